@@ -1,0 +1,10 @@
+pub mod Aggregate
+pub mod Equality
+pub mod FoldedText
+pub mod Layout
+pub mod Names
+pub mod Order
+pub mod Paths
+pub mod Pushing
+pub mod Rows
+pub mod TopList

@@ -30,7 +30,7 @@ pub more_written_cut : (text rest : List ℕ) (before mid after : Option (List �
 more_written_cut text rest before mid after count size is_rest so_far part =
     let lengths : length (drop count rest) ≤ size = omega (arith, length-drop count rest) in
     subst (λ (left : List ℕ). IsWrittenSoFar text left before after) (sym (take_all size (drop count rest) lengths))
-        (more_written text rest before mid after count so_far part)
+    (more_written text rest before mid after count so_far part)
 
 pub beginning_written : (text rest : List ℕ) (before after : Option (List ℕ)) → IsWrittenSoFar text rest before after
     → AppendsBeginning before after text

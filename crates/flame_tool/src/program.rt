@@ -1,7 +1,8 @@
 //! The whole program over any reader and writer.
-ghost use Rattle.std.specs.Prelude.{◌≡◌, ◌≤◌, List, ℕ, Some, map};
-ghost use Rattle.flame_tool.specs.Outcomes.{code_of};
-ghost use Rattle.flame_tool.specs.Program.{EndsBy};
+ghost use Rattle.std.specs.Prelude.{◌≡◌, ◌≢◌, ◌+◌, ◌≤◌, ◌↔◌, List, ℕ, Some, None, IfSome, map};
+ghost use Rattle.std.specs.Io.KnownBytes.{Keeps};
+ghost use Rattle.flame_tool.specs.Parts.{TakesAtMost};
+ghost use Rattle.flame_tool.specs.Program.{EndsBy, IsAccepted, IsAsked, IsCut, IsDone, IsEnd, read_fault_of};
 ghost use Rattle.flame_tool.specs.Words.{request_of};
 
 use crate::answers::answer;
@@ -23,16 +24,46 @@ pub fn run<'a, R: Read, W: Write>(
     limit: usize,
 ) -> Status
     requires { limit ≤ MAX_INPUT }
-    ensures code { result.code ≡ code_of result.cause }
-    ensures ends { EndsBy (map (λ word. word.now) words.entry.now) limit (R.remaining reader.old) (R.remaining reader.new)
-        (W.contents writer.old) (W.contents writer.new) result.cause }
+    // The code is the cause's, and the cause says what was read and written.
+    ensures ends { IsEnd (map (λ word. word.now) words.entry.now) limit (R.remaining reader.old) (R.remaining reader.new)
+        (W.contents writer.old) (W.contents writer.new) result.code result.cause }
+    // At 0 exactly the report on the rows that the whole input spells was appended.
+    ensures done { result.code ≡ 0 → IsDone (map (λ word. word.now) words.entry.now) limit (R.remaining reader.old) (R.remaining reader.new)
+        (W.contents writer.old) (W.contents writer.new) }
+    // Words that are asked for decide by the input alone, but where the world outside or memory failed.
+    ensures decided { IfSome (R.remaining reader.old) (λ input. IsAsked (map (λ word. word.now) words.entry.now)
+        → result.code ≢ 3 → result.code ≢ 4
+        → ((result.code ≡ 0) ↔ IsAccepted limit input) × ((result.code ≡ 1) ↔ ¬ IsAccepted limit input)) }
+    // Only words that ask for nothing end with 2, and want of memory alone keeps them from it.
+    ensures refused { result.code ≡ 2 → request_of (map (λ word. word.now) words.entry.now) ≡ None }
+    ensures unasked { request_of (map (λ word. word.now) words.entry.now) ≡ None → result.code ≢ 4 → result.code ≡ 2 }
+    // Nothing is written, but at 0 and at a fault of writing, where it is a beginning of the report.
+    ensures silent { result.code ≢ 0 → result.cause ≢ Outcome.Fault ToolFault.Write
+        → Keeps (W.contents writer.old) (W.contents writer.new) }
+    ensures cut { result.cause ≡ Outcome.Fault ToolFault.Write → IsCut (map (λ word. word.now) words.entry.now) limit
+        (R.remaining reader.old) (R.remaining reader.new) (W.contents writer.old) (W.contents writer.new) }
+    ensures reads_at_most { TakesAtMost (limit + 1) (R.remaining reader.old) (R.remaining reader.new) }
 {
-    let cause = match read_words(alloc, words) {
+    Status::of(outcome_of(alloc, words, reader, writer, limit))
+}
+
+// How the run ends.
+fn outcome_of<'a, R: Read, W: Write>(
+    alloc: Global,
+    words: &'a [&'a str],
+    reader: &mut R,
+    writer: &mut W,
+    limit: usize,
+) -> Outcome
+    requires { limit ≤ MAX_INPUT }
+    ensures { EndsBy (map (λ word. word.now) words.entry.now) limit (R.remaining reader.old) (R.remaining reader.new)
+        (W.contents writer.old) (W.contents writer.new) result }
+{
+    match read_words(alloc, words) {
         Ok(request) => respond(alloc, request, reader, writer, limit),
         Err(WordsFault::Refused(text)) => Outcome::Words(text),
         Err(WordsFault::NoMemory) => Outcome::Fault(ToolFault::NoMemory),
-    };
-    Status::of(cause)
+    }
 }
 
 // Reads the input, makes the text, and writes it.
@@ -46,7 +77,7 @@ fn respond<R: Read, W: Write>(
     requires { limit ≤ MAX_INPUT }
     ensures { (words : List (List ℕ)) → request_of words ≡ Some request
         → EndsBy words limit (R.remaining reader.old) (R.remaining reader.new)
-            (W.contents writer.old) (W.contents writer.new) result }
+        (W.contents writer.old) (W.contents writer.new) result }
 {
     let input = match read_input(alloc, reader, limit) {
         Ok(input) => input,
@@ -62,7 +93,10 @@ fn respond<R: Read, W: Write>(
     }
 }
 
-fn read_fault(fault: ReadFault) -> ToolFault {
+// The program's fault for one of reading.
+fn read_fault(fault: ReadFault) -> ToolFault
+    ensures { result ≡ read_fault_of fault }
+{
     match fault {
         ReadFault::Read => ToolFault::Read,
         ReadFault::TooLong => ToolFault::TooLong,

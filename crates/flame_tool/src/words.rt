@@ -8,7 +8,8 @@ use clap::error::ErrorKind;
 use clap::{ArgMatches, Command, Error};
 use std::alloc::{AllocError, Global};
 
-const ABOUT: &str = "Reads stacks with their weights from the standard input, and writes a report on them";
+const ABOUT: &str =
+    "Reads stacks with their weights from the standard input, and writes a report on them";
 
 const ABOUT_TOP: &str = "Lists the names that weigh most";
 

@@ -8,4 +8,4 @@ pub returns : goal.returns
 returns c =
     let flame_is : app_of c.subcommand_required.result ≡ flame_app = search rules in
     IfOk-weaker c.subcommand.result _ _ (λ command added. added.shape c.top_command.ensures.local
-        ∙ ap₂ with_subcommand flame_is (ap (λ (a : App). a.top) c.top_command.ensures.app)) c.subcommand.ensures
+    ∙ ap₂ with_subcommand flame_is (ap (λ (a : App). a.top) c.top_command.ensures.app)) c.subcommand.ensures

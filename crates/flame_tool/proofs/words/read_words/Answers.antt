@@ -9,4 +9,4 @@ returns c =
     let covered = subst (λ (a : App). is_simple_and_free a ≡ true) (sym c.in-Ok.ensures) is_covered in
     let kinds = c.in-Err.ensures.kinds covered in
     c.error_refusal.ensures words (no_request_at_error words c.in-Err.error
-        (subst (λ (a : App). HasKind (fault_of a words) c.in-Err.error) c.in-Ok.ensures kinds))
+    (subst (λ (a : App). HasKind (fault_of a words) c.in-Err.error) c.in-Ok.ensures kinds))

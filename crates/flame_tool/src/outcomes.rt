@@ -3,6 +3,7 @@ ghost use Rattle.std.specs.Prelude.{◌≡◌};
 ghost use Rattle.flame_tool.specs.Outcomes.{code_of};
 
 use stack_text::FoldedFault;
+use std::fmt;
 use thiserror::Error;
 
 /// A fault that ends the program. Its `Display` is what the program says of it.
@@ -41,6 +42,17 @@ pub enum Outcome {
 pub struct Status {
     pub code: u8,
     pub cause: Outcome,
+}
+
+/// What the program says of its end on the standard error: nothing where it is done.
+impl fmt::Display for Outcome {
+    fn fmt<W: fmt::Write>(&self, f: &mut fmt::Formatter<W>) -> fmt::Result {
+        match self {
+            Outcome::Done => Ok(()),
+            Outcome::Words(text) => f.write_str(text.as_str()),
+            Outcome::Fault(fault) => writeln!(f, "flame: {fault}"),
+        }
+    }
 }
 
 impl Status {

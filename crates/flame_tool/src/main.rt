@@ -7,6 +7,8 @@ mod answers;
 mod outcomes;
 mod program;
 mod streams;
+#[cfg(test)]
+mod tests;
 mod top;
 mod words;
 

@@ -1,0 +1,6 @@
+pub mod Counts
+pub mod Frames
+pub mod Lines
+pub mod Pieces
+pub mod Reading
+pub mod SameNames

@@ -1,6 +1,6 @@
 -- Folded stacks as text, read and written (FlameGraph, the header comment of flamegraph.pl: one line for each stack, its frames
 -- from root to leaf separated by semicolons, then a space and a count). What reads it strictly is this project's choice.
-use Rattle.std.specs.Prelude.{ℕ, ◌≡◌, ◌+◌, ◌^◌, ◌<◌, ◌≤◌, ◌==◌, ⊤, List, [], ◌∷◌, ◌++◌, filter, length, nat_lt}
+use Rattle.std.specs.Prelude.{ℕ, ◌≡◌, ◌+◌, ◌^◌, ◌<◌, ◌≤◌, ◌==◌, ⊤, List, [], ◌∷◌, ◌++◌, filter, length, not}
 use Rattle.std.specs.List.{slice_split, flat_map, join_with_byte}
 use Rattle.std.specs.Fmt.{decimal}
 use Rattle.std.specs.Str.{IsUtf8}
@@ -14,7 +14,7 @@ use Rattle.stack_text.specs.Aggregate.{aggregate_of, rows_of}
 
 -- the frames of a stack text: the pieces between its semicolons, without the empty ones
 abbrev pub frames_of : List ℕ → List (List ℕ)
-frames_of text = filter (λ piece. nat_lt 0 (length piece)) (slice_split (λ byte. byte == 59) text)
+frames_of text = filter (λ piece. not (length piece == 0)) (slice_split (λ byte. byte == 59) text)
 
 -- The line is a stack text, a space and the digits of a count. Digits hold no space, so it is the line's last one.
 pub record HasCount (line stack digits : List ℕ) : Type 0 where
@@ -46,6 +46,25 @@ AreRowLines ((byte ∷ line) ∷ lines) (row ∷ rows) = IsRowLine (byte ∷ lin
 pub record IsFoldedText (text : List ℕ) (rows : List Row) : Type 0 where
   pub rows_lines : AreRowLines (lines text) rows
   pub total_fits : total_of rows < 2 ^ 63
+
+-- why a line spells no stack text and weight: what a row's line fails by before its frames are looked at
+abbrev pub IsCountFault : ℕ → List ℕ → FoldedFault → Type 0
+IsCountFault number line (NotUtf8 at) = (at ≡ number) × ¬ IsUtf8 line
+IsCountFault number line (NoCount at) = (at ≡ number) × IsUtf8 line × ((stack digits : List ℕ) → ¬ HasCount line stack digits)
+IsCountFault number line (Count at) = (at ≡ number) × IsUtf8 line × (stack : List ℕ) × (digits : List ℕ)
+    × HasCount line stack digits × (2 ^ 63 ≤ digits_value 10 digits)
+IsCountFault number line (Depth at) = ⊥
+IsCountFault number line (Heavy at) = ⊥
+IsCountFault number line NoMemory = ⊤
+
+-- why a stack text spells no stack
+abbrev pub IsStackFault : ℕ → List ℕ → FoldedFault → Type 0
+IsStackFault number text (NotUtf8 at) = ⊥
+IsStackFault number text (NoCount at) = ⊥
+IsStackFault number text (Count at) = ⊥
+IsStackFault number text (Depth at) = (at ≡ number) × (65535 < length (frames_of text))
+IsStackFault number text (Heavy at) = ⊥
+IsStackFault number text NoMemory = ⊤
 
 -- Why a line, which isn't empty, spells no row that can follow rows of the weight `held`. Each case says that the ones
 -- before it don't stand. Want of memory claims nothing.

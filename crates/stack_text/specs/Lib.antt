@@ -1,6 +1,7 @@
 pub mod Aggregate
 pub mod Equality
 pub mod FoldedText
+pub mod KnownNames
 pub mod Layout
 pub mod Names
 pub mod Order

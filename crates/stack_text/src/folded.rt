@@ -1,9 +1,16 @@
-ghost use Rattle.std.specs.Prelude.{◌≡◌, List, MatchResult};
+ghost use Rattle.std.specs.Prelude.{ℕ, ◌≡◌, ◌≢◌, ◌+◌, ◌^◌, ◌<◌, ◌≤◌, ◌↔◌, ◌∷◌, ◌++◌, [], All, IfErr, IfOk, IsTrue, List, MatchOption, MatchResult, OnOk, length};
+ghost use Rattle.std.specs.Str.{IsUtf8};
+ghost use Rattle.std.specs.Str.Parse.{IsNumeral, digits_value};
 ghost use Rattle.stack_text.specs.declared.batch.Row.{Row};
-ghost use Rattle.stack_text.specs.FoldedText.{IsFoldedText, IsFirstFault};
+ghost use Rattle.stack_text.specs.FoldedText.{HasCount, IsFirstFault, IsFoldedText, IsLineFault, IsRowLine, IsStackFault, IsCountFault, frames_of};
+ghost use Rattle.stack_text.specs.Names.{IsName};
+ghost use Rattle.stack_text.specs.Rows.{total_of};
 
-use crate::batch::Batch;
-use std::alloc::Global;
+use crate::batch::{Batch, MAX_TOTAL, PushFault};
+use crate::known_names::KnownNames;
+use crate::stack::{MAX_DEPTH, Stack};
+use bstr::ByteSlice;
+use std::alloc::{AllocError, AllocFailed, Global};
 use thiserror::Error;
 
 /// Why bytes aren't folded text, with the line of the first fault. Lines count from 1, empty ones too.
@@ -29,11 +36,152 @@ pub enum FoldedFault {
     NoMemory,
 }
 
+impl From<AllocError> for FoldedFault {
+    ghost use Rattle.std.specs.Prelude.{◌≡◌};
+    ghost use Rattle.stack_text.specs.declared.folded.FoldedFault.TheVariants.{NoMemory};
+
+    ghost from_gives = { λ _ fault. fault ≡ NoMemory };
+
+    fn from(_error: AllocError) -> FoldedFault {
+        FoldedFault::NoMemory
+    }
+}
+
+impl<T: Drop> From<AllocFailed<T>> for FoldedFault {
+    ghost use Rattle.std.specs.Prelude.{◌≡◌};
+    ghost use Rattle.stack_text.specs.declared.folded.FoldedFault.TheVariants.{NoMemory};
+
+    ghost from_gives = { λ _ fault. fault ≡ NoMemory };
+
+    fn from(_error: AllocFailed<T>) -> FoldedFault {
+        FoldedFault::NoMemory
+    }
+}
+
+/// Whether a text is one or more ASCII digits.
+fn is_numeral(text: &str) -> bool
+    ensures { IsTrue result ↔ IsNumeral 10 text.now }
+{
+    !text.is_empty() && text.bytes().all(|byte| byte.is_ascii_digit())
+}
+
+/// Cuts a line at its last space, where what follows is a count.
+fn split_count(line: &str) -> Option<(&str, &str)>
+    ensures { MatchOption result ((stack digits : List ℕ) → ¬ HasCount line.now stack digits)
+        (λ parts. HasCount line.now parts.0.now parts.1.now) }
+{
+    let (stack, digits) = line.rsplit_once(' ')?;
+    if is_numeral(digits) {
+        Some((stack, digits))
+    } else {
+        None
+    }
+}
+
+/// The weight that digits write, where it is within the limit.
+fn weight_from(digits: &str) -> Option<u64>
+    requires { IsNumeral 10 digits.now }
+    ensures { MatchOption result (2 ^ 63 ≤ digits_value 10 digits.now)
+        (λ weight. (weight ≡ digits_value 10 digits.now) × (weight < 2 ^ 63)) }
+{
+    match digits.parse::<u64>() {
+        Ok(weight) if weight <= MAX_TOTAL => Some(weight),
+        _ => None,
+    }
+}
+
+/// How many frames a stack text has.
+fn depth_of(text: &str) -> usize
+    ensures { result ≡ length (frames_of text.now) }
+{
+    text.split(';').filter(|frame| !frame.is_empty()).count()
+}
+
+/// The stack that a stack text spells.
+fn stack_from<'a>(
+    alloc: Global,
+    names: &mut KnownNames<'a>,
+    text: &'a str,
+    number: u64,
+) -> Result<Stack, FoldedFault>
+    requires { All (λ byte. byte ≢ 10) text.now }
+    ensures stack { IfOk result (λ stack. (stack ≡ frames_of text.now) × (length (frames_of text.now) ≤ MAX_DEPTH)) }
+    ensures fault { IfErr result (IsStackFault number text.now) }
+{
+    let depth = depth_of(text);
+    if depth > MAX_DEPTH {
+        return Err(FoldedFault::Depth { line: number });
+    }
+    let mut frames = Vec::with_capacity(alloc, depth)?;
+    for frame in text.split(';').filter(|frame| !frame.is_empty()) {
+        frames.push(names.name_of(alloc, frame)?)?;
+    }
+    match Stack::make(frames) {
+        Ok(stack) => Ok(stack),
+        Err(_) => Err(FoldedFault::Depth { line: number }),
+    }
+}
+
+/// The stack text and the weight of a line.
+fn counted<'a>(line: &'a [u8], number: u64) -> Result<(&'a str, u64), FoldedFault>
+    ensures counted { IfOk result (λ found. IsUtf8 line.now × (found.1 < 2 ^ 63)
+        × (digits : List ℕ) × HasCount line.now found.0.now digits × (found.1 ≡ digits_value 10 digits)) }
+    ensures fault { IfErr result (IsCountFault number line.now) }
+{
+    let Ok(text) = str::from_utf8(line) else {
+        return Err(FoldedFault::NotUtf8 { line: number });
+    };
+    let Some((stack, digits)) = split_count(text) else {
+        return Err(FoldedFault::NoCount { line: number });
+    };
+    match weight_from(digits) {
+        Some(weight) => Ok((stack, weight)),
+        None => Err(FoldedFault::Count { line: number }),
+    }
+}
+
+/// Adds the row that a line spells, where it spells one that can follow the rows of the batch.
+fn add_line<'a>(
+    alloc: Global,
+    names: &mut KnownNames<'a>,
+    batch: &mut Batch,
+    line: &'a [u8],
+    number: u64,
+) -> Result<(), FoldedFault>
+    requires { All (λ byte. byte ≢ 10) line.now }
+    ensures added { OnOk result ((row : Row) × IsRowLine line.now row × (total_of batch.old + row.weight < 2 ^ 63)
+        × (batch.new ≡ batch.old ++ row ∷ [])) }
+    ensures fault { IfErr result (IsLineFault (total_of batch.old) number line.now) }
+{
+    let (text, weight) = counted(line, number)?;
+    let stack = stack_from(alloc, names, text, number)?;
+    match batch.push(stack, weight) {
+        Ok(()) => Ok(()),
+        Err(refused) => Err(match refused.fault {
+            PushFault::Heavy { held: _ } => FoldedFault::Heavy { line: number },
+            PushFault::NoMemory => FoldedFault::NoMemory,
+        }),
+    }
+}
+
 /// Reads folded stacks: a line for each row, its frames from root to leaf separated by semicolons, then a space and a count.
+/// A line ends at its line feed, and one carriage return directly before that is dropped; the last line may lack it. Empty
+/// lines are skipped, and so are empty parts between semicolons: a stack may be empty.
+///
+/// # Errors
+///
+/// The fault of the first line that has one, in the order of [`FoldedFault`]'s variants; `NoMemory`.
 pub fn read_folded(alloc: Global, text: &[u8]) -> Result<Batch, FoldedFault>
     ensures read { MatchResult result (λ batch. IsFoldedText text.now batch) (λ fault. IsFirstFault text.now fault) }
     ensures accepted { (rows : List Row) → IsFoldedText text.now rows
         → MatchResult result (λ batch. batch ≡ rows) (λ fault. fault ≡ FoldedFault.NoMemory) }
 {
-    Err(FoldedFault::NoMemory)
+    let mut names = KnownNames::new(alloc);
+    let mut batch = Batch::new(alloc);
+    for (index, line) in text.lines().enumerate() {
+        if !line.is_empty() {
+            add_line(alloc, &mut names, &mut batch, line, index as u64 + 1)?;
+        }
+    }
+    Ok(batch)
 }

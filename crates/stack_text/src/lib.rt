@@ -3,6 +3,7 @@
 
 mod batch;
 mod folded;
+mod known_names;
 mod name;
 mod stack;
 

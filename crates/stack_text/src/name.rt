@@ -62,7 +62,15 @@ impl Name {
         if !is_name(text) {
             return Err(NameFault::BadName);
         }
-        let text = ArcStr::from_str(alloc, text).map_err(|_| NameFault::NoMemory)?;
+        Name::keep(alloc, text).map_err(|_| NameFault::NoMemory)
+    }
+
+    /// Keeps a copy of a text that is known to be a name.
+    pub(crate) fn keep(alloc: Global, text: &str) -> Result<Name, AllocError>
+        requires { IsName text.now }
+        ensures { IfOk result (λ name. name ≡ text.now) }
+    {
+        let text = ArcStr::from_str(alloc, text)?;
         Ok(Name { text })
     }
 

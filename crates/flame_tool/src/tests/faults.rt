@@ -9,27 +9,27 @@ const STORED: &[u8] = b"main;a;b 3\nmain;a 2\nmain;c 5\n";
 
 #[test]
 fn folded_faults(rt: HostRuntime) -> Result<(), Fail> {
-    let cases: [(&[u8], &str); 10] = [
-        (b"a;b\n", "flame: F2 NoCount line 1\n"),
-        (b"a 1.5\n", "flame: F2 NoCount line 1\n"),
-        (b"a 5 \n", "flame: F2 NoCount line 1\n"),
-        (b"a\n", "flame: F2 NoCount line 1\n"),
-        (b"\n\na 1\na\n", "flame: F2 NoCount line 4\n"),
-        (b"a 1\r", "flame: F2 NoCount line 1\n"),
-        (b"a 9223372036854775808\n", "flame: F3 Count line 1\n"),
+    let cases: [(&[u8], &[u8]); 10] = [
+        (b"a;b\n", b"flame: F2 NoCount line 1\n"),
+        (b"a 1.5\n", b"flame: F2 NoCount line 1\n"),
+        (b"a 5 \n", b"flame: F2 NoCount line 1\n"),
+        (b"a\n", b"flame: F2 NoCount line 1\n"),
+        (b"\n\na 1\na\n", b"flame: F2 NoCount line 4\n"),
+        (b"a 1\r", b"flame: F2 NoCount line 1\n"),
+        (b"a 9223372036854775808\n", b"flame: F3 Count line 1\n"),
         (
             b"a 99999999999999999999999999\n",
-            "flame: F3 Count line 1\n",
+            b"flame: F3 Count line 1\n",
         ),
-        (b"a 9223372036854775807\na 1\n", "flame: F5 Heavy line 2\n"),
-        (b"\xff 1\n", "flame: F1 NotUtf8 line 1\n"),
+        (b"a 9223372036854775807\na 1\n", b"flame: F5 Heavy line 2\n"),
+        (b"\xff 1\n", b"flame: F1 NotUtf8 line 1\n"),
     ];
-    for (input, line) in cases {
+    for (place, (input, line)) in cases.iter().enumerate() {
         let (status, written) = run_on(rt.alloc(), TOP.as_slice(), input, MAX_INPUT);
         let said = status.cause.to_string(rt.alloc())?;
-        assert_eq!(rt; status.code, 1, "{line}");
-        assert_eq!(rt; said.as_str(), line);
-        assert!(rt; written.is_empty(), "{line}");
+        assert_eq!(rt; status.code, 1, "{place}");
+        assert_eq!(rt; said.as_bytes(), *line, "{place}");
+        assert!(rt; written.is_empty(), "{place}");
     }
     Ok(())
 }

@@ -1,0 +1,66 @@
+-- How a run of the program ends, over what its reader had left and what its writer holds, before and after.
+use Rattle.std.specs.Prelude.{ℕ, ◌≡◌, ◌+◌, ◌≤◌, List, length, Option, Some, None}
+use Rattle.std.specs.Io.KnownBytes.{Appends, Keeps}
+use Rattle.stack_text.specs.declared.batch.Row.{Row}
+use Rattle.stack_text.specs.FoldedText.{IsFoldedText}
+use Rattle.flame_tool.specs.Answers.{IsAnswer, IsRefusedBy}
+use Rattle.flame_tool.specs.Parts.{AppendsBeginning, IsWholeInput, TakesAtMost, TakesExactly}
+use Rattle.flame_tool.specs.Outcomes.{code_of}
+use Rattle.flame_tool.specs.Words.{request_of}
+use Rattle.flame_tool.specs.declared.outcomes.Outcome.{Outcome}
+use Rattle.flame_tool.specs.declared.outcomes.Outcome.TheVariants.{Done, Words, Fault}
+use Rattle.flame_tool.specs.declared.outcomes.ToolFault.{ToolFault}
+use Rattle.flame_tool.specs.declared.outcomes.ToolFault.TheVariants.{Folded, Read, Write, TooLong, NoMemory}
+use Rattle.flame_tool.specs.declared.streams.ReadFault.{ReadFault}
+use Rattle.flame_tool.specs.declared.streams.ReadFault.TheVariants as reading
+use Rattle.flame_tool.specs.declared.words.Request.{Request}
+
+-- the words ask for something
+abbrev pub IsAsked : List (List ℕ) → Type 0
+IsAsked words = (request : Request) × (request_of words ≡ Some request)
+
+-- the words ask for this text of the whole input
+pub record IsAnswered (words : List (List ℕ)) (limit : ℕ) (unread left : Option (List ℕ)) (text : List ℕ) : Type 0 where
+  pub request : Request
+  pub asked : request_of words ≡ Some request
+  pub input : List ℕ
+  pub whole : IsWholeInput limit unread left input
+  pub answer : IsAnswer request input text
+
+-- the report was written whole
+abbrev pub IsDone : List (List ℕ) → ℕ → Option (List ℕ) → Option (List ℕ) → Option (List ℕ) → Option (List ℕ) → Type 0
+IsDone words limit unread left before after = (text : List ℕ) × IsAnswered words limit unread left text × Appends before after text
+
+-- a beginning of the report was written
+abbrev pub IsCut : List (List ℕ) → ℕ → Option (List ℕ) → Option (List ℕ) → Option (List ℕ) → Option (List ℕ) → Type 0
+IsCut words limit unread left before after = (text : List ℕ) × IsAnswered words limit unread left text × AppendsBeginning before after text
+
+-- what a fault says of the reader. Nothing was written, but at a fault of writing.
+abbrev pub EndsByFault : List (List ℕ) → ℕ → Option (List ℕ) → Option (List ℕ) → Option (List ℕ) → Option (List ℕ) → ToolFault → Type 0
+EndsByFault words limit unread left before after (Folded fault) = IsAsked words
+    × ((input : List ℕ) × IsWholeInput limit unread left input × IsRefusedBy input fault) × Keeps before after
+EndsByFault words limit unread left before after Read = IsAsked words × TakesAtMost limit unread left × Keeps before after
+EndsByFault words limit unread left before after Write = IsCut words limit unread left before after
+EndsByFault words limit unread left before after TooLong = IsAsked words × TakesExactly (limit + 1) unread left × Keeps before after
+EndsByFault words limit unread left before after NoMemory = TakesAtMost limit unread left × Keeps before after
+
+-- what the cause of a run's end says. Words that are refused leave the reader and the writer alone.
+abbrev pub EndsBy : List (List ℕ) → ℕ → Option (List ℕ) → Option (List ℕ) → Option (List ℕ) → Option (List ℕ) → Outcome → Type 0
+EndsBy words limit unread left before after Done = IsDone words limit unread left before after
+EndsBy words limit unread left before after (Words text) = (request_of words ≡ None) × Keeps unread left × Keeps before after
+EndsBy words limit unread left before after (Fault fault) = EndsByFault words limit unread left before after fault
+
+-- a run that ended with this code, by this cause
+pub record IsEnd (words : List (List ℕ)) (limit : ℕ) (unread left before after : Option (List ℕ)) (code : ℕ) (cause : Outcome) : Type 0 where
+  pub code_is : code ≡ code_of cause
+  pub story : EndsBy words limit unread left before after cause
+
+-- an input that is answered: folded text within the limit
+abbrev pub IsAccepted : ℕ → List ℕ → Type 0
+IsAccepted limit input = (length input ≤ limit) × ((rows : List Row) × IsFoldedText input rows)
+
+-- a fault of reading is one of the program
+abbrev pub read_fault_of : ReadFault → ToolFault
+read_fault_of reading.Read = Read
+read_fault_of reading.TooLong = TooLong
+read_fault_of reading.NoMemory = NoMemory

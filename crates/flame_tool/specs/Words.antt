@@ -1,0 +1,38 @@
+-- The command line: the command, and what words ask for.
+use Rattle.std.specs.Prelude.{ℕ, ◌≡◌, ⊤, true, List, [], ◌∷◌, Option, Some, None, codes, if◌then◌else◌}
+use Rattle.std.specs.Str.{bytes_eq}
+use Rattle.clap.specs.Words.{App, Kinds, Row, Shape, Text, fault_of, new_app, subcommand_of, with_subcommand}
+use Rattle.flame_tool.specs.declared.words.Request.{Request}
+use Rattle.flame_tool.specs.declared.words.Request.TheVariants.{Top}
+use Rattle.flame_tool.specs.declared.words.WordsFault.{WordsFault}
+use Rattle.flame_tool.specs.declared.words.WordsFault.TheVariants.{Refused, NoMemory}
+
+-- the subcommand `top`, without options
+abbrev pub top_app : App
+top_app = new_app (codes "top")
+
+-- `flame`, which wants one of its subcommands
+abbrev pub flame_app : App
+flame_app = record { top = record (new_app (codes "flame")).top { subcommand_required = true }; subs = [] }
+
+abbrev pub program_app : App
+program_app = with_subcommand flame_app top_app.top
+
+-- what a subcommand asks for, by its name
+abbrev pub named_request : Option (Text × List Row) → Option Request
+named_request None = None
+named_request (Some subcommand) = if bytes_eq subcommand.0 (codes "top") then Some Top else None
+
+-- a request, where nothing is wrong with the words
+abbrev pub unless_faulty : Kinds → Option Request → Option Request
+unless_faulty [] request = request
+unless_faulty (kind ∷ kinds) request = None
+
+-- The request of the words, where the command finds no fault in them. The first word is the program's name.
+abbrev pub request_of : List Text → Option Request
+request_of words = unless_faulty (fault_of program_app words) (named_request (subcommand_of program_app words))
+
+-- why words ask for nothing: they are refused, or want of memory, which claims nothing
+abbrev pub IsWordsFault : List Text → WordsFault → Type 0
+IsWordsFault words (Refused text) = request_of words ≡ None
+IsWordsFault words NoMemory = ⊤

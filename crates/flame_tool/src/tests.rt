@@ -1,0 +1,6 @@
+//! What no clause says: the lines that the program prints, the worked reports, and streams that fail.
+
+mod fakes;
+mod faults;
+mod parts;
+mod reports;

@@ -1,0 +1,108 @@
+//! A reader and a writer that move few bytes at a time and then fail, and a run on given bytes.
+use crate::outcomes::Status;
+use crate::program::run;
+use crate::streams::MAX_INPUT;
+use std::alloc::{AllocError, Global};
+use std::io;
+use std::io::{ErrorKind, Read, Write};
+
+/// The words of the stored run.
+pub static TOP: [&str; 2] = ["flame", "top"];
+
+/// Gives one byte at each read, and fails at the read after so many.
+#[derive(Drop)]
+pub struct Dripping<'a> {
+    pub rest: &'a [u8],
+    pub reads_left: usize,
+}
+
+impl Read for Dripping<'_> {
+    fn read(&mut self, buf: &mut [u8]) -> io::Result<usize> {
+        if self.reads_left == 0 {
+            return Err(io::Error::from(ErrorKind::Interrupted));
+        }
+        self.reads_left -= 1;
+        if buf.is_empty() {
+            return Ok(0);
+        }
+        match self.rest.split_first() {
+            Some((byte, rest)) => {
+                buf[0] = *byte;
+                self.rest = rest;
+                Ok(1)
+            }
+            None => Ok(0),
+        }
+    }
+}
+
+/// Takes at most `each` bytes at a write, and fails once it has taken so many as there was room for.
+#[derive(Drop)]
+pub struct Narrow {
+    pub taken: Vec<u8>,
+    pub room: usize,
+    pub each: usize,
+    pub is_flushed: bool,
+    pub fails_at_flush: bool,
+}
+
+impl Narrow {
+    /// A writer with this much room, that takes this many bytes at a write.
+    pub fn new(alloc: Global, room: usize, each: usize) -> Narrow {
+        Narrow {
+            taken: Vec::new(alloc),
+            room,
+            each,
+            is_flushed: false,
+            fails_at_flush: false,
+        }
+    }
+}
+
+impl Write for Narrow {
+    fn write(&mut self, buf: &[u8]) -> io::Result<usize> {
+        if self.room == 0 {
+            return Err(io::Error::from(ErrorKind::Interrupted));
+        }
+        let count = buf.len().min(self.each).min(self.room);
+        self.taken.extend_from_slice(&buf[..count])?;
+        self.room -= count;
+        Ok(count)
+    }
+
+    fn flush(&mut self) -> io::Result<()> {
+        if self.fails_at_flush {
+            return Err(io::Error::from(ErrorKind::Other));
+        }
+        self.is_flushed = true;
+        Ok(())
+    }
+}
+
+/// What a run on these bytes ended with, and what it wrote.
+pub fn run_on<'a>(
+    alloc: Global,
+    words: &'a [&'a str],
+    input: &[u8],
+    limit: usize,
+) -> (Status, Vec<u8>) {
+    let mut reader = input;
+    let mut written = Vec::new(alloc);
+    let status = run(
+        alloc,
+        words,
+        &mut reader,
+        &mut written,
+        limit.min(MAX_INPUT),
+    );
+    (status, written)
+}
+
+/// Bytes, some times over.
+pub fn repeated(alloc: Global, bytes: &[u8], times: usize) -> Result<Vec<u8>, AllocError> {
+    let mut all = Vec::new(alloc);
+    for _ in 0..times {
+        all.extend_from_slice(bytes)?;
+    }
+    Ok(all)
+}

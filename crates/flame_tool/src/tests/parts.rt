@@ -1,0 +1,56 @@
+//! Reading and writing in parts.
+use super::fakes::{Dripping, Narrow, repeated};
+use crate::streams::{MAX_INPUT, ReadFault, read_input, write_text};
+use std::test::Fail;
+
+// More than one read asks for.
+const MANY: usize = 200_000;
+
+#[test]
+fn reads_whole_inputs(rt: HostRuntime) -> Result<(), Fail> {
+    let alloc = rt.alloc();
+    for length in [0, 1, 65_535, 65_536, 65_537, MANY] {
+        let bytes = repeated(alloc, b"x", length)?;
+        let mut reader = bytes.as_slice();
+        let input = read_input(alloc, &mut reader, length.min(MAX_INPUT))?;
+        assert!(rt; input.as_slice() == bytes.as_slice(), "{length}");
+    }
+    Ok(())
+}
+
+#[test]
+fn stops_at_one_byte_past_the_limit(rt: HostRuntime) -> Result<(), Fail> {
+    let alloc = rt.alloc();
+    let bytes = repeated(alloc, b"x", MANY)?;
+    for limit in [0, 1, 65_535, 65_536, 131_072, MANY - 1] {
+        let mut reader = bytes.as_slice();
+        let fault = read_input(alloc, &mut reader, limit.min(MAX_INPUT)).err();
+        assert_eq!(rt; fault, Some(ReadFault::TooLong), "{limit}");
+        assert_eq!(rt; reader.len() + limit + 1, MANY, "{limit}");
+    }
+    Ok(())
+}
+
+#[test]
+fn an_interrupted_read_is_a_fault(rt: HostRuntime) {
+    let mut reader = Dripping {
+        rest: b"abc",
+        reads_left: 2,
+    };
+    let fault = read_input(rt.alloc(), &mut reader, 10).err();
+    assert_eq!(rt; fault, Some(ReadFault::Read));
+    assert_eq!(rt; reader.rest, b"c".as_slice());
+}
+
+#[test]
+fn writes_and_flushes(rt: HostRuntime) -> Result<(), Fail> {
+    let mut writer = Narrow::new(rt.alloc(), 10, 3);
+    write_text(&mut writer, b"0123456789")?;
+    assert_eq!(rt; writer.taken.as_slice(), b"0123456789".as_slice());
+    assert!(rt; writer.is_flushed);
+    let mut writer = Narrow::new(rt.alloc(), 4, 3);
+    assert!(rt; write_text(&mut writer, b"0123456789").is_err());
+    assert_eq!(rt; writer.taken.as_slice(), b"0123".as_slice());
+    assert!(rt; !writer.is_flushed);
+    Ok(())
+}

@@ -1,0 +1,71 @@
+//! The reports of `top`, worked by hand.
+use super::fakes::{Dripping, Narrow, TOP, run_on};
+use crate::program::run;
+use crate::streams::MAX_INPUT;
+use std::test::Fail;
+
+const STORED: &[u8] = b"main;a;b 3\nmain;a 2\nmain;c 5\n";
+
+const STORED_REPORT: &[u8] = b"total 10\n5 5 c\n3 3 b\n2 5 a\n0 10 main\n";
+
+#[test]
+fn top_reports(rt: HostRuntime) {
+    let cases: [(&str, &[u8], &[u8]); 8] = [
+        ("top_of_empty_input", b"", b"total 0\n"),
+        ("top_by_flat_weight", STORED, STORED_REPORT),
+        (
+            "recursion_counts_once",
+            b"main;f;g;f 4\n",
+            b"total 4\n4 4 f\n0 4 g\n0 4 main\n",
+        ),
+        ("weightless_rows", b"x 0\n", b"total 0\n"),
+        ("spaces_and_empty_stacks", b" 5\n", b"total 5\n"),
+        (
+            "greatest_weight",
+            b"a 9223372036854775807\n",
+            b"total 9223372036854775807\n9223372036854775807 9223372036854775807 a\n",
+        ),
+        ("line_ends", b"a 1\r\n\na 2", b"total 3\n3 3 a\n"),
+        ("only_empty_lines", b"\n\r\n\n", b"total 0\n"),
+    ];
+    for (name, input, report) in cases {
+        let (status, written) = run_on(rt.alloc(), TOP.as_slice(), input, MAX_INPUT);
+        assert_eq!(rt; status.code, 0, "{name}");
+        assert_eq!(rt; written.as_slice(), report, "{name}");
+    }
+}
+
+#[test]
+fn streams_of_one_byte_change_nothing(rt: HostRuntime) {
+    let mut reader = Dripping {
+        rest: STORED,
+        reads_left: 100,
+    };
+    let mut writer = Narrow::new(rt.alloc(), 100, 1);
+    let status = run(
+        rt.alloc(),
+        TOP.as_slice(),
+        &mut reader,
+        &mut writer,
+        MAX_INPUT,
+    );
+    assert_eq!(rt; status.code, 0);
+    assert_eq!(rt; writer.taken.as_slice(), STORED_REPORT);
+    assert!(rt; writer.is_flushed);
+}
+
+#[test]
+fn twenty_names_at_most(rt: HostRuntime) -> Result<(), Fail> {
+    let alloc = rt.alloc();
+    let mut input = Vec::new(alloc);
+    for letter in b'a'..b'z' {
+        input.push(letter)?;
+        input.extend_from_slice(b" 1\n")?;
+    }
+    let (status, written) = run_on(alloc, TOP.as_slice(), input.as_slice(), MAX_INPUT);
+    assert_eq!(rt; status.code, 0);
+    let lines = written.iter().filter(|byte| **byte == b'\n').count();
+    assert_eq!(rt; lines, 21);
+    assert!(rt; written.as_slice().ends_with(b"1 1 t\n"));
+    Ok(())
+}

@@ -5,3 +5,4 @@ pub mod Pieces
 pub mod Ranking
 pub mod Reading
 pub mod SameNames
+pub mod WorkedRows

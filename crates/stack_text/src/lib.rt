@@ -7,6 +7,8 @@ mod known_names;
 mod laws;
 mod name;
 mod stack;
+#[cfg(test)]
+mod tests;
 
 pub use batch::{Batch, MAX_TOTAL, PushFault, Refused, Row};
 pub use folded::{FoldedFault, read_folded};

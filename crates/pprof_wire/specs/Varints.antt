@@ -1,0 +1,51 @@
+-- Varints, by the Protocol Buffers encoding page, "Base 128 Varints".
+use Rattle.std.specs.Prelude.{◌≡◌, ℕ, ◌+◌, ◌*◌, ◌%◌, ◌^◌, ◌<◌, ◌≤◌, List, [], ◌∷◌, ◌++◌, length}
+use Rattle.std.specs.List.{AllByRecursion}
+use Rattle.pprof_wire.specs.declared.faults.WireFault.{WireFault}
+use Rattle.pprof_wire.specs.declared.faults.WireFault.TheVariants.{Truncated, LongVarint, FieldNumber, Group, WireType}
+
+-- "Each byte in the varint has a continuation bit": it is set in each byte but the last.
+abbrev pub IsGroups : List ℕ → Type 0
+IsGroups [] = ⊥
+IsGroups (byte ∷ []) = byte < 128
+IsGroups (byte ∷ next ∷ rest) = (128 ≤ byte) × IsGroups (next ∷ rest)
+
+-- "The lower 7 bits of each byte are a payload", the least significant group first.
+abbrev pub number_of : List ℕ → ℕ
+number_of [] = 0
+number_of (byte ∷ rest) = byte % 128 + 128 * number_of rest
+
+-- The bytes spell the number: one to ten bytes, also more than it needs, of a number of 64 bits.
+-- So the tenth byte is 0 or 1.
+pub record IsVarint (bytes : List ℕ) (number : ℕ) : Type 0 where
+  pub groups : IsGroups bytes
+  pub short : length bytes ≤ 10
+  pub value : number ≡ number_of bytes
+  pub fits : number < 2 ^ 64
+
+-- Each byte says that another follows.
+abbrev pub AllContinue : List ℕ → Type 0
+AllContinue = AllByRecursion (λ byte. 128 ≤ byte)
+
+-- The bytes end before the last byte of a varint.
+pub record IsCutVarint (bytes : List ℕ) : Type 0 where
+  pub continued : AllContinue bytes
+  pub short : length bytes < 10
+
+-- Nine bytes that each say that another follows, and a tenth that is neither 0 nor 1.
+pub record IsLongVarint (bytes : List ℕ) : Type 0 where
+  pub front : List ℕ
+  pub tenth : ℕ
+  pub rest : List ℕ
+  pub parts : bytes ≡ front ++ tenth ∷ rest
+  pub nine : length front ≡ 9
+  pub continued : AllContinue front
+  pub large : 1 < tenth
+
+-- Why no varint stands at the front of the bytes.
+abbrev pub IsVarintFault : WireFault → List ℕ → Type 0
+IsVarintFault Truncated bytes = IsCutVarint bytes
+IsVarintFault LongVarint bytes = IsLongVarint bytes
+IsVarintFault FieldNumber bytes = ⊥
+IsVarintFault Group bytes = ⊥
+IsVarintFault WireType bytes = ⊥

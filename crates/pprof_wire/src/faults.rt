@@ -1,0 +1,27 @@
+use std::fmt;
+use thiserror::Error;
+
+/// No memory was to be had. The crates above share this type.
+#[derive(Clone, Copy, Debug, PartialEq, Eq, Error)]
+#[error("NoMemory")]
+pub struct NoMemory;
+
+/// Why bytes are not in the wire format.
+#[derive(Clone, Copy, Debug, PartialEq, Eq, Error)]
+pub enum WireFault {
+    /// The bytes end before the end of what began.
+    #[error("W1 Truncated")]
+    Truncated,
+    /// A varint has a tenth byte that is neither 0 nor 1.
+    #[error("W2 LongVarint")]
+    LongVarint,
+    /// A field's number is not in 1 to 2^29 - 1.
+    #[error("W3 FieldNumber")]
+    FieldNumber,
+    /// A group begins or ends.
+    #[error("W4 Group")]
+    Group,
+    /// A wire type that is not in the format, 6 or 7.
+    #[error("W5 WireType")]
+    WireType,
+}

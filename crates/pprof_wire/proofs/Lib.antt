@@ -1,1 +1,2 @@
 pub mod VarintLaws
+pub mod FieldLaws

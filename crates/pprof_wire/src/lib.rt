@@ -2,8 +2,11 @@
 #![tactic(auto)]
 
 mod faults;
+mod fields;
 mod parts;
+mod values;
 mod varints;
 
 pub use faults::{NoMemory, WireFault};
+pub use values::{Field, Value};
 pub use varints::read_varint;

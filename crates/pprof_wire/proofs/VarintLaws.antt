@@ -184,7 +184,7 @@ varint_no_fault FieldNumber a rest number spelled faulty = faulty
 varint_no_fault Group a rest number spelled faulty = faulty
 varint_no_fault WireType a rest number spelled faulty = faulty
 
-cut_not_long : (bytes : List ℕ) → IsCutVarint bytes → IsLongVarint bytes → ⊥
+pub cut_not_long : (bytes : List ℕ) → IsCutVarint bytes → IsLongVarint bytes → ⊥
 cut_not_long bytes cut long = omega (arith, cut.short, ap length long.parts, length-append long.front (long.tenth ∷ long.rest), long.nine)
 
 pub varint_fault_once : (f g : WireFault) (bytes : List ℕ) → IsVarintFault f bytes → IsVarintFault g bytes → f ≡ g

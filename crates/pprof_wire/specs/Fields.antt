@@ -1,5 +1,5 @@
 -- Fields, by the Protocol Buffers encoding page, "Message Structure".
-use Rattle.std.specs.Prelude.{◌≡◌, ℕ, ◌+◌, ◌*◌, ◌^◌, ◌<◌, ◌≤◌, ◌⊎◌, List, [], ◌∷◌, ◌++◌, length}
+use Rattle.std.specs.Prelude.{◌≡◌, ℕ, ◌+◌, ◌*◌, ◌^◌, ◌<◌, ◌≤◌, ◌⊎◌, List, [], ◌∷◌, ◌++◌, length, Option, None, Some, Result, Ok, Err}
 use Rattle.std.specs.Int.{w32, w64, from_le_bytes}
 use Rattle.pprof_wire.specs.declared.faults.WireFault.{WireFault}
 use Rattle.pprof_wire.specs.declared.faults.WireFault.TheVariants.{Truncated, LongVarint, FieldNumber, Group, WireType}
@@ -28,6 +28,12 @@ value_of (Bytes bytes) = content bytes.now
 
 abbrev pub field_of : Field → PlainField
 field_of field = record { number = field.number; value = value_of field.value }
+
+-- The answer is the field.
+abbrev pub IsField : Option (Result Field WireFault) → PlainField → Type 0
+IsField None field = ⊥
+IsField (Some (Err fault)) field = ⊥
+IsField (Some (Ok read)) field = field_of read ≡ field
 
 -- "Field numbers": from 1 to 2^29 - 1.
 pub record IsFieldNumber (number : ℕ) : Type 0 where

@@ -1,74 +1,67 @@
-ghost use Rattle.std.specs.Prelude.{◌≡◌, ℕ, List, [], ◌+◌, ◌*◌, ◌/◌, ◌%◌, ◌^◌, ◌<◌, ◌≤◌, ◌⊎◌, ◌↔◌, ◌++◌, take, drop, length, IsNone, IfNone, IfSome, IfOk, IfErr, OnErr, MatchResult};
-ghost use Rattle.std.specs.Int.{w32, w64, from_le_bytes};
-ghost use Rattle.pprof_wire.specs.Varints.{IsVarintFault};
-ghost use Rattle.pprof_wire.specs.Fields.{PlainField, value_of, field_of, wire_type_of, IsFieldNumber, IsDelimited, IsCutDelimited, IsValueSpelling, IsFieldSpelling, IsTagFault, IsFrontFault, IsRestFault, EndsAt};
+ghost use Rattle.std.specs.Prelude.{◌≡◌, ℕ, List, [], ◌+◌, ◌/◌, ◌^◌, ◌<◌, ◌≤◌, ◌⊎◌, ◌↔◌, ◌++◌, take, length, IsNone, IfNone, IfSome, IfOk, IfErr};
+ghost use Rattle.pprof_wire.specs.Windows.{IsAfter};
+ghost use Rattle.pprof_wire.specs.Fields.{PlainField, field_of, IsField, IsFieldNumber, IsFieldSpelling, IsFrontFault, IsRestFault, EndsAt};
 
 use crate::faults::WireFault;
-use crate::parts::{bytes_from, first_bytes};
-use crate::values::{Field, Value};
+use crate::parts::bytes_from;
+use crate::values::{Field, first_value};
 use crate::varints::first_varint;
+use std::marker::Model;
 
 const MAX_FIELD_NUMBER: u32 = 536_870_911;
 
-/// The length and the bytes at the front, and how many bytes they take.
-fn first_delimited(bytes: &[u8]) -> Result<(&[u8], usize), WireFault>
-    ensures spelled { IfOk result (λ found. IsDelimited (take found.1 bytes.now) found.0.now) }
-    ensures within { IfOk result (λ found. found.1 ≤ length bytes.now) }
-    ensures place { IfOk result (λ found. (found.0.ref_ptr.0 ≡ bytes.entry.ref_ptr.0) × (found.0.ref_ptr.1 + length found.0.now ≡ bytes.entry.ref_ptr.1 + found.1)) }
-    ensures fault { IfErr result (λ fault. IsVarintFault fault bytes.now ⊎ ((fault ≡ WireFault.Truncated) × IsCutDelimited bytes.now)) }
-{
-    let (count, prefix) = first_varint(bytes)?;
-    let rest = bytes_from(bytes, prefix);
-    if count > rest.len() as u64 {
-        return Err(WireFault::Truncated);
-    }
-    let content = first_bytes(rest, count as usize);
-    Ok((content, prefix + content.len()))
+/// The fields of a message, one after the other. A contract sees the bytes that were not handed out yet,
+/// and where they lie.
+#[derive(Debug, Drop)]
+pub struct Fields<'a> {
+    rest: &'a [u8],
 }
 
-/// The eight bytes at the front, the least significant first.
-fn first_fixed64(bytes: &[u8]) -> Result<u64, WireFault>
-    ensures number { IfOk result (λ number. (8 ≤ length bytes.now) × (number ≡ from_le_bytes w64 (take 8 bytes.now))) }
-    ensures cut { IfErr result (λ fault. (fault ≡ WireFault.Truncated) × (length bytes.now < 8)) }
-{
-    match bytes.first_chunk::<8>() {
-        Some(chunk) => Ok(u64::from_le_bytes(*chunk)),
-        None => Err(WireFault::Truncated),
-    }
+impl<'a> Model for Fields<'a> {
+    ghost use Rattle.pprof_wire.specs.Windows.{Window};
+
+    ghost Value = { Window };
+
+    ghost view = { λ fields. record { bytes = fields.rest.now; place = fields.rest.ref_ptr } };
 }
 
-/// The four bytes at the front, the least significant first.
-fn first_fixed32(bytes: &[u8]) -> Result<u32, WireFault>
-    ensures number { IfOk result (λ number. (4 ≤ length bytes.now) × (number ≡ from_le_bytes w32 (take 4 bytes.now))) }
-    ensures cut { IfErr result (λ fault. (fault ≡ WireFault.Truncated) × (length bytes.now < 4)) }
-{
-    match bytes.first_chunk::<4>() {
-        Some(chunk) => Ok(u32::from_le_bytes(*chunk)),
-        None => Err(WireFault::Truncated),
+impl<'a> Fields<'a> {
+    /// The fields of these bytes.
+    pub fn new(bytes: &'a [u8]) -> Fields<'a>
+        ensures bytes { result.bytes ≡ bytes.now }
+        ensures place { result.place ≡ bytes.entry.ref_ptr }
+    {
+        Fields { rest: bytes }
     }
-}
 
-/// The value of the wire type at the front, and how many bytes it takes.
-fn first_value(wire_type: u64, bytes: &[u8]) -> Result<(Value<'_>, usize), WireFault>
-    ensures typed { IfOk result (λ found. wire_type ≡ wire_type_of (value_of found.0)) }
-    ensures spelled { IfOk result (λ found. IsValueSpelling (take found.1 bytes.now) (value_of found.0)) }
-    ensures within { IfOk result (λ found. found.1 ≤ length bytes.now) }
-    ensures place { IfOk result (λ found. EndsAt found.0 (bytes.entry.ref_ptr.0, bytes.entry.ref_ptr.1 + found.1)) }
-    ensures fault { IfErr result (λ fault. (number : ℕ) → IsFieldNumber number → IsTagFault fault number wire_type bytes.now) }
-{
-    match wire_type {
-        0 => {
-            let (number, len) = first_varint(bytes)?;
-            Ok((Value::Varint(number), len))
+    /// The next field. After the last one it is `None`, and where no whole field is left its fault: then each
+    /// further call answers the same.
+    pub fn next_field(&mut self) -> Option<Result<Field<'a>, WireFault>>
+        ensures end { IsNone result ↔ (self.old.bytes ≡ []) }
+        ensures stays { IfNone result (self.new ≡ self.old) }
+        ensures field {
+            IfSome result (λ read. IfOk read (λ field. (spelling : List ℕ) × IsAfter self.old spelling self.new
+                × IsFieldSpelling spelling (field_of field) × EndsAt field.value self.new.place))
         }
-        1 => Ok((Value::Fixed64(first_fixed64(bytes)?), 8)),
-        2 => {
-            let (content, len) = first_delimited(bytes)?;
-            Ok((Value::Bytes(content), len))
+        ensures fault {
+            IfSome result (λ read. IfErr read (λ fault. (self.new ≡ self.old) × IsRestFault fault self.old.bytes))
         }
-        3 | 4 => Err(WireFault::Group),
-        5 => Ok((Value::Fixed32(first_fixed32(bytes)?), 4)),
-        _ => Err(WireFault::WireType),
+        ensures every_field {
+            (spelling rest : List ℕ) → (field : PlainField) → self.old.bytes ≡ spelling ++ rest → IsFieldSpelling spelling field
+                → IsField result field × (self.new.bytes ≡ rest)
+        }
+        ensures every_fault { (fault : WireFault) → IsRestFault fault self.old.bytes → result ≡ Some (Err fault) }
+    {
+        if self.rest.is_empty() {
+            return None;
+        }
+        match first_field(self.rest) {
+            Ok((field, len)) => {
+                self.rest = bytes_from(self.rest, len);
+                Some(Ok(field))
+            }
+            Err(fault) => Some(Err(fault)),
+        }
     }
 }
 

@@ -8,5 +8,6 @@ mod values;
 mod varints;
 
 pub use faults::{NoMemory, WireFault};
+pub use fields::Fields;
 pub use values::{Field, Value};
 pub use varints::read_varint;

@@ -1,6 +1,6 @@
 use Rattle.std.proofs.Common.{arith}
 use Rattle.pprof_wire.proofs.FieldLaws.{delimited_read}
-use Rattle.pprof_wire.proofs.fields.first_delimited.Goals as goal
+use Rattle.pprof_wire.proofs.values.first_delimited.Goals as goal
 
 pub returns-clause-spelled : goal.returns-clause-spelled
 returns-clause-spelled c =

@@ -1,2 +1,3 @@
 pub mod VarintLaws
 pub mod FieldLaws
+pub mod ShortestVarints

@@ -220,3 +220,9 @@ varint_fault_stands fault bytes spelling rest number faulty same spelled =
 
 pub past_end : (at : ℕ) (bytes : List ℕ) → length bytes ≤ at → IsVarintFault Truncated (drop at bytes)
 past_end at bytes past = rw (drop_all at bytes past) (record { continued = tt; short = lit< tt })
+
+pub varint_rest_once : (bytes spelling rest after : List ℕ) (len read number : ℕ) → IsVarint (take len bytes) read → after ≡ drop len bytes
+    → bytes ≡ spelling ++ rest → IsVarint spelling number → (read ≡ number) × (after ≡ rest)
+varint_rest_once bytes spelling rest after len read number found after-is same spelled =
+    let once = varint_once (take len bytes) spelling (drop len bytes) rest read number found spelled (take-append-drop len bytes ∙ same) in
+    (once.2, after-is ∙ once.1)

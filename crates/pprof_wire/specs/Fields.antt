@@ -1,12 +1,12 @@
 -- Fields, by the Protocol Buffers encoding page, "Message Structure".
 use Rattle.std.specs.Prelude.{◌≡◌, ℕ, ◌+◌, ◌*◌, ◌^◌, ◌<◌, ◌≤◌, ◌⊎◌, List, [], ◌∷◌, ◌++◌, length, Option, None, Some, Result, Ok, Err}
-use Rattle.std.specs.Int.{w32, w64, from_le_bytes}
+use Rattle.std.specs.Int.{w32, w64, from_le_bytes, to_le_bytes}
 use Rattle.pprof_wire.specs.declared.faults.WireFault.{WireFault}
 use Rattle.pprof_wire.specs.declared.faults.WireFault.TheVariants.{Truncated, LongVarint, FieldNumber, Group, WireType}
 use Rattle.pprof_wire.specs.declared.values.Value.{Value}
 use Rattle.pprof_wire.specs.declared.values.Value.TheVariants.{Varint, Fixed64, Fixed32, Bytes}
 use Rattle.pprof_wire.specs.declared.values.Field.{Field}
-use Rattle.pprof_wire.specs.Varints.{IsVarint, IsCutVarint, IsLongVarint, IsVarintFault}
+use Rattle.pprof_wire.specs.Varints.{IsVarint, IsCutVarint, IsLongVarint, IsVarintFault, varint_of}
 
 -- A value, without where its bytes lie.
 pub data FieldValue : Type 0 where
@@ -142,3 +142,23 @@ EndsAt (Varint number) place = Unit {0}
 EndsAt (Fixed64 number) place = Unit {0}
 EndsAt (Fixed32 number) place = Unit {0}
 EndsAt (Bytes bytes) place = (bytes.ref_ptr.0 ≡ place.0) × (bytes.ref_ptr.1 + length bytes.now ≡ place.1)
+
+-- ---- the shortest spelling
+
+-- The value, with its varints as short as can be.
+abbrev pub value_bytes_of : FieldValue → List ℕ
+value_bytes_of (varint number) = varint_of number
+value_bytes_of (fixed64 number) = to_le_bytes w64 number
+value_bytes_of (fixed32 number) = to_le_bytes w32 number
+value_bytes_of (content bytes) = varint_of (length bytes) ++ bytes
+
+-- The field, with its varints as short as can be.
+abbrev pub field_bytes_of : PlainField → List ℕ
+field_bytes_of field = varint_of (8 * field.number + wire_type_of field.value) ++ value_bytes_of field.value
+
+-- What a value of 64 or 32 bits can be.
+abbrev pub FitsValue : FieldValue → Type 0
+FitsValue (varint number) = number < 2 ^ 64
+FitsValue (fixed64 number) = number < 2 ^ 64
+FitsValue (fixed32 number) = number < 2 ^ 32
+FitsValue (content bytes) = length bytes < 2 ^ 64

@@ -1,5 +1,5 @@
 -- Varints, by the Protocol Buffers encoding page, "Base 128 Varints".
-use Rattle.std.specs.Prelude.{◌≡◌, ℕ, ◌+◌, ◌*◌, ◌%◌, ◌^◌, ◌<◌, ◌≤◌, List, [], ◌∷◌, ◌++◌, length}
+use Rattle.std.specs.Prelude.{◌≡◌, ℕ, zero, suc, ◌+◌, ◌*◌, ◌/◌, ◌%◌, ◌^◌, nat_lt, if◌then◌else◌, ◌<◌, ◌≤◌, List, [], ◌∷◌, ◌++◌, length}
 use Rattle.std.specs.List.{AllByRecursion}
 use Rattle.pprof_wire.specs.declared.faults.WireFault.{WireFault}
 use Rattle.pprof_wire.specs.declared.faults.WireFault.TheVariants.{Truncated, LongVarint, FieldNumber, Group, WireType}
@@ -49,3 +49,22 @@ IsVarintFault LongVarint bytes = IsLongVarint bytes
 IsVarintFault FieldNumber bytes = ⊥
 IsVarintFault Group bytes = ⊥
 IsVarintFault WireType bytes = ⊥
+
+-- ---- the numbers of a packed field
+
+-- The bytes are the spellings of the numbers, one after the other.
+abbrev pub IsNumberList : List ℕ → List ℕ → Type 0
+IsNumberList bytes [] = bytes ≡ []
+IsNumberList bytes (number ∷ numbers) =
+    (front : List ℕ) × (after : List ℕ) × (bytes ≡ front ++ after) × IsVarint front number × IsNumberList after numbers
+
+-- ---- the shortest spelling
+
+-- The groups of a number, in `more` bytes at most before the last.
+abbrev pub groups_of : ℕ → ℕ → List ℕ
+groups_of zero number = number ∷ []
+groups_of (suc more) number = if nat_lt number 128 then number ∷ [] else (number % 128 + 128) ∷ groups_of more (number / 128)
+
+-- The shortest spelling of a number of 64 bits: no group of zeros at its end.
+unfoldable pub varint_of : ℕ → List ℕ
+varint_of number = groups_of 9 number

@@ -3,11 +3,17 @@
 
 mod faults;
 mod fields;
+mod numbers;
+mod packing;
 mod parts;
 mod values;
 mod varints;
+mod writing;
 
 pub use faults::{NoMemory, WireFault};
 pub use fields::Fields;
+pub use numbers::packed;
+pub use packing::Packed;
 pub use values::{Field, Value};
 pub use varints::read_varint;
+pub use writing::write_varint;

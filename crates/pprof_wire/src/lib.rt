@@ -16,4 +16,4 @@ pub use numbers::packed;
 pub use packing::Packed;
 pub use values::{Field, Value};
 pub use varints::read_varint;
-pub use writing::write_varint;
+pub use writing::{write_field, write_varint};

@@ -1,3 +1,4 @@
 pub mod VarintLaws
 pub mod FieldLaws
 pub mod ShortestVarints
+pub mod ListLaws

@@ -1,8 +1,9 @@
 -- Laws of varints as lists of bytes.
-use Rattle.std.proofs.Common.{◌≡◌, ℕ, zero, suc, ◌+◌, ◌*◌, ◌%◌, ◌^◌, ◌<◌, ◌≤◌, List, [], ◌∷◌, ◌++◌, length, take, drop, get_or, refl, sym, ap, ◌∙◌, arith, length-append, bit_and, lit<, subst}
+use Rattle.std.proofs.Common.{◌≡◌, ℕ, zero, suc, ◌+◌, ◌*◌, ◌%◌, ◌^◌, ◌<◌, ◌≤◌, List, [], ◌∷◌, ◌++◌, length, take, drop, get_or, refl, sym, ap, ◌∙◌, arith, length-append, bit_and, lit<, subst, ◌⊎◌, inl, inr}
 use Rattle.std.proofs.Math.Nat.{pow-le-pow_right}
 use Rattle.std.proofs.lemmas.Nat.{pow-add, and_mask, shl_whole, mod_below, pow_pos, mul-add-lt}
 use Rattle.std.proofs.lemmas.List.{length-take-le, take_more, drop_more, take-append-drop, drop_all}
+use Rattle.std.proofs.lemmas.Bool.{cases_lt}
 use Rattle.std.specs.List.{AllByRecursion}
 use Rattle.pprof_wire.specs.declared.faults.WireFault.{WireFault}
 use Rattle.pprof_wire.specs.declared.faults.WireFault.TheVariants.{Truncated, LongVarint, FieldNumber, Group, WireType}
@@ -226,3 +227,17 @@ pub varint_rest_once : (bytes spelling rest after : List ℕ) (len read number :
 varint_rest_once bytes spelling rest after len read number found after-is same spelled =
     let once = varint_once (take len bytes) spelling (drop len bytes) rest read number found spelled (take-append-drop len bytes ∙ same) in
     (once.2, after-is ∙ once.1)
+
+last-of-ten : (front : List ℕ) (tenth : ℕ) → IsGroups (front ++ tenth ∷ []) → tenth < 128
+last-of-ten [] tenth groups = groups
+last-of-ten (f ∷ []) tenth groups = groups.1
+last-of-ten (f ∷ g ∷ front) tenth groups = last-of-ten (g ∷ front) tenth groups.1
+
+tenth-cases : (front : List ℕ) (tenth : ℕ) → length front ≡ 9 → tenth < 128 → number_of (front ++ tenth ∷ []) < 2 ^ 64 → (1 < tenth) ⊎ (tenth ≤ 1) → tenth ≤ 1
+tenth-cases front tenth nine small fits (inl large) = absurd (large-tenth front tenth nine small large fits)
+tenth-cases front tenth nine small fits (inr done) = done
+
+-- the tenth byte of a spelling is 0 or 1
+pub tenth-small : (front : List ℕ) (tenth number : ℕ) → length front ≡ 9 → IsVarint (front ++ tenth ∷ []) number → tenth ≤ 1
+tenth-small front tenth number nine spelled =
+    tenth-cases front tenth nine (last-of-ten front tenth spelled.groups) (subst (λ (n : ℕ). n < 2 ^ 64) spelled.value spelled.fits) (cases_lt 1 tenth)

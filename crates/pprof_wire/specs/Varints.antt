@@ -58,6 +58,17 @@ IsNumberList bytes [] = bytes ≡ []
 IsNumberList bytes (number ∷ numbers) =
     (front : List ℕ) × (after : List ℕ) × (bytes ≡ front ++ after) × IsVarint front number × IsNumberList after numbers
 
+-- No number's spelling stands at the front.
+abbrev pub IsWithoutNumber : List ℕ → Type 0
+IsWithoutNumber bytes = (front rest : List ℕ) → (number : ℕ) → bytes ≡ front ++ rest → IsVarint front number → ⊥
+
+-- The bytes are whole numbers, and then a rest that begins with no whole number.
+pub record SplitsIntoNumbers (bytes numbers rest : List ℕ) : Type 0 where
+  pub front : List ℕ
+  pub parts : bytes ≡ front ++ rest
+  pub listed : IsNumberList front numbers
+  pub ends : IsWithoutNumber rest
+
 -- ---- the shortest spelling
 
 -- The groups of a number, in `more` bytes at most before the last.

@@ -3,6 +3,7 @@
 
 mod faults;
 mod fields;
+pub mod laws;
 mod numbers;
 mod packing;
 mod parts;

@@ -1,5 +1,5 @@
 //! Laws of the wire format. Each function does nothing: what it ensures is the law.
-ghost use Rattle.std.specs.Prelude.{◌≡◌, ℕ, List, [], ◌∷◌, ◌+◌, ◌*◌, ◌^◌, ◌<◌, ◌≤◌, ◌++◌, length};
+ghost use Rattle.std.specs.Prelude.{◌≡◌, ℕ, List, [], ◌∷◌, ◌+◌, ◌*◌, ◌^◌, ◌<◌, ◌≤◌, ◌⊎◌, ◌++◌, length};
 ghost use Rattle.pprof_wire.specs.declared.faults.WireFault.{WireFault};
 ghost use Rattle.pprof_wire.specs.Varints.{IsVarint, IsVarintFault, IsNumberList, SplitsIntoNumbers, varint_of};
 ghost use Rattle.pprof_wire.specs.Fields.{PlainField, IsFieldNumber, FitsValue, IsFieldSpelling, IsFieldList, SplitsIntoFields, IsRestFault, field_bytes_of};
@@ -51,6 +51,15 @@ pub fn one_field_or_fault()
 pub fn one_split_into_fields()
     ensures {
         (bytes r s : List ℕ) → (xs ys : List PlainField) → SplitsIntoFields bytes xs r → SplitsIntoFields bytes ys s → (xs ≡ ys) × (r ≡ s)
+    }
+{
+}
+
+/// All bytes are whole fields and a rest, and the rest is empty or has a fault.
+pub fn each_list_splits()
+    ensures {
+        (bytes : List ℕ) → (fields : List PlainField) × (rest : List ℕ) × SplitsIntoFields bytes fields rest
+            × ((rest ≡ []) ⊎ ((fault : WireFault) × IsRestFault fault rest))
     }
 {
 }

@@ -49,9 +49,9 @@ last_byte front byte rest all few small =
     elim (cases_lt (length front) 9) [
       | inl short ↦ inl (spelled_at front byte rest all small few (fits-nine (front ++ byte ∷ []) (omega (arith, length-append front (byte ∷ [])))))
       | inr nine ↦ elim (cases_lt 1 byte) [
-          | inl large ↦ inr (long_at front byte rest all (omega arith) large)
-          | inr tiny ↦ inl (spelled_at front byte rest all small few (tenth-fits front byte (omega arith) tiny))
-        ]
+        | inl large ↦ inr (long_at front byte rest all (omega arith) large)
+        | inr tiny ↦ inl (spelled_at front byte rest all small few (tenth-fits front byte (omega arith) tiny))
+      ]
     ]
 
 varint_after : (front rest : List ℕ) → AllContinue front → length front ≤ 9 → HasVarint (front ++ rest) ⊎ HasVarintFault (front ++ rest)
@@ -64,10 +64,10 @@ varint_after front (byte ∷ rest) all few =
     elim (cases_lt byte 128) [
       | inl small ↦ last_byte front byte rest all few small
       | inr large ↦ elim (cases_lt (length front) 9) [
-          | inl short ↦ subst (λ (bytes : List ℕ). HasVarint bytes ⊎ HasVarintFault bytes) (append_assoc front (byte ∷ []) rest)
-              (varint_after (front ++ byte ∷ []) rest (AllContinue-snoc front byte all large) (omega (arith, length-append front (byte ∷ []))))
-          | inr nine ↦ inr (long_at front byte rest all (omega arith) (omega arith))
-        ]
+        | inl short ↦ subst (λ (bytes : List ℕ). HasVarint bytes ⊎ HasVarintFault bytes) (append_assoc front (byte ∷ []) rest)
+            (varint_after (front ++ byte ∷ []) rest (AllContinue-snoc front byte all large) (omega (arith, length-append front (byte ∷ []))))
+        | inr nine ↦ inr (long_at front byte rest all (omega arith) (omega arith))
+      ]
     ]
 
 pub varint_or_fault : (bytes : List ℕ) → HasVarint bytes ⊎ HasVarintFault bytes

@@ -75,7 +75,7 @@ same_front (p ∷ a) (q ∷ b) x y len same =
 delimited_once : (a b x y c d : List ℕ) → IsDelimited a c → IsDelimited b d → a ++ x ≡ b ++ y → (a ≡ b) × (x ≡ y) × (c ≡ d)
 delimited_once a b x y c d left right same =
     let whole : left.prefix ++ (c ++ x) ≡ right.prefix ++ (d ++ y) =
-        sym (append_assoc left.prefix c x) ∙ ap (λ (front : List ℕ). front ++ x) (sym left.parts) ∙ same ∙ ap (λ (front : List ℕ). front ++ y) right.parts ∙ append_assoc right.prefix d y in
+    sym (append_assoc left.prefix c x) ∙ ap (λ (front : List ℕ). front ++ x) (sym left.parts) ∙ same ∙ ap (λ (front : List ℕ). front ++ y) right.parts ∙ append_assoc right.prefix d y in
     let prefixes = varint_once left.prefix right.prefix (c ++ x) (d ++ y) (length c) (length d) left.spelled right.spelled whole in
     let contents = same_front c d x y prefixes.2 prefixes.1 in
     (left.parts ∙ ap (λ (front : List ℕ). front ++ c) prefixes.0 ∙ ap (λ (inner : List ℕ). right.prefix ++ inner) contents.0 ∙ sym right.parts, contents.1, contents.0)
@@ -121,13 +121,13 @@ regrouped bytes tag rest after parts = ap (λ (front : List ℕ). front ++ after
 pub field_once : (a b x y : List ℕ) (f g : PlainField) → IsFieldSpelling a f → IsFieldSpelling b g → a ++ x ≡ b ++ y → (a ≡ b) × (x ≡ y) × (f ≡ g)
 field_once a b x y f g left right same =
     let whole : left.tag ++ (left.rest ++ x) ≡ right.tag ++ (right.rest ++ y) =
-        sym (regrouped a left.tag left.rest x left.parts) ∙ same ∙ regrouped b right.tag right.rest y right.parts in
+    sym (regrouped a left.tag left.rest x left.parts) ∙ same ∙ regrouped b right.tag right.rest y right.parts in
     let tags = varint_once left.tag right.tag (left.rest ++ x) (right.rest ++ y) (8 * f.number + wire_type_of f.value) (8 * g.number + wire_type_of g.value) left.tagged right.tagged whole in
     let parts = tag_once f.number g.number (wire_type_of f.value) (wire_type_of g.value) (low-type f.value) (low-type g.value) tags.2 in
-    let values = value_once f.value g.value left.rest right.rest x y parts.1 left.valued right.valued tags.1 in
-    ( left.parts ∙ ap (λ (tag : List ℕ). tag ++ left.rest) tags.0 ∙ ap (λ (rest : List ℕ). right.tag ++ rest) values.0 ∙ sym right.parts
-    , values.1
-    , ap (λ (n : ℕ). record { number = n; value = f.value }) parts.0 ∙ ap (λ (v : FieldValue). record { number = g.number; value = v }) values.2
+    let values = value_once f.value g.value left.rest right.rest x y parts.1 left.valued right.valued tags.1 in (
+      left.parts ∙ ap (λ (tag : List ℕ). tag ++ left.rest) tags.0 ∙ ap (λ (rest : List ℕ). right.tag ++ rest) values.0 ∙ sym right.parts,
+      values.1,
+      ap (λ (n : ℕ). record { number = n; value = f.value }) parts.0 ∙ ap (λ (v : FieldValue). record { number = g.number; value = v }) values.2,
     )
 
 -- ---- a field at the front and a fault exclude one another
@@ -192,14 +192,14 @@ value_no_tag_fault LongVarint number v a x numbered spelled faulty = value_not_l
 pub field_no_fault : (fault : WireFault) (a x : List ℕ) (f : PlainField) → IsFieldSpelling a f → IsFrontFault fault (a ++ x) → ⊥
 field_no_fault fault a x f spelled (inl faulty) =
     varint_no_fault fault spelled.tag (spelled.rest ++ x) (8 * f.number + wire_type_of f.value) spelled.tagged
-        (subst (IsVarintFault fault) (regrouped a spelled.tag spelled.rest x spelled.parts) faulty)
+    (subst (IsVarintFault fault) (regrouped a spelled.tag spelled.rest x spelled.parts) faulty)
 field_no_fault fault a x f spelled (inr (number, wire_type, rest, begun, faulty)) =
     let whole : begun.tag ++ rest ≡ spelled.tag ++ (spelled.rest ++ x) = sym begun.parts ∙ regrouped a spelled.tag spelled.rest x spelled.parts in
     let tags = varint_once begun.tag spelled.tag rest (spelled.rest ++ x) (8 * number + wire_type) (8 * f.number + wire_type_of f.value) begun.tagged spelled.tagged whole in
     let parts = tag_once number f.number wire_type (wire_type_of f.value) begun.low (low-type f.value) tags.2 in
     let there : IsTagFault fault f.number (wire_type_of f.value) (spelled.rest ++ x) =
-        subst (λ (n : ℕ). IsTagFault fault n (wire_type_of f.value) (spelled.rest ++ x)) parts.0
-            (subst (λ (t : ℕ). IsTagFault fault number t (spelled.rest ++ x)) parts.1 (subst (IsTagFault fault number wire_type) tags.1 faulty)) in
+    subst (λ (n : ℕ). IsTagFault fault n (wire_type_of f.value) (spelled.rest ++ x)) parts.0
+    (subst (λ (t : ℕ). IsTagFault fault number t (spelled.rest ++ x)) parts.1 (subst (IsTagFault fault number wire_type) tags.1 faulty)) in
     value_no_tag_fault fault f.number f.value spelled.rest x spelled.numbered spelled.valued there
 
 -- ---- a rest has one fault
@@ -277,7 +277,7 @@ front_fault_once f g bytes (inr (m, s, rest, begun, faulty)) (inr (n, t, other, 
     let tags = varint_once begun.tag too.tag rest other (8 * m + s) (8 * n + t) begun.tagged too.tagged (sym begun.parts ∙ too.parts) in
     let parts = tag_once m n s t begun.low too.low tags.2 in
     let there : IsTagFault f n t other =
-        subst (λ (k : ℕ). IsTagFault f k t other) parts.0 (subst (λ (k : ℕ). IsTagFault f m k other) parts.1 (subst (IsTagFault f m s) tags.1 faulty)) in
+    subst (λ (k : ℕ). IsTagFault f k t other) parts.0 (subst (λ (k : ℕ). IsTagFault f m k other) parts.1 (subst (IsTagFault f m s) tags.1 faulty)) in
     tag_fault_once f g n t other there wrong
 
 -- ---- what was read is what stands there

@@ -44,7 +44,7 @@ listed_once a b r s (x ∷ xs) [] (front, after, parts, spelled, others) right e
     absurd (stops front (after ++ r) x (ap (λ (bytes : List ℕ). bytes ++ s) (sym right) ∙ sym same ∙ ap (λ (bytes : List ℕ). bytes ++ r) parts ∙ append_assoc front after r) spelled)
 listed_once a b r s (x ∷ xs) (y ∷ ys) (front, after, parts, spelled, others) (first, next, pieces, written, more) ends stops same =
     let whole : front ++ (after ++ r) ≡ first ++ (next ++ s) =
-        sym (append_assoc front after r) ∙ ap (λ (bytes : List ℕ). bytes ++ r) (sym parts) ∙ same ∙ ap (λ (bytes : List ℕ). bytes ++ s) pieces ∙ append_assoc first next s in
+    sym (append_assoc front after r) ∙ ap (λ (bytes : List ℕ). bytes ++ r) (sym parts) ∙ same ∙ ap (λ (bytes : List ℕ). bytes ++ s) pieces ∙ append_assoc first next s in
     let once = field_once front first (after ++ r) (next ++ s) x y spelled written whole in
     let rest = listed_once after next r s xs ys others more ends stops once.1 in
     (ap (λ (z : PlainField). z ∷ xs) once.2 ∙ ap (λ (zs : List PlainField). y ∷ zs) rest.0, rest.1)
@@ -88,7 +88,7 @@ numbered_once a b r s (x ∷ xs) [] (front, after, parts, spelled, others) right
     absurd (stops front (after ++ r) x (ap (λ (bytes : List ℕ). bytes ++ s) (sym right) ∙ sym same ∙ ap (λ (bytes : List ℕ). bytes ++ r) parts ∙ append_assoc front after r) spelled)
 numbered_once a b r s (x ∷ xs) (y ∷ ys) (front, after, parts, spelled, others) (first, next, pieces, written, more) ends stops same =
     let whole : front ++ (after ++ r) ≡ first ++ (next ++ s) =
-        sym (append_assoc front after r) ∙ ap (λ (bytes : List ℕ). bytes ++ r) (sym parts) ∙ same ∙ ap (λ (bytes : List ℕ). bytes ++ s) pieces ∙ append_assoc first next s in
+    sym (append_assoc front after r) ∙ ap (λ (bytes : List ℕ). bytes ++ r) (sym parts) ∙ same ∙ ap (λ (bytes : List ℕ). bytes ++ s) pieces ∙ append_assoc first next s in
     let once = varint_once front first (after ++ r) (next ++ s) x y spelled written whole in
     let rest = numbered_once after next r s xs ys others more ends stops once.1 in
     (ap (λ (z : ℕ). z ∷ xs) once.2 ∙ ap (λ (zs : List ℕ). y ∷ zs) rest.0, rest.1)

@@ -91,14 +91,15 @@ more_spelled bytes count number small within continued value last =
 pub more_read : (bytes : List ℕ) (count number : ℕ) → count < 9 → count < length bytes → AllContinue (take count bytes) → number ≡ number_of (take count bytes)
     → 128 ≤ get_or bytes count 0
     → AllContinue (take (count + 1) bytes)
-        × (number + bit_and (get_or bytes count 0) 127 * 2 ^ (7 * count) % 2 ^ 64 ≡ number_of (take (count + 1) bytes))
-        × (number + bit_and (get_or bytes count 0) 127 * 2 ^ (7 * count) % 2 ^ 64 < 2 ^ (7 * (count + 1)))
+    × (number + bit_and (get_or bytes count 0) 127 * 2 ^ (7 * count) % 2 ^ 64 ≡ number_of (take (count + 1) bytes))
+    × (number + bit_and (get_or bytes count 0) 127 * 2 ^ (7 * count) % 2 ^ 64 < 2 ^ (7 * (count + 1)))
 more_read bytes count number small within continued value large =
     let len : length (take (count + 1) bytes) ≡ count + 1 = length-take-le (count + 1) bytes (omega arith) in
-    let is = more_value bytes count number small within value in
-    ( rw (take_more bytes count 0 within) (AllContinue-snoc (take count bytes) (get_or bytes count 0) continued large)
-    , is
-    , rw is (subst (λ (n : ℕ). number_of (take (count + 1) bytes) < 2 ^ (7 * n)) len (number_of-below (take (count + 1) bytes))) )
+    let is = more_value bytes count number small within value in (
+      rw (take_more bytes count 0 within) (AllContinue-snoc (take count bytes) (get_or bytes count 0) continued large),
+      is,
+      rw is (subst (λ (n : ℕ). number_of (take (count + 1) bytes) < 2 ^ (7 * n)) len (number_of-below (take (count + 1) bytes))),
+    )
 
 -- nine bytes that say that another follows, before a tenth
 pub is_long : (bytes : List ℕ) (count : ℕ) → count ≤ 9 → 9 ≤ count → 9 < length bytes → AllContinue (take count bytes) → 1 < get_or bytes 9 0 → IsLongVarint bytes

@@ -1,4 +1,4 @@
-ghost use Rattle.std.specs.Prelude.{◌≡◌, ℕ, List, [], ◌+◌, ◌/◌, ◌^◌, ◌<◌, ◌≤◌, ◌⊎◌, ◌↔◌, ◌++◌, take, length, IsNone, IfNone, IfSome, IfOk, IfErr};
+ghost use Rattle.std.specs.Prelude.{◌≡◌, ℕ, List, [], ◌+◌, ◌/◌, ◌^◌, ◌<◌, ◌≤◌, ◌⊎◌, ◌↔◌, ◌++◌, take, length, IsNone, IfNone, IfSome, IfOk, IfErr, OnOk};
 ghost use Rattle.pprof_wire.specs.Windows.{IsAfter};
 ghost use Rattle.pprof_wire.specs.Fields.{PlainField, field_of, IsField, IsFieldNumber, IsFieldSpelling, IsFrontFault, IsRestFault, EndsAt};
 
@@ -39,17 +39,12 @@ impl<'a> Fields<'a> {
     pub fn next_field(&mut self) -> Option<Result<Field<'a>, WireFault>>
         ensures end { IsNone result ↔ (self.old.bytes ≡ []) }
         ensures stays { IfNone result (self.new ≡ self.old) }
-        ensures field {
-            IfSome result (λ read. IfOk read (λ field. (spelling : List ℕ) × IsAfter self.old spelling self.new
-                × IsFieldSpelling spelling (field_of field) × EndsAt field.value self.new.place))
-        }
-        ensures fault {
-            IfSome result (λ read. IfErr read (λ fault. (self.new ≡ self.old) × IsRestFault fault self.old.bytes))
-        }
-        ensures every_field {
-            (spelling rest : List ℕ) → (field : PlainField) → self.old.bytes ≡ spelling ++ rest → IsFieldSpelling spelling field
-                → IsField result field × (self.new.bytes ≡ rest)
-        }
+        ensures field { IfSome result (λ read. IfOk read (λ field. (spelling : List ℕ) × IsAfter self.old spelling self.new
+            × IsFieldSpelling spelling (field_of field) × EndsAt field.value self.new.place)) }
+        ensures fault { IfSome result (λ read. IfErr read (λ fault. (self.new ≡ self.old) × IsRestFault fault self.old.bytes)) }
+        ensures shorter { IfSome result (λ read. OnOk read (length self.new.bytes < length self.old.bytes)) }
+        ensures every_field { (spelling rest : List ℕ) → (field : PlainField) → self.old.bytes ≡ spelling ++ rest → IsFieldSpelling spelling field
+            → IsField result field × (self.new.bytes ≡ rest) }
         ensures every_fault { (fault : WireFault) → IsRestFault fault self.old.bytes → result ≡ Some (Err fault) }
     {
         if self.rest.is_empty() {

@@ -7,6 +7,8 @@ pub mod laws;
 mod numbers;
 mod packing;
 mod parts;
+#[cfg(test)]
+mod tests;
 mod values;
 mod varints;
 mod writing;

@@ -1,4 +1,4 @@
-ghost use Rattle.std.specs.Prelude.{◌≡◌, ℕ, List, [], ◌<◌, ◌↔◌, ◌++◌, length, IsNone, IfNone, IfSome, IfOk, IfErr};
+ghost use Rattle.std.specs.Prelude.{◌≡◌, ℕ, List, [], ◌<◌, ◌↔◌, ◌++◌, length, IsNone, IfNone, IfSome, IfOk, IfErr, OnOk};
 ghost use Rattle.pprof_wire.specs.Varints.{IsVarint, IsVarintFault};
 
 use crate::faults::WireFault;
@@ -33,17 +33,12 @@ impl<'a> Packed<'a> {
     pub fn next_value(&mut self) -> Option<Result<u64, WireFault>>
         ensures end { IsNone result ↔ (self.old ≡ []) }
         ensures stays { IfNone result (self.new ≡ self.old) }
-        ensures number {
-            IfSome result (λ read. IfOk read (λ number. (spelling : List ℕ) × (self.old ≡ spelling ++ self.new) × IsVarint spelling number))
-        }
+        ensures number { IfSome result (λ read. IfOk read (λ number. (spelling : List ℕ) × (self.old ≡ spelling ++ self.new) × IsVarint spelling number)) }
         ensures fault { IfSome result (λ read. IfErr read (λ fault. (self.new ≡ self.old) × IsVarintFault fault self.old)) }
-        ensures every_number {
-            (spelling rest : List ℕ) → (number : ℕ) → self.old ≡ spelling ++ rest → IsVarint spelling number
-                → (result ≡ Some (Ok number)) × (self.new ≡ rest)
-        }
-        ensures every_fault {
-            (fault : WireFault) → 0 < length self.old → IsVarintFault fault self.old → result ≡ Some (Err fault)
-        }
+        ensures shorter { IfSome result (λ read. OnOk read (length self.new < length self.old)) }
+        ensures every_number { (spelling rest : List ℕ) → (number : ℕ) → self.old ≡ spelling ++ rest → IsVarint spelling number
+            → (result ≡ Some (Ok number)) × (self.new ≡ rest) }
+        ensures every_fault { (fault : WireFault) → 0 < length self.old → IsVarintFault fault self.old → result ≡ Some (Err fault) }
     {
         if self.rest.is_empty() {
             return None;

@@ -9,10 +9,8 @@ pub fn read_varint(bytes: &[u8], at: usize) -> Result<(u64, usize), WireFault>
     ensures spelled { IfOk result (λ found. IsVarint (slice_range bytes.now at found.1) found.0) }
     ensures within { IfOk result (λ found. found.1 ≤ length bytes.now) }
     ensures fault { IfErr result (λ fault. IsVarintFault fault (drop at bytes.now)) }
-    ensures every_spelling {
-        (spelling rest : List ℕ) → (number : ℕ) → drop at bytes.now ≡ spelling ++ rest → IsVarint spelling number
-            → result ≡ Ok (number, at + length spelling)
-    }
+    ensures every_spelling { (spelling rest : List ℕ) → (number : ℕ) → drop at bytes.now ≡ spelling ++ rest → IsVarint spelling number
+        → result ≡ Ok (number, at + length spelling) }
     ensures every_fault { (fault : WireFault) → IsVarintFault fault (drop at bytes.now) → result ≡ Err fault }
 {
     if at > bytes.len() {

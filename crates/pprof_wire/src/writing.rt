@@ -49,9 +49,7 @@ pub fn write_field(out: &mut Vec<u8>, number: u32, value: Value) -> Result<(), N
     requires { IsFieldNumber number }
     ensures ok { OnOk result (out.new.items ≡ out.old.items ++ field_bytes_of (record { number = number; value = value_of value.entry })) }
     ensures err { OnErr result (out.new.items ≡ out.old.items) }
-    ensures full {
-        OnErr result (vec_capacity out.old < vec_len out.old + length (field_bytes_of (record { number = number; value = value_of value.entry })))
-    }
+    ensures full { OnErr result (vec_capacity out.old < vec_len out.old + length (field_bytes_of (record { number = number; value = value_of value.entry }))) }
 {
     let tag = u64::from(number) << 3 | wire_type(value);
     let tag_len = varint_len(tag);

@@ -17,4 +17,4 @@ returns-in_err-value-clause-fault c =
 pub returns-clause-spelled : goal.returns-clause-spelled
 returns-clause-spelled c =
     field_read c.args.bytes.now c.in_ok-tag.tag_len c.in_ok-tag.tag c.in_ok-number.number c.bytes_from.result.now c.in_ok-value.value_len (value_of c.in_ok-value.value)
-        c.in_ok-tag.ensures.spelled c.in_ok-number.ensures.number.0 c.in_ok-number.ensures.number.1 c.bytes_from.ensures.value c.in_ok-value.ensures.typed c.in_ok-value.ensures.spelled
+    c.in_ok-tag.ensures.spelled c.in_ok-number.ensures.number.0 c.in_ok-number.ensures.number.1 c.bytes_from.ensures.value c.in_ok-value.ensures.typed c.in_ok-value.ensures.spelled

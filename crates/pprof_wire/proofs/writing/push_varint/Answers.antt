@@ -12,12 +12,12 @@ loop-rest-preserved c =
     let so-far = c.loop-rest.invariant.0 in
     let next = next-left so-far.groups c.loop-rest.rest so-far.left c.loop-rest-test.true in
     let pushed = rw c.unwrap.ensures at c.push.ensures.items in
-    let longer = rw c.unwrap.ensures at c.push.ensures.len in
-    ( record {
+    let longer = rw c.unwrap.ensures at c.push.ensures.len in (
+      record {
         groups = next.others;
         left = next.left;
         joined = ap (λ (items : List ℕ). items ++ next.others) pushed ∙ pushed_next c.loop-rest.out.items so-far.groups (c.loop-rest.rest % 128 + 128) next.others next.are ∙ so-far.joined;
         room = omega (arith, longer, so-far.room, ap length next.are, c.push.ensures.capacity);
-      }
-    , omega (arith, c.loop-rest.invariant.1, c.push.ensures.capacity)
+      },
+      omega (arith, c.loop-rest.invariant.1, c.push.ensures.capacity),
     )

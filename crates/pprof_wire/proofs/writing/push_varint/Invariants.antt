@@ -13,7 +13,7 @@ pub record IsWritten (start items : List ℕ) (number rest len capacity : ℕ) :
 abbrev pub invariant-loop-rest : goal.invariant-loop-rest
 invariant-loop-rest l =
     IsWritten l.initial.out.items l.out.items l.number l.rest (vec_len l.out) (vec_capacity l.out)
-        × (vec_capacity l.initial.out ≤ vec_capacity l.out)
+    × (vec_capacity l.initial.out ≤ vec_capacity l.out)
 
 abbrev pub decreases-loop-rest : goal.decreases-loop-rest
 decreases-loop-rest l = l.rest

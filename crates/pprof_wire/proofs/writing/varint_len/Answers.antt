@@ -16,5 +16,9 @@ loop-rest-preserved c =
 
 pub returns-clause-most : goal.returns-clause-most
 returns-clause-most c =
-    omega (arith, c.loop-rest.invariant.counted, length-varint_of c.args.number c.ranges.number.fits,
-        ap length (last-left c.loop-rest.invariant.groups c.loop-rest.rest c.loop-rest.invariant.left c.loop-rest-test.false))
+    omega (
+      arith,
+      c.loop-rest.invariant.counted,
+      length-varint_of c.args.number c.ranges.number.fits,
+      ap length (last-left c.loop-rest.invariant.groups c.loop-rest.rest c.loop-rest.invariant.left c.loop-rest-test.false),
+    )

@@ -8,7 +8,7 @@ pub returns-in-Ok-clause-every_field : goal.returns-in-Ok-clause-every_field
 returns-in-Ok-clause-every_field c = λ spelling rest field same spelled.
     let bytes-are : c.self.inside.rest.now ≡ c.args.self.now.bytes = ap (λ (window : Window). window.bytes) c.self.view_is in
     field_read_once c.self.inside.rest.now spelling rest c.bytes_from-self-inside.result.now c.in-Ok.len (field_of c.in-Ok.field) field
-        c.in-Ok.ensures.spelled c.bytes_from-self-inside.ensures.value (bytes-are ∙ same) spelled
+    c.in-Ok.ensures.spelled c.bytes_from-self-inside.ensures.value (bytes-are ∙ same) spelled
 
 pub returns-in-Ok-clause-every_fault : goal.returns-in-Ok-clause-every_fault
 returns-in-Ok-clause-every_fault c = λ fault faulty.

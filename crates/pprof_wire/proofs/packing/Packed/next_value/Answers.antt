@@ -6,7 +6,7 @@ use Rattle.pprof_wire.proofs.packing.Packed.next_value.Goals as goal
 pub returns-in-Ok-clause-every_number : goal.returns-in-Ok-clause-every_number
 returns-in-Ok-clause-every_number c = λ spelling rest number same spelled.
     let once = varint_rest_once c.self.inside.rest.now spelling rest c.bytes_from-self-inside.result.now c.in-Ok.len c.in-Ok.number number
-        c.in-Ok.ensures.spelled c.bytes_from-self-inside.ensures.value (c.self.view_is ∙ same) spelled in
+    c.in-Ok.ensures.spelled c.bytes_from-self-inside.ensures.value (c.self.view_is ∙ same) spelled in
     (cc (once.0), once.1)
 
 pub returns-in-Ok-clause-every_fault : goal.returns-in-Ok-clause-every_fault

@@ -5,10 +5,10 @@ use Rattle.std.proofs.lemmas.List.{append-nil, take-append-drop, length-take-le}
 use Rattle.std.specs.Int.{w32, w64, from_le_bytes}
 use Rattle.pprof_wire.specs.declared.faults.WireFault.{WireFault}
 use Rattle.pprof_wire.specs.declared.faults.WireFault.TheVariants.{Truncated, LongVarint, FieldNumber, Group, WireType}
-use Rattle.pprof_wire.specs.Varints.{IsGroups, number_of, IsVarint, AllContinue, IsCutVarint, IsLongVarint, IsVarintFault}
+use Rattle.pprof_wire.specs.Varints.{IsGroups, number_of, IsVarint, AllContinue, IsCutVarint, IsLongVarint, IsVarintFault, IsNumberList, SplitsIntoNumbers}
 use Rattle.pprof_wire.specs.Fields.{FieldValue, varint, fixed64, fixed32, content, PlainField, IsFieldNumber, wire_type_of, IsDelimited, IsCutDelimited, IsValueSpelling, IsFieldSpelling, IsFieldList, SplitsIntoFields, BeginsWithTag, IsCutValue, IsLongValue, IsTagFault, IsFrontFault, IsRestFault}
 use Rattle.pprof_wire.proofs.VarintLaws.{AllContinue-snoc, IsGroups-snoc, number_of-snoc, number_of-below, fits-nine}
-use Rattle.pprof_wire.proofs.ListLaws.{fields_end, fault_without_field}
+use Rattle.pprof_wire.proofs.ListLaws.{fields_end, fault_without_field, numbers_end, fault_without_number}
 
 -- ---- a number or a fault
 
@@ -267,7 +267,55 @@ ends_so : (rest : List ℕ) → (rest ≡ []) ⊎ HasRestFault rest → (rest �
 ends_so rest (inl none) = inl none
 ends_so rest (inr wrong) = inr (wrong.fault, wrong.cause)
 
-pub each_list_splits : (bytes : List ℕ) → (fields : List PlainField) × (rest : List ℕ) × SplitsIntoFields bytes fields rest × ((rest ≡ []) ⊎ ((fault : WireFault) × IsRestFault fault rest))
-each_list_splits bytes =
+pub each_list_splits_into_fields : (bytes : List ℕ) → (fields : List PlainField) × (rest : List ℕ) × SplitsIntoFields bytes fields rest × ((rest ≡ []) ⊎ ((fault : WireFault) × IsRestFault fault rest))
+each_list_splits_into_fields bytes =
     let all = fields_within (length bytes) bytes (omega arith) in
     (all.fields, all.rest, all.split, ends_so all.rest all.ends)
+
+-- ---- all the numbers
+
+pub record HasNumbers (bytes : List ℕ) : Type 0 where
+  pub numbers : List ℕ
+  pub rest : List ℕ
+  pub split : SplitsIntoNumbers bytes numbers rest
+  pub ends : (rest ≡ []) ⊎ HasVarintFault rest
+
+no_numbers : (bytes : List ℕ) → HasVarintFault bytes → HasNumbers bytes
+no_numbers bytes wrong = record {
+  numbers = [];
+  rest = bytes;
+  split = record { front = []; parts = refl; listed = refl; ends = fault_without_number wrong.fault bytes wrong.cause };
+  ends = inr wrong;
+}
+
+one_more_number : (bytes : List ℕ) (first : HasVarint bytes) → HasNumbers first.rest → HasNumbers bytes
+one_more_number bytes first others = record {
+  numbers = first.number ∷ others.numbers;
+  rest = others.rest;
+  split = record {
+    front = first.front ++ others.split.front;
+    parts = first.parts ∙ ap (λ (rest : List ℕ). first.front ++ rest) others.split.parts ∙ sym (append_assoc first.front others.split.front others.rest);
+    listed = (first.front, others.split.front, refl, first.spelled, others.split.listed);
+    ends = others.split.ends;
+  };
+  ends = others.ends;
+}
+
+numbers_within : (fuel : ℕ) (bytes : List ℕ) → length bytes ≤ fuel → HasNumbers bytes
+numbers_within fuel [] short = record { numbers = []; rest = []; split = numbers_end [] [] refl; ends = inl refl }
+numbers_within zero (byte ∷ bytes) short = absurd (omega arith)
+numbers_within (suc fuel) (byte ∷ bytes) short =
+    elim (varint_or_fault (byte ∷ bytes)) [
+      | inl first ↦ one_more_number (byte ∷ bytes) first
+          (numbers_within fuel first.rest (omega (arith, ap length first.parts, length-append first.front first.rest, varint-some first.front first.number first.spelled)))
+      | inr wrong ↦ no_numbers (byte ∷ bytes) wrong
+    ]
+
+number_ends_so : (rest : List ℕ) → (rest ≡ []) ⊎ HasVarintFault rest → (rest ≡ []) ⊎ ((fault : WireFault) × IsVarintFault fault rest)
+number_ends_so rest (inl none) = inl none
+number_ends_so rest (inr wrong) = inr (wrong.fault, wrong.cause)
+
+pub each_list_splits_into_numbers : (bytes : List ℕ) → (numbers : List ℕ) × (rest : List ℕ) × SplitsIntoNumbers bytes numbers rest × ((rest ≡ []) ⊎ ((fault : WireFault) × IsVarintFault fault rest))
+each_list_splits_into_numbers bytes =
+    let all = numbers_within (length bytes) bytes (omega arith) in
+    (all.numbers, all.rest, all.split, number_ends_so all.rest all.ends)

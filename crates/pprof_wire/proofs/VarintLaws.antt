@@ -165,10 +165,10 @@ large-tenth front byte nine small large fits =
     let same : byte % 128 ≡ byte = omega arith in
     omega (arith, value, same)
 
-last-small : (front : List ℕ) (byte : ℕ) → AllContinue front → IsGroups (front ++ byte ∷ []) → byte < 128
-last-small [] byte all groups = groups
-last-small (f ∷ []) byte all groups = groups.1
-last-small (f ∷ g ∷ front) byte all groups = last-small (g ∷ front) byte all.1 groups.1
+last-small : (front : List ℕ) (byte : ℕ) → IsGroups (front ++ byte ∷ []) → byte < 128
+last-small [] byte groups = groups
+last-small (f ∷ []) byte groups = groups.1
+last-small (f ∷ g ∷ front) byte groups = last-small (g ∷ front) byte groups.1
 
 varint_not_long : (a rest : List ℕ) (number : ℕ) → IsVarint a number → IsLongVarint (a ++ rest) → ⊥
 varint_not_long a rest number spelled long =
@@ -177,7 +177,7 @@ varint_not_long a rest number spelled long =
     let whole : a ≡ long.front ++ long.tenth ∷ [] = past.1 ∙ ap (λ (more : List ℕ). long.front ++ long.tenth ∷ more) (only-one-more long.front past.0 long.tenth long.nine len) in
     let groups : IsGroups (long.front ++ long.tenth ∷ []) = subst IsGroups whole spelled.groups in
     let fits : number_of (long.front ++ long.tenth ∷ []) < 2 ^ 64 = subst (λ (bytes : List ℕ). number_of bytes < 2 ^ 64) whole (subst (λ (n : ℕ). n < 2 ^ 64) spelled.value spelled.fits) in
-    large-tenth long.front long.tenth long.nine (last-small long.front long.tenth long.continued groups) long.large fits
+    large-tenth long.front long.tenth long.nine (last-small long.front long.tenth groups) long.large fits
 
 pub varint_no_fault : (fault : WireFault) (a rest : List ℕ) (number : ℕ) → IsVarint a number → IsVarintFault fault (a ++ rest) → ⊥
 varint_no_fault Truncated a rest number spelled faulty = groups_end a rest spelled.groups faulty.continued
@@ -229,11 +229,6 @@ varint_rest_once bytes spelling rest after len read number found after-is same s
     let once = varint_once (take len bytes) spelling (drop len bytes) rest read number found spelled (take-append-drop len bytes ∙ same) in
     (once.2, after-is ∙ once.1)
 
-last-of-ten : (front : List ℕ) (tenth : ℕ) → IsGroups (front ++ tenth ∷ []) → tenth < 128
-last-of-ten [] tenth groups = groups
-last-of-ten (f ∷ []) tenth groups = groups.1
-last-of-ten (f ∷ g ∷ front) tenth groups = last-of-ten (g ∷ front) tenth groups.1
-
 tenth-cases : (front : List ℕ) (tenth : ℕ) → length front ≡ 9 → tenth < 128 → number_of (front ++ tenth ∷ []) < 2 ^ 64 → (1 < tenth) ⊎ (tenth ≤ 1) → tenth ≤ 1
 tenth-cases front tenth nine small fits (inl large) = absurd (large-tenth front tenth nine small large fits)
 tenth-cases front tenth nine small fits (inr done) = done
@@ -241,4 +236,4 @@ tenth-cases front tenth nine small fits (inr done) = done
 -- the tenth byte of a spelling is 0 or 1
 pub tenth-small : (front : List ℕ) (tenth number : ℕ) → length front ≡ 9 → IsVarint (front ++ tenth ∷ []) number → tenth ≤ 1
 tenth-small front tenth number nine spelled =
-    tenth-cases front tenth nine (last-of-ten front tenth spelled.groups) (subst (λ (n : ℕ). n < 2 ^ 64) spelled.value spelled.fits) (cases_lt 1 tenth)
+    tenth-cases front tenth nine (last-small front tenth spelled.groups) (subst (λ (n : ℕ). n < 2 ^ 64) spelled.value spelled.fits) (cases_lt 1 tenth)

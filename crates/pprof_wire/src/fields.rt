@@ -10,8 +10,8 @@ use std::marker::Model;
 
 const MAX_FIELD_NUMBER: u32 = 536_870_911;
 
-/// The fields of a message, one after the other. A contract sees the bytes that were not handed out yet,
-/// and where they lie.
+/// The fields of a message, one after the other (Protocol Buffers encoding page, "Message Structure"). A contract
+/// sees the bytes that were not handed out yet, and where they lie.
 #[derive(Debug, Drop)]
 pub struct Fields<'a> {
     rest: &'a [u8],
@@ -34,8 +34,11 @@ impl<'a> Fields<'a> {
         Fields { rest: bytes }
     }
 
-    /// The next field. After the last one it is `None`, and where no whole field is left its fault: then each
-    /// further call answers the same.
+    /// The next field, whose bytes are lent from the input. After the last one it is `None`. Where no whole field is
+    /// left it is the fault, and each further call answers the same.
+    ///
+    /// The first of these that applies: `Truncated` or `LongVarint` of the tag, `FieldNumber`, `Group`, `WireType`,
+    /// and `Truncated` or `LongVarint` of the value or of its length. A length past the end is `Truncated`.
     pub fn next_field(&mut self) -> Option<Result<Field<'a>, WireFault>>
         ensures end { IsNone result ↔ (self.old.bytes ≡ []) }
         ensures stays { IfNone result (self.new ≡ self.old) }

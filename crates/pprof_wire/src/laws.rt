@@ -43,7 +43,7 @@ pub fn one_split_into_fields()
 {}
 
 /// All bytes are whole fields and a rest, and the rest is empty or has a fault.
-pub fn each_list_splits()
+pub fn each_list_splits_into_fields()
     ensures { (bytes : List ℕ) → (fields : List PlainField) × (rest : List ℕ) × SplitsIntoFields bytes fields rest
         × ((rest ≡ []) ⊎ ((fault : WireFault) × IsRestFault fault rest)) }
 {}
@@ -69,6 +69,12 @@ pub fn written_field_reads_back()
 /// Bytes are in one way whole numbers and a rest that begins with none.
 pub fn one_split_into_numbers()
     ensures { (bytes r s xs ys : List ℕ) → SplitsIntoNumbers bytes xs r → SplitsIntoNumbers bytes ys s → (xs ≡ ys) × (r ≡ s) }
+{}
+
+/// All bytes are whole numbers and a rest, and the rest is empty or has a fault.
+pub fn each_list_splits_into_numbers()
+    ensures { (bytes : List ℕ) → (numbers : List ℕ) × (rest : List ℕ) × SplitsIntoNumbers bytes numbers rest
+        × ((rest ≡ []) ⊎ ((fault : WireFault) × IsVarintFault fault rest)) }
 {}
 
 /// Numbers that end the bytes, or stand before a fault, are all the numbers of the bytes.

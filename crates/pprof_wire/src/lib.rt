@@ -1,4 +1,6 @@
-//! The wire format of Protocol Buffers: varints, fields and packed numbers.
+//! The wire format of Protocol Buffers: varints, fields and packed numbers, read in place and written.
+//!
+//! `specs/` has the definitions that the contracts speak of, and `laws` what is proved of the definitions.
 #![tactic(auto)]
 
 mod faults;

@@ -6,7 +6,8 @@ use crate::parts::bytes_from;
 use crate::varints::first_varint;
 use std::marker::Model;
 
-/// The numbers of a packed field, one after the other. A contract sees the bytes that were not handed out yet.
+/// The numbers of a packed field, one after the other (Protocol Buffers encoding page, "Packed Repeated Fields").
+/// A contract sees the bytes that were not handed out yet.
 #[derive(Debug, Drop)]
 pub struct Packed<'a> {
     rest: &'a [u8],
@@ -28,8 +29,8 @@ impl<'a> Packed<'a> {
         Packed { rest: bytes }
     }
 
-    /// The next number. After the last one it is `None`, and where no whole number is left its fault: then each
-    /// further call answers the same.
+    /// The next number. After the last one it is `None`. Where no whole number is left it is the fault, `Truncated`
+    /// or `LongVarint` as `read_varint` has it, and each further call answers the same.
     pub fn next_value(&mut self) -> Option<Result<u64, WireFault>>
         ensures end { IsNone result ↔ (self.old ≡ []) }
         ensures stays { IfNone result (self.new ≡ self.old) }

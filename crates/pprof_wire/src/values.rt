@@ -7,7 +7,8 @@ use crate::faults::WireFault;
 use crate::parts::{bytes_from, first_bytes};
 use crate::varints::first_varint;
 
-/// A field's value, by its wire type. Bytes are lent from the input.
+/// A field's value, by its wire type (Protocol Buffers encoding page, "Message Structure"). Bytes are lent from
+/// the input.
 #[derive(Clone, Copy, Debug, PartialEq, Eq)]
 pub enum Value<'a> {
     /// Wire type 0, VARINT.
@@ -20,7 +21,7 @@ pub enum Value<'a> {
     Bytes(&'a [u8]),
 }
 
-/// A field: its number, from 1 to 2^29 - 1, and its value.
+/// A field, read whole. A field that was read has a number from 1 to 2^29 - 1.
 #[derive(Clone, Copy, Debug, PartialEq, Eq)]
 pub struct Field<'a> {
     pub number: u32,

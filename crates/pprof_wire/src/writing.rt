@@ -5,7 +5,8 @@ ghost use Rattle.pprof_wire.specs.Fields.{value_of, wire_type_of, IsFieldNumber,
 use crate::faults::NoMemory;
 use crate::values::Value;
 
-/// Appends the shortest spelling of the number. For want of memory nothing is appended.
+/// Appends the shortest spelling of the number as a varint. `NoMemory` only where the vector has no room for it and
+/// cannot grow; then nothing is appended.
 pub fn write_varint(out: &mut Vec<u8>, number: u64) -> Result<(), NoMemory>
     ensures ok { OnOk result (out.new.items ≡ out.old.items ++ varint_of number) }
     ensures err { OnErr result (out.new.items ≡ out.old.items) }
@@ -44,7 +45,8 @@ fn push_varint(out: &mut Vec<u8>, number: u64)
     out.push(rest as u8).unwrap();
 }
 
-/// Appends the field with its varints as short as can be. For want of memory nothing is appended.
+/// Appends the field, its tag, its length and a varint as short as can be. `NoMemory` only where the vector has no
+/// room for all of it and cannot grow; then nothing is appended.
 pub fn write_field(out: &mut Vec<u8>, number: u32, value: Value) -> Result<(), NoMemory>
     requires { IsFieldNumber number }
     ensures ok { OnOk result (out.new.items ≡ out.old.items ++ field_bytes_of (record { number = number; value = value_of value.entry })) }

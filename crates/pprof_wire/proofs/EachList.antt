@@ -1,12 +1,12 @@
 -- Each list of bytes has a number or a fault at its front, a field or a fault, and so splits into fields.
-use Rattle.std.proofs.Common.{◌≡◌, ℕ, zero, suc, ◌+◌, ◌*◌, ◌/◌, ◌%◌, ◌^◌, ◌<◌, ◌≤◌, ◌⊎◌, inl, inr, List, [], ◌∷◌, ◌++◌, length, take, drop, refl, sym, ap, ◌∙◌, arith, length-append, subst, append_assoc, lit<}
+use Rattle.std.proofs.Common.{◌≡◌, ℕ, zero, suc, ◌+◌, ◌*◌, ◌/◌, ◌%◌, ◌^◌, ◌<◌, ◌≤◌, ◌⊎◌, inl, inr, List, [], ◌∷◌, ◌++◌, length, take, drop, refl, sym, ap, ◌∙◌, arith, length-append, subst, append_assoc}
 use Rattle.std.proofs.lemmas.Bool.{cases_lt}
 use Rattle.std.proofs.lemmas.List.{append-nil, take-append-drop, length-take-le}
 use Rattle.std.specs.Int.{w32, w64, from_le_bytes}
 use Rattle.pprof_wire.specs.declared.faults.WireFault.{WireFault}
 use Rattle.pprof_wire.specs.declared.faults.WireFault.TheVariants.{Truncated, LongVarint, FieldNumber, Group, WireType}
-use Rattle.pprof_wire.specs.Varints.{IsGroups, number_of, IsVarint, AllContinue, IsCutVarint, IsLongVarint, IsVarintFault, IsNumberList, SplitsIntoNumbers}
-use Rattle.pprof_wire.specs.Fields.{FieldValue, varint, fixed64, fixed32, content, PlainField, IsFieldNumber, wire_type_of, IsDelimited, IsCutDelimited, IsValueSpelling, IsFieldSpelling, IsFieldList, SplitsIntoFields, BeginsWithTag, IsCutValue, IsLongValue, IsTagFault, IsFrontFault, IsRestFault}
+use Rattle.pprof_wire.specs.Varints.{number_of, IsVarint, AllContinue, IsVarintFault, SplitsIntoNumbers}
+use Rattle.pprof_wire.specs.Fields.{FieldValue, varint, fixed64, fixed32, content, PlainField, IsFieldNumber, wire_type_of, IsValueSpelling, IsFieldSpelling, SplitsIntoFields, BeginsWithTag, IsTagFault, IsRestFault}
 use Rattle.pprof_wire.proofs.VarintLaws.{AllContinue-snoc, IsGroups-snoc, number_of-snoc, number_of-below, fits-nine}
 use Rattle.pprof_wire.proofs.ListLaws.{fields_end, fault_without_field, numbers_end, fault_without_number}
 

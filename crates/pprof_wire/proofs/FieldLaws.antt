@@ -1,14 +1,14 @@
 -- Laws of fields as lists of bytes.
-use Rattle.std.proofs.Common.{◌≡◌, ℕ, zero, suc, ◌+◌, ◌*◌, ◌/◌, ◌%◌, ◌^◌, ◌<◌, ◌≤◌, ◌⊎◌, List, [], ◌∷◌, ◌++◌, length, take, drop, get_or, refl, sym, ap, ◌∙◌, arith, length-append, subst, inl, inr, append_assoc, bit_and, lit<}
+use Rattle.std.proofs.Common.{◌≡◌, ℕ, ◌+◌, ◌*◌, ◌/◌, ◌^◌, ◌<◌, ◌≤◌, ◌⊎◌, List, [], ◌∷◌, ◌++◌, length, take, drop, refl, sym, ap, ◌∙◌, arith, length-append, subst, inl, inr, append_assoc, bit_and, lit<}
 use Rattle.std.proofs.lemmas.List.{length-take-le, take-append-drop}
 use Rattle.std.proofs.lemmas.Nat.{and_mask}
 use Rattle.std.proofs.Math.Seq.{take-add}
 use Rattle.pprof_wire.specs.declared.faults.WireFault.{WireFault}
 use Rattle.pprof_wire.specs.declared.faults.WireFault.TheVariants.{Truncated, LongVarint, FieldNumber, Group, WireType}
-use Rattle.pprof_wire.specs.Varints.{IsVarint, IsVarintFault, IsCutVarint, IsLongVarint}
+use Rattle.pprof_wire.specs.Varints.{IsVarint, IsVarintFault, IsLongVarint}
 use Rattle.std.specs.Int.{w32, w64, from_le_bytes}
 use Rattle.pprof_wire.proofs.VarintLaws.{varint_once, varint_no_fault, varint_fault_once, cut_not_long}
-use Rattle.pprof_wire.specs.Fields.{FieldValue, varint, fixed64, fixed32, content, PlainField, IsDelimited, IsCutDelimited, IsFieldNumber, wire_type_of, IsValueSpelling, IsFieldSpelling, IsFieldList, IsWithoutField, SplitsIntoFields, BeginsWithTag, IsCutValue, IsLongValue, IsTagFault, IsFrontFault, IsRestFault}
+use Rattle.pprof_wire.specs.Fields.{FieldValue, varint, fixed64, fixed32, content, PlainField, IsDelimited, IsCutDelimited, IsFieldNumber, wire_type_of, IsValueSpelling, IsFieldSpelling, BeginsWithTag, IsCutValue, IsLongValue, IsTagFault, IsFrontFault}
 
 -- ---- what was read
 

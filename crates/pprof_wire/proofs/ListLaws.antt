@@ -1,11 +1,10 @@
 -- Laws of whole lists of fields and of numbers.
-use Rattle.std.proofs.Common.{◌≡◌, ℕ, zero, suc, ◌+◌, ◌*◌, ◌^◌, ◌<◌, ◌≤◌, List, [], ◌∷◌, ◌++◌, length, refl, sym, ap, ◌∙◌, arith, length-append, subst, append_assoc, lit<}
+use Rattle.std.proofs.Common.{◌≡◌, ℕ, ◌+◌, ◌*◌, ◌≤◌, List, [], ◌∷◌, ◌++◌, length, refl, sym, ap, ◌∙◌, arith, subst, append_assoc}
 use Rattle.std.proofs.lemmas.List.{append-nil}
-use Rattle.std.specs.Int.{w32, w64, from_le_bytes, to_le_bytes}
 use Rattle.std.proofs.lemmas.Nat.{from_le_bytes-to_le_bytes_4, from_le_bytes-to_le_bytes_8}
 use Rattle.pprof_wire.specs.declared.faults.WireFault.{WireFault}
 use Rattle.pprof_wire.specs.Varints.{IsVarint, IsVarintFault, IsNumberList, IsWithoutNumber, SplitsIntoNumbers, varint_of}
-use Rattle.pprof_wire.specs.Fields.{FieldValue, varint, fixed64, fixed32, content, PlainField, IsFieldNumber, wire_type_of, IsValueSpelling, IsFieldSpelling, IsFieldList, IsWithoutField, SplitsIntoFields, IsFrontFault, IsRestFault, value_bytes_of, field_bytes_of, FitsValue}
+use Rattle.pprof_wire.specs.Fields.{FieldValue, varint, fixed64, fixed32, content, PlainField, IsFieldNumber, wire_type_of, IsValueSpelling, IsFieldSpelling, IsFieldList, IsWithoutField, SplitsIntoFields, IsRestFault, value_bytes_of, field_bytes_of, FitsValue}
 use Rattle.pprof_wire.proofs.VarintLaws.{varint_once, varint_no_fault}
 use Rattle.pprof_wire.proofs.FieldLaws.{field_once, field_fault_stands}
 use Rattle.pprof_wire.proofs.ShortestVarints.{varint_of-spells}

@@ -1,10 +1,9 @@
 -- Laws of varints as lists of bytes.
-use Rattle.std.proofs.Common.{◌≡◌, ℕ, zero, suc, ◌+◌, ◌*◌, ◌%◌, ◌^◌, ◌<◌, ◌≤◌, List, [], ◌∷◌, ◌++◌, length, take, drop, get_or, refl, sym, ap, ◌∙◌, arith, length-append, bit_and, lit<, subst, ◌⊎◌, inl, inr}
+use Rattle.std.proofs.Common.{◌≡◌, ℕ, suc, ◌+◌, ◌*◌, ◌%◌, ◌^◌, ◌<◌, ◌≤◌, List, [], ◌∷◌, ◌++◌, length, take, drop, get_or, refl, sym, ap, ◌∙◌, arith, length-append, bit_and, lit<, subst, ◌⊎◌, inl, inr}
 use Rattle.std.proofs.Math.Nat.{pow-le-pow_right}
-use Rattle.std.proofs.lemmas.Nat.{pow-add, and_mask, shl_whole, mod_below, pow_pos, mul-add-lt}
+use Rattle.std.proofs.lemmas.Nat.{pow-add, and_mask, shl_whole, mul-add-lt}
 use Rattle.std.proofs.lemmas.List.{length-take-le, take_more, drop_more, take-append-drop, drop_all}
 use Rattle.std.proofs.lemmas.Bool.{cases_lt}
-use Rattle.std.specs.List.{AllByRecursion}
 use Rattle.pprof_wire.specs.declared.faults.WireFault.{WireFault}
 use Rattle.pprof_wire.specs.declared.faults.WireFault.TheVariants.{Truncated, LongVarint, FieldNumber, Group, WireType}
 use Rattle.pprof_wire.specs.Varints.{IsGroups, number_of, IsVarint, AllContinue, IsCutVarint, IsLongVarint, IsVarintFault}

@@ -1,4 +1,3 @@
-use Rattle.std.proofs.Common.{◌≡◌, ℕ, List}
 use Rattle.std.proofs.lemmas.Result.{err_from_is_err_and}
 use Rattle.pprof_wire.specs.Fields.{value_of}
 use Rattle.pprof_wire.proofs.FieldLaws.{number_fault, value_fault, field_read}

@@ -1,5 +1,5 @@
-use Rattle.std.proofs.Common.{◌≡◌, ℕ, List, [], ◌+◌, ◌∷◌, ◌++◌, ◌∙◌, sym, ap, length, arith, append_assoc, length-append}
-use Rattle.pprof_wire.specs.Fields.{PlainField, field_of}
+use Rattle.std.proofs.Common.{ℕ, List, [], ◌∷◌, ◌++◌, ◌∙◌, sym, ap, length, arith, append_assoc, length-append}
+use Rattle.pprof_wire.specs.Fields.{field_of}
 use Rattle.pprof_wire.proofs.ListLaws.{one_field_listed, fields_joined, fault_without_field}
 use Rattle.pprof_wire.proofs.tests.count_fields.Goals as goal
 

@@ -1,4 +1,4 @@
-use Rattle.std.proofs.Common.{◌≡◌, ℕ, List, ◌+◌, ◌≤◌, ◌++◌, length}
+use Rattle.std.proofs.Common.{◌≡◌, ℕ, List, ◌≤◌, ◌++◌, length}
 use Rattle.pprof_wire.specs.Fields.{PlainField, IsFieldList}
 use Rattle.pprof_wire.proofs.tests.count_fields.Given as goal
 

@@ -1,4 +1,3 @@
-use Rattle.std.proofs.Common.{arith}
 use Rattle.pprof_wire.proofs.FieldLaws.{delimited_read}
 use Rattle.pprof_wire.proofs.values.first_delimited.Goals as goal
 

@@ -1,7 +1,5 @@
-use Rattle.std.proofs.Common.{ℕ, ap, ◌≡◌, ◌+◌, ◌*◌, ◌%◌, ◌^◌, ◌<◌, ◌≤◌, take, length, arith, slice_index_or, bit_and}
-use Rattle.std.proofs.lemmas.List.{length-take-le, take_more, drop_more, take-append-drop}
-use Rattle.pprof_wire.specs.Varints.{IsVarint, IsVarintFault}
-use Rattle.pprof_wire.proofs.VarintLaws.{AllContinue-snoc, more_spelled, more_read, group-fits, is_long}
+use Rattle.std.proofs.Common.{ℕ, ap, ◌*◌, ◌%◌, ◌^◌, arith, slice_index_or}
+use Rattle.pprof_wire.proofs.VarintLaws.{more_spelled, more_read, group-fits, is_long}
 use Rattle.pprof_wire.proofs.varints.long_varint.Goals as goal
 
 pub overflow_add-number : goal.overflow_add-number

@@ -1,7 +1,5 @@
-use Rattle.std.proofs.Common.{◌≡◌, ℕ, List, [], drop, arith}
-use Rattle.std.proofs.lemmas.List.{drop_all}
+use Rattle.std.proofs.Common.{drop, arith}
 use Rattle.pprof_wire.specs.declared.faults.WireFault.TheVariants.{Truncated}
-use Rattle.pprof_wire.specs.Varints.{IsVarintFault}
 use Rattle.pprof_wire.proofs.VarintLaws.{varint_read_once, varint_read_no_fault, varint_fault_stands, varint_fault_once, past_end}
 use Rattle.pprof_wire.proofs.varints.read_varint.Goals as goal
 

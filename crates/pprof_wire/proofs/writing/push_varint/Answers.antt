@@ -1,4 +1,4 @@
-use Rattle.std.proofs.Common.{◌≡◌, ◌+◌, ◌%◌, ◌≤◌, ◌∷◌, [], ◌++◌, ◌∙◌, sym, List, length, arith, ap, refl, ℕ, append_assoc}
+use Rattle.std.proofs.Common.{◌+◌, ◌%◌, ◌++◌, ◌∙◌, List, length, arith, ap, refl, ℕ}
 use Rattle.pprof_wire.specs.Varints.{varint_of}
 use Rattle.pprof_wire.proofs.ShortestVarints.{all-left, next-left, pushed_next}
 use Rattle.pprof_wire.proofs.writing.push_varint.Goals as goal

@@ -1,4 +1,4 @@
-use Rattle.std.proofs.Common.{◌≡◌, ◌+◌, ◌≤◌, length, arith, ap, refl, ℕ}
+use Rattle.std.proofs.Common.{length, arith, ap, refl}
 use Rattle.pprof_wire.specs.Varints.{varint_of}
 use Rattle.pprof_wire.proofs.ShortestVarints.{all-left, next-left, last-left, length-varint_of}
 use Rattle.pprof_wire.proofs.writing.varint_len.Goals as goal

@@ -1,4 +1,4 @@
-use Rattle.std.proofs.Common.{◌≡◌, ℕ, List, ◌+◌, ◌≤◌, length}
+use Rattle.std.proofs.Common.{◌≡◌, ℕ, List, ◌+◌, length}
 use Rattle.pprof_wire.specs.Varints.{varint_of}
 use Rattle.pprof_wire.proofs.ShortestVarints.{IsLeft}
 use Rattle.pprof_wire.proofs.writing.varint_len.Given as goal

@@ -1,4 +1,4 @@
-use Rattle.std.proofs.Common.{◌≡◌, ℕ, List, ap, ◌∙◌, sym, subst}
+use Rattle.std.proofs.Common.{◌≡◌, ap, ◌∙◌, sym, subst}
 use Rattle.pprof_wire.specs.Windows.{Window}
 use Rattle.pprof_wire.specs.Fields.{field_of, IsFrontFault}
 use Rattle.pprof_wire.proofs.FieldLaws.{field_read_once, field_read_no_fault, field_fault_stands, front_fault_once}

@@ -1,6 +1,6 @@
-use Rattle.std.proofs.Common.{◌≡◌, ℕ, List, ap, ◌∙◌, sym, subst}
+use Rattle.std.proofs.Common.{◌∙◌, sym, subst}
 use Rattle.pprof_wire.specs.Varints.{IsVarintFault}
-use Rattle.pprof_wire.proofs.VarintLaws.{varint_read_once, varint_read_no_fault, varint_fault_stands, varint_rest_once}
+use Rattle.pprof_wire.proofs.VarintLaws.{varint_read_no_fault, varint_fault_stands, varint_rest_once}
 use Rattle.pprof_wire.proofs.packing.Packed.next_value.Goals as goal
 
 pub returns-in-Ok-clause-every_number : goal.returns-in-Ok-clause-every_number

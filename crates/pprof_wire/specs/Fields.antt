@@ -1,6 +1,7 @@
 -- Fields, by the Protocol Buffers encoding page, "Message Structure".
 use Rattle.std.specs.Prelude.{◌≡◌, ℕ, ◌+◌, ◌*◌, ◌^◌, ◌<◌, ◌≤◌, ◌⊎◌, List, [], ◌∷◌, ◌++◌, length, Option, None, Some, Result, Ok, Err}
 use Rattle.std.specs.Int.{w32, w64, from_le_bytes, to_le_bytes}
+use Rattle.pprof_wire.specs.Windows.{Window, IsAfter}
 use Rattle.pprof_wire.specs.declared.faults.WireFault.{WireFault}
 use Rattle.pprof_wire.specs.declared.faults.WireFault.TheVariants.{Truncated, LongVarint, FieldNumber, Group, WireType}
 use Rattle.pprof_wire.specs.declared.values.Value.{Value}
@@ -26,8 +27,11 @@ value_of (Fixed64 number) = fixed64 number
 value_of (Fixed32 number) = fixed32 number
 value_of (Bytes bytes) = content bytes.now
 
+abbrev pub plain_field : ℕ → Value → PlainField
+plain_field number value = record { number = number; value = value_of value }
+
 abbrev pub field_of : Field → PlainField
-field_of field = record { number = field.number; value = value_of field.value }
+field_of field = plain_field field.number field.value
 
 -- The answer is the field.
 abbrev pub IsField : Option (Result Field WireFault) → PlainField → Type 0
@@ -74,11 +78,13 @@ pub record IsFieldSpelling (bytes : List ℕ) (field : PlainField) : Type 0 wher
 abbrev pub IsFieldList : List ℕ → List PlainField → Type 0
 IsFieldList bytes [] = bytes ≡ []
 IsFieldList bytes (field ∷ fields) =
-    (front : List ℕ) × (after : List ℕ) × (bytes ≡ front ++ after) × IsFieldSpelling front field × IsFieldList after fields
+    (front : List ℕ) × (after : List ℕ) × (bytes ≡ front ++ after)
+    × IsFieldSpelling front field × IsFieldList after fields
 
 -- No field's spelling stands at the front.
 abbrev pub IsWithoutField : List ℕ → Type 0
-IsWithoutField bytes = (front rest : List ℕ) → (field : PlainField) → bytes ≡ front ++ rest → IsFieldSpelling front field → ⊥
+IsWithoutField bytes =
+    (front rest : List ℕ) → (field : PlainField) → bytes ≡ front ++ rest → IsFieldSpelling front field → ⊥
 
 -- The bytes are whole fields, and then a rest that begins with no whole field.
 pub record SplitsIntoFields (bytes : List ℕ) (fields : List PlainField) (rest : List ℕ) : Type 0 where
@@ -127,7 +133,8 @@ IsTagFault LongVarint number wire_type rest = IsFieldNumber number × IsLongValu
 abbrev pub IsFrontFault : WireFault → List ℕ → Type 0
 IsFrontFault fault bytes =
     IsVarintFault fault bytes
-    ⊎ ((number : ℕ) × (wire_type : ℕ) × (rest : List ℕ) × BeginsWithTag bytes number wire_type rest × IsTagFault fault number wire_type rest)
+    ⊎ ((number : ℕ) × (wire_type : ℕ) × (rest : List ℕ)
+    × BeginsWithTag bytes number wire_type rest × IsTagFault fault number wire_type rest)
 
 -- The fault of a rest that begins with no whole field. The empty rest has none.
 pub record IsRestFault (fault : WireFault) (bytes : List ℕ) : Type 0 where
@@ -142,6 +149,14 @@ EndsAt (Varint number) place = Unit {0}
 EndsAt (Fixed64 number) place = Unit {0}
 EndsAt (Fixed32 number) place = Unit {0}
 EndsAt (Bytes bytes) place = (bytes.ref_ptr.0 ≡ place.0) × (bytes.ref_ptr.1 + length bytes.now ≡ place.1)
+
+-- The field stands at the front of the old window, and the new window is what is left. The bytes that the
+-- field lends are those of the old window, right before the new one.
+pub record IsNextField (old : Window) (field : Field) (new : Window) : Type 0 where
+  pub spelling : List ℕ
+  pub after : IsAfter old spelling new
+  pub spelled : IsFieldSpelling spelling (field_of field)
+  pub lent : EndsAt field.value new.place
 
 -- ---- the shortest spelling
 

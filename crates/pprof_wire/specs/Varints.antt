@@ -56,11 +56,13 @@ IsVarintFault WireType bytes = ⊥
 abbrev pub IsNumberList : List ℕ → List ℕ → Type 0
 IsNumberList bytes [] = bytes ≡ []
 IsNumberList bytes (number ∷ numbers) =
-    (front : List ℕ) × (after : List ℕ) × (bytes ≡ front ++ after) × IsVarint front number × IsNumberList after numbers
+    (front : List ℕ) × (after : List ℕ) × (bytes ≡ front ++ after)
+    × IsVarint front number × IsNumberList after numbers
 
 -- No number's spelling stands at the front.
 abbrev pub IsWithoutNumber : List ℕ → Type 0
-IsWithoutNumber bytes = (front rest : List ℕ) → (number : ℕ) → bytes ≡ front ++ rest → IsVarint front number → ⊥
+IsWithoutNumber bytes =
+    (front rest : List ℕ) → (number : ℕ) → bytes ≡ front ++ rest → IsVarint front number → ⊥
 
 -- The bytes are whole numbers, and then a rest that begins with no whole number.
 pub record SplitsIntoNumbers (bytes numbers rest : List ℕ) : Type 0 where
@@ -74,7 +76,8 @@ pub record SplitsIntoNumbers (bytes numbers rest : List ℕ) : Type 0 where
 -- The groups of a number, in `more` bytes at most before the last.
 abbrev pub groups_of : ℕ → ℕ → List ℕ
 groups_of zero number = number ∷ []
-groups_of (suc more) number = if nat_lt number 128 then number ∷ [] else (number % 128 + 128) ∷ groups_of more (number / 128)
+groups_of (suc more) number =
+    if nat_lt number 128 then number ∷ [] else (number % 128 + 128) ∷ groups_of more (number / 128)
 
 -- The shortest spelling of a number of 64 bits: no group of zeros at its end.
 unfoldable pub varint_of : ℕ → List ℕ

@@ -7,8 +7,8 @@ use crate::faults::WireFault;
 use crate::parts::{bytes_from, first_bytes};
 use crate::varints::first_varint;
 
-/// A field's value, by its wire type (Protocol Buffers encoding page, "Message Structure"). Bytes are lent from
-/// the input.
+/// A field's value, by its wire type (Protocol Buffers encoding page, "Message Structure"). Bytes are
+/// lent from the input.
 #[derive(Clone, Copy, Debug, PartialEq, Eq)]
 pub enum Value<'a> {
     /// Wire type 0, VARINT.
@@ -32,8 +32,11 @@ pub struct Field<'a> {
 fn first_delimited(bytes: &[u8]) -> Result<(&[u8], usize), WireFault>
     ensures spelled { IfOk result (λ found. IsDelimited (take found.1 bytes.now) found.0.now) }
     ensures within { IfOk result (λ found. found.1 ≤ length bytes.now) }
-    ensures place { IfOk result (λ found. (found.0.ref_ptr.0 ≡ bytes.entry.ref_ptr.0) × (found.0.ref_ptr.1 + length found.0.now ≡ bytes.entry.ref_ptr.1 + found.1)) }
-    ensures fault { IfErr result (λ fault. IsVarintFault fault bytes.now ⊎ ((fault ≡ WireFault.Truncated) × IsCutDelimited bytes.now)) }
+    ensures place { IfOk result (λ found.
+        (found.0.ref_ptr.0 ≡ bytes.entry.ref_ptr.0)
+        × (found.0.ref_ptr.1 + length found.0.now ≡ bytes.entry.ref_ptr.1 + found.1)) }
+    ensures fault { IfErr result (λ fault.
+        IsVarintFault fault bytes.now ⊎ ((fault ≡ WireFault.Truncated) × IsCutDelimited bytes.now)) }
 {
     let (count, prefix) = first_varint(bytes)?;
     let rest = bytes_from(bytes, prefix);
@@ -46,7 +49,8 @@ fn first_delimited(bytes: &[u8]) -> Result<(&[u8], usize), WireFault>
 
 /// The eight bytes at the front, the least significant first.
 fn first_fixed64(bytes: &[u8]) -> Result<u64, WireFault>
-    ensures number { IfOk result (λ number. (8 ≤ length bytes.now) × (number ≡ from_le_bytes w64 (take 8 bytes.now))) }
+    ensures number { IfOk result (λ number.
+        (8 ≤ length bytes.now) × (number ≡ from_le_bytes w64 (take 8 bytes.now))) }
     ensures cut { IfErr result (λ fault. (fault ≡ WireFault.Truncated) × (length bytes.now < 8)) }
 {
     match bytes.first_chunk::<8>() {
@@ -57,7 +61,8 @@ fn first_fixed64(bytes: &[u8]) -> Result<u64, WireFault>
 
 /// The four bytes at the front, the least significant first.
 fn first_fixed32(bytes: &[u8]) -> Result<u32, WireFault>
-    ensures number { IfOk result (λ number. (4 ≤ length bytes.now) × (number ≡ from_le_bytes w32 (take 4 bytes.now))) }
+    ensures number { IfOk result (λ number.
+        (4 ≤ length bytes.now) × (number ≡ from_le_bytes w32 (take 4 bytes.now))) }
     ensures cut { IfErr result (λ fault. (fault ≡ WireFault.Truncated) × (length bytes.now < 4)) }
 {
     match bytes.first_chunk::<4>() {
@@ -71,8 +76,10 @@ pub(crate) fn first_value(wire_type: u64, bytes: &[u8]) -> Result<(Value<'_>, us
     ensures typed { IfOk result (λ found. wire_type ≡ wire_type_of (value_of found.0)) }
     ensures spelled { IfOk result (λ found. IsValueSpelling (take found.1 bytes.now) (value_of found.0)) }
     ensures within { IfOk result (λ found. found.1 ≤ length bytes.now) }
-    ensures place { IfOk result (λ found. EndsAt found.0 (bytes.entry.ref_ptr.0, bytes.entry.ref_ptr.1 + found.1)) }
-    ensures fault { IfErr result (λ fault. (number : ℕ) → IsFieldNumber number → IsTagFault fault number wire_type bytes.now) }
+    ensures place { IfOk result (λ found.
+        EndsAt found.0 (bytes.entry.ref_ptr.0, bytes.entry.ref_ptr.1 + found.1)) }
+    ensures fault { IfErr result (λ fault. (number : ℕ)
+        → IsFieldNumber number → IsTagFault fault number wire_type bytes.now) }
 {
     match wire_type {
         0 => {

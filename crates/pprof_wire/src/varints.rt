@@ -4,17 +4,18 @@ ghost use Rattle.pprof_wire.specs.Varints.{IsVarint, IsVarintFault};
 use crate::faults::WireFault;
 use crate::parts::bytes_from;
 
-/// The number that is spelled as a varint at `at`, and the place after its spelling (Protocol Buffers encoding
-/// page, "Base 128 Varints"). A spelling that is longer than needed is read too, up to ten bytes.
+/// The number that is spelled as a varint at `at`, and the place after its spelling (Protocol Buffers
+/// encoding page, "Base 128 Varints"). A spelling that is longer than needed is read too, up to ten bytes.
 ///
 /// `Truncated` where the bytes end before the spelling does, also where `at` is their end or past it;
-/// `LongVarint` where ten bytes are there, the first nine say that another follows, and the tenth is neither 0
-/// nor 1.
+/// `LongVarint` where ten bytes are there, the first nine say that another follows, and the tenth is
+/// neither 0 nor 1.
 pub fn read_varint(bytes: &[u8], at: usize) -> Result<(u64, usize), WireFault>
     ensures spelled { IfOk result (λ found. IsVarint (slice_range bytes.now at found.1) found.0) }
     ensures within { IfOk result (λ found. found.1 ≤ length bytes.now) }
     ensures fault { IfErr result (λ fault. IsVarintFault fault (drop at bytes.now)) }
-    ensures every_spelling { (spelling rest : List ℕ) → (number : ℕ) → drop at bytes.now ≡ spelling ++ rest → IsVarint spelling number
+    ensures every_spelling { (spelling rest : List ℕ) → (number : ℕ)
+        → drop at bytes.now ≡ spelling ++ rest → IsVarint spelling number
         → result ≡ Ok (number, at + length spelling) }
     ensures every_fault { (fault : WireFault) → IsVarintFault fault (drop at bytes.now) → result ≡ Err fault }
 {

@@ -1,12 +1,12 @@
 ghost use Rattle.std.specs.Prelude.{◌≡◌, ◌+◌, ◌^◌, ◌<◌, ◌≤◌, ◌++◌, length, vec_len, vec_capacity, OnOk, OnErr};
 ghost use Rattle.pprof_wire.specs.Varints.{varint_of};
-ghost use Rattle.pprof_wire.specs.Fields.{value_of, wire_type_of, IsFieldNumber, value_bytes_of, field_bytes_of};
+ghost use Rattle.pprof_wire.specs.Fields.{value_of, plain_field, wire_type_of, IsFieldNumber, value_bytes_of, field_bytes_of};
 
 use crate::faults::NoMemory;
 use crate::values::Value;
 
-/// Appends the shortest spelling of the number as a varint. `NoMemory` only where the vector has no room for it and
-/// cannot grow; then nothing is appended.
+/// Appends the shortest spelling of the number as a varint. `NoMemory` only where the vector has no room
+/// for it and cannot grow; then nothing is appended.
 pub fn write_varint(out: &mut Vec<u8>, number: u64) -> Result<(), NoMemory>
     ensures ok { OnOk result (out.new.items ≡ out.old.items ++ varint_of number) }
     ensures err { OnErr result (out.new.items ≡ out.old.items) }
@@ -45,13 +45,14 @@ fn push_varint(out: &mut Vec<u8>, number: u64)
     out.push(rest as u8).unwrap();
 }
 
-/// Appends the field, its tag, its length and a varint as short as can be. `NoMemory` only where the vector has no
-/// room for all of it and cannot grow; then nothing is appended.
+/// Appends the field, its tag, its length and a varint as short as can be. `NoMemory` only where the
+/// vector has no room for all of it and cannot grow; then nothing is appended.
 pub fn write_field(out: &mut Vec<u8>, number: u32, value: Value) -> Result<(), NoMemory>
     requires { IsFieldNumber number }
-    ensures ok { OnOk result (out.new.items ≡ out.old.items ++ field_bytes_of (record { number = number; value = value_of value.entry })) }
+    ensures ok { OnOk result (out.new.items ≡ out.old.items ++ field_bytes_of (plain_field number value.entry)) }
     ensures err { OnErr result (out.new.items ≡ out.old.items) }
-    ensures full { OnErr result (vec_capacity out.old < vec_len out.old + length (field_bytes_of (record { number = number; value = value_of value.entry }))) }
+    ensures full { OnErr result (
+        vec_capacity out.old < vec_len out.old + length (field_bytes_of (plain_field number value.entry))) }
 {
     let tag = u64::from(number) << 3 | wire_type(value);
     let tag_len = varint_len(tag);

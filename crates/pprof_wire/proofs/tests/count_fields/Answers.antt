@@ -9,12 +9,12 @@ loop-read-preserved c =
     let next = rw c.in-Ok.is at c.in-Some.ensures.field in
     let shorter = rw c.in-Ok.is at c.in-Some.ensures.shorter in
     record {
-      front = so-far.front ++ next.0;
+      front = so-far.front ++ next.spelling;
       fields = so-far.fields ++ field_of c.in-Ok.field-0 ∷ [];
-      parts = so-far.parts ∙ ap (λ (rest : List ℕ). so-far.front ++ rest) next.1.parts ∙ sym (append_assoc so-far.front next.0 c.next_field.new.self.bytes);
-      listed = fields_joined so-far.front next.0 so-far.fields (field_of c.in-Ok.field-0 ∷ []) so-far.listed (one_field_listed next.0 (field_of c.in-Ok.field-0) next.2);
+      parts = so-far.parts ∙ ap (λ (rest : List ℕ). so-far.front ++ rest) next.after.parts ∙ sym (append_assoc so-far.front next.spelling c.next_field.new.self.bytes);
+      listed = fields_joined so-far.front next.spelling so-far.fields (field_of c.in-Ok.field-0 ∷ []) so-far.listed (one_field_listed next.spelling (field_of c.in-Ok.field-0) next.spelled);
       counted = omega (arith, so-far.counted, length-append so-far.fields (field_of c.in-Ok.field-0 ∷ []));
-      fits = omega (arith, so-far.fits, length-append so-far.front next.0, ap length next.1.parts, length-append next.0 c.next_field.new.self.bytes, shorter);
+      fits = omega (arith, so-far.fits, length-append so-far.front next.spelling, ap length next.after.parts, length-append next.spelling c.next_field.new.self.bytes, shorter);
     }
 
 pub returns-in-Err : goal.returns-in-Err

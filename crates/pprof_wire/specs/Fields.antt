@@ -21,6 +21,7 @@ pub record PlainField : Type 0 where
   pub number : ℕ
   pub value : FieldValue
 
+-- What the program's values and fields stand for.
 abbrev pub value_of : Value → FieldValue
 value_of (Varint number) = varint number
 value_of (Fixed64 number) = fixed64 number
@@ -39,12 +40,13 @@ IsField None field = ⊥
 IsField (Some (Err fault)) field = ⊥
 IsField (Some (Ok read)) field = field_of read ≡ field
 
--- "Field numbers": from 1 to 2^29 - 1.
+-- A field number, by the language guide, "Assigning Field Numbers": from 1 to 2^29 - 1.
 pub record IsFieldNumber (number : ℕ) : Type 0 where
   pub least : 1 ≤ number
   pub most : number < 2 ^ 29
 
--- The wire types: VARINT, I64, LEN and I32. (3 and 4 begin and end a group, and 6 and 7 are none.)
+-- The wire type of a value, by the table of "Message Structure": VARINT, I64, LEN and I32. (3 and 4 begin and
+-- end a group, and 6 and 7 are none.)
 abbrev pub wire_type_of : FieldValue → ℕ
 wire_type_of (varint number) = 0
 wire_type_of (fixed64 number) = 1

@@ -1,7 +1,9 @@
 ghost use Rattle.std.specs.Prelude.{◌≡◌, ℕ, List, [], length, MatchOption};
 ghost use Rattle.pprof_wire.specs.Fields.{PlainField, SplitsIntoFields, IsRestFault};
 
-use crate::{Field, Fields, Value, WireFault, packed, read_varint, write_field, write_varint};
+use crate::{
+    Field, Fields, NoMemory, Value, WireFault, packed, read_varint, write_field, write_varint,
+};
 use std::test::Fail;
 
 /// How many fields the bytes have, and the fault after them: a caller that knows the public clauses alone.
@@ -266,5 +268,7 @@ fn faults_are_printed(rt: HostRuntime) -> Result<(), Fail> {
         let printed = format!(in rt.alloc(); "{fault}")?;
         assert_eq!(rt; printed.as_str(), want);
     }
+    let printed = format!(in rt.alloc(); "{NoMemory}")?;
+    assert_eq!(rt; printed.as_str(), "NoMemory");
     Ok(())
 }

@@ -4,7 +4,7 @@
 mod batch;
 mod folded;
 mod known_names;
-mod laws;
+pub mod laws;
 mod name;
 mod stack;
 #[cfg(test)]
@@ -12,6 +12,5 @@ mod tests;
 
 pub use batch::{Batch, MAX_TOTAL, PushFault, Refused, Row};
 pub use folded::{FoldedFault, read_folded};
-pub use laws::top_list_is_front_of_sorted;
 pub use name::{Name, NameFault};
 pub use stack::{MAX_DEPTH, Stack};

@@ -1,11 +1,11 @@
 -- Top lists, as pprof's `-top` has them: the names that weigh most, flat or cumulative.
-use Rattle.std.specs.Prelude.{ℕ, List, [], ◌∷◌, ◌++◌, map, filter, take, nat_lt, codes}
+use Rattle.std.specs.Prelude.{ℕ, ◌≡◌, All, sum_by, if◌then◌else◌, List, [], ◌∷◌, ◌++◌, map, filter, take, nat_lt, codes}
 use Rattle.std.specs.List.{flat_map}
 use Rattle.std.specs.Fmt.{decimal}
 use Rattle.std.specs.declared.cmp.Ordering.{Ordering}
 use Rattle.std.specs.Ordering.{nat_cmp, ordering_then}
 use Rattle.stack_text.specs.declared.batch.Row.{Row}
-use Rattle.stack_text.specs.Names.{name_cmp}
+use Rattle.stack_text.specs.Names.{name_cmp, is_same_name}
 use Rattle.stack_text.specs.Order.{in_order}
 use Rattle.stack_text.specs.Rows.{total_of, flat_weight_of, cumulative_weight_of}
 
@@ -39,6 +39,15 @@ sums_of rows = filter (λ sums. nat_lt 0 sums.cumulative) (map (sums_at rows) (f
 -- the first `count` names by the chosen weight, each once
 abbrev pub top_list_of : Ranking → ℕ → List Row → List NameSums
 top_list_of ranking count rows = take count (in_order (top_cmp ranking) (sums_of rows))
+
+-- how often a name stands in a list of names with their weights
+abbrev pub occurrences : List ℕ → List NameSums → ℕ
+occurrences name list = sum_by (λ (sums : NameSums). if is_same_name name sums.name then 1 else 0) list
+
+-- the list has each name of cumulative weight above 0 once, with its weights among the rows, and no other name, in any order
+pub record AreSumsOf (rows : List Row) (list : List NameSums) : Type 0 where
+  pub weights : All (λ sums. sums ≡ sums_at rows sums.name) list
+  pub once : (name : List ℕ) → occurrences name list ≡ (if nat_lt 0 (cumulative_weight_of rows name) then 1 else 0)
 
 -- one line: the flat weight, the cumulative weight and the name
 abbrev pub top_line : NameSums → List ℕ

@@ -1,5 +1,6 @@
 -- The command line: the command, and what words ask for.
-use Rattle.std.specs.Prelude.{ℕ, ◌≡◌, ⊤, true, List, [], ◌∷◌, Option, Some, None, codes, if◌then◌else◌}
+use Rattle.std.specs.Prelude.{ℕ, ◌≡◌, ⊤, true, List, [], ◌∷◌, Option, Some, None, codes, map, if◌then◌else◌}
+use Rattle.std.specs.Borrow.{Bor}
 use Rattle.std.specs.Str.{bytes_eq}
 use Rattle.clap.specs.Words.{App, Kinds, Row, Shape, Text, fault_of, new_app, subcommand_of, with_subcommand}
 use Rattle.flame_tool.specs.declared.words.Request.{Request}
@@ -17,6 +18,10 @@ flame_app = record { top = record (new_app (codes "flame")).top { subcommand_req
 
 abbrev pub program_app : App
 program_app = with_subcommand flame_app top_app.top
+
+-- the words as bytes
+abbrev pub texts_of : List (Bor Text) → List Text
+texts_of words = map (λ word. word.now) words
 
 -- what a subcommand asks for, by its name
 abbrev pub named_request : Option (Text × List Row) → Option Request

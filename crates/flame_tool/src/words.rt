@@ -1,8 +1,8 @@
 //! The command line.
-ghost use Rattle.std.specs.Prelude.{◌≡◌, ◌⊎◌, List, IfOk, MatchResult, Some, None, false, map};
+ghost use Rattle.std.specs.Prelude.{◌≡◌, ◌⊎◌, List, IfOk, MatchResult, Some, None, false};
 ghost use Rattle.clap.specs.Words.{Text, app_of, kind_of, subcommand_rows_of};
 ghost use Rattle.clap.specs.declared.builder.command.Command.TheViews.{out-Command};
-ghost use Rattle.flame_tool.specs.Words.{IsWordsFault, named_request, program_app, request_of, top_app};
+ghost use Rattle.flame_tool.specs.Words.{IsWordsFault, named_request, program_app, request_of, texts_of, top_app};
 
 use clap::error::ErrorKind;
 use clap::{ArgMatches, Command, Error};
@@ -73,8 +73,8 @@ fn top_command<'a>(alloc: Global) -> Command<'a>
 /// `Refused` exactly where the command refuses the words, or they ask for help; `NoMemory`.
 pub fn read_words<'a>(alloc: Global, words: &'a [&'a str]) -> Result<Request, WordsFault>
     ensures { MatchResult result
-        (λ request. request_of (map (λ word. word.now) words.entry.now) ≡ Some request)
-        (λ fault. IsWordsFault (map (λ word. word.now) words.entry.now) fault) }
+        (λ request. request_of (texts_of words.entry.now) ≡ Some request)
+        (λ fault. IsWordsFault (texts_of words.entry.now) fault) }
 {
     let Ok(command) = command(alloc) else {
         return Err(WordsFault::NoMemory);

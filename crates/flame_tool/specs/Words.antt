@@ -1,8 +1,8 @@
 -- The command line: the command, and what words ask for.
-use Rattle.std.specs.Prelude.{ℕ, ◌≡◌, ⊤, true, List, [], ◌∷◌, Option, Some, None, codes, map, if◌then◌else◌}
+use Rattle.std.specs.Prelude.{◌≡◌, ⊤, true, List, [], ◌∷◌, Option, Some, None, codes, map, if◌then◌else◌}
 use Rattle.std.specs.Borrow.{Bor}
 use Rattle.std.specs.Str.{bytes_eq}
-use Rattle.clap.specs.Words.{App, Kinds, Row, Shape, Text, fault_of, new_app, subcommand_of, with_subcommand}
+use Rattle.clap.specs.Words.{App, Kinds, Row, Text, fault_of, new_app, subcommand_of, with_subcommand}
 use Rattle.flame_tool.specs.declared.words.Request.{Request}
 use Rattle.flame_tool.specs.declared.words.Request.TheVariants.{Top}
 use Rattle.flame_tool.specs.declared.words.WordsFault.{WordsFault}

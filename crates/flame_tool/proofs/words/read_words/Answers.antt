@@ -1,4 +1,4 @@
-use Rattle.std.proofs.Common.{rules, ◌≡◌, map, ap, subst, sym, true}
+use Rattle.std.proofs.Common.{◌≡◌, subst, sym, true}
 use Rattle.clap.specs.Words.{App, HasKind, fault_of, is_simple_and_free}
 use Rattle.flame_tool.specs.Words.{texts_of}
 use Rattle.flame_tool.proofs.CommandLine.{is_covered, no_request_at_error}

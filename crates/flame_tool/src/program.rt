@@ -3,7 +3,7 @@ ghost use Rattle.std.specs.Prelude.{◌≡◌, ◌≢◌, ◌+◌, ◌≤◌, �
 ghost use Rattle.std.specs.Io.KnownBytes.{Keeps};
 ghost use Rattle.flame_tool.specs.Parts.{TakesAtMost};
 ghost use Rattle.flame_tool.specs.Program.{EndsBy, IsAccepted, IsAsked, IsCut, IsDone, IsEnd, read_fault_of};
-ghost use Rattle.flame_tool.specs.Words.{request_of, texts_of};
+ghost use Rattle.flame_tool.specs.Words.{IsRefused, request_of, texts_of};
 
 use crate::answers::answer;
 use crate::outcomes::{Outcome, Status, ToolFault};
@@ -35,7 +35,7 @@ pub fn run<'a, R: Read, W: Write>(
         → result.code ≢ 3 → result.code ≢ 4
         → ((result.code ≡ 0) ↔ IsAccepted limit input) × ((result.code ≡ 1) ↔ ¬ IsAccepted limit input)) }
     // Words that ask for nothing end with 2, want of memory aside, and no others do.
-    ensures refused { result.code ≡ 2 → request_of (texts_of words.entry.now) ≡ None }
+    ensures refused { result.code ≡ 2 → IsRefused (texts_of words.entry.now) }
     ensures unasked { request_of (texts_of words.entry.now) ≡ None → result.code ≢ 4 → result.code ≡ 2 }
     // Nothing is written, but at 0 and at a fault of writing: then a beginning of the report.
     ensures silent { result.code ≢ 0 → result.cause ≢ Outcome.Fault ToolFault.Write

@@ -1,8 +1,8 @@
 -- What reads and writes in parts take and leave together.
 use Rattle.std.proofs.Common.{◌≡◌, ◌∙◌, ◌++◌, ◌+◌, ◌-◌, ◌≤◌, ℕ, List, [], Option, ap, sym, subst, refl, length, take, drop, arith, append_assoc, append-nil, length-append, length-drop, take_all, take-append-drop}
-use Rattle.std.proofs.KnownBytes.{Appends-trans, Appends-kept, Appends-nil, Consumes-trans}
+use Rattle.std.proofs.KnownBytes.{Appends-trans, Appends-nil}
 use Rattle.std.proofs.Math.Seq.{take-append_seam}
-use Rattle.std.specs.Io.KnownBytes.{Appends, Consumes, Keeps}
+use Rattle.std.specs.Io.KnownBytes.{Appends}
 use Rattle.flame_tool.specs.Parts.{AppendsBeginning}
 
 -- what is written of a text, and what is left of it

@@ -131,5 +131,6 @@ shown_weights rows all (entry ∷ entries) tallies each =
 pub shown-AreSumsOf : (rows : List Row) (tallies : Tallies) → AreTalliesOf rows tallies → IsDistinct keys_eq (keys_of tallies.entries) → AreSumsOf rows (weighted_in tallies.entries)
 shown-AreSumsOf rows tallies are distinct = record {
   weights = All-from_recursion (λ sums. sums ≡ sums_at rows sums.name) (weighted_in tallies.entries)
-    (shown_weights rows tallies.entries tallies.entries are (recursion_from_All (λ (e : Entry). e.1 ≡ found_in tallies.entries e.0.now) tallies.entries (each_found tallies.entries distinct)));
-  once = λ name. shown_once name tallies.entries distinct ∙ ap (λ n. cond (nat_lt 0 n) 1 0) (are name).cumulative }
+      (shown_weights rows tallies.entries tallies.entries are (recursion_from_All (λ (e : Entry). e.1 ≡ found_in tallies.entries e.0.now) tallies.entries (each_found tallies.entries distinct)));
+  once = λ name. shown_once name tallies.entries distinct ∙ ap (λ n. cond (nat_lt 0 n) 1 0) (are name).cumulative;
+}

@@ -29,9 +29,9 @@ tally_at-written old new name change w updates changed q =
     ap (λ o. unwrap_or o zero_tally) after
     ∙ ap (λ b. unwrap_or (cond b (Some w) (hash.get_by (λ (key : Bor (List ℕ)). bytes_eq q key.now) old)) zero_tally) turned
     ∙ elim (is_same_name q name) as (λ b. is_same_name q name ≡ b → unwrap_or (cond b (Some w) (hash.get_by (λ (key : Bor (List ℕ)). bytes_eq q key.now) old)) zero_tally ≡ cond b (change (tally_at old q)) (tally_at old q)) [
-        | true ↦ λ e. changed ∙ ap (λ n. change (tally_at old n)) (sym (same_from_is_same_name q name e))
-        | false ↦ λ e. refl
-      ] refl
+      | true ↦ λ e. changed ∙ ap (λ n. change (tally_at old n)) (sym (same_from_is_same_name q name e))
+      | false ↦ λ e. refl
+    ] refl
 
 pub frame_counted-known : (tally : Tally) (row weight : ℕ) → tally.row ≡ row → tally ≡ frame_counted tally row weight
 frame_counted-known tally row weight e = sym (ap (λ b. cond b tally (let more : Tally = record { flat = tally.flat; cumulative = tally.cumulative + weight; row = row } in more)) (eq-eqb tally.row row e))
@@ -64,11 +64,11 @@ has_name-push name frames frame = list_any-append (is_same_name name) frames (fr
 -- one frame more
 pub frames_counted-push : (frames : List (List ℕ)) (frame : List ℕ) (row weight : ℕ) (name : List ℕ) (tally : Tally) → tally.row < row
     → cond (is_same_name name frame) (frame_counted (frames_counted frames row weight name tally) row weight) (frames_counted frames row weight name tally)
-      ≡ frames_counted (frames ++ frame ∷ []) row weight name tally
+    ≡ frames_counted (frames ++ frame ∷ []) row weight name tally
 frames_counted-push frames frame row weight name tally fresh =
     let more = has_name-push name frames frame in
     elim (has_name name frames) as (λ b. has_name name frames ≡ b → cond (is_same_name name frame) (frame_counted (cond b (once_more tally row weight) tally) row weight) (cond b (once_more tally row weight) tally)
-        ≡ cond (has_name name (frames ++ frame ∷ [])) (once_more tally row weight) tally) [
+    ≡ cond (has_name name (frames ++ frame ∷ [])) (once_more tally row weight) tally) [
       | true ↦ λ e.
           let has : has_name name (frames ++ frame ∷ []) ≡ true = more ∙ ap (λ b. b || is_same_name name frame) e in
           known (is_same_name name frame) (sym (frame_counted-known (once_more tally row weight) row weight refl)) ∙ sym (ap (λ b. cond b (once_more tally row weight) tally) has)

@@ -1,12 +1,12 @@
 -- How a run of the program ends, over what its reader had left and what its writer holds, before and after.
-use Rattle.std.specs.Prelude.{ℕ, ◌≡◌, ◌+◌, ◌≤◌, List, length, Option, Some, None}
+use Rattle.std.specs.Prelude.{ℕ, ◌≡◌, ◌+◌, ◌≤◌, List, length, Option, Some}
 use Rattle.std.specs.Io.KnownBytes.{Appends, Keeps}
 use Rattle.stack_text.specs.declared.batch.Row.{Row}
 use Rattle.stack_text.specs.FoldedText.{IsFoldedText}
 use Rattle.flame_tool.specs.Answers.{IsAnswer, IsRefusedBy}
 use Rattle.flame_tool.specs.Parts.{AppendsBeginning, IsWholeInput, TakesAtMost, TakesExactly}
 use Rattle.flame_tool.specs.Outcomes.{code_of}
-use Rattle.flame_tool.specs.Words.{request_of}
+use Rattle.flame_tool.specs.Words.{IsRefused, request_of}
 use Rattle.flame_tool.specs.declared.outcomes.Outcome.{Outcome}
 use Rattle.flame_tool.specs.declared.outcomes.Outcome.TheVariants.{Done, Words, Fault}
 use Rattle.flame_tool.specs.declared.outcomes.ToolFault.{ToolFault}
@@ -47,7 +47,7 @@ EndsByFault words limit unread left before after NoMemory = TakesAtMost limit un
 -- what the cause of a run's end says. Words that are refused leave the reader and the writer alone.
 abbrev pub EndsBy : List (List ℕ) → ℕ → Option (List ℕ) → Option (List ℕ) → Option (List ℕ) → Option (List ℕ) → Outcome → Type 0
 EndsBy words limit unread left before after Done = IsDone words limit unread left before after
-EndsBy words limit unread left before after (Words text) = (request_of words ≡ None) × Keeps unread left × Keeps before after
+EndsBy words limit unread left before after (Words text) = IsRefused words × Keeps unread left × Keeps before after
 EndsBy words limit unread left before after (Fault fault) = EndsByFault words limit unread left before after fault
 
 -- a run that ended with this code, by this cause

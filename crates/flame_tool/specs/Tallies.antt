@@ -32,7 +32,8 @@ abbrev pub row_counted : Row → ℕ → List ℕ → Tally → Tally
 row_counted row number name tally = record {
   flat = tally.flat + weight_if (ends_with_name name) row;
   cumulative = tally.cumulative + weight_if (has_name name) row;
-  row = if has_name name row.stack then number else tally.row }
+  row = if has_name name row.stack then number else tally.row;
+}
 
 -- the frames of a row of this number and weight, for the tally of one name
 abbrev pub frames_counted : List (List ℕ) → ℕ → ℕ → List ℕ → Tally → Tally

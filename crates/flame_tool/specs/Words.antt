@@ -1,7 +1,8 @@
 -- The command line: the command, and what words ask for.
-use Rattle.std.specs.Prelude.{ℕ, ◌≡◌, ⊤, true, List, [], ◌∷◌, Option, Some, None, codes, if◌then◌else◌}
+use Rattle.std.specs.Prelude.{◌≡◌, ⊤, true, false, List, [], ◌∷◌, Option, Some, None, codes, map, if◌then◌else◌}
+use Rattle.std.specs.Borrow.{Bor}
 use Rattle.std.specs.Str.{bytes_eq}
-use Rattle.clap.specs.Words.{App, Kinds, Row, Shape, Text, fault_of, new_app, subcommand_of, with_subcommand}
+use Rattle.clap.specs.Words.{App, Kinds, Row, Text, fault_of, new_app, subcommand_of, takes, with_subcommand}
 use Rattle.flame_tool.specs.declared.words.Request.{Request}
 use Rattle.flame_tool.specs.declared.words.Request.TheVariants.{Top}
 use Rattle.flame_tool.specs.declared.words.WordsFault.{WordsFault}
@@ -18,6 +19,10 @@ flame_app = record { top = record (new_app (codes "flame")).top { subcommand_req
 abbrev pub program_app : App
 program_app = with_subcommand flame_app top_app.top
 
+-- the words as bytes
+abbrev pub texts_of : List (Bor Text) → List Text
+texts_of words = map (λ word. word.now) words
+
 -- what a subcommand asks for, by its name
 abbrev pub named_request : Option (Text × List Row) → Option Request
 named_request None = None
@@ -32,7 +37,12 @@ unless_faulty (kind ∷ kinds) request = None
 abbrev pub request_of : List Text → Option Request
 request_of words = unless_faulty (fault_of program_app words) (named_request (subcommand_of program_app words))
 
--- why words ask for nothing: they are refused, or want of memory, which claims nothing
+-- the command doesn't take the words, and they ask for nothing
+pub record IsRefused (words : List Text) : Type 0 where
+  pub not_taken : takes program_app words ≡ false
+  pub no_request : request_of words ≡ None
+
+-- why words weren't read: they are refused, or want of memory, which claims nothing
 abbrev pub IsWordsFault : List Text → WordsFault → Type 0
-IsWordsFault words (Refused text) = request_of words ≡ None
+IsWordsFault words (Refused text) = IsRefused words
 IsWordsFault words NoMemory = ⊤

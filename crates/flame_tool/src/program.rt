@@ -1,9 +1,9 @@
 //! The whole program over any reader and writer.
-ghost use Rattle.std.specs.Prelude.{◌≡◌, ◌≢◌, ◌+◌, ◌≤◌, ◌↔◌, List, ℕ, Some, None, IfSome, map};
+ghost use Rattle.std.specs.Prelude.{◌≡◌, ◌≢◌, ◌+◌, ◌≤◌, ◌↔◌, List, ℕ, Some, None, IfSome};
 ghost use Rattle.std.specs.Io.KnownBytes.{Keeps};
 ghost use Rattle.flame_tool.specs.Parts.{TakesAtMost};
 ghost use Rattle.flame_tool.specs.Program.{EndsBy, IsAccepted, IsAsked, IsCut, IsDone, IsEnd, read_fault_of};
-ghost use Rattle.flame_tool.specs.Words.{request_of};
+ghost use Rattle.flame_tool.specs.Words.{IsRefused, request_of, texts_of};
 
 use crate::answers::answer;
 use crate::outcomes::{Outcome, Status, ToolFault};
@@ -24,23 +24,23 @@ pub fn run<'a, R: Read, W: Write>(
     limit: usize,
 ) -> Status
     requires { limit ≤ MAX_INPUT }
-    // The code is the cause's, and the cause says what was read and written.
-    ensures ends { IsEnd (map (λ word. word.now) words.entry.now) limit (R.remaining reader.old) (R.remaining reader.new)
+    // The code is the cause's, and the cause says what was read and what was written.
+    ensures ends { IsEnd (texts_of words.entry.now) limit (R.remaining reader.old) (R.remaining reader.new)
         (W.contents writer.old) (W.contents writer.new) result.code result.cause }
-    // At 0 exactly the report on the rows that the whole input spells was appended.
-    ensures done { result.code ≡ 0 → IsDone (map (λ word. word.now) words.entry.now) limit (R.remaining reader.old) (R.remaining reader.new)
+    // At 0 the input was read to its end, and exactly the report on the rows that it spells was appended.
+    ensures done { result.code ≡ 0 → IsDone (texts_of words.entry.now) limit (R.remaining reader.old) (R.remaining reader.new)
         (W.contents writer.old) (W.contents writer.new) }
-    // Words that are asked for decide by the input alone, but where the world outside or memory failed.
-    ensures decided { IfSome (R.remaining reader.old) (λ input. IsAsked (map (λ word. word.now) words.entry.now)
+    // Where the words ask for something, the input alone decides, but where the streams or memory failed.
+    ensures decided { IfSome (R.remaining reader.old) (λ input. IsAsked (texts_of words.entry.now)
         → result.code ≢ 3 → result.code ≢ 4
         → ((result.code ≡ 0) ↔ IsAccepted limit input) × ((result.code ≡ 1) ↔ ¬ IsAccepted limit input)) }
-    // Only words that ask for nothing end with 2, and want of memory alone keeps them from it.
-    ensures refused { result.code ≡ 2 → request_of (map (λ word. word.now) words.entry.now) ≡ None }
-    ensures unasked { request_of (map (λ word. word.now) words.entry.now) ≡ None → result.code ≢ 4 → result.code ≡ 2 }
-    // Nothing is written, but at 0 and at a fault of writing, where it is a beginning of the report.
+    // Words that ask for nothing end with 2, want of memory aside, and no others do.
+    ensures refused { result.code ≡ 2 → IsRefused (texts_of words.entry.now) }
+    ensures unasked { request_of (texts_of words.entry.now) ≡ None → result.code ≢ 4 → result.code ≡ 2 }
+    // Nothing is written, but at 0 and at a fault of writing: then a beginning of the report.
     ensures silent { result.code ≢ 0 → result.cause ≢ Outcome.Fault ToolFault.Write
         → Keeps (W.contents writer.old) (W.contents writer.new) }
-    ensures cut { result.cause ≡ Outcome.Fault ToolFault.Write → IsCut (map (λ word. word.now) words.entry.now) limit
+    ensures cut { result.cause ≡ Outcome.Fault ToolFault.Write → IsCut (texts_of words.entry.now) limit
         (R.remaining reader.old) (R.remaining reader.new) (W.contents writer.old) (W.contents writer.new) }
     ensures reads_at_most { TakesAtMost (limit + 1) (R.remaining reader.old) (R.remaining reader.new) }
 {
@@ -56,7 +56,7 @@ fn outcome_of<'a, R: Read, W: Write>(
     limit: usize,
 ) -> Outcome
     requires { limit ≤ MAX_INPUT }
-    ensures { EndsBy (map (λ word. word.now) words.entry.now) limit (R.remaining reader.old) (R.remaining reader.new)
+    ensures { EndsBy (texts_of words.entry.now) limit (R.remaining reader.old) (R.remaining reader.new)
         (W.contents writer.old) (W.contents writer.new) result }
 {
     match read_words(alloc, words) {

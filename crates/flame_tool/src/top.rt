@@ -158,7 +158,10 @@ fn weighted<'a>(
 fn compare(left: &TopRow, right: &TopRow) -> Ordering
     ensures { result ≡ top_cmp by_flat (shown left.now) (shown right.now) }
 {
-    right.flat.cmp(&left.flat).then_with(|| left.name.cmp(right.name))
+    right
+        .flat
+        .cmp(&left.flat)
+        .then_with(|| left.name.cmp(right.name))
 }
 
 /// Sorts a top list.

@@ -1,8 +1,8 @@
 //! The command line.
-ghost use Rattle.std.specs.Prelude.{◌≡◌, ◌⊎◌, List, IfOk, MatchResult, Some, None, false, map};
+ghost use Rattle.std.specs.Prelude.{◌≡◌, ◌⊎◌, List, IfOk, MatchResult, Some, false};
 ghost use Rattle.clap.specs.Words.{Text, app_of, kind_of, subcommand_rows_of};
 ghost use Rattle.clap.specs.declared.builder.command.Command.TheViews.{out-Command};
-ghost use Rattle.flame_tool.specs.Words.{IsWordsFault, named_request, program_app, request_of, top_app};
+ghost use Rattle.flame_tool.specs.Words.{IsRefused, IsWordsFault, named_request, program_app, request_of, texts_of, top_app};
 
 use clap::error::ErrorKind;
 use clap::{ArgMatches, Command, Error};
@@ -26,9 +26,6 @@ Example:
   3 3 b
   2 5 a
   0 10 main";
-
-// What is said where the command takes a subcommand that has no request.
-const UNKNOWN: &str = "error: unknown subcommand\n";
 
 /// What the words ask for.
 #[derive(Clone, Copy, Debug, PartialEq, Eq)]
@@ -73,8 +70,8 @@ fn top_command<'a>(alloc: Global) -> Command<'a>
 /// `Refused` exactly where the command refuses the words, or they ask for help; `NoMemory`.
 pub fn read_words<'a>(alloc: Global, words: &'a [&'a str]) -> Result<Request, WordsFault>
     ensures { MatchResult result
-        (λ request. request_of (map (λ word. word.now) words.entry.now) ≡ Some request)
-        (λ fault. IsWordsFault (map (λ word. word.now) words.entry.now) fault) }
+        (λ request. request_of (texts_of words.entry.now) ≡ Some request)
+        (λ fault. IsWordsFault (texts_of words.entry.now) fault) }
 {
     let Ok(command) = command(alloc) else {
         return Err(WordsFault::NoMemory);
@@ -82,7 +79,7 @@ pub fn read_words<'a>(alloc: Global, words: &'a [&'a str]) -> Result<Request, Wo
     match command.try_get_matches_from(words) {
         Ok(matches) => match request_in(&matches) {
             Some(request) => Ok(request),
-            None => Err(refusal(String::from_str(alloc, UNKNOWN))),
+            None => unreachable!(),
         },
         Err(error) => Err(error_refusal(alloc, &error)),
     }
@@ -102,8 +99,7 @@ fn request_in(matches: &ArgMatches<'_>) -> Option<Request>
 
 // What is said of an error of the command.
 fn error_refusal(alloc: Global, error: &Error) -> WordsFault
-    ensures { (words : List Text) → (kind_of error.now ≡ ErrorKind.OutOfMemory) ⊎ (request_of words ≡ None)
-        → IsWordsFault words result }
+    ensures { (words : List Text) → (kind_of error.now ≡ ErrorKind.OutOfMemory) ⊎ IsRefused words → IsWordsFault words result }
 {
     match error.kind() {
         ErrorKind::OutOfMemory => WordsFault::NoMemory,
@@ -113,7 +109,7 @@ fn error_refusal(alloc: Global, error: &Error) -> WordsFault
 
 // The refusal with this text, where there was memory for it.
 fn refusal(text: Result<String, AllocError>) -> WordsFault
-    ensures { (words : List Text) → request_of words ≡ None → IsWordsFault words result }
+    ensures { (words : List Text) → IsRefused words → IsWordsFault words result }
 {
     match text {
         Ok(text) => WordsFault::Refused(text),

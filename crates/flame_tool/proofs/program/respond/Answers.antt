@@ -1,4 +1,4 @@
-use Rattle.std.proofs.Common.{◌≡◌, subst, sym}
+use Rattle.std.proofs.Common.{subst, sym}
 use Rattle.flame_tool.specs.Program.{EndsByFault}
 use Rattle.flame_tool.specs.declared.outcomes.ToolFault.{ToolFault}
 use Rattle.flame_tool.proofs.Endings.{ends_by_read_fault}

@@ -1,4 +1,4 @@
-use Rattle.std.proofs.Common.{rules, arith, true, false}
+use Rattle.std.proofs.Common.{arith}
 use Rattle.flame_tool.proofs.streams.read_input.Goals as goal
 
 pub loop-input-smaller : goal.loop-input-smaller

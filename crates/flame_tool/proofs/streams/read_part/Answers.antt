@@ -1,4 +1,4 @@
-use Rattle.std.proofs.Common.{◌≡◌, ◌≤◌, ◌++◌, ℕ, length, take, rules, arith, length-append, length-take, length-take-le}
+use Rattle.std.proofs.Common.{◌≤◌, ◌++◌, length, take, rules, arith, length-append, length-take, length-take-le}
 use Rattle.std.proofs.KnownBytes.{Consumes-trans}
 use Rattle.flame_tool.proofs.streams.read_part.Goals as goal
 

@@ -11,7 +11,7 @@ pub returns-in-Some : goal.returns-in-Some
 returns-in-Some c = on_ok_more c.count_leaf.result (λ counted q.
     let names : c.names-frames.result.now ≡ c.args.row.now.stack = c.names-frames.ensures.names in
     let leaf : c.text.result.now ≡ get_or c.args.row.now.stack (length c.args.row.now.stack - 1) c.in-Some.leaf.now =
-      c.text.ensures.text ∙ c.in-Some.ensures.item.1 ∙ ap (λ frames. get_or frames (length frames - 1) c.in-Some.leaf.now) names in
+    c.text.ensures.text ∙ c.in-Some.ensures.item.1 ∙ ap (λ frames. get_or frames (length frames - 1) c.in-Some.leaf.now) names in
     let some : 0 < length c.args.row.now.stack = true-ltb 0 _ (c.in-Some.ensures.item.0 ∙ ap (λ frames. nat_lt 0 (length frames)) names) in
     let ends : ends_with_name q c.args.row.now.stack ≡ is_same_name q c.text.result.now = ends_with_name-last q c.args.row.now.stack c.in-Some.leaf.now some ∙ ap (is_same_name q) (sym leaf) in
     counted q

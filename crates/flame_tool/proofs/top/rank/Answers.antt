@@ -12,5 +12,5 @@ use Rattle.flame_tool.proofs.top.rank.Goals as goal
 pub returns-clause-sorted : goal.returns-clause-sorted
 returns-clause-sorted c =
     sorted_shown c.sort_by.new.self.items
-      (c.in_ok-sort_by.ensures.sorted (λ (a : TopRow) (b : TopRow). is_lt (top_cmp by_flat (shown a) (shown b))) (ranks_by (top_cmp-total by_flat) shown)
-        (answers_always _ _ _ (λ f a r q k. let e : r ≡ top_cmp by_flat (shown a.0.now) (shown a.1.0.now) = search rules in ap is_lt e)))
+    (c.in_ok-sort_by.ensures.sorted (λ (a : TopRow) (b : TopRow). is_lt (top_cmp by_flat (shown a) (shown b))) (ranks_by (top_cmp-total by_flat) shown)
+    (answers_always _ _ _ (λ f a r q k. let e : r ≡ top_cmp by_flat (shown a.0.now) (shown a.1.0.now) = search rules in ap is_lt e)))

@@ -11,6 +11,6 @@ returns c =
     ap (map shown) c.truncate.ensures.items
     ∙ sym (take-map shown 20 c.rank.new.list.items)
     ∙ c.top_list_is_front_of_sorted.ensures by_flat 20 c.args.rows.now (map shown c.in_ok-list.list.items) (map shown c.rank.new.list.items)
-        (c.in_ok-list.ensures c.args.rows.now c.in_ok-tallies.ensures)
-        (IsPermutation-map shown c.in_ok-list.list.items c.rank.new.list.items c.in_ok-rank.ensures.permutation)
-        c.in_ok-rank.ensures.sorted
+    (c.in_ok-list.ensures c.args.rows.now c.in_ok-tallies.ensures)
+    (IsPermutation-map shown c.in_ok-list.list.items c.rank.new.list.items c.in_ok-rank.ensures.permutation)
+    c.in_ok-rank.ensures.sorted

@@ -9,5 +9,5 @@ use Rattle.flame_tool.proofs.top.weighted.Goals as goal
 pub returns : goal.returns
 returns c = λ rows are.
     let whole : map shown c.loop-name.list.items ≡ weighted_in c.args.tallies.now.entries =
-      sym (append-nil (map shown c.loop-name.list.items)) ∙ ap (λ es. map shown c.loop-name.list.items ++ weighted_in es) (sym c.in-None.ensures.steps.0) ∙ c.loop-name.invariant in
+    sym (append-nil (map shown c.loop-name.list.items)) ∙ ap (λ es. map shown c.loop-name.list.items ++ weighted_in es) (sym c.in-None.ensures.steps.0) ∙ c.loop-name.invariant in
     subst (AreSumsOf rows) (sym whole) (shown-AreSumsOf rows c.args.tallies.now are c.iter-name-items.ensures.unique)

@@ -1,6 +1,4 @@
-use Rattle.std.proofs.Common.{◌≡◌, ◌++◌, List, []}
 use Rattle.std.specs.FinMap.{empty}
-use Rattle.stack_text.specs.Aggregate.{with_rows}
 use Rattle.stack_text.proofs.RowLaws.{with_rows-append}
 use Rattle.stack_text.proofs.laws.aggregate_of_more_rows.Goals as goal
 

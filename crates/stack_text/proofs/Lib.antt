@@ -8,3 +8,4 @@ pub mod Reading
 pub mod RowLaws
 pub mod SameNames
 pub mod WorkedRows
+pub mod Writing

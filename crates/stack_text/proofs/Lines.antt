@@ -11,7 +11,7 @@ use Rattle.bstr.specs.Text.{lines_of, without_terminator, no_cr, line_len}
 use Rattle.bstr.proofs.lemmas.LineLemmas.{lines-step, lines-empty, line_len-at, line_len-none}
 use Rattle.stack_text.proofs.Pieces.{pieces, first_pass}
 
-abbrev IsFeed : ℕ → Bool
+abbrev pub IsFeed : ℕ → Bool
 IsFeed byte = eqb byte 10
 
 -- a text without a line feed is one line, as it is
@@ -56,7 +56,7 @@ unended front =
     one_return [] = refl
     one_return (byte ∷ front) = ap (λ b. cond (b && eqb (get_or (byte ∷ front) (length (byte ∷ front) - 1) 0) 13) (take (length (byte ∷ front) - 1) (byte ∷ front)) (byte ∷ front)) (lt-ltb 0 (length (byte ∷ front)) (omega arith))
 
-more_parts : (front text : List ℕ) → lines_of_parts (front ∷ slice_split IsFeed text) ≡ strip_carriage_return front ∷ lines_of_parts (slice_split IsFeed text)
+pub more_parts : (front text : List ℕ) → lines_of_parts (front ∷ slice_split IsFeed text) ≡ strip_carriage_return front ∷ lines_of_parts (slice_split IsFeed text)
 more_parts front text =
     let (part, parts, e) = slice_split-some text in
     ap (λ z. lines_of_parts (front ∷ z)) e ∙ ap (λ z. strip_carriage_return front ∷ lines_of_parts z) (sym e)

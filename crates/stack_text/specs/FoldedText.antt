@@ -1,6 +1,6 @@
 -- Folded stacks as text, read and written (FlameGraph, the header comment of flamegraph.pl: one line for each stack, its frames
 -- from root to leaf separated by semicolons, then a space and a count). What reads it strictly is this project's choice.
-use Rattle.std.specs.Prelude.{ℕ, ◌≡◌, ◌+◌, ◌^◌, ◌<◌, ◌≤◌, ◌==◌, ⊤, List, [], ◌∷◌, ◌++◌, filter, length, not}
+use Rattle.std.specs.Prelude.{ℕ, ◌≡◌, ◌+◌, ◌^◌, ◌<◌, ◌≤◌, ◌==◌, ⊤, All, List, [], ◌∷◌, ◌++◌, filter, length, not}
 use Rattle.std.specs.List.{slice_split, flat_map, join_with_byte}
 use Rattle.std.specs.Fmt.{decimal}
 use Rattle.std.specs.Str.{IsUtf8}
@@ -9,6 +9,7 @@ use Rattle.std.specs.Str.Parse.{IsNumeral, digits_value}
 use Rattle.stack_text.specs.declared.batch.Row.{Row}
 use Rattle.stack_text.specs.declared.folded.FoldedFault.{FoldedFault}
 use Rattle.stack_text.specs.declared.folded.FoldedFault.TheVariants.{NotUtf8, NoCount, Count, Depth, Heavy, NoMemory}
+use Rattle.stack_text.specs.Names.{IsName}
 use Rattle.stack_text.specs.Rows.{total_of}
 use Rattle.stack_text.specs.Aggregate.{aggregate_of, rows_of}
 
@@ -92,6 +93,12 @@ IsFirstFault text (Count at) = StandsFirst text (Count at)
 IsFirstFault text (Depth at) = StandsFirst text (Depth at)
 IsFirstFault text (Heavy at) = StandsFirst text (Heavy at)
 IsFirstFault text NoMemory = ⊤
+
+-- what every row of a batch is: its names are names, within the limits
+pub record IsBatchRow (row : Row) : Type 0 where
+  pub names : All IsName row.stack
+  pub depth : length row.stack ≤ 65535
+  pub fits : row.weight < 2 ^ 63
 
 -- a row as folded text: its names joined by semicolons, a space, its weight in decimal, a line feed
 abbrev pub row_text : Row → List ℕ

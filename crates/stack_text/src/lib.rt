@@ -9,8 +9,11 @@ mod name;
 mod stack;
 #[cfg(test)]
 mod tests;
+mod written;
 
 pub use batch::{Batch, MAX_TOTAL, PushFault, Refused, Row};
 pub use folded::{FoldedFault, read_folded};
 pub use name::{Name, NameFault};
+pub use pprof_wire::NoMemory;
 pub use stack::{MAX_DEPTH, Stack};
+pub use written::write_folded;

@@ -6,7 +6,8 @@ ghost use Rattle.stack_text.specs.TopList.Ranking.{by_flat};
 ghost use Rattle.stack_text.specs.Names.{is_same_name};
 ghost use Rattle.flame_tool.specs.Tallies.{AreTalliesOf, frame_counted, frames_counted, leaf_counted, row_counted, shown, tally_at, weighted_in};
 
-use stack_text::{Batch, Name, Row, top_list_is_front_of_sorted};
+use stack_text::laws::top_list_is_front_of_sorted;
+use stack_text::{Batch, Name, Row};
 use std::alloc::{AllocError, Global};
 use std::cmp::Ordering;
 use std::collections::HashMap;

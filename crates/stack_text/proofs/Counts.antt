@@ -1,15 +1,15 @@
 -- The count of a line: digits after its last space.
-use Rattle.std.proofs.Common.{◌≡◌, ◌≢◌, ℕ, ◌+◌, ◌<◌, ◌≤◌, Bool, true, false, cond, List, [], ◌∷◌, ◌++◌, length, get_or, take, drop, refl, sym, ap, ◌∙◌, arith, append_assoc, length-append, ◌-◌, eqb, ltb, subst, lit<}
+use Rattle.std.proofs.Common.{◌≡◌, ◌≢◌, ℕ, ◌<◌, true, false, cond, List, [], ◌∷◌, ◌++◌, length, get_or, take, drop, refl, sym, ap, ◌∙◌, arith, length-append, ◌-◌, eqb, ltb, subst, lit<}
 use Rattle.std.specs.List.{AllByRecursion, All}
-use Rattle.std.specs.Char.{digit_value, IsAsciiDigit, IsNotAsciiDigit}
-use Rattle.std.specs.Str.Parse.{AllDigits, IsNumeral}
+use Rattle.std.specs.Char.{digit_value, IsAsciiDigit}
+use Rattle.std.specs.Str.Parse.{AllDigits}
 use Rattle.std.specs.Str.{NoCharPasses}
 use Rattle.std.specs.Str.Pattern.{HasCharAt}
 use Rattle.std.proofs.lemmas.Str.Pattern.{NoCharPasses-char, drop_at_char}
 use Rattle.std.proofs.lemmas.Bool.Decides.{nat_tests}
 use borrow.Author.Tests.{le-ltb, lt-ltb}
 use Rattle.std.proofs.lemmas.List.{get_or_at, get_or_default, take-append-drop}
-use Rattle.std.proofs.lemmas.List.Elements.{All-from_recursion, recursion_from_All}
+use Rattle.std.proofs.lemmas.List.Elements.{recursion_from_All}
 use Rattle.stack_text.specs.FoldedText.{HasCount}
 
 -- digits hold no space

@@ -1,8 +1,10 @@
 pub mod Counts
+pub mod EntryLaws
 pub mod Frames
 pub mod Lines
 pub mod Pieces
 pub mod Ranking
 pub mod Reading
+pub mod RowLaws
 pub mod SameNames
 pub mod WorkedRows

@@ -1,20 +1,20 @@
 -- A top list is the front of the names' weights in their order, however they were sorted.
-use Rattle.std.proofs.Common.{◌≡◌, ◌≢◌, ℕ, ◌+◌, ◌<◌, ◌≤◌, ◌⊎◌, Bool, true, false, cond, ◌||◌, ltb, List, [], ◌∷◌, ◌++◌, length, get_or, take, map, filter, max, refl, sym, ap, ◌∙◌, subst, inl, inr, arith, sum_by, IsPermutation}
+use Rattle.std.proofs.Common.{◌≡◌, ◌≢◌, ℕ, ◌+◌, ◌<◌, ◌≤◌, Bool, true, false, cond, ◌||◌, ltb, List, [], ◌∷◌, length, get_or, take, map, filter, max, refl, sym, ap, ◌∙◌, subst, arith, IsPermutation}
 use Rattle.std.specs.Prelude.{IsSorted, nat_lt}
 use Rattle.std.specs.List.{AllByRecursion, list_any, flat_map}
 use Rattle.std.specs.declared.cmp.Ordering.{Ordering}
 use Rattle.std.specs.declared.cmp.Ordering.TheVariants.{Less, Equal, Greater}
-use Rattle.std.specs.Ordering.{nat_cmp, is_lt, match_ordering, ordering_then, ordering_reverse}
+use Rattle.std.specs.Ordering.{is_lt, match_ordering, ordering_then, ordering_reverse}
 use Rattle.std.specs.Cmp.{IsTotalOrder}
-use Rattle.std.specs.FinMap.{IsAntisymmetric, slice_cmp-IsAntisymmetric, nat_cmp-IsAntisymmetric}
+use Rattle.std.specs.FinMap.{slice_cmp-IsAntisymmetric, nat_cmp-IsAntisymmetric}
 use Rattle.std.proofs.lemmas.Cmp.{then_total, on_total, back_total, nat_cmp_total, nat_list_cmp_total}
-use Rattle.std.proofs.lemmas.List.Sums.{sum_by-cons, sum_by-append}
+use Rattle.std.proofs.lemmas.List.Sums.{sum_by-cons}
 use Rattle.std.proofs.lemmas.List.Sorted.{sum_by-IsPermutation, All-permutation, sorted_far, ranks_by}
-use Rattle.std.proofs.lemmas.List.Elements.{All-from_recursion, recursion_from_All}
-use borrow.Author.Tests.{ltb-true, ltb-false, lt-ltb, le-ltb}
+use Rattle.std.proofs.lemmas.List.Elements.{recursion_from_All}
+use borrow.Author.Tests.{ltb-true, lt-ltb, le-ltb}
 use Prim.Native.Nat.{zero, suc}
 use Rattle.stack_text.specs.declared.batch.Row.{Row}
-use Rattle.stack_text.specs.Names.{name_cmp, is_same_name}
+use Rattle.stack_text.specs.Names.{is_same_name}
 use Rattle.stack_text.specs.Order.{with_member, in_order}
 use Rattle.stack_text.specs.Rows.{has_name, weight_if, cumulative_weight_of}
 use Rattle.std.proofs.lemmas.List.Folds.{list_any-append}

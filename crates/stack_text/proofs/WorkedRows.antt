@@ -1,13 +1,12 @@
 -- Worked examples, computed by the definitions. Each line is checked by evaluating it.
-use Rattle.std.proofs.Common.{◌≡◌, ℕ, List, [], ◌∷◌, ◌++◌, refl, codes, map, ap, ◌∙◌}
+use Rattle.std.proofs.Common.{◌≡◌, ℕ, List, [], ◌∷◌, ◌++◌, refl, codes}
 use Rattle.std.specs.Prelude.{Some, None}
 use Rattle.std.specs.declared.cmp.Ordering.TheVariants.{Less}
 use Rattle.std.specs.Fmt.{digits}
 use Rattle.stack_text.specs.declared.batch.Row.{Row}
 use Rattle.stack_text.specs.Rows.{stack_cmp, total_of, flat_weight_of, cumulative_weight_of, kept_rows}
-use Rattle.stack_text.specs.Paths.{paths_of, path_weight, path_start}
 use Rattle.stack_text.specs.Layout.{Rectangle, rectangles_of}
-use Rattle.stack_text.specs.TopList.{NameSums, top_list_of, top_report_of}
+use Rattle.stack_text.specs.TopList.{top_report_of}
 use Rattle.stack_text.specs.TopList.Ranking.{by_flat, by_cumulative}
 use Rattle.stack_text.specs.FoldedText.{frames_of, rows_text}
 

@@ -1,7 +1,9 @@
 //! Laws of the definitions in `specs/`, each the contract of a function that does nothing. A caller calls one to use its law.
 
-ghost use Rattle.std.specs.Prelude.{ℕ, ◌≡◌, List, IsPermutation, IsSorted, take};
+ghost use Rattle.std.specs.Prelude.{ℕ, ◌≡◌, ◌++◌, Bool, List, IsPermutation, IsSorted, take};
 ghost use Rattle.stack_text.specs.declared.batch.Row.{Row};
+ghost use Rattle.stack_text.specs.Rows.{weight_of, weight_where};
+ghost use Rattle.stack_text.specs.Aggregate.{aggregate_of, rows_of, weight_in, with_rows};
 ghost use Rattle.stack_text.specs.TopList.{AreSumsOf, NameSums, Ranking, top_cmp, top_list_of};
 
 /// However the weights of the names were sorted by a top list's order, the front of what came out is the top list.
@@ -9,4 +11,27 @@ pub fn top_list_is_front_of_sorted()
     ensures { (ranking : Ranking) (count : ℕ) (rows : List Row) (sums ranked : List NameSums)
         → AreSumsOf rows sums → IsPermutation sums ranked → IsSorted (top_cmp ranking) ranked
         → take count ranked ≡ top_list_of ranking count rows }
+{}
+
+/// The aggregate has each stack's weight.
+pub fn aggregate_has_weights()
+    ensures { (rows : List Row) (stack : List (List ℕ)) → weight_in (aggregate_of rows) stack ≡ weight_of rows stack }
+{}
+
+/// Rows in which each stack weighs as much have one aggregate: so it is the same in every order of the rows.
+pub fn aggregate_is_by_weights()
+    ensures { (rows others : List Row) → ((stack : List (List ℕ)) → weight_of rows stack ≡ weight_of others stack)
+        → aggregate_of rows ≡ aggregate_of others }
+{}
+
+/// More rows are added to the aggregate of those before.
+pub fn aggregate_of_more_rows()
+    ensures { (rows more : List Row) → aggregate_of (rows ++ more) ≡ with_rows (aggregate_of rows) more }
+{}
+
+/// A sum over rows, each once, depends on their aggregate alone: total, flat and cumulative weight, widths and starts of paths.
+pub fn sums_are_those_of_the_aggregate()
+    ensures rows { (test : List (List ℕ) → Bool) (rows : List Row) → weight_where test (rows_of (aggregate_of rows)) ≡ weight_where test rows }
+    ensures same { (test : List (List ℕ) → Bool) (rows others : List Row) → aggregate_of rows ≡ aggregate_of others
+        → weight_where test rows ≡ weight_where test others }
 {}

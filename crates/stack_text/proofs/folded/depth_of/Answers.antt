@@ -1,5 +1,5 @@
 -- How many pieces pass the filter.
-use Rattle.std.proofs.Common.{rules, ◌≡◌, length, lit<}
+use Rattle.std.proofs.Common.{rules, length, lit<}
 use Rattle.std.specs.Prelude.{◌==◌, not}
 use Rattle.std.proofs.lemmas.Iterator.Consumers.{YieldsList-at, YieldsList-from_filter, count_from_yields_List}
 use Rattle.std.proofs.lemmas.Iterator.Splits.{YieldsList-from_str_split}

@@ -1,9 +1,9 @@
 -- A text of one byte or more, all of which are digits.
-use Rattle.std.proofs.Common.{rules, ◌≡◌, ℕ, ◌<◌, ◌≤◌, Bool, List, true, false, length, get_or, refl, inl, inr, arith}
+use Rattle.std.proofs.Common.{rules, ℕ, ◌<◌, Bool, List, true, false, length, refl, inl, inr, arith}
 use Rattle.std.specs.Char.{IsAsciiDigit, IsNotAsciiDigit}
-use Rattle.std.specs.Prelude.{IsTrue, ◌↔◌, MatchBool}
-use Rattle.std.specs.List.{AllWithin, HoldsAt, All}
-use Rattle.std.specs.Str.Parse.{IsNumeral, AllDigits}
+use Rattle.std.specs.Prelude.{IsTrue, MatchBool}
+use Rattle.std.specs.List.{AllWithin, HoldsAt}
+use Rattle.std.specs.Str.Parse.{IsNumeral}
 use Rattle.std.proofs.lemmas.Iterator.{cases_from_all}
 use Rattle.std.proofs.lemmas.Iterator.Adapters.{YieldsList-from_bytes}
 use Rattle.std.proofs.lemmas.List.Elements.{recursion_from_All, All-from_recursion}

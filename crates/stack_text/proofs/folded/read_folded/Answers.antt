@@ -1,5 +1,5 @@
 -- The lines are read in order: each is a row more, or empty, or has the first fault.
-use Rattle.std.proofs.Common.{rules, Ok, ℕ, List, ◌+◌, subst, lit<, eqb-true, true, false, ◌≡◌, ◌<◌, length, [], refl, sym, ap, ◌∙◌, arith}
+use Rattle.std.proofs.Common.{Ok, ℕ, List, ◌+◌, subst, lit<, eqb-true, false, ◌≡◌, ◌<◌, length, [], sym, ap, ◌∙◌, arith}
 use Rattle.std.proofs.lemmas.Result.{err_from_is_err_and}
 use Rattle.std.specs.Prelude.{◌==◌}
 use Rattle.std.specs.Str.Lines.{lines}

@@ -1,5 +1,5 @@
 -- A line's last space, and whether a count follows it.
-use Rattle.std.proofs.Common.{◌≡◌, List, ℕ, lit<, rules, subst, sym}
+use Rattle.std.proofs.Common.{lit<, rules, subst}
 use Rattle.std.proofs.lemmas.Str.Pattern.{NoCharPasses-char}
 use Rattle.std.specs.Str.Parse.{IsNumeral}
 use Rattle.std.specs.Prelude.{IsTrue}

@@ -1,5 +1,5 @@
 -- What is kept at a text is its name.
-use Rattle.std.proofs.Common.{◌≡◌, ℕ, List, Bool, true, false, cond, sym, ap, ◌∙◌, subst, refl}
+use Rattle.std.proofs.Common.{◌≡◌, ℕ, List, true, false, cond, sym, ◌∙◌, subst, refl}
 use Rattle.std.specs.Prelude.{IfSome, Some}
 use Rattle.std.specs.HashMap.{get_by}
 use Rattle.std.specs.Str.{bytes_eq}

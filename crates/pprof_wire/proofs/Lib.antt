@@ -1,0 +1,5 @@
+pub mod VarintLaws
+pub mod FieldLaws
+pub mod ShortestVarints
+pub mod ListLaws
+pub mod EachList

@@ -1,0 +1,84 @@
+-- Varints, by the Protocol Buffers encoding page, "Base 128 Varints".
+use Rattle.std.specs.Prelude.{◌≡◌, ℕ, zero, suc, ◌+◌, ◌*◌, ◌/◌, ◌%◌, ◌^◌, nat_lt, if◌then◌else◌, ◌<◌, ◌≤◌, List, [], ◌∷◌, ◌++◌, length}
+use Rattle.std.specs.List.{AllByRecursion}
+use Rattle.pprof_wire.specs.declared.faults.WireFault.{WireFault}
+use Rattle.pprof_wire.specs.declared.faults.WireFault.TheVariants.{Truncated, LongVarint, FieldNumber, Group, WireType}
+
+-- "Each byte in the varint has a continuation bit": it is set in each byte but the last.
+abbrev pub IsGroups : List ℕ → Type 0
+IsGroups [] = ⊥
+IsGroups (byte ∷ []) = byte < 128
+IsGroups (byte ∷ next ∷ rest) = (128 ≤ byte) × IsGroups (next ∷ rest)
+
+-- "The lower 7 bits of each byte are a payload", the least significant group first.
+abbrev pub number_of : List ℕ → ℕ
+number_of [] = 0
+number_of (byte ∷ rest) = byte % 128 + 128 * number_of rest
+
+-- The bytes spell the number: one to ten bytes, also more than it needs, of a number of 64 bits.
+-- So the tenth byte is 0 or 1.
+pub record IsVarint (bytes : List ℕ) (number : ℕ) : Type 0 where
+  pub groups : IsGroups bytes
+  pub short : length bytes ≤ 10
+  pub value : number ≡ number_of bytes
+  pub fits : number < 2 ^ 64
+
+-- Each byte says that another follows.
+abbrev pub AllContinue : List ℕ → Type 0
+AllContinue = AllByRecursion (λ byte. 128 ≤ byte)
+
+-- The bytes end before the last byte of a varint.
+pub record IsCutVarint (bytes : List ℕ) : Type 0 where
+  pub continued : AllContinue bytes
+  pub short : length bytes < 10
+
+-- Nine bytes that each say that another follows, and a tenth that is neither 0 nor 1.
+pub record IsLongVarint (bytes : List ℕ) : Type 0 where
+  pub front : List ℕ
+  pub tenth : ℕ
+  pub rest : List ℕ
+  pub parts : bytes ≡ front ++ tenth ∷ rest
+  pub nine : length front ≡ 9
+  pub continued : AllContinue front
+  pub large : 1 < tenth
+
+-- Why no varint stands at the front of the bytes.
+abbrev pub IsVarintFault : WireFault → List ℕ → Type 0
+IsVarintFault Truncated bytes = IsCutVarint bytes
+IsVarintFault LongVarint bytes = IsLongVarint bytes
+IsVarintFault FieldNumber bytes = ⊥
+IsVarintFault Group bytes = ⊥
+IsVarintFault WireType bytes = ⊥
+
+-- ---- the numbers of a packed field
+
+-- The bytes are the spellings of the numbers, one after the other.
+abbrev pub IsNumberList : List ℕ → List ℕ → Type 0
+IsNumberList bytes [] = bytes ≡ []
+IsNumberList bytes (number ∷ numbers) =
+    (front : List ℕ) × (after : List ℕ) × (bytes ≡ front ++ after)
+    × IsVarint front number × IsNumberList after numbers
+
+-- No number's spelling stands at the front.
+abbrev pub IsWithoutNumber : List ℕ → Type 0
+IsWithoutNumber bytes =
+    (front rest : List ℕ) → (number : ℕ) → bytes ≡ front ++ rest → IsVarint front number → ⊥
+
+-- The bytes are whole numbers, and then a rest that begins with no whole number.
+pub record SplitsIntoNumbers (bytes numbers rest : List ℕ) : Type 0 where
+  pub front : List ℕ
+  pub parts : bytes ≡ front ++ rest
+  pub listed : IsNumberList front numbers
+  pub ends : IsWithoutNumber rest
+
+-- ---- the shortest spelling
+
+-- The groups of a number, in `more` bytes at most before the last.
+abbrev pub groups_of : ℕ → ℕ → List ℕ
+groups_of zero number = number ∷ []
+groups_of (suc more) number =
+    if nat_lt number 128 then number ∷ [] else (number % 128 + 128) ∷ groups_of more (number / 128)
+
+-- The shortest spelling of a number of 64 bits: no group of zeros at its end.
+unfoldable pub varint_of : ℕ → List ℕ
+varint_of number = groups_of 9 number

@@ -1,0 +1,20 @@
+//! Parts of the input, lent from where they lie.
+ghost use Rattle.std.specs.Prelude.{◌≡◌, ◌+◌, ◌≤◌, length, take, drop};
+
+/// The bytes from the place `at` on.
+pub(crate) fn bytes_from(bytes: &[u8], at: usize) -> &[u8]
+    requires { at ≤ length bytes.now }
+    ensures value { result.now ≡ drop at bytes.now }
+    ensures place { result.ref_ptr ≡ (bytes.entry.ref_ptr.0, bytes.entry.ref_ptr.1 + at) }
+{
+    &bytes[at..]
+}
+
+/// The first `count` bytes.
+pub(crate) fn first_bytes(bytes: &[u8], count: usize) -> &[u8]
+    requires { count ≤ length bytes.now }
+    ensures value { result.now ≡ take count bytes.now }
+    ensures place { result.ref_ptr ≡ bytes.entry.ref_ptr }
+{
+    &bytes[..count]
+}

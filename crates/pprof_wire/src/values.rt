@@ -1,0 +1,98 @@
+ghost use Rattle.std.specs.Prelude.{◌≡◌, ℕ, ◌+◌, ◌<◌, ◌≤◌, ◌⊎◌, take, length, IfOk, IfErr};
+ghost use Rattle.std.specs.Int.{w32, w64, from_le_bytes};
+ghost use Rattle.pprof_wire.specs.Varints.{IsVarintFault};
+ghost use Rattle.pprof_wire.specs.Fields.{value_of, wire_type_of, IsFieldNumber, IsDelimited, IsCutDelimited, IsValueSpelling, IsTagFault, EndsAt};
+
+use crate::faults::WireFault;
+use crate::parts::{bytes_from, first_bytes};
+use crate::varints::first_varint;
+
+/// A field's value, by its wire type (Protocol Buffers encoding page, "Message Structure"). Bytes are
+/// lent from the input.
+#[derive(Clone, Copy, Debug, PartialEq, Eq)]
+pub enum Value<'a> {
+    /// Wire type 0, VARINT.
+    Varint(u64),
+    /// Wire type 1, I64.
+    Fixed64(u64),
+    /// Wire type 5, I32.
+    Fixed32(u32),
+    /// Wire type 2, LEN.
+    Bytes(&'a [u8]),
+}
+
+/// A field, read whole. A field that was read has a number from 1 to 2^29 - 1.
+#[derive(Clone, Copy, Debug, PartialEq, Eq)]
+pub struct Field<'a> {
+    pub number: u32,
+    pub value: Value<'a>,
+}
+
+/// The length and the bytes at the front, and how many bytes they take.
+fn first_delimited(bytes: &[u8]) -> Result<(&[u8], usize), WireFault>
+    ensures spelled { IfOk result (λ found. IsDelimited (take found.1 bytes.now) found.0.now) }
+    ensures within { IfOk result (λ found. found.1 ≤ length bytes.now) }
+    ensures place { IfOk result (λ found.
+        (found.0.ref_ptr.0 ≡ bytes.entry.ref_ptr.0)
+        × (found.0.ref_ptr.1 + length found.0.now ≡ bytes.entry.ref_ptr.1 + found.1)) }
+    ensures fault { IfErr result (λ fault.
+        IsVarintFault fault bytes.now ⊎ ((fault ≡ WireFault.Truncated) × IsCutDelimited bytes.now)) }
+{
+    let (count, prefix) = first_varint(bytes)?;
+    let rest = bytes_from(bytes, prefix);
+    if count > rest.len() as u64 {
+        return Err(WireFault::Truncated);
+    }
+    let content = first_bytes(rest, count as usize);
+    Ok((content, prefix + content.len()))
+}
+
+/// The eight bytes at the front, the least significant first.
+fn first_fixed64(bytes: &[u8]) -> Result<u64, WireFault>
+    ensures number { IfOk result (λ number.
+        (8 ≤ length bytes.now) × (number ≡ from_le_bytes w64 (take 8 bytes.now))) }
+    ensures cut { IfErr result (λ fault. (fault ≡ WireFault.Truncated) × (length bytes.now < 8)) }
+{
+    match bytes.first_chunk::<8>() {
+        Some(chunk) => Ok(u64::from_le_bytes(*chunk)),
+        None => Err(WireFault::Truncated),
+    }
+}
+
+/// The four bytes at the front, the least significant first.
+fn first_fixed32(bytes: &[u8]) -> Result<u32, WireFault>
+    ensures number { IfOk result (λ number.
+        (4 ≤ length bytes.now) × (number ≡ from_le_bytes w32 (take 4 bytes.now))) }
+    ensures cut { IfErr result (λ fault. (fault ≡ WireFault.Truncated) × (length bytes.now < 4)) }
+{
+    match bytes.first_chunk::<4>() {
+        Some(chunk) => Ok(u32::from_le_bytes(*chunk)),
+        None => Err(WireFault::Truncated),
+    }
+}
+
+/// The value of the wire type at the front, and how many bytes it takes.
+pub(crate) fn first_value(wire_type: u64, bytes: &[u8]) -> Result<(Value<'_>, usize), WireFault>
+    ensures typed { IfOk result (λ found. wire_type ≡ wire_type_of (value_of found.0)) }
+    ensures spelled { IfOk result (λ found. IsValueSpelling (take found.1 bytes.now) (value_of found.0)) }
+    ensures within { IfOk result (λ found. found.1 ≤ length bytes.now) }
+    ensures place { IfOk result (λ found.
+        EndsAt found.0 (bytes.entry.ref_ptr.0, bytes.entry.ref_ptr.1 + found.1)) }
+    ensures fault { IfErr result (λ fault. (number : ℕ)
+        → IsFieldNumber number → IsTagFault fault number wire_type bytes.now) }
+{
+    match wire_type {
+        0 => {
+            let (number, len) = first_varint(bytes)?;
+            Ok((Value::Varint(number), len))
+        }
+        1 => Ok((Value::Fixed64(first_fixed64(bytes)?), 8)),
+        2 => {
+            let (content, len) = first_delimited(bytes)?;
+            Ok((Value::Bytes(content), len))
+        }
+        3 | 4 => Err(WireFault::Group),
+        5 => Ok((Value::Fixed32(first_fixed32(bytes)?), 4)),
+        _ => Err(WireFault::WireType),
+    }
+}

@@ -1,0 +1,141 @@
+//! What no clause says: that calls succeed with ample memory, with values from the format's description.
+
+use crate::{
+    Batch, FoldedFault, MAX_DEPTH, MAX_TOTAL, Name, NameFault, PushFault, Row, Stack, read_folded,
+};
+use std::alloc::{AllocError, Global};
+use std::test::Fail;
+
+fn stack_of(alloc: Global, texts: &[&str]) -> Result<Stack, Fail> {
+    let mut names = Vec::new(alloc);
+    for text in texts {
+        names.push(Name::make(alloc, text)?)?;
+    }
+    Ok(Stack::make(names).ok().ok_or("too deep")?)
+}
+
+// A row as a line of folded text.
+fn line_of(alloc: Global, row: &Row) -> Result<String, AllocError> {
+    let mut line = String::new(alloc);
+    for (depth, name) in row.stack.names().iter().enumerate() {
+        if depth > 0 {
+            line.push(';')?;
+        }
+        line.push_str(name.text())?;
+    }
+    write!(line, " {}", row.weight)?;
+    Ok(line)
+}
+
+#[test]
+fn names_are_made_of_texts_that_a_line_can_hold(rt: HostRuntime) -> Result<(), Fail> {
+    for text in ["a", "a b", "größe", "a\rb", " "] {
+        let name = Name::make(rt.alloc(), text)?;
+        assert_eq!(rt; name.text(), text);
+        assert!(rt; name.share()? == name);
+    }
+    for text in ["", ";", "a;b", "a\n"] {
+        assert!(rt;
+            Name::make(rt.alloc(), text).err() == Some(NameFault::BadName),
+            "{text:?}"
+        );
+    }
+    Ok(())
+}
+
+#[test]
+fn stacks_are_ordered_as_lists_of_names(rt: HostRuntime) -> Result<(), Fail> {
+    let alloc = rt.alloc();
+    let short = stack_of(alloc, &["a"])?;
+    let long = stack_of(alloc, &["a", "b"])?;
+    let other = stack_of(alloc, &["a!", "x"])?;
+    assert!(rt; short < long && long < other && short == short && short != long);
+    Ok(())
+}
+
+#[test]
+fn a_batch_keeps_its_total_within_the_limit(rt: HostRuntime) -> Result<(), Fail> {
+    let alloc = rt.alloc();
+    let mut batch = Batch::new(alloc);
+    let refused = batch
+        .push(stack_of(alloc, &["a"])?, MAX_TOTAL + 1)
+        .err()
+        .ok_or("accepted")?;
+    assert!(rt; refused.fault == PushFault::Heavy { held: 0 } && refused.back.names().len() == 1);
+    assert!(rt; batch.push(stack_of(alloc, &["a"])?, MAX_TOTAL).is_ok());
+    assert!(rt; batch.push(stack_of(alloc, &["a", "b"])?, 0).is_ok());
+    let refused = batch.push(refused.back, 1).err().ok_or("accepted")?;
+    assert!(rt; refused.fault == PushFault::Heavy { held: MAX_TOTAL });
+    assert_eq!(rt; batch.rows().len(), 2);
+    assert_eq!(rt; batch.total(), MAX_TOTAL);
+    assert!(rt; batch == batch);
+    Ok(())
+}
+
+#[test]
+fn stacks_have_at_most_65535_frames(rt: HostRuntime) -> Result<(), Fail> {
+    let mut names = Vec::new(rt.alloc());
+    let name = Name::make(rt.alloc(), "a")?;
+    for _ in 0..MAX_DEPTH {
+        names.push(name.share()?)?;
+    }
+    let stack = Stack::make(names).ok().ok_or("refused")?;
+    assert_eq!(rt; stack.names().len(), 65_535);
+    let mut names = Vec::new(rt.alloc());
+    for _ in 0..MAX_DEPTH + 1 {
+        names.push(name.share()?)?;
+    }
+    assert!(rt; Stack::make(names).err().ok_or("accepted")?.len() == 65_536);
+    Ok(())
+}
+
+#[test]
+fn folded_text_is_read_to_its_rows(rt: HostRuntime) -> Result<(), Fail> {
+    let table: [(&[u8], &[&str]); 6] = [
+        (b"", &[]),
+        (b"main;a;b 3\nmain;a 2\n", &["main;a;b 3", "main;a 2"]),
+        (b"a 1\r\n\na 2", &["a 1", "a 2"]),
+        (
+            b" 5\na;;b 1\na b;c d 7\n;;; 1\n",
+            &[" 5", "a;b 1", "a b;c d 7", " 1"],
+        ),
+        (b"a 00000000000000000000000007\nx 0\n", &["a 7", "x 0"]),
+        (b"a 9223372036854775807\n", &["a 9223372036854775807"]),
+    ];
+    for (text, want) in table {
+        let batch = read_folded(rt.alloc(), text)?;
+        assert_eq!(rt; batch.rows().len(), want.len(), "{text:?}");
+        for (row, line) in batch.rows().iter().zip(want) {
+            assert!(rt; line_of(rt.alloc(), row)?.as_str() == *line, "{line}");
+        }
+    }
+    Ok(())
+}
+
+#[test]
+fn the_first_fault_is_answered_with_its_line(rt: HostRuntime) -> Result<(), Fail> {
+    let table: [(&[u8], FoldedFault); 12] = [
+        (b"a;b\n", FoldedFault::NoCount { line: 1 }),
+        (b"a 1.5\n", FoldedFault::NoCount { line: 1 }),
+        (b"a 5 \n", FoldedFault::NoCount { line: 1 }),
+        (b"a\n", FoldedFault::NoCount { line: 1 }),
+        (b"a 1\r\r\n", FoldedFault::NoCount { line: 1 }),
+        (b"a 1\r", FoldedFault::NoCount { line: 1 }),
+        (b"a 9223372036854775808\n", FoldedFault::Count { line: 1 }),
+        (b"a 99999999999999999999\n", FoldedFault::Count { line: 1 }),
+        (
+            b"a 9223372036854775807\na 1\n",
+            FoldedFault::Heavy { line: 2 },
+        ),
+        (b"\xff 1\n", FoldedFault::NotUtf8 { line: 1 }),
+        (b"\xff\n", FoldedFault::NotUtf8 { line: 1 }),
+        (b"\n\na\n\xff 1\n", FoldedFault::NoCount { line: 3 }),
+    ];
+    for (text, want) in table {
+        assert!(rt;
+            read_folded(rt.alloc(), text).err() == Some(want),
+            "{text:?}"
+        );
+    }
+    Ok(())
+}

@@ -20,7 +20,7 @@ pub record IsAnswer (request : Request) (input text : List ℕ) : Type 0 where
   pub folded : IsFoldedText input rows
   pub whole : text ≡ output_of request rows
 
--- the input is folded text of no rows at all, and this is its first fault
+-- no rows make the input folded text, and this is its first fault
 pub record IsRefusedBy (input : List ℕ) (fault : FoldedFault) : Type 0 where
   pub first : IsFirstFault input fault
   pub no_rows : (rows : List Row) → IsFoldedText input rows → ⊥

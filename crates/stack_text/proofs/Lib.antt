@@ -1,7 +1,9 @@
+pub mod AnswerLaws
 pub mod Counts
 pub mod EntryLaws
 pub mod Frames
 pub mod Lines
+pub mod Members
 pub mod Pieces
 pub mod Ranking
 pub mod Reading

@@ -16,7 +16,7 @@ use Prim.Native.Nat.{zero, suc}
 use Rattle.stack_text.specs.declared.batch.Row.{Row}
 use Rattle.stack_text.specs.Names.{is_same_name}
 use Rattle.stack_text.specs.Order.{with_member, in_order}
-use Rattle.stack_text.specs.Rows.{has_name, weight_if, cumulative_weight_of}
+use Rattle.stack_text.specs.Rows.{has_name, ends_with_name, weight_if, weight_where, flat_weight_of, cumulative_weight_of}
 use Rattle.std.proofs.lemmas.List.Folds.{list_any-append}
 use Rattle.stack_text.specs.TopList.Ranking.{by_flat}
 use Rattle.stack_text.specs.TopList.{NameSums, Ranking, chosen_weight, top_cmp, sums_at, sums_of, top_list_of, occurrences, AreSumsOf}
@@ -367,3 +367,28 @@ top_list_of-ranked ranking count rows sums ranked are moved sorted =
     ∙ are.once name
     ∙ ap (λ b. cond b 1 0) (sym (sums_of-occurrences rows name))
     ∙ sym (in_order-occurrences rows ranking name (sums_of rows) listed)))
+
+-- ---- rows with the same sums
+
+sums_at-same : (rows others : List Row) → ((test : List (List ℕ) → Bool) → weight_where test rows ≡ weight_where test others) → (name : List ℕ) → sums_at rows name ≡ sums_at others name
+sums_at-same rows others same name =
+    ap (λ n. let sums : NameSums = record { name = name; flat = n; cumulative = cumulative_weight_of rows name } in sums) (same (ends_with_name name))
+    ∙ ap (λ n. let sums : NameSums = record { name = name; flat = flat_weight_of others name; cumulative = n } in sums) (same (has_name name))
+
+-- have one top list
+pub top_list_of-same : (ranking : Ranking) (count : ℕ) (rows others : List Row) → ((test : List (List ℕ) → Bool) → weight_where test rows ≡ weight_where test others)
+    → top_list_of ranking count rows ≡ top_list_of ranking count others
+top_list_of-same ranking count rows others same =
+    let listed = weights_of-IsOf rows ranking (flat_map (λ row. row.stack) rows) in
+    let theirs = of_these (sums_of others) (weights_of-IsOf others ranking (flat_map (λ row. row.stack) others)) in
+    ap (take count) (same_rising rows ranking (in_order (top_cmp ranking) (sums_of rows)) (in_order (top_cmp ranking) (sums_of others))
+    (in_order-Rises rows ranking (sums_of rows)) (in_order-Rises rows ranking (sums_of others))
+    (all-in_order rows ranking (IsOf rows ranking) (sums_of rows) listed) (all-in_order rows ranking (IsOf rows ranking) (sums_of others) theirs)
+    (λ name.
+    in_order-occurrences rows ranking name (sums_of rows) listed
+    ∙ ap (λ b. cond b 1 0) (sums_of-occurrences rows name ∙ ap (nat_lt 0) (same (has_name name)) ∙ sym (sums_of-occurrences others name))
+    ∙ sym (in_order-occurrences rows ranking name (sums_of others) theirs)))
+  where
+    of_these : (xs : List NameSums) → AllByRecursion (IsOf others ranking) xs → AllByRecursion (IsOf rows ranking) xs
+    of_these [] all = tt
+    of_these (x ∷ xs) all = (all.0 ∙ sym (sums_at-same rows others same x.name), of_these xs all.1)

@@ -1,5 +1,5 @@
 -- Paths: the fronts of stacks. A flame graph has a rectangle for each.
-use Rattle.std.specs.Prelude.{ℕ, Bool, true, false, List, [], ◌∷◌, map}
+use Rattle.std.specs.Prelude.{ℕ, Bool, true, false, List, [], ◌∷◌, map, filter, nat_lt}
 use Rattle.std.specs.List.{flat_map}
 use Rattle.std.specs.Ordering.{match_ordering}
 use Rattle.std.specs.declared.cmp.Ordering.{Ordering}
@@ -35,6 +35,6 @@ path_weight rows path = weight_where (begins_with name_cmp path) rows
 abbrev pub path_start : List Row → List (List ℕ) → ℕ
 path_start rows path = weight_where (lies_left_of name_cmp path) rows
 
--- the paths of the rows, each once, in their order
+-- the paths of the rows that weigh something, each once, in their order
 abbrev pub paths_of : List Row → List (List (List ℕ))
-paths_of rows = in_order stack_cmp (flat_map (λ row. prefixes row.stack) rows)
+paths_of rows = in_order stack_cmp (flat_map (λ row. prefixes row.stack) (filter (λ row. nat_lt 0 row.weight) rows))

@@ -1,5 +1,5 @@
 -- One name more, which can be a name.
-use Rattle.std.proofs.Common.{rules, ◌≡◌, ◌∷◌, ◌++◌, [], ◌<◌, ◌⊎◌, ℕ, List, sym, ap, ◌∙◌, inl, inr, arith, subst}
+use Rattle.std.proofs.Common.{rules, ◌≡◌, ◌∷◌, ◌++◌, [], ◌<◌, ◌⊎◌, ap, ◌∙◌, inl, inr, arith, subst}
 use Rattle.std.proofs.lemmas.List.Elements.{All-more}
 use Rattle.stack_text.specs.Names.{IsName}
 use Rattle.stack_text.proofs.Writing.{join_more}

@@ -1,11 +1,10 @@
 -- One row more; and at the end the rows are those of a batch.
-use Rattle.std.proofs.Common.{rules, ◌≡◌, ◌≤◌, ◌++◌, List, length, take, sym, ap, ◌∙◌, subst, arith}
+use Rattle.std.proofs.Common.{◌≡◌, ◌≤◌, ◌++◌, length, take, sym, ap, ◌∙◌, subst}
 use Rattle.std.specs.List.{All}
 use Rattle.std.proofs.lemmas.List.{take_all}
 use Rattle.std.proofs.lemmas.List.Elements.{All-more}
 use Rattle.stack_text.specs.declared.batch.Row.{Row}
 use Rattle.stack_text.specs.Names.{IsName}
-use Rattle.stack_text.specs.Rows.{total_of}
 use Rattle.stack_text.specs.FoldedText.{IsFoldedText, row_text, rows_text}
 use Rattle.stack_text.proofs.Writing.{rows_text_more, all_batch_rows, rows_text-IsFoldedText}
 use Rattle.stack_text.proofs.written.write_folded.Goals as goal

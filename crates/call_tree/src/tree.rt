@@ -1,0 +1,178 @@
+// The call tree.
+ghost use Rattle.std.specs.Prelude.{◌≡◌, ◌<◌, ◌+◌, ◌++◌, ◌∷◌, ◌^◌, ℕ, [], length, not, IfOk, OnOk, OnErr};
+ghost use Rattle.stack_text.specs.Rows.{total_of, has_name};
+ghost use Rattle.stack_text.specs.Aggregate.{weight_in};
+ghost use Rattle.call_tree.specs.State.{TreeState, weights_of, name_at, stack_at, credited, IsState};
+
+use crate::node::Node;
+use crate::table::Table;
+use stack_text::{Name, Stack};
+use std::alloc::{AllocError, Global};
+use std::marker::Model;
+
+/// The flat and the cumulative weight of a name.
+#[derive(Clone, Copy)]
+struct Sums {
+    flat: u64,
+    cum: u64,
+}
+
+/// A tree of stacks with their weights.
+#[derive(Drop)]
+pub struct CallTree {
+    names: Table<Name>,
+    nodes: Table<Node>,
+}
+
+impl Model for CallTree {
+    ghost use Rattle.call_tree.specs.State.{TreeState};
+    ghost use Rattle.call_tree.specs.Shape.{IsTree, node_rows};
+
+    ghost Value = { TreeState };
+
+    ghost view = { λ t. record { names = t.names; nodes = node_rows t.names t.nodes } };
+
+    ghost invariant = { λ t. IsTree t.names t.nodes };
+}
+
+impl CallTree {
+    ghost use Rattle.call_tree.specs.Totals.{AreSums};
+
+    /// The weight of all stacks together.
+    pub fn total(&self) -> u64
+        ensures { result ≡ total_of self.now.nodes }
+    {
+        self.nodes.read(0).total
+    }
+
+    /// One more weight at a node: at the node, and in the totals of all above it.
+    pub(crate) fn add_weight(&mut self, at: u32, weight: u64)
+        requires within { at < length self.old.nodes }
+        requires fits { total_of self.old.nodes + weight < 2 ^ 63 }
+        ensures names { self.new.names ≡ self.old.names }
+        ensures nodes { self.new.nodes ≡ credited self.old.nodes at weight }
+    {
+        let mut place = at;
+        while place != 0 {
+            let mut node = *self.nodes.read(place as usize);
+            node.total += weight;
+            self.nodes.replace(place as usize, node);
+            place = node.parent;
+        }
+        let mut root = *self.nodes.read(0);
+        root.total += weight;
+        self.nodes.replace(0, root);
+        let mut leaf = *self.nodes.read(at as usize);
+        leaf.own += weight;
+        self.nodes.replace(at as usize, leaf);
+    }
+
+    /// One more name, with the next number.
+    pub(crate) fn append_name(&mut self, name: Name) -> Result<(), AllocError>
+        requires { (k : ℕ) → k < length self.old.names → name_at self.old.names k ≡ name → ⊥ }
+        ensures ok { OnOk result ((self.new.names ≡ self.old.names ++ name ∷ []) × (self.new.nodes ≡ self.old.nodes)) }
+        ensures err { OnErr result (self.new ≡ self.old) }
+    {
+        self.names.append(name)?;
+        Ok(())
+    }
+
+    /// One more node of weight 0, with the next number.
+    pub(crate) fn append_node(
+        &mut self,
+        parent: u32,
+        name: u32,
+        counts: bool,
+    ) -> Result<(), AllocError>
+        requires parent { parent < length self.old.nodes }
+        requires name { name < length self.old.names }
+        requires counts { counts ≡ not (has_name (name_at self.old.names name) (stack_at self.old.nodes parent)) }
+        requires fresh { (k : ℕ) → k < length self.old.nodes → stack_at self.old.nodes k ≡ stack_at self.old.nodes parent ++ name_at self.old.names name ∷ [] → ⊥ }
+        ensures ok { OnOk result ((self.new.names ≡ self.old.names)
+            × (self.new.nodes ≡ self.old.nodes ++ (record { stack = stack_at self.old.nodes parent ++ name_at self.old.names name ∷ []; weight = 0 }) ∷ [])) }
+        ensures err { OnErr result (self.new ≡ self.old) }
+    {
+        self.nodes.append(Node {
+            parent,
+            name,
+            counts,
+            own: 0,
+            total: 0,
+        })?;
+        Ok(())
+    }
+
+    /// The weight of exactly this stack: one pass over the nodes, since a node stands after its parent.
+    pub fn self_weight(&self, stack: &Stack) -> u64
+        ensures { result ≡ weight_in (weights_of self.now) stack.now }
+    {
+        let frames = stack.names();
+        let mut place = 0usize;
+        let mut depth = 0usize;
+        for index in 1..self.nodes.len() {
+            if depth == frames.len() {
+                break;
+            }
+            let node = *self.nodes.read(index);
+            if node.parent as usize == place
+                && *self.names.read(node.name as usize) == frames[depth]
+            {
+                place = index;
+                depth += 1;
+            }
+        }
+        if depth == frames.len() {
+            self.nodes.read(place).own
+        } else {
+            0
+        }
+    }
+
+    /// A tree of the root alone.
+    pub(crate) fn new(alloc: Global) -> Result<CallTree, AllocError>
+        ensures { IfOk result (λ tree. (tree.names ≡ []) × (tree.nodes ≡ (record { stack = []; weight = 0 }) ∷ [])) }
+    {
+        let mut nodes = Table::new(alloc);
+        nodes.append(Node {
+            parent: 0,
+            name: 0,
+            counts: false,
+            own: 0,
+            total: 0,
+        })?;
+        Ok(CallTree {
+            names: Table::new(alloc),
+            nodes,
+        })
+    }
+
+    /// What every tree keeps true, in the words of contracts.
+    pub(crate) fn known(&self)
+        ensures { IsState self.now }
+    {
+        let _ = &self.nodes;
+    }
+
+    /// How many nodes there are.
+    pub(crate) fn len(&self) -> usize
+        ensures { result ≡ length self.now.nodes }
+    {
+        self.nodes.len()
+    }
+
+    /// The flat and the cumulative weight of each name, by its number: one pass over the nodes.
+    fn sums(&self, alloc: Global) -> Result<Vec<Sums>, AllocError>
+        ensures { IfOk result (λ sums. AreSums self.now sums.items) }
+    {
+        let mut sums = vec![in alloc; Sums { flat: 0, cum: 0 }; self.names.len()]?;
+        for index in 1..self.nodes.len() {
+            let node = *self.nodes.read(index);
+            let sum = &mut sums[node.name as usize];
+            sum.flat += node.own;
+            if node.counts {
+                sum.cum += node.total;
+            }
+        }
+        Ok(sums)
+    }
+}

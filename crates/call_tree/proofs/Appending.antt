@@ -8,7 +8,7 @@ use Rattle.stack_text.specs.Names.{is_same_name}
 use Rattle.stack_text.specs.Rows.{has_name, total_of, cumulative_weight_of}
 use Rattle.stack_text.proofs.RowLaws.{weight_where-push}
 use Rattle.call_tree.specs.declared.node.Node.{Node}
-use Rattle.call_tree.specs.State.{TreeState, name_at, no_row, stack_at}
+use Rattle.call_tree.specs.State.{name_at, no_row, stack_at}
 use Rattle.call_tree.specs.Shape.{Link, link_of, no_node, next_stack, stacks_from, stacks_of, rows_with, node_rows, at, counted_if, IsTree}
 use Rattle.call_tree.proofs.Shapes.{node_rows-push, node_at-node_rows, length-node_rows, length-stacks_of, length-map_link, get_or-links}
 
@@ -76,6 +76,7 @@ module _ (names : List (List ℕ)) (nodes : List Node) (added : List ℕ) (tree 
     counts = λ k pos lt. tree.counts k pos lt
         ∙ ap (λ name. not (has_name name (stack_at (node_rows names nodes) (at nodes k).parent))) (sym (name_kept k pos lt))
         ∙ ap (λ rows. not (has_name (name_at (names ++ added ∷ []) (at nodes k).name) (stack_at rows (at nodes k).parent))) (sym node_rows-named);
+    deep = subst (λ rows. (k : ℕ) → k < length nodes → length (stack_at rows k) ≤ 65535) (sym node_rows-named) tree.deep;
     apart = subst (λ rows. (i j : ℕ) → i < length nodes → j < length nodes → stack_at rows i ≡ stack_at rows j → i ≡ j) (sym node_rows-named) tree.apart;
     unlike = unlike_named;
     sums = λ name. sum_same (counted_if (names ++ added ∷ []) name) (counted_if names name) nodes (counted_kept name) ∙ tree.sums name
@@ -102,6 +103,7 @@ next_stack-below names (s ∷ ss) link h = refl
 module _ (names : List (List ℕ)) (nodes : List Node) (parent name : ℕ) (counts : Bool) (tree : IsTree names nodes)
     (parent_lt : parent < length nodes) (name_lt : name < length names)
     (counted : counts ≡ not (has_name (name_at names name) (stack_at (node_rows names nodes) parent)))
+    (deep : length (stack_at (node_rows names nodes) parent) < 65535)
     (fresh : (k : ℕ) → k < length nodes → stack_at (node_rows names nodes) k ≡ stack_at (node_rows names nodes) parent ++ name_at names name ∷ [] → ⊥) where
   abbrev pub added_node : Node
   added_node = record { parent = parent; name = name; counts = counts; own = 0; total = 0 }
@@ -169,6 +171,9 @@ module _ (names : List (List ℕ)) (nodes : List Node) (parent name : ℕ) (coun
         (tree.counts k pos h ∙ ap (λ stack. not (has_name (name_at names (at nodes k).name) stack)) (sym (stack_old (at nodes k).parent (omega (arith, (tree.links k pos h).0))))))
         (λ pos. subst (λ (node : Node). node.counts ≡ not (has_name (name_at names node.name) (stack_at (node_rows names all) node.parent))) (sym at_last)
         (counted ∙ ap (λ stack. not (has_name (name_at names name) stack)) (sym (stack_old parent parent_lt)))) k lt pos;
+    deep = by_node (λ k. length (stack_at (node_rows names all) k) ≤ 65535)
+        (λ k h. let e = ap length (stack_old k h) in omega (arith, e, tree.deep k h))
+        (let e = ap length stack_last in omega (arith, e, length_push (stack_at (node_rows names nodes) parent) (name_at names name), deep));
     apart = apart_added;
     unlike = tree.unlike;
     sums = λ f. let more = sum_by_push (counted_if names f) nodes added_node in let none = zero_if (counts && is_same_name f (name_at names name)) in
@@ -180,10 +185,3 @@ module _ (names : List (List ℕ)) (nodes : List Node) (parent name : ℕ) (coun
         (let e = ap (λ node. node.total) at_last in omega (arith, e)) k lt;
     fits = let t = total_kept in let f = tree.fits in omega (arith, t, f);
   }
-
--- what a new node asks of the tree, as contracts see it
-pub record IsFresh (tree : TreeState) (parent name : ℕ) (counts : Bool) : Type 0 where
-  pub parent_lt : parent < length tree.nodes
-  pub name_lt : name < length tree.names
-  pub counted : counts ≡ not (has_name (name_at tree.names name) (stack_at tree.nodes parent))
-  pub fresh : (k : ℕ) → k < length tree.nodes → stack_at tree.nodes k ≡ stack_at tree.nodes parent ++ name_at tree.names name ∷ [] → ⊥

@@ -287,6 +287,7 @@ module _ (names : List (List ℕ)) (old now : List Node) (start w : ℕ) (tree :
     counts = λ k pos h. ap (λ node. node.counts) (framed k) ∙ tree.counts k pos (omega (arith, length-done))
         ∙ ap (λ (node : Node). not (has_name (name_at names node.name) (stack_at (node_rows names old) node.parent))) (sym (framed k))
         ∙ ap (λ stack. not (has_name (name_at names (at done k).name) stack)) (sym (stack_done (at done k).parent));
+    deep = λ k h. let e = ap length (stack_done k) in omega (arith, e, tree.deep k (omega (arith, length-done)));
     apart = λ i j hi hj e. tree.apart i j (omega (arith, length-done)) (omega (arith, length-done)) (sym (stack_done i) ∙ e ∙ stack_done j);
     unlike = tree.unlike;
     sums = λ name. counted_done name ∙ ap (λ x. x + cond (has_name name (stack_at (node_rows names old) start)) w 0) (tree.sums name)

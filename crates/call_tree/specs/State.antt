@@ -1,7 +1,7 @@
 -- What contracts see of a tree.
-use Rattle.std.specs.Prelude.{ℕ, ◌≡◌, ◌<◌, ◌≤◌, ◌+◌, ◌^◌, Bool, ◌&&◌, nat_eq, Option, Some, List, [], ◌∷◌, ◌++◌, length, slice_index_or, slice_set}
+use Rattle.std.specs.Prelude.{ℕ, ◌≡◌, ◌<◌, ◌≤◌, ◌+◌, ◌^◌, Bool, ◌&&◌, not, nat_eq, Option, Some, List, [], ◌∷◌, ◌++◌, length, slice_index_or, slice_set}
 use Rattle.stack_text.specs.declared.batch.Row.{Row}
-use Rattle.stack_text.specs.Rows.{total_of}
+use Rattle.stack_text.specs.Rows.{has_name, total_of}
 use Rattle.stack_text.specs.Aggregate.{Weighted, aggregate_of}
 
 -- the names by their numbers, and for each node in order its stack and the weight of that stack alone
@@ -74,3 +74,11 @@ pub record IsIndex (look : ℕ × ℕ → Option ℕ) (tree : TreeState) : Type 
 pub record PlanState : Type 0 where
   pub before : TreeState
   pub rows : List Row
+
+-- a node that may be added: no node has its stack yet
+pub record IsFresh (tree : TreeState) (parent name : ℕ) (counts : Bool) : Type 0 where
+  pub parent_lt : parent < length tree.nodes
+  pub name_lt : name < length tree.names
+  pub counted : counts ≡ not (has_name (name_at tree.names name) (stack_at tree.nodes parent))
+  pub deep : length (stack_at tree.nodes parent) < 65535
+  pub fresh : (k : ℕ) → k < length tree.nodes → stack_at tree.nodes k ≡ stack_at tree.nodes parent ++ name_at tree.names name ∷ [] → ⊥

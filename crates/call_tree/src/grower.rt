@@ -3,7 +3,7 @@ ghost use Rattle.std.specs.Prelude.{◌≡◌, ◌<◌, ◌+◌, ◌^◌, ◌++�
 ghost use Rattle.std.specs.FinMap as map;
 ghost use Rattle.stack_text.specs.Rows.{total_of, has_name};
 ghost use Rattle.stack_text.specs.Aggregate.{with_rows};
-ghost use Rattle.call_tree.specs.State.{TreeState, PlanState, IsGrown, weights_of, name_at, stack_at};
+ghost use Rattle.call_tree.specs.State.{TreeState, PlanState, IsFresh, IsGrown, weights_of, name_at, stack_at};
 
 use crate::seen::Seen;
 use crate::tree::CallTree;
@@ -184,6 +184,7 @@ impl Grower {
         requires parent { parent < length self.old.nodes }
         requires name { name < length self.old.names }
         requires counts { counts ≡ not (has_name (name_at self.old.names name) (stack_at self.old.nodes parent)) }
+        requires deep { length (stack_at self.old.nodes parent) < 65535 }
         ensures child { IfOk result (λ k. (k < length self.new.nodes)
             × (stack_at self.new.nodes k ≡ stack_at self.old.nodes parent ++ name_at self.old.names name ∷ [])) }
         ensures grown { IsGrown self.old self.new }
@@ -196,10 +197,7 @@ impl Grower {
     }
 
     fn add_child(&mut self, parent: u32, name: u32, counts: bool) -> Result<u32, NoMemory>
-        requires parent { parent < length self.old.nodes }
-        requires name { name < length self.old.names }
-        requires counts { counts ≡ not (has_name (name_at self.old.names name) (stack_at self.old.nodes parent)) }
-        requires absent { (k : ℕ) → k < length self.old.nodes → stack_at self.old.nodes k ≡ stack_at self.old.nodes parent ++ name_at self.old.names name ∷ [] → ⊥ }
+        requires { IsFresh self.old parent name counts }
         ensures child { IfOk result (λ k. (k < length self.new.nodes)
             × (stack_at self.new.nodes k ≡ stack_at self.old.nodes parent ++ name_at self.old.names name ∷ [])) }
         ensures grown { IsGrown self.old self.new }

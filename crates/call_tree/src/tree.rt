@@ -1,14 +1,25 @@
 // The call tree.
-ghost use Rattle.std.specs.Prelude.{◌≡◌, ◌<◌, ◌+◌, ◌++◌, ◌∷◌, ◌^◌, ℕ, [], length, not, IfOk, OnOk, OnErr};
-ghost use Rattle.stack_text.specs.Rows.{total_of, has_name};
-ghost use Rattle.stack_text.specs.Aggregate.{weight_in};
-ghost use Rattle.call_tree.specs.State.{TreeState, weights_of, name_at, stack_at, credited, IsState};
+ghost use Rattle.std.specs.Prelude.{◌≡◌, ◌<◌, ◌+◌, ◌++◌, ◌∷◌, ◌^◌, ℕ, [], length, map, IfOk, OnOk, OnErr, IsSorted};
+ghost use Rattle.stack_text.specs.Rows.{total_of};
+ghost use Rattle.stack_text.specs.Aggregate.{weight_in, rows_of};
+ghost use Rattle.stack_text.specs.TopList.{AreSumsOf};
+ghost use Rattle.call_tree.specs.State.{TreeState, weights_of, name_at, stack_at, credited, IsFresh, IsState};
 
 use crate::node::Node;
 use crate::table::Table;
-use stack_text::{Name, Stack};
+use stack_text::{Name, NoMemory, Stack};
 use std::alloc::{AllocError, Global};
 use std::marker::Model;
+
+/// What a name weighs in a tree, as pprof has it.
+#[derive(Drop)]
+pub struct FrameTotal {
+    pub name: Name,
+    /// The weight of the stacks whose leaf has the name.
+    pub flat: u64,
+    /// The weight of the stacks that have the name, each once, however often it recurs.
+    pub cum: u64,
+}
 
 /// The flat and the cumulative weight of a name.
 #[derive(Clone, Copy)]
@@ -36,7 +47,7 @@ impl Model for CallTree {
 }
 
 impl CallTree {
-    ghost use Rattle.call_tree.specs.Totals.{AreSums};
+    ghost use Rattle.call_tree.specs.Totals.{AreSums, name_order, shown};
 
     /// The weight of all stacks together.
     pub fn total(&self) -> u64
@@ -84,10 +95,7 @@ impl CallTree {
         name: u32,
         counts: bool,
     ) -> Result<(), AllocError>
-        requires parent { parent < length self.old.nodes }
-        requires name { name < length self.old.names }
-        requires counts { counts ≡ not (has_name (name_at self.old.names name) (stack_at self.old.nodes parent)) }
-        requires fresh { (k : ℕ) → k < length self.old.nodes → stack_at self.old.nodes k ≡ stack_at self.old.nodes parent ++ name_at self.old.names name ∷ [] → ⊥ }
+        requires { IsFresh self.old parent name counts }
         ensures ok { OnOk result ((self.new.names ≡ self.old.names)
             × (self.new.nodes ≡ self.old.nodes ++ (record { stack = stack_at self.old.nodes parent ++ name_at self.old.names name ∷ []; weight = 0 }) ∷ [])) }
         ensures err { OnErr result (self.new ≡ self.old) }
@@ -174,5 +182,39 @@ impl CallTree {
             }
         }
         Ok(sums)
+    }
+
+    /// The names of cumulative weight above 0 with their weights, by their numbers.
+    fn named_sums(&self, alloc: Global) -> Result<Vec<FrameTotal>, AllocError>
+        ensures { IfOk result (λ totals. AreSumsOf (rows_of (weights_of self.now)) (map shown totals.items)) }
+    {
+        let sums = self.sums(alloc)?;
+        let mut totals = Vec::new(alloc);
+        for number in 0..sums.len() {
+            let sum = sums[number];
+            if sum.cum > 0 {
+                let name = self.names.read(number).share()?;
+                totals.push(FrameTotal {
+                    name,
+                    flat: sum.flat,
+                    cum: sum.cum,
+                })?;
+            }
+        }
+        Ok(totals)
+    }
+
+    /// Each name of cumulative weight above 0 once, with its flat and its cumulative weight, in the order of names.
+    ///
+    /// # Errors
+    ///
+    /// `NoMemory`.
+    pub fn frame_totals(&self, alloc: Global) -> Result<Vec<FrameTotal>, NoMemory>
+        ensures sums { IfOk result (λ totals. AreSumsOf (rows_of (weights_of self.now)) (map shown totals.items)) }
+        ensures sorted { IfOk result (λ totals. IsSorted name_order totals.items) }
+    {
+        let mut totals = self.named_sums(alloc)?;
+        totals.sort_by(|left, right| left.name.cmp(&right.name))?;
+        Ok(totals)
     }
 }

@@ -1,8 +1,7 @@
 use Rattle.std.proofs.Common.{◌≡◌, length, Some, cond, arith, sym, ap, ◌∙◌, subst}
 use Rattle.std.specs.HashMap as hash
-use Rattle.call_tree.specs.State.{TreeState, IsIndex, IsGrown, same_key}
+use Rattle.call_tree.specs.State.{TreeState, IsFresh, IsIndex, IsGrown, same_key}
 use Rattle.call_tree.proofs.Indexing.{IsIndex-look, IsIndex-added, IsGrown-added, from_ok}
-use Rattle.call_tree.proofs.Appending.{IsFresh}
 use Rattle.call_tree.proofs.grower.Grower.add_child.Goals as goal
 
 pub invariant_of-self : goal.invariant_of-self
@@ -19,7 +18,7 @@ invariant_of-self-in_err-append_node c =
 pub invariant_of-self-2 : goal.invariant_of-self-2
 invariant_of-self-2 c =
     let tree = c.self.inside.tree in
-    let now = subst (λ (t : TreeState). IsFresh t c.args.parent c.args.name c.args.counts) (sym c.self.view_is) (record { parent_lt = c.requires.parent; name_lt = c.requires.name; counted = c.requires.counts; fresh = c.requires.absent }) in
+    let now = subst (λ (t : TreeState). IsFresh t c.args.parent c.args.name c.args.counts) (sym c.self.view_is) c.requires in
     let before = IsIndex-look (hash.get same_key c.self.inside.index) (hash.get same_key c.reserve.new.self) tree c.in_ok-reserve.ensures.entries.2 c.self.invariant.1 in
     let ok = c.in_ok-append_node.ensures.ok in
     let spare = c.in_ok-reserve.ensures.ok in
@@ -33,7 +32,7 @@ invariant_of-self-2 c =
 pub returns-clause-grown : goal.returns-clause-grown
 returns-clause-grown c =
     let tree = c.self.inside.tree in
-    let now = subst (λ (t : TreeState). IsFresh t c.args.parent c.args.name c.args.counts) (sym c.self.view_is) (record { parent_lt = c.requires.parent; name_lt = c.requires.name; counted = c.requires.counts; fresh = c.requires.absent }) in
+    let now = subst (λ (t : TreeState). IsFresh t c.args.parent c.args.name c.args.counts) (sym c.self.view_is) c.requires in
     let grown = IsGrown-added tree c.args.parent c.args.name c.known.ensures now.parent_lt now.name_lt now.fresh in
     let ok = c.in_ok-append_node.ensures.ok in
     subst (λ (t : TreeState). IsGrown t c.append_node.new.self) c.self.view_is

@@ -1,6 +1,6 @@
-use Rattle.std.proofs.Common.{◌≡◌, [], not, get_or, arith, ap, ◌∙◌, subst}
-use Rattle.std.proofs.lemmas.List.{get_or_read}
-use Rattle.call_tree.specs.State.{IsState}
+use Rattle.std.proofs.Common.{◌≡◌, [], length, not, get_or, arith, ap, ◌∙◌, subst}
+use Rattle.std.proofs.lemmas.List.{get_or_read, length-take-le}
+use Rattle.call_tree.specs.State.{IsState, stack_at}
 use Rattle.call_tree.proofs.Indexing.{IsGrown-trans}
 use Rattle.call_tree.proofs.Paths.{IsOnPath-step, there_is}
 use Rattle.call_tree.proofs.grower.Grower.grow.Goals as goal
@@ -24,3 +24,13 @@ loop-frame-preserved c =
           c.child.new.self c.in_ok-there.there c.add.new.self c.in_ok-place.place c.in_ok-there.ensures.there c.in_ok-there.ensures.ok c.in_ok-place.ensures.names
           c.in_ok-place.ensures.child.0 c.in_ok-place.ensures.child.1,
     )
+
+pub child-requires-clause-deep : goal.child-requires-clause-deep
+child-requires-clause-deep c =
+    let frames = c.names-frame-items.result.now in
+    let nodes = ap (λ nodes. length (stack_at nodes c.loop-frame.place)) c.in_ok-number.ensures.nodes in
+    let here = ap length c.loop-frame.invariant.1.here in
+    let front = length-take-le c.loop-frame.frame-index frames (omega arith) in
+    let depth = c.names-frame-items.ensures.depth in
+    let whole = ap length c.names-frame-items.ensures.names in
+    omega (arith, nodes, here, front, depth, whole)

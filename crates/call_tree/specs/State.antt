@@ -1,5 +1,5 @@
 -- What contracts see of a tree.
-use Rattle.std.specs.Prelude.{ℕ, ◌≡◌, ◌<◌, ◌≤◌, ◌+◌, ◌^◌, Bool, ◌&&◌, not, nat_eq, Option, Some, List, [], ◌∷◌, ◌++◌, length, slice_index_or, slice_set}
+use Rattle.std.specs.Prelude.{ℕ, ◌≡◌, ◌<◌, ◌≤◌, ◌+◌, ◌^◌, Bool, ◌&&◌, not, nat_eq, nat_lt, Option, Some, List, [], ◌∷◌, ◌++◌, length, slice_index_or, slice_set}
 use Rattle.stack_text.specs.declared.batch.Row.{Row}
 use Rattle.stack_text.specs.Rows.{has_name, total_of}
 use Rattle.stack_text.specs.Aggregate.{Weighted, aggregate_of}
@@ -24,6 +24,9 @@ node_at nodes at = slice_index_or nodes at no_row
 
 abbrev pub stack_at : List Row → ℕ → List (List ℕ)
 stack_at nodes at = (node_at nodes at).stack
+
+abbrev pub has_weight : Row → Bool
+has_weight row = nat_lt 0 row.weight
 
 -- the nodes after one more weight at a node
 abbrev pub credited : List Row → ℕ → ℕ → List Row

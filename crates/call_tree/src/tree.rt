@@ -1,13 +1,13 @@
 // The call tree.
-ghost use Rattle.std.specs.Prelude.{◌≡◌, ◌<◌, ◌+◌, ◌++◌, ◌∷◌, ◌^◌, ℕ, [], length, map, IfOk, OnOk, OnErr, IsSorted};
+ghost use Rattle.std.specs.Prelude.{◌≡◌, ◌<◌, ◌+◌, ◌++◌, ◌∷◌, ◌^◌, ℕ, [], filter, length, map, IfOk, OnOk, OnErr, IsSorted};
 ghost use Rattle.stack_text.specs.Rows.{total_of};
 ghost use Rattle.stack_text.specs.Aggregate.{weight_in, rows_of};
 ghost use Rattle.stack_text.specs.TopList.{AreSumsOf};
-ghost use Rattle.call_tree.specs.State.{TreeState, weights_of, name_at, stack_at, credited, IsFresh, IsState};
+ghost use Rattle.call_tree.specs.State.{TreeState, weights_of, name_at, stack_at, credited, has_weight, IsFresh, IsState};
 
 use crate::node::Node;
 use crate::table::Table;
-use stack_text::{Name, NoMemory, Stack};
+use stack_text::{Batch, MAX_DEPTH, Name, NoMemory, Row, Stack};
 use std::alloc::{AllocError, Global};
 use std::marker::Model;
 
@@ -217,4 +217,69 @@ impl CallTree {
         totals.sort_by(|left, right| left.name.cmp(&right.name))?;
         Ok(totals)
     }
+
+    /// The stack of a node: its names on the way to the root, turned round.
+    fn stack_of(&self, alloc: Global, at: usize) -> Result<Stack, NoMemory>
+        requires { at < length self.now.nodes }
+        ensures { IfOk result (λ stack. stack ≡ stack_at self.now.nodes at) }
+    {
+        let mut names = Vec::new(alloc);
+        let mut place = at;
+        while place != 0 {
+            let node = *self.nodes.read(place);
+            let name = self.names.read(node.name as usize).share()?;
+            names.push(name)?;
+            place = node.parent as usize;
+        }
+        names.reverse();
+        let fits = names.len() <= MAX_DEPTH;
+        prove!(fits);
+        match Stack::make(names) {
+            Ok(stack) => Ok(stack),
+            Err(_) => Err(NoMemory),
+        }
+    }
+
+    /// The stacks of weight above 0, by their nodes.
+    fn weighted_rows(&self, alloc: Global) -> Result<Vec<Row>, NoMemory>
+        ensures { IfOk result (λ rows. rows.items ≡ filter has_weight self.now.nodes) }
+    {
+        let mut rows = Vec::new(alloc);
+        for index in 0..self.nodes.len() {
+            let weight = self.nodes.read(index).own;
+            if weight > 0 {
+                let stack = self.stack_of(alloc, index)?;
+                rows.push(Row { stack, weight })?;
+            }
+        }
+        Ok(rows)
+    }
+
+    /// Each stack of weight above 0 once, with its weight, in the order of stacks.
+    ///
+    /// # Errors
+    ///
+    /// `NoMemory`.
+    pub fn rows(&self, alloc: Global) -> Result<Batch, NoMemory>
+        ensures { IfOk result (λ batch. batch ≡ rows_of (weights_of self.now)) }
+    {
+        self.known();
+        let mut rows = self.weighted_rows(alloc)?;
+        rows.sort_by(|left, right| left.stack.cmp(&right.stack))?;
+        batch_of(alloc, rows)
+    }
+}
+
+/// A batch of these rows.
+fn batch_of(alloc: Global, rows: Vec<Row>) -> Result<Batch, NoMemory>
+    ensures { IfOk result (λ batch. batch ≡ rows.items) }
+{
+    let mut batch = Batch::new(alloc);
+    for row in rows {
+        let Row { stack, weight } = row;
+        if batch.push(stack, weight).is_err() {
+            return Err(NoMemory);
+        }
+    }
+    Ok(batch)
 }

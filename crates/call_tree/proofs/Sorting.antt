@@ -211,7 +211,7 @@ found stack (row ∷ rows) up =
     ] refl
 
 found_positive : (stack : List (List ℕ)) (rows : List Row) → AllByRecursion (λ row. 0 < row.weight) rows → find stack_cmp stack (map entry rows) ≢ Some 0
-found_positive stack [] all = λ e. let none : None ≡ Some 0 = e in cc
+found_positive stack [] all = λ (e : ◌≡◌ {A = Option ℕ} None (Some 0)). cc
 found_positive stack (row ∷ rows) all =
     elim (is_same_stack stack row.stack) as (λ b. cond b (Some row.weight) (find stack_cmp stack (map entry rows)) ≢ Some 0) [
       | true ↦ λ e. let zero : row.weight ≡ 0 = cc in let some = all.0 in omega (arith, zero, some)

@@ -2,7 +2,7 @@
 use Rattle.std.specs.Prelude.{ℕ, ◌≡◌, ◌<◌, ◌≤◌, ◌+◌, ◌^◌, Bool, ◌&&◌, not, nat_eq, nat_lt, Option, Some, List, [], ◌∷◌, ◌++◌, length, slice_index_or, slice_set}
 use Rattle.stack_text.specs.declared.batch.Row.{Row}
 use Rattle.stack_text.specs.Rows.{has_name, total_of}
-use Rattle.stack_text.specs.Aggregate.{Weighted, aggregate_of}
+use Rattle.stack_text.specs.Aggregate.{Weighted, aggregate_of, rows_of}
 
 -- the names by their numbers, and for each node in order its stack and the weight of that stack alone
 pub record TreeState : Type 0 where
@@ -12,6 +12,10 @@ pub record TreeState : Type 0 where
 -- the map that the tree stands for
 abbrev pub weights_of : TreeState → Weighted
 weights_of tree = aggregate_of tree.nodes
+
+-- the weight of all stacks together
+abbrev pub total_in : Weighted → ℕ
+total_in weights = total_of (rows_of weights)
 
 abbrev pub name_at : List (List ℕ) → ℕ → List ℕ
 name_at names number = slice_index_or names number []

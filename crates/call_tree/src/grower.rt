@@ -3,7 +3,7 @@ ghost use Rattle.std.specs.Prelude.{◌≡◌, ◌<◌, ◌+◌, ◌^◌, ◌++�
 ghost use Rattle.std.specs.FinMap as map;
 ghost use Rattle.stack_text.specs.Rows.{total_of, has_name};
 ghost use Rattle.stack_text.specs.Aggregate.{with_rows};
-ghost use Rattle.call_tree.specs.State.{TreeState, PlanState, IsFresh, IsGrown, weights_of, name_at, stack_at};
+ghost use Rattle.call_tree.specs.State.{TreeState, PlanState, IsFresh, IsGrown, weights_of, total_in, name_at, stack_at};
 
 use crate::seen::Seen;
 use crate::tree::CallTree;
@@ -100,11 +100,10 @@ impl Grower {
 
     /// Makes room for the rows. The meaning of the tree stays.
     pub fn plan(&mut self, alloc: Global, batch: &Batch) -> Result<Plan, NoMemory>
-        requires { total_of self.old.nodes + total_of batch.now < 2 ^ 63 }
+        requires { total_in (weights_of self.old) + total_of batch.now < 2 ^ 63 }
         ensures before { IfOk result (λ plan. plan.before ≡ self.new) }
         ensures rows { IfOk result (λ plan. plan.rows ≡ batch.now) }
         ensures weights { weights_of self.new ≡ weights_of self.old }
-        ensures total { total_of self.new.nodes ≡ total_of self.old.nodes }
     {
         let mut seen = mem::replace(&mut self.seen, Seen::new(alloc));
         let planned = self.plan_rows(alloc, batch, &mut seen);

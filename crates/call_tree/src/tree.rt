@@ -3,7 +3,7 @@ ghost use Rattle.std.specs.Prelude.{◌≡◌, ◌<◌, ◌+◌, ◌++◌, ◌�
 ghost use Rattle.stack_text.specs.Rows.{total_of};
 ghost use Rattle.stack_text.specs.Aggregate.{weight_in, rows_of};
 ghost use Rattle.stack_text.specs.TopList.{AreSumsOf};
-ghost use Rattle.call_tree.specs.State.{TreeState, weights_of, name_at, stack_at, credited, has_weight, IsFresh, IsState};
+ghost use Rattle.call_tree.specs.State.{TreeState, weights_of, total_in, name_at, stack_at, credited, has_weight, IsFresh, IsState};
 
 use crate::node::Node;
 use crate::table::Table;
@@ -49,9 +49,10 @@ impl Model for CallTree {
 impl CallTree {
     ghost use Rattle.call_tree.specs.Totals.{AreSums, name_order, shown};
 
-    /// The weight of all stacks together.
+    /// The weight of all stacks together. Takes no time per stack.
     pub fn total(&self) -> u64
-        ensures { result ≡ total_of self.now.nodes }
+        ensures total { result ≡ total_in (weights_of self.now) }
+        ensures fits { total_in (weights_of self.now) < 2 ^ 63 }
     {
         self.nodes.read(0).total
     }

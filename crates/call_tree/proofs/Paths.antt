@@ -1,0 +1,146 @@
+-- The walk that makes room for one stack, and the loop that makes room for all rows.
+use Rattle.std.proofs.Common.{◌≡◌, ℕ, suc, ◌+◌, ◌<◌, Bool, true, false, ◌||◌, nat_eq, List, [], ◌∷◌, ◌++◌, length, take, get_or, refl, sym, ap, ◌∙◌, subst, arith, ⊎_elim}
+use Rattle.std.specs.Prelude.{if◌then◌else◌}
+use Rattle.std.specs.List.{list_any}
+use Rattle.std.proofs.lemmas.List.{take_more, get_or_append_left, get_or_push, length_push}
+use Rattle.std.proofs.lemmas.List.Folds.{list_any-append}
+use Rattle.std.proofs.lemmas.Bool.{cases_eq, eqb-true, eq-eqb}
+use Rattle.stack_text.specs.declared.batch.Row.{Row}
+use Rattle.stack_text.specs.Names.{is_same_name}
+use Rattle.stack_text.specs.Rows.{has_name}
+use Rattle.stack_text.proofs.SameNames.{same_from_is_same_name, is_same_name-self}
+use Rattle.call_tree.specs.declared.grower.Credit.{Credit}
+use Rattle.call_tree.specs.State.{TreeState, IsState, IsGrown, name_at, node_at, stack_at}
+use Rattle.call_tree.specs.Plans.{IsCredit, no_credit, credit_at}
+use Rattle.call_tree.proofs.Raising.{has_name-next}
+
+-- of the names with the numbers in a list, one is this
+abbrev pub has_number : List (List ℕ) → List ℕ → List ℕ → Bool
+has_number names name numbers = list_any (λ m. is_same_name name (name_at names m)) numbers
+
+pub record IsOnPath (tree : TreeState) (seen : List ℕ) (frames : List (List ℕ)) (i place : ℕ) : Type 0 where
+  pub place_lt : place < length tree.nodes
+  pub here : stack_at tree.nodes place ≡ take i frames
+  pub below : (j : ℕ) → j < length seen → get_or seen j 0 < length tree.names
+  pub seen_is : (name : List ℕ) → has_number tree.names name seen ≡ has_name name (take i frames)
+
+pub IsOnPath-start : (tree : TreeState) (frames : List (List ℕ)) → IsState tree → IsOnPath tree [] frames 0 0
+IsOnPath-start tree frames state = record { place_lt = state.rooted; here = state.root; below = λ j lt. absurd (omega arith); seen_is = λ name. refl }
+
+pub same_bool : (a b : Bool) → (a ≡ true → b ≡ true) → (b ≡ true → a ≡ true) → a ≡ b
+same_bool true b f g = sym (f refl)
+same_bool false true f g = g refl
+same_bool false false f g = refl
+
+-- equal numbers are equal names
+has_number-own : (names : List (List ℕ)) (n : ℕ) (numbers : List ℕ) → n < length names → ((j : ℕ) → j < length numbers → get_or numbers j 0 < length names)
+    → ((i j : ℕ) → i < length names → j < length names → name_at names i ≡ name_at names j → i ≡ j)
+    → has_number names (name_at names n) numbers ≡ list_any (nat_eq n) numbers
+has_number-own names n [] lt below unlike = refl
+has_number-own names n (m ∷ numbers) lt below unlike =
+    let m_lt = below 0 (omega arith) in
+    let here : is_same_name (name_at names n) (name_at names m) ≡ nat_eq n m = same_bool _ _
+    (λ e. eq-eqb n m (unlike n m lt m_lt (same_from_is_same_name _ _ e)))
+    (λ e. ap (is_same_name (name_at names n)) (ap (name_at names) (sym (eqb-true n m e))) ∙ is_same_name-self (name_at names n)) in
+    let rest = has_number-own names n numbers lt (λ j h. below (suc j) (omega arith)) unlike in
+    λ i. here i || rest i
+
+has_number-grown : (names more : List (List ℕ)) (name : List ℕ) (numbers : List ℕ) → ((j : ℕ) → j < length numbers → get_or numbers j 0 < length names)
+    → ((k : ℕ) → k < length names → name_at more k ≡ name_at names k) → has_number more name numbers ≡ has_number names name numbers
+has_number-grown names more name [] below kept = refl
+has_number-grown names more name (m ∷ numbers) below kept =
+    let here = ap (is_same_name name) (kept m (below 0 (omega arith))) in
+    let rest = has_number-grown names more name numbers (λ j h. below (suc j) (omega arith)) kept in
+    λ i. here i || rest i
+
+module _ (tree named : TreeState) (seen : List ℕ) (frames : List (List ℕ)) (i place number : ℕ) (lt : i < length frames)
+    (path : IsOnPath tree seen frames i place) (interned : IsGrown tree named) (nodes : named.nodes ≡ tree.nodes)
+    (number_lt : number < length named.names) (number_is : name_at named.names number ≡ get_or frames i []) (state : IsState named) where
+  below_named : (j : ℕ) → j < length seen → get_or seen j 0 < length named.names
+  below_named j h = let b = path.below j h in let m = interned.more_names in omega (arith, b, m)
+
+  pub stack_now : stack_at named.nodes place ≡ take i frames
+  stack_now = ap (λ ns. stack_at ns place) nodes ∙ path.here
+
+  seen_now : (name : List ℕ) → has_number named.names name seen ≡ has_name name (take i frames)
+  seen_now name = has_number-grown tree.names named.names name seen path.below interned.kept_names ∙ path.seen_is name
+
+  pub there_is : list_any (nat_eq number) seen ≡ has_name (name_at named.names number) (stack_at named.nodes place)
+  there_is = sym (has_number-own named.names number seen number_lt below_named state.unlike) ∙ seen_now (name_at named.names number)
+      ∙ ap (has_name (name_at named.names number)) (sym stack_now)
+
+  pub parent_lt : place < length named.nodes
+  parent_lt = let p = path.place_lt in let n = ap length nodes in omega (arith, p, n)
+
+  last_frame : (name : List ℕ) → has_name name (take (i + 1) frames) ≡ (has_name name (take i frames) || is_same_name name (get_or frames i []))
+  last_frame name = ap (has_name name) (take_more frames i [] lt) ∙ has_name-next name (take i frames) (get_or frames i [])
+
+  absorbed : (a b : Bool) → (b ≡ true → a ≡ true) → a ≡ (a || b)
+  absorbed true b f = refl
+  absorbed false true f = f refl
+  absorbed false false f = refl
+
+  or_false : (b : Bool) → (b || false) ≡ b
+  or_false true = refl
+  or_false false = refl
+
+  after_seen : (there : Bool) → there ≡ list_any (nat_eq number) seen → (name : List ℕ)
+      → has_number named.names name (if there then seen else seen ++ number ∷ []) ≡ has_name name (take (i + 1) frames)
+  after_seen true e name =
+      seen_now name
+      ∙ absorbed (has_name name (take i frames)) (is_same_name name (get_or frames i []))
+      (λ s. let name_is : name ≡ name_at named.names number = same_from_is_same_name name _ s ∙ sym number_is in
+      ap (λ n. has_name n (take i frames)) name_is ∙ ap (has_name (name_at named.names number)) (sym stack_now) ∙ sym there_is ∙ sym e)
+      ∙ sym (last_frame name)
+  after_seen false e name =
+      list_any-append (λ m. is_same_name name (name_at named.names m)) seen (number ∷ [])
+      ∙ (λ j. seen_now name j || (or_false (is_same_name name (name_at named.names number)) ∙ ap (is_same_name name) number_is) j)
+      ∙ sym (last_frame name)
+
+  after_below : (there : Bool) (j : ℕ) → j < length (if there then seen else seen ++ number ∷ []) → get_or (if there then seen else seen ++ number ∷ []) j 0 < length named.names
+  after_below true j h = below_named j h
+  after_below false j h = ⊎_elim
+      (λ e. let last = get_or_push seen number 0 j (sym e) in omega (arith, last, number_lt))
+      (λ ne. let less : j < length seen = omega (arith, length_push seen number) in let old = get_or_append_left seen (number ∷ []) 0 j less in let b = below_named j less in omega (arith, old, b))
+      (cases_eq j (length seen))
+
+  pub IsOnPath-step : (after : TreeState) (there : Bool) (next : List ℕ) (child : ℕ) → there ≡ list_any (nat_eq number) seen → next ≡ (if there then seen else seen ++ number ∷ [])
+      → after.names ≡ named.names → child < length after.nodes → stack_at after.nodes child ≡ stack_at named.nodes place ++ name_at named.names number ∷ []
+      → IsOnPath after next frames (i + 1) child
+  IsOnPath-step after there next child there_e next_e names child_lt child_stack = record {
+    place_lt = child_lt;
+    here = child_stack ∙ ap (λ s. s ++ name_at named.names number ∷ []) stack_now ∙ ap (λ n. take i frames ++ n ∷ []) number_is ∙ sym (take_more frames i [] lt);
+    below = subst (λ (s : List ℕ). (j : ℕ) → j < length s → get_or s j 0 < length after.names) (sym next_e)
+        (subst (λ (ns : List (List ℕ)). (j : ℕ) → j < length (if there then seen else seen ++ number ∷ []) → get_or (if there then seen else seen ++ number ∷ []) j 0 < length ns) (sym names) (after_below there));
+    seen_is = λ name. ap (λ ns. has_number ns name next) names ∙ ap (has_number named.names name) next_e ∙ after_seen there there_e name;
+  }
+
+-- ---- the credits so far
+
+pub record ArePlanned (tree : TreeState) (rows : List Row) (credits : List Credit) (i : ℕ) : Type 0 where
+  pub size : length credits ≡ i
+  pub each : (k : ℕ) → k < i → IsCredit tree (node_at rows k) (credit_at credits k)
+
+pub ArePlanned-start : (tree : TreeState) (rows : List Row) → ArePlanned tree rows [] 0
+ArePlanned-start tree rows = record { size = refl; each = λ k lt. absurd (omega arith) }
+
+IsCredit-grown : (tree after : TreeState) (row : Row) (credit : Credit) → IsGrown tree after → IsCredit tree row credit → IsCredit after row credit
+IsCredit-grown tree after row credit grown one = record {
+  within = omega (arith, one.within, grown.longer);
+  stack = ap (λ row. row.stack) (grown.kept credit.node one.within) ∙ one.stack;
+  weight = one.weight;
+}
+
+pub ArePlanned-step : (tree after : TreeState) (rows : List Row) (credits next : List Credit) (i node weight : ℕ) → ArePlanned tree rows credits i → IsGrown tree after
+    → node < length after.nodes → stack_at after.nodes node ≡ stack_at rows i → weight ≡ (node_at rows i).weight
+    → next ≡ credits ++ (record { node = node; weight = weight }) ∷ [] → ArePlanned after rows next (i + 1)
+ArePlanned-step tree after rows credits next i node weight planned grown lt stack same next_e = record {
+  size = ap length next_e ∙ length_push credits _ ∙ ap (λ n. n + 1) planned.size;
+  each = λ k h. subst (λ cs. IsCredit after (node_at rows k) (credit_at cs k)) (sym next_e) (⊎_elim
+      (λ e. subst (IsCredit after (node_at rows k)) (sym (get_or_push credits (record { node = node; weight = weight }) no_credit k (planned.size ∙ sym e)))
+      (subst (λ j. IsCredit after (node_at rows j) (record { node = node; weight = weight })) (sym e) (record { within = lt; stack = stack; weight = same })))
+      (λ ne. let less : k < i = omega arith in
+      subst (IsCredit after (node_at rows k)) (sym (get_or_append_left credits ((record { node = node; weight = weight }) ∷ []) no_credit k (omega (arith, planned.size))))
+      (IsCredit-grown tree after _ _ grown (planned.each k less)))
+      (cases_eq k i));
+}

@@ -1,0 +1,83 @@
+-- The rows of a plan credited one after the other.
+use Rattle.std.proofs.Common.{◌≡◌, ℕ, ◌+◌, ◌<◌, ◌^◌, List, [], ◌∷◌, ◌++◌, length, take, Option, refl, sym, ap, ◌∙◌, arith}
+use Rattle.std.proofs.lemmas.List.{take_more}
+use Rattle.std.proofs.lemmas.List.Sums.{sum_by_more, sum_by_more_le}
+use Rattle.stack_text.specs.declared.batch.Row.{Row}
+use Rattle.stack_text.specs.Rows.{total_of}
+use Rattle.stack_text.specs.Aggregate.{Weighted, with_row, with_rows, aggregate_of}
+use Rattle.call_tree.specs.declared.grower.Credit.{Credit}
+use Rattle.call_tree.specs.State.{TreeState, weights_of, name_at, no_row, node_at, stack_at, credited, IsIndex}
+use Rattle.call_tree.specs.Plans.{IsCredit, IsPlan, credit_at}
+use Rattle.call_tree.proofs.Crediting.{length-credited, stack_at-credited, total_of-credited, aggregate_of-credited}
+
+pub with_rows-push : (m : Weighted) (rows : List Row) (row : Row) → with_rows m (rows ++ row ∷ []) ≡ with_row (with_rows m rows) row
+with_rows-push m [] row = refl
+with_rows-push m (first ∷ rows) row = with_rows-push (with_row m first) rows row
+
+pub record IsCredited (before now : TreeState) (rows : List Row) : Type 0 where
+  pub names : now.names ≡ before.names
+  pub size : length now.nodes ≡ length before.nodes
+  pub stacks : (k : ℕ) → stack_at now.nodes k ≡ stack_at before.nodes k
+  pub total : total_of now.nodes ≡ total_of before.nodes + total_of rows
+  pub weights : weights_of now ≡ with_rows (weights_of before) rows
+
+pub IsCredited-start : (tree : TreeState) → IsCredited tree tree []
+IsCredited-start tree = record { names = refl; size = refl; stacks = λ k. refl; total = omega arith; weights = refl }
+
+module _ (before now : TreeState) (rows : List Row) (credits : List Credit) (plan : IsPlan before rows credits) (i : ℕ) (lt : i < length rows)
+    (done : IsCredited before now (take i rows)) where
+  abbrev credit : Credit
+  credit = credit_at credits i
+
+  here : IsCredit before (node_at rows i) credit
+  here = plan.each i lt
+
+  pub credit_within : (credit_at credits i).node < length now.nodes
+  credit_within = let w = here.within in omega (arith, w, done.size)
+
+  pub credit_fits : total_of now.nodes + (credit_at credits i).weight < 2 ^ 63
+  credit_fits =
+      let part = sum_by_more_le (λ (row : Row). row.weight) rows i no_row lt in
+      let weight = here.weight in
+      let total = done.total in
+      let fits = plan.fits in
+      omega (arith, part, weight, total, fits)
+
+  pub IsCredited-step : (next : TreeState) → next.names ≡ now.names → next.nodes ≡ credited now.nodes (credit_at credits i).node (credit_at credits i).weight
+      → IsCredited before next (take (i + 1) rows)
+  IsCredited-step next names nodes = record {
+    names = names ∙ done.names;
+    size = ap length nodes ∙ length-credited now.nodes credit.node credit.weight ∙ done.size;
+    stacks = λ k. ap (λ ns. stack_at ns k) nodes ∙ stack_at-credited now.nodes credit.node credit.weight k credit_within ∙ done.stacks k;
+    total =
+        let new : total_of next.nodes ≡ total_of now.nodes + credit.weight = ap total_of nodes ∙ total_of-credited now.nodes credit.node credit.weight credit_within in
+        let part = sum_by_more (λ (row : Row). row.weight) rows i no_row lt in
+        let weight = here.weight in
+        let old = done.total in
+        omega (arith, new, part, weight, old);
+    weights =
+        let row_is : (record { stack = stack_at now.nodes credit.node; weight = credit.weight }) ≡ node_at rows i =
+        λ j. record { stack = (done.stacks credit.node ∙ here.stack) j; weight = here.weight j } in
+        ap aggregate_of nodes ∙ aggregate_of-credited now.nodes credit.node credit.weight credit_within
+        ∙ ap (λ m. with_row m (record { stack = stack_at now.nodes credit.node; weight = credit.weight })) done.weights
+        ∙ ap (with_row (with_rows (weights_of before) (take i rows))) row_is
+        ∙ sym (with_rows-push (weights_of before) (take i rows) (node_at rows i))
+        ∙ ap (with_rows (weights_of before)) (sym (take_more rows i no_row lt));
+  }
+
+-- the index speaks of names and stacks alone
+pub IsIndex-credited : (look : ℕ × ℕ → Option ℕ) (before now : TreeState) (rows : List Row) → IsIndex look before → IsCredited before now rows → IsIndex look now
+IsIndex-credited look before now rows index done = record {
+  right = λ p n k e. let old = index.right p n k e in record {
+    parent_lt = omega (arith, old.parent_lt, done.size);
+    name_lt = omega (arith, old.name_lt, ap length done.names);
+    child_lt = omega (arith, old.child_lt, done.size);
+    stack = done.stacks k ∙ old.stack ∙ ap (λ s. s ++ name_at before.names n ∷ []) (sym (done.stacks p)) ∙ ap (λ names. stack_at now.nodes p ++ name_at names n ∷ []) (sym done.names);
+  };
+  complete = λ p n k child. index.complete p n k (record {
+    parent_lt = omega (arith, child.parent_lt, done.size);
+    name_lt = omega (arith, child.name_lt, ap length done.names);
+    child_lt = omega (arith, child.child_lt, done.size);
+    stack = sym (done.stacks k) ∙ child.stack ∙ ap (λ s. s ++ name_at now.names n ∷ []) (done.stacks p) ∙ ap (λ names. stack_at before.nodes p ++ name_at names n ∷ []) done.names;
+  });
+}

@@ -1,0 +1,24 @@
+use Rattle.std.proofs.Common.{◌≡◌, ◌<◌, ℕ, [], ◌∷◌, ◌++◌, length, arith, sym, ap, ◌∙◌, subst}
+use Rattle.std.specs.HashMap as hash
+use Rattle.call_tree.specs.State.{TreeState, IsIndex, same_key, name_at}
+use Rattle.std.specs.Prelude.{if◌then◌else◌}
+use Rattle.indexmap.specs.IndexSet.{insert_key}
+use Rattle.stack_text.specs.Names.{is_same_name}
+use Rattle.call_tree.proofs.Indexing.{IsIndex-named, from_ok, not_named}
+use Rattle.call_tree.proofs.grower.Grower.add_name.Goals as goal
+
+pub invariant_of-self-2 : goal.invariant_of-self-2
+invariant_of-self-2 c =
+    let tree = c.self.inside.tree in
+    let listed : c.in_ok-listed.listed ≡ c.args.name.now = c.in_ok-listed.ensures in
+    let key : c.in_ok-key.key ≡ c.args.name.now = c.in_ok-key.ensures in
+    let absent = subst (λ (t : TreeState). (k : ℕ) → k < length t.names → name_at t.names k ≡ c.args.name.now → ⊥) (sym c.self.view_is) c.requires in
+    let next = IsIndex-named tree c.args.name.now (hash.get same_key c.self.inside.index) c.known.ensures absent c.self.invariant.1 in
+    let tree_is : record tree { names = tree.names ++ c.args.name.now ∷ [] } ≡ c.append_name.new.self =
+    λ i. record { names = sym (c.in_ok-append_name.ensures.ok.0 ∙ ap (λ n. tree.names ++ n ∷ []) listed) i; nodes = sym c.in_ok-append_name.ensures.ok.1 i } in
+    let spare = c.in_ok-reserve.ensures.ok in
+    let inserted : c.insert.new.self.keys ≡ insert_key is_same_name c.reserve.new.self.keys c.in_ok-key.key = from_ok c.insert.result _ (c.insert.ensures.succeeds (omega (arith, spare))) c.insert.ensures.keys in
+    let keys : c.reserve.new.self.keys ≡ tree.names = c.in_ok-reserve.ensures.keys ∙ c.self.invariant.0 in
+    let pushed : insert_key is_same_name tree.names c.args.name.now ≡ tree.names ++ c.args.name.now ∷ [] =
+    ap (λ b. if b then tree.names else tree.names ++ c.args.name.now ∷ []) (not_named tree.names c.args.name.now absent) in
+    (inserted ∙ (λ i. insert_key is_same_name (keys i) (key i)) ∙ pushed ∙ ap (λ t. t.names) tree_is, subst (IsIndex (hash.get same_key c.self.inside.index)) tree_is next)

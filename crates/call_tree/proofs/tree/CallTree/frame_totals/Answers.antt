@@ -1,0 +1,20 @@
+use Rattle.std.proofs.Common.{rules, ◌≡◌, map, ap}
+use Rattle.std.specs.Ordering.{is_lt}
+use Rattle.std.proofs.lemmas.Cmp.{nat_list_cmp_total}
+use Rattle.std.proofs.lemmas.List.Sorted.{IsPermutation-map, ranks_by, answers_always}
+use Rattle.stack_text.specs.Aggregate.{rows_of}
+use Rattle.call_tree.specs.declared.tree.FrameTotal.{FrameTotal}
+use Rattle.call_tree.specs.State.{weights_of}
+use Rattle.call_tree.specs.Totals.{name_order, shown}
+use Rattle.call_tree.proofs.Frames.{AreSumsOf-permutation}
+use Rattle.call_tree.proofs.tree.CallTree.frame_totals.Goals as goal
+
+pub returns-clause-sums : goal.returns-clause-sums
+returns-clause-sums c =
+    AreSumsOf-permutation (rows_of (weights_of c.args.self.now)) (map shown c.in_ok-totals.totals.items) (map shown c.sort_by.new.self.items)
+    (IsPermutation-map shown c.in_ok-totals.totals.items c.sort_by.new.self.items c.sort_by.ensures.permutation) c.in_ok-totals.ensures
+
+pub returns-clause-sorted : goal.returns-clause-sorted
+returns-clause-sorted c =
+    c.in_ok-sort_by.ensures.sorted (λ (a : FrameTotal) (b : FrameTotal). is_lt (name_order a b)) (ranks_by nat_list_cmp_total (λ (total : FrameTotal). total.name))
+    (answers_always _ _ _ (λ f a r q k. let e : r ≡ name_order a.0.now a.1.0.now = search rules in ap is_lt e))

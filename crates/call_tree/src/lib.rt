@@ -1,0 +1,15 @@
+//! A tree of the stacks of a profile with their weights, which grows by batches: a plan makes room for a batch, and a credit
+//! adds it without taking memory.
+#![tactic(auto)]
+
+mod grower;
+mod node;
+mod seen;
+mod table;
+#[cfg(test)]
+mod tests;
+mod tree;
+
+pub use grower::{Grower, Plan};
+pub use stack_text::NoMemory;
+pub use tree::{CallTree, FrameTotal};

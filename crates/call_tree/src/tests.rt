@@ -1,0 +1,205 @@
+//! What no clause says: that calls succeed with ample memory, and what they answer on worked rows.
+
+use crate::{CallTree, Grower};
+use stack_text::{Batch, MAX_DEPTH, MAX_TOTAL, Name, Stack};
+use std::alloc::{AllocError, Global};
+use std::test::Fail;
+
+// A stack by its frames, joined by semicolons. No text is the empty stack.
+fn stack_of(alloc: Global, frames: &str) -> Result<Stack, Fail> {
+    let mut names = Vec::new(alloc);
+    for frame in frames.split(';') {
+        if !frame.is_empty() {
+            names.push(Name::make(alloc, frame)?)?;
+        }
+    }
+    Ok(Stack::make(names).ok().ok_or("too deep")?)
+}
+
+fn batch_of(alloc: Global, rows: &[(&str, u64)]) -> Result<Batch, Fail> {
+    let mut batch = Batch::new(alloc);
+    for &(frames, weight) in rows {
+        batch
+            .push(stack_of(alloc, frames)?, weight)
+            .ok()
+            .ok_or("too heavy")?;
+    }
+    Ok(batch)
+}
+
+// Plans a batch, and credits it where `kept`.
+fn plan(alloc: Global, grower: &mut Grower, batch: &Batch, kept: bool) -> Result<(), Fail> {
+    if grower.tree().total() > MAX_TOTAL - batch.total() {
+        return Err("too heavy".into());
+    }
+    let plan = grower.plan(alloc, batch)?;
+    if kept {
+        grower.credit(plan);
+    }
+    Ok(())
+}
+
+fn grown(alloc: Global, rows: &[(&str, u64)]) -> Result<Grower, Fail> {
+    let mut grower = Grower::new(alloc)?;
+    plan(alloc, &mut grower, &batch_of(alloc, rows)?, true)?;
+    Ok(grower)
+}
+
+// The rows of a tree as folded text.
+fn rows_text(alloc: Global, tree: &CallTree) -> Result<String, Fail> {
+    let mut text = String::new(alloc);
+    for row in tree.rows(alloc)?.rows() {
+        for (depth, name) in row.stack.names().iter().enumerate() {
+            if depth > 0 {
+                text.push(';')?;
+            }
+            text.push_str(name.text())?;
+        }
+        write!(text, " {},", row.weight)?;
+    }
+    Ok(text)
+}
+
+// The names of a tree, each with its flat and its cumulative weight.
+fn totals_text(alloc: Global, tree: &CallTree) -> Result<String, Fail> {
+    let mut text = String::new(alloc);
+    for total in &tree.frame_totals(alloc)? {
+        write!(text, "{} {}/{},", total.name.text(), total.flat, total.cum)?;
+    }
+    Ok(text)
+}
+
+const WORKED: [(&str, u64); 3] = [("main;a;b", 3), ("main;a", 2), ("main;c", 5)];
+
+#[test]
+fn a_grown_tree_answers_for_its_rows(rt: HostRuntime) -> Result<(), Fail> {
+    let alloc = rt.alloc();
+    let grower = grown(alloc, &WORKED)?;
+    let tree = grower.tree();
+    assert_eq!(rt; tree.total(), 10);
+    assert_eq!(rt; tree.self_weight(&stack_of(alloc, "main;a")?), 2);
+    assert_eq!(rt; tree.self_weight(&stack_of(alloc, "main;a;b")?), 3);
+    assert_eq!(rt; tree.self_weight(&stack_of(alloc, "main")?), 0);
+    assert_eq!(rt; tree.self_weight(&stack_of(alloc, "a")?), 0);
+    assert_eq!(rt;
+        totals_text(alloc, tree)?.as_str(),
+        "a 2/5,b 3/3,c 5/5,main 0/10,"
+    );
+    assert_eq!(rt;
+        rows_text(alloc, tree)?.as_str(),
+        "main;a 2,main;a;b 3,main;c 5,"
+    );
+    Ok(())
+}
+
+#[test]
+fn a_dropped_plan_shows_in_no_call(rt: HostRuntime) -> Result<(), Fail> {
+    let alloc = rt.alloc();
+    let mut grower = grown(alloc, &WORKED)?;
+    let other = batch_of(alloc, &[("main;d", 4), ("e", 1), ("main;a", 7)])?;
+    plan(alloc, &mut grower, &other, false)?;
+    assert_eq!(rt; grower.tree().total(), 10);
+    assert_eq!(rt;
+        totals_text(alloc, grower.tree())?.as_str(),
+        "a 2/5,b 3/3,c 5/5,main 0/10,"
+    );
+    assert_eq!(rt;
+        rows_text(alloc, grower.tree())?.as_str(),
+        "main;a 2,main;a;b 3,main;c 5,"
+    );
+    Ok(())
+}
+
+#[test]
+fn what_a_dropped_plan_left_can_be_credited_beside(rt: HostRuntime) -> Result<(), Fail> {
+    let alloc = rt.alloc();
+    let mut grower = grown(alloc, &[("a", 1)])?;
+    plan(alloc, &mut grower, &batch_of(alloc, &[("a;b", 2)])?, false)?;
+    plan(alloc, &mut grower, &batch_of(alloc, &[("a;c", 3)])?, true)?;
+    let tree = grower.tree();
+    assert_eq!(rt; tree.total(), 4);
+    assert_eq!(rt; rows_text(alloc, tree)?.as_str(), "a 1,a;c 3,");
+    assert_eq!(rt; totals_text(alloc, tree)?.as_str(), "a 1/4,c 3/3,");
+    assert_eq!(rt; tree.self_weight(&stack_of(alloc, "a;b")?), 0);
+    Ok(())
+}
+
+#[test]
+fn recursion_counts_once(rt: HostRuntime) -> Result<(), Fail> {
+    let alloc = rt.alloc();
+    let grower = grown(alloc, &[("main;f;g;f", 4)])?;
+    assert_eq!(rt;
+        totals_text(alloc, grower.tree())?.as_str(),
+        "f 4/4,g 0/4,main 0/4,"
+    );
+    Ok(())
+}
+
+#[test]
+fn stack_order_is_by_names(rt: HostRuntime) -> Result<(), Fail> {
+    let alloc = rt.alloc();
+    let grower = grown(
+        alloc,
+        &[("a!;x", 1), ("a;b", 1), ("", 6), ("a;b", 2), ("z", 0)],
+    )?;
+    assert_eq!(rt;
+        rows_text(alloc, grower.tree())?.as_str(),
+        " 6,a;b 3,a!;x 1,"
+    );
+    assert_eq!(rt; grower.tree().self_weight(&stack_of(alloc, "")?), 6);
+    Ok(())
+}
+
+#[test]
+fn an_empty_tree_has_no_rows(rt: HostRuntime) -> Result<(), Fail> {
+    let alloc = rt.alloc();
+    let grower = Grower::new(alloc)?;
+    assert_eq!(rt; grower.tree().total(), 0);
+    assert_eq!(rt; rows_text(alloc, grower.tree())?.as_str(), "");
+    assert_eq!(rt; totals_text(alloc, grower.tree())?.as_str(), "");
+    Ok(())
+}
+
+#[test]
+fn the_greatest_total_is_held(rt: HostRuntime) -> Result<(), Fail> {
+    let alloc = rt.alloc();
+    let mut grower = grown(alloc, &[("a;b", MAX_TOTAL - 1)])?;
+    plan(alloc, &mut grower, &batch_of(alloc, &[("a", 1)])?, true)?;
+    assert_eq!(rt; grower.tree().total(), MAX_TOTAL);
+    assert_eq!(rt;
+        totals_text(alloc, grower.tree())?.as_str(),
+        "a 1/9223372036854775807,b 9223372036854775806/9223372036854775806,"
+    );
+    Ok(())
+}
+
+// A stack of the greatest depth, of these names in turn.
+fn deepest(alloc: Global, texts: &[&str]) -> Result<Stack, Fail> {
+    let mut names = Vec::new(alloc);
+    for depth in 0..MAX_DEPTH {
+        names.push(Name::make(alloc, texts[depth % texts.len()])?)?;
+    }
+    Ok(Stack::make(names).ok().ok_or("too deep")?)
+}
+
+#[test]
+fn the_deepest_recursion_is_counted_once(rt: HostRuntime) -> Result<(), Fail> {
+    let alloc = rt.alloc();
+    let mut batch = Batch::new(alloc);
+    batch
+        .push(deepest(alloc, &["f"])?, 2)
+        .ok()
+        .ok_or("too heavy")?;
+    batch
+        .push(deepest(alloc, &["f", "g"])?, 3)
+        .ok()
+        .ok_or("too heavy")?;
+    let mut grower = Grower::new(alloc)?;
+    plan(alloc, &mut grower, &batch, true)?;
+    assert_eq!(rt; totals_text(alloc, grower.tree())?.as_str(), "f 5/5,g 0/3,");
+    assert_eq!(rt; grower.tree().self_weight(&deepest(alloc, &["f", "g"])?), 3);
+    let rows = grower.tree().rows(alloc)?;
+    assert_eq!(rt; rows.rows().len(), 2);
+    assert!(rt; rows.rows()[0].stack == deepest(alloc, &["f"])?);
+    Ok(())
+}

@@ -1,13 +1,13 @@
 -- What the command makes of words.
 use Rattle.std.proofs.Common.{◌≡◌, ◌∙◌, ◌⊎◌, List, [], ◌∷◌, None, Some, Option, true, false, ap, refl, inl, inr}
+use Rattle.std.specs.Prelude.{is_some}
 use Rattle.clap.specs.Words.{HasKind, IsAmong, Kinds, Row, Text, fault_of, is_simple, is_simple_and_free, kind_of, subcommand_of, takes}
 use Rattle.clap.specs.declared.error.Error.{Error}
 use Rattle.clap.specs.declared.error.kind.ErrorKind.{ErrorKind}
 use Rattle.clap.specs.declared.error.kind.ErrorKind.TheVariants.{OutOfMemory}
 use Rattle.clap.proofs.OnLiterals.{clap_on_literals}
 use Rattle.flame_tool.specs.declared.words.Request.{Request}
-use Rattle.flame_tool.specs.declared.words.Request.TheVariants.{Top}
-use Rattle.flame_tool.proofs.Subcommands.{top_unless_faulty}
+use Rattle.flame_tool.proofs.Subcommands.{asked_unless_faulty}
 use Rattle.flame_tool.specs.Words.{IsRefused, named_request, program_app, unless_faulty}
 
 -- clap's exact statements cover the command
@@ -38,5 +38,5 @@ refused_at_error words error (inr among) passes =
 
 -- a parse that succeeds has a request
 pub request_at_success : (words : List Text) (rows : Option (Text × List Row)) → fault_of program_app words ≡ []
-    → rows ≡ subcommand_of program_app words → named_request rows ≡ Some Top
-request_at_success words rows none is = ap named_request is ∙ top_unless_faulty words none
+    → rows ≡ subcommand_of program_app words → is_some (named_request rows) ≡ true
+request_at_success words rows none is = ap (λ row. is_some (named_request row)) is ∙ asked_unless_faulty words none

@@ -9,7 +9,6 @@ use Rattle.clap.specs.declared.error.kind.ErrorKind.{ErrorKind}
 use Rattle.clap.specs.Kinds.{Kinds, or_else}
 use Rattle.std.proofs.lemmas.Slice.Eq.{bytes_eq-Decides}
 use Rattle.flame_tool.specs.Words.{named_request, program_app}
-use Rattle.flame_tool.specs.declared.words.Request.TheVariants.{Top}
 use Rattle.clap.specs.Faults.{check_fault, defaults_fault, entered_fault, fault_of, other_fault, settle_fault, turn_fault, walk_fault}
 
 -- where a walk stopped, if at all, isn't `help`
@@ -109,16 +108,17 @@ walk_stops s names w (word ∷ words) enabled not none = walk_stops s names (wal
 abbrev flame : App
 flame = built program_app
 
--- which of the two subcommands answers to a name
-abbrev picked : Bool → Bool → List Text → Option (Text × List Row)
-picked is_top is_help words = option_map (λ s. rows_at s words)
-    (find (λ s. if bytes_eq s.name (codes "top") then is_top || false else is_help || false) flame.subs)
+-- which of the subcommands answers to a name
+abbrev picked : Bool → Bool → Bool → List Text → Option (Text × List Row)
+picked is_top is_fold is_help words = option_map (λ s. rows_at s words)
+    (find (λ s. if bytes_eq s.name (codes "top") then is_top || false else if bytes_eq s.name (codes "fold") then is_fold || false else is_help || false) flame.subs)
 
-named : (is_top is_help : Bool) (words : List Text) → is_help ≡ false → is_some (picked is_top is_help words) ≡ true
-    → named_request (picked is_top is_help words) ≡ Some Top
-named true is_help words not entered = refl
-named false true words not entered = absurd (cc)
-named false false words not entered = absurd (cc)
+named : (is_top is_fold is_help : Bool) (words : List Text) → is_help ≡ false → is_some (picked is_top is_fold is_help words) ≡ true
+    → is_some (named_request (picked is_top is_fold is_help words)) ≡ true
+named true is_fold is_help words not entered = refl
+named false true is_help words not entered = refl
+named false false true words not entered = absurd (cc)
+named false false false words not entered = absurd (cc)
 
 help_back : (name : Text) → bytes_eq name (codes "help") ≡ false → bytes_eq (codes "help") name ≡ false
 help_back name not = elim (bytes_eq (codes "help") name) as (λ b. bytes_eq (codes "help") name ≡ b → b ≡ false) [
@@ -127,17 +127,18 @@ help_back name not = elim (bytes_eq (codes "help") name) as (λ b. bytes_eq (cod
 ] refl
 
 named_where_entered : (stop : Option (Text × List Text)) → IsNotHelp stop → is_some (entered flame stop) ≡ true
-    → named_request (entered flame stop) ≡ Some Top
+    → is_some (named_request (entered flame stop)) ≡ true
 named_where_entered None not is = absurd (cc)
-named_where_entered (Some stop) not is = named (bytes_eq (codes "top") stop.0) (bytes_eq (codes "help") stop.0) stop.1 (help_back stop.0 not) is
+named_where_entered (Some stop) not is =
+    named (bytes_eq (codes "top") stop.0) (bytes_eq (codes "fold") stop.0) (bytes_eq (codes "help") stop.0) stop.1 (help_back stop.0 not) is
 
 required : (rows : List Row) (has : Bool) → check_fault flame.top rows has ≡ [] → has ≡ true
 required rows true none = refl
 required rows false none = absurd (cc)
 
--- words without a fault ask for the one subcommand
-pub top_unless_faulty : (words : List Text) → fault_of program_app words ≡ [] → named_request (subcommand_of program_app words) ≡ Some Top
-top_unless_faulty words none =
+-- words without a fault ask for something
+pub asked_unless_faulty : (words : List Text) → fault_of program_app words ≡ [] → is_some (named_request (subcommand_of program_app words)) ≡ true
+asked_unless_faulty words none =
     let rules = flame.top.rules in
     let given = argument_words flame words in
     let stop = stop_after rules (names_of flame) given in

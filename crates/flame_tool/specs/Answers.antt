@@ -3,16 +3,17 @@ use Rattle.std.specs.Prelude.{ℕ, ◌≡◌, ◌≢◌, ⊤, List}
 use Rattle.stack_text.specs.declared.batch.Row.{Row}
 use Rattle.stack_text.specs.declared.folded.FoldedFault.{FoldedFault}
 use Rattle.stack_text.specs.declared.folded.FoldedFault.TheVariants as folded
-use Rattle.stack_text.specs.FoldedText.{IsFoldedText, IsFirstFault}
+use Rattle.stack_text.specs.FoldedText.{IsFoldedText, IsFirstFault, folded_text_of}
 use Rattle.stack_text.specs.TopList.{by_flat, top_report_of}
 use Rattle.flame_tool.specs.declared.outcomes.ToolFault.{ToolFault}
 use Rattle.flame_tool.specs.declared.outcomes.ToolFault.TheVariants.{Folded, Read, Write, TooLong, NoMemory}
 use Rattle.flame_tool.specs.declared.words.Request.{Request}
-use Rattle.flame_tool.specs.declared.words.Request.TheVariants.{Top}
+use Rattle.flame_tool.specs.declared.words.Request.TheVariants.{Top, Fold}
 
 -- the report that a request wants of rows
 abbrev pub output_of : Request → List Row → List ℕ
 output_of Top rows = top_report_of by_flat 20 rows
+output_of Fold rows = folded_text_of rows
 
 -- the text is the report on the rows that the input spells
 pub record IsAnswer (request : Request) (input text : List ℕ) : Type 0 where

@@ -4,7 +4,7 @@ use Rattle.std.specs.Borrow.{Bor}
 use Rattle.std.specs.Str.{bytes_eq}
 use Rattle.clap.specs.Words.{App, Kinds, Row, Text, fault_of, new_app, subcommand_of, takes, with_subcommand}
 use Rattle.flame_tool.specs.declared.words.Request.{Request}
-use Rattle.flame_tool.specs.declared.words.Request.TheVariants.{Top}
+use Rattle.flame_tool.specs.declared.words.Request.TheVariants.{Top, Fold}
 use Rattle.flame_tool.specs.declared.words.WordsFault.{WordsFault}
 use Rattle.flame_tool.specs.declared.words.WordsFault.TheVariants.{Refused, NoMemory}
 
@@ -12,12 +12,16 @@ use Rattle.flame_tool.specs.declared.words.WordsFault.TheVariants.{Refused, NoMe
 abbrev pub top_app : App
 top_app = new_app (codes "top")
 
+-- the subcommand `fold`, without options
+abbrev pub fold_app : App
+fold_app = new_app (codes "fold")
+
 -- `flame`, which wants one of its subcommands
 abbrev pub flame_app : App
 flame_app = record { top = record (new_app (codes "flame")).top { subcommand_required = true }; subs = [] }
 
 abbrev pub program_app : App
-program_app = with_subcommand flame_app top_app.top
+program_app = with_subcommand (with_subcommand flame_app top_app.top) fold_app.top
 
 -- the words as bytes
 abbrev pub texts_of : List (Bor Text) → List Text
@@ -26,7 +30,8 @@ texts_of words = map (λ word. word.now) words
 -- what a subcommand asks for, by its name
 abbrev pub named_request : Option (Text × List Row) → Option Request
 named_request None = None
-named_request (Some subcommand) = if bytes_eq subcommand.0 (codes "top") then Some Top else None
+named_request (Some subcommand) =
+    if bytes_eq subcommand.0 (codes "top") then Some Top else if bytes_eq subcommand.0 (codes "fold") then Some Fold else None
 
 -- a request, where nothing is wrong with the words
 abbrev pub unless_faulty : Kinds → Option Request → Option Request

@@ -4,6 +4,7 @@ ghost use Rattle.stack_text.specs.declared.batch.Row.{Row};
 ghost use Rattle.stack_text.specs.FoldedText.{IsFoldedText};
 ghost use Rattle.flame_tool.specs.Answers.{IsAnswer, IsInputFault, output_of, tool_fault_of};
 
+use crate::folding::folded_report;
 use crate::outcomes::ToolFault;
 use crate::top::top_report;
 use crate::words::Request;
@@ -27,11 +28,13 @@ pub fn answer(alloc: Global, request: Request, input: &[u8]) -> Result<Vec<u8>, 
         Ok(batch) => batch,
         Err(fault) => return Err(input_fault(fault)),
     };
-    match request {
-        Request::Top => match top_report(alloc, &batch) {
-            Ok(text) => Ok(text),
-            Err(_) => Err(ToolFault::NoMemory),
-        },
+    let text = match request {
+        Request::Top => top_report(alloc, &batch),
+        Request::Fold => folded_report(alloc, &batch),
+    };
+    match text {
+        Ok(text) => Ok(text),
+        Err(_) => Err(ToolFault::NoMemory),
     }
 }
 

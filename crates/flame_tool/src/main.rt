@@ -4,6 +4,7 @@
 #![tactic(auto)]
 
 mod answers;
+mod folding;
 mod outcomes;
 mod program;
 mod streams;

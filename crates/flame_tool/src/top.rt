@@ -7,7 +7,7 @@ ghost use Rattle.stack_text.specs.Names.{is_same_name};
 ghost use Rattle.flame_tool.specs.Tallies.{AreTalliesOf, frame_counted, frames_counted, leaf_counted, row_counted, shown, tally_at, weighted_in};
 
 use stack_text::laws::top_list_is_front_of_sorted;
-use stack_text::{Batch, Name, Row};
+use stack_text::{Batch, Name, NoMemory, Row};
 use std::alloc::{AllocError, Global};
 use std::cmp::Ordering;
 use std::collections::HashMap;
@@ -194,7 +194,7 @@ fn top_list<'a>(alloc: Global, rows: &'a [Row]) -> Result<Vec<TopRow<'a>>, Alloc
 }
 
 /// The text of a batch's top list: the total, and a line for each of the [`TOP_COUNT`] names that weigh most as leaves.
-pub fn top_report(alloc: Global, batch: &Batch) -> Result<Vec<u8>, AllocError>
+pub fn top_report(alloc: Global, batch: &Batch) -> Result<Vec<u8>, NoMemory>
     ensures { IfOk result (λ text. text.items ≡ top_report_of by_flat TOP_COUNT batch.now) }
 {
     let list = top_list(alloc, batch.rows())?;

@@ -2,7 +2,7 @@
 ghost use Rattle.std.specs.Prelude.{◌≡◌, ◌⊎◌, List, IfOk, MatchResult, Some, false};
 ghost use Rattle.clap.specs.Words.{Text, app_of, kind_of, subcommand_rows_of};
 ghost use Rattle.clap.specs.declared.builder.command.Command.TheViews.{out-Command};
-ghost use Rattle.flame_tool.specs.Words.{IsRefused, IsWordsFault, named_request, program_app, request_of, texts_of, top_app};
+ghost use Rattle.flame_tool.specs.Words.{IsRefused, IsWordsFault, named_request, program_app, request_of, texts_of, fold_app, top_app};
 
 use clap::error::ErrorKind;
 use clap::{ArgMatches, Command, Error};
@@ -12,6 +12,17 @@ const ABOUT: &str =
     "Reads stacks with their weights from the standard input, and writes a report on them";
 
 const ABOUT_TOP: &str = "Lists the names that weigh most";
+
+const ABOUT_FOLD: &str = "Adds up equal stacks";
+
+const AFTER_FOLD: &str = "\
+The input is folded stacks, and so is the output: each stack once with its whole weight, in the
+order of stacks as lists of names. Stacks of weight 0 are left out.
+
+Example:
+  $ printf 'main;a 2\\nmain 1\\nmain;a 3\\n' | flame fold
+  main 1
+  main;a 5";
 
 const AFTER_TOP: &str = "\
 The input is folded stacks: on each line the names from root to leaf, separated by semicolons,
@@ -32,6 +43,8 @@ Example:
 pub enum Request {
     /// The top list of folded input: by flat weight, at most 20 names.
     Top,
+    /// Folded text: each stack of weight above 0 once, in the order of stacks.
+    Fold,
 }
 
 /// Why the words ask for nothing.
@@ -50,7 +63,8 @@ pub fn command<'a>(alloc: Global) -> Result<Command<'a>, AllocError>
     Command::new(alloc, "flame")
         .about(ABOUT)
         .subcommand_required(true)
-        .subcommand(top_command(alloc))
+        .subcommand(top_command(alloc))?
+        .subcommand(fold_command(alloc))
 }
 
 // The subcommand `top`.
@@ -61,6 +75,16 @@ fn top_command<'a>(alloc: Global) -> Command<'a>
     Command::new(alloc, "top")
         .about(ABOUT_TOP)
         .after_help(AFTER_TOP)
+}
+
+// The subcommand `fold`.
+fn fold_command<'a>(alloc: Global) -> Command<'a>
+    ensures app { app_of result ≡ fold_app }
+    ensures local { (out-Command result).has_globals ≡ false }
+{
+    Command::new(alloc, "fold")
+        .about(ABOUT_FOLD)
+        .after_help(AFTER_FOLD)
 }
 
 /// What the words ask for. The first is the program's name.
@@ -90,10 +114,10 @@ fn request_in(matches: &ArgMatches<'_>) -> Option<Request>
     ensures { result ≡ named_request (subcommand_rows_of matches.now) }
 {
     let (name, _) = matches.subcommand()?;
-    if name == "top" {
-        Some(Request::Top)
-    } else {
-        None
+    match name {
+        "top" => Some(Request::Top),
+        "fold" => Some(Request::Fold),
+        _ => None,
     }
 }
 

@@ -9,6 +9,9 @@ use std::io::{ErrorKind, Read, Write};
 /// The words of the stored run.
 pub static TOP: [&str; 2] = ["flame", "top"];
 
+/// The words that ask for equal stacks added up.
+pub static FOLD: [&str; 2] = ["flame", "fold"];
+
 /// Gives one byte at each read, and fails at the read after so many.
 #[derive(Drop)]
 pub struct Dripping<'a> {

@@ -1,5 +1,5 @@
-//! The reports of `top`, worked by hand.
-use super::fakes::{Dripping, Narrow, TOP, run_on};
+//! The reports of `top` and of `fold`, worked by hand.
+use super::fakes::{Dripping, FOLD, Narrow, TOP, run_on};
 use crate::program::run;
 use crate::streams::MAX_INPUT;
 use std::test::Fail;
@@ -30,6 +30,41 @@ fn top_reports(rt: HostRuntime) {
     ];
     for (name, input, report) in cases {
         let (status, written) = run_on(rt.alloc(), TOP.as_slice(), input, MAX_INPUT);
+        assert_eq!(rt; status.code, 0, "{name}");
+        assert_eq!(rt; written.as_slice(), report, "{name}");
+    }
+}
+
+#[test]
+fn fold_reports(rt: HostRuntime) {
+    let cases: [(&str, &[u8], &[u8]); 8] = [
+        ("fold_of_empty_input", b"", b""),
+        (
+            "fold_adds_equal_stacks",
+            b"a;b 2\na 1\na;b 3\n",
+            b"a 1\na;b 5\n",
+        ),
+        (
+            "fold_orders_stacks_as_lists",
+            b"a!;x 1\na;b 1\n",
+            b"a;b 1\na!;x 1\n",
+        ),
+        ("empty_stack_is_kept", b" 5\n", b" 5\n"),
+        ("empty_parts_are_dropped", b"a;;b 1\n", b"a;b 1\n"),
+        ("spaces_in_names_are_kept", b"a b;c d 7\n", b"a b;c d 7\n"),
+        (
+            "weightless_stacks_are_dropped",
+            b"x 0\ny 0\nx 1\n",
+            b"x 1\n",
+        ),
+        (
+            "recursion_stays",
+            b"main;f;g;f 4\nmain;f;g 9223372036854775803",
+            b"main;f;g 9223372036854775803\nmain;f;g;f 4\n",
+        ),
+    ];
+    for (name, input, report) in cases {
+        let (status, written) = run_on(rt.alloc(), FOLD.as_slice(), input, MAX_INPUT);
         assert_eq!(rt; status.code, 0, "{name}");
         assert_eq!(rt; written.as_slice(), report, "{name}");
     }

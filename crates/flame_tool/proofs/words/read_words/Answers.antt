@@ -1,4 +1,5 @@
-use Rattle.std.proofs.Common.{◌≡◌, subst, sym, true, []}
+use Rattle.std.proofs.Common.{◌≡◌, ◌∙◌, ap, subst, sym, true, false, []}
+use Rattle.std.specs.Prelude.{is_some}
 use Rattle.clap.specs.Words.{App, HasKind, fault_of, is_simple, is_simple_and_free, kind_of, subcommand_of, subcommand_rows_of, takes}
 use Rattle.clap.specs.declared.error.kind.ErrorKind.TheVariants.{OutOfMemory}
 use Rattle.flame_tool.specs.Words.{texts_of}
@@ -24,4 +25,5 @@ unreachable-requires c =
     let rows_are = subst (λ (a : App). subcommand_rows_of matches ≡ subcommand_of a words) c.in-Ok.ensures
     (c.in-Ok-try_get_matches_from.ensures.matches computed).1 in
     let asked = request_at_success words (subcommand_rows_of matches) faultless rows_are in
+    let clash : true ≡ false = sym asked ∙ ap is_some (sym c.request_in.ensures ∙ c.in-None.is) in
     cc

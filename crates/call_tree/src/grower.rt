@@ -1,12 +1,13 @@
 // The tree that grows: plans make room, credits add.
-ghost use Rattle.std.specs.Prelude.{◌≡◌, ◌<◌, ◌+◌, ◌^◌, ◌++◌, ◌∷◌, ℕ, [], length, not, IfOk, OnOk, OnErr};
+ghost use Rattle.std.specs.Prelude.{◌≡◌, ◌<◌, ◌+◌, ◌≤◌, ◌^◌, ◌++◌, ◌∷◌, ℕ, [], length, not, IfOk, OnOk, OnErr};
 ghost use Rattle.std.specs.FinMap as map;
 ghost use Rattle.stack_text.specs.Rows.{total_of, has_name};
 ghost use Rattle.stack_text.specs.Aggregate.{with_rows};
 ghost use Rattle.call_tree.specs.State.{TreeState, PlanState, IsFresh, IsGrown, weights_of, total_in, name_at, stack_at};
+ghost use Rattle.call_tree.specs.Walks.{IsOnPath};
 
-use crate::seen::Seen;
 use crate::tree::CallTree;
+use crate::walk::Walk;
 use indexmap::IndexSet;
 use stack_text::{Batch, Name, NoMemory, Stack};
 use std::alloc::Global;
@@ -47,7 +48,7 @@ pub struct Grower {
     tree: CallTree,
     numbers: IndexSet<Name>,
     index: HashMap<(u32, u32), u32>,
-    seen: Seen,
+    walk: Walk,
 }
 
 impl Model for Grower {
@@ -94,7 +95,7 @@ impl Grower {
             tree,
             numbers: IndexSet::new(alloc),
             index: HashMap::new(alloc),
-            seen: Seen::new(alloc),
+            walk: Walk::new(alloc),
         })
     }
 
@@ -105,13 +106,13 @@ impl Grower {
         ensures rows { IfOk result (λ plan. plan.rows ≡ batch.now) }
         ensures weights { weights_of self.new ≡ weights_of self.old }
     {
-        let mut seen = mem::replace(&mut self.seen, Seen::new(alloc));
-        let planned = self.plan_rows(alloc, batch, &mut seen);
-        self.seen = seen;
+        let mut walk = mem::replace(&mut self.walk, Walk::new(alloc));
+        let planned = self.plan_rows(alloc, batch, &mut walk);
+        self.walk = walk;
         planned
     }
 
-    fn plan_rows(&mut self, alloc: Global, batch: &Batch, seen: &mut Seen) -> Result<Plan, NoMemory>
+    fn plan_rows(&mut self, alloc: Global, batch: &Batch, walk: &mut Walk) -> Result<Plan, NoMemory>
         requires { total_of self.old.nodes + total_of batch.now < 2 ^ 63 }
         ensures before { IfOk result (λ plan. plan.before ≡ self.new) }
         ensures rows { IfOk result (λ plan. plan.rows ≡ batch.now) }
@@ -120,7 +121,7 @@ impl Grower {
         let rows = batch.rows();
         let mut credits = Vec::with_capacity(alloc, rows.len())?;
         for row in rows {
-            let node = self.grow(&row.stack, seen)?;
+            let node = self.grow(&row.stack, walk)?;
             credits.push(Credit {
                 node,
                 weight: row.weight,
@@ -134,20 +135,63 @@ impl Grower {
     }
 
     /// The node of a stack, with new nodes of weight 0 where there are none.
-    fn grow(&mut self, stack: &Stack, seen: &mut Seen) -> Result<u32, NoMemory>
+    fn grow(&mut self, stack: &Stack, walk: &mut Walk) -> Result<u32, NoMemory>
         ensures node { IfOk result (λ node. (node < length self.new.nodes) × (stack_at self.new.nodes node ≡ stack.now)) }
         ensures grown { IsGrown self.old self.new }
     {
-        seen.clear();
+        walk.start();
         self.tree.known();
+        let frames = stack.names();
         let mut place = 0u32;
-        for frame in stack.names() {
-            let number = self.intern(frame)?;
-            let there = seen.add(number)?;
-            self.tree.known();
-            place = self.child(place, number, !there)?;
+        for depth in 0..frames.len() {
+            place = self.enter(frames, depth, place, walk)?;
         }
         Ok(place)
+    }
+
+    /// One frame further. Where the row before went on by the same name, its node is taken, and nothing is looked up.
+    fn enter(
+        &mut self,
+        frames: &[Name],
+        depth: usize,
+        place: u32,
+        walk: &mut Walk,
+    ) -> Result<u32, NoMemory>
+        requires within { depth < length frames.now }
+        requires deep { length frames.now ≤ 65535 }
+        requires path { IsOnPath self.old walk.old frames.now depth place }
+        ensures path { IfOk result (λ child. IsOnPath self.new walk.new frames.now (depth + 1) child) }
+        ensures grown { IsGrown self.old self.new }
+    {
+        self.tree.known();
+        let guess = walk.guess(depth);
+        if let Some(number) = self.tree.number_below(place, guess, &frames[depth]) {
+            let _there = walk.add(number)?;
+            return Ok(guess);
+        }
+        let child = self.look_up(frames, depth, place, walk)?;
+        walk.keep(depth, child)?;
+        Ok(child)
+    }
+
+    /// One frame further, by its name's number and the index.
+    fn look_up(
+        &mut self,
+        frames: &[Name],
+        depth: usize,
+        place: u32,
+        walk: &mut Walk,
+    ) -> Result<u32, NoMemory>
+        requires within { depth < length frames.now }
+        requires deep { length frames.now ≤ 65535 }
+        requires path { IsOnPath self.old walk.old frames.now depth place }
+        ensures path { IfOk result (λ child. IsOnPath self.new walk.new frames.now (depth + 1) child) }
+        ensures grown { IsGrown self.old self.new }
+    {
+        let number = self.intern(&frames[depth])?;
+        let there = walk.add(number)?;
+        self.tree.known();
+        self.child(place, number, !there)
     }
 
     /// The number of a name, a new one where it has none.

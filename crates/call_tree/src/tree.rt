@@ -1,9 +1,9 @@
 // The call tree.
-ghost use Rattle.std.specs.Prelude.{◌≡◌, ◌<◌, ◌+◌, ◌++◌, ◌∷◌, ◌^◌, ℕ, [], filter, length, map, IfOk, OnOk, OnErr, IsSorted};
+ghost use Rattle.std.specs.Prelude.{◌≡◌, ◌<◌, ◌+◌, ◌++◌, ◌∷◌, ◌^◌, ℕ, [], filter, length, map, IfOk, IfSome, OnOk, OnErr, IsSorted};
 ghost use Rattle.stack_text.specs.Rows.{total_of};
 ghost use Rattle.stack_text.specs.Aggregate.{weight_in, rows_of};
 ghost use Rattle.stack_text.specs.TopList.{AreSumsOf};
-ghost use Rattle.call_tree.specs.State.{TreeState, weights_of, total_in, name_at, stack_at, credited, has_weight, IsFresh, IsState};
+ghost use Rattle.call_tree.specs.State.{TreeState, weights_of, total_in, name_at, stack_at, credited, has_weight, IsChild, IsFresh, IsState};
 
 use crate::node::Node;
 use crate::table::Table;
@@ -109,6 +109,21 @@ impl CallTree {
             total: 0,
         })?;
         Ok(())
+    }
+
+    /// The number of the name, where the node `child` stands below `parent` by that name.
+    pub(crate) fn number_below(&self, parent: u32, child: u32, name: &Name) -> Option<u32>
+        ensures { IfSome result (λ number. IsChild self.now parent number child × (name_at self.now.names number ≡ name.now)) }
+    {
+        if child == 0 || child as usize >= self.nodes.len() {
+            return None;
+        }
+        let node = *self.nodes.read(child as usize);
+        if node.parent == parent && *self.names.read(node.name as usize) == *name {
+            Some(node.name)
+        } else {
+            None
+        }
     }
 
     /// The weight of exactly this stack: one pass over the nodes, since a node stands after its parent.

@@ -1,4 +1,5 @@
-// The tree that grows: plans make room, credits add.
+//! A call tree that grows: a plan makes room for a batch, a credit adds it.
+
 ghost use Rattle.std.specs.Prelude.{◌≡◌, ◌<◌, ◌+◌, ◌≤◌, ◌^◌, ◌++◌, ◌∷◌, ℕ, [], length, not, IfOk, OnOk, OnErr};
 ghost use Rattle.std.specs.FinMap as map;
 ghost use Rattle.stack_text.specs.Rows.{total_of, has_name};
@@ -23,7 +24,7 @@ struct Credit {
     weight: u64,
 }
 
-/// Rows for which every growth was made.
+/// A batch for which a [`Grower`] has made room. It remembers the grower as it was then, and serves it as long as it is so.
 #[derive(Drop)]
 pub struct Plan {
     credits: Vec<Credit>,
@@ -42,11 +43,14 @@ impl Model for Plan {
     ghost invariant = { λ p. IsPlan p.before.value p.batch.value p.credits.items };
 }
 
-/// The tree, its names by their texts, and its nodes by parent and name.
+/// A [`CallTree`] that grows by batches: [`plan`](Grower::plan) takes all memory that a batch needs, and
+/// [`credit`](Grower::credit) adds the batch without taking any. A plan may be dropped.
 #[derive(Drop)]
 pub struct Grower {
     tree: CallTree,
+    /// The names in the order of their numbers.
     numbers: IndexSet<Name>,
+    /// The node below a node by the number of its name.
     index: HashMap<(u32, u32), u32>,
     walk: Walk,
 }
@@ -64,14 +68,14 @@ impl Model for Grower {
 }
 
 impl Grower {
-    /// The tree as it stands.
+    /// The tree with all that was credited so far.
     pub fn tree(&self) -> &CallTree
         ensures { result.now ≡ self.now }
     {
         &self.tree
     }
 
-    /// Adds the planned rows. Takes no memory.
+    /// Adds the rows of a plan, which this grower made as it is now: no plan and no credit changed it since. Takes no memory.
     pub fn credit(&mut self, plan: Plan)
         requires { plan.before ≡ self.old }
         ensures { weights_of self.new ≡ with_rows (weights_of self.old) plan.rows }
@@ -86,7 +90,11 @@ impl Grower {
         }
     }
 
-    /// A tree of nothing.
+    /// A grower of an empty tree. It keeps the allocator.
+    ///
+    /// # Errors
+    ///
+    /// `NoMemory`.
     pub fn new(alloc: Global) -> Result<Grower, NoMemory>
         ensures { IfOk result (λ grower. weights_of grower ≡ map.empty) }
     {
@@ -99,7 +107,12 @@ impl Grower {
         })
     }
 
-    /// Makes room for the rows. The meaning of the tree stays.
+    /// Makes room for the rows of a batch, whose total and the tree's are together at most [`stack_text::MAX_TOTAL`]. Each
+    /// stack keeps its weight, also where the plan is refused.
+    ///
+    /// # Errors
+    ///
+    /// `NoMemory`.
     pub fn plan(&mut self, alloc: Global, batch: &Batch) -> Result<Plan, NoMemory>
         requires { total_in (weights_of self.old) + total_of batch.now < 2 ^ 63 }
         ensures before { IfOk result (λ plan. plan.before ≡ self.new) }
@@ -112,6 +125,7 @@ impl Grower {
         planned
     }
 
+    /// The plan of a batch: one credit for each row.
     fn plan_rows(&mut self, alloc: Global, batch: &Batch, walk: &mut Walk) -> Result<Plan, NoMemory>
         requires { total_of self.old.nodes + total_of batch.now < 2 ^ 63 }
         ensures before { IfOk result (λ plan. plan.before ≡ self.new) }
@@ -206,6 +220,7 @@ impl Grower {
         }
     }
 
+    /// A name that has no number yet, with the next one. Nothing is changed where memory runs out.
     fn add_name(&mut self, name: &Name) -> Result<u32, NoMemory>
         requires { (k : ℕ) → k < length self.old.names → name_at self.old.names k ≡ name.now → ⊥ }
         ensures number { IfOk result (λ number. (number < length self.new.names) × (name_at self.new.names number ≡ name.now)) }
@@ -239,6 +254,7 @@ impl Grower {
         }
     }
 
+    /// A child that isn't there yet. Nothing is changed where memory runs out.
     fn add_child(&mut self, parent: u32, name: u32, counts: bool) -> Result<u32, NoMemory>
         requires { IsFresh self.old parent name counts }
         ensures child { IfOk result (λ k. (k < length self.new.nodes)

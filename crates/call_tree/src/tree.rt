@@ -1,4 +1,5 @@
-// The call tree.
+//! The call tree: nodes with links to their parents, each with its own weight and a running total.
+
 ghost use Rattle.std.specs.Prelude.{◌≡◌, ◌<◌, ◌+◌, ◌++◌, ◌∷◌, ◌^◌, ℕ, [], filter, length, map, IfOk, IfSome, OnOk, OnErr, IsSorted};
 ghost use Rattle.stack_text.specs.Rows.{total_of};
 ghost use Rattle.stack_text.specs.Aggregate.{weight_in, rows_of};
@@ -28,7 +29,7 @@ struct Sums {
     cum: u64,
 }
 
-/// A tree of stacks with their weights.
+/// Stacks with their weights. What the calls answer depends on the weights of the stacks alone, not on how the tree grew.
 #[derive(Drop)]
 pub struct CallTree {
     names: Table<Name>,
@@ -126,7 +127,7 @@ impl CallTree {
         }
     }
 
-    /// The weight of exactly this stack: one pass over the nodes, since a node stands after its parent.
+    /// The weight of exactly this stack, 0 where it has none. One pass over the nodes, since a node stands after its parent.
     pub fn self_weight(&self, stack: &Stack) -> u64
         ensures { result ≡ weight_in (weights_of self.now) stack.now }
     {
@@ -271,7 +272,7 @@ impl CallTree {
         Ok(rows)
     }
 
-    /// Each stack of weight above 0 once, with its weight, in the order of stacks.
+    /// Each stack of weight above 0 once, with its weight, in the order of stacks. Stacks are compared name by name.
     ///
     /// # Errors
     ///

@@ -12,17 +12,8 @@ use Rattle.stack_text.proofs.SameNames.{same_from_is_same_name, is_same_name-sel
 use Rattle.call_tree.specs.declared.grower.Credit.{Credit}
 use Rattle.call_tree.specs.State.{TreeState, IsState, IsGrown, name_at, node_at, stack_at}
 use Rattle.call_tree.specs.Plans.{IsCredit, no_credit, credit_at}
+use Rattle.call_tree.specs.Walks.{has_number, IsOnPath}
 use Rattle.call_tree.proofs.Raising.{has_name-next}
-
--- of the names with the numbers in a list, one is this
-abbrev pub has_number : List (List ℕ) → List ℕ → List ℕ → Bool
-has_number names name numbers = list_any (λ m. is_same_name name (name_at names m)) numbers
-
-pub record IsOnPath (tree : TreeState) (seen : List ℕ) (frames : List (List ℕ)) (i place : ℕ) : Type 0 where
-  pub place_lt : place < length tree.nodes
-  pub here : stack_at tree.nodes place ≡ take i frames
-  pub below : (j : ℕ) → j < length seen → get_or seen j 0 < length tree.names
-  pub seen_is : (name : List ℕ) → has_number tree.names name seen ≡ has_name name (take i frames)
 
 pub IsOnPath-start : (tree : TreeState) (frames : List (List ℕ)) → IsState tree → IsOnPath tree [] frames 0 0
 IsOnPath-start tree frames state = record { place_lt = state.rooted; here = state.root; below = λ j lt. absurd (omega arith); seen_is = λ name. refl }

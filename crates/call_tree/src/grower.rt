@@ -1,12 +1,14 @@
-// The tree that grows: plans make room, credits add.
-ghost use Rattle.std.specs.Prelude.{◌≡◌, ◌<◌, ◌+◌, ◌^◌, ◌++◌, ◌∷◌, ℕ, [], length, not, IfOk, OnOk, OnErr};
+//! A call tree that grows: a plan makes room for a batch, a credit adds it.
+
+ghost use Rattle.std.specs.Prelude.{◌≡◌, ◌<◌, ◌+◌, ◌≤◌, ◌^◌, ◌++◌, ◌∷◌, ℕ, [], length, not, IfOk, OnOk, OnErr};
 ghost use Rattle.std.specs.FinMap as map;
 ghost use Rattle.stack_text.specs.Rows.{total_of, has_name};
 ghost use Rattle.stack_text.specs.Aggregate.{with_rows};
 ghost use Rattle.call_tree.specs.State.{TreeState, PlanState, IsFresh, IsGrown, weights_of, total_in, name_at, stack_at};
+ghost use Rattle.call_tree.specs.Walks.{IsOnPath};
 
-use crate::seen::Seen;
 use crate::tree::CallTree;
+use crate::walk::Walk;
 use indexmap::IndexSet;
 use stack_text::{Batch, Name, NoMemory, Stack};
 use std::alloc::Global;
@@ -22,7 +24,7 @@ struct Credit {
     weight: u64,
 }
 
-/// Rows for which every growth was made.
+/// A batch for which a [`Grower`] has made room. It remembers the grower as it was then, and serves it as long as it is so.
 #[derive(Drop)]
 pub struct Plan {
     credits: Vec<Credit>,
@@ -41,13 +43,16 @@ impl Model for Plan {
     ghost invariant = { λ p. IsPlan p.before.value p.batch.value p.credits.items };
 }
 
-/// The tree, its names by their texts, and its nodes by parent and name.
+/// A [`CallTree`] that grows by batches: [`plan`](Grower::plan) takes all memory that a batch needs, and
+/// [`credit`](Grower::credit) adds the batch without taking any. A plan may be dropped.
 #[derive(Drop)]
 pub struct Grower {
     tree: CallTree,
+    /// The names in the order of their numbers.
     numbers: IndexSet<Name>,
+    /// The node below a node by the number of its name.
     index: HashMap<(u32, u32), u32>,
-    seen: Seen,
+    walk: Walk,
 }
 
 impl Model for Grower {
@@ -63,14 +68,14 @@ impl Model for Grower {
 }
 
 impl Grower {
-    /// The tree as it stands.
+    /// The tree with all that was credited so far.
     pub fn tree(&self) -> &CallTree
         ensures { result.now ≡ self.now }
     {
         &self.tree
     }
 
-    /// Adds the planned rows. Takes no memory.
+    /// Adds the rows of a plan, which this grower made as it is now: no plan and no credit changed it since. Takes no memory.
     pub fn credit(&mut self, plan: Plan)
         requires { plan.before ≡ self.old }
         ensures { weights_of self.new ≡ with_rows (weights_of self.old) plan.rows }
@@ -85,7 +90,11 @@ impl Grower {
         }
     }
 
-    /// A tree of nothing.
+    /// A grower of an empty tree. It keeps the allocator.
+    ///
+    /// # Errors
+    ///
+    /// `NoMemory`.
     pub fn new(alloc: Global) -> Result<Grower, NoMemory>
         ensures { IfOk result (λ grower. weights_of grower ≡ map.empty) }
     {
@@ -94,24 +103,30 @@ impl Grower {
             tree,
             numbers: IndexSet::new(alloc),
             index: HashMap::new(alloc),
-            seen: Seen::new(alloc),
+            walk: Walk::new(alloc),
         })
     }
 
-    /// Makes room for the rows. The meaning of the tree stays.
+    /// Makes room for the rows of a batch, whose total and the tree's are together at most [`stack_text::MAX_TOTAL`]. Each
+    /// stack keeps its weight, also where the plan is refused.
+    ///
+    /// # Errors
+    ///
+    /// `NoMemory`.
     pub fn plan(&mut self, alloc: Global, batch: &Batch) -> Result<Plan, NoMemory>
         requires { total_in (weights_of self.old) + total_of batch.now < 2 ^ 63 }
         ensures before { IfOk result (λ plan. plan.before ≡ self.new) }
         ensures rows { IfOk result (λ plan. plan.rows ≡ batch.now) }
         ensures weights { weights_of self.new ≡ weights_of self.old }
     {
-        let mut seen = mem::replace(&mut self.seen, Seen::new(alloc));
-        let planned = self.plan_rows(alloc, batch, &mut seen);
-        self.seen = seen;
+        let mut walk = mem::replace(&mut self.walk, Walk::new(alloc));
+        let planned = self.plan_rows(alloc, batch, &mut walk);
+        self.walk = walk;
         planned
     }
 
-    fn plan_rows(&mut self, alloc: Global, batch: &Batch, seen: &mut Seen) -> Result<Plan, NoMemory>
+    /// The plan of a batch: one credit for each row.
+    fn plan_rows(&mut self, alloc: Global, batch: &Batch, walk: &mut Walk) -> Result<Plan, NoMemory>
         requires { total_of self.old.nodes + total_of batch.now < 2 ^ 63 }
         ensures before { IfOk result (λ plan. plan.before ≡ self.new) }
         ensures rows { IfOk result (λ plan. plan.rows ≡ batch.now) }
@@ -120,7 +135,7 @@ impl Grower {
         let rows = batch.rows();
         let mut credits = Vec::with_capacity(alloc, rows.len())?;
         for row in rows {
-            let node = self.grow(&row.stack, seen)?;
+            let node = self.grow(&row.stack, walk)?;
             credits.push(Credit {
                 node,
                 weight: row.weight,
@@ -134,20 +149,63 @@ impl Grower {
     }
 
     /// The node of a stack, with new nodes of weight 0 where there are none.
-    fn grow(&mut self, stack: &Stack, seen: &mut Seen) -> Result<u32, NoMemory>
+    fn grow(&mut self, stack: &Stack, walk: &mut Walk) -> Result<u32, NoMemory>
         ensures node { IfOk result (λ node. (node < length self.new.nodes) × (stack_at self.new.nodes node ≡ stack.now)) }
         ensures grown { IsGrown self.old self.new }
     {
-        seen.clear();
+        walk.start();
         self.tree.known();
+        let frames = stack.names();
         let mut place = 0u32;
-        for frame in stack.names() {
-            let number = self.intern(frame)?;
-            let there = seen.add(number)?;
-            self.tree.known();
-            place = self.child(place, number, !there)?;
+        for depth in 0..frames.len() {
+            place = self.enter(frames, depth, place, walk)?;
         }
         Ok(place)
+    }
+
+    /// One frame further. Where the row before went on by the same name, its node is taken, and nothing is looked up.
+    fn enter(
+        &mut self,
+        frames: &[Name],
+        depth: usize,
+        place: u32,
+        walk: &mut Walk,
+    ) -> Result<u32, NoMemory>
+        requires within { depth < length frames.now }
+        requires deep { length frames.now ≤ 65535 }
+        requires path { IsOnPath self.old walk.old frames.now depth place }
+        ensures path { IfOk result (λ child. IsOnPath self.new walk.new frames.now (depth + 1) child) }
+        ensures grown { IsGrown self.old self.new }
+    {
+        self.tree.known();
+        let guess = walk.guess(depth);
+        if let Some(number) = self.tree.number_below(place, guess, &frames[depth]) {
+            let _there = walk.add(number)?;
+            return Ok(guess);
+        }
+        let child = self.look_up(frames, depth, place, walk)?;
+        walk.keep(depth, child)?;
+        Ok(child)
+    }
+
+    /// One frame further, by its name's number and the index.
+    fn look_up(
+        &mut self,
+        frames: &[Name],
+        depth: usize,
+        place: u32,
+        walk: &mut Walk,
+    ) -> Result<u32, NoMemory>
+        requires within { depth < length frames.now }
+        requires deep { length frames.now ≤ 65535 }
+        requires path { IsOnPath self.old walk.old frames.now depth place }
+        ensures path { IfOk result (λ child. IsOnPath self.new walk.new frames.now (depth + 1) child) }
+        ensures grown { IsGrown self.old self.new }
+    {
+        let number = self.intern(&frames[depth])?;
+        let there = walk.add(number)?;
+        self.tree.known();
+        self.child(place, number, !there)
     }
 
     /// The number of a name, a new one where it has none.
@@ -162,6 +220,7 @@ impl Grower {
         }
     }
 
+    /// A name that has no number yet, with the next one. Nothing is changed where memory runs out.
     fn add_name(&mut self, name: &Name) -> Result<u32, NoMemory>
         requires { (k : ℕ) → k < length self.old.names → name_at self.old.names k ≡ name.now → ⊥ }
         ensures number { IfOk result (λ number. (number < length self.new.names) × (name_at self.new.names number ≡ name.now)) }
@@ -195,6 +254,7 @@ impl Grower {
         }
     }
 
+    /// A child that isn't there yet. Nothing is changed where memory runs out.
     fn add_child(&mut self, parent: u32, name: u32, counts: bool) -> Result<u32, NoMemory>
         requires { IsFresh self.old parent name counts }
         ensures child { IfOk result (λ k. (k < length self.new.nodes)

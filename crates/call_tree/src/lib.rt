@@ -4,11 +4,11 @@
 
 mod grower;
 mod node;
-mod seen;
 mod table;
 #[cfg(test)]
 mod tests;
 mod tree;
+mod walk;
 
 pub use grower::{Grower, Plan};
 pub use stack_text::NoMemory;

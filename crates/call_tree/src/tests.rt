@@ -173,11 +173,12 @@ fn the_greatest_total_is_held(rt: HostRuntime) -> Result<(), Fail> {
     Ok(())
 }
 
-// A stack of the greatest depth, of these names in turn.
-fn deepest(alloc: Global, texts: &[&str]) -> Result<Stack, Fail> {
+// A stack of the greatest depth, of two names in turn.
+fn deepest(alloc: Global, even: &str, odd: &str) -> Result<Stack, Fail> {
     let mut names = Vec::new(alloc);
     for depth in 0..MAX_DEPTH {
-        names.push(Name::make(alloc, texts[depth % texts.len()])?)?;
+        let text = if depth % 2 == 0 { even } else { odd };
+        names.push(Name::make(alloc, text)?)?;
     }
     Ok(Stack::make(names).ok().ok_or("too deep")?)
 }
@@ -187,19 +188,125 @@ fn the_deepest_recursion_is_counted_once(rt: HostRuntime) -> Result<(), Fail> {
     let alloc = rt.alloc();
     let mut batch = Batch::new(alloc);
     batch
-        .push(deepest(alloc, &["f"])?, 2)
+        .push(deepest(alloc, "f", "f")?, 2)
         .ok()
         .ok_or("too heavy")?;
     batch
-        .push(deepest(alloc, &["f", "g"])?, 3)
+        .push(deepest(alloc, "f", "g")?, 3)
         .ok()
         .ok_or("too heavy")?;
     let mut grower = Grower::new(alloc)?;
     plan(alloc, &mut grower, &batch, true)?;
     assert_eq!(rt; totals_text(alloc, grower.tree())?.as_str(), "f 5/5,g 0/3,");
-    assert_eq!(rt; grower.tree().self_weight(&deepest(alloc, &["f", "g"])?), 3);
+    assert_eq!(rt; grower.tree().self_weight(&deepest(alloc, "f", "g")?), 3);
     let rows = grower.tree().rows(alloc)?;
     assert_eq!(rt; rows.rows().len(), 2);
-    assert!(rt; rows.rows()[0].stack == deepest(alloc, &["f"])?);
+    assert!(rt; rows.rows()[0].stack == deepest(alloc, "f", "f")?);
+    Ok(())
+}
+
+// Numbers that look random, by a linear congruence.
+#[derive(Drop)]
+struct Numbers {
+    state: u64,
+}
+
+impl Numbers {
+    fn next(&mut self) -> u64 {
+        self.state = self
+            .state
+            .wrapping_mul(6_364_136_223_846_793_005)
+            .wrapping_add(1_442_695_040_888_963_407);
+        self.state >> 33
+    }
+}
+
+// A stack of up to four frames out of four names.
+fn some_frames(alloc: Global, numbers: &mut Numbers) -> Result<String, AllocError> {
+    let mut text = String::new(alloc);
+    for depth in 0..numbers.next() % 5 {
+        if depth > 0 {
+            text.push(';')?;
+        }
+        text.push_str(["a", "b", "c", "d"][(numbers.next() % 4) as usize])?;
+    }
+    Ok(text)
+}
+
+// The rows as a slow program has them: each name is one letter, so the texts' order is that of the stacks.
+fn slow_rows_text(alloc: Global, rows: &[(String, u64)]) -> Result<String, AllocError> {
+    let mut stacks: Vec<&str> = Vec::new(alloc);
+    for (frames, weight) in rows {
+        if *weight > 0 && !stacks.contains(&frames.as_str()) {
+            stacks.push(frames.as_str())?;
+        }
+    }
+    stacks.sort()?;
+    let mut text = String::new(alloc);
+    for stack in &stacks {
+        let mut all = 0u64;
+        for (frames, weight) in rows {
+            if frames.as_str() == *stack {
+                all = all.wrapping_add(*weight);
+            }
+        }
+        write!(text, "{stack} {all},")?;
+    }
+    Ok(text)
+}
+
+// The names' weights as a slow program has them: a row counts once, whatever stands in it twice.
+fn slow_totals_text(alloc: Global, rows: &[(String, u64)]) -> Result<String, AllocError> {
+    let mut text = String::new(alloc);
+    for name in ["a", "b", "c", "d"] {
+        let mut flat = 0u64;
+        let mut cum = 0u64;
+        for (frames, weight) in rows {
+            if frames.ends_with(name) {
+                flat = flat.wrapping_add(*weight);
+            }
+            if frames.contains(name) {
+                cum = cum.wrapping_add(*weight);
+            }
+        }
+        if cum > 0 {
+            write!(text, "{name} {flat}/{cum},")?;
+        }
+    }
+    Ok(text)
+}
+
+#[test]
+fn a_tree_answers_as_a_slow_program_does(rt: HostRuntime) -> Result<(), Fail> {
+    let alloc = rt.alloc();
+    let mut numbers = Numbers { state: 7 };
+    let mut rows: Vec<(String, u64)> = Vec::new(alloc);
+    let mut grower = Grower::new(alloc)?;
+    for round in 0..100u64 {
+        let mut batch = Batch::new(alloc);
+        let kept = numbers.next() % 3 > 0;
+        for _ in 0..numbers.next() % 4 {
+            let frames = some_frames(alloc, &mut numbers)?;
+            let weight = numbers.next() % 10;
+            batch
+                .push(stack_of(alloc, &frames)?, weight)
+                .ok()
+                .ok_or("too heavy")?;
+            if kept {
+                rows.push((frames, weight))?;
+            }
+        }
+        plan(alloc, &mut grower, &batch, kept)?;
+        let rows_now = rows_text(alloc, grower.tree())?;
+        let totals_now = totals_text(alloc, grower.tree())?;
+        assert!(rt;
+            rows_now == slow_rows_text(alloc, &rows)?,
+            "rows of round {round}: {rows_now}"
+        );
+        assert!(rt;
+            totals_now == slow_totals_text(alloc, &rows)?,
+            "totals of round {round}: {totals_now}"
+        );
+    }
     Ok(())
 }

@@ -1,9 +1,10 @@
-// The call tree.
-ghost use Rattle.std.specs.Prelude.{◌≡◌, ◌<◌, ◌+◌, ◌++◌, ◌∷◌, ◌^◌, ℕ, [], filter, length, map, IfOk, OnOk, OnErr, IsSorted};
+//! The call tree: nodes with links to their parents, each with its own weight and a running total.
+
+ghost use Rattle.std.specs.Prelude.{◌≡◌, ◌<◌, ◌+◌, ◌++◌, ◌∷◌, ◌^◌, ℕ, [], filter, length, map, IfOk, IfSome, OnOk, OnErr, IsSorted};
 ghost use Rattle.stack_text.specs.Rows.{total_of};
 ghost use Rattle.stack_text.specs.Aggregate.{weight_in, rows_of};
 ghost use Rattle.stack_text.specs.TopList.{AreSumsOf};
-ghost use Rattle.call_tree.specs.State.{TreeState, weights_of, total_in, name_at, stack_at, credited, has_weight, IsFresh, IsState};
+ghost use Rattle.call_tree.specs.State.{TreeState, weights_of, total_in, name_at, stack_at, credited, has_weight, IsChild, IsFresh, IsState};
 
 use crate::node::Node;
 use crate::table::Table;
@@ -28,7 +29,7 @@ struct Sums {
     cum: u64,
 }
 
-/// A tree of stacks with their weights.
+/// Stacks with their weights. What the calls answer depends on the weights of the stacks alone, not on how the tree grew.
 #[derive(Drop)]
 pub struct CallTree {
     names: Table<Name>,
@@ -111,7 +112,22 @@ impl CallTree {
         Ok(())
     }
 
-    /// The weight of exactly this stack: one pass over the nodes, since a node stands after its parent.
+    /// The number of the name, where the node `child` stands below `parent` by that name.
+    pub(crate) fn number_below(&self, parent: u32, child: u32, name: &Name) -> Option<u32>
+        ensures { IfSome result (λ number. IsChild self.now parent number child × (name_at self.now.names number ≡ name.now)) }
+    {
+        if child == 0 || child as usize >= self.nodes.len() {
+            return None;
+        }
+        let node = *self.nodes.read(child as usize);
+        if node.parent == parent && *self.names.read(node.name as usize) == *name {
+            Some(node.name)
+        } else {
+            None
+        }
+    }
+
+    /// The weight of exactly this stack, 0 where it has none. One pass over the nodes, since a node stands after its parent.
     pub fn self_weight(&self, stack: &Stack) -> u64
         ensures { result ≡ weight_in (weights_of self.now) stack.now }
     {
@@ -256,7 +272,7 @@ impl CallTree {
         Ok(rows)
     }
 
-    /// Each stack of weight above 0 once, with its weight, in the order of stacks.
+    /// Each stack of weight above 0 once, with its weight, in the order of stacks. Stacks are compared name by name.
     ///
     /// # Errors
     ///

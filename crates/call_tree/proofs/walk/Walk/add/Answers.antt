@@ -2,8 +2,8 @@ use Rattle.std.proofs.Common.{◌≡◌, ◌<◌, ℕ, suc, true, false, ◌||�
 use Rattle.std.specs.List.{list_any}
 use Rattle.std.proofs.lemmas.Bool.{eqb-true}
 use Rattle.std.proofs.lemmas.List.{get_or_read}
-use Rattle.call_tree.proofs.seen.Seen.add.Goals as goal
-use Rattle.call_tree.proofs.seen.Seen.add.Goals.{else-place-len-via-then-place-len+else-index-name, else-place-len-via-else-place-len}
+use Rattle.call_tree.proofs.walk.Walk.add.Goals as goal
+use Rattle.call_tree.proofs.walk.Walk.add.Goals.{else-place-len-via-then-place-len+else-index-name, else-place-len-via-else-place-len}
 
 none_there : (names : List ℕ) (name : ℕ) → ((k : ℕ) → k < length names → get_or names k 0 ≡ name → ⊥) → false ≡ list_any (nat_eq name) names
 none_there [] name h = refl

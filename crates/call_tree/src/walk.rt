@@ -1,0 +1,87 @@
+//! What planning remembers on its walks from the root, one for each row.
+
+ghost use Rattle.std.specs.Prelude.{◌≡◌, ◌++◌, ◌∷◌, [], IfOk, OnOk, if◌then◌else◌, nat_eq};
+ghost use Rattle.std.specs.List.{list_any};
+
+use std::alloc::{AllocError, Global};
+use std::marker::Model;
+
+/// The name numbers on this walk so far, as a sparse set that is emptied, asked and added to in one step each, and the nodes
+/// that the walks before went through.
+#[derive(Drop)]
+pub struct Walk {
+    /// Where a name may stand in `names`; any number for one that doesn't.
+    places: Vec<usize>,
+    names: Vec<u32>,
+    /// For each depth the node that a walk entered there last.
+    nodes: Vec<u32>,
+}
+
+impl Model for Walk {
+    ghost use Rattle.std.specs.Prelude.{List, ℕ, ◌≡◌, ◌<◌, length, slice_index};
+
+    ghost Value = { List ℕ };
+
+    ghost view = { λ w. w.names.items };
+
+    ghost invariant = { λ w. (k : ℕ) → k < length w.names.items
+        → (slice_index w.names.items k < length w.places.items) × (slice_index w.places.items (slice_index w.names.items k) ≡ k) };
+}
+
+impl Walk {
+    /// A walk that has met nothing. Takes no memory.
+    pub fn new(alloc: Global) -> Walk
+        ensures { result ≡ [] }
+    {
+        Walk {
+            places: Vec::new(alloc),
+            names: Vec::new(alloc),
+            nodes: Vec::new(alloc),
+        }
+    }
+
+    /// Starts again at the root.
+    pub fn start(&mut self)
+        ensures { self.new ≡ [] }
+    {
+        self.names.clear();
+    }
+
+    /// Adds the name; whether it was there.
+    pub fn add(&mut self, name: u32) -> Result<bool, AllocError>
+        ensures there { IfOk result (λ there. there ≡ list_any (nat_eq name) self.old) }
+        ensures ok { IfOk result (λ there. self.new ≡ (if there then self.old else self.old ++ name ∷ [])) }
+    {
+        while self.places.len() <= name as usize {
+            self.places.push(0)?;
+        }
+        let place = self.places[name as usize];
+        if place < self.names.len() && self.names[place] == name {
+            return Ok(true);
+        }
+        let place = self.names.len();
+        self.names.push(name)?;
+        self.places[name as usize] = place;
+        Ok(false)
+    }
+
+    /// The node where a walk before went at this depth, or the root. Whether it serves this walk is for the caller to see.
+    pub fn guess(&self, depth: usize) -> u32 {
+        match self.nodes.get(depth) {
+            Some(node) => *node,
+            None => 0,
+        }
+    }
+
+    /// Keeps the node of this depth as a guess.
+    pub fn keep(&mut self, depth: usize, node: u32) -> Result<(), AllocError>
+        ensures { OnOk result (self.new ≡ self.old) }
+    {
+        if depth < self.nodes.len() {
+            self.nodes[depth] = node;
+        } else {
+            self.nodes.push(node)?;
+        }
+        Ok(())
+    }
+}

@@ -1,0 +1,16 @@
+//! Profiles in the format of profile.proto: the messages, what makes them valid, and how they are read and written.
+//!
+//! `specs/` has the definitions that the contracts speak of.
+#![tactic(auto)]
+
+mod faults;
+mod items;
+mod messages;
+mod numbers;
+mod reading;
+mod tables;
+
+pub use faults::{ProfileFault, Refused};
+pub use items::{Items, Text};
+pub use messages::{Draft, Function, Label, Line, Location, Mapping, Sample, ValueType};
+pub use pprof_wire::{NoMemory, WireFault};

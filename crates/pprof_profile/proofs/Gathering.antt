@@ -45,5 +45,5 @@ unpacked_more {A = A} from old mid front spelling number so-far spelled =
       numbers = so-far.numbers ++ number ∷ [];
       listed = numbers_joined front spelling so-far.numbers (number ∷ []) so-far.listed (one_number_listed spelling number spelled);
       appended = ap (λ (xs : List A). xs ++ from number ∷ []) so-far.appended ∙ append_assoc old (map from so-far.numbers) (from number ∷ [])
-        ∙ ap (λ (xs : List A). old ++ xs) (sym (map_joined from so-far.numbers (number ∷ [])));
+          ∙ ap (λ (xs : List A). old ++ xs) (sym (map_joined from so-far.numbers (number ∷ [])));
     }

@@ -1,2 +1,4 @@
 pub mod Reading
 pub mod Messages
+pub mod Valid
+pub mod Profiles

@@ -1,5 +1,6 @@
-ghost use Rattle.std.specs.Prelude.{◌≡◌, ◌++◌, ◌∷◌, [], length, OnOk, OnErr, IfOk, string_bytes};
+ghost use Rattle.std.specs.Prelude.{◌≡◌, ◌++◌, ◌∷◌, [], length, not, OnOk, OnErr, IfOk, string_bytes};
 ghost use Rattle.std.specs.Str.{IsUtf8};
+ghost use Rattle.pprof_profile.specs.Valid.{is_nonempty};
 
 use std::alloc::{AllocError, AllocFailed, Global};
 use std::marker::Model;
@@ -41,6 +42,13 @@ impl<T> Items<T> {
     {
         let items: &Vec<T> = &self.items;
         items.as_slice()
+    }
+
+    /// There are no items.
+    pub fn is_empty(&self) -> bool
+        ensures { result ≡ not (is_nonempty self.now) }
+    {
+        self.items.is_empty()
     }
 
     /// How many items there are.

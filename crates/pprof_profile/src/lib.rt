@@ -4,13 +4,18 @@
 #![tactic(auto)]
 
 mod faults;
+mod ids;
+mod indices;
 mod items;
 mod messages;
 mod numbers;
+mod profile;
 mod reading;
 mod tables;
+mod validity;
 
 pub use faults::{ProfileFault, Refused};
 pub use items::{Items, Text};
 pub use messages::{Draft, Function, Label, Line, Location, Mapping, Sample, ValueType};
 pub use pprof_wire::{NoMemory, WireFault};
+pub use profile::{Profile, check, decode};

@@ -1,0 +1,90 @@
+ghost use Rattle.std.specs.Prelude.{◌≡◌, ◌≢◌, ◌⊎◌, Some, IfOk, IfErr, MatchResult};
+ghost use Rattle.pprof_profile.specs.declared.messages.Draft.{Draft};
+ghost use Rattle.pprof_profile.specs.declared.faults.ProfileFault.{ProfileFault};
+ghost use Rattle.pprof_profile.specs.Valid.{IsValidDraft, validity_fault};
+ghost use Rattle.pprof_profile.specs.Profiles.{IsProfile, IsProfileFault};
+
+use crate::faults::{ProfileFault, Refused};
+use crate::messages::Draft;
+use crate::reading::read_message;
+use crate::validity::validate;
+use std::alloc::Global;
+use std::marker::Model;
+
+/// A draft that is valid. A contract sees the draft.
+#[derive(Debug, Drop)]
+pub struct Profile {
+    draft: Draft,
+}
+
+impl Model for Profile {
+    ghost use Rattle.pprof_profile.specs.declared.messages.Draft.{Draft};
+
+    ghost Value = { Draft };
+
+    ghost use Rattle.pprof_profile.specs.Valid.{IsValidDraft};
+
+    ghost view = { λ p. p.draft };
+
+    ghost invariant = { λ p. IsValidDraft p.draft };
+}
+
+impl Profile {
+    /// The draft.
+    pub fn draft(&self) -> &Draft
+        ensures draft { result.now ≡ self.now }
+        ensures valid { IsValidDraft self.now }
+    {
+        &self.draft
+    }
+
+    /// The draft. Takes no memory.
+    pub fn into_draft(self) -> Draft
+        ensures draft { result ≡ self }
+        ensures valid { IsValidDraft self }
+    {
+        self.draft
+    }
+}
+
+/// The profile that the draft is, if it is valid. Else the draft comes back, with the first rule that it breaks.
+///
+/// # Errors
+///
+/// `NoStrings`, `FirstString`, `StringIndex`, `ZeroId`, `DoubleId`, `NoLocation`, `NoMapping`, `NoFunction` and `ValueCount`,
+/// each asked of the whole draft before the next; `NoMemory`.
+pub fn check(alloc: Global, draft: Draft) -> Result<Profile, Refused<Draft>>
+    ensures valid { IfOk result (λ profile. (profile ≡ draft) × IsValidDraft draft) }
+    ensures back { IfErr result (λ refused. refused.back ≡ draft) }
+    ensures fault { IfErr result (λ refused. refused.fault ≢ ProfileFault.NoMemory
+        → validity_fault draft ≡ Some refused.fault) }
+{
+    match validate(alloc, &draft) {
+        Ok(()) => Ok(Profile { draft }),
+        Err(fault) => Err(Refused { fault, back: draft }),
+    }
+}
+
+/// The profile that the bytes spell, with no gzip around it.
+///
+/// # Errors
+///
+/// `Gzip` where the bytes begin as those of gzip. Else the first fault in reading order, `Wire` or `NotUtf8`: a nested message
+/// is read where it stands. Else what [`check`] answers. `NoMemory` may come in place of any of them.
+pub fn decode(alloc: Global, bytes: &[u8]) -> Result<Profile, ProfileFault>
+    ensures read { IfOk result (λ profile. IsProfile bytes.now profile) }
+    ensures fault { IfErr result (λ fault. fault ≢ ProfileFault.NoMemory → IsProfileFault bytes.now fault) }
+    ensures every_profile { (draft : Draft) → IsProfile bytes.now draft
+        → MatchResult result (λ profile. profile ≡ draft) (λ fault. fault ≡ ProfileFault.NoMemory) }
+    ensures every_fault { (first : ProfileFault) → IsProfileFault bytes.now first
+        → MatchResult result (λ profile. ⊥) (λ fault. (fault ≡ ProfileFault.NoMemory) ⊎ (fault ≡ first)) }
+{
+    if let [0x1f, 0x8b, ..] = bytes {
+        return Err(ProfileFault::Gzip);
+    }
+    let draft: Draft = read_message(alloc, bytes)?;
+    match check(alloc, draft) {
+        Ok(profile) => Ok(profile),
+        Err(refused) => Err(refused.fault),
+    }
+}

@@ -1,2 +1,5 @@
 pub mod Gathering
 pub mod KnownIds
+pub mod Once
+pub mod MessagesOnce
+pub mod ProfileOnce

@@ -1,8 +1,9 @@
 ghost use Rattle.std.specs.Prelude.{◌≡◌, ◌≢◌, ◌⊎◌, Some, IfOk, IfErr, MatchResult};
+ghost use Rattle.std.specs.Bool.{OnTrue, OnFalse};
 ghost use Rattle.pprof_profile.specs.declared.messages.Draft.{Draft};
 ghost use Rattle.pprof_profile.specs.declared.faults.ProfileFault.{ProfileFault};
 ghost use Rattle.pprof_profile.specs.Valid.{IsValidDraft, validity_fault};
-ghost use Rattle.pprof_profile.specs.Profiles.{IsProfile, IsProfileFault};
+ghost use Rattle.pprof_profile.specs.Profiles.{BeginsAsGzip, IsProfile, IsProfileFault};
 
 use crate::faults::{ProfileFault, Refused};
 use crate::messages::Draft;
@@ -79,12 +80,26 @@ pub fn decode(alloc: Global, bytes: &[u8]) -> Result<Profile, ProfileFault>
     ensures every_fault { (first : ProfileFault) → IsProfileFault bytes.now first
         → MatchResult result (λ profile. ⊥) (λ fault. (fault ≡ ProfileFault.NoMemory) ⊎ (fault ≡ first)) }
 {
-    if let [0x1f, 0x8b, ..] = bytes {
+    read_profile(alloc, bytes)
+}
+
+/// What [`decode`] answers.
+fn read_profile(alloc: Global, bytes: &[u8]) -> Result<Profile, ProfileFault>
+    ensures read { IfOk result (λ profile. IsProfile bytes.now profile) }
+    ensures fault { IfErr result (λ fault. fault ≢ ProfileFault.NoMemory → IsProfileFault bytes.now fault) }
+{
+    if begins_as_gzip(bytes) {
         return Err(ProfileFault::Gzip);
     }
     let draft: Draft = read_message(alloc, bytes)?;
-    match check(alloc, draft) {
-        Ok(profile) => Ok(profile),
-        Err(refused) => Err(refused.fault),
-    }
+    validate(alloc, &draft)?;
+    Ok(Profile { draft })
+}
+
+/// The bytes begin as those of gzip.
+fn begins_as_gzip(bytes: &[u8]) -> bool
+    ensures yes { OnTrue result (BeginsAsGzip bytes.now) }
+    ensures no { OnFalse result (¬ BeginsAsGzip bytes.now) }
+{
+    matches!(bytes, [0x1f, 0x8b, ..])
 }

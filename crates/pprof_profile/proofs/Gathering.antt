@@ -1,8 +1,7 @@
 -- One more field, and one more number, behind those that were read.
-use Rattle.std.proofs.Common.{◌≡◌, ℕ, List, [], ◌∷◌, ◌++◌, refl, sym, ap, ◌∙◌, subst, append_assoc, map, Result, Ok, Err}
-use Rattle.std.proofs.lemmas.List.{append-nil}
-use Rattle.pprof_wire.specs.Varints.{IsVarint, IsNumberList}
-use Rattle.pprof_wire.specs.Fields.{PlainField, IsFieldSpelling, IsFieldList}
+use Rattle.std.proofs.Common.{◌≡◌, ℕ, List, [], ◌∷◌, ◌++◌, refl, sym, ap, ◌∙◌, subst, append_assoc, map, Ok}
+use Rattle.pprof_wire.specs.Varints.{IsVarint}
+use Rattle.pprof_wire.specs.Fields.{PlainField, IsFieldSpelling}
 use Rattle.pprof_wire.proofs.ListLaws.{one_field_listed, fields_joined, one_number_listed, numbers_joined}
 use Rattle.pprof_profile.specs.Reading.{Table, Gathers, Spells, IsReadSoFar, IsUnpacked}
 

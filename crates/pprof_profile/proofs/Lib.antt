@@ -3,3 +3,4 @@ pub mod KnownIds
 pub mod Once
 pub mod MessagesOnce
 pub mod ProfileOnce
+pub mod Appending

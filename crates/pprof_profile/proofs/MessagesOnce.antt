@@ -1,5 +1,5 @@
 -- Each message has one outcome for each field.
-use Rattle.std.proofs.Common.{ℕ, ◌==◌}
+use Rattle.std.proofs.Common.{◌==◌}
 use Rattle.pprof_profile.specs.declared.messages.ValueType.{ValueType}
 use Rattle.pprof_profile.specs.declared.messages.Line.{Line}
 use Rattle.pprof_profile.specs.declared.messages.Label.{Label}
@@ -8,8 +8,8 @@ use Rattle.pprof_profile.specs.declared.messages.Function.{Function}
 use Rattle.pprof_profile.specs.declared.messages.Location.{Location}
 use Rattle.pprof_profile.specs.declared.messages.Sample.{Sample}
 use Rattle.pprof_profile.specs.declared.messages.Draft.{Draft}
-use Rattle.pprof_profile.specs.Reading.{SetsNumber, AddsNumbers, AddsText, AddsMessage, MergesMessage, At, Where, IsSkipped}
-use Rattle.pprof_profile.specs.Messages.{unsigned_of, signed_of, flag_of, no_value_type, value_type_table, no_line, line_table, no_label, label_table, no_mapping, mapping_table, no_function, function_table, no_location, location_table, no_sample, sample_table, no_draft, draft_table}
+use Rattle.pprof_profile.specs.Reading.{SetsNumber, AddsNumbers, AddsText, AddsMessage, MergesMessage}
+use Rattle.pprof_profile.specs.Messages.{unsigned_of, signed_of, flag_of, no_value_type, value_type_table, no_line, line_table, no_label, label_table, no_mapping, mapping_table, no_function, function_table, no_location, location_table, no_sample, sample_table, draft_table}
 use Rattle.pprof_profile.proofs.Once.{TableOnce, sets_once, numbers_once, text_once, message_once, merge_once, at_once, where_once, skipped_once}
 
 pub value_type_once : TableOnce value_type_table

@@ -1,16 +1,14 @@
 -- Reading has one outcome.
-use Rattle.std.proofs.Common.{◌≡◌, ℕ, ◌<◌, ◌⊎◌, inl, inr, Bool, true, false, List, [], ◌∷◌, ◌++◌, length, map, refl, sym, ap, ◌∙◌, subst, append_assoc, arith, Result, Ok, Err}
+use Rattle.std.proofs.Common.{◌≡◌, ℕ, ◌⊎◌, inl, inr, Bool, true, false, List, [], ◌∷◌, ◌++◌, length, map, refl, sym, ap, ◌∙◌, subst, append_assoc, arith, Result, Ok, Err}
 use Rattle.std.proofs.lemmas.List.{append-nil}
-use Rattle.std.specs.Str.{IsUtf8}
-use Rattle.pprof_wire.specs.declared.faults.WireFault.{WireFault}
 use Rattle.pprof_wire.specs.Varints.{IsVarintFault, IsNumberList, SplitsIntoNumbers}
-use Rattle.pprof_wire.specs.Fields.{FieldValue, varint, fixed64, fixed32, content, PlainField, IsFieldSpelling, IsFieldList, IsRestFault}
+use Rattle.pprof_wire.specs.Fields.{FieldValue, varint, fixed64, fixed32, content, PlainField, IsFieldSpelling, IsFieldList}
 use Rattle.pprof_wire.proofs.VarintLaws.{varint_fault_once}
 use Rattle.pprof_wire.proofs.FieldLaws.{field_once, front_fault_once}
 use Rattle.pprof_wire.proofs.ListLaws.{nil_without_field, fault_without_field, numbers_split_once, numbers_end, number_fault_ends}
 use Rattle.pprof_profile.specs.declared.faults.ProfileFault.{ProfileFault}
 use Rattle.pprof_profile.specs.declared.faults.ProfileFault.TheVariants.{Wire}
-use Rattle.pprof_profile.specs.Reading.{Rule, Table, Gathers, Spells, IsFieldFault, IsEndFault, IsFirstFault, Reads, SetsNumber, IsPackedFault, IsUnpacked, AddsPacked, AddsNumbers, AddsUtf8, AddsText, IsAppended, AddsItem, AddsMessage, MergesMessage, At, Where, IsSkipped}
+use Rattle.pprof_profile.specs.Reading.{Rule, Table, Gathers, IsFieldFault, IsEndFault, Reads, SetsNumber, IsPackedFault, AddsPacked, AddsNumbers, AddsUtf8, AddsText, AddsItem, AddsMessage, MergesMessage, At, Where, IsSkipped}
 
 -- at most one outcome is allowed
 abbrev pub Once : {O : Type 0} → (O → Type 0) → Type 0

@@ -1,11 +1,11 @@
 -- Bytes are one profile, or no profile for one reason.
-use Rattle.std.proofs.Common.{◌≡◌, ◌≢◌, ℕ, ◌⊎◌, inl, inr, List, refl, sym, ap, ◌∙◌, subst, Result, Ok, Err, Option, Some, None, IfOk, IfErr, MatchResult}
+use Rattle.std.proofs.Common.{◌≡◌, ◌≢◌, ℕ, ◌⊎◌, inl, inr, List, refl, sym, ap, ◌∙◌, Result, Ok, Err, Some, None, IfOk, IfErr, MatchResult}
 use Rattle.pprof_profile.specs.declared.faults.ProfileFault.{ProfileFault}
-use Rattle.pprof_profile.specs.declared.faults.ProfileFault.TheVariants.{Gzip, Wire, NotUtf8, NoStrings, FirstString, StringIndex, ZeroId, DoubleId, NoLocation, NoMapping, NoFunction, ValueCount, NoMemory}
+use Rattle.pprof_profile.specs.declared.faults.ProfileFault.TheVariants.{NoMemory}
 use Rattle.pprof_profile.specs.declared.messages.Draft.{Draft}
 use Rattle.pprof_profile.specs.Messages.{no_draft, draft_table}
 use Rattle.pprof_profile.specs.Valid.{validity_fault}
-use Rattle.pprof_profile.specs.Profiles.{SpellsDraft, IsProfile, IsReadingFault, SpellsInvalid, IsProfileFault}
+use Rattle.pprof_profile.specs.Profiles.{SpellsDraft, IsProfile, IsReadingFault, IsProfileFault}
 use Rattle.pprof_profile.proofs.Once.{reads_once}
 use Rattle.pprof_profile.proofs.MessagesOnce.{draft_once}
 

@@ -1,5 +1,5 @@
 -- The messages of profile.proto: each field's number, what kind of field it is, and what it is where it is absent.
-use Rattle.std.specs.Prelude.{◌≡◌, ℕ, ℤ, pos, Bool, true, false, not, ◌==◌, List, [], ◌∷◌}
+use Rattle.std.specs.Prelude.{ℕ, ℤ, pos, Bool, false, not, ◌==◌, []}
 use Rattle.std.specs.Int.{w64, cast_signed}
 use Rattle.pprof_profile.specs.declared.messages.ValueType.{ValueType}
 use Rattle.pprof_profile.specs.declared.messages.Line.{Line}

@@ -1,5 +1,5 @@
 -- The bytes of a profile.
-use Rattle.std.specs.Prelude.{◌≡◌, ℕ, ◌⊎◌, List, [], ◌∷◌, ◌++◌, Some}
+use Rattle.std.specs.Prelude.{◌≡◌, ℕ, ◌⊎◌, List, ◌∷◌, Some}
 use Rattle.pprof_profile.specs.declared.faults.ProfileFault.{ProfileFault}
 use Rattle.pprof_profile.specs.declared.faults.ProfileFault.TheVariants.{Gzip}
 use Rattle.pprof_profile.specs.declared.messages.Draft.{Draft}

@@ -3,11 +3,11 @@
 use Rattle.std.specs.Prelude.{◌≡◌, ℕ, ◌<◌, ◌++◌, List, [], ◌∷◌, length, map, Bool, true, false, Result, Ok, Err, ◌⊎◌}
 use Rattle.std.specs.Str.{IsUtf8}
 use Rattle.pprof_wire.specs.declared.faults.WireFault.{WireFault}
-use Rattle.pprof_wire.specs.declared.faults.WireFault.TheVariants.{Truncated, LongVarint, FieldNumber, Group, WireType}
+use Rattle.pprof_wire.specs.declared.faults.WireFault.TheVariants.{WireType}
 use Rattle.pprof_wire.specs.Varints.{IsVarintFault, IsNumberList}
 use Rattle.pprof_wire.specs.Fields.{FieldValue, varint, fixed64, fixed32, content, PlainField, IsFieldSpelling, IsFieldList, IsRestFault}
 use Rattle.pprof_profile.specs.declared.faults.ProfileFault.{ProfileFault}
-use Rattle.pprof_profile.specs.declared.faults.ProfileFault.TheVariants.{Gzip, Wire, NotUtf8, NoStrings, FirstString, StringIndex, ZeroId, DoubleId, NoLocation, NoMapping, NoFunction, ValueCount, NoMemory}
+use Rattle.pprof_profile.specs.declared.faults.ProfileFault.TheVariants.{Wire, NotUtf8}
 
 -- What a field's value does to what stands in its place: what stood there before, the value, and what stands there after it,
 -- or a fault.

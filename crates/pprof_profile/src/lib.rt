@@ -3,6 +3,7 @@
 //! `specs/` has the definitions that the contracts speak of.
 #![tactic(auto)]
 
+mod encoding;
 mod faults;
 mod ids;
 mod indices;
@@ -13,9 +14,10 @@ mod profile;
 mod reading;
 mod tables;
 mod validity;
+mod writing;
 
 pub use faults::{ProfileFault, Refused};
 pub use items::{Items, Text};
 pub use messages::{Draft, Function, Label, Line, Location, Mapping, Sample, ValueType};
 pub use pprof_wire::{NoMemory, WireFault};
-pub use profile::{Profile, check, decode};
+pub use profile::{Profile, check, decode, encode};

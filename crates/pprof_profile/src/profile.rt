@@ -3,12 +3,15 @@ ghost use Rattle.std.specs.Bool.{OnTrue, OnFalse};
 ghost use Rattle.pprof_profile.specs.declared.messages.Draft.{Draft};
 ghost use Rattle.pprof_profile.specs.declared.faults.ProfileFault.{ProfileFault};
 ghost use Rattle.pprof_profile.specs.Valid.{IsValidDraft, validity_fault};
+ghost use Rattle.pprof_profile.specs.Canonical.{canonical_bytes_of};
 ghost use Rattle.pprof_profile.specs.Profiles.{BeginsAsGzip, IsProfile, IsProfileFault};
 
 use crate::faults::{ProfileFault, Refused};
 use crate::messages::Draft;
 use crate::reading::read_message;
 use crate::validity::validate;
+use crate::writing::Written;
+use pprof_wire::NoMemory;
 use std::alloc::Global;
 use std::marker::Model;
 
@@ -81,6 +84,16 @@ pub fn decode(alloc: Global, bytes: &[u8]) -> Result<Profile, ProfileFault>
         → MatchResult result (λ profile. ⊥) (λ fault. (fault ≡ ProfileFault.NoMemory) ⊎ (fault ≡ first)) }
 {
     read_profile(alloc, bytes)
+}
+
+/// The canonical bytes of the profile: fields by rising number, varints as short as can be, packed numbers. A single number that
+/// is 0 and an empty field of packed numbers are left out, and so is `period_type` where it is empty.
+pub fn encode(alloc: Global, profile: &Profile) -> Result<Vec<u8>, NoMemory>
+    ensures { IfOk result (λ bytes. bytes.items ≡ canonical_bytes_of profile.now) }
+{
+    let mut bytes = Vec::new(alloc);
+    profile.draft().write(alloc, &mut bytes)?;
+    Ok(bytes)
 }
 
 /// What [`decode`] answers.

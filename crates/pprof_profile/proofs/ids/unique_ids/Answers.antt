@@ -1,7 +1,6 @@
-use Rattle.std.proofs.Common.{◌≡◌, ℕ, ◌+◌, ◌<◌, Bool, true, false, List, [], ◌∷◌, ◌++◌, length, map, take, drop, get_or, refl, sym, ap, ◌∙◌, arith, nat_eq, append_assoc}
+use Rattle.std.proofs.Common.{◌≡◌, ℕ, ◌+◌, List, [], ◌∷◌, ◌++◌, map, take, drop, refl, arith, nat_eq}
 use Rattle.std.proofs.lemmas.Grind.{common_steps}
 use Rattle.std.proofs.lemmas.List.Folds.{list_any-append}
-use Rattle.pprof_profile.specs.Valid.{is_known, has_double}
 use Rattle.pprof_profile.proofs.KnownIds.{single_more, double_inside, ids_more, ids_inside}
 use Rattle.pprof_profile.proofs.ids.unique_ids.Goals as goal
 

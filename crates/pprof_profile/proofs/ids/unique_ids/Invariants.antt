@@ -1,6 +1,6 @@
 use Rattle.std.proofs.Common.{◌≡◌, ℕ, false, map, take}
 use Rattle.std.specs.Ordering.{nat_cmp}
-use Rattle.std.specs.BTreeSet.{BTreeSet, contains}
+use Rattle.std.specs.BTreeSet.{contains}
 use Rattle.pprof_profile.specs.Valid.{is_known, has_double}
 use Rattle.pprof_profile.proofs.ids.unique_ids.Given as goal
 

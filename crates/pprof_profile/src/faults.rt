@@ -12,7 +12,7 @@ pub enum ProfileFault {
     #[error("P1 Gzip")]
     Gzip,
     /// The bytes are no list of fields, or a field has a wire type that its number cannot have.
-    #[error("P2 {0}")]
+    #[error("P2 Wire {0}")]
     Wire(WireFault),
     /// A text is not UTF-8.
     #[error("P3 NotUtf8")]

@@ -13,6 +13,8 @@ mod numbers;
 mod profile;
 mod reading;
 mod tables;
+#[cfg(test)]
+mod tests;
 mod validity;
 mod writing;
 

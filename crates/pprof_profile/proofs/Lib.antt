@@ -4,3 +4,6 @@ pub mod Once
 pub mod MessagesOnce
 pub mod ProfileOnce
 pub mod Appending
+pub mod ReadBack
+pub mod MessagesBack
+pub mod Plain

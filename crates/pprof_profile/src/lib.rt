@@ -8,6 +8,7 @@ mod faults;
 mod ids;
 mod indices;
 mod items;
+pub mod laws;
 mod messages;
 mod numbers;
 mod profile;

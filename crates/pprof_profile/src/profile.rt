@@ -89,7 +89,8 @@ pub fn decode(alloc: Global, bytes: &[u8]) -> Result<Profile, ProfileFault>
 /// The canonical bytes of the profile: fields by rising number, varints as short as can be, packed numbers. A single number that
 /// is 0 and an empty field of packed numbers are left out, and so is `period_type` where it is empty.
 pub fn encode(alloc: Global, profile: &Profile) -> Result<Vec<u8>, NoMemory>
-    ensures { IfOk result (λ bytes. bytes.items ≡ canonical_bytes_of profile.now) }
+    ensures canonical { IfOk result (λ bytes. bytes.items ≡ canonical_bytes_of profile.now) }
+    ensures spelled { IfOk result (λ bytes. IsProfile bytes.items profile.now) }
 {
     let mut bytes = Vec::new(alloc);
     profile.draft().write(alloc, &mut bytes)?;

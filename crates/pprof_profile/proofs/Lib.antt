@@ -7,3 +7,4 @@ pub mod Appending
 pub mod ReadBack
 pub mod MessagesBack
 pub mod Plain
+pub mod WorkedProfiles

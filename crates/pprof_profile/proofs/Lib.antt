@@ -1,0 +1,10 @@
+pub mod Gathering
+pub mod KnownIds
+pub mod Once
+pub mod MessagesOnce
+pub mod ProfileOnce
+pub mod Appending
+pub mod ReadBack
+pub mod MessagesBack
+pub mod Plain
+pub mod WorkedProfiles

@@ -1,0 +1,17 @@
+use Rattle.std.proofs.Common.{rules}
+use Rattle.pprof_profile.proofs.tables.FunctionMessage.take.Goals as goal
+
+pub returns-in-1 : goal.returns-in-1
+returns-in-1 c = rw c.in-1.is (search rules)
+
+pub returns-in-2 : goal.returns-in-2
+returns-in-2 c = rw c.in-2.is (search rules)
+
+pub returns-in-3 : goal.returns-in-3
+returns-in-3 c = rw c.in-3.is (search rules)
+
+pub returns-in-4 : goal.returns-in-4
+returns-in-4 c = rw c.in-4.is (search rules)
+
+pub returns-in-5 : goal.returns-in-5
+returns-in-5 c = rw c.in-5.is (search rules)

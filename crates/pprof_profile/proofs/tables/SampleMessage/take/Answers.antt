@@ -1,0 +1,11 @@
+use Rattle.std.proofs.Common.{rules}
+use Rattle.pprof_profile.proofs.tables.SampleMessage.take.Goals as goal
+
+pub returns-in-1 : goal.returns-in-1
+returns-in-1 c = rw c.in-1.is (search rules)
+
+pub returns-in-2 : goal.returns-in-2
+returns-in-2 c = rw c.in-2.is (search rules)
+
+pub returns-in-3 : goal.returns-in-3
+returns-in-3 c = rw c.in-3.is (search rules)

@@ -1,0 +1,39 @@
+-- The bytes of a profile.
+use Rattle.std.specs.Prelude.{◌≡◌, ℕ, ◌⊎◌, List, ◌∷◌, Some}
+use Rattle.pprof_profile.specs.declared.faults.ProfileFault.{ProfileFault}
+use Rattle.pprof_profile.specs.declared.faults.ProfileFault.TheVariants.{Gzip}
+use Rattle.pprof_profile.specs.declared.messages.Draft.{Draft}
+use Rattle.pprof_profile.specs.Reading.{Spells, IsFirstFault}
+use Rattle.pprof_profile.specs.Messages.{no_draft, draft_table}
+use Rattle.pprof_profile.specs.Valid.{IsValidDraft, validity_fault}
+
+-- The bytes begin as those of gzip (RFC 1952, section 2.3.1).
+abbrev pub BeginsAsGzip : List ℕ → Type 0
+BeginsAsGzip bytes = (rest : List ℕ) × (bytes ≡ 31 ∷ 139 ∷ rest)
+
+-- The bytes spell the draft as a message, whether it is valid or not.
+abbrev pub SpellsDraft : List ℕ → Draft → Type 0
+SpellsDraft bytes draft = Spells draft_table no_draft bytes draft
+
+-- The bytes spell a valid draft.
+pub record IsProfile (bytes : List ℕ) (draft : Draft) : Type 0 where
+  pub plain : ¬ BeginsAsGzip bytes
+  pub spelled : SpellsDraft bytes draft
+  pub valid : IsValidDraft draft
+
+-- Why the bytes spell no draft: the first fault in reading order.
+pub record IsReadingFault (bytes : List ℕ) (fault : ProfileFault) : Type 0 where
+  pub plain : ¬ BeginsAsGzip bytes
+  pub first : IsFirstFault draft_table no_draft bytes fault
+
+-- The bytes spell a draft, and this is the first rule that it breaks.
+pub record SpellsInvalid (bytes : List ℕ) (fault : ProfileFault) : Type 0 where
+  pub plain : ¬ BeginsAsGzip bytes
+  pub draft : Draft
+  pub spelled : SpellsDraft bytes draft
+  pub first : validity_fault draft ≡ Some fault
+
+-- Why the bytes are no profile.
+abbrev pub IsProfileFault : List ℕ → ProfileFault → Type 0
+IsProfileFault bytes fault =
+    (BeginsAsGzip bytes × (fault ≡ Gzip)) ⊎ (IsReadingFault bytes fault ⊎ SpellsInvalid bytes fault)

@@ -1,0 +1,26 @@
+//! Profiles in the format of profile.proto: the messages, what makes them valid, and how they are read and written.
+//!
+//! `specs/` has the definitions that the contracts speak of.
+#![tactic(auto)]
+
+mod encoding;
+mod faults;
+mod ids;
+mod indices;
+mod items;
+pub mod laws;
+mod messages;
+mod numbers;
+mod profile;
+mod reading;
+mod tables;
+#[cfg(test)]
+mod tests;
+mod validity;
+mod writing;
+
+pub use faults::{ProfileFault, Refused};
+pub use items::{Items, Text};
+pub use messages::{Draft, Function, Label, Line, Location, Mapping, Sample, ValueType};
+pub use pprof_wire::{NoMemory, WireFault};
+pub use profile::{Profile, check, decode, encode};

@@ -1,0 +1,156 @@
+ghost use Rattle.std.specs.Prelude.{◌≡◌, ◌≢◌, ℕ, Result, Ok, Err, IfOk, IfErr, OnOk};
+ghost use Rattle.pprof_wire.specs.Fields.{FieldValue, value_of};
+ghost use Rattle.pprof_profile.specs.declared.faults.ProfileFault.{ProfileFault};
+ghost use Rattle.pprof_profile.specs.Reading.{Table, Spells, IsFirstFault, SetsNumber, AddsNumbers, AddsText, AddsMessage, MergesMessage, IsUnpacked, IsPackedFault};
+
+use crate::faults::ProfileFault;
+use crate::items::{Items, Text};
+use crate::numbers::Number;
+use pprof_wire::{Field, Fields, Value, WireFault, packed};
+use std::alloc::Global;
+
+/// A message of profile.proto.
+pub(crate) trait Message: Drop {
+    /// The message without fields.
+    ghost empty: { Self };
+
+    /// What each field does to it.
+    ghost table: { Table Self };
+
+    /// The message without fields. Takes no memory.
+    fn empty(alloc: Global) -> Self
+        ensures { result ≡ empty };
+
+    /// Takes one field.
+    fn take(&mut self, alloc: Global, field: Field) -> Result<(), ProfileFault>
+        ensures taken { OnOk result (table self.old field.entry.number (value_of field.entry.value) (Ok self.new)) }
+        ensures fault { IfErr result (λ fault. fault ≢ ProfileFault.NoMemory
+            → table self.old field.entry.number (value_of field.entry.value) (Err fault)) };
+}
+
+/// Takes each field of the bytes, in order, and stops at the first fault.
+pub(crate) fn read_onto<M: Message>(
+    alloc: Global,
+    message: &mut M,
+    bytes: &[u8],
+) -> Result<(), ProfileFault>
+    ensures read { OnOk result (Spells M.table message.old bytes.now message.new) }
+    ensures fault { IfErr result (λ fault. fault ≢ ProfileFault.NoMemory
+        → IsFirstFault M.table message.old bytes.now fault) }
+{
+    let mut fields = Fields::new(bytes);
+    while let Some(read) = fields.next_field() {
+        match read {
+            Ok(field) => message.take(alloc, field)?,
+            Err(fault) => return Err(ProfileFault::Wire(fault)),
+        }
+    }
+    Ok(())
+}
+
+/// The message that the bytes spell.
+pub(crate) fn read_message<M: Message>(alloc: Global, bytes: &[u8]) -> Result<M, ProfileFault>
+    ensures read { IfOk result (λ message. Spells M.table M.empty bytes.now message) }
+    ensures fault { IfErr result (λ fault. fault ≢ ProfileFault.NoMemory
+        → IsFirstFault M.table M.empty bytes.now fault) }
+{
+    let mut message = M::empty(alloc);
+    read_onto(alloc, &mut message, bytes)?;
+    Ok(message)
+}
+
+/// Puts the number of a field in its place: the last one counts.
+pub(crate) fn set_number<N: Number>(place: &mut N, value: Value) -> Result<(), ProfileFault>
+    ensures set { OnOk result (SetsNumber N.of place.old (value_of value.entry) (Ok place.new)) }
+    ensures fault { IfErr result (λ fault. SetsNumber N.of place.old (value_of value.entry) (Err fault)) }
+{
+    match value {
+        Value::Varint(number) => {
+            *place = N::from_varint(number);
+            Ok(())
+        }
+        _ => Err(ProfileFault::Wire(WireFault::WireType)),
+    }
+}
+
+/// Adds the number of a field, or the numbers that it holds packed.
+pub(crate) fn push_numbers<N: Number>(
+    items: &mut Items<N>,
+    value: Value,
+) -> Result<(), ProfileFault>
+    ensures added { OnOk result (AddsNumbers N.of items.old (value_of value.entry) (Ok items.new)) }
+    ensures fault { IfErr result (λ fault. fault ≢ ProfileFault.NoMemory
+        → AddsNumbers N.of items.old (value_of value.entry) (Err fault)) }
+{
+    match value {
+        Value::Varint(number) => Ok(items.push(N::from_varint(number))?),
+        Value::Bytes(bytes) => push_packed(items, bytes),
+        _ => Err(ProfileFault::Wire(WireFault::WireType)),
+    }
+}
+
+/// Adds the packed numbers.
+fn push_packed<N: Number>(items: &mut Items<N>, bytes: &[u8]) -> Result<(), ProfileFault>
+    ensures added { OnOk result (IsUnpacked N.of items.old bytes.now items.new) }
+    ensures fault { IfErr result (λ fault. fault ≢ ProfileFault.NoMemory → IsPackedFault bytes.now fault) }
+{
+    let mut numbers = packed(bytes);
+    while let Some(read) = numbers.next_value() {
+        match read {
+            Ok(number) => items.push(N::from_varint(number))?,
+            Err(fault) => return Err(ProfileFault::Wire(fault)),
+        }
+    }
+    Ok(())
+}
+
+/// Adds the text of a field.
+pub(crate) fn push_text(
+    alloc: Global,
+    items: &mut Items<Text>,
+    value: Value,
+) -> Result<(), ProfileFault>
+    ensures added { OnOk result (AddsText items.old (value_of value.entry) (Ok items.new)) }
+    ensures fault { IfErr result (λ fault. fault ≢ ProfileFault.NoMemory
+        → AddsText items.old (value_of value.entry) (Err fault)) }
+{
+    let Value::Bytes(bytes) = value else {
+        return Err(ProfileFault::Wire(WireFault::WireType));
+    };
+    match str::from_utf8(bytes) {
+        Ok(text) => Ok(items.push(Text::copied(alloc, text)?)?),
+        Err(_) => Err(ProfileFault::NotUtf8),
+    }
+}
+
+/// Adds the message of a field.
+pub(crate) fn push_message<M: Message>(
+    alloc: Global,
+    items: &mut Items<M>,
+    value: Value,
+) -> Result<(), ProfileFault>
+    ensures added { OnOk result (AddsMessage M.table M.empty items.old (value_of value.entry) (Ok items.new)) }
+    ensures fault { IfErr result (λ fault. fault ≢ ProfileFault.NoMemory
+        → AddsMessage M.table M.empty items.old (value_of value.entry) (Err fault)) }
+{
+    let Value::Bytes(bytes) = value else {
+        return Err(ProfileFault::Wire(WireFault::WireType));
+    };
+    Ok(items.push(read_message(alloc, bytes)?)?)
+}
+
+/// Takes the fields of a field's message together with those that came before.
+pub(crate) fn merge_message<M: Message>(
+    alloc: Global,
+    message: &mut M,
+    value: Value,
+) -> Result<(), ProfileFault>
+    ensures merged { OnOk result (MergesMessage M.table message.old (value_of value.entry) (Ok message.new)) }
+    ensures fault { IfErr result (λ fault. fault ≢ ProfileFault.NoMemory
+        → MergesMessage M.table message.old (value_of value.entry) (Err fault)) }
+{
+    let Value::Bytes(bytes) = value else {
+        return Err(ProfileFault::Wire(WireFault::WireType));
+    };
+    read_onto(alloc, message, bytes)
+}

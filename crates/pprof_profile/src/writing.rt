@@ -1,0 +1,139 @@
+ghost use Rattle.std.specs.Prelude.{◌≡◌, ◌++◌, ◌<◌, ◌^◌, List, length, map, IfOk, OnOk};
+ghost use Rattle.pprof_wire.specs.Fields.{PlainField, IsFieldNumber};
+ghost use Rattle.pprof_profile.specs.Canonical.{bytes_of_fields, number_fields, content_fields, each_field, packed_bytes, FitsNumbers, FitsTexts, FitsEach};
+
+use crate::items::{Items, Text};
+use crate::numbers::Number;
+use pprof_wire::{NoMemory, Value, write_field, write_varint};
+use std::alloc::Global;
+
+/// A message that can be written.
+pub(crate) trait Written {
+    /// The fields that are written.
+    ghost fields: { Self → List PlainField };
+
+    /// What its numbers, texts and memory can hold.
+    ghost fits: { Self → Type 0 };
+
+    /// Appends the fields.
+    fn write(&self, alloc: Global, out: &mut Vec<u8>) -> Result<(), NoMemory>
+        ensures written { OnOk result (out.new.items ≡ out.old.items ++ bytes_of_fields (fields self.now)) }
+        ensures fits { OnOk result (fits self.now) };
+}
+
+/// Appends a single number, if it is not 0.
+pub(crate) fn write_number<N: Number>(
+    out: &mut Vec<u8>,
+    number: u32,
+    value: &N,
+) -> Result<(), NoMemory>
+    requires { IsFieldNumber number }
+    ensures written { OnOk result (out.new.items ≡ out.old.items ++ bytes_of_fields (number_fields number (N.to value.now))) }
+    ensures fits { N.fits value.now }
+{
+    match value.to_varint() {
+        0 => Ok(()),
+        value => write_field(out, number, Value::Varint(value)),
+    }
+}
+
+/// Appends a field of this content, if it is not empty.
+fn write_content(out: &mut Vec<u8>, number: u32, content: &[u8]) -> Result<(), NoMemory>
+    requires { IsFieldNumber number }
+    ensures { OnOk result (out.new.items ≡ out.old.items ++ bytes_of_fields (content_fields number content.now)) }
+{
+    match content {
+        [] => Ok(()),
+        _ => write_field(out, number, Value::Bytes(content)),
+    }
+}
+
+/// Appends numbers, packed in one field, if there are any.
+pub(crate) fn write_numbers<N: Number>(
+    alloc: Global,
+    out: &mut Vec<u8>,
+    number: u32,
+    items: &Items<N>,
+) -> Result<(), NoMemory>
+    requires { IsFieldNumber number }
+    ensures written { OnOk result (out.new.items ≡ out.old.items
+        ++ bytes_of_fields (content_fields number (packed_bytes (map N.to items.now)))) }
+    ensures fits { OnOk result (FitsNumbers N.fits items.now) }
+    ensures short { OnOk result (length (packed_bytes (map N.to items.now)) < 2 ^ 64) }
+{
+    let mut content = Vec::new(alloc);
+    push_numbers(&mut content, items.as_slice())?;
+    write_content(out, number, content.as_slice())
+}
+
+/// Appends each number, one after the other.
+fn push_numbers<N: Number>(content: &mut Vec<u8>, items: &[N]) -> Result<(), NoMemory>
+    ensures written { OnOk result (content.new.items ≡ content.old.items ++ packed_bytes (map N.to items.now)) }
+    ensures fits { OnOk result (FitsNumbers N.fits items.now) }
+{
+    for item in items {
+        write_varint(content, item.to_varint())?;
+    }
+    Ok(())
+}
+
+/// Appends a field for each text.
+pub(crate) fn write_texts(
+    out: &mut Vec<u8>,
+    number: u32,
+    texts: &Items<Text>,
+) -> Result<(), NoMemory>
+    requires { IsFieldNumber number }
+    ensures written { OnOk result (out.new.items ≡ out.old.items ++ bytes_of_fields (each_field number texts.now)) }
+    ensures fits { OnOk result (FitsTexts texts.now) }
+{
+    for text in texts.as_slice() {
+        write_field(out, number, Value::Bytes(text.as_str().as_bytes()))?;
+    }
+    Ok(())
+}
+
+/// The content of a message's field.
+fn content_of<M: Written>(alloc: Global, item: &M) -> Result<Vec<u8>, NoMemory>
+    ensures content { IfOk result (λ content. content.items ≡ bytes_of_fields (M.fields item.now)) }
+    ensures fits { OnOk result (M.fits item.now × (length (bytes_of_fields (M.fields item.now)) < 2 ^ 64)) }
+{
+    let mut content = Vec::new(alloc);
+    item.write(alloc, &mut content)?;
+    Ok(content)
+}
+
+/// Appends a field for each message.
+pub(crate) fn write_messages<M: Written>(
+    alloc: Global,
+    out: &mut Vec<u8>,
+    number: u32,
+    items: &Items<M>,
+) -> Result<(), NoMemory>
+    requires { IsFieldNumber number }
+    ensures written { OnOk result (out.new.items ≡ out.old.items
+        ++ bytes_of_fields (each_field number (map (λ item. bytes_of_fields (M.fields item)) items.now))) }
+    ensures fits { OnOk result (FitsEach M.fits (λ item. bytes_of_fields (M.fields item)) items.now) }
+{
+    for item in items.as_slice() {
+        let content = content_of(alloc, item)?;
+        write_field(out, number, Value::Bytes(content.as_slice()))?;
+    }
+    Ok(())
+}
+
+/// Appends a single message, if it is not empty.
+pub(crate) fn write_message<M: Written>(
+    alloc: Global,
+    out: &mut Vec<u8>,
+    number: u32,
+    item: &M,
+) -> Result<(), NoMemory>
+    requires { IsFieldNumber number }
+    ensures written { OnOk result (out.new.items ≡ out.old.items
+        ++ bytes_of_fields (content_fields number (bytes_of_fields (M.fields item.now)))) }
+    ensures fits { OnOk result (M.fits item.now × (length (bytes_of_fields (M.fields item.now)) < 2 ^ 64)) }
+{
+    let content = content_of(alloc, item)?;
+    write_content(out, number, content.as_slice())
+}

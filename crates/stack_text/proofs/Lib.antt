@@ -1,13 +1,17 @@
 pub mod AnswerLaws
+pub mod Cleaning
 pub mod Counts
 pub mod EntryLaws
 pub mod Frames
+pub mod ItemsById
 pub mod Lines
 pub mod Members
 pub mod Pieces
+pub mod Placing
 pub mod Ranking
 pub mod Reading
 pub mod RowLaws
 pub mod SameNames
+pub mod SampleRows
 pub mod WorkedRows
 pub mod Writing

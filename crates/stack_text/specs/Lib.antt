@@ -6,6 +6,9 @@ pub mod Layout
 pub mod Names
 pub mod Order
 pub mod Paths
+pub mod Places
 pub mod Pushing
 pub mod Rows
+pub mod Samples
 pub mod TopList
+pub mod Unfolding

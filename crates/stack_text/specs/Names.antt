@@ -1,5 +1,5 @@
 -- What a frame is called. Texts are lists of bytes here.
-use Rattle.std.specs.Prelude.{ℕ, ◌≢◌, ◌<◌, List, All, Bool, ◌==◌, length}
+use Rattle.std.specs.Prelude.{ℕ, ◌≢◌, ◌<◌, List, [], ◌∷◌, All, Bool, ◌==◌, length, map, Option, Some, None, if◌then◌else◌}
 use Rattle.std.specs.declared.cmp.Ordering.{Ordering}
 use Rattle.std.specs.Ordering.{nat_cmp}
 use Rattle.std.specs.Str.{IsUtf8}
@@ -20,3 +20,12 @@ name_cmp = slice_cmp nat_cmp
 -- whether two names have the same bytes
 abbrev pub is_same_name : List ℕ → List ℕ → Bool
 is_same_name = pointwise ◌==◌
+
+-- A byte of a profile's text in a name: a semicolon becomes a colon, and a line feed a space.
+abbrev pub cleaned_byte : ℕ → ℕ
+cleaned_byte byte = if byte == 59 then 58 else (if byte == 10 then 32 else byte)
+
+-- the name of a profile's text, which is none where the text is empty
+abbrev pub cleaned_name_of : List ℕ → Option (List ℕ)
+cleaned_name_of [] = None
+cleaned_name_of (byte ∷ bytes) = Some (map cleaned_byte (byte ∷ bytes))

@@ -6,14 +6,18 @@ mod folded;
 mod known_names;
 pub mod laws;
 mod name;
+mod places;
+mod sampling;
 mod stack;
 #[cfg(test)]
 mod tests;
+mod unfolding;
 mod written;
 
 pub use batch::{Batch, MAX_TOTAL, PushFault, Refused, Row};
 pub use folded::{FoldedFault, read_folded};
 pub use name::{Name, NameFault};
 pub use pprof_wire::NoMemory;
+pub use sampling::{BatchFault, ValueChoice, batch_of, unfold};
 pub use stack::{MAX_DEPTH, Stack};
 pub use written::write_folded;

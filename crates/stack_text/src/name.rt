@@ -4,8 +4,10 @@ ghost use Rattle.std.specs.Ordering.{nat_cmp, as_partial_cmp};
 ghost use Rattle.std.specs.Cmp.Rules.{comparing};
 ghost use Rattle.std.specs.Cmp.{partial_order_from_own_ties};
 ghost use Rattle.std.proofs.Common.{rules};
-ghost use Rattle.stack_text.specs.Names.{IsName};
+ghost use Rattle.std.specs.Prelude.{map, string_bytes};
+ghost use Rattle.stack_text.specs.Names.{IsName, cleaned_byte, cleaned_name_of};
 
+use pprof_wire::NoMemory;
 use std::alloc::{AllocError, Global};
 use std::cmp::Ordering;
 use std::marker::Model;
@@ -49,6 +51,28 @@ fn is_name(text: &str) -> bool
     !text.is_empty() && text.bytes().all(|byte| byte != b';' && byte != b'\n')
 }
 
+/// A byte of a name for a byte of a profile's text: a colon for a semicolon, and a space for a line feed.
+fn cleaned_byte(byte: u8) -> u8
+    ensures { result ≡ cleaned_byte byte }
+{
+    match byte {
+        b';' => b':',
+        b'\n' => b' ',
+        _ => byte,
+    }
+}
+
+/// A text with each semicolon as a colon and each line feed as a space.
+fn cleaned_text(alloc: Global, text: &str) -> Result<String, NoMemory>
+    ensures { IfOk result (λ cleaned. string_bytes cleaned ≡ map cleaned_byte text.now) }
+{
+    let mut bytes = Vec::with_capacity(alloc, text.len())?;
+    for byte in text.as_bytes() {
+        bytes.push(cleaned_byte(*byte))?;
+    }
+    Ok(String::from_utf8_lossy(alloc, &bytes)?)
+}
+
 impl Name {
     /// Keeps a copy of the text as a name.
     ///
@@ -72,6 +96,24 @@ impl Name {
     {
         let text = ArcStr::from_str(alloc, text)?;
         Ok(Name { text })
+    }
+
+    /// The name of a profile's text: each semicolon becomes a colon and each line feed a space. Empty text gives none.
+    ///
+    /// # Errors
+    ///
+    /// `NoMemory`.
+    pub fn clean(alloc: Global, text: &str) -> Result<Option<Name>, NoMemory>
+        ensures { IfOk result (λ name. name ≡ cleaned_name_of text.now) }
+    {
+        if text.is_empty() {
+            return Ok(None);
+        }
+        if is_name(text) {
+            return Ok(Some(Name::keep(alloc, text)?));
+        }
+        let cleaned = cleaned_text(alloc, text)?;
+        Ok(Some(Name::keep(alloc, cleaned.as_str())?))
     }
 
     /// A second owner of the same text, which isn't copied. An error is the limit of owners (2^63).

@@ -1,0 +1,185 @@
+ghost use Rattle.std.specs.Prelude.{◌≡◌, ◌+◌, ◌^◌, ◌<◌, ◌∷◌, ◌++◌, [], ◌≤◌, IfErr, IfOk, List, MatchResult, OnOk, Some, ℕ, pos, length, slice_get};
+ghost use Rattle.pprof_profile.specs.declared.messages.ValueType.{ValueType};
+ghost use Rattle.stack_text.specs.declared.batch.Row.{Row};
+ghost use Rattle.stack_text.specs.Rows.{total_of};
+ghost use Rattle.stack_text.specs.Samples.{IsBatchOf, IsFirstBatchFault, IsSampleFault, IsSampleRow, IsValueFault, IsDepthFault, chosen_type_of, default_type, frames_of_sample, sample_stack_of, told_as, type_named};
+
+use crate::batch::{Batch, PushFault};
+use crate::name::Name;
+use crate::stack::{MAX_DEPTH, Stack};
+use crate::unfolding::{LocationFrames, string_at};
+use pprof_profile::{Draft, Profile, Sample};
+use pprof_wire::NoMemory;
+use std::alloc::Global;
+use thiserror::Error;
+
+/// Which value of each sample is its weight.
+#[derive(Clone, Copy, Debug)]
+pub enum ValueChoice<'a> {
+    /// That of the profile's `default_sample_type`: the first sample type of that name. Where it is 0 or names none, the last.
+    Default,
+    /// The first sample type of this name.
+    Named(&'a str),
+}
+
+/// Why a profile gives no batch. Samples are numbered from 0.
+#[derive(Clone, Copy, Debug, PartialEq, Eq, Error)]
+pub enum BatchFault {
+    /// There is no such sample type, or none at all.
+    #[error("B1 NoValue")]
+    NoValue,
+    /// The sample's value is below 0.
+    #[error("B2 Negative sample {sample}")]
+    Negative { sample: u64 },
+    /// The sample's stack has more than 65,535 frames.
+    #[error("B3 Depth sample {sample}")]
+    Depth { sample: u64 },
+    /// The weights so far, the sample's among them, are above 2^63 - 1 together.
+    #[error("B4 Heavy sample {sample}")]
+    Heavy { sample: u64 },
+    /// Memory ran out.
+    #[error("B5 NoMemory")]
+    NoMemory,
+}
+
+impl From<NoMemory> for BatchFault {
+    ghost use Rattle.std.specs.Prelude.{◌≡◌};
+    ghost use Rattle.stack_text.specs.declared.sampling.BatchFault.TheVariants.{NoMemory};
+
+    ghost from_gives = { λ _ fault. fault ≡ NoMemory };
+
+    fn from(_error: NoMemory) -> BatchFault {
+        BatchFault::NoMemory
+    }
+}
+
+/// The first sample type of this name.
+fn type_named(draft: &Draft, text: &str) -> Option<usize>
+    ensures { result ≡ type_named draft.now text.now }
+{
+    draft.sample_types.as_slice().iter().position(|kind| string_at(
+        draft.strings.as_slice(),
+        kind.kind,
+    ) == text)
+}
+
+/// The sample type that the profile itself chooses.
+fn default_type(draft: &Draft) -> Option<usize>
+    ensures { result ≡ default_type draft.now }
+{
+    let last = draft.sample_types.len().checked_sub(1);
+    if draft.default_sample_type == 0 {
+        return last;
+    }
+    type_named(
+        draft,
+        string_at(draft.strings.as_slice(), draft.default_sample_type),
+    )
+    .or(last)
+}
+
+/// The place of the chosen value among those of a sample.
+pub(crate) fn chosen_type(draft: &Draft, choice: ValueChoice) -> Option<usize>
+    ensures { result ≡ chosen_type_of draft.now choice.entry }
+{
+    match choice {
+        ValueChoice::Default => default_type(draft),
+        ValueChoice::Named(text) => type_named(draft, text),
+    }
+}
+
+/// The chosen value as a weight.
+pub(crate) fn weight_of(values: &[i64], chosen: usize, number: u64) -> Result<u64, BatchFault>
+    requires { chosen < length values.now }
+    ensures weight { IfOk result (λ weight. (slice_get values.now chosen ≡ Some (pos weight)) × (weight < 2 ^ 63)) }
+    ensures fault { IfErr result (IsValueFault chosen number values.now) }
+{
+    u64::try_from(values[chosen]).map_err(|_| BatchFault::Negative { sample: number })
+}
+
+/// The stack of a sample at these locations.
+pub(crate) fn stack_of(
+    alloc: Global,
+    frames: &LocationFrames,
+    ids: &[u64],
+    number: u64,
+) -> Result<Stack, BatchFault>
+    ensures stack { IfOk result (λ stack. (stack ≡ sample_stack_of frames.now ids.now) × (length (sample_stack_of frames.now ids.now) ≤ MAX_DEPTH)) }
+    ensures fault { IfErr result (IsDepthFault frames.now number ids.now) }
+{
+    if !frames.fit(ids) {
+        return Err(BatchFault::Depth { sample: number });
+    }
+    let mut names = frames.leaf_first(alloc, ids)?;
+    names.reverse();
+    Stack::make(names).map_err(|_| BatchFault::Depth { sample: number })
+}
+
+/// Adds the row of a sample, where it gives one that can follow the rows of the batch.
+fn add_sample(
+    alloc: Global,
+    frames: &LocationFrames,
+    batch: &mut Batch,
+    chosen: usize,
+    sample: &Sample,
+    number: u64,
+) -> Result<(), BatchFault>
+    requires { chosen < length sample.now.values }
+    ensures added { OnOk result ((row : Row) × IsSampleRow frames.now chosen sample.now row × (total_of batch.old + row.weight < 2 ^ 63)
+        × (batch.new ≡ batch.old ++ row ∷ [])) }
+    ensures fault { IfErr result (IsSampleFault frames.now chosen (total_of batch.old) number sample.now) }
+{
+    let weight = weight_of(sample.values.as_slice(), chosen, number)?;
+    let stack = stack_of(alloc, frames, sample.location_ids.as_slice(), number)?;
+    match batch.push(stack, weight) {
+        Ok(()) => Ok(()),
+        Err(refused) => Err(push_fault(refused.fault, number)),
+    }
+}
+
+/// What a refused row is told as.
+pub(crate) fn push_fault(fault: PushFault, number: u64) -> BatchFault
+    ensures { result ≡ told_as number fault }
+{
+    match fault {
+        PushFault::Heavy { held: _ } => BatchFault::Heavy { sample: number },
+        PushFault::NoMemory => BatchFault::NoMemory,
+    }
+}
+
+/// The rows of a profile's samples: a row for each, in order. Its stack has the frames of the sample's locations, root first; its
+/// weight is the chosen value.
+///
+/// # Errors
+///
+/// `NoValue` where there is no such sample type. Else the fault of the first sample that has one, in the order of [`BatchFault`]'s
+/// variants; `NoMemory`.
+pub fn batch_of(alloc: Global, profile: &Profile, choice: ValueChoice) -> Result<Batch, BatchFault>
+    ensures read { MatchResult result (λ batch. IsBatchOf profile.now choice.entry batch) (λ fault. IsFirstBatchFault profile.now choice.entry fault) }
+    ensures accepted { (rows : List Row) → IsBatchOf profile.now choice.entry rows
+        → MatchResult result (λ batch. batch ≡ rows) (λ fault. fault ≡ BatchFault.NoMemory) }
+{
+    let Some(chosen) = chosen_type(profile.draft(), choice) else {
+        return Err(BatchFault::NoValue);
+    };
+    let frames = LocationFrames::new(alloc, profile)?;
+    let mut batch = Batch::new(alloc);
+    for (index, sample) in profile.draft().samples.as_slice().iter().enumerate() {
+        add_sample(alloc, &frames, &mut batch, chosen, sample, index as u64)?;
+    }
+    Ok(batch)
+}
+
+/// The names of a sample's frames, leaf first: the lines of its locations in order. Samples are numbered from 0.
+///
+/// # Errors
+///
+/// `NoMemory`.
+pub fn unfold(alloc: Global, profile: &Profile, sample: usize) -> Result<Vec<Name>, NoMemory>
+    requires { sample < length profile.now.samples }
+    ensures { IfOk result (λ names. names.items ≡ frames_of_sample profile.now sample) }
+{
+    let frames = LocationFrames::new(alloc, profile)?;
+    let samples = profile.draft().samples.as_slice();
+    frames.leaf_first(alloc, samples[sample].location_ids.as_slice())
+}

@@ -10,5 +10,6 @@ pub mod Places
 pub mod Pushing
 pub mod Rows
 pub mod Samples
+pub mod Sums
 pub mod TopList
 pub mod Unfolding

@@ -1,6 +1,7 @@
-ghost use Rattle.std.specs.Prelude.{◌≡◌, ◌≤◌, ◌+◌, ◌^◌, ◌<◌, ◌++◌, ◌∷◌, [], IfErr, OnErr, OnOk};
+ghost use Rattle.std.specs.Prelude.{◌≡◌, ◌≤◌, ◌+◌, ◌^◌, ◌<◌, ◌++◌, ◌∷◌, [], length, IfErr, OnErr, OnOk};
 ghost use Rattle.stack_text.specs.Rows.{total_of};
 ghost use Rattle.stack_text.specs.Pushing.{IsPushFault};
+ghost use Rattle.stack_text.specs.Sums.{with_added_at};
 
 use crate::stack::Stack;
 use std::alloc::Global;
@@ -116,6 +117,31 @@ impl Batch {
                 })
             }
         }
+    }
+}
+
+impl Batch {
+    /// Makes a row weigh so much more. Takes no memory.
+    ///
+    /// # Errors
+    ///
+    /// `Heavy` exactly where the total would pass [`MAX_TOTAL`], with the total. The batch is then as it was.
+    pub(crate) fn add_weight(&mut self, at: usize, weight: u64) -> Result<(), PushFault>
+        requires { at < length self.old }
+        ensures added { OnOk result (self.new ≡ with_added_at self.old at weight) }
+        ensures fits { OnOk result (total_of self.old + weight < 2 ^ 63) }
+        ensures unchanged { OnErr result (self.new ≡ self.old) }
+        ensures heavy { IfErr result (λ fault. (fault ≡ PushFault.Heavy (total_of self.old)) × (2 ^ 63 ≤ total_of self.old + weight)) }
+    {
+        let held = self.total;
+        let room = MAX_TOTAL - held;
+        if room < weight {
+            return Err(PushFault::Heavy { held });
+        }
+        let row = &mut self.rows[at];
+        row.weight += weight;
+        self.total = held + weight;
+        Ok(())
     }
 }
 

@@ -1,0 +1,46 @@
+-- Rows in which equal stacks were put together.
+use Rattle.std.specs.Prelude.{ℕ, ◌≡◌, ◌+◌, ◌<◌, ◌≤◌, List, [], Option, IfSome, length, slice_index_or, slice_set}
+use Rattle.std.specs.HashMap as hash
+use Rattle.std.specs.HashMap.{HashMap}
+use Rattle.std.specs.Str.{bytes_eq}
+use Rattle.std.specs.declared.hash.FoldHasher.{FoldHasher}
+use Rattle.std.specs.declared.hash.BuildHasherDefault.{BuildHasherDefault}
+use denote.Ref.{Bor}
+use Rattle.pprof_profile.specs.declared.messages.Draft.{Draft}
+use Rattle.stack_text.specs.declared.batch.Row.{Row}
+use Rattle.stack_text.specs.declared.sampling.ValueChoice.{ValueChoice}
+use Rattle.stack_text.specs.Aggregate.{aggregate_of}
+use Rattle.stack_text.specs.FoldedText.{IsFoldedText}
+use Rattle.stack_text.specs.Samples.{IsBatchOf}
+
+-- the rows add up to what the text is folded text of
+pub record IsSumOfText (text : List ℕ) (sums : List Row) : Type 0 where
+  pub rows : List Row
+  pub folded : IsFoldedText text rows
+  pub same : aggregate_of sums ≡ aggregate_of rows
+
+-- the rows add up to those of a profile's samples
+pub record IsSumOfBatch (draft : Draft) (choice : ValueChoice) (sums : List Row) : Type 0 where
+  pub rows : List Row
+  pub sampled : IsBatchOf draft choice rows
+  pub same : aggregate_of sums ≡ aggregate_of rows
+
+-- the row at an index; past the end one without frames and weight
+abbrev pub row_at : List Row → ℕ → Row
+row_at rows at = slice_index_or rows at (record { stack = []; weight = 0 })
+
+-- the rows, of which the one at an index weighs so much more
+abbrev pub with_added_at : List Row → ℕ → ℕ → List Row
+with_added_at rows at weight = slice_set rows at (record { stack = (row_at rows at).stack; weight = (row_at rows at).weight + weight })
+
+-- rows by what spells their stacks
+abbrev pub RowsBySpelling : Type 0
+RowsBySpelling = HashMap (Bor (List ℕ)) ℕ (BuildHasherDefault FoldHasher)
+
+abbrev pub row_spelled : RowsBySpelling → List ℕ → Option ℕ
+row_spelled known spelling = hash.get_by (λ (key : Bor (List ℕ)). bytes_eq spelling key.now) known
+
+-- what a spelling leads to is a row of the stack that it spells
+abbrev pub ArePlacedBy : (List ℕ → List (List ℕ)) → RowsBySpelling → List Row → Type 0
+ArePlacedBy stack_of known rows = (spelling : List ℕ)
+    → IfSome (row_spelled known spelling) (λ at. (at < length rows) × ((row_at rows at).stack ≡ stack_of spelling) × (length (stack_of spelling) ≤ 65535))

@@ -1,6 +1,7 @@
 pub mod AnswerLaws
 pub mod Counts
 pub mod EntryLaws
+pub mod FirstFault
 pub mod Frames
 pub mod Lines
 pub mod Members

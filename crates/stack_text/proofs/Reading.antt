@@ -66,12 +66,12 @@ cut_at ((byte ∷ l) ∷ before) line after (r ∷ rows) all some =
     let rest = cut_at before line after rows all.1 some in
     (r ∷ rest.0, rest.1, rest.2, ap (λ z. r ∷ z) rest.3, (all.0, rest.4), rest.5)
 
-record Shares (line : List ℕ) (row : Row) (stack digits : List ℕ) : Type 0 where
-  frames : row.stack ≡ frames_of stack
-  weight : row.weight ≡ digits_value 10 digits
+pub record Shares (line : List ℕ) (row : Row) (stack digits : List ℕ) : Type 0 where
+  pub frames : row.stack ≡ frames_of stack
+  pub weight : row.weight ≡ digits_value 10 digits
 
 -- a row of the line has the line's one count
-shared : (line : List ℕ) (row : Row) (stack digits : List ℕ) → IsRowLine line row → HasCount line stack digits → Shares line row stack digits
+pub shared : (line : List ℕ) (row : Row) (stack digits : List ℕ) → IsRowLine line row → HasCount line stack digits → Shares line row stack digits
 shared line row stack digits this count =
     let parts = HasCount-same line this.counted.0 stack this.counted.1 digits this.counted.2.count count in
     record { frames = this.counted.2.frames ∙ ap frames_of parts.0; weight = this.counted.2.weight ∙ ap (digits_value 10) parts.1 }
@@ -93,17 +93,22 @@ faultless held number line row (Heavy at) this fits h =
     absurd (omega (arith, same, fits, h.3))
 faultless held number line row NoMemory this fits h = refl
 
--- folded text has no first fault but want of memory
-pub IsFirstFault-folded : (text : List ℕ) (rows : List Row) (fault : FoldedFault) → IsFoldedText text rows → IsFirstFault text fault → fault ≡ NoMemory
-IsFirstFault-folded text rows fault folded (before, line, after, front, cut, known, fits, some, there) =
-    let cut_rows = cut_at before line after rows (subst (λ ls. AreRowLines ls rows) cut folded.rows_lines) some in
+-- a line among those of rows within the limit has no fault but want of memory
+pub faultless_at : (before : List (List ℕ)) (line : List ℕ) (after : List (List ℕ)) (front rows : List Row) (number : ℕ) (fault : FoldedFault) → AreRowLines (before ++ line ∷ after) rows → total_of rows < 2 ^ 63
+    → AreRowLines before front → 0 < length line → IsLineFault (total_of front) number line fault → fault ≡ NoMemory
+faultless_at before line after front rows number fault all fits known some there =
+    let cut_rows = cut_at before line after rows all some in
     let same : front ≡ cut_rows.0 = AreRowLines-same before front cut_rows.0 known cut_rows.4 in
     let total : total_of rows ≡ total_of (cut_rows.0 ++ cut_rows.1 ∷ cut_rows.2) = ap total_of cut_rows.3 in
     let parts = sum_by-append (λ (row : Row). row.weight) cut_rows.0 (cut_rows.1 ∷ cut_rows.2) in
     let row = sum_by-cons (λ (row : Row). row.weight) cut_rows.1 cut_rows.2 in
-    let all = folded.total_fits in
     let held = ap total_of same in
-    faultless (total_of front) (length before + 1) line cut_rows.1 fault cut_rows.5 (omega (arith, total, parts, row, all, held)) there
+    faultless (total_of front) number line cut_rows.1 fault cut_rows.5 (omega (arith, total, parts, row, fits, held)) there
+
+-- folded text has no first fault but want of memory
+pub IsFirstFault-folded : (text : List ℕ) (rows : List Row) (fault : FoldedFault) → IsFoldedText text rows → IsFirstFault text fault → fault ≡ NoMemory
+IsFirstFault-folded text rows fault folded (before, line, after, front, cut, known, fits, some, there) =
+    faultless_at before line after front rows (length before + 1) fault (subst (λ ls. AreRowLines ls rows) cut folded.rows_lines) folded.total_fits known some there
 
 -- one text has one list of rows
 pub IsFoldedText-same : (text : List ℕ) (rows others : List Row) → IsFoldedText text rows → IsFoldedText text others → rows ≡ others

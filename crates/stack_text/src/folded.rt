@@ -1,7 +1,8 @@
-ghost use Rattle.std.specs.Prelude.{ℕ, ◌≡◌, ◌≢◌, ◌+◌, ◌^◌, ◌<◌, ◌≤◌, ◌↔◌, ◌∷◌, ◌++◌, [], All, IfErr, IfOk, IsTrue, List, MatchOption, MatchResult, OnOk, length};
+ghost use Rattle.std.specs.Prelude.{ℕ, ◌≡◌, ◌≢◌, ◌⊎◌, ◌+◌, ◌^◌, ◌<◌, ◌≤◌, ◌↔◌, ◌∷◌, ◌++◌, [], All, IfErr, IfOk, IsTrue, List, MatchOption, MatchResult, OnOk, length};
 ghost use Rattle.std.specs.Str.{IsUtf8};
 ghost use Rattle.std.specs.Str.Parse.{IsNumeral, digits_value};
 ghost use Rattle.stack_text.specs.declared.batch.Row.{Row};
+ghost use Rattle.stack_text.specs.declared.folded.FoldedFault.{FoldedFault};
 ghost use Rattle.stack_text.specs.FoldedText.{HasCount, IsFirstFault, IsFoldedText, IsLineFault, IsRowLine, IsCountFault, frames_of};
 ghost use Rattle.stack_text.specs.Names.{IsName};
 ghost use Rattle.stack_text.specs.Rows.{total_of};
@@ -204,6 +205,8 @@ pub fn read_folded(alloc: Global, text: &[u8]) -> Result<Batch, FoldedFault>
     ensures read { MatchResult result (λ batch. IsFoldedText text.now batch) (λ fault. IsFirstFault text.now fault) }
     ensures accepted { (rows : List Row) → IsFoldedText text.now rows
         → MatchResult result (λ batch. batch ≡ rows) (λ fault. fault ≡ FoldedFault.NoMemory) }
+    ensures every_fault { (first : FoldedFault) → first ≢ FoldedFault.NoMemory → IsFirstFault text.now first
+        → MatchResult result (λ batch. ⊥) (λ fault. (fault ≡ FoldedFault.NoMemory) ⊎ (fault ≡ first)) }
 {
     let mut names = KnownNames::new(alloc);
     let mut batch = Batch::new(alloc);

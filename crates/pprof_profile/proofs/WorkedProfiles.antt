@@ -1,14 +1,12 @@
 -- Worked examples, computed by the definitions. Each is checked by evaluating it.
-use Rattle.std.proofs.Common.{◌≡◌, ℕ, pos, negsuc, false, List, [], ◌∷◌, refl, codes, Some, None}
+use Rattle.std.proofs.Common.{◌≡◌, pos, negsuc, false, [], ◌∷◌, refl, codes, Some, None}
 use Rattle.pprof_wire.specs.Varints.{varint_of}
 use Rattle.pprof_profile.specs.declared.faults.ProfileFault.TheVariants.{FirstString, StringIndex, NoLocation, NoMapping, ValueCount, ZeroId, DoubleId}
-use Rattle.pprof_profile.specs.declared.messages.ValueType.{ValueType}
-use Rattle.pprof_profile.specs.declared.messages.Line.{Line}
 use Rattle.pprof_profile.specs.declared.messages.Function.{Function}
 use Rattle.pprof_profile.specs.declared.messages.Location.{Location}
 use Rattle.pprof_profile.specs.declared.messages.Sample.{Sample}
 use Rattle.pprof_profile.specs.declared.messages.Draft.{Draft}
-use Rattle.pprof_profile.specs.Messages.{no_draft, no_value_type}
+use Rattle.pprof_profile.specs.Messages.{no_draft}
 use Rattle.pprof_profile.specs.Valid.{validity_fault}
 use Rattle.pprof_profile.specs.Canonical.{canonical_bytes_of}
 

@@ -15,7 +15,12 @@ impl Written for ValueType {
 
     ghost fits = { FitsValueType };
 
-    fn write(&self, _alloc: Global, out: &mut Vec<u8>) -> Result<(), NoMemory> {
+    fn write(
+        &self,
+        _alloc: Global,
+        out: &mut Vec<u8>,
+        _spare: &mut Vec<u8>,
+    ) -> Result<(), NoMemory> {
         write_number(out, 1, &self.kind)?;
         write_number(out, 2, &self.unit)
     }
@@ -26,7 +31,12 @@ impl Written for Line {
 
     ghost fits = { FitsLine };
 
-    fn write(&self, _alloc: Global, out: &mut Vec<u8>) -> Result<(), NoMemory> {
+    fn write(
+        &self,
+        _alloc: Global,
+        out: &mut Vec<u8>,
+        _spare: &mut Vec<u8>,
+    ) -> Result<(), NoMemory> {
         write_number(out, 1, &self.function_id)?;
         write_number(out, 2, &self.line)
     }
@@ -37,7 +47,12 @@ impl Written for Label {
 
     ghost fits = { FitsLabel };
 
-    fn write(&self, _alloc: Global, out: &mut Vec<u8>) -> Result<(), NoMemory> {
+    fn write(
+        &self,
+        _alloc: Global,
+        out: &mut Vec<u8>,
+        _spare: &mut Vec<u8>,
+    ) -> Result<(), NoMemory> {
         write_number(out, 1, &self.key)?;
         write_number(out, 2, &self.text)?;
         write_number(out, 3, &self.num)?;
@@ -50,7 +65,12 @@ impl Written for Mapping {
 
     ghost fits = { FitsMapping };
 
-    fn write(&self, _alloc: Global, out: &mut Vec<u8>) -> Result<(), NoMemory> {
+    fn write(
+        &self,
+        _alloc: Global,
+        out: &mut Vec<u8>,
+        _spare: &mut Vec<u8>,
+    ) -> Result<(), NoMemory> {
         write_mapping_place_fields(self, out)?;
         write_mapping_detail_fields(self, out)
     }
@@ -82,7 +102,12 @@ impl Written for Function {
 
     ghost fits = { FitsFunction };
 
-    fn write(&self, _alloc: Global, out: &mut Vec<u8>) -> Result<(), NoMemory> {
+    fn write(
+        &self,
+        _alloc: Global,
+        out: &mut Vec<u8>,
+        _spare: &mut Vec<u8>,
+    ) -> Result<(), NoMemory> {
         write_number(out, 1, &self.id)?;
         write_number(out, 2, &self.name)?;
         write_number(out, 3, &self.system_name)?;
@@ -96,11 +121,11 @@ impl Written for Location {
 
     ghost fits = { FitsLocation };
 
-    fn write(&self, alloc: Global, out: &mut Vec<u8>) -> Result<(), NoMemory> {
+    fn write(&self, alloc: Global, out: &mut Vec<u8>, spare: &mut Vec<u8>) -> Result<(), NoMemory> {
         write_number(out, 1, &self.id)?;
         write_number(out, 2, &self.mapping_id)?;
         write_number(out, 3, &self.address)?;
-        write_messages(alloc, out, 4, &self.lines)?;
+        write_messages(alloc, out, 4, &self.lines, spare)?;
         write_number(out, 5, &self.is_folded)
     }
 }
@@ -110,10 +135,10 @@ impl Written for Sample {
 
     ghost fits = { FitsSample };
 
-    fn write(&self, alloc: Global, out: &mut Vec<u8>) -> Result<(), NoMemory> {
-        write_numbers(alloc, out, 1, &self.location_ids)?;
-        write_numbers(alloc, out, 2, &self.values)?;
-        write_messages(alloc, out, 3, &self.labels)
+    fn write(&self, alloc: Global, out: &mut Vec<u8>, spare: &mut Vec<u8>) -> Result<(), NoMemory> {
+        write_numbers(out, 1, &self.location_ids, spare)?;
+        write_numbers(out, 2, &self.values, spare)?;
+        write_messages(alloc, out, 3, &self.labels, spare)
     }
 }
 
@@ -122,21 +147,26 @@ impl Written for Draft {
 
     ghost fits = { FitsDraft };
 
-    fn write(&self, alloc: Global, out: &mut Vec<u8>) -> Result<(), NoMemory> {
-        write_draft_item_fields(alloc, self, out)?;
-        write_draft_setting_fields(alloc, self, out)
+    fn write(&self, alloc: Global, out: &mut Vec<u8>, spare: &mut Vec<u8>) -> Result<(), NoMemory> {
+        write_draft_item_fields(alloc, self, out, spare)?;
+        write_draft_setting_fields(alloc, self, out, spare)
     }
 }
 
-fn write_draft_item_fields(alloc: Global, item: &Draft, out: &mut Vec<u8>) -> Result<(), NoMemory>
+fn write_draft_item_fields(
+    alloc: Global,
+    item: &Draft,
+    out: &mut Vec<u8>,
+    spare: &mut Vec<u8>,
+) -> Result<(), NoMemory>
     ensures written { OnOk result (out.new.items ≡ out.old.items ++ bytes_of_fields (draft_item_fields item.now)) }
     ensures fits { OnOk result ((FitsEach FitsValueType value_type_bytes item.now.sample_types) × (FitsEach FitsSample sample_bytes item.now.samples) × (FitsEach FitsMapping mapping_bytes item.now.mappings) × (FitsEach FitsLocation location_bytes item.now.locations) × (FitsEach FitsFunction function_bytes item.now.functions) × (FitsTexts item.now.strings)) }
 {
-    write_messages(alloc, out, 1, &item.sample_types)?;
-    write_messages(alloc, out, 2, &item.samples)?;
-    write_messages(alloc, out, 3, &item.mappings)?;
-    write_messages(alloc, out, 4, &item.locations)?;
-    write_messages(alloc, out, 5, &item.functions)?;
+    write_messages(alloc, out, 1, &item.sample_types, spare)?;
+    write_messages(alloc, out, 2, &item.samples, spare)?;
+    write_messages(alloc, out, 3, &item.mappings, spare)?;
+    write_messages(alloc, out, 4, &item.locations, spare)?;
+    write_messages(alloc, out, 5, &item.functions, spare)?;
     write_texts(out, 6, &item.strings)
 }
 
@@ -144,6 +174,7 @@ fn write_draft_setting_fields(
     alloc: Global,
     item: &Draft,
     out: &mut Vec<u8>,
+    spare: &mut Vec<u8>,
 ) -> Result<(), NoMemory>
     ensures written { OnOk result (out.new.items ≡ out.old.items ++ bytes_of_fields (draft_setting_fields item.now)) }
     ensures fits { OnOk result ((FitsSigned w64 item.now.drop_frames) × (FitsSigned w64 item.now.keep_frames) × (FitsSigned w64 item.now.time_nanos) × (FitsSigned w64 item.now.duration_nanos) × (FitsValueType item.now.period_type × (length (value_type_bytes item.now.period_type) < 2 ^ 64)) × (FitsSigned w64 item.now.period) × (FitsNumbers (FitsSigned w64) item.now.comments × (length (packed_bytes (map number_of_signed item.now.comments)) < 2 ^ 64)) × (FitsSigned w64 item.now.default_sample_type)) }
@@ -152,8 +183,8 @@ fn write_draft_setting_fields(
     write_number(out, 8, &item.keep_frames)?;
     write_number(out, 9, &item.time_nanos)?;
     write_number(out, 10, &item.duration_nanos)?;
-    write_message(alloc, out, 11, &item.period_type)?;
+    write_message(alloc, out, 11, &item.period_type, spare)?;
     write_number(out, 12, &item.period)?;
-    write_numbers(alloc, out, 13, &item.comments)?;
+    write_numbers(out, 13, &item.comments, spare)?;
     write_number(out, 14, &item.default_sample_type)
 }

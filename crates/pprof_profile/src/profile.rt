@@ -93,7 +93,8 @@ pub fn encode(alloc: Global, profile: &Profile) -> Result<Vec<u8>, NoMemory>
     ensures spelled { IfOk result (λ bytes. IsProfile bytes.items profile.now) }
 {
     let mut bytes = Vec::new(alloc);
-    profile.draft().write(alloc, &mut bytes)?;
+    let mut spare = Vec::new(alloc);
+    profile.draft().write(alloc, &mut bytes, &mut spare)?;
     Ok(bytes)
 }
 

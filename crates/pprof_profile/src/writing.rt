@@ -15,8 +15,8 @@ pub(crate) trait Written {
     /// What its numbers, texts and memory can hold.
     ghost fits: { Self → Type 0 };
 
-    /// Appends the fields.
-    fn write(&self, alloc: Global, out: &mut Vec<u8>) -> Result<(), NoMemory>
+    /// Appends the fields. What is nested in them is written to `spare` first, since its length stands before it.
+    fn write(&self, alloc: Global, out: &mut Vec<u8>, spare: &mut Vec<u8>) -> Result<(), NoMemory>
         ensures written { OnOk result (out.new.items ≡ out.old.items ++ bytes_of_fields (fields self.now)) }
         ensures fits { OnOk result (fits self.now) };
 }
@@ -50,10 +50,10 @@ fn write_content(out: &mut Vec<u8>, number: u32, content: &[u8]) -> Result<(), N
 
 /// Appends numbers, packed in one field, if there are any.
 pub(crate) fn write_numbers<N: Number>(
-    alloc: Global,
     out: &mut Vec<u8>,
     number: u32,
     items: &Items<N>,
+    spare: &mut Vec<u8>,
 ) -> Result<(), NoMemory>
     requires { IsFieldNumber number }
     ensures written { OnOk result (out.new.items ≡ out.old.items
@@ -61,9 +61,9 @@ pub(crate) fn write_numbers<N: Number>(
     ensures fits { OnOk result (FitsNumbers N.fits items.now) }
     ensures short { OnOk result (length (packed_bytes (map N.to items.now)) < 2 ^ 64) }
 {
-    let mut content = Vec::new(alloc);
-    push_numbers(&mut content, items.as_slice())?;
-    write_content(out, number, content.as_slice())
+    spare.clear();
+    push_numbers(spare, items.as_slice())?;
+    write_content(out, number, spare.as_slice())
 }
 
 /// Appends each number, one after the other.
@@ -93,31 +93,37 @@ pub(crate) fn write_texts(
     Ok(())
 }
 
-/// The content of a message's field.
-fn content_of<M: Written>(alloc: Global, item: &M) -> Result<Vec<u8>, NoMemory>
-    ensures content { IfOk result (λ content. content.items ≡ bytes_of_fields (M.fields item.now)) }
+/// Writes a message where other content stood.
+fn replace_content<M: Written>(
+    alloc: Global,
+    content: &mut Vec<u8>,
+    item: &M,
+    spare: &mut Vec<u8>,
+) -> Result<(), NoMemory>
+    ensures content { OnOk result (content.new.items ≡ bytes_of_fields (M.fields item.now)) }
     ensures fits { OnOk result (M.fits item.now × (length (bytes_of_fields (M.fields item.now)) < 2 ^ 64)) }
 {
-    let mut content = Vec::new(alloc);
-    item.write(alloc, &mut content)?;
-    Ok(content)
+    content.clear();
+    item.write(alloc, content, spare)
 }
 
-/// Appends a field for each message.
+/// Appends a field for each message. One buffer serves for all of them, and one for what is nested in each.
 pub(crate) fn write_messages<M: Written>(
     alloc: Global,
     out: &mut Vec<u8>,
     number: u32,
     items: &Items<M>,
+    spare: &mut Vec<u8>,
 ) -> Result<(), NoMemory>
     requires { IsFieldNumber number }
     ensures written { OnOk result (out.new.items ≡ out.old.items
         ++ bytes_of_fields (each_field number (map (λ item. bytes_of_fields (M.fields item)) items.now))) }
     ensures fits { OnOk result (FitsEach M.fits (λ item. bytes_of_fields (M.fields item)) items.now) }
 {
+    let mut nested = Vec::new(alloc);
     for item in items.as_slice() {
-        let content = content_of(alloc, item)?;
-        write_field(out, number, Value::Bytes(content.as_slice()))?;
+        replace_content(alloc, spare, item, &mut nested)?;
+        write_field(out, number, Value::Bytes(spare.as_slice()))?;
     }
     Ok(())
 }
@@ -128,12 +134,14 @@ pub(crate) fn write_message<M: Written>(
     out: &mut Vec<u8>,
     number: u32,
     item: &M,
+    spare: &mut Vec<u8>,
 ) -> Result<(), NoMemory>
     requires { IsFieldNumber number }
     ensures written { OnOk result (out.new.items ≡ out.old.items
         ++ bytes_of_fields (content_fields number (bytes_of_fields (M.fields item.now)))) }
     ensures fits { OnOk result (M.fits item.now × (length (bytes_of_fields (M.fields item.now)) < 2 ^ 64)) }
 {
-    let content = content_of(alloc, item)?;
-    write_content(out, number, content.as_slice())
+    let mut nested = Vec::new(alloc);
+    replace_content(alloc, spare, item, &mut nested)?;
+    write_content(out, number, spare.as_slice())
 }

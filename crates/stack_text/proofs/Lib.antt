@@ -2,6 +2,7 @@ pub mod AnswerLaws
 pub mod Cleaning
 pub mod Counts
 pub mod EntryLaws
+pub mod FirstFault
 pub mod Frames
 pub mod ItemsById
 pub mod Lines

@@ -1,14 +1,15 @@
 -- What a text is folded text of.
-use Rattle.std.proofs.Common.{◌≡◌, ◌≢◌, ℕ, ◌+◌, ◌^◌, ◌<◌, List, [], ◌∷◌, ◌++◌, length, refl, sym, ap, ◌∙◌, arith, subst, append_assoc, length-append}
+use Rattle.std.proofs.Common.{◌≡◌, ◌≢◌, ℕ, ◌+◌, ◌^◌, ◌<◌, ◌≤◌, List, [], ◌∷◌, ◌++◌, length, refl, sym, ap, ◌∙◌, arith, subst, append_assoc, length-append}
 use Rattle.std.proofs.lemmas.List.{get_or_at, append-nil, nil_from_length}
 use Rattle.std.proofs.lemmas.List.Sums.{sum_by-cons, sum_by-append, sum_by_push}
+use Rattle.std.specs.Str.{IsUtf8}
 use Rattle.std.specs.Str.Lines.{lines}
 use Rattle.std.specs.Str.Parse.{digits_value}
 use Rattle.stack_text.specs.declared.batch.Row.{Row}
 use Rattle.stack_text.specs.declared.folded.FoldedFault.{FoldedFault}
 use Rattle.stack_text.specs.declared.folded.FoldedFault.TheVariants.{NotUtf8, NoCount, Count, Depth, Heavy, NoMemory}
 use Rattle.stack_text.specs.Rows.{total_of}
-use Rattle.stack_text.specs.FoldedText.{HasCount, IsRowLine, AreRowLines, IsFoldedText, IsLineFault, StandsFirst, IsFirstFault, frames_of}
+use Rattle.stack_text.specs.FoldedText.{HasCount, IsRowLine, AreRowLines, IsFoldedText, IsLineFault, IsFirstFault, frames_of}
 use Rattle.std.specs.Prelude.{Result, Ok, Err, MatchResult, All}
 use Rattle.stack_text.proofs.Counts.{HasCount-same}
 use Rattle.stack_text.proofs.Lines.{lines-one_line}
@@ -65,12 +66,12 @@ cut_at ((byte ∷ l) ∷ before) line after (r ∷ rows) all some =
     let rest = cut_at before line after rows all.1 some in
     (r ∷ rest.0, rest.1, rest.2, ap (λ z. r ∷ z) rest.3, (all.0, rest.4), rest.5)
 
-record Shares (line : List ℕ) (row : Row) (stack digits : List ℕ) : Type 0 where
-  frames : row.stack ≡ frames_of stack
-  weight : row.weight ≡ digits_value 10 digits
+pub record Shares (line : List ℕ) (row : Row) (stack digits : List ℕ) : Type 0 where
+  pub frames : row.stack ≡ frames_of stack
+  pub weight : row.weight ≡ digits_value 10 digits
 
 -- a row of the line has the line's one count
-shared : (line : List ℕ) (row : Row) (stack digits : List ℕ) → IsRowLine line row → HasCount line stack digits → Shares line row stack digits
+pub shared : (line : List ℕ) (row : Row) (stack digits : List ℕ) → IsRowLine line row → HasCount line stack digits → Shares line row stack digits
 shared line row stack digits this count =
     let parts = HasCount-same line this.counted.0 stack this.counted.1 digits this.counted.2.count count in
     record { frames = this.counted.2.frames ∙ ap frames_of parts.0; weight = this.counted.2.weight ∙ ap (digits_value 10) parts.1 }
@@ -92,25 +93,22 @@ faultless held number line row (Heavy at) this fits h =
     absurd (omega (arith, same, fits, h.3))
 faultless held number line row NoMemory this fits h = refl
 
--- folded text has no first fault but want of memory
-stands_nowhere : (text : List ℕ) (rows : List Row) (fault : FoldedFault) → IsFoldedText text rows → StandsFirst text fault → fault ≡ NoMemory
-stands_nowhere text rows fault folded (before, line, after, front, cut, known, fits, some, there) =
-    let cut_rows = cut_at before line after rows (subst (λ ls. AreRowLines ls rows) cut folded.rows_lines) some in
+-- a line among those of rows within the limit has no fault but want of memory
+pub faultless_at : (before : List (List ℕ)) (line : List ℕ) (after : List (List ℕ)) (front rows : List Row) (number : ℕ) (fault : FoldedFault) → AreRowLines (before ++ line ∷ after) rows → total_of rows < 2 ^ 63
+    → AreRowLines before front → 0 < length line → IsLineFault (total_of front) number line fault → fault ≡ NoMemory
+faultless_at before line after front rows number fault all fits known some there =
+    let cut_rows = cut_at before line after rows all some in
     let same : front ≡ cut_rows.0 = AreRowLines-same before front cut_rows.0 known cut_rows.4 in
     let total : total_of rows ≡ total_of (cut_rows.0 ++ cut_rows.1 ∷ cut_rows.2) = ap total_of cut_rows.3 in
     let parts = sum_by-append (λ (row : Row). row.weight) cut_rows.0 (cut_rows.1 ∷ cut_rows.2) in
     let row = sum_by-cons (λ (row : Row). row.weight) cut_rows.1 cut_rows.2 in
-    let all = folded.total_fits in
     let held = ap total_of same in
-    faultless (total_of front) (length before + 1) line cut_rows.1 fault cut_rows.5 (omega (arith, total, parts, row, all, held)) there
+    faultless (total_of front) number line cut_rows.1 fault cut_rows.5 (omega (arith, total, parts, row, fits, held)) there
 
+-- folded text has no first fault but want of memory
 pub IsFirstFault-folded : (text : List ℕ) (rows : List Row) (fault : FoldedFault) → IsFoldedText text rows → IsFirstFault text fault → fault ≡ NoMemory
-IsFirstFault-folded text rows (NotUtf8 at) folded h = stands_nowhere text rows (NotUtf8 at) folded h
-IsFirstFault-folded text rows (NoCount at) folded h = stands_nowhere text rows (NoCount at) folded h
-IsFirstFault-folded text rows (Count at) folded h = stands_nowhere text rows (Count at) folded h
-IsFirstFault-folded text rows (Depth at) folded h = stands_nowhere text rows (Depth at) folded h
-IsFirstFault-folded text rows (Heavy at) folded h = stands_nowhere text rows (Heavy at) folded h
-IsFirstFault-folded text rows NoMemory folded h = refl
+IsFirstFault-folded text rows fault folded (before, line, after, front, cut, known, fits, some, there) =
+    faultless_at before line after front rows (length before + 1) fault (subst (λ ls. AreRowLines ls rows) cut folded.rows_lines) folded.total_fits known some there
 
 -- one text has one list of rows
 pub IsFoldedText-same : (text : List ℕ) (rows others : List Row) → IsFoldedText text rows → IsFoldedText text others → rows ≡ others
@@ -121,6 +119,16 @@ pub only_answer : (text : List ℕ) (outcome : Result (List Row) FoldedFault) �
     → (rows : List Row) → IsFoldedText text rows → MatchResult outcome (λ batch. batch ≡ rows) (λ fault. fault ≡ NoMemory)
 only_answer text (Ok batch) read rows folded = IsFoldedText-same text batch rows read folded
 only_answer text (Err fault) read rows folded = IsFirstFault-folded text rows fault folded read
+
+-- the row of a line that was read
+pub IsRowLine-read : (line stack digits : List ℕ) (weight : ℕ) → IsUtf8 line → HasCount line stack digits → weight ≡ digits_value 10 digits
+    → length (frames_of stack) ≤ 65535 → weight < 2 ^ 63 → IsRowLine line (record { stack = frames_of stack; weight = weight })
+IsRowLine-read line stack digits weight utf8 count value depth fits = record {
+  utf8 = utf8;
+  counted = (stack, digits, record { count = count; frames = refl; weight = value });
+  depth = depth;
+  fits = fits;
+}
 
 -- ---- the loop over the lines
 
@@ -167,9 +175,9 @@ IsReadTo-one_line text rest count rows line next so_far e =
     subst (All (λ byte. byte ≢ 10)) (get_or_at so_far.before line next [] (length so_far.before) refl) (each (length so_far.before) [] (omega (arith, long)))
 
 -- a line with a fault is the first one
-stands : (text : List ℕ) (rest : List (List ℕ)) (count : ℕ) (rows : List Row) (line : List ℕ) (next : List (List ℕ)) (fault : FoldedFault)
-    → IsReadTo text rest count rows → rest ≡ line ∷ next → 0 < length line → IsLineFault (total_of rows) (count + 1) line fault → StandsFirst text fault
-stands text rest count rows line next fault so_far e some there = (
+pub IsReadTo-fault : (text : List ℕ) (rest : List (List ℕ)) (count : ℕ) (rows : List Row) (line : List ℕ) (next : List (List ℕ)) (fault : FoldedFault)
+    → IsReadTo text rest count rows → rest ≡ line ∷ next → 0 < length line → IsLineFault (total_of rows) (count + 1) line fault → IsFirstFault text fault
+IsReadTo-fault text rest count rows line next fault so_far e some there = (
   so_far.before,
   line,
   next,
@@ -180,15 +188,6 @@ stands text rest count rows line next fault so_far e some there = (
   some,
   subst (λ n. IsLineFault (total_of rows) (n + 1) line fault) so_far.counted there,
 )
-
-pub IsReadTo-fault : (text : List ℕ) (rest : List (List ℕ)) (count : ℕ) (rows : List Row) (line : List ℕ) (next : List (List ℕ)) (fault : FoldedFault)
-    → IsReadTo text rest count rows → rest ≡ line ∷ next → 0 < length line → IsLineFault (total_of rows) (count + 1) line fault → IsFirstFault text fault
-IsReadTo-fault text rest count rows line next (NotUtf8 at) so_far e some there = stands text rest count rows line next (NotUtf8 at) so_far e some there
-IsReadTo-fault text rest count rows line next (NoCount at) so_far e some there = stands text rest count rows line next (NoCount at) so_far e some there
-IsReadTo-fault text rest count rows line next (Count at) so_far e some there = stands text rest count rows line next (Count at) so_far e some there
-IsReadTo-fault text rest count rows line next (Depth at) so_far e some there = stands text rest count rows line next (Depth at) so_far e some there
-IsReadTo-fault text rest count rows line next (Heavy at) so_far e some there = stands text rest count rows line next (Heavy at) so_far e some there
-IsReadTo-fault text rest count rows line next NoMemory so_far e some there = tt
 
 pub IsReadTo-end : (text : List ℕ) (rest : List (List ℕ)) (count : ℕ) (rows : List Row) → IsReadTo text rest count rows → rest ≡ [] → IsFoldedText text rows
 IsReadTo-end text rest count rows so_far e =

@@ -1,6 +1,6 @@
 -- Folded stacks as text, read and written (FlameGraph, the header comment of flamegraph.pl: one line for each stack, its frames
 -- from root to leaf separated by semicolons, then a space and a count). What reads it strictly is this project's choice.
-use Rattle.std.specs.Prelude.{ℕ, ◌≡◌, ◌+◌, ◌^◌, ◌<◌, ◌≤◌, ◌==◌, ⊤, All, List, [], ◌∷◌, ◌++◌, filter, length, not}
+use Rattle.std.specs.Prelude.{ℕ, ◌≡◌, ◌+◌, ◌^◌, ◌<◌, ◌≤◌, ◌==◌, All, List, [], ◌∷◌, ◌++◌, filter, length, not}
 use Rattle.std.specs.List.{slice_split, flat_map, join_with_byte}
 use Rattle.std.specs.Fmt.{decimal}
 use Rattle.std.specs.Str.{IsUtf8}
@@ -56,19 +56,10 @@ IsCountFault number line (Count at) = (at ≡ number) × IsUtf8 line × (stack :
     × HasCount line stack digits × (2 ^ 63 ≤ digits_value 10 digits)
 IsCountFault number line (Depth at) = ⊥
 IsCountFault number line (Heavy at) = ⊥
-IsCountFault number line NoMemory = ⊤
+IsCountFault number line NoMemory = ⊥
 
--- why a stack text spells no stack
-abbrev pub IsStackFault : ℕ → List ℕ → FoldedFault → Type 0
-IsStackFault number text (NotUtf8 at) = ⊥
-IsStackFault number text (NoCount at) = ⊥
-IsStackFault number text (Count at) = ⊥
-IsStackFault number text (Depth at) = (at ≡ number) × (65535 < length (frames_of text))
-IsStackFault number text (Heavy at) = ⊥
-IsStackFault number text NoMemory = ⊤
-
--- Why a line, which isn't empty, spells no row that can follow rows of the weight `held`. Each case says that the ones
--- before it don't stand. Want of memory claims nothing.
+-- Why a line, which isn't empty, adds no row to rows of the weight `held`. Each case says that the ones before it don't stand,
+-- and memory runs out only at a line without a fault: one that spells a row which can follow.
 abbrev pub IsLineFault : ℕ → ℕ → List ℕ → FoldedFault → Type 0
 IsLineFault held number line (NotUtf8 at) = (at ≡ number) × ¬ IsUtf8 line
 IsLineFault held number line (NoCount at) = (at ≡ number) × IsUtf8 line × ((stack digits : List ℕ) → ¬ HasCount line stack digits)
@@ -77,22 +68,14 @@ IsLineFault held number line (Count at) = (at ≡ number) × IsUtf8 line × (sta
 IsLineFault held number line (Depth at) = (at ≡ number) × IsUtf8 line × (stack : List ℕ) × (digits : List ℕ)
     × HasCount line stack digits × (digits_value 10 digits < 2 ^ 63) × (65535 < length (frames_of stack))
 IsLineFault held number line (Heavy at) = (at ≡ number) × (row : Row) × IsRowLine line row × (2 ^ 63 ≤ held + row.weight)
-IsLineFault held number line NoMemory = ⊤
+IsLineFault held number line NoMemory = (row : Row) × IsRowLine line row × (held + row.weight < 2 ^ 63)
 
--- The fault stands at a line of the text, and the lines before it spell rows within the limit. Lines count from 1, empty ones too.
-abbrev pub StandsFirst : List ℕ → FoldedFault → Type 0
-StandsFirst text fault = (before : List (List ℕ)) × (line : List ℕ) × (after : List (List ℕ)) × (rows : List Row)
+-- The first fault of a text: it stands at a line, and the lines before it spell rows within the limit. Lines count from 1, empty
+-- ones too. Where memory ran out, the lines up to there have no fault.
+abbrev pub IsFirstFault : List ℕ → FoldedFault → Type 0
+IsFirstFault text fault = (before : List (List ℕ)) × (line : List ℕ) × (after : List (List ℕ)) × (rows : List Row)
     × (lines text ≡ before ++ line ∷ after) × AreRowLines before rows × (total_of rows < 2 ^ 63)
     × (0 < length line) × IsLineFault (total_of rows) (length before + 1) line fault
-
--- the first fault of a text that isn't folded text
-abbrev pub IsFirstFault : List ℕ → FoldedFault → Type 0
-IsFirstFault text (NotUtf8 at) = StandsFirst text (NotUtf8 at)
-IsFirstFault text (NoCount at) = StandsFirst text (NoCount at)
-IsFirstFault text (Count at) = StandsFirst text (Count at)
-IsFirstFault text (Depth at) = StandsFirst text (Depth at)
-IsFirstFault text (Heavy at) = StandsFirst text (Heavy at)
-IsFirstFault text NoMemory = ⊤
 
 -- what every row of a batch is: its names are names, within the limits
 pub record IsBatchRow (row : Row) : Type 0 where

@@ -1,13 +1,15 @@
-ghost use Rattle.std.specs.Prelude.{ℕ, ◌≡◌, ◌≢◌, ◌+◌, ◌^◌, ◌<◌, ◌≤◌, ◌↔◌, ◌∷◌, ◌++◌, [], All, IfErr, IfOk, IsTrue, List, MatchOption, MatchResult, OnOk, length};
+ghost use Rattle.std.specs.Prelude.{ℕ, ◌≡◌, ◌≢◌, ◌⊎◌, ◌+◌, ◌^◌, ◌<◌, ◌≤◌, ◌↔◌, ◌∷◌, ◌++◌, [], All, IfErr, IfOk, IsTrue, List, MatchOption, MatchResult, OnOk, length};
 ghost use Rattle.std.specs.Str.{IsUtf8};
 ghost use Rattle.std.specs.Str.Parse.{IsNumeral, digits_value};
 ghost use Rattle.stack_text.specs.declared.batch.Row.{Row};
-ghost use Rattle.stack_text.specs.FoldedText.{HasCount, IsFirstFault, IsFoldedText, IsLineFault, IsRowLine, IsStackFault, IsCountFault, frames_of};
+ghost use Rattle.stack_text.specs.declared.folded.FoldedFault.{FoldedFault};
+ghost use Rattle.stack_text.specs.FoldedText.{HasCount, IsFirstFault, IsFoldedText, IsLineFault, IsRowLine, IsCountFault, frames_of};
 ghost use Rattle.stack_text.specs.Names.{IsName};
 ghost use Rattle.stack_text.specs.Rows.{total_of};
 
-use crate::batch::{Batch, MAX_TOTAL, PushFault};
+use crate::batch::{Batch, MAX_TOTAL};
 use crate::known_names::KnownNames;
+use crate::name::Name;
 use crate::stack::{MAX_DEPTH, Stack};
 use bstr::ByteSlice;
 use std::alloc::{AllocError, AllocFailed, Global};
@@ -97,29 +99,29 @@ fn depth_of(text: &str) -> usize
     text.split(';').filter(|frame| !frame.is_empty()).count()
 }
 
-/// The stack that a stack text spells.
-fn stack_from<'a>(
+/// What a line spells: the text of a stack, how many frames that has, and the weight.
+struct Spelled<'a> {
+    stack: &'a str,
+    depth: usize,
+    weight: u64,
+}
+
+/// The names of the frames of a stack text, root first.
+fn names_from<'a>(
     alloc: Global,
     names: &mut KnownNames<'a>,
     text: &'a str,
-    number: u64,
-) -> Result<Stack, FoldedFault>
-    requires { All (λ byte. byte ≢ 10) text.now }
-    ensures stack { IfOk result (λ stack. (stack ≡ frames_of text.now) × (length (frames_of text.now) ≤ MAX_DEPTH)) }
-    ensures fault { IfErr result (IsStackFault number text.now) }
+    depth: usize,
+) -> Result<Vec<Name>, AllocError>
+    requires one_line { All (λ byte. byte ≢ 10) text.now }
+    requires depth { depth ≡ length (frames_of text.now) }
+    ensures { IfOk result (λ frames. frames.items ≡ frames_of text.now) }
 {
-    let depth = depth_of(text);
-    if depth > MAX_DEPTH {
-        return Err(FoldedFault::Depth { line: number });
-    }
     let mut frames = Vec::with_capacity(alloc, depth)?;
     for frame in text.split(';').filter(|frame| !frame.is_empty()) {
         frames.push(names.name_of(alloc, frame)?)?;
     }
-    match Stack::make(frames) {
-        Ok(stack) => Ok(stack),
-        Err(_) => Err(FoldedFault::Depth { line: number }),
-    }
+    Ok(frames)
 }
 
 /// The stack text and the weight of a line.
@@ -140,6 +142,30 @@ fn counted<'a>(line: &'a [u8], number: u64) -> Result<(&'a str, u64), FoldedFaul
     }
 }
 
+/// What a line spells, where its row can follow rows of the weight `held`. Takes no memory: a line's fault is found before memory
+/// can run out at that line.
+fn read_line<'a>(line: &'a [u8], held: u64, number: u64) -> Result<Spelled<'a>, FoldedFault>
+    requires { held < 2 ^ 63 }
+    ensures spelled { IfOk result (λ found. IsUtf8 line.now × (held + found.weight < 2 ^ 63)
+        × ((digits : List ℕ) × HasCount line.now found.stack.now digits × (found.weight ≡ digits_value 10 digits))
+        × (found.depth ≡ length (frames_of found.stack.now)) × (found.depth ≤ MAX_DEPTH)) }
+    ensures fault { IfErr result (IsLineFault held number line.now) }
+{
+    let (stack, weight) = counted(line, number)?;
+    let depth = depth_of(stack);
+    if depth > MAX_DEPTH {
+        return Err(FoldedFault::Depth { line: number });
+    }
+    if weight > MAX_TOTAL - held {
+        return Err(FoldedFault::Heavy { line: number });
+    }
+    Ok(Spelled {
+        stack,
+        depth,
+        weight,
+    })
+}
+
 /// Adds the row that a line spells, where it spells one that can follow the rows of the batch.
 fn add_line<'a>(
     alloc: Global,
@@ -153,14 +179,18 @@ fn add_line<'a>(
         × (batch.new ≡ batch.old ++ row ∷ [])) }
     ensures fault { IfErr result (IsLineFault (total_of batch.old) number line.now) }
 {
-    let (text, weight) = counted(line, number)?;
-    let stack = stack_from(alloc, names, text, number)?;
+    let Spelled {
+        stack,
+        depth,
+        weight,
+    } = read_line(line, batch.total(), number)?;
+    let frames = names_from(alloc, names, stack, depth)?;
+    let Ok(stack) = Stack::make(frames) else {
+        return Err(FoldedFault::Depth { line: number });
+    };
     match batch.push(stack, weight) {
         Ok(()) => Ok(()),
-        Err(refused) => Err(match refused.fault {
-            PushFault::Heavy { held: _ } => FoldedFault::Heavy { line: number },
-            PushFault::NoMemory => FoldedFault::NoMemory,
-        }),
+        Err(_) => Err(FoldedFault::NoMemory),
     }
 }
 
@@ -175,6 +205,8 @@ pub fn read_folded(alloc: Global, text: &[u8]) -> Result<Batch, FoldedFault>
     ensures read { MatchResult result (λ batch. IsFoldedText text.now batch) (λ fault. IsFirstFault text.now fault) }
     ensures accepted { (rows : List Row) → IsFoldedText text.now rows
         → MatchResult result (λ batch. batch ≡ rows) (λ fault. fault ≡ FoldedFault.NoMemory) }
+    ensures every_fault { (first : FoldedFault) → first ≢ FoldedFault.NoMemory → IsFirstFault text.now first
+        → MatchResult result (λ batch. ⊥) (λ fault. (fault ≡ FoldedFault.NoMemory) ⊎ (fault ≡ first)) }
 {
     let mut names = KnownNames::new(alloc);
     let mut batch = Batch::new(alloc);

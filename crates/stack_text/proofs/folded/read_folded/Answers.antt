@@ -9,6 +9,7 @@ use Rattle.stack_text.specs.Rows.{total_of}
 use Rattle.stack_text.specs.FoldedText.{IsLineFault}
 use Rattle.stack_text.proofs.Lines.{lines_of-lines}
 use Rattle.stack_text.proofs.Reading.{only_answer, IsReadTo-row, IsReadTo-skip, IsReadTo-one_line, IsReadTo-fault, IsReadTo-end}
+use Rattle.stack_text.proofs.FirstFault.{only_fault}
 use Rattle.stack_text.proofs.folded.read_folded.Goals as goal
 
 filled : (line : List ℕ) → (length line == 0) ≡ false → 0 < length line
@@ -44,6 +45,9 @@ returns-in_err-add_line-clause-read c =
 pub returns-in_err-add_line-clause-accepted : goal.returns-in_err-add_line-clause-accepted
 returns-in_err-add_line-clause-accepted c = only_answer c.args.text.now _ (returns-in_err-add_line-clause-read c)
 
+pub returns-in_err-add_line-clause-every_fault : goal.returns-in_err-add_line-clause-every_fault
+returns-in_err-add_line-clause-every_fault c = only_fault c.args.text.now _ (returns-in_err-add_line-clause-read c)
+
 pub loop-index-preserved : goal.loop-index-preserved
 loop-index-preserved c = IsReadTo-skip c.args.text.now _ _ _ c.in-Some.line.now _ _ c.loop-index.invariant c.in-Some.ensures.steps.0 c.in-Some.ensures.steps.2 (eqb-true (length c.in-Some.line.now) 0 (sym c.is_empty.ensures ∙ c.if-not-is_empty.false))
 
@@ -52,3 +56,6 @@ returns-clause-read c = IsReadTo-end c.args.text.now _ _ _ c.loop-index.invarian
 
 pub returns-clause-accepted : goal.returns-clause-accepted
 returns-clause-accepted c = only_answer c.args.text.now (Ok c.loop-index.batch) (returns-clause-read c)
+
+pub returns-clause-every_fault : goal.returns-clause-every_fault
+returns-clause-every_fault c = only_fault c.args.text.now (Ok c.loop-index.batch) (returns-clause-read c)

@@ -1,5 +1,5 @@
 -- The pieces that aren't empty are the frames, in order, and each can be a name.
-use Rattle.std.proofs.Common.{rules, ◌≡◌, [], ◌∷◌, ◌++◌, length, take, lit<, sym, ap, ◌∙◌, subst, arith}
+use Rattle.std.proofs.Common.{rules, [], ◌∷◌, ◌++◌, length, take, lit<, sym, ap, ◌∙◌, subst, arith}
 use Rattle.std.specs.Prelude.{◌==◌, not}
 use Rattle.std.proofs.lemmas.List.{take_all, take_more, length_push}
 use Rattle.std.proofs.lemmas.Iterator.Consumers.{YieldsList-at, YieldsList-from_filter, YieldsList-turn, YieldsList-end}
@@ -7,7 +7,7 @@ use Rattle.std.proofs.lemmas.Iterator.Splits.{YieldsList-from_str_split}
 use Rattle.stack_text.specs.FoldedText.{frames_of}
 use Rattle.stack_text.specs.Names.{IsName}
 use Rattle.stack_text.proofs.Frames.{frames_of-IsName}
-use Rattle.stack_text.proofs.folded.stack_from.Goals as goal
+use Rattle.stack_text.proofs.folded.names_from.Goals as goal
 
 pub name_of-requires : goal.name_of-requires
 name_of-requires c =
@@ -18,7 +18,7 @@ name_of-requires c =
     c.filter-frame-items.ensures.closure
     (λ x b q k. search rules)))
     c.loop-frame.yielded _ c.loop-frame.yielded_by _ _ c.in-Some.frame c.in-Some.is c.next.ensures.steps in
-    subst IsName (sym turn.1) (frames_of-IsName c.args.text.now c.utf8.text c.requires (length c.loop-frame.yielded) c.in-Some.frame.now turn.0)
+    subst IsName (sym turn.1) (frames_of-IsName c.args.text.now c.utf8.text c.requires.one_line (length c.loop-frame.yielded) c.in-Some.frame.now turn.0)
 
 pub loop-frame-preserved : goal.loop-frame-preserved
 loop-frame-preserved c =
@@ -35,8 +35,8 @@ loop-frame-preserved c =
     ∙ sym (take_more (frames_of c.args.text.now) (length c.loop-frame.yielded) c.in-Some.frame.now turn.0)
     ∙ ap (λ n. take n (frames_of c.args.text.now)) (sym (length_push c.loop-frame.yielded c.in-Some.frame))
 
-pub returns-in-Ok-clause-stack : goal.returns-in-Ok-clause-stack
-returns-in-Ok-clause-stack c =
+pub returns : goal.returns
+returns c =
     let whole = YieldsList-end
     (YieldsList-at c.into_iter-frame-iterator.ensures.into_iter_gives
     (YieldsList-from_filter _ (λ piece. not (length piece == 0))
@@ -44,7 +44,4 @@ returns-in-Ok-clause-stack c =
     c.filter-frame-items.ensures.closure
     (λ x b q k. search rules)))
     c.loop-frame.yielded _ c.loop-frame.yielded_by _ _ c.in-None.is c.next.ensures.steps in
-    let frames : c.loop-frame.frames.items ≡ frames_of c.args.text.now = c.loop-frame.invariant ∙ ap (λ n. take n (frames_of c.args.text.now)) whole.1 ∙ take_all _ _ (omega arith) in
-    let count = c.depth_of-depth.ensures in
-    let fits = c.if-depth-gt-MAX_DEPTH.false in
-    (c.in-Ok.ensures.1 ∙ frames, omega arith)
+    c.loop-frame.invariant ∙ ap (λ n. take n (frames_of c.args.text.now)) whole.1 ∙ take_all _ _ (omega arith)

@@ -1,6 +1,6 @@
 use Rattle.std.proofs.Common.{◌≡◌, length, take}
 use Rattle.stack_text.specs.FoldedText.{frames_of}
-use Rattle.stack_text.proofs.folded.stack_from.Given as goal
+use Rattle.stack_text.proofs.folded.names_from.Given as goal
 
 -- the frames so far
 abbrev pub invariant-loop-frame : goal.invariant-loop-frame

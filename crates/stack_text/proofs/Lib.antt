@@ -9,6 +9,7 @@ pub mod Lines
 pub mod Members
 pub mod Pieces
 pub mod Placing
+pub mod PutTogether
 pub mod Ranking
 pub mod Reading
 pub mod RowLaws

@@ -9,7 +9,7 @@ use Rattle.stack_text.specs.declared.batch.Row.{Row}
 use Rattle.stack_text.specs.declared.folded.FoldedFault.{FoldedFault}
 use Rattle.stack_text.specs.declared.folded.FoldedFault.TheVariants.{NotUtf8, NoCount, Count, Depth, Heavy, NoMemory}
 use Rattle.stack_text.specs.Rows.{total_of}
-use Rattle.stack_text.specs.FoldedText.{HasCount, IsRowLine, AreRowLines, IsFoldedText, IsLineFault, IsFirstFault, frames_of}
+use Rattle.stack_text.specs.FoldedText.{HasCount, IsRowLine, AreRowLines, IsFoldedText, IsLineFault, IsFirstFault, IsFittingFault, frames_of}
 use Rattle.std.specs.Prelude.{Result, Ok, Err, MatchResult, All}
 use Rattle.stack_text.proofs.Counts.{HasCount-same}
 use Rattle.stack_text.proofs.Lines.{lines-one_line}
@@ -193,3 +193,14 @@ pub IsReadTo-end : (text : List ℕ) (rest : List (List ℕ)) (count : ℕ) (row
 IsReadTo-end text rest count rows so_far e =
     let whole : lines text ≡ so_far.before = so_far.cut ∙ ap (λ ls. so_far.before ++ ls) e ∙ append-nil so_far.before in
     record { rows_lines = subst (λ ls. AreRowLines ls rows) (sym whole) so_far.known; total_fits = so_far.fits }
+
+-- a line whose stack text and weight don't fit has that fault
+pub IsLineFault-fitting : (held number : ℕ) (line text digits : List ℕ) (weight : ℕ) (fault : FoldedFault) → IsUtf8 line → weight < 2 ^ 63 → HasCount line text digits → weight ≡ digits_value 10 digits
+    → IsFittingFault held number text weight fault → IsLineFault held number line fault
+IsLineFault-fitting held number line text digits weight (NotUtf8 at) utf8 small count value h = absurd h
+IsLineFault-fitting held number line text digits weight (NoCount at) utf8 small count value h = absurd h
+IsLineFault-fitting held number line text digits weight (Count at) utf8 small count value h = absurd h
+IsLineFault-fitting held number line text digits weight (Depth at) utf8 small count value h = (h.0, utf8, text, digits, count, omega (arith, value, small), h.1)
+IsLineFault-fitting held number line text digits weight (Heavy at) utf8 small count value h =
+    (h.0, record { stack = frames_of text; weight = weight }, IsRowLine-read line text digits weight utf8 count value h.1 small, h.2)
+IsLineFault-fitting held number line text digits weight NoMemory utf8 small count value h = absurd h

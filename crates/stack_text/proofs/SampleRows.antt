@@ -1,6 +1,6 @@
 -- What rows the samples of a profile give.
 use Rattle.std.proofs.Common.{◌≡◌, ℕ, zero, suc, ◌+◌, ◌^◌, ◌<◌, ◌≤◌, Bool, true, false, List, [], ◌∷◌, ◌++◌, length, take, drop, get_or, refl, sym, ap, ◌∙◌, subst, arith}
-use Rattle.std.specs.Prelude.{ℤ, pos, negsuc, Option, Some, None, Result, Ok, Err, MatchResult, unwrap_or, is_some, ◌==◌}
+use Rattle.std.specs.Prelude.{ℤ, pos, negsuc, Option, Some, None, Result, Ok, Err, MatchResult, slice_get, unwrap_or, is_some, ◌==◌}
 use Rattle.std.specs.Str.{bytes_eq}
 use Rattle.std.proofs.lemmas.Bool.{false≢true, and_parts, eqb-true}
 use Rattle.std.proofs.lemmas.List.{take_all, take-append-drop}
@@ -19,7 +19,7 @@ use Rattle.stack_text.specs.declared.sampling.BatchFault.TheVariants.{NoValue, N
 use Rattle.stack_text.specs.declared.sampling.ValueChoice.{ValueChoice}
 use Rattle.stack_text.specs.declared.sampling.ValueChoice.TheVariants.{Default, Named}
 use Rattle.stack_text.specs.Rows.{total_of}
-use Rattle.stack_text.specs.Samples.{AreSampleRows, IsBatchOf, IsFirstBatchFault, IsSampleFault, IsSampleRow, StandsAtSample, chosen_type_of, is_zero, last_index, or_last, string_at, type_named}
+use Rattle.stack_text.specs.Samples.{AreSampleRows, IsBatchOf, IsFirstBatchFault, IsFitFault, IsSampleFault, IsSampleRow, sample_stack_of, StandsAtSample, chosen_type_of, is_zero, last_index, or_last, string_at, type_named}
 use Rattle.stack_text.proofs.ItemsById.{rule_holds}
 
 -- ---- the chosen value
@@ -218,4 +218,27 @@ AreRowsSoFar-fault draft choice chosen count sample rows NoValue is_chosen lt it
 AreRowsSoFar-fault draft choice chosen count sample rows (Negative at) is_chosen lt item so_far there = stands draft choice chosen count sample rows (Negative at) is_chosen lt item so_far there
 AreRowsSoFar-fault draft choice chosen count sample rows (Depth at) is_chosen lt item so_far there = stands draft choice chosen count sample rows (Depth at) is_chosen lt item so_far there
 AreRowsSoFar-fault draft choice chosen count sample rows (Heavy at) is_chosen lt item so_far there = stands draft choice chosen count sample rows (Heavy at) is_chosen lt item so_far there
-AreRowsSoFar-fault draft choice chosen count sample rows NoMemory is_chosen lt item so_far there = tt
+AreRowsSoFar-fault draft choice chosen count sample rows NoMemory is_chosen lt item so_far there = (chosen, is_chosen)
+
+-- ---- one sample
+
+-- the row of a sample whose locations fit
+pub sample_row : (draft : Draft) (chosen : ℕ) (sample : Sample) (weight : ℕ) → slice_get sample.values chosen ≡ Some (pos weight) → length (sample_stack_of draft sample.location_ids) ≤ 65535
+    → IsSampleRow draft chosen sample (record { stack = sample_stack_of draft sample.location_ids; weight = weight })
+sample_row draft chosen sample weight value deep = record { stack = refl; depth = deep; value = value }
+
+-- a sample that doesn't fit has that fault
+pub IsSampleFault-fit : (draft : Draft) (chosen held number : ℕ) (sample : Sample) (weight : ℕ) (fault : BatchFault) → slice_get sample.values chosen ≡ Some (pos weight)
+    → IsFitFault draft held number sample.location_ids weight fault → IsSampleFault draft chosen held number sample fault
+IsSampleFault-fit draft chosen held number sample weight NoValue value h = absurd h
+IsSampleFault-fit draft chosen held number sample weight (Negative at) value h = absurd h
+IsSampleFault-fit draft chosen held number sample weight (Depth at) value h = (h.0, weight, value, h.1)
+IsSampleFault-fit draft chosen held number sample weight (Heavy at) value h =
+    (h.0, record { stack = sample_stack_of draft sample.location_ids; weight = weight }, sample_row draft chosen sample weight value h.1, h.2)
+IsSampleFault-fit draft chosen held number sample weight NoMemory value h = absurd h
+
+-- where memory runs out the sample fits
+pub IsSampleFault-memory : (draft : Draft) (chosen held number : ℕ) (sample : Sample) (weight : ℕ) → slice_get sample.values chosen ≡ Some (pos weight)
+    → length (sample_stack_of draft sample.location_ids) ≤ 65535 → held + weight < 2 ^ 63 → IsSampleFault draft chosen held number sample NoMemory
+IsSampleFault-memory draft chosen held number sample weight value deep fits =
+    (record { stack = sample_stack_of draft sample.location_ids; weight = weight }, sample_row draft chosen sample weight value deep, fits)

@@ -58,6 +58,15 @@ IsCountFault number line (Depth at) = ⊥
 IsCountFault number line (Heavy at) = ⊥
 IsCountFault number line NoMemory = ⊥
 
+-- why a stack text and a weight give no row that can follow rows of the weight `held`
+abbrev pub IsFittingFault : ℕ → ℕ → List ℕ → ℕ → FoldedFault → Type 0
+IsFittingFault held number text weight (NotUtf8 at) = ⊥
+IsFittingFault held number text weight (NoCount at) = ⊥
+IsFittingFault held number text weight (Count at) = ⊥
+IsFittingFault held number text weight (Depth at) = (at ≡ number) × (65535 < length (frames_of text))
+IsFittingFault held number text weight (Heavy at) = (at ≡ number) × (length (frames_of text) ≤ 65535) × (2 ^ 63 ≤ held + weight)
+IsFittingFault held number text weight NoMemory = ⊥
+
 -- Why a line, which isn't empty, adds no row to rows of the weight `held`. Each case says that the ones before it don't stand,
 -- and memory runs out only at a line without a fault: one that spells a row which can follow.
 abbrev pub IsLineFault : ℕ → ℕ → List ℕ → FoldedFault → Type 0

@@ -1,5 +1,5 @@
 -- What the samples of a profile are as rows (profile.proto, the comments of messages Sample, Location, Line and Function).
-use Rattle.std.specs.Prelude.{Bool, false, ℕ, ℤ, pos, negsuc, ◌≡◌, ◌+◌, ◌^◌, ◌<◌, ◌≤◌, ◌==◌, ⊤, Option, Some, None, List, [], ◌∷◌, ◌++◌, length, map, reverse, slice_get, slice_index_or, unwrap_or, codes, if◌then◌else◌}
+use Rattle.std.specs.Prelude.{Bool, false, ℕ, ℤ, pos, negsuc, ◌≡◌, ◌+◌, ◌^◌, ◌<◌, ◌≤◌, ◌==◌, Option, Some, None, List, [], ◌∷◌, ◌++◌, length, map, reverse, slice_get, slice_index_or, unwrap_or, codes, if◌then◌else◌}
 use Rattle.std.specs.List.{flat_map, position}
 use Rattle.std.specs.Fmt.{digits}
 use Rattle.std.specs.Str.{bytes_eq}
@@ -10,8 +10,6 @@ use Rattle.pprof_profile.specs.declared.messages.Line.{Line}
 use Rattle.pprof_profile.specs.declared.messages.Function.{Function}
 use Rattle.pprof_profile.specs.declared.messages.ValueType.{ValueType}
 use Rattle.stack_text.specs.declared.batch.Row.{Row}
-use Rattle.stack_text.specs.declared.batch.PushFault.{PushFault}
-use Rattle.stack_text.specs.declared.batch.PushFault.TheVariants as pushing
 use Rattle.stack_text.specs.declared.sampling.BatchFault.{BatchFault}
 use Rattle.stack_text.specs.declared.sampling.BatchFault.TheVariants.{NoValue, Negative, Depth, Heavy, NoMemory}
 use Rattle.stack_text.specs.declared.sampling.ValueChoice.{ValueChoice}
@@ -146,21 +144,16 @@ IsValueFault chosen number values (Depth at) = ⊥
 IsValueFault chosen number values (Heavy at) = ⊥
 IsValueFault chosen number values NoMemory = ⊥
 
--- what keeps a sample's frames from being a stack
-abbrev pub IsDepthFault : Draft → ℕ → List ℕ → BatchFault → Type 0
-IsDepthFault draft number ids NoValue = ⊥
-IsDepthFault draft number ids (Negative at) = ⊥
-IsDepthFault draft number ids (Depth at) = (at ≡ number) × (65535 < length (sample_stack_of draft ids))
-IsDepthFault draft number ids (Heavy at) = ⊥
-IsDepthFault draft number ids NoMemory = ⊤
+-- why the locations and the value of a sample give no row that can follow rows of the weight `held`
+abbrev pub IsFitFault : Draft → ℕ → ℕ → List ℕ → ℕ → BatchFault → Type 0
+IsFitFault draft held number ids weight NoValue = ⊥
+IsFitFault draft held number ids weight (Negative at) = ⊥
+IsFitFault draft held number ids weight (Depth at) = (at ≡ number) × (65535 < length (sample_stack_of draft ids))
+IsFitFault draft held number ids weight (Heavy at) = (at ≡ number) × (length (sample_stack_of draft ids) ≤ 65535) × (2 ^ 63 ≤ held + weight)
+IsFitFault draft held number ids weight NoMemory = ⊥
 
--- what a batch's refusal is told as
-abbrev pub told_as : ℕ → PushFault → BatchFault
-told_as number (pushing.Heavy held) = Heavy number
-told_as number pushing.NoMemory = NoMemory
-
--- Why a sample gives no row that can follow rows of the weight `held`. Each case says that the ones before it don't stand. Want of
--- memory claims nothing.
+-- Why a sample gives no row that can follow rows of the weight `held`. Each case says that the ones before it don't stand, and
+-- memory runs out only at a sample without a fault: one that gives a row which can follow.
 abbrev pub IsSampleFault : Draft → ℕ → ℕ → ℕ → Sample → BatchFault → Type 0
 IsSampleFault draft chosen held number sample NoValue = ⊥
 IsSampleFault draft chosen held number sample (Negative at) = (at ≡ number)
@@ -169,7 +162,7 @@ IsSampleFault draft chosen held number sample (Depth at) = (at ≡ number)
     × (weight : ℕ) × (slice_get sample.values chosen ≡ Some (pos weight)) × (65535 < length (sample_stack_of draft sample.location_ids))
 IsSampleFault draft chosen held number sample (Heavy at) = (at ≡ number)
     × (row : Row) × IsSampleRow draft chosen sample row × (2 ^ 63 ≤ held + row.weight)
-IsSampleFault draft chosen held number sample NoMemory = ⊤
+IsSampleFault draft chosen held number sample NoMemory = (row : Row) × IsSampleRow draft chosen sample row × (held + row.weight < 2 ^ 63)
 
 -- the fault stands at a sample, and the samples before it give rows within the limit
 abbrev pub StandsAtSample : Draft → ValueChoice → BatchFault → Type 0
@@ -177,10 +170,10 @@ StandsAtSample draft choice fault = (chosen : ℕ) × (before : List Sample) × 
     × (chosen_type_of draft choice ≡ Some chosen) × (draft.samples ≡ before ++ sample ∷ after)
     × AreSampleRows draft chosen before rows × (total_of rows < 2 ^ 63) × IsSampleFault draft chosen (total_of rows) (length before) sample fault
 
--- why a profile gives no rows: no such value, or the first sample with a fault
+-- Why a profile gives no rows: no such value, or the first sample with a fault. Memory runs out only where there is such a value.
 abbrev pub IsFirstBatchFault : Draft → ValueChoice → BatchFault → Type 0
 IsFirstBatchFault draft choice NoValue = chosen_type_of draft choice ≡ None
 IsFirstBatchFault draft choice (Negative at) = StandsAtSample draft choice (Negative at)
 IsFirstBatchFault draft choice (Depth at) = StandsAtSample draft choice (Depth at)
 IsFirstBatchFault draft choice (Heavy at) = StandsAtSample draft choice (Heavy at)
-IsFirstBatchFault draft choice NoMemory = ⊤
+IsFirstBatchFault draft choice NoMemory = (chosen : ℕ) × (chosen_type_of draft choice ≡ Some chosen)

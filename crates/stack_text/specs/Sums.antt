@@ -1,5 +1,5 @@
 -- Rows in which equal stacks were put together.
-use Rattle.std.specs.Prelude.{ℕ, ◌≡◌, ◌+◌, ◌<◌, ◌≤◌, List, [], Option, IfSome, length, slice_index_or, slice_set}
+use Rattle.std.specs.Prelude.{ℕ, ◌≡◌, ◌+◌, ◌^◌, ◌<◌, ◌≤◌, List, [], Option, IfSome, length, slice_index_or, slice_set}
 use Rattle.std.specs.HashMap as hash
 use Rattle.std.specs.HashMap.{HashMap}
 use Rattle.std.specs.Str.{bytes_eq}
@@ -9,6 +9,7 @@ use denote.Ref.{Bor}
 use Rattle.pprof_profile.specs.declared.messages.Draft.{Draft}
 use Rattle.stack_text.specs.declared.batch.Row.{Row}
 use Rattle.stack_text.specs.declared.sampling.ValueChoice.{ValueChoice}
+use Rattle.stack_text.specs.Rows.{is_same_stack, total_of, weight_if, weight_of}
 use Rattle.stack_text.specs.Aggregate.{aggregate_of}
 use Rattle.stack_text.specs.FoldedText.{IsFoldedText}
 use Rattle.stack_text.specs.Samples.{IsBatchOf}
@@ -44,3 +45,9 @@ row_spelled known spelling = hash.get_by (λ (key : Bor (List ℕ)). bytes_eq sp
 abbrev pub ArePlacedBy : (List ℕ → List (List ℕ)) → RowsBySpelling → List Row → Type 0
 ArePlacedBy stack_of known rows = (spelling : List ℕ)
     → IfSome (row_spelled known spelling) (λ at. (at < length rows) × ((row_at rows at).stack ≡ stack_of spelling) × (length (stack_of spelling) ≤ 65535))
+
+-- the rows weigh a row more: each stack does, and all together
+pub record AddsRow (old new : List Row) (row : Row) : Type 0 where
+  pub weights : (stack : List (List ℕ)) → weight_of new stack ≡ weight_of old stack + weight_if (is_same_stack stack) row
+  pub total : total_of new ≡ total_of old + row.weight
+  pub fits : total_of old + row.weight < 2 ^ 63

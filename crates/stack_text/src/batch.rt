@@ -133,14 +133,13 @@ impl Batch {
         ensures unchanged { OnErr result (self.new ≡ self.old) }
         ensures heavy { IfErr result (λ fault. (fault ≡ PushFault.Heavy (total_of self.old)) × (2 ^ 63 ≤ total_of self.old + weight)) }
     {
-        let held = self.total;
-        let room = MAX_TOTAL - held;
+        let room = MAX_TOTAL - self.total;
         if room < weight {
-            return Err(PushFault::Heavy { held });
+            return Err(PushFault::Heavy { held: self.total });
         }
         let row = &mut self.rows[at];
         row.weight += weight;
-        self.total = held + weight;
+        self.total = self.total + weight;
         Ok(())
     }
 }

@@ -3,7 +3,7 @@ ghost use Rattle.std.specs.Str.{IsUtf8};
 ghost use Rattle.std.specs.Str.Parse.{IsNumeral, digits_value};
 ghost use Rattle.stack_text.specs.declared.batch.Row.{Row};
 ghost use Rattle.stack_text.specs.declared.folded.FoldedFault.{FoldedFault};
-ghost use Rattle.stack_text.specs.FoldedText.{HasCount, IsFirstFault, IsFoldedText, IsLineFault, IsRowLine, IsCountFault, frames_of};
+ghost use Rattle.stack_text.specs.FoldedText.{HasCount, IsFirstFault, IsFoldedText, IsFittingFault, IsLineFault, IsRowLine, IsCountFault, frames_of};
 ghost use Rattle.stack_text.specs.Names.{IsName};
 ghost use Rattle.stack_text.specs.Rows.{total_of};
 
@@ -107,7 +107,7 @@ struct Spelled<'a> {
 }
 
 /// The names of the frames of a stack text, root first.
-fn names_from<'a>(
+pub(crate) fn names_from<'a>(
     alloc: Global,
     names: &mut KnownNames<'a>,
     text: &'a str,
@@ -125,7 +125,7 @@ fn names_from<'a>(
 }
 
 /// The stack text and the weight of a line.
-fn counted<'a>(line: &'a [u8], number: u64) -> Result<(&'a str, u64), FoldedFault>
+pub(crate) fn counted<'a>(line: &'a [u8], number: u64) -> Result<(&'a str, u64), FoldedFault>
     ensures counted { IfOk result (λ found. IsUtf8 line.now × (found.1 < 2 ^ 63)
         × (digits : List ℕ) × HasCount line.now found.0.now digits × (found.1 ≡ digits_value 10 digits)) }
     ensures fault { IfErr result (IsCountFault number line.now) }
@@ -142,6 +142,22 @@ fn counted<'a>(line: &'a [u8], number: u64) -> Result<(&'a str, u64), FoldedFaul
     }
 }
 
+/// How many frames a stack text has, where a row of it can follow rows of the weight `held`.
+pub(crate) fn fitting_depth(text: &str, weight: u64, held: u64, number: u64) -> Result<usize, FoldedFault>
+    requires { held < 2 ^ 63 }
+    ensures depth { IfOk result (λ depth. (depth ≡ length (frames_of text.now)) × (depth ≤ MAX_DEPTH) × (held + weight < 2 ^ 63)) }
+    ensures fault { IfErr result (IsFittingFault held number text.now weight) }
+{
+    let depth = depth_of(text);
+    if depth > MAX_DEPTH {
+        return Err(FoldedFault::Depth { line: number });
+    }
+    if weight > MAX_TOTAL - held {
+        return Err(FoldedFault::Heavy { line: number });
+    }
+    Ok(depth)
+}
+
 /// What a line spells, where its row can follow rows of the weight `held`. Takes no memory: a line's fault is found before memory
 /// can run out at that line.
 fn read_line<'a>(line: &'a [u8], held: u64, number: u64) -> Result<Spelled<'a>, FoldedFault>
@@ -152,13 +168,7 @@ fn read_line<'a>(line: &'a [u8], held: u64, number: u64) -> Result<Spelled<'a>, 
     ensures fault { IfErr result (IsLineFault held number line.now) }
 {
     let (stack, weight) = counted(line, number)?;
-    let depth = depth_of(stack);
-    if depth > MAX_DEPTH {
-        return Err(FoldedFault::Depth { line: number });
-    }
-    if weight > MAX_TOTAL - held {
-        return Err(FoldedFault::Heavy { line: number });
-    }
+    let depth = fitting_depth(stack, weight, held, number)?;
     Ok(Spelled {
         stack,
         depth,

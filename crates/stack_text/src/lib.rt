@@ -7,6 +7,7 @@ mod known_names;
 pub mod laws;
 mod name;
 mod places;
+mod sample_sums;
 mod sampling;
 mod stack;
 #[cfg(test)]
@@ -18,6 +19,7 @@ pub use batch::{Batch, MAX_TOTAL, PushFault, Refused, Row};
 pub use folded::{FoldedFault, read_folded};
 pub use name::{Name, NameFault};
 pub use pprof_wire::NoMemory;
+pub use sample_sums::sum_samples;
 pub use sampling::{BatchFault, ValueChoice, batch_of, unfold};
 pub use stack::{MAX_DEPTH, Stack};
 pub use written::write_folded;

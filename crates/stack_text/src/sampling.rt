@@ -2,9 +2,9 @@ ghost use Rattle.std.specs.Prelude.{◌≡◌, ◌+◌, ◌^◌, ◌<◌, ◌∷
 ghost use Rattle.pprof_profile.specs.declared.messages.ValueType.{ValueType};
 ghost use Rattle.stack_text.specs.declared.batch.Row.{Row};
 ghost use Rattle.stack_text.specs.Rows.{total_of};
-ghost use Rattle.stack_text.specs.Samples.{IsBatchOf, IsFirstBatchFault, IsSampleFault, IsSampleRow, IsValueFault, IsDepthFault, chosen_type_of, default_type, frames_of_sample, sample_stack_of, told_as, type_named};
+ghost use Rattle.stack_text.specs.Samples.{IsBatchOf, IsFirstBatchFault, IsSampleFault, IsSampleRow, IsValueFault, IsFitFault, chosen_type_of, default_type, frames_of_sample, sample_stack_of, type_named};
 
-use crate::batch::{Batch, PushFault};
+use crate::batch::{Batch, MAX_TOTAL};
 use crate::name::Name;
 use crate::stack::{MAX_DEPTH, Stack};
 use crate::unfolding::{LocationFrames, string_at};
@@ -97,25 +97,50 @@ pub(crate) fn weight_of(values: &[i64], chosen: usize, number: u64) -> Result<u6
     u64::try_from(values[chosen]).map_err(|_| BatchFault::Negative { sample: number })
 }
 
-/// The stack of a sample at these locations.
-pub(crate) fn stack_of(
-    alloc: Global,
+/// Whether a sample at these locations gives a row that can follow rows of the weight `held`.
+pub(crate) fn check_fit(
     frames: &LocationFrames,
     ids: &[u64],
+    weight: u64,
+    held: u64,
     number: u64,
-) -> Result<Stack, BatchFault>
-    ensures stack { IfOk result (λ stack. (stack ≡ sample_stack_of frames.now ids.now) × (length (sample_stack_of frames.now ids.now) ≤ MAX_DEPTH)) }
-    ensures fault { IfErr result (IsDepthFault frames.now number ids.now) }
+) -> Result<(), BatchFault>
+    requires { held < 2 ^ 63 }
+    ensures depth { OnOk result (length (sample_stack_of frames.now ids.now) ≤ MAX_DEPTH) }
+    ensures fits { OnOk result (held + weight < 2 ^ 63) }
+    ensures fault { IfErr result (IsFitFault frames.now held number ids.now weight) }
 {
     if !frames.fit(ids) {
         return Err(BatchFault::Depth { sample: number });
     }
-    let mut names = frames.leaf_first(alloc, ids)?;
-    names.reverse();
-    Stack::make(names).map_err(|_| BatchFault::Depth { sample: number })
+    if weight > MAX_TOTAL - held {
+        return Err(BatchFault::Heavy { sample: number });
+    }
+    Ok(())
 }
 
-/// Adds the row of a sample, where it gives one that can follow the rows of the batch.
+/// Adds a row of the stack at these locations, which fits.
+pub(crate) fn push_row(
+    alloc: Global,
+    frames: &LocationFrames,
+    batch: &mut Batch,
+    ids: &[u64],
+    weight: u64,
+) -> Result<(), NoMemory>
+    requires depth { length (sample_stack_of frames.now ids.now) ≤ MAX_DEPTH }
+    requires fits { total_of batch.old + weight < 2 ^ 63 }
+    ensures { OnOk result (batch.new ≡ batch.old ++ (record { stack = sample_stack_of frames.now ids.now; weight = weight }) ∷ []) }
+{
+    let mut names = frames.leaf_first(alloc, ids)?;
+    names.reverse();
+    let Ok(stack) = Stack::make(names) else {
+        return Err(NoMemory);
+    };
+    batch.push(stack, weight).map_err(|_| NoMemory)
+}
+
+/// Adds the row of a sample, where it gives one that can follow the rows of the batch. A fault of the sample is found before memory
+/// can run out at it.
 fn add_sample(
     alloc: Global,
     frames: &LocationFrames,
@@ -129,22 +154,10 @@ fn add_sample(
         × (batch.new ≡ batch.old ++ row ∷ [])) }
     ensures fault { IfErr result (IsSampleFault frames.now chosen (total_of batch.old) number sample.now) }
 {
+    let ids = sample.location_ids.as_slice();
     let weight = weight_of(sample.values.as_slice(), chosen, number)?;
-    let stack = stack_of(alloc, frames, sample.location_ids.as_slice(), number)?;
-    match batch.push(stack, weight) {
-        Ok(()) => Ok(()),
-        Err(refused) => Err(push_fault(refused.fault, number)),
-    }
-}
-
-/// What a refused row is told as.
-pub(crate) fn push_fault(fault: PushFault, number: u64) -> BatchFault
-    ensures { result ≡ told_as number fault }
-{
-    match fault {
-        PushFault::Heavy { held: _ } => BatchFault::Heavy { sample: number },
-        PushFault::NoMemory => BatchFault::NoMemory,
-    }
+    check_fit(frames, ids, weight, batch.total(), number)?;
+    Ok(push_row(alloc, frames, batch, ids, weight)?)
 }
 
 /// The rows of a profile's samples: a row for each, in order. Its stack has the frames of the sample's locations, root first; its

@@ -1,17 +1,10 @@
--- A line whose row passes the limit with the rows before it.
-use Rattle.std.proofs.Common.{refl, arith}
-use Rattle.stack_text.specs.FoldedText.{frames_of}
-use Rattle.stack_text.proofs.Reading.{IsRowLine-read}
+-- A line whose stack is too deep, or whose row passes the limit with the rows before it.
+use Rattle.std.proofs.lemmas.Result.{err_from_is_err_and}
+use Rattle.stack_text.proofs.Reading.{IsLineFault-fitting}
 use Rattle.stack_text.proofs.folded.read_line.Goals as goal
 
-pub returns-then-weight-held-clause-fault : goal.returns-then-weight-held-clause-fault
-returns-then-weight-held-clause-fault c =
+pub returns-in_err-depth-clause-fault : goal.returns-in_err-depth-clause-fault
+returns-in_err-depth-clause-fault c =
     let (utf8, small, digits, count, value) = c.in_ok-stack.ensures.counted in
-    let depth = c.depth_of-depth.ensures in
-    let most = c.if-depth-gt-MAX_DEPTH.false in
-    let heavy = c.if-weight-held.true in (
-      refl,
-      record { stack = frames_of c.in_ok-stack.stack.now; weight = c.in_ok-stack.weight },
-      IsRowLine-read c.args.line.now c.in_ok-stack.stack.now digits c.in_ok-stack.weight utf8 count value (omega arith) small,
-      omega arith,
-    )
+    let p = err_from_is_err_and c.from_residual-in_err-depth.result c.from_residual-in_err-depth.ensures.1 in
+    rw (p.1, p.2) (IsLineFault-fitting c.args.held c.args.number c.args.line.now c.in_ok-stack.stack.now digits c.in_ok-stack.weight c.in_err-depth.field-0.0 utf8 small count value c.in_err-depth.ensures.fault)

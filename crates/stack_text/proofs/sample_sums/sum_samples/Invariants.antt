@@ -1,0 +1,12 @@
+use Rattle.std.proofs.Common.{List}
+use Rattle.stack_text.specs.declared.batch.Row.{Row}
+use Rattle.stack_text.specs.Samples.{sample_stack_of}
+use Rattle.stack_text.specs.Sums.{ArePlacedBy}
+use Rattle.stack_text.proofs.PutTogether.{AreSumsSoFar}
+use Rattle.stack_text.proofs.SampleRows.{AreRowsSoFar}
+use Rattle.stack_text.proofs.sample_sums.sum_samples.Given as goal
+
+-- the samples so far give rows that add up to the sums so far
+abbrev pub invariant-loop-index : goal.invariant-loop-index
+invariant-loop-index l = ((rows : List Row) × AreRowsSoFar l.fn.profile l.chosen l.index rows × AreSumsSoFar rows l.sums)
+    × ArePlacedBy (sample_stack_of l.fn.profile) l.known l.sums

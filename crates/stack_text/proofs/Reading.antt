@@ -204,3 +204,12 @@ IsLineFault-fitting held number line text digits weight (Depth at) utf8 small co
 IsLineFault-fitting held number line text digits weight (Heavy at) utf8 small count value h =
     (h.0, record { stack = frames_of text; weight = weight }, IsRowLine-read line text digits weight utf8 count value h.1 small, h.2)
 IsLineFault-fitting held number line text digits weight NoMemory utf8 small count value h = absurd h
+
+-- where memory runs out the line spells a row that can follow
+pub IsLineFault-memory : (held total number : ℕ) (line text digits : List ℕ) (depth weight : ℕ) → total ≡ held → IsUtf8 line → total + weight < 2 ^ 63 → HasCount line text digits → weight ≡ digits_value 10 digits
+    → depth ≡ length (frames_of text) → depth ≤ 65535 → IsLineFault held number line NoMemory
+IsLineFault-memory held total number line text digits depth weight same utf8 fits count value frames most = (
+  record { stack = frames_of text; weight = weight },
+  IsRowLine-read line text digits weight utf8 count value (omega arith) (omega arith),
+  omega arith,
+)

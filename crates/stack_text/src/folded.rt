@@ -12,6 +12,7 @@ use crate::known_names::KnownNames;
 use crate::name::Name;
 use crate::stack::{MAX_DEPTH, Stack};
 use bstr::ByteSlice;
+use pprof_wire::NoMemory;
 use std::alloc::{AllocError, AllocFailed, Global};
 use thiserror::Error;
 
@@ -45,6 +46,17 @@ impl From<AllocError> for FoldedFault {
     ghost from_gives = { λ _ fault. fault ≡ NoMemory };
 
     fn from(_error: AllocError) -> FoldedFault {
+        FoldedFault::NoMemory
+    }
+}
+
+impl From<NoMemory> for FoldedFault {
+    ghost use Rattle.std.specs.Prelude.{◌≡◌};
+    ghost use Rattle.stack_text.specs.declared.folded.FoldedFault.TheVariants.{NoMemory};
+
+    ghost from_gives = { λ _ fault. fault ≡ NoMemory };
+
+    fn from(_error: NoMemory) -> FoldedFault {
         FoldedFault::NoMemory
     }
 }
@@ -100,10 +112,11 @@ fn depth_of(text: &str) -> usize
 }
 
 /// What a line spells: the text of a stack, how many frames that has, and the weight.
-struct Spelled<'a> {
-    stack: &'a str,
-    depth: usize,
-    weight: u64,
+#[derive(Clone, Copy)]
+pub(crate) struct Spelled<'a> {
+    pub stack: &'a str,
+    pub depth: usize,
+    pub weight: u64,
 }
 
 /// The names of the frames of a stack text, root first.
@@ -176,6 +189,25 @@ fn read_line<'a>(line: &'a [u8], held: u64, number: u64) -> Result<Spelled<'a>, 
     })
 }
 
+/// Adds a row of the stack that a text spells, which fits.
+pub(crate) fn push_spelled<'a>(
+    alloc: Global,
+    names: &mut KnownNames<'a>,
+    batch: &mut Batch,
+    spelled: Spelled<'a>,
+) -> Result<(), NoMemory>
+    requires one_line { All (λ byte. byte ≢ 10) spelled.stack.now }
+    requires depth { (spelled.depth ≡ length (frames_of spelled.stack.now)) × (spelled.depth ≤ MAX_DEPTH) }
+    requires fits { total_of batch.old + spelled.weight < 2 ^ 63 }
+    ensures { OnOk result (batch.new ≡ batch.old ++ (record { stack = frames_of spelled.entry.stack.now; weight = spelled.entry.weight }) ∷ []) }
+{
+    let frames = names_from(alloc, names, spelled.stack, spelled.depth)?;
+    let Ok(stack) = Stack::make(frames) else {
+        return Err(NoMemory);
+    };
+    batch.push(stack, spelled.weight).map_err(|_| NoMemory)
+}
+
 /// Adds the row that a line spells, where it spells one that can follow the rows of the batch.
 fn add_line<'a>(
     alloc: Global,
@@ -189,19 +221,8 @@ fn add_line<'a>(
         × (batch.new ≡ batch.old ++ row ∷ [])) }
     ensures fault { IfErr result (IsLineFault (total_of batch.old) number line.now) }
 {
-    let Spelled {
-        stack,
-        depth,
-        weight,
-    } = read_line(line, batch.total(), number)?;
-    let frames = names_from(alloc, names, stack, depth)?;
-    let Ok(stack) = Stack::make(frames) else {
-        return Err(FoldedFault::Depth { line: number });
-    };
-    match batch.push(stack, weight) {
-        Ok(()) => Ok(()),
-        Err(_) => Err(FoldedFault::NoMemory),
-    }
+    let spelled = read_line(line, batch.total(), number)?;
+    Ok(push_spelled(alloc, names, batch, spelled)?)
 }
 
 /// Reads folded stacks: a line for each row, its frames from root to leaf separated by semicolons, then a space and a count.

@@ -3,6 +3,7 @@
 
 mod batch;
 mod folded;
+mod folded_sums;
 mod known_names;
 pub mod laws;
 mod name;
@@ -16,6 +17,7 @@ mod unfolding;
 mod written;
 
 pub use batch::{Batch, MAX_TOTAL, PushFault, Refused, Row};
+pub use folded_sums::sum_folded;
 pub use folded::{FoldedFault, read_folded};
 pub use name::{Name, NameFault};
 pub use pprof_wire::NoMemory;

@@ -1,0 +1,69 @@
+-- The lines are read in order: each is added to the sums, or empty, or has the first fault.
+use Rattle.std.proofs.Common.{ℕ, List, ◌+◌, ◌^◌, ◌++◌, ◌∷◌, subst, lit<, ◌≡◌, ◌<◌, length, [], sym, ap, ◌∙◌, refl, arith, rules}
+use Rattle.std.proofs.lemmas.Bool.{eqb-true, eqb-false}
+use Rattle.std.proofs.lemmas.Result.{err_from_is_err_and}
+use Rattle.std.specs.Prelude.{◌==◌, false}
+use Rattle.std.specs.Str.Lines.{lines}
+use Rattle.std.specs.declared.iter.Enumerate.{Enumerate}
+use Rattle.stack_text.specs.Rows.{total_of}
+use Rattle.stack_text.specs.FoldedText.{IsLineFault}
+use Rattle.stack_text.proofs.Lines.{lines_of-lines}
+use Rattle.stack_text.proofs.PutTogether.{AreSumsSoFar-none, AreSumsSoFar-row, AreSumsSoFar-same}
+use Rattle.stack_text.proofs.Reading.{IsReadTo-row, IsReadTo-skip, IsReadTo-one_line, IsReadTo-fault, IsReadTo-end}
+use Rattle.stack_text.proofs.folded_sums.sum_folded.Goals as goal
+
+filled : (line : List ℕ) → (length line == 0) ≡ false → 0 < length line
+filled line e = let some = eqb-false (length line) 0 e in omega arith
+
+pub loop-index-init : goal.loop-index-init
+loop-index-init c =
+    let iterator = c.into_iter-index-iterator.ensures.into_iter_gives in
+    let items : c.into_iter-index-iterator.result.iter ≡ lines c.args.text.now =
+    ap (λ (s : Enumerate (List (List ℕ))). s.iter) iterator ∙ c.enumerate-index-items.ensures.source ∙ c.lines.ensures.value ∙ lines_of-lines c.args.text.now in (
+      (
+        [],
+        record {
+          before = [];
+          cut = sym items;
+          counted = ap (λ (s : Enumerate (List (List ℕ))). s.count) iterator ∙ c.enumerate-index-items.ensures.count;
+          known = refl;
+          fits = lit< tt;
+        },
+        AreSumsSoFar-none _ c.new-sums.ensures,
+      ),
+      search rules,
+    )
+
+pub sum_line-requires-clause-one_line : goal.sum_line-requires-clause-one_line
+sum_line-requires-clause-one_line c =
+    let (rows, so_far, sums) = c.loop-index.invariant.0 in
+    IsReadTo-one_line c.args.text.now _ _ rows c.in-Some.line.now _ so_far c.in-Some.ensures.steps.0
+
+pub loop-index-preserved-in-Continue-1 : goal.loop-index-preserved-in-Continue-1
+loop-index-preserved-in-Continue-1 c =
+    let (rows, so_far, sums) = c.loop-index.invariant.0 in
+    let (row, this, adds) = c.in_ok-sum_line.ensures.added in
+    let fits = subst (λ held. held + row.weight < 2 ^ 63) sums.total adds.fits in (
+      (
+        rows ++ row ∷ [],
+        IsReadTo-row c.args.text.now _ _ rows c.in-Some.line.now _ _ row (rows ++ row ∷ []) so_far c.in-Some.ensures.steps.0 c.in-Some.ensures.steps.2 (filled c.in-Some.line.now (sym c.is_empty.ensures ∙ c.if-not-is_empty.true)) this fits refl,
+        AreSumsSoFar-row rows (rows ++ row ∷ []) c.loop-index.sums c.sum_line.new.sums row sums adds refl,
+      ),
+      c.in_ok-sum_line.ensures.placed,
+    )
+
+pub loop-index-preserved : goal.loop-index-preserved
+loop-index-preserved c =
+    let (rows, so_far, sums) = c.loop-index.invariant.0 in (
+      (
+        rows,
+        IsReadTo-skip c.args.text.now _ _ rows c.in-Some.line.now _ _ so_far c.in-Some.ensures.steps.0 c.in-Some.ensures.steps.2 (eqb-true (length c.in-Some.line.now) 0 (sym c.is_empty.ensures ∙ c.if-not-is_empty.false)),
+        sums,
+      ),
+      c.loop-index.invariant.1,
+    )
+
+pub returns : goal.returns
+returns c =
+    let (rows, so_far, sums) = c.loop-index.invariant.0 in
+    record { read = record { rows = rows; folded = IsReadTo-end c.args.text.now _ _ rows so_far c.in-None.ensures.steps.0.0; same = AreSumsSoFar-same rows c.loop-index.sums sums } }

@@ -23,7 +23,7 @@ from profile_program import answers
 
 TOP = pathlib.Path(__file__).resolve().parent.parent
 LENGTHS = ["200ms", "1s", "3s"]
-PACKAGES = ["go/types", "net/http", "encoding/json", "regexp/syntax", "math/big", "text/template", "fmt"]
+PACKAGES = ["go/types", "go/parser", "encoding/json", "regexp/syntax", "text/template", "compress/flate", "fmt"]
 C_PROGRAM = """
 #include <stdio.h>
 #include <stdlib.h>
@@ -47,6 +47,17 @@ def run(words, **more):
     return subprocess.run([str(word) for word in words], check=True, capture_output=True, text=True, **more).stdout
 
 
+def converted(program, path):
+    """A profile in pprof's format of one in another: the older text of Go's heap profiles, or google-perftools'."""
+    made = path.with_suffix(".pb.gz")
+    run(["go", "tool", "pprof", "-proto", "-output", made, program, path])
+    return made
+
+
+def go_tool(name):
+    return pathlib.Path(run(["go", "env", "GOTOOLDIR"]).strip()) / name
+
+
 def of_work(folder):
     program = folder / "work"
     run(["go", "build", "-trimpath", "-o", program, TOP / "examples/work.go"])
@@ -64,7 +75,7 @@ def of_compiler(folder):
         made = folder / package.replace("/", "_")
         flags = ["-cpuprofile", f"{made}_cpu", "-memprofile", f"{made}_heap", "-memprofilerate", "4096"]
         run(["go", "tool", "compile", "-p", package, "-o", f"{made}.a", *flags, *sources])
-        yield from [pathlib.Path(f"{made}_cpu"), pathlib.Path(f"{made}_heap")]
+        yield from [pathlib.Path(f"{made}_cpu"), converted(go_tool("compile"), pathlib.Path(f"{made}_heap"))]
 
 
 def of_linker(folder):
@@ -72,12 +83,13 @@ def of_linker(folder):
     run(["go", "tool", "compile", "-o", object_file, TOP / "examples/work.go"])
     flags = ["-cpuprofile", f"{made}_cpu", "-memprofile", f"{made}_heap", "-memprofilerate", "4096"]
     run(["go", "tool", "link", "-o", folder / "linked", *flags, object_file])
-    yield from [pathlib.Path(f"{made}_cpu"), pathlib.Path(f"{made}_heap")]
+    yield from [pathlib.Path(f"{made}_cpu"), converted(go_tool("link"), pathlib.Path(f"{made}_heap"))]
 
 
 def of_gofmt(folder):
     made = folder / "gofmt_cpu"
-    run(["gofmt", "-cpuprofile", made, "-l", run(["go", "env", "GOROOT"]).strip() + "/src/net/http"])
+    sources = pathlib.Path(run(["go", "env", "GOROOT"]).strip()) / "src"
+    run(["gofmt", "-cpuprofile", made, "-l", *[sources / name for name in ("net", "runtime", "crypto", "encoding")]])
     yield made
 
 
@@ -85,12 +97,11 @@ def of_perftools(folder):
     if not shutil.which("gcc") or not list(pathlib.Path("/usr/lib").glob("*/libprofiler.so")):
         print("no google-perftools here: left out")
         return
-    source, program, made = folder / "c_work.c", folder / "c_work", folder / "c_work.pb.gz"
+    source, program = folder / "c_work.c", folder / "c_work"
     source.write_text(C_PROGRAM)
     run(["gcc", "-g", "-O1", source, "-o", program, "-Wl,--no-as-needed", "-lprofiler"])
     run([program], env=dict(os.environ, CPUPROFILE=str(folder / "c_work.prof")))
-    run(["go", "tool", "pprof", "-proto", "-output", made, program, folder / "c_work.prof"])
-    yield made
+    yield converted(program, folder / "c_work.prof")
 
 
 def unpacked(path):
@@ -119,7 +130,7 @@ def compared(folder, path, data, found):
     before, after = as_text(folder, data), as_text(folder, found)
     samples, locations = count_lines(before)
     state = "same" if before == after else "DIFFERS"
-    place = f"{path.parent.name}/{path.name}"
+    place = path.relative_to(folder) if path.is_relative_to(folder) else path.name
     print(f"{state} {place}: {len(data)} bytes, {len(found)} written, {samples} samples, {locations} locations")
     return before == after, samples, locations
 

@@ -1,5 +1,6 @@
-pub mod Reading
-pub mod Messages
-pub mod Valid
-pub mod Profiles
 pub mod Canonical
+pub mod KnownIds
+pub mod Messages
+pub mod Profiles
+pub mod Reading
+pub mod Valid

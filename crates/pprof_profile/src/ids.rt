@@ -1,12 +1,11 @@
-ghost use Rattle.std.specs.Prelude.{◌≡◌, ◌≢◌, ℕ, true, false, not, map, ◌==◌, IfOk, IfErr, OnOk};
+ghost use Rattle.std.specs.Prelude.{◌≡◌, ◌≢◌, ◌||◌, ℕ, nat_eq, true, false, not, map, ◌==◌, IfOk, IfErr, OnOk};
 ghost use Rattle.std.specs.List.{list_any};
-ghost use Rattle.std.specs.Ordering.{nat_cmp};
-ghost use Rattle.std.specs.BTreeSet.{contains};
+ghost use Rattle.pprof_profile.specs.KnownIds.{knows};
 ghost use Rattle.pprof_profile.specs.Valid.{is_known, has_double, no_zero_id};
 
 use crate::faults::ProfileFault;
 use crate::messages::{Draft, Function, Location, Mapping};
-use std::alloc::Global;
+use std::alloc::{AllocError, Global};
 use std::collections::BTreeSet;
 
 /// What others name by its id.
@@ -56,21 +55,61 @@ fn names_zero<T: HasId>(items: &[T]) -> bool
     items.iter().any(|item| item.id() == 0)
 }
 
+/// Ids. Most profiles number their items 1, 2, 3 and on: as far as they do, a look-up compares two numbers.
+#[derive(Drop)]
+pub(crate) struct KnownIds {
+    /// All numbers from 1 to this one are ids.
+    counted: u64,
+    /// The ids beside those.
+    others: BTreeSet<u64>,
+}
+
+impl KnownIds {
+    /// No ids yet. Takes no memory.
+    fn new(alloc: Global) -> KnownIds
+        ensures { (id : ℕ) → knows result id ≡ false }
+    {
+        KnownIds {
+            counted: 0,
+            others: BTreeSet::new(alloc),
+        }
+    }
+
+    /// The id is one of these.
+    pub(crate) fn contains(&self, id: u64) -> bool
+        ensures { result ≡ knows self.now id }
+    {
+        (id > 0 && id <= self.counted) || self.others.contains(&id)
+    }
+
+    /// Adds an id that is none of these.
+    fn add(&mut self, id: u64) -> Result<(), AllocError>
+        requires { knows self.now id ≡ false }
+        ensures { OnOk result ((other : ℕ) → knows self.new other ≡ (nat_eq other id || knows self.old other)) }
+    {
+        if id > 0 && id - 1 == self.counted {
+            self.counted = id;
+        } else {
+            self.others.insert(id)?;
+        }
+        Ok(())
+    }
+}
+
 /// The ids of the items, which are to differ.
-pub(crate) fn unique_ids<T: HasId>(
-    alloc: Global,
-    items: &[T],
-) -> Result<BTreeSet<u64>, ProfileFault>
-    ensures known { IfOk result (λ ids. contains nat_cmp ids ≡ is_known (map T.id_of items.now)) }
+pub(crate) fn unique_ids<T: HasId>(alloc: Global, items: &[T]) -> Result<KnownIds, ProfileFault>
+    ensures known { IfOk result (λ ids. knows ids ≡ is_known (map T.id_of items.now)) }
     ensures single { OnOk result (has_double (map T.id_of items.now) ≡ false) }
     ensures double { IfErr result (λ fault. fault ≢ ProfileFault.NoMemory
         → (fault ≡ ProfileFault.DoubleId) × (has_double (map T.id_of items.now) ≡ true)) }
 {
-    let mut ids = BTreeSet::new(alloc);
+    let mut ids = KnownIds::new(alloc);
     for item in items {
-        if !ids.insert(item.id())? {
+        let id = item.id();
+        if ids.contains(id) {
             return Err(ProfileFault::DoubleId);
         }
+        ids.add(id)?;
     }
     Ok(ids)
 }

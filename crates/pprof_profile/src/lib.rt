@@ -5,6 +5,8 @@
 
 mod encoding;
 mod faults;
+#[cfg(test)]
+mod hostile_tests;
 mod ids;
 mod indices;
 mod items;

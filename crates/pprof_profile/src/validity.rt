@@ -1,16 +1,14 @@
 ghost use Rattle.std.specs.Prelude.{◌≡◌, ◌≢◌, Some, None, IfErr, OnOk};
 ghost use Rattle.std.specs.List.{list_all};
-ghost use Rattle.std.specs.Ordering.{nat_cmp};
-ghost use Rattle.std.specs.BTreeSet.{contains};
+ghost use Rattle.pprof_profile.specs.KnownIds.{knows};
 ghost use Rattle.pprof_profile.specs.Valid.{begins_with_empty, each_has_values, names_locations, names_mappings, names_functions, line_names_function, validity_fault};
 
 use crate::faults::ProfileFault;
-use crate::ids::{has_zero_id, unique_ids};
+use crate::ids::{KnownIds, has_zero_id, unique_ids};
 use crate::indices::indices_hold;
 use crate::items::Text;
 use crate::messages::{Draft, Line, Location, Sample};
 use std::alloc::Global;
-use std::collections::BTreeSet;
 
 /// The first rule that the draft breaks, asked in the order of [`ProfileFault`]'s variants.
 pub(crate) fn validate(alloc: Global, draft: &Draft) -> Result<(), ProfileFault>
@@ -58,37 +56,36 @@ fn first_is_empty(strings: &[Text]) -> bool
 }
 
 /// Each location that a sample names is there.
-fn locations_are_known(known: &BTreeSet<u64>, samples: &[Sample]) -> bool
-    ensures { result ≡ names_locations (contains nat_cmp known.now) samples.now }
+fn locations_are_known(known: &KnownIds, samples: &[Sample]) -> bool
+    ensures { result ≡ names_locations (knows known.now) samples.now }
 {
     samples.iter().all(|sample| each_is_known(known, sample.location_ids.as_slice()))
 }
 
-fn each_is_known(known: &BTreeSet<u64>, ids: &[u64]) -> bool
-    ensures { result ≡ list_all (contains nat_cmp known.now) ids.now }
+fn each_is_known(known: &KnownIds, ids: &[u64]) -> bool
+    ensures { result ≡ list_all (knows known.now) ids.now }
 {
-    ids.iter().all(|id| known.contains(id))
+    ids.iter().all(|id| known.contains(*id))
 }
 
 /// Each mapping that a location names is there.
-fn mappings_are_known(known: &BTreeSet<u64>, locations: &[Location]) -> bool
-    ensures { result ≡ names_mappings (contains nat_cmp known.now) locations.now }
+fn mappings_are_known(known: &KnownIds, locations: &[Location]) -> bool
+    ensures { result ≡ names_mappings (knows known.now) locations.now }
 {
-    locations.iter().all(|location| location.mapping_id == 0
-        || known.contains(&location.mapping_id))
+    locations.iter().all(|location| location.mapping_id == 0 || known.contains(location.mapping_id))
 }
 
 /// Each function that a line names is there.
-fn functions_are_known(known: &BTreeSet<u64>, locations: &[Location]) -> bool
-    ensures { result ≡ names_functions (contains nat_cmp known.now) locations.now }
+fn functions_are_known(known: &KnownIds, locations: &[Location]) -> bool
+    ensures { result ≡ names_functions (knows known.now) locations.now }
 {
     locations.iter().all(|location| each_line_is_known(known, location.lines.as_slice()))
 }
 
-fn each_line_is_known(known: &BTreeSet<u64>, lines: &[Line]) -> bool
-    ensures { result ≡ list_all (line_names_function (contains nat_cmp known.now)) lines.now }
+fn each_line_is_known(known: &KnownIds, lines: &[Line]) -> bool
+    ensures { result ≡ list_all (line_names_function (knows known.now)) lines.now }
 {
-    lines.iter().all(|line| line.function_id == 0 || known.contains(&line.function_id))
+    lines.iter().all(|line| line.function_id == 0 || known.contains(line.function_id))
 }
 
 /// Each sample has so many values.

@@ -1,6 +1,5 @@
 use Rattle.std.proofs.Common.{◌≡◌, ℕ, false, map, take}
-use Rattle.std.specs.Ordering.{nat_cmp}
-use Rattle.std.specs.BTreeSet.{contains}
+use Rattle.pprof_profile.specs.KnownIds.{knows}
 use Rattle.pprof_profile.specs.Valid.{is_known, has_double}
 use Rattle.pprof_profile.proofs.ids.unique_ids.Given as goal
 
@@ -8,6 +7,6 @@ abbrev pub invariant-loop-item : goal.invariant-loop-item
 invariant-loop-item g l =
     let so-far = map g.T.HasId.id_of (take l.item-index l.items) in
     record {
-      known : (id : ℕ) → contains nat_cmp l.ids id ≡ is_known so-far id;
+      known : (id : ℕ) → knows l.ids id ≡ is_known so-far id;
       single : has_double so-far ≡ false;
     }

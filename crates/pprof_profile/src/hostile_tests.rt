@@ -1,0 +1,280 @@
+//! Strangers' bytes. What is expected was counted by the independent reader of `tools/check_profiles.py`.
+
+ghost use Rattle.std.specs.Prelude.{◌<◌, length};
+
+use crate::tests::{
+    EACH_FIELD, INLINED_AND_BARE_LOCATIONS, LONG_VARINT_ID, NEGATIVE_VALUE, ONE_SAMPLE,
+    SEMICOLON_IN_NAME, TWO_SAMPLE_TYPES, UNPACKED_NUMBERS, encoded_again,
+};
+use crate::{ProfileFault, WireFault, decode};
+use std::alloc::Global;
+use std::test::Fail;
+
+/// How often each answer came: first a profile, then the faults in their order, those of the wire each by itself.
+type Tally = [u32; 16];
+
+fn place_of(fault: ProfileFault) -> usize {
+    match fault {
+        ProfileFault::Wire(WireFault::Truncated) => 1,
+        ProfileFault::Wire(WireFault::LongVarint) => 2,
+        ProfileFault::Wire(WireFault::FieldNumber) => 3,
+        ProfileFault::Wire(WireFault::Group) => 4,
+        ProfileFault::Wire(WireFault::WireType) => 5,
+        ProfileFault::NotUtf8 => 6,
+        ProfileFault::NoStrings => 7,
+        ProfileFault::FirstString => 8,
+        ProfileFault::StringIndex => 9,
+        ProfileFault::ZeroId => 10,
+        ProfileFault::DoubleId => 11,
+        ProfileFault::NoLocation => 12,
+        ProfileFault::NoMapping => 13,
+        ProfileFault::NoFunction => 14,
+        ProfileFault::ValueCount => 15,
+        // no place: these never come here
+        ProfileFault::Gzip | ProfileFault::NoMemory => 16,
+    }
+}
+
+/// Counts what the bytes answer. What is written of a profile is that profile again.
+fn count(alloc: Global, bytes: &[u8], tally: &mut Tally) -> Result<(), Fail> {
+    let place = match decode(alloc, bytes) {
+        Ok(_) => {
+            let written = encoded_again(alloc, bytes)?;
+            let again = encoded_again(alloc, written.as_slice())?;
+            if again.as_slice() != written.as_slice() {
+                return Err(Fail::from("not the same again"));
+            }
+            0
+        }
+        Err(fault) => place_of(fault),
+    };
+    let times = tally.get_mut(place).ok_or("a fault that never comes")?;
+    *times = times.wrapping_add(1);
+    Ok(())
+}
+
+#[test]
+fn every_prefix(rt: HostRuntime) -> Result<(), Fail> {
+    let rows: [(&[u8], Tally); 8] = [
+        (
+            ONE_SAMPLE,
+            [0, 34, 0, 0, 0, 0, 0, 5, 0, 3, 0, 0, 0, 0, 0, 0],
+        ),
+        (
+            UNPACKED_NUMBERS,
+            [0, 32, 0, 0, 0, 0, 0, 5, 0, 3, 0, 0, 0, 0, 0, 0],
+        ),
+        (
+            LONG_VARINT_ID,
+            [0, 35, 0, 0, 0, 0, 0, 5, 0, 3, 0, 0, 0, 0, 0, 0],
+        ),
+        (
+            NEGATIVE_VALUE,
+            [0, 43, 0, 0, 0, 0, 0, 5, 0, 3, 0, 0, 0, 0, 0, 0],
+        ),
+        (
+            INLINED_AND_BARE_LOCATIONS,
+            [0, 63, 0, 0, 0, 0, 0, 8, 0, 5, 0, 0, 0, 0, 0, 0],
+        ),
+        (
+            TWO_SAMPLE_TYPES,
+            [0, 54, 0, 0, 0, 0, 0, 6, 0, 5, 0, 0, 0, 0, 0, 0],
+        ),
+        (
+            SEMICOLON_IN_NAME,
+            [0, 36, 0, 0, 0, 0, 0, 5, 0, 3, 0, 0, 0, 0, 0, 0],
+        ),
+        (
+            EACH_FIELD,
+            [11, 126, 0, 0, 0, 0, 0, 6, 0, 6, 0, 0, 0, 0, 0, 0],
+        ),
+    ];
+    for (bytes, want) in rows {
+        let mut tally = [0; 16];
+        for len in 0..bytes.len() {
+            count(rt.alloc(), &bytes[..len], &mut tally)?;
+        }
+        assert_eq!(rt; tally, want);
+    }
+    Ok(())
+}
+
+/// Counts what the bytes answer with each bit changed at one place.
+fn count_changes(alloc: Global, bytes: &[u8], place: usize, tally: &mut Tally) -> Result<(), Fail>
+    requires { place < length bytes.now }
+{
+    for bit in 0..8 {
+        let mut changed = Vec::from_slice(alloc, bytes)?;
+        changed[place] ^= 1 << bit;
+        count(alloc, changed.as_slice(), tally)?;
+    }
+    Ok(())
+}
+
+#[test]
+fn every_bit_changed(rt: HostRuntime) -> Result<(), Fail> {
+    let rows: [(&[u8], Tally); 8] = [
+        (
+            ONE_SAMPLE,
+            [73, 86, 0, 31, 21, 53, 6, 0, 7, 18, 8, 3, 14, 0, 13, 3],
+        ),
+        (
+            UNPACKED_NUMBERS,
+            [74, 74, 0, 26, 21, 53, 6, 0, 7, 18, 8, 3, 14, 0, 13, 3],
+        ),
+        (
+            LONG_VARINT_ID,
+            [74, 88, 0, 30, 21, 54, 7, 0, 5, 18, 8, 3, 20, 0, 13, 3],
+        ),
+        (
+            NEGATIVE_VALUE,
+            [130, 89, 8, 28, 21, 52, 7, 0, 6, 18, 8, 3, 13, 0, 13, 12],
+        ),
+        (
+            INLINED_AND_BARE_LOCATIONS,
+            [134, 151, 0, 51, 41, 89, 9, 0, 6, 30, 19, 10, 30, 2, 33, 3],
+        ),
+        (
+            TWO_SAMPLE_TYPES,
+            [176, 101, 0, 38, 34, 72, 18, 0, 8, 28, 8, 3, 15, 0, 13, 6],
+        ),
+        (
+            SEMICOLON_IN_NAME,
+            [88, 82, 0, 31, 26, 50, 8, 1, 7, 18, 8, 3, 14, 0, 13, 3],
+        ),
+        (
+            EACH_FIELD,
+            [
+                453, 176, 16, 84, 71, 137, 68, 0, 6, 92, 9, 0, 32, 18, 16, 14,
+            ],
+        ),
+    ];
+    for (bytes, want) in rows {
+        let mut tally = [0; 16];
+        for place in 0..bytes.len() {
+            count_changes(rt.alloc(), bytes, place, &mut tally)?;
+        }
+        assert_eq!(rt; tally, want);
+    }
+    Ok(())
+}
+
+/// The bytes with others behind them, some number of times.
+fn followed(alloc: Global, more: &[u8], times: usize) -> Result<Vec<u8>, Fail> {
+    let mut bytes = Vec::from_slice(alloc, ONE_SAMPLE)?;
+    for _ in 0..times {
+        bytes.extend_from_slice(more)?;
+    }
+    Ok(bytes)
+}
+
+#[test]
+fn lengths_ids_and_indices_at_their_limits(rt: HostRuntime) -> Result<(), Fail> {
+    let rows: [(&str, &[u8], Option<ProfileFault>); 10] = [
+        (
+            "a length of 2^64 - 1",
+            &[
+                0x12, 0xff, 0xff, 0xff, 0xff, 0xff, 0xff, 0xff, 0xff, 0xff, 0x01,
+            ],
+            Some(ProfileFault::Wire(WireFault::Truncated)),
+        ),
+        (
+            "a length of 2^63",
+            &[
+                0x32, 0x80, 0x80, 0x80, 0x80, 0x80, 0x80, 0x80, 0x80, 0x80, 0x01,
+            ],
+            Some(ProfileFault::Wire(WireFault::Truncated)),
+        ),
+        (
+            "a length of 2^32",
+            &[0x6a, 0x80, 0x80, 0x80, 0x80, 0x10],
+            Some(ProfileFault::Wire(WireFault::Truncated)),
+        ),
+        (
+            "an unknown field's length of 2^64 - 1",
+            &[
+                0x7a, 0xff, 0xff, 0xff, 0xff, 0xff, 0xff, 0xff, 0xff, 0xff, 0x01,
+            ],
+            Some(ProfileFault::Wire(WireFault::Truncated)),
+        ),
+        (
+            "the greatest id",
+            &[
+                0x2a, 0x0b, 0x08, 0xff, 0xff, 0xff, 0xff, 0xff, 0xff, 0xff, 0xff, 0xff, 0x01,
+            ],
+            None,
+        ),
+        (
+            "the greatest id, in a sample",
+            &[
+                0x12, 0x0d, 0x08, 0xff, 0xff, 0xff, 0xff, 0xff, 0xff, 0xff, 0xff, 0xff, 0x01, 0x10,
+                0x01,
+            ],
+            Some(ProfileFault::NoLocation),
+        ),
+        ("the index of the last string", &[0x68, 0x03], None),
+        (
+            "the number of strings as an index",
+            &[0x68, 0x04],
+            Some(ProfileFault::StringIndex),
+        ),
+        (
+            "the smallest index",
+            &[
+                0x68, 0x80, 0x80, 0x80, 0x80, 0x80, 0x80, 0x80, 0x80, 0x80, 0x01,
+            ],
+            Some(ProfileFault::StringIndex),
+        ),
+        (
+            "the greatest index",
+            &[0x68, 0xff, 0xff, 0xff, 0xff, 0xff, 0xff, 0xff, 0xff, 0x7f],
+            Some(ProfileFault::StringIndex),
+        ),
+    ];
+    for (name, more, want) in rows {
+        let bytes = followed(rt.alloc(), more, 1)?;
+        assert_eq!(rt; decode(rt.alloc(), bytes.as_slice()).err(), want, "{name}");
+    }
+    Ok(())
+}
+
+#[test]
+fn a_million_empty_messages(rt: HostRuntime) -> Result<(), Fail> {
+    let bytes = followed(rt.alloc(), &[0x12, 0x00], 1_000_000)?;
+    assert_eq!(rt;
+        decode(rt.alloc(), bytes.as_slice()).err(),
+        Some(ProfileFault::ValueCount)
+    );
+    Ok(())
+}
+
+#[test]
+fn many_empty_messages(rt: HostRuntime) -> Result<(), Fail> {
+    let rows: [(&str, &[u8], ProfileFault); 4] = [
+        ("sample types", &[0x0a, 0x00], ProfileFault::ValueCount),
+        ("mappings", &[0x1a, 0x00], ProfileFault::ZeroId),
+        ("locations", &[0x22, 0x00], ProfileFault::ZeroId),
+        ("functions", &[0x2a, 0x00], ProfileFault::ZeroId),
+    ];
+    for (name, more, want) in rows {
+        let bytes = followed(rt.alloc(), more, 100_000)?;
+        assert_eq!(rt;
+            decode(rt.alloc(), bytes.as_slice()).err(),
+            Some(want),
+            "{name}"
+        );
+    }
+    Ok(())
+}
+
+#[test]
+fn a_million_period_types(rt: HostRuntime) -> Result<(), Fail> {
+    let empty: &[u8] = &[0x5a, 0x00];
+    let zero: &[u8] = &[0x5a, 0x02, 0x08, 0x00];
+    for more in [empty, zero] {
+        let bytes = followed(rt.alloc(), more, 1_000_000)?;
+        let written = encoded_again(rt.alloc(), bytes.as_slice())?;
+        assert_eq!(rt; written.as_slice(), ONE_SAMPLE);
+    }
+    Ok(())
+}

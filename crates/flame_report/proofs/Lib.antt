@@ -1,0 +1,4 @@
+pub mod TallyLaws
+pub mod Weighted
+pub mod Kept
+pub mod Ranked

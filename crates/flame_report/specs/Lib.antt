@@ -1,0 +1,3 @@
+pub mod Labels
+pub mod Answers
+pub mod Tallies

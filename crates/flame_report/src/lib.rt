@@ -1,0 +1,15 @@
+//! Reports on a profile: totals, top lists, the layout of a flame graph and folded text, over the rows that a query keeps.
+#![tactic(auto)]
+
+mod answer;
+mod items;
+mod keeping;
+mod query;
+mod tallies;
+mod top;
+
+pub use answer::{Answer, Flame, Label, Rect, Top, TopRow};
+pub use items::Items;
+pub use query::{Columns, Kind, MAX_COLUMNS, Query, Rank};
+pub use stack_text::NoMemory;
+pub use top::top_text;

@@ -1,4 +1,12 @@
+pub mod Drawn
+pub mod Held
+pub mod Narrow
+pub mod Kept
+pub mod NewPaths
+pub mod PathOrder
+pub mod Prefixes
+pub mod Ranked
+pub mod RowSums
+pub mod Spans
 pub mod TallyLaws
 pub mod Weighted
-pub mod Kept
-pub mod Ranked

@@ -1,3 +1,4 @@
 pub mod Labels
 pub mod Answers
+pub mod Sharing
 pub mod Tallies

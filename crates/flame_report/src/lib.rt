@@ -4,6 +4,7 @@
 mod answer;
 mod items;
 mod keeping;
+mod layout;
 mod query;
 mod tallies;
 mod top;

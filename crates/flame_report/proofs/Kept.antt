@@ -1,5 +1,5 @@
 -- What is kept of rows, row by row.
-use Rattle.std.proofs.Common.{◌≡◌, ℕ, ◌+◌, ◌<◌, ◌≤◌, Bool, true, false, cond, List, [], ◌∷◌, ◌++◌, length, get_or, take, Option, refl, sym, ap, ◌∙◌, subst, arith}
+use Rattle.std.proofs.Common.{◌≡◌, ℕ, ◌+◌, ◌<◌, ◌≤◌, Bool, true, false, cond, List, [], ◌∷◌, ◌++◌, length, get_or, take, Option, None, refl, sym, ap, ◌∙◌, subst, arith}
 use Rattle.std.proofs.lemmas.List.{take_more}
 use Rattle.std.proofs.lemmas.List.Sums.{sum_by-cons}
 use Rattle.stack_text.specs.declared.batch.Row.{Row}
@@ -76,3 +76,10 @@ IsTallyOf-left focus ignored rows k row name tally lt is left before =
     ∙ ap (λ b. cond b (kept_rows focus ignored (take k rows) ++ row ∷ []) (kept_rows focus ignored (take k rows))) left in
     subst (λ all. IsTallyOf all (k + 1) name tally) (sym same)
     (record { flat = before.flat; cumulative = before.cumulative; numbered = let low = before.numbered in omega arith })
+
+pub kept_rows-all : (focus ignored : Option (List ℕ)) (rows : List Row) → focus ≡ None → ignored ≡ None → kept_rows focus ignored rows ≡ rows
+kept_rows-all focus ignored rows no_focus none_ignored = ap (λ f. kept_rows f ignored rows) no_focus ∙ ap (λ i. kept_rows None i rows) none_ignored ∙ all rows
+  where
+    all : (rows : List Row) → kept_rows None None rows ≡ rows
+    all [] = refl
+    all (row ∷ rows) = ap (λ more. row ∷ more) (all rows)

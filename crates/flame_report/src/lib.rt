@@ -6,11 +6,13 @@ mod items;
 mod keeping;
 mod layout;
 mod query;
+mod reports;
 mod tallies;
 mod top;
 
 pub use answer::{Answer, Flame, Label, Rect, Top, TopRow};
 pub use items::Items;
 pub use query::{Columns, Kind, MAX_COLUMNS, Query, Rank};
+pub use reports::report;
 pub use stack_text::NoMemory;
 pub use top::top_text;

@@ -2,3 +2,4 @@ pub mod Labels
 pub mod Answers
 pub mod Sharing
 pub mod Tallies
+pub mod Totals

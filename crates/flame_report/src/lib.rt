@@ -13,6 +13,6 @@ mod top;
 pub use answer::{Answer, Flame, Label, Rect, Top, TopRow};
 pub use items::Items;
 pub use query::{Columns, Kind, MAX_COLUMNS, Query, Rank};
-pub use reports::report;
+pub use reports::{report, report_of};
 pub use stack_text::NoMemory;
 pub use top::top_text;

@@ -9,13 +9,14 @@ ghost use Rattle.call_tree.specs.State.{weights_of};
 ghost use Rattle.flame_report.specs.Answers.{answer_of, flame_of, kept_by, top_of};
 ghost use Rattle.flame_report.specs.Sharing.{AreWeighty, IsAscending};
 
-use crate::answer::{Answer, Flame};
+use crate::answer::{Answer, Flame, Top};
 use crate::items::Items;
 use crate::layout::{Scale, rects_of};
-use crate::query::{Columns, Kind, Query};
-use crate::top::{kept_total, top_of_rows};
+use crate::query::{Columns, Kind, Query, Rank};
+use crate::top::{kept_total, top_of_rows, top_of_totals};
 use call_tree::{CallTree, Grower};
-use stack_text::{Batch, NoMemory, Row, write_folded};
+use stack_text::laws::sums_are_those_of_the_aggregate;
+use stack_text::{Batch, MAX_TOTAL, NoMemory, Row, write_folded};
 use std::alloc::Global;
 
 /// The rows of a batch that a query keeps.
@@ -88,6 +89,32 @@ fn answer(alloc: Global, rows: Batch, query: &Query) -> Result<Answer, NoMemory>
     }
 }
 
+/// The top list of all that a tree holds.
+fn top_of_tree(alloc: Global, tree: &CallTree, rank: Rank, count: u32) -> Result<Top, NoMemory>
+    ensures { IfOk result (λ top. top ≡ top_of rank count (rows_of (weights_of tree.now))) }
+{
+    let totals = tree.frame_totals(alloc)?;
+    let top = top_of_totals(alloc, &totals, tree.total(), rank, count)?;
+    Ok(top)
+}
+
+/// The answer over the rows of a tree. What asks for all of them needs no rows.
+fn held_answer(alloc: Global, tree: &CallTree, query: &Query) -> Result<Answer, NoMemory>
+    ensures { IfOk result (λ answer. answer ≡ answer_of (rows_of (weights_of tree.now)) query.now) }
+{
+    match query.kind {
+        Kind::Total if query.keeps_all() => Ok(Answer::Total(tree.total())),
+        Kind::Top { rank, count } if query.keeps_all() => {
+            let top = top_of_tree(alloc, tree, rank, count)?;
+            Ok(Answer::Top(top))
+        }
+        _ => {
+            let rows = tree.rows(alloc)?;
+            answer(alloc, rows, query)
+        }
+    }
+}
+
 /// The answer to a query over what a tree holds: the plain answer over every list of rows that adds up to the tree.
 ///
 /// # Errors
@@ -96,6 +123,39 @@ fn answer(alloc: Global, rows: Batch, query: &Query) -> Result<Answer, NoMemory>
 pub fn report(alloc: Global, tree: &CallTree, query: &Query) -> Result<Answer, NoMemory>
     ensures { (rows : List Row) → aggregate_of rows ≡ weights_of tree.now → IfOk result (λ answer. answer ≡ answer_of rows query.now) }
 {
-    let rows = tree.rows(alloc)?;
-    answer(alloc, rows, query)
+    held_answer(alloc, tree, query)
+}
+
+/// The rows that a batch adds up to, in order.
+fn summed(alloc: Global, batch: &Batch) -> Result<Batch, NoMemory>
+    ensures { IfOk result (λ rows. rows ≡ rows_of (aggregate_of batch.now)) }
+{
+    let mut grower = Grower::new(alloc)?;
+    prove!(batch.total() <= MAX_TOTAL);
+    sums_are_those_of_the_aggregate();
+    let plan = grower.plan(alloc, batch)?;
+    grower.credit(plan);
+    grower.tree().rows(alloc)
+}
+
+/// The plain answer to a query over the rows of a batch. A total and a top list are made from the rows as they stand, and no
+/// tree for them.
+///
+/// # Errors
+///
+/// `NoMemory`.
+pub fn report_of(alloc: Global, batch: &Batch, query: &Query) -> Result<Answer, NoMemory>
+    ensures { IfOk result (λ answer. answer ≡ answer_of batch.now query.now) }
+{
+    match query.kind {
+        Kind::Total => Ok(Answer::Total(kept_total(batch.rows(), query))),
+        Kind::Top { rank, count } => {
+            let top = top_of_rows(alloc, batch.rows(), query, rank, count)?;
+            Ok(Answer::Top(top))
+        }
+        _ => {
+            let rows = summed(alloc, batch)?;
+            answer(alloc, rows, query)
+        }
+    }
 }

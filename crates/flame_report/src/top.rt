@@ -7,11 +7,13 @@ ghost use Rattle.stack_text.specs.TopList.{AreSumsOf, top_cmp, top_line, top_lis
 ghost use Rattle.flame_report.specs.Answers.{kept_by, ranking_of, sums_in, top_of, top_row_of};
 ghost use Rattle.flame_report.specs.declared.query.Rank.TheVariants.{Flat, Cum};
 ghost use Rattle.flame_report.specs.Tallies.{shown};
+ghost use Rattle.flame_report.specs.Totals.{totals_shown};
 
 use crate::answer::{Top, TopRow};
 use crate::items::Items;
 use crate::query::{Query, Rank};
 use crate::tallies::{Sums, tallies_of, weighted};
+use call_tree::FrameTotal;
 use stack_text::laws::top_list_is_front_of_sorted;
 use stack_text::{NoMemory, Row};
 use std::alloc::{AllocError, Global};
@@ -105,6 +107,41 @@ pub(crate) fn kept_total(rows: &[Row], query: &Query) -> u64
         }
     }
     total
+}
+
+/// The names of a tree as names with their weights.
+fn sums_of<'a>(alloc: Global, totals: &'a [FrameTotal]) -> Result<Vec<Sums<'a>>, AllocError>
+    ensures { IfOk result (λ list. map shown list.items ≡ map totals_shown totals.now) }
+{
+    let mut list = Vec::with_capacity(alloc, totals.len())?;
+    for total in totals {
+        list.push(Sums {
+            name: &total.name,
+            flat: total.flat,
+            cumulative: total.cum,
+        })?;
+    }
+    Ok(list)
+}
+
+/// The top list of rows of this total, from the weights of their names.
+pub(crate) fn top_of_totals(
+    alloc: Global,
+    totals: &[FrameTotal],
+    total: u64,
+    rank: Rank,
+    count: u32,
+) -> Result<Top, AllocError>
+    ensures { (rows : List Row) → AreSumsOf rows (map totals_shown totals.now) → total ≡ total_of rows
+        → IfOk result (λ top. top ≡ top_of rank count rows) }
+{
+    let mut list = sums_of(alloc, totals)?;
+    rank_names(&mut list, rank, count)?;
+    let rows = rows_of(alloc, &list)?;
+    Ok(Top {
+        total,
+        rows: Items::new(rows),
+    })
 }
 
 /// The top list of the rows that a query keeps.

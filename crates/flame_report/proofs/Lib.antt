@@ -12,3 +12,4 @@ pub mod Same
 pub mod Spans
 pub mod TallyLaws
 pub mod Weighted
+pub mod TokenLaws

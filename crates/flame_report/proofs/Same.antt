@@ -46,6 +46,6 @@ answer_of-same query rows others same =
 pub answer_of-rows_of : (query : Query) (rows held : List Row) → aggregate_of rows ≡ aggregate_of held → answer_of (rows_of (aggregate_of held)) query ≡ answer_of rows query
 answer_of-rows_of query rows held same = answer_of-same query (rows_of (aggregate_of held)) rows (aggregate_of-rows_of held ∙ sym same)
 
-pub if_ok_same : {T E : Type 0} (result : Result T E) (a b : T) → a ≡ b → IfOk result (λ x. x ≡ a) → IfOk result (λ x. x ≡ b)
-if_ok_same (Ok x) a b same is = is ∙ same
-if_ok_same (Err e) a b same is = tt
+pub if_ok_seen : {T E Y : Type 0} (seen : T → Y) (result : Result T E) (a b : Y) → a ≡ b → IfOk result (λ x. seen x ≡ a) → IfOk result (λ x. seen x ≡ b)
+if_ok_seen seen (Ok x) a b same is = is ∙ same
+if_ok_seen seen (Err e) a b same is = tt

@@ -3,6 +3,7 @@
 
 mod answer;
 mod items;
+mod json_text;
 mod keeping;
 mod layout;
 mod query;
@@ -12,6 +13,7 @@ mod top;
 
 pub use answer::{Answer, Flame, Label, Rect, Top, TopRow};
 pub use items::Items;
+pub use json_text::flame_json;
 pub use query::{Columns, Kind, MAX_COLUMNS, Query, Rank};
 pub use reports::{report, report_of};
 pub use stack_text::NoMemory;

@@ -76,6 +76,14 @@ impl Batch {
         rows.as_slice()
     }
 
+    /// The rows as a vector of the caller's own. Takes no memory.
+    pub fn into_rows(self) -> Vec<Row>
+        ensures rows { result.items ≡ self }
+        ensures fits { total_of self < 2 ^ 63 }
+    {
+        self.rows
+    }
+
     /// The weights of all rows together. Takes no time per row.
     pub fn total(&self) -> u64
         ensures total { result ≡ total_of self.now }

@@ -1,0 +1,15 @@
+pub mod Drawn
+pub mod Held
+pub mod Narrow
+pub mod InOrder
+pub mod Kept
+pub mod NewPaths
+pub mod PathOrder
+pub mod Prefixes
+pub mod Ranked
+pub mod RowSums
+pub mod Same
+pub mod Spans
+pub mod TallyLaws
+pub mod Weighted
+pub mod TokenLaws

@@ -1,0 +1,12 @@
+use Rattle.std.proofs.Common.{◌≡◌, ◌-◌, take, true}
+use Rattle.stack_text.specs.Paths.{begins_with}
+use Rattle.stack_text.specs.Names.{name_cmp}
+use Rattle.stack_text.specs.Rows.{weight_where}
+use Rattle.flame_report.specs.Sharing.{stack_at}
+use Rattle.flame_report.proofs.layout.group_weight.Given as goal
+
+abbrev pub invariant-loop-next : goal.invariant-loop-next
+invariant-loop-next l = record {
+  so_far : l.weight ≡ weight_where (begins_with name_cmp (take l.depth (stack_at l.rows l.at))) (take l.next l.rows);
+  last : begins_with name_cmp (take l.depth (stack_at l.rows l.at)) (stack_at l.rows (l.next - 1)) ≡ true;
+}

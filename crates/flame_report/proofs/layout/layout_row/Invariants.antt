@@ -1,0 +1,13 @@
+use Rattle.std.proofs.Common.{◌≡◌, ◌+◌, ◌≤◌, ◌++◌, drop, length, map}
+use Rattle.stack_text.specs.Paths.{prefixes}
+use Rattle.flame_report.specs.Answers.{rect_of}
+use Rattle.flame_report.specs.Sharing.{known_at, shown_of, stack_at}
+use Rattle.flame_report.proofs.layout.layout_row.Given as goal
+
+-- what is drawn and what is left are together what was drawn before and the row's new paths
+abbrev pub invariant-loop-depth : goal.invariant-loop-depth
+invariant-loop-depth l = record {
+  inside : l.depth ≤ length (stack_at l.rows l.at) + 1;
+  rest : l.rects.items ++ map rect_of (shown_of l.scale.columns l.rows (drop l.depth (prefixes (stack_at l.rows l.at))))
+      ≡ l.initial.rects.items ++ map rect_of (shown_of l.scale.columns l.rows (drop (known_at l.rows l.at) (prefixes (stack_at l.rows l.at))));
+}

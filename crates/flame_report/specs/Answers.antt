@@ -1,0 +1,63 @@
+-- The plain answer to a query, over the rows that it keeps.
+use Rattle.std.specs.Prelude.{ℕ, List, map}
+use Rattle.stack_text.specs.declared.batch.Row.{Row}
+use Rattle.stack_text.specs.FoldedText.{folded_text_of}
+use Rattle.stack_text.specs.Layout.{Rectangle, rectangles_of}
+use Rattle.stack_text.specs.Rows.{kept_rows, total_of}
+use Rattle.stack_text.specs.TopList.{NameSums, Ranking, top_list_of}
+use Rattle.stack_text.specs.TopList.Ranking.{by_flat, by_cumulative}
+use Rattle.flame_report.specs.declared.answer.Answer.{Answer}
+use Rattle.flame_report.specs.declared.answer.Answer.TheVariants as answer
+use Rattle.flame_report.specs.declared.answer.Flame.{Flame}
+use Rattle.flame_report.specs.declared.answer.Rect.{Rect}
+use Rattle.flame_report.specs.declared.answer.Top.{Top}
+use Rattle.flame_report.specs.declared.answer.TopRow.{TopRow}
+use Rattle.flame_report.specs.declared.query.Kind.{Kind}
+use Rattle.flame_report.specs.declared.query.Kind.TheVariants as kind
+use Rattle.flame_report.specs.declared.query.Query.{Query}
+use Rattle.flame_report.specs.declared.query.Rank.{Rank}
+use Rattle.flame_report.specs.declared.query.Rank.TheVariants.{Flat, Cum}
+
+abbrev pub ranking_of : Rank → Ranking
+ranking_of Flat = by_flat
+ranking_of Cum = by_cumulative
+
+-- a name with its weights, as an answer has it
+abbrev pub top_row_of : NameSums → TopRow
+top_row_of sums = record { name = sums.name; flat = sums.flat; cum = sums.cumulative }
+
+-- a name of an answer, with its weights
+abbrev pub sums_in : TopRow → NameSums
+sums_in row = record { name = row.name; flat = row.flat; cumulative = row.cum }
+
+abbrev pub top_of : Rank → ℕ → List Row → Top
+top_of rank count rows = record { total = total_of rows; rows = map top_row_of (top_list_of (ranking_of rank) count rows) }
+
+-- a rectangle, as an answer has it
+abbrev pub rect_of : Rectangle → Rect
+rect_of rectangle = record {
+  depth = rectangle.depth;
+  name = rectangle.name;
+  x = rectangle.start;
+  weight = rectangle.weight;
+  left = rectangle.left;
+  right = rectangle.right;
+}
+
+abbrev pub flame_of : ℕ → List Row → Flame
+flame_of columns rows = record { total = total_of rows; columns = columns; rects = map rect_of (rectangles_of columns rows) }
+
+-- what is asked for, of these rows
+abbrev pub answer_by : Kind → List Row → Answer
+answer_by kind.Total rows = answer.Total (total_of rows)
+answer_by (kind.Top rank count) rows = answer.Top (top_of rank count rows)
+answer_by (kind.Flame columns) rows = answer.Flame (flame_of columns rows)
+answer_by kind.Folded rows = answer.Folded (folded_text_of rows)
+
+-- the rows that a query keeps
+abbrev pub kept_by : Query → List Row → List Row
+kept_by query rows = kept_rows query.focus query.ignore rows
+
+-- the plain answer to a query over rows
+abbrev pub answer_of : List Row → Query → Answer
+answer_of rows query = answer_by query.kind (kept_by query rows)

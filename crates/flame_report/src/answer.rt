@@ -1,0 +1,99 @@
+ghost use Rattle.std.specs.Prelude.{◌≡◌, [], IfOk};
+
+use crate::items::Items;
+use crate::query::Columns;
+use stack_text::Name;
+use std::alloc::AllocError;
+use std::marker::Model;
+
+/// A name and what it weighs.
+#[derive(Drop)]
+pub struct TopRow {
+    pub name: Name,
+    /// The weight of the rows whose leaf has the name.
+    pub flat: u64,
+    /// The weight of the rows that have the name, each once, however often it recurs.
+    pub cum: u64,
+}
+
+/// The names that weigh most, and what all rows weigh together.
+#[derive(Drop)]
+pub struct Top {
+    pub total: u64,
+    pub rows: Items<TopRow>,
+}
+
+/// What a rectangle is called: the last name of its path, and nothing for the empty path.
+#[derive(Drop)]
+pub struct Label {
+    name: Option<Name>,
+}
+
+impl Model for Label {
+    ghost use Rattle.std.specs.Prelude.{List, ℕ};
+    ghost use Rattle.flame_report.specs.Labels.{text_of};
+
+    ghost Value = { List ℕ };
+
+    ghost view = { λ l. text_of l.name };
+}
+
+impl Label {
+    /// The label of the empty path.
+    pub fn empty() -> Label
+        ensures { result ≡ [] }
+    {
+        Label { name: None }
+    }
+
+    /// The name as a label. An error is the limit of owners of its text (2^63).
+    pub fn of(name: &Name) -> Result<Label, AllocError>
+        ensures { IfOk result (λ label. label ≡ name.now) }
+    {
+        let name = name.share()?;
+        Ok(Label { name: Some(name) })
+    }
+
+    /// The text.
+    pub fn text(&self) -> &str
+        ensures { result.now ≡ self.now }
+    {
+        match &self.name {
+            Some(name) => name.text(),
+            None => "",
+        }
+    }
+}
+
+/// A rectangle of a flame graph: a path of the kept stacks that is wide enough to be seen.
+#[derive(Drop)]
+pub struct Rect {
+    /// How many names the path has.
+    pub depth: u32,
+    pub name: Label,
+    /// Where it starts: the weight of what lies left of it.
+    pub x: u64,
+    /// How wide it is: the weight of the rows whose stack begins with the path.
+    pub weight: u64,
+    /// The first column that it takes.
+    pub left: u32,
+    /// The column after its last.
+    pub right: u32,
+}
+
+/// The layout of a flame graph. Its rectangles come in the order of their paths.
+#[derive(Drop)]
+pub struct Flame {
+    pub total: u64,
+    pub columns: Columns,
+    pub rects: Items<Rect>,
+}
+
+/// The answer to a query, of the query's kind.
+#[derive(Drop)]
+pub enum Answer {
+    Total(u64),
+    Top(Top),
+    Flame(Flame),
+    Folded(Items<u8>),
+}

@@ -1,0 +1,250 @@
+//! The layout of a flame graph, by one pass over rows in order. A row is compared with the row before alone: what the two don't
+//! share are the paths that come first with this row, in the order of paths.
+
+ghost use Rattle.std.specs.Prelude.{ℕ, ◌≡◌, ◌++◌, ◌+◌, ◌<◌, ◌≤◌, ◌^◌, false, IfOk, OnOk, drop, length, map, take};
+ghost use Rattle.std.specs.List.{common_prefix_len};
+ghost use Rattle.std.specs.Ordering.{eq_by_cmp};
+ghost use Rattle.stack_text.specs.Layout.{column_at, last_name, rectangle_at, rectangles_of};
+ghost use Rattle.stack_text.specs.Names.{name_cmp};
+ghost use Rattle.stack_text.specs.Paths.{begins_with, path_weight, prefixes};
+ghost use Rattle.stack_text.specs.Rows.{total_of};
+ghost use Rattle.flame_report.specs.Answers.{rect_of};
+ghost use Rattle.flame_report.specs.Sharing.{AreHeld, AreKnownPaths, AreWeighty, IsAscending, held_weight, known_at, shown_of, span_of, stack_at};
+
+use crate::answer::{Label, Rect};
+use crate::query::Columns;
+use stack_text::{Name, Row};
+use std::alloc::{AllocError, Global};
+
+/// Weights in columns: the total of all rows fills them.
+#[derive(Clone, Copy)]
+pub(crate) struct Scale {
+    pub total: u64,
+    pub columns: Columns,
+}
+
+/// Where a path stands, in weight and in columns.
+#[derive(Clone, Copy)]
+struct Span {
+    start: u64,
+    weight: u64,
+    left: u32,
+    right: u32,
+}
+
+impl Scale {
+    /// The column in which an offset of the total falls, rounded down.
+    fn column(&self, offset: u64) -> u32
+        requires within { offset ≤ self.now.total }
+        requires some { 0 < self.now.total }
+        ensures { result ≡ column_at self.now.columns self.now.total offset }
+    {
+        (offset as u128 * self.columns.get() as u128 / self.total as u128) as u32
+    }
+}
+
+/// How many names two stacks have in common at their roots.
+fn shared_names(left: &[Name], right: &[Name]) -> usize
+    ensures shared { result ≡ common_prefix_len (eq_by_cmp name_cmp) left.now right.now }
+    ensures short { result ≤ length left.now }
+{
+    for (at, name) in left.iter().enumerate() {
+        if at >= right.len() || *name != right[at] {
+            return at;
+        }
+    }
+    left.len()
+}
+
+/// Of each row, how many of its paths the row before has too.
+fn known_paths(alloc: Global, rows: &[Row]) -> Result<Vec<usize>, AllocError>
+    ensures { IfOk result (λ known. AreKnownPaths known.items rows.now) }
+{
+    let mut known = Vec::with_capacity(alloc, rows.len())?;
+    for at in 0..rows.len() {
+        let shared = if at == 0 {
+            0
+        } else {
+            shared_names(rows[at - 1].stack.names(), rows[at].stack.names()) + 1
+        };
+        known.push(shared)?;
+    }
+    Ok(known)
+}
+
+/// The weight of the rows that begin with the first names of a row that is the first of them.
+fn group_weight(rows: &[Row], known: &[usize], at: usize, depth: usize) -> u64
+    requires ascending { IsAscending rows.now }
+    requires known { AreKnownPaths known.now rows.now }
+    requires at { at < length rows.now }
+    requires depth { depth ≤ length (stack_at rows.now at) }
+    requires first { (k : ℕ) → k < at → begins_with name_cmp (take depth (stack_at rows.now at)) (stack_at rows.now k) ≡ false }
+    requires fits { total_of rows.now < 2 ^ 63 }
+    ensures { result ≡ path_weight rows.now (take depth (stack_at rows.now at)) }
+{
+    let mut weight = rows[at].weight;
+    for next in at + 1..rows.len() {
+        if known[next] <= depth {
+            return weight;
+        }
+        weight += rows[next].weight;
+    }
+    weight
+}
+
+/// Where the path of a row's first names stands, which the row before doesn't have.
+fn span_at(
+    rows: &[Row],
+    known: &[usize],
+    at: usize,
+    depth: usize,
+    start: u64,
+    scale: &Scale,
+) -> Span
+    requires ascending { IsAscending rows.now }
+    requires known { AreKnownPaths known.now rows.now }
+    requires at { at < length rows.now }
+    requires new { known_at rows.now at ≤ depth }
+    requires depth { depth ≤ length (stack_at rows.now at) }
+    requires start { start + held_weight rows.now at (stack_at rows.now at) ≡ total_of (take at rows.now) }
+    requires total { scale.now.total ≡ total_of rows.now }
+    requires some { 0 < scale.now.total }
+    requires fits { scale.now.total < 2 ^ 63 }
+    ensures { result ≡ span_of (rectangle_at scale.now.columns rows.now (take depth (stack_at rows.now at))) }
+{
+    let weight = group_weight(rows, known, at, depth);
+    Span {
+        start,
+        weight,
+        left: scale.column(start),
+        right: scale.column(start + weight),
+    }
+}
+
+/// The rectangle of a path, which is the first names of a stack.
+fn rect_at(names: &[Name], depth: usize, span: Span) -> Result<Rect, AllocError>
+    requires within { depth ≤ length names.now }
+    requires deep { depth ≤ 65535 }
+    ensures { IfOk result (λ rect. (rect.depth ≡ depth) × (rect.name ≡ last_name (take depth names.now)) × (rect.x ≡ span.start)
+        × (rect.weight ≡ span.weight) × (rect.left ≡ span.left) × (rect.right ≡ span.right)) }
+{
+    let name = if depth == 0 {
+        Label::empty()
+    } else {
+        Label::of(&names[depth - 1])?
+    };
+    Ok(Rect {
+        depth: depth as u32,
+        name,
+        x: span.start,
+        weight: span.weight,
+        left: span.left,
+        right: span.right,
+    })
+}
+
+/// Adds the rectangles of the paths that come first with a row. Below one that takes no column there is none.
+fn layout_row(
+    rects: &mut Vec<Rect>,
+    rows: &[Row],
+    known: &[usize],
+    at: usize,
+    start: u64,
+    scale: &Scale,
+) -> Result<(), AllocError>
+    requires ascending { IsAscending rows.now }
+    requires known { AreKnownPaths known.now rows.now }
+    requires at { at < length rows.now }
+    requires start { start + held_weight rows.now at (stack_at rows.now at) ≡ total_of (take at rows.now) }
+    requires total { scale.now.total ≡ total_of rows.now }
+    requires some { 0 < scale.now.total }
+    requires fits { scale.now.total < 2 ^ 63 }
+    ensures { OnOk result (rects.new.items ≡ rects.old.items
+        ++ map rect_of (shown_of scale.now.columns rows.now (drop (known_at rows.now at) (prefixes (stack_at rows.now at))))) }
+{
+    let names = rows[at].stack.names();
+    for depth in known[at]..names.len() + 1 {
+        let span = span_at(rows, known, at, depth, start, scale);
+        if span.left >= span.right {
+            return Ok(());
+        }
+        rects.push(rect_at(names, depth, span)?)?;
+    }
+    Ok(())
+}
+
+/// The weight of the rows so far that are beginnings of a row.
+fn held_above(held: &[u64], rows: &[Row], at: usize, known: usize) -> u64
+    requires ascending { IsAscending rows.now }
+    requires at { at < length rows.now }
+    requires held { AreHeld held.now rows.now at }
+    requires known { known ≡ known_at rows.now at }
+    ensures { result ≡ held_weight rows.now at (stack_at rows.now at) }
+{
+    if known == 0 { 0 } else { held[known - 1] }
+}
+
+/// Keeps, for each path of a row, the weight of the rows so far that are beginnings of it.
+fn hold(
+    held: &mut Vec<u64>,
+    rows: &[Row],
+    at: usize,
+    known: usize,
+    above: u64,
+) -> Result<(), AllocError>
+    requires ascending { IsAscending rows.now }
+    requires at { at < length rows.now }
+    requires held { AreHeld held.old.items rows.now at }
+    requires known { known ≡ known_at rows.now at }
+    requires above { above ≡ held_weight rows.now at (stack_at rows.now at) }
+    requires fits { total_of rows.now < 2 ^ 63 }
+    ensures { OnOk result (AreHeld held.new.items rows.now (at + 1)) }
+{
+    held.truncate(known);
+    held.resize(rows[at].stack.names().len(), above)?;
+    held.push(above + rows[at].weight)?;
+    Ok(())
+}
+
+/// The layout of rows in order, whose total is above 0.
+fn layout(alloc: Global, rows: &[Row], scale: &Scale) -> Result<Vec<Rect>, AllocError>
+    requires ascending { IsAscending rows.now }
+    requires weighty { AreWeighty rows.now }
+    requires total { scale.now.total ≡ total_of rows.now }
+    requires some { 0 < scale.now.total }
+    requires fits { scale.now.total < 2 ^ 63 }
+    ensures { IfOk result (λ rects. rects.items ≡ map rect_of (rectangles_of scale.now.columns rows.now)) }
+{
+    let known = known_paths(alloc, rows)?;
+    let mut rects = Vec::new(alloc);
+    let mut held = Vec::new(alloc);
+    let mut before = 0;
+    for at in 0..rows.len() {
+        let above = held_above(held.as_slice(), rows, at, known[at]);
+        layout_row(
+            &mut rects,
+            rows,
+            known.as_slice(),
+            at,
+            before - above,
+            scale,
+        )?;
+        hold(&mut held, rows, at, known[at], above)?;
+        before += rows[at].weight;
+    }
+    Ok(rects)
+}
+
+/// The layout of rows in order; without rows there are no rectangles.
+pub(crate) fn rects_of(alloc: Global, rows: &[Row], scale: &Scale) -> Result<Vec<Rect>, AllocError>
+    requires ascending { IsAscending rows.now }
+    requires weighty { AreWeighty rows.now }
+    requires total { scale.now.total ≡ total_of rows.now }
+    requires fits { scale.now.total < 2 ^ 63 }
+    ensures { IfOk result (λ rects. rects.items ≡ map rect_of (rectangles_of scale.now.columns rows.now)) }
+{
+    if scale.total == 0 {
+        return Ok(Vec::new(alloc));
+    }
+    layout(alloc, rows, scale)
+}

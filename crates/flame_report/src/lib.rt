@@ -1,0 +1,20 @@
+//! Reports on a profile: totals, top lists, the layout of a flame graph and folded text, over the rows that a query keeps.
+#![tactic(auto)]
+
+mod answer;
+mod items;
+mod json_text;
+mod keeping;
+mod layout;
+mod query;
+mod reports;
+mod tallies;
+mod top;
+
+pub use answer::{Answer, Flame, Label, Rect, Top, TopRow};
+pub use items::Items;
+pub use json_text::flame_json;
+pub use query::{Columns, Kind, MAX_COLUMNS, Query, Rank};
+pub use reports::{report, report_of};
+pub use stack_text::NoMemory;
+pub use top::top_text;

@@ -1,0 +1,161 @@
+//! Reports: the answer to a query over a call tree, or over a batch.
+
+ghost use Rattle.std.specs.Prelude.{◌≡◌, ◌+◌, ◌^◌, ◌<◌, IfOk, IsTrue, List};
+ghost use Rattle.stack_text.specs.Aggregate.{aggregate_of, rows_of};
+ghost use Rattle.stack_text.specs.FoldedText.{folded_text_of};
+ghost use Rattle.stack_text.specs.Rows.{total_of};
+ghost use Rattle.stack_text.specs.declared.batch.Row.{Row};
+ghost use Rattle.call_tree.specs.State.{weights_of};
+ghost use Rattle.flame_report.specs.Answers.{answer_of, flame_of, kept_by, top_of};
+ghost use Rattle.flame_report.specs.Sharing.{AreWeighty, IsAscending};
+
+use crate::answer::{Answer, Flame, Top};
+use crate::items::Items;
+use crate::layout::{Scale, rects_of};
+use crate::query::{Columns, Kind, Query, Rank};
+use crate::top::{kept_total, top_of_rows, top_of_totals};
+use call_tree::{CallTree, Grower};
+use stack_text::laws::sums_are_those_of_the_aggregate;
+use stack_text::{Batch, MAX_TOTAL, NoMemory, Row, write_folded};
+use std::alloc::Global;
+
+/// The rows of a batch that a query keeps.
+fn kept_batch(alloc: Global, batch: Batch, query: &Query) -> Result<Batch, NoMemory>
+    ensures { IfOk result (λ kept. kept ≡ kept_by query.now batch) }
+{
+    if query.keeps_all() {
+        return Ok(batch);
+    }
+    let mut kept = Batch::new(alloc);
+    for row in batch.into_rows() {
+        if query.keeps(&row) {
+            let Row { stack, weight } = row;
+            if kept.push(stack, weight).is_err() {
+                return Err(NoMemory);
+            }
+        }
+    }
+    Ok(kept)
+}
+
+/// The flame graph of rows in order.
+fn flame(alloc: Global, rows: &Batch, columns: Columns) -> Result<Flame, NoMemory>
+    requires ascending { IsAscending rows.now }
+    requires weighty { AreWeighty rows.now }
+    ensures { IfOk result (λ flame. flame ≡ flame_of columns rows.now) }
+{
+    let scale = Scale {
+        total: rows.total(),
+        columns,
+    };
+    let rects = rects_of(alloc, rows.rows(), &scale)?;
+    Ok(Flame {
+        total: scale.total,
+        columns,
+        rects: Items::new(rects),
+    })
+}
+
+/// Rows in order as folded text.
+fn folded(alloc: Global, rows: &Batch) -> Result<Items<u8>, NoMemory>
+    requires ascending { IsAscending rows.now }
+    requires weighty { AreWeighty rows.now }
+    ensures { IfOk result (λ text. text ≡ folded_text_of rows.now) }
+{
+    let text = write_folded(alloc, rows)?;
+    Ok(Items::new(text))
+}
+
+/// The answer over the rows of an aggregate.
+fn answer(alloc: Global, rows: Batch, query: &Query) -> Result<Answer, NoMemory>
+    requires ascending { IsAscending rows }
+    requires weighty { AreWeighty rows }
+    ensures { IfOk result (λ answer. answer ≡ answer_of rows query.now) }
+{
+    match query.kind {
+        Kind::Total => Ok(Answer::Total(kept_total(rows.rows(), query))),
+        Kind::Top { rank, count } => {
+            let top = top_of_rows(alloc, rows.rows(), query, rank, count)?;
+            Ok(Answer::Top(top))
+        }
+        Kind::Flame { columns } => {
+            let kept = kept_batch(alloc, rows, query)?;
+            Ok(Answer::Flame(flame(alloc, &kept, columns)?))
+        }
+        Kind::Folded => {
+            let kept = kept_batch(alloc, rows, query)?;
+            Ok(Answer::Folded(folded(alloc, &kept)?))
+        }
+    }
+}
+
+/// The top list of all that a tree holds.
+fn top_of_tree(alloc: Global, tree: &CallTree, rank: Rank, count: u32) -> Result<Top, NoMemory>
+    ensures { IfOk result (λ top. top ≡ top_of rank count (rows_of (weights_of tree.now))) }
+{
+    let totals = tree.frame_totals(alloc)?;
+    let top = top_of_totals(alloc, &totals, tree.total(), rank, count)?;
+    Ok(top)
+}
+
+/// The answer over the rows of a tree. What asks for all of them needs no rows.
+fn held_answer(alloc: Global, tree: &CallTree, query: &Query) -> Result<Answer, NoMemory>
+    ensures { IfOk result (λ answer. answer ≡ answer_of (rows_of (weights_of tree.now)) query.now) }
+{
+    match query.kind {
+        Kind::Total if query.keeps_all() => Ok(Answer::Total(tree.total())),
+        Kind::Top { rank, count } if query.keeps_all() => {
+            let top = top_of_tree(alloc, tree, rank, count)?;
+            Ok(Answer::Top(top))
+        }
+        _ => {
+            let rows = tree.rows(alloc)?;
+            answer(alloc, rows, query)
+        }
+    }
+}
+
+/// The answer to a query over what a tree holds: the plain answer over every list of rows that adds up to the tree.
+///
+/// # Errors
+///
+/// `NoMemory`.
+pub fn report(alloc: Global, tree: &CallTree, query: &Query) -> Result<Answer, NoMemory>
+    ensures { (rows : List Row) → aggregate_of rows ≡ weights_of tree.now → IfOk result (λ answer. answer ≡ answer_of rows query.now) }
+{
+    held_answer(alloc, tree, query)
+}
+
+/// The rows that a batch adds up to, in order.
+fn summed(alloc: Global, batch: &Batch) -> Result<Batch, NoMemory>
+    ensures { IfOk result (λ rows. rows ≡ rows_of (aggregate_of batch.now)) }
+{
+    let mut grower = Grower::new(alloc)?;
+    prove!(batch.total() <= MAX_TOTAL);
+    sums_are_those_of_the_aggregate();
+    let plan = grower.plan(alloc, batch)?;
+    grower.credit(plan);
+    grower.tree().rows(alloc)
+}
+
+/// The plain answer to a query over the rows of a batch. A total and a top list are made from the rows as they stand, and no
+/// tree for them.
+///
+/// # Errors
+///
+/// `NoMemory`.
+pub fn report_of(alloc: Global, batch: &Batch, query: &Query) -> Result<Answer, NoMemory>
+    ensures { IfOk result (λ answer. answer ≡ answer_of batch.now query.now) }
+{
+    match query.kind {
+        Kind::Total => Ok(Answer::Total(kept_total(batch.rows(), query))),
+        Kind::Top { rank, count } => {
+            let top = top_of_rows(alloc, batch.rows(), query, rank, count)?;
+            Ok(Answer::Top(top))
+        }
+        _ => {
+            let rows = summed(alloc, batch)?;
+            answer(alloc, rows, query)
+        }
+    }
+}

@@ -1,6 +1,6 @@
 -- Rows of one stack put together.
 use Rattle.std.proofs.Common.{◌≡◌, ℕ, ◌+◌, ◌^◌, ◌<◌, ◌≤◌, Bool, true, false, cond, List, [], ◌∷◌, ◌++◌, length, get_or, set, refl, sym, ap, ◌∙◌, subst, arith, inl, inr, length-append, length-set}
-use Rattle.std.specs.Prelude.{Option, Some, None, IfSome}
+use Rattle.std.specs.Prelude.{Result, Ok, Err, MatchResult, Option, Some, None, IfSome}
 use Rattle.std.specs.HashMap as hash
 use Rattle.std.specs.Str.{bytes_eq}
 use Rattle.std.proofs.lemmas.List.{get_or-set_same, get_or-set_other}
@@ -11,8 +11,18 @@ use Rattle.std.proofs.lemmas.Map.Text.{hash_map_updates_str}
 use denote.Ref.{Bor}
 use Rattle.stack_text.specs.declared.batch.Row.{Row}
 use Rattle.stack_text.specs.Aggregate.{aggregate_of}
+use Rattle.pprof_profile.specs.declared.messages.Draft.{Draft}
+use Rattle.stack_text.specs.declared.folded.FoldedFault.{FoldedFault}
+use Rattle.stack_text.specs.declared.folded.FoldedFault.TheVariants as folded
+use Rattle.stack_text.specs.declared.sampling.BatchFault.{BatchFault}
+use Rattle.stack_text.specs.declared.sampling.BatchFault.TheVariants as batch
+use Rattle.stack_text.specs.declared.sampling.ValueChoice.{ValueChoice}
+use Rattle.stack_text.specs.FoldedText.{IsFirstFault, IsFoldedText}
+use Rattle.stack_text.specs.Samples.{IsBatchOf, IsFirstBatchFault}
+use Rattle.stack_text.proofs.Reading.{IsFirstFault-folded, IsFoldedText-same}
+use Rattle.stack_text.proofs.SampleRows.{IsBatchOf-same, IsFirstBatchFault-batch}
 use Rattle.stack_text.specs.Rows.{is_same_stack, total_of, weight_if, weight_of, weight_where}
-use Rattle.stack_text.specs.Sums.{AddsRow, ArePlacedBy, RowsBySpelling, row_at, row_spelled, with_added_at}
+use Rattle.stack_text.specs.Sums.{AddsRow, ArePlacedBy, IsSumOfBatch, IsSumOfText, RowsBySpelling, row_at, row_spelled, with_added_at}
 use Rattle.stack_text.proofs.SameNames.{same_from_is_same_name}
 use Rattle.stack_text.proofs.RowLaws.{aggregate_of-same, weight_where-set, weight_where-push}
 use Rattle.std.proofs.lemmas.List.Sums.{sum_by-set, sum_by_push}
@@ -120,3 +130,15 @@ AreSumsSoFar-row rows all sums new row so_far adds is = record {
 
 pub AreSumsSoFar-same : (rows sums : List Row) → AreSumsSoFar rows sums → aggregate_of sums ≡ aggregate_of rows
 AreSumsSoFar-same rows sums so_far = aggregate_of-same sums rows so_far.weights
+
+-- what reading a text answers decides what its rows add up to
+pub only_text_sums : (text : List ℕ) (outcome : Result (List Row) FoldedFault) → MatchResult outcome (λ sums. IsSumOfText text sums) (λ fault. IsFirstFault text fault)
+    → (rows : List Row) → IsFoldedText text rows → MatchResult outcome (λ sums. aggregate_of sums ≡ aggregate_of rows) (λ fault. fault ≡ folded.NoMemory)
+only_text_sums text (Ok sums) read rows this = read.same ∙ ap aggregate_of (IsFoldedText-same text read.rows rows read.folded this)
+only_text_sums text (Err fault) read rows this = IsFirstFault-folded text rows fault this read
+
+-- and so for a profile
+pub only_batch_sums : (draft : Draft) (choice : ValueChoice) (outcome : Result (List Row) BatchFault) → MatchResult outcome (λ sums. IsSumOfBatch draft choice sums) (λ fault. IsFirstBatchFault draft choice fault)
+    → (rows : List Row) → IsBatchOf draft choice rows → MatchResult outcome (λ sums. aggregate_of sums ≡ aggregate_of rows) (λ fault. fault ≡ batch.NoMemory)
+only_batch_sums draft choice (Ok sums) read rows this = read.same ∙ ap aggregate_of (IsBatchOf-same draft choice read.rows rows read.sampled this)
+only_batch_sums draft choice (Err fault) read rows this = IsFirstBatchFault-batch draft choice rows fault this read

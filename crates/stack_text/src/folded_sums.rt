@@ -1,7 +1,8 @@
-ghost use Rattle.std.specs.Prelude.{◌≡◌, ◌≢◌, ◌+◌, ◌^◌, ◌<◌, ◌≤◌, All, IfErr, MatchResult, OnOk, length};
+ghost use Rattle.std.specs.Prelude.{◌≡◌, ◌≢◌, ◌+◌, ◌^◌, ◌<◌, ◌≤◌, All, IfErr, List, MatchResult, OnOk, length};
 ghost use Rattle.stack_text.specs.declared.batch.Row.{Row};
+ghost use Rattle.stack_text.specs.Aggregate.{aggregate_of};
 ghost use Rattle.stack_text.specs.Rows.{total_of};
-ghost use Rattle.stack_text.specs.FoldedText.{IsFirstFault, IsLineFault, IsRowLine, frames_of};
+ghost use Rattle.stack_text.specs.FoldedText.{IsFirstFault, IsFoldedText, IsLineFault, IsRowLine, frames_of};
 ghost use Rattle.stack_text.specs.Sums.{AddsRow, ArePlacedBy, IsSumOfText, with_added_at};
 
 use crate::batch::Batch;
@@ -84,6 +85,8 @@ fn sum_line<'a>(
 /// Those of [`read_folded`](crate::read_folded).
 pub fn sum_folded(alloc: Global, text: &[u8]) -> Result<Batch, FoldedFault>
     ensures read { MatchResult result (λ sums. IsSumOfText text.now sums) (λ fault. IsFirstFault text.now fault) }
+    ensures accepted { (rows : List Row) → IsFoldedText text.now rows
+        → MatchResult result (λ sums. aggregate_of sums ≡ aggregate_of rows) (λ fault. fault ≡ FoldedFault.NoMemory) }
 {
     let mut names = KnownNames::new(alloc);
     let mut known = HashMap::new(alloc);

@@ -1,7 +1,8 @@
-ghost use Rattle.std.specs.Prelude.{◌≡◌, ◌+◌, ◌^◌, ◌<◌, ◌≤◌, IfErr, MatchResult, OnErr, OnOk, length, pos, slice_get, Some};
+ghost use Rattle.std.specs.Prelude.{◌≡◌, ◌+◌, ◌^◌, ◌<◌, ◌≤◌, IfErr, List, MatchResult, OnErr, OnOk, length, pos, slice_get, Some};
 ghost use Rattle.stack_text.specs.declared.batch.Row.{Row};
+ghost use Rattle.stack_text.specs.Aggregate.{aggregate_of};
 ghost use Rattle.stack_text.specs.Rows.{total_of};
-ghost use Rattle.stack_text.specs.Samples.{IsFirstBatchFault, IsSampleFault, IsSampleRow, sample_stack_of};
+ghost use Rattle.stack_text.specs.Samples.{IsBatchOf, IsFirstBatchFault, IsSampleFault, IsSampleRow, sample_stack_of};
 ghost use Rattle.stack_text.specs.Sums.{AddsRow, ArePlacedBy, IsSumOfBatch, with_added_at};
 
 use crate::batch::Batch;
@@ -81,6 +82,8 @@ fn sum_sample<'a>(
 /// Those of [`batch_of`](crate::batch_of).
 pub fn sum_samples(alloc: Global, profile: &Profile, choice: ValueChoice) -> Result<Batch, BatchFault>
     ensures read { MatchResult result (λ sums. IsSumOfBatch profile.now choice.entry sums) (λ fault. IsFirstBatchFault profile.now choice.entry fault) }
+    ensures accepted { (rows : List Row) → IsBatchOf profile.now choice.entry rows
+        → MatchResult result (λ sums. aggregate_of sums ≡ aggregate_of rows) (λ fault. fault ≡ BatchFault.NoMemory) }
 {
     let Some(chosen) = chosen_type(profile.draft(), choice) else {
         return Err(BatchFault::NoValue);

@@ -2,13 +2,13 @@
 use Rattle.std.proofs.Common.{ℕ, List, ◌+◌, ◌^◌, ◌++◌, ◌∷◌, subst, lit<, ◌≡◌, ◌<◌, length, [], sym, ap, ◌∙◌, refl, arith, rules}
 use Rattle.std.proofs.lemmas.Bool.{eqb-true, eqb-false}
 use Rattle.std.proofs.lemmas.Result.{err_from_is_err_and}
-use Rattle.std.specs.Prelude.{◌==◌, false}
+use Rattle.std.specs.Prelude.{◌==◌, false, Ok}
 use Rattle.std.specs.Str.Lines.{lines}
 use Rattle.std.specs.declared.iter.Enumerate.{Enumerate}
 use Rattle.stack_text.specs.Rows.{total_of}
 use Rattle.stack_text.specs.FoldedText.{IsLineFault}
 use Rattle.stack_text.proofs.Lines.{lines_of-lines}
-use Rattle.stack_text.proofs.PutTogether.{AreSumsSoFar-none, AreSumsSoFar-row, AreSumsSoFar-same}
+use Rattle.stack_text.proofs.PutTogether.{AreSumsSoFar-none, AreSumsSoFar-row, AreSumsSoFar-same, only_text_sums}
 use Rattle.stack_text.proofs.Reading.{IsReadTo-row, IsReadTo-skip, IsReadTo-one_line, IsReadTo-fault, IsReadTo-end}
 use Rattle.stack_text.proofs.folded_sums.sum_folded.Goals as goal
 
@@ -63,7 +63,22 @@ loop-index-preserved c =
       c.loop-index.invariant.1,
     )
 
-pub returns : goal.returns
-returns c =
+pub returns-clause-read : goal.returns-clause-read
+returns-clause-read c =
     let (rows, so_far, sums) = c.loop-index.invariant.0 in
-    record { read = record { rows = rows; folded = IsReadTo-end c.args.text.now _ _ rows so_far c.in-None.ensures.steps.0.0; same = AreSumsSoFar-same rows c.loop-index.sums sums } }
+    record { rows = rows; folded = IsReadTo-end c.args.text.now _ _ rows so_far c.in-None.ensures.steps.0.0; same = AreSumsSoFar-same rows c.loop-index.sums sums }
+
+pub returns-clause-accepted : goal.returns-clause-accepted
+returns-clause-accepted c = only_text_sums c.args.text.now (Ok c.loop-index.sums) (returns-clause-read c)
+
+pub returns-in_err-sum_line-clause-read : goal.returns-in_err-sum_line-clause-read
+returns-in_err-sum_line-clause-read c =
+    let (rows, so_far, sums) = c.loop-index.invariant.0 in
+    let p = err_from_is_err_and c.from_residual.result c.from_residual.ensures.1 in
+    let fault = c.in_err-sum_line.field-0.0 in
+    let numbered = subst (λ n. IsLineFault (total_of c.loop-index.sums) (n + 1) c.in-Some.line.now c.in_err-sum_line.field-0.0) c.in-Some.ensures.steps.1 c.in_err-sum_line.ensures.fault in
+    let there = subst (λ held. IsLineFault held (c.loop-index.index-iterator.count + 1) c.in-Some.line.now c.in_err-sum_line.field-0.0) sums.total numbered in
+    rw (p.1, p.2) (IsReadTo-fault c.args.text.now _ _ rows c.in-Some.line.now _ c.in_err-sum_line.field-0.0 so_far c.in-Some.ensures.steps.0 (filled c.in-Some.line.now (sym c.is_empty.ensures ∙ c.if-not-is_empty.true)) there)
+
+pub returns-in_err-sum_line-clause-accepted : goal.returns-in_err-sum_line-clause-accepted
+returns-in_err-sum_line-clause-accepted c = only_text_sums c.args.text.now _ (returns-in_err-sum_line-clause-read c)

@@ -9,6 +9,8 @@ mod layout;
 mod query;
 mod reports;
 mod tallies;
+#[cfg(test)]
+mod tests;
 mod top;
 
 pub use answer::{Answer, Flame, Label, Rect, Top, TopRow};

@@ -5,6 +5,7 @@ mod answer;
 mod items;
 mod json_text;
 mod keeping;
+pub mod laws;
 mod layout;
 mod query;
 mod reports;

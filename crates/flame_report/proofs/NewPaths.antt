@@ -78,7 +78,7 @@ among-rest q zero ps a = a
 among-rest q (suc k) [] a = a
 among-rest q (suc k) (p ∷ ps) a = among-rest q k ps (or_parts (eq_by_cmp stack_cmp q p) (is_among q ps) a).1
 
-abbrev begins_row : Path → Row → Bool
+abbrev pub begins_row : Path → Row → Bool
 begins_row q row = begins_with name_cmp q row.stack
 
 any-append : (q : Path) (xs ys : List Row) → list_any (begins_row q) (xs ++ ys) ≡ (list_any (begins_row q) xs || list_any (begins_row q) ys)
@@ -130,7 +130,7 @@ among-until rows (suc n) q h =
     ∙ ap (λ t. list_any (begins_row q) (take n rows) || (begins_with name_cmp q t || false)) own
     ∙ sym (any-append q (take n rows) (get_or rows n d ∷ [])) ∙ ap (list_any (begins_row q)) (sym more)
 
-among-all : (q : Path) (rows : List Row) → is_among q (flat_map (λ row. prefixes row.stack) rows) ≡ list_any (begins_row q) rows
+pub among-all : (q : Path) (rows : List Row) → is_among q (flat_map (λ row. prefixes row.stack) rows) ≡ list_any (begins_row q) rows
 among-all q [] = refl
 among-all q (row ∷ rows) = among-append q (prefixes row.stack) (flat_map (λ r. prefixes r.stack) rows) ∙ (λ i. among-prefixes q row.stack i || among-all q rows i)
 

@@ -1,7 +1,7 @@
-pub mod Labels
 pub mod Answers
+pub mod Json
+pub mod Labels
 pub mod Sharing
 pub mod Tallies
-pub mod Totals
-pub mod Json
 pub mod Tokens
+pub mod Totals

@@ -5,10 +5,13 @@ mod answer;
 mod items;
 mod json_text;
 mod keeping;
+pub mod laws;
 mod layout;
 mod query;
 mod reports;
 mod tallies;
+#[cfg(test)]
+mod tests;
 mod top;
 
 pub use answer::{Answer, Flame, Label, Rect, Top, TopRow};

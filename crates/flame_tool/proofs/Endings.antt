@@ -1,12 +1,16 @@
 -- What a run's end says of its reader.
-use Rattle.std.proofs.Common.{◌+◌, ℕ, List, [], Option, Some, None, sym, arith}
+use Rattle.std.proofs.Common.{◌≡◌, ◌+◌, ℕ, List, [], Option, Some, None, sym, arith}
 use Rattle.std.proofs.KnownBytes.{Keeps-refl}
 use Rattle.std.specs.Io.KnownBytes.{Keeps}
 use Rattle.flame_tool.specs.Parts.{IsWholeInput, LeavesAfterFault, TakesAtMost}
 use Rattle.flame_tool.specs.Program.{EndsBy, EndsByFault, IsAsked, read_fault_of}
 use Rattle.flame_tool.specs.declared.outcomes.Outcome.{Outcome}
 use Rattle.flame_tool.specs.declared.outcomes.Outcome.TheVariants.{Done, Words, Fault}
-use Rattle.flame_tool.specs.declared.outcomes.ToolFault.TheVariants.{Folded, Read, Write, TooLong, NoMemory}
+use Rattle.flame_tool.specs.declared.outcomes.ToolFault.TheVariants.{Folded, Profile, Batch, Name, Read, Write, TooLong, NoMemory}
+use Rattle.flame_tool.specs.declared.outcomes.ToolFault.{ToolFault}
+use Rattle.flame_tool.specs.declared.request.Request.{Request}
+use Rattle.flame_tool.specs.Answers.{IsInputFault}
+use Rattle.flame_tool.specs.Words.{request_of}
 use Rattle.flame_tool.specs.declared.streams.ReadFault.{ReadFault}
 use Rattle.flame_tool.specs.declared.streams.ReadFault.TheVariants as reading
 
@@ -34,8 +38,23 @@ pub takes_at_most : (words : List (List ℕ)) (limit : ℕ) (unread left before 
     → EndsBy words limit unread left before after cause → TakesAtMost (limit + 1) unread left
 takes_at_most words limit unread left before after Done end = whole_taken limit unread left end.1.input end.1.whole
 takes_at_most words limit unread left before after (Words text) end = nothing_taken (limit + 1) unread left end.1
-takes_at_most words limit unread left before after (Fault (Folded fault)) end = whole_taken limit unread left end.1.0 end.1.1
+takes_at_most words limit unread left before after (Fault (Folded fault)) end = whole_taken limit unread left end.0.input end.0.whole
+takes_at_most words limit unread left before after (Fault (Profile fault)) end = whole_taken limit unread left end.0.input end.0.whole
+takes_at_most words limit unread left before after (Fault (Batch fault)) end = whole_taken limit unread left end.0.input end.0.whole
+takes_at_most words limit unread left before after (Fault Name) end = nothing_taken (limit + 1) unread left end.1
 takes_at_most words limit unread left before after (Fault Read) end = one_more_taken limit unread left end.1
 takes_at_most words limit unread left before after (Fault Write) end = whole_taken limit unread left end.1.input end.1.whole
 takes_at_most words limit unread left before after (Fault TooLong) end = let taken = end.1 in (taken.0, omega (arith, taken.1), taken.2)
 takes_at_most words limit unread left before after (Fault NoMemory) end = one_more_taken limit unread left end.0
+
+-- an input that isn't answered ends the run before anything is written
+pub ends_by_input_fault : (words : List (List ℕ)) (limit : ℕ) (unread left before : Option (List ℕ)) (request : Request) (input : List ℕ) (fault : ToolFault)
+    → request_of words ≡ Some request → IsWholeInput limit unread left input → IsInputFault request input fault → EndsByFault words limit unread left before before fault
+ends_by_input_fault words limit unread left before request input (Folded fault) asked whole first = (record { request = request; asked = asked; input = input; whole = whole; first = first }, Keeps-refl before)
+ends_by_input_fault words limit unread left before request input (Profile fault) asked whole first = (record { request = request; asked = asked; input = input; whole = whole; first = first }, Keeps-refl before)
+ends_by_input_fault words limit unread left before request input (Batch fault) asked whole first = (record { request = request; asked = asked; input = input; whole = whole; first = first }, Keeps-refl before)
+ends_by_input_fault words limit unread left before request input Name asked whole first = absurd first
+ends_by_input_fault words limit unread left before request input Read asked whole first = absurd first
+ends_by_input_fault words limit unread left before request input Write asked whole first = absurd first
+ends_by_input_fault words limit unread left before request input TooLong asked whole first = absurd first
+ends_by_input_fault words limit unread left before request input NoMemory asked whole first = ((input, whole.short, whole.taken), Keeps-refl before)

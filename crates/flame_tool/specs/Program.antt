@@ -2,18 +2,17 @@
 use Rattle.std.specs.Prelude.{ℕ, ◌≡◌, ◌+◌, ◌≤◌, List, length, Option, Some}
 use Rattle.std.specs.Io.KnownBytes.{Appends, Keeps}
 use Rattle.stack_text.specs.declared.batch.Row.{Row}
-use Rattle.stack_text.specs.FoldedText.{IsFoldedText}
-use Rattle.flame_tool.specs.Answers.{IsAnswer, IsRefusedBy}
+use Rattle.flame_tool.specs.Answers.{AreRowsIn, IsAnswer, IsInputFault, format_for, value_for}
 use Rattle.flame_tool.specs.Parts.{AppendsBeginning, IsWholeInput, TakesAtMost, TakesExactly}
 use Rattle.flame_tool.specs.Outcomes.{code_of}
-use Rattle.flame_tool.specs.Words.{IsRefused, request_of}
+use Rattle.flame_tool.specs.Words.{IsMisnamed, IsRefused, request_of}
 use Rattle.flame_tool.specs.declared.outcomes.Outcome.{Outcome}
 use Rattle.flame_tool.specs.declared.outcomes.Outcome.TheVariants.{Done, Words, Fault}
 use Rattle.flame_tool.specs.declared.outcomes.ToolFault.{ToolFault}
-use Rattle.flame_tool.specs.declared.outcomes.ToolFault.TheVariants.{Folded, Read, Write, TooLong, NoMemory}
+use Rattle.flame_tool.specs.declared.outcomes.ToolFault.TheVariants.{Folded, Profile, Batch, Name, Read, Write, TooLong, NoMemory}
 use Rattle.flame_tool.specs.declared.streams.ReadFault.{ReadFault}
 use Rattle.flame_tool.specs.declared.streams.ReadFault.TheVariants as reading
-use Rattle.flame_tool.specs.declared.words.Request.{Request}
+use Rattle.flame_tool.specs.declared.request.Request.{Request}
 
 -- the words ask for something
 abbrev pub IsAsked : List (List ℕ) → Type 0
@@ -35,10 +34,20 @@ IsDone words limit unread left before after = (text : List ℕ) × IsAnswered wo
 abbrev pub IsCut : List (List ℕ) → ℕ → Option (List ℕ) → Option (List ℕ) → Option (List ℕ) → Option (List ℕ) → Type 0
 IsCut words limit unread left before after = (text : List ℕ) × IsAnswered words limit unread left text × AppendsBeginning before after text
 
+-- the words ask for something of an input that has no rows for it, and this is its first fault
+pub record IsRefusedInput (words : List (List ℕ)) (limit : ℕ) (unread left : Option (List ℕ)) (fault : ToolFault) : Type 0 where
+  pub request : Request
+  pub asked : request_of words ≡ Some request
+  pub input : List ℕ
+  pub whole : IsWholeInput limit unread left input
+  pub first : IsInputFault request input fault
+
 -- what a fault says of the reader. Nothing was written, but at a fault of writing.
 abbrev pub EndsByFault : List (List ℕ) → ℕ → Option (List ℕ) → Option (List ℕ) → Option (List ℕ) → Option (List ℕ) → ToolFault → Type 0
-EndsByFault words limit unread left before after (Folded fault) = IsAsked words
-    × ((input : List ℕ) × IsWholeInput limit unread left input × IsRefusedBy input fault) × Keeps before after
+EndsByFault words limit unread left before after (Folded fault) = IsRefusedInput words limit unread left (Folded fault) × Keeps before after
+EndsByFault words limit unread left before after (Profile fault) = IsRefusedInput words limit unread left (Profile fault) × Keeps before after
+EndsByFault words limit unread left before after (Batch fault) = IsRefusedInput words limit unread left (Batch fault) × Keeps before after
+EndsByFault words limit unread left before after Name = IsMisnamed words × Keeps unread left × Keeps before after
 EndsByFault words limit unread left before after Read = IsAsked words × TakesAtMost limit unread left × Keeps before after
 EndsByFault words limit unread left before after Write = IsCut words limit unread left before after
 EndsByFault words limit unread left before after TooLong = IsAsked words × TakesExactly (limit + 1) unread left × Keeps before after
@@ -55,9 +64,9 @@ pub record IsEnd (words : List (List ℕ)) (limit : ℕ) (unread left before aft
   pub code_is : code ≡ code_of cause
   pub story : EndsBy words limit unread left before after cause
 
--- an input that is answered: folded text within the limit
-abbrev pub IsAccepted : ℕ → List ℕ → Type 0
-IsAccepted limit input = (length input ≤ limit) × ((rows : List Row) × IsFoldedText input rows)
+-- an input that a request is answered on: within the limit, and with rows for it
+abbrev pub IsAccepted : Request → ℕ → List ℕ → Type 0
+IsAccepted request limit input = (length input ≤ limit) × ((rows : List Row) × AreRowsIn (format_for request) (value_for request) input rows)
 
 -- a fault of reading is one of the program
 abbrev pub read_fault_of : ReadFault → ToolFault

@@ -4,13 +4,15 @@
 #![tactic(auto)]
 
 mod answers;
-mod folding;
+mod command;
+mod help;
+mod options;
 mod outcomes;
 mod program;
+mod request;
 mod streams;
 #[cfg(test)]
 mod tests;
-mod top;
 mod words;
 
 use crate::outcomes::{Outcome, Status, ToolFault};

@@ -2,7 +2,8 @@
 ghost use Rattle.std.specs.Prelude.{◌≡◌};
 ghost use Rattle.flame_tool.specs.Outcomes.{code_of};
 
-use stack_text::FoldedFault;
+use pprof_profile::ProfileFault;
+use stack_text::{BatchFault, FoldedFault, NoMemory};
 use std::fmt;
 use thiserror::Error;
 
@@ -12,6 +13,15 @@ pub enum ToolFault {
     /// The input isn't folded text.
     #[error("{0}")]
     Folded(FoldedFault),
+    /// The input is no profile.
+    #[error("{0}")]
+    Profile(ProfileFault),
+    /// The profile's samples give no rows.
+    #[error("{0}")]
+    Batch(BatchFault),
+    /// A focus or an ignored name can't be a name.
+    #[error("C1 Name")]
+    Name,
     /// A read failed.
     #[error("E1 Read")]
     Read,
@@ -24,6 +34,17 @@ pub enum ToolFault {
     /// Memory ran out.
     #[error("E4 NoMemory")]
     NoMemory,
+}
+
+impl From<NoMemory> for ToolFault {
+    ghost use Rattle.std.specs.Prelude.{◌≡◌};
+    ghost use Rattle.flame_tool.specs.declared.outcomes.ToolFault.TheVariants.{NoMemory};
+
+    ghost from_gives = { λ _ fault. fault ≡ NoMemory };
+
+    fn from(_error: NoMemory) -> ToolFault {
+        ToolFault::NoMemory
+    }
 }
 
 /// How a run ended.
@@ -72,8 +93,13 @@ impl Outcome {
     {
         match self {
             Outcome::Done => 0,
-            Outcome::Fault(ToolFault::Folded(_) | ToolFault::TooLong) => 1,
-            Outcome::Words(_) => 2,
+            Outcome::Fault(
+                ToolFault::Folded(_)
+                | ToolFault::Profile(_)
+                | ToolFault::Batch(_)
+                | ToolFault::TooLong,
+            ) => 1,
+            Outcome::Words(_) | Outcome::Fault(ToolFault::Name) => 2,
             Outcome::Fault(ToolFault::Read | ToolFault::Write) => 3,
             Outcome::Fault(ToolFault::NoMemory) => 4,
         }

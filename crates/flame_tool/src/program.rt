@@ -1,14 +1,17 @@
 //! The whole program over any reader and writer.
-ghost use Rattle.std.specs.Prelude.{◌≡◌, ◌≢◌, ◌+◌, ◌≤◌, ◌↔◌, List, ℕ, Some, None, IfSome};
+ghost use Rattle.std.specs.Prelude.{◌≡◌, ◌≢◌, ◌+◌, ◌≤◌, ◌↔◌, ◌⊎◌, List, ℕ, Some, None, IfSome};
 ghost use Rattle.std.specs.Io.KnownBytes.{Keeps};
 ghost use Rattle.flame_tool.specs.Parts.{TakesAtMost};
-ghost use Rattle.flame_tool.specs.Program.{EndsBy, IsAccepted, IsAsked, IsCut, IsDone, IsEnd, read_fault_of};
-ghost use Rattle.flame_tool.specs.Words.{IsRefused, request_of, texts_of};
+ghost use Rattle.flame_tool.specs.Program.{EndsBy, IsAccepted, IsCut, IsDone, IsEnd, read_fault_of};
+ghost use Rattle.flame_tool.specs.Words.{IsMisnamed, IsRefused, request_of, texts_of};
+ghost use Rattle.flame_tool.specs.declared.request.Request.{Request};
+ghost use Rattle.flame_tool.specs.declared.request.Request.{Request};
 
 use crate::answers::answer;
 use crate::outcomes::{Outcome, Status, ToolFault};
+use crate::request::Request;
 use crate::streams::{MAX_INPUT, ReadFault, read_input, write_text};
-use crate::words::{Request, WordsFault, read_words};
+use crate::words::{WordsFault, read_words};
 use std::alloc::Global;
 use std::io::{Read, Write};
 
@@ -31,11 +34,11 @@ pub fn run<'a, R: Read, W: Write>(
     ensures done { result.code ≡ 0 → IsDone (texts_of words.entry.now) limit (R.remaining reader.old) (R.remaining reader.new)
         (W.contents writer.old) (W.contents writer.new) }
     // Where the words ask for something, the input alone decides, but where the streams or memory failed.
-    ensures decided { IfSome (R.remaining reader.old) (λ input. IsAsked (texts_of words.entry.now)
+    ensures decided { IfSome (R.remaining reader.old) (λ input. (request : Request) → request_of (texts_of words.entry.now) ≡ Some request
         → result.code ≢ 3 → result.code ≢ 4
-        → ((result.code ≡ 0) ↔ IsAccepted limit input) × ((result.code ≡ 1) ↔ ¬ IsAccepted limit input)) }
+        → ((result.code ≡ 0) ↔ IsAccepted request limit input) × ((result.code ≡ 1) ↔ ¬ IsAccepted request limit input)) }
     // Words that ask for nothing end with 2, want of memory aside, and no others do.
-    ensures refused { result.code ≡ 2 → IsRefused (texts_of words.entry.now) }
+    ensures refused { result.code ≡ 2 → IsRefused (texts_of words.entry.now) ⊎ IsMisnamed (texts_of words.entry.now) }
     ensures unasked { request_of (texts_of words.entry.now) ≡ None → result.code ≢ 4 → result.code ≡ 2 }
     // Nothing is written, but at 0 and at a fault of writing: then a beginning of the report.
     ensures silent { result.code ≢ 0 → result.cause ≢ Outcome.Fault ToolFault.Write
@@ -62,6 +65,7 @@ fn outcome_of<'a, R: Read, W: Write>(
     match read_words(alloc, words) {
         Ok(request) => respond(alloc, request, reader, writer, limit),
         Err(WordsFault::Refused(text)) => Outcome::Words(text),
+        Err(WordsFault::BadName) => Outcome::Fault(ToolFault::Name),
         Err(WordsFault::NoMemory) => Outcome::Fault(ToolFault::NoMemory),
     }
 }
@@ -83,7 +87,7 @@ fn respond<R: Read, W: Write>(
         Ok(input) => input,
         Err(fault) => return Outcome::Fault(read_fault(fault)),
     };
-    let text = match answer(alloc, request, input.as_slice()) {
+    let text = match answer(alloc, &request, input.as_slice()) {
         Ok(text) => text,
         Err(fault) => return Outcome::Fault(fault),
     };

@@ -2,5 +2,7 @@
 
 mod fakes;
 mod faults;
+mod options;
 mod parts;
+mod profiles;
 mod reports;

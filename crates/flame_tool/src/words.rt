@@ -1,129 +1,159 @@
-//! The command line.
-ghost use Rattle.std.specs.Prelude.{◌≡◌, ◌⊎◌, List, IfOk, MatchResult, Some, false};
-ghost use Rattle.clap.specs.Words.{Text, app_of, kind_of, subcommand_rows_of};
-ghost use Rattle.clap.specs.declared.builder.command.Command.TheViews.{out-Command};
-ghost use Rattle.flame_tool.specs.Words.{IsRefused, IsWordsFault, named_request, program_app, request_of, texts_of, fold_app, top_app};
+//! Reading the words of the command line.
+ghost use Rattle.std.specs.Prelude.{◌≡◌, ◌⊎◌, List, MatchResult, Some, Option, true, ⊤, codes, option_map};
+ghost use Rattle.clap.specs.Words.{Text, first_of, found_of, kind_of, rows_of, subcommand_rows_of};
+ghost use Rattle.flame_tool.specs.Options.{is_name_if_given};
+ghost use Rattle.flame_tool.specs.Words.{IsNameFault, IsReadAs, IsRefused, IsUnread, Reading, asked_by, named_report, reading_of, report_in, texts_of};
+ghost use Rattle.flame_tool.specs.Words.Reading.{refused};
 
+use crate::command::command;
+use crate::options::{flame_kind, format_named, given, refused_option, text_or, top_kind};
+use crate::request::{Format, Request, Source};
 use clap::error::ErrorKind;
-use clap::{ArgMatches, Command, Error};
+use clap::{ArgMatches, Error};
+use flame_report::{Kind, Query};
+use pprof_profile::Text;
+use stack_text::{Name, NameFault};
 use std::alloc::{AllocError, Global};
-
-const ABOUT: &str =
-    "Reads stacks with their weights from the standard input, and writes a report on them";
-
-const ABOUT_TOP: &str = "Lists the names that weigh most";
-
-const ABOUT_FOLD: &str = "Adds up equal stacks";
-
-const AFTER_FOLD: &str = "\
-The input is folded stacks, and so is the output: each stack once with its whole weight, in the
-order of stacks as lists of names. Stacks of weight 0 are left out.
-
-Example:
-  $ printf 'main;a 2\\nmain 1\\nmain;a 3\\n' | flame fold
-  main 1
-  main;a 5";
-
-const AFTER_TOP: &str = "\
-The input is folded stacks: on each line the names from root to leaf, separated by semicolons,
-then a space and a count. The first line of output has the total. Each line after it has the flat
-weight of a name (the stacks that end with it), its cumulative weight (the stacks that contain
-it), and the name, by falling flat weight. There are 20 names at most.
-
-Example:
-  $ printf 'main;a;b 3\\nmain;a 2\\nmain;c 5\\n' | flame top
-  total 10
-  5 5 c
-  3 3 b
-  2 5 a
-  0 10 main";
-
-/// What the words ask for.
-#[derive(Clone, Copy, Debug, PartialEq, Eq)]
-pub enum Request {
-    /// The top list of folded input: by flat weight, at most 20 names.
-    Top,
-    /// Folded text: each stack of weight above 0 once, in the order of stacks.
-    Fold,
-}
 
 /// Why the words ask for nothing.
 #[derive(Debug, Drop)]
 pub enum WordsFault {
     /// They are refused, or ask for help: the text for the user.
     Refused(String),
+    /// A focus or an ignored name can't be a name.
+    BadName,
     /// Memory ran out.
     NoMemory,
 }
 
-/// The command `flame`, with its subcommands and their texts.
-pub fn command<'a>(alloc: Global) -> Result<Command<'a>, AllocError>
-    ensures { IfOk result (λ command. app_of command ≡ program_app) }
-{
-    Command::new(alloc, "flame")
-        .about(ABOUT)
-        .subcommand_required(true)
-        .subcommand(top_command(alloc))?
-        .subcommand(fold_command(alloc))
-}
+impl From<AllocError> for WordsFault {
+    ghost use Rattle.std.specs.Prelude.{◌≡◌};
+    ghost use Rattle.flame_tool.specs.declared.words.WordsFault.TheVariants.{NoMemory};
 
-// The subcommand `top`.
-fn top_command<'a>(alloc: Global) -> Command<'a>
-    ensures app { app_of result ≡ top_app }
-    ensures local { (out-Command result).has_globals ≡ false }
-{
-    Command::new(alloc, "top")
-        .about(ABOUT_TOP)
-        .after_help(AFTER_TOP)
-}
+    ghost from_gives = { λ _ fault. fault ≡ NoMemory };
 
-// The subcommand `fold`.
-fn fold_command<'a>(alloc: Global) -> Command<'a>
-    ensures app { app_of result ≡ fold_app }
-    ensures local { (out-Command result).has_globals ≡ false }
-{
-    Command::new(alloc, "fold")
-        .about(ABOUT_FOLD)
-        .after_help(AFTER_FOLD)
+    fn from(_error: AllocError) -> WordsFault {
+        WordsFault::NoMemory
+    }
 }
 
 /// What the words ask for. The first is the program's name.
 ///
 /// # Errors
 ///
-/// `Refused` exactly where the command refuses the words, or they ask for help; `NoMemory`.
+/// `Refused` exactly where the command refuses the words, an option has a value that it can't have, or the words ask for help;
+/// `BadName` where only a focus or an ignored name is wrong; `NoMemory`.
 pub fn read_words<'a>(alloc: Global, words: &'a [&'a str]) -> Result<Request, WordsFault>
-    ensures { MatchResult result
-        (λ request. request_of (texts_of words.entry.now) ≡ Some request)
-        (λ fault. IsWordsFault (texts_of words.entry.now) fault) }
+    ensures { IsReadAs (reading_of (texts_of words.entry.now)) result }
 {
     let Ok(command) = command(alloc) else {
         return Err(WordsFault::NoMemory);
     };
     match command.try_get_matches_from(words) {
-        Ok(matches) => match request_in(&matches) {
-            Some(request) => Ok(request),
-            None => unreachable!(),
-        },
+        Ok(matches) => request_in(alloc, &matches),
         Err(error) => Err(error_refusal(alloc, &error)),
     }
 }
 
-// The request that the subcommand names.
-fn request_in(matches: &ArgMatches<'_>) -> Option<Request>
-    ensures { result ≡ named_request (subcommand_rows_of matches.now) }
+// The request of a parse.
+fn request_in(alloc: Global, matches: &ArgMatches<'_>) -> Result<Request, WordsFault>
+    ensures { IsReadAs (asked_by (subcommand_rows_of matches.now)) result }
 {
-    let (name, _) = matches.subcommand()?;
-    match name {
-        "top" => Some(Request::Top),
-        "fold" => Some(Request::Fold),
-        _ => None,
+    match matches.subcommand() {
+        Some((name, options)) => named_request(alloc, name, options),
+        None => Err(refusal(format!(in alloc; "error: there is no subcommand\n"))),
     }
+}
+
+// The request of a subcommand with its options.
+fn named_request(alloc: Global, name: &str, options: &ArgMatches<'_>) -> Result<Request, WordsFault>
+    ensures { IsReadAs (asked_by (Some (name.now, rows_of (found_of options.now)))) result }
+{
+    match name {
+        "top" => report_in(alloc, top_kind(options), options),
+        "flame" => report_in(alloc, flame_kind(options), options),
+        "fold" => report_in(alloc, Some(Kind::Folded), options),
+        _ => Err(refusal(format!(in alloc; "error: there is no subcommand {name}\n"))),
+    }
+}
+
+// A report of a kind, where the options have values that they can have.
+fn report_in(
+    alloc: Global,
+    kind: Option<Kind>,
+    options: &ArgMatches<'_>,
+) -> Result<Request, WordsFault>
+    ensures { IsReadAs (report_in kind (rows_of (found_of options.now))) result }
+{
+    let format = format_named(text_or(options, "format", "folded"));
+    match (kind, format) {
+        (Some(kind), Some(format)) => named_report(alloc, kind, format, options),
+        _ => Err(value_refusal(alloc, options)),
+    }
+}
+
+// A report, where both names that it filters by can be names.
+fn named_report(
+    alloc: Global,
+    kind: Kind,
+    format: Format,
+    options: &ArgMatches<'_>,
+) -> Result<Request, WordsFault>
+    ensures { IsReadAs (named_report kind format (first_of (codes "value") (rows_of (found_of options.now)))
+        (first_of (codes "focus") (rows_of (found_of options.now))) (first_of (codes "ignore") (rows_of (found_of options.now)))) result }
+{
+    let focus = name_from(alloc, given(options, "focus"))?;
+    let ignore = name_from(alloc, given(options, "ignore"))?;
+    let value = text_from(alloc, given(options, "value"))?;
+    Ok(Request::Report {
+        source: Source { format, value },
+        query: Query {
+            focus,
+            ignore,
+            kind,
+        },
+    })
+}
+
+// The name that a text is, where it is given.
+fn name_from(alloc: Global, text: Option<&str>) -> Result<Option<Name>, WordsFault>
+    ensures { MatchResult result
+        (λ name. (name ≡ option_map (λ t. t.now) text.entry) × (is_name_if_given (option_map (λ t. t.now) text.entry) ≡ true))
+        (IsNameFault (option_map (λ t. t.now) text.entry)) }
+{
+    let Some(text) = text else {
+        return Ok(None);
+    };
+    match Name::make(alloc, text) {
+        Ok(name) => Ok(Some(name)),
+        Err(NameFault::BadName) => Err(WordsFault::BadName),
+        Err(NameFault::NoMemory) => Err(WordsFault::NoMemory),
+    }
+}
+
+// A copy of a text, where it is given.
+fn text_from(alloc: Global, text: Option<&str>) -> Result<Option<Text>, AllocError>
+    ensures { MatchResult result (λ copy. copy ≡ option_map (λ t. t.now) text.entry) (λ _. ⊤) }
+{
+    match text {
+        Some(text) => Ok(Some(Text::copied(alloc, text)?)),
+        None => Ok(None),
+    }
+}
+
+// What is said of an option whose value it can't have.
+fn value_refusal(alloc: Global, options: &ArgMatches<'_>) -> WordsFault
+    ensures { IsUnread refused result }
+{
+    let (option, value, wanted) = refused_option(options);
+    refusal(format!(in alloc;
+        "error: invalid value '{value}' for '--{option}': {wanted}\n\nFor more information, try '--help'.\n"
+    ))
 }
 
 // What is said of an error of the command.
 fn error_refusal(alloc: Global, error: &Error) -> WordsFault
-    ensures { (words : List Text) → (kind_of error.now ≡ ErrorKind.OutOfMemory) ⊎ IsRefused words → IsWordsFault words result }
+    ensures { (reading : Reading) → (kind_of error.now ≡ ErrorKind.OutOfMemory) ⊎ (reading ≡ refused) → IsUnread reading result }
 {
     match error.kind() {
         ErrorKind::OutOfMemory => WordsFault::NoMemory,
@@ -133,7 +163,7 @@ fn error_refusal(alloc: Global, error: &Error) -> WordsFault
 
 // The refusal with this text, where there was memory for it.
 fn refusal(text: Result<String, AllocError>) -> WordsFault
-    ensures { (words : List Text) → IsRefused words → IsWordsFault words result }
+    ensures { (reading : Reading) → reading ≡ refused → IsUnread reading result }
 {
     match text {
         Ok(text) => WordsFault::Refused(text),

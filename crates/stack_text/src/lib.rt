@@ -17,8 +17,8 @@ mod unfolding;
 mod written;
 
 pub use batch::{Batch, MAX_TOTAL, PushFault, Refused, Row};
-pub use folded_sums::sum_folded;
 pub use folded::{FoldedFault, read_folded};
+pub use folded_sums::sum_folded;
 pub use name::{Name, NameFault};
 pub use pprof_wire::NoMemory;
 pub use sample_sums::sum_samples;

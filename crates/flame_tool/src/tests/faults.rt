@@ -54,7 +54,7 @@ fn deepest_stack(rt: HostRuntime) -> Result<(), Fail> {
 
 #[test]
 fn refused_words(rt: HostRuntime) -> Result<(), Fail> {
-    let cases: [(&[&str], &str); 7] = [
+    let cases: [(&[&str], &str); 11] = [
         (&[], "Usage: "),
         (&["flame"], "Usage: flame"),
         (&["flame", "nope"], "unrecognized subcommand 'nope'"),
@@ -62,8 +62,24 @@ fn refused_words(rt: HostRuntime) -> Result<(), Fail> {
         (&["flame", "help"], "Usage: flame"),
         (&["flame", "top", "--help"], "total 10"),
         (
-            &["flame", "top", "--by", "cum"],
+            &["flame", "fold", "--by", "cum"],
             "unexpected argument '--by'",
+        ),
+        (
+            &["flame", "top", "--by", "size"],
+            "invalid value 'size' for '--by': flat or cum",
+        ),
+        (
+            &["flame", "top", "--count", "-1"],
+            "unexpected argument '-1'",
+        ),
+        (
+            &["flame", "flame", "--columns", "0"],
+            "invalid value '0' for '--columns'",
+        ),
+        (
+            &["flame", "flame", "--columns", "65536"],
+            "invalid value '65536' for '--columns'",
         ),
     ];
     for (words, part) in cases {

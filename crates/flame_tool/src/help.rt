@@ -1,0 +1,62 @@
+//! The texts of the help.
+
+pub const ABOUT: &str =
+    "Reads stacks with their weights from the standard input, and writes a report on them";
+
+pub const ABOUT_TOP: &str = "Lists the names that weigh most";
+
+pub const ABOUT_FLAME: &str = "Lays out a flame graph as JSON";
+
+pub const ABOUT_FOLD: &str = "Adds up equal stacks";
+
+pub const FORMAT: &str =
+    "How the input is written: folded (stacks, as collapse scripts write them) or pprof (profile.proto, unpacked) [default: folded]";
+
+pub const VALUE: &str =
+    "The sample type of a pprof profile whose values are the weights, by its name, such as cpu or alloc_space; without it the profile's own choice";
+
+pub const FOCUS: &str = "Keep only stacks that have a frame of exactly this name";
+
+pub const IGNORE: &str = "Leave out stacks that have a frame of exactly this name";
+
+pub const BY: &str =
+    "What the names are ordered by: flat (the weight of stacks that end with the name) or cum (of stacks that contain it) [default: flat]";
+
+pub const COUNT: &str = "How many names are listed at most [default: 20]";
+
+pub const COLUMNS: &str = "How many columns the whole graph takes, 1 to 65535 [default: 100]";
+
+pub const AFTER_TOP: &str = "\
+The first line of output has the total. Each line after it has the flat weight of a name (the
+stacks that end with it), its cumulative weight (the stacks that contain it, each once), and the
+name.
+
+Examples:
+  $ printf 'main;a;b 3\\nmain;a 2\\nmain;c 5\\n' | flame top
+  total 10
+  5 5 c
+  3 3 b
+  2 5 a
+  0 10 main
+  $ gunzip -c cpu.pb.gz | flame top --format pprof --by cum --count 10 --focus main.work";
+
+pub const AFTER_FLAME: &str = "\
+As flamegraph.pl draws it: a rectangle for each beginning of a stack that is a column wide or
+more, siblings in the order of names, from the left edge of what they stand on. depth is how many
+frames it has, x and weight where it starts and how wide it is in the input's unit, left and right
+the columns that it takes.
+
+Examples:
+  $ printf 'main;a 2\\nmain;c 5\\n' | flame flame --columns 1
+  {\"columns\":1,\"rects\":[{\"depth\":0,\"left\":0,\"name\":\"\",\"right\":1,\"weight\":7,\"x\":0},..],\"total\":7}
+  $ gunzip -c cpu.pb.gz | flame flame --format pprof --columns 1200 --ignore runtime.gcBgMarkWorker";
+
+pub const AFTER_FOLD: &str = "\
+The output is folded stacks: each stack once with its whole weight, in the order of stacks as
+lists of names. Stacks of weight 0 are left out.
+
+Examples:
+  $ printf 'main;a 2\\nmain 1\\nmain;a 3\\n' | flame fold
+  main 1
+  main;a 5
+  $ gunzip -c heap.pb.gz | flame fold --format pprof --value alloc_space | flamegraph.pl > heap.svg";

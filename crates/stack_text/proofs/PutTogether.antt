@@ -1,5 +1,5 @@
 -- Rows of one stack put together.
-use Rattle.std.proofs.Common.{◌≡◌, ℕ, ◌+◌, ◌^◌, ◌<◌, ◌≤◌, Bool, true, false, cond, List, [], ◌∷◌, ◌++◌, length, get_or, set, refl, sym, ap, ◌∙◌, subst, arith, inl, inr, length-append, length-set}
+use Rattle.std.proofs.Common.{◌≡◌, ℕ, ◌+◌, ◌^◌, ◌<◌, ◌≤◌, Bool, true, false, cond, List, [], ◌∷◌, ◌++◌, length, refl, sym, ap, ◌∙◌, subst, arith, inl, inr, length-append, length-set}
 use Rattle.std.specs.Prelude.{Result, Ok, Err, MatchResult, Option, Some, None, IfSome}
 use Rattle.std.specs.HashMap as hash
 use Rattle.std.specs.Str.{bytes_eq}
@@ -8,7 +8,6 @@ use Rattle.std.proofs.Math.ListN.{get_or-append}
 use Rattle.std.proofs.Math.Seq.{get_or-append_seam}
 use Rattle.std.proofs.lemmas.Bool.{cases_eq}
 use Rattle.std.proofs.lemmas.Map.Text.{hash_map_updates_str}
-use denote.Ref.{Bor}
 use Rattle.stack_text.specs.declared.batch.Row.{Row}
 use Rattle.stack_text.specs.Aggregate.{aggregate_of}
 use Rattle.pprof_profile.specs.declared.messages.Draft.{Draft}
@@ -21,7 +20,7 @@ use Rattle.stack_text.specs.FoldedText.{IsFirstFault, IsFoldedText}
 use Rattle.stack_text.specs.Samples.{IsBatchOf, IsFirstBatchFault}
 use Rattle.stack_text.proofs.Reading.{IsFirstFault-folded, IsFoldedText-same}
 use Rattle.stack_text.proofs.SampleRows.{IsBatchOf-same, IsFirstBatchFault-batch}
-use Rattle.stack_text.specs.Rows.{is_same_stack, total_of, weight_if, weight_of, weight_where}
+use Rattle.stack_text.specs.Rows.{is_same_stack, total_of, weight_if, weight_of}
 use Rattle.stack_text.specs.Sums.{AddsRow, ArePlacedBy, IsSumOfBatch, IsSumOfText, RowsBySpelling, row_at, row_spelled, with_added_at}
 use Rattle.stack_text.proofs.SameNames.{same_from_is_same_name}
 use Rattle.stack_text.proofs.RowLaws.{aggregate_of-same, weight_where-set, weight_where-push}
@@ -48,10 +47,10 @@ AddsRow-added rows at weight row lt fits is =
     let weight_is : row.weight ≡ weight = ap (λ (r : Row). r.weight) is in
     record {
       weights = λ stack.
-        let moved = weight_where-set (is_same_stack stack) rows at written no_row lt in
-        let split = added_if (is_same_stack stack) (row_at rows at).stack (row_at rows at).weight weight in
-        let own : weight_if (is_same_stack stack) row ≡ weight_if (is_same_stack stack) row_is = ap (weight_if (is_same_stack stack)) is in
-        omega (arith, moved, split, own);
+          let moved = weight_where-set (is_same_stack stack) rows at written no_row lt in
+          let split = added_if (is_same_stack stack) (row_at rows at).stack (row_at rows at).weight weight in
+          let own : weight_if (is_same_stack stack) row ≡ weight_if (is_same_stack stack) row_is = ap (weight_if (is_same_stack stack)) is in
+          omega (arith, moved, split, own);
       total = omega (arith, total, weight_is);
       fits = omega (arith, fits, weight_is);
     }

@@ -156,7 +156,12 @@ pub(crate) fn counted<'a>(line: &'a [u8], number: u64) -> Result<(&'a str, u64),
 }
 
 /// How many frames a stack text has, where a row of it can follow rows of the weight `held`.
-pub(crate) fn fitting_depth(text: &str, weight: u64, held: u64, number: u64) -> Result<usize, FoldedFault>
+pub(crate) fn fitting_depth(
+    text: &str,
+    weight: u64,
+    held: u64,
+    number: u64,
+) -> Result<usize, FoldedFault>
     requires { held < 2 ^ 63 }
     ensures depth { IfOk result (λ depth. (depth ≡ length (frames_of text.now)) × (depth ≤ MAX_DEPTH) × (held + weight < 2 ^ 63)) }
     ensures fault { IfErr result (IsFittingFault held number text.now weight) }

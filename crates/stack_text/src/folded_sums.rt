@@ -93,7 +93,14 @@ pub fn sum_folded(alloc: Global, text: &[u8]) -> Result<Batch, FoldedFault>
     let mut sums = Batch::new(alloc);
     for (index, line) in text.lines().enumerate() {
         if !line.is_empty() {
-            sum_line(alloc, &mut names, &mut known, &mut sums, line, index as u64 + 1)?;
+            sum_line(
+                alloc,
+                &mut names,
+                &mut known,
+                &mut sums,
+                line,
+                index as u64 + 1,
+            )?;
         }
     }
     Ok(sums)

@@ -80,7 +80,11 @@ fn sum_sample<'a>(
 /// # Errors
 ///
 /// Those of [`batch_of`](crate::batch_of).
-pub fn sum_samples(alloc: Global, profile: &Profile, choice: ValueChoice) -> Result<Batch, BatchFault>
+pub fn sum_samples(
+    alloc: Global,
+    profile: &Profile,
+    choice: ValueChoice,
+) -> Result<Batch, BatchFault>
     ensures read { MatchResult result (λ sums. IsSumOfBatch profile.now choice.entry sums) (λ fault. IsFirstBatchFault profile.now choice.entry fault) }
     ensures accepted { (rows : List Row) → IsBatchOf profile.now choice.entry rows
         → MatchResult result (λ sums. aggregate_of sums ≡ aggregate_of rows) (λ fault. fault ≡ BatchFault.NoMemory) }
@@ -92,7 +96,15 @@ pub fn sum_samples(alloc: Global, profile: &Profile, choice: ValueChoice) -> Res
     let mut known = HashMap::new(alloc);
     let mut sums = Batch::new(alloc);
     for (index, sample) in profile.draft().samples.as_slice().iter().enumerate() {
-        sum_sample(alloc, &frames, &mut known, &mut sums, chosen, sample, index as u64)?;
+        sum_sample(
+            alloc,
+            &frames,
+            &mut known,
+            &mut sums,
+            chosen,
+            sample,
+            index as u64,
+        )?;
     }
     Ok(sums)
 }

@@ -1,5 +1,5 @@
 -- The stack text leads to the new row.
-use Rattle.std.proofs.Common.{◌≡◌, ◌≤◌, length, ap, sym, arith}
+use Rattle.std.proofs.Common.{◌≤◌, length, ap, arith}
 use Rattle.stack_text.specs.FoldedText.{frames_of}
 use Rattle.stack_text.proofs.PutTogether.{ArePlacedBy-push}
 use Rattle.stack_text.proofs.folded_sums.push_sum.Goals as goal

@@ -1,5 +1,5 @@
 -- The locations lead to the new row.
-use Rattle.std.proofs.Common.{◌≡◌, length, ap, sym}
+use Rattle.std.proofs.Common.{length, ap}
 use Rattle.stack_text.specs.Samples.{sample_stack_of}
 use Rattle.stack_text.proofs.PutTogether.{ArePlacedBy-push}
 use Rattle.stack_text.proofs.sample_sums.push_sum.Goals as goal

@@ -43,7 +43,7 @@ returns-in-Some-clause-added c =
     let value = subst (λ values. slice_get values c.args.chosen ≡ Some (pos c.in_ok-weight.weight)) c.as_slice.ensures c.in_ok-weight.ensures.weight.0 in
     let found : row_spelled c.args.known.now c.as_slice-ids.result.now ≡ Some c.in-Some.at = sym c.get.ensures.value ∙ sym c.copied.ensures ∙ c.in-Some.is in
     let there = subst (λ ids. IsPlacedAt (sample_stack_of c.args.frames.now) c.args.sums.now ids c.in-Some.at) c.as_slice-ids.ensures
-      (placed_at (sample_stack_of c.args.frames.now) c.args.known.now c.args.sums.now c.as_slice-ids.result.now c.in-Some.at c.requires.placed found) in
+    (placed_at (sample_stack_of c.args.frames.now) c.args.known.now c.args.sums.now c.as_slice-ids.result.now c.in-Some.at c.requires.placed found) in
     added_to c.args.frames.now c.args.chosen c.in-Some.at c.in_ok-weight.weight c.args.sample.now c.args.sums.now c.add_to_row.new.sums c.add_to_row.result value there c.add_to_row.ensures.added c.add_to_row.ensures.fits
 
 pub returns-in-Some-clause-fault : goal.returns-in-Some-clause-fault
@@ -51,7 +51,7 @@ returns-in-Some-clause-fault c =
     let value = subst (λ values. slice_get values c.args.chosen ≡ Some (pos c.in_ok-weight.weight)) c.as_slice.ensures c.in_ok-weight.ensures.weight.0 in
     let found : row_spelled c.args.known.now c.as_slice-ids.result.now ≡ Some c.in-Some.at = sym c.get.ensures.value ∙ sym c.copied.ensures ∙ c.in-Some.is in
     let there = subst (λ ids. IsPlacedAt (sample_stack_of c.args.frames.now) c.args.sums.now ids c.in-Some.at) c.as_slice-ids.ensures
-      (placed_at (sample_stack_of c.args.frames.now) c.args.known.now c.args.sums.now c.as_slice-ids.result.now c.in-Some.at c.requires.placed found) in
+    (placed_at (sample_stack_of c.args.frames.now) c.args.known.now c.args.sums.now c.as_slice-ids.result.now c.in-Some.at c.requires.placed found) in
     refused_at c.args.frames.now c.args.chosen c.in-Some.at c.in_ok-weight.weight c.args.number c.args.sample.now c.args.sums.now c.add_to_row.result value there c.add_to_row.ensures.fault
 
 pub returns-in_err-check_fit-in-None-clause-fault : goal.returns-in_err-check_fit-in-None-clause-fault

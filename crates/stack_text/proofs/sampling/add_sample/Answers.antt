@@ -1,5 +1,5 @@
 -- A sample that doesn't fit, and want of memory at one that does.
-use Rattle.std.proofs.Common.{rules, ◌≡◌, ◌+◌, ◌^◌, ◌<◌, ◌≤◌, length, ap, sym, subst}
+use Rattle.std.proofs.Common.{◌≡◌, ◌+◌, ◌^◌, ◌<◌, ◌≤◌, length, subst}
 use Rattle.std.specs.Prelude.{Some, pos, slice_get}
 use Rattle.std.proofs.lemmas.Result.{err_from_is_err_and}
 use Rattle.stack_text.specs.Rows.{total_of}

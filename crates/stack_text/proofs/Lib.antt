@@ -5,6 +5,7 @@ pub mod EntryLaws
 pub mod FirstFault
 pub mod Frames
 pub mod ItemsById
+pub mod LentStacks
 pub mod Lines
 pub mod Members
 pub mod Pieces

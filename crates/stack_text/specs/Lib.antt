@@ -3,6 +3,7 @@ pub mod Equality
 pub mod FoldedText
 pub mod KnownNames
 pub mod Layout
+pub mod LentStacks
 pub mod Names
 pub mod Order
 pub mod Paths

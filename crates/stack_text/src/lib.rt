@@ -1,6 +1,7 @@
 //! Names, stacks and batches of weighted stacks, and folded text.
 #![tactic(auto)]
 
+mod aggregating;
 mod batch;
 mod folded;
 mod folded_sums;
@@ -16,9 +17,10 @@ mod tests;
 mod unfolding;
 mod written;
 
+pub use aggregating::aggregate;
 pub use batch::{Batch, MAX_TOTAL, PushFault, Refused, Row};
-pub use folded_sums::sum_folded;
 pub use folded::{FoldedFault, read_folded};
+pub use folded_sums::sum_folded;
 pub use name::{Name, NameFault};
 pub use pprof_wire::NoMemory;
 pub use sample_sums::sum_samples;

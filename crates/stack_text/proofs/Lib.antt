@@ -16,5 +16,6 @@ pub mod Reading
 pub mod RowLaws
 pub mod SameNames
 pub mod SampleRows
+pub mod TextPlaces
 pub mod WorkedRows
 pub mod Writing

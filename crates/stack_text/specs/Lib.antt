@@ -1,5 +1,6 @@
 pub mod Aggregate
 pub mod Equality
+pub mod Export
 pub mod FoldedText
 pub mod KnownNames
 pub mod Layout
@@ -12,5 +13,6 @@ pub mod Pushing
 pub mod Rows
 pub mod Samples
 pub mod Sums
+pub mod TextTables
 pub mod TopList
 pub mod Unfolding

@@ -3,6 +3,7 @@
 
 mod aggregating;
 mod batch;
+mod exporting;
 mod folded;
 mod folded_sums;
 mod known_names;
@@ -14,11 +15,13 @@ mod sampling;
 mod stack;
 #[cfg(test)]
 mod tests;
+mod text_table;
 mod unfolding;
 mod written;
 
 pub use aggregating::aggregate;
 pub use batch::{Batch, MAX_TOTAL, PushFault, Refused, Row};
+pub use exporting::profile_of;
 pub use folded::{FoldedFault, read_folded};
 pub use folded_sums::sum_folded;
 pub use name::{Name, NameFault};

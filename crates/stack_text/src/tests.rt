@@ -2,8 +2,9 @@
 
 use crate::{
     Batch, FoldedFault, MAX_DEPTH, MAX_TOTAL, Name, NameFault, PushFault, Row, Stack, aggregate,
-    read_folded, write_folded,
+    profile_of, read_folded, write_folded,
 };
+use pprof_profile::encode;
 use std::alloc::{AllocError, Global};
 use std::test::Fail;
 
@@ -156,5 +157,27 @@ fn an_aggregate_has_each_stack_once(rt: HostRuntime) -> Result<(), Fail> {
             "{text:?}"
         );
     }
+    Ok(())
+}
+
+#[test]
+fn a_batch_is_exported_as_a_profile(rt: HostRuntime) -> Result<(), Fail> {
+    let batch = read_folded(rt.alloc(), b"f 7\n")?;
+    let profile = profile_of(rt.alloc(), &batch, "cpu", "ns")?;
+    let want: [&[u8]; 8] = [
+        b"\x0a\x04\x08\x01\x10\x02",
+        b"\x12\x06\x0a\x01\x01\x12\x01\x07",
+        b"\x22\x06\x08\x01\x22\x02\x08\x01",
+        b"\x2a\x04\x08\x01\x10\x03",
+        b"\x32\x00",
+        b"\x32\x03cpu",
+        b"\x32\x02ns",
+        b"\x32\x01f",
+    ];
+    let mut bytes = Vec::new(rt.alloc());
+    for field in want {
+        bytes.extend_from_slice(field)?;
+    }
+    assert!(rt; encode(rt.alloc(), &profile)?.as_slice() == bytes.as_slice());
     Ok(())
 }

@@ -5,6 +5,7 @@ pub mod EntryLaws
 pub mod FirstFault
 pub mod Frames
 pub mod ItemsById
+pub mod LentStacks
 pub mod Lines
 pub mod Members
 pub mod Pieces
@@ -15,5 +16,6 @@ pub mod Reading
 pub mod RowLaws
 pub mod SameNames
 pub mod SampleRows
+pub mod TextPlaces
 pub mod WorkedRows
 pub mod Writing

@@ -187,7 +187,7 @@ rows_text_more rows k d before after lt so_far more =
     ∙ ap rows_text (sym (take_more rows k d lt))
 
 -- no row weighs more than all
-weight-le-total : (rows : List Row) → All (λ (row : Row). row.weight ≤ total_of rows) rows
+pub weight-le-total : (rows : List Row) → All (λ (row : Row). row.weight ≤ total_of rows) rows
 weight-le-total rows k d lt = le rows k d lt
   where
     le : (rows : List Row) (k : ℕ) (d : Row) → k < length rows → (get_or rows k d).weight ≤ total_of rows

@@ -1,8 +1,10 @@
 pub mod Aggregate
 pub mod Equality
+pub mod Export
 pub mod FoldedText
 pub mod KnownNames
 pub mod Layout
+pub mod LentStacks
 pub mod Names
 pub mod Order
 pub mod Paths
@@ -11,5 +13,6 @@ pub mod Pushing
 pub mod Rows
 pub mod Samples
 pub mod Sums
+pub mod TextTables
 pub mod TopList
 pub mod Unfolding

@@ -1,7 +1,9 @@
 //! Names, stacks and batches of weighted stacks, and folded text.
 #![tactic(auto)]
 
+mod aggregating;
 mod batch;
+mod exporting;
 mod folded;
 mod folded_sums;
 mod known_names;
@@ -13,10 +15,13 @@ mod sampling;
 mod stack;
 #[cfg(test)]
 mod tests;
+mod text_table;
 mod unfolding;
 mod written;
 
+pub use aggregating::aggregate;
 pub use batch::{Batch, MAX_TOTAL, PushFault, Refused, Row};
+pub use exporting::profile_of;
 pub use folded::{FoldedFault, read_folded};
 pub use folded_sums::sum_folded;
 pub use name::{Name, NameFault};

@@ -1,4 +1,4 @@
-ghost use Rattle.std.specs.Prelude.{◌≡◌, ◌<◌, ◌≤◌, length, MatchResult, ◌==◌, refl};
+ghost use Rattle.std.specs.Prelude.{◌≡◌, ◌<◌, ◌≤◌, length, IfOk, MatchResult, ◌==◌, refl};
 ghost use Rattle.std.specs.Cmp.Lexicographic.{slice_cmp, pointwise, lists_ties, lists_total, texts_ties, nat_list_cmp_total};
 ghost use Rattle.std.specs.Ordering.{nat_cmp, as_partial_cmp};
 ghost use Rattle.std.specs.Cmp.Rules.{comparing};
@@ -6,6 +6,8 @@ ghost use Rattle.std.specs.Cmp.{partial_order_from_agreeing_total};
 ghost use Rattle.std.proofs.Common.{rules};
 
 use crate::name::Name;
+use pprof_wire::NoMemory;
+use std::alloc::Global;
 use std::cmp::Ordering;
 use std::marker::Model;
 
@@ -53,6 +55,17 @@ impl Stack {
     {
         let names: &Vec<Name> = &self.names;
         names.as_slice()
+    }
+
+    /// A second owner of each name.
+    pub(crate) fn share(&self, alloc: Global) -> Result<Stack, NoMemory>
+        ensures { IfOk result (λ stack. stack ≡ self.now) }
+    {
+        let mut shares = Vec::with_capacity(alloc, self.names.len())?;
+        for name in self.names.as_slice() {
+            shares.push(name.share()?)?;
+        }
+        Ok(Stack { names: shares })
     }
 }
 

@@ -1,8 +1,10 @@
 //! What no clause says: that calls succeed with ample memory, with values from the format's description.
 
 use crate::{
-    Batch, FoldedFault, MAX_DEPTH, MAX_TOTAL, Name, NameFault, PushFault, Row, Stack, read_folded,
+    Batch, FoldedFault, MAX_DEPTH, MAX_TOTAL, Name, NameFault, PushFault, Row, Stack, aggregate,
+    profile_of, read_folded, write_folded,
 };
+use pprof_profile::encode;
 use std::alloc::{AllocError, Global};
 use std::test::Fail;
 
@@ -137,5 +139,45 @@ fn the_first_fault_is_answered_with_its_line(rt: HostRuntime) -> Result<(), Fail
             "{text:?}"
         );
     }
+    Ok(())
+}
+
+#[test]
+fn an_aggregate_has_each_stack_once(rt: HostRuntime) -> Result<(), Fail> {
+    let table: [(&[u8], &[u8]); 4] = [
+        (b"", b""),
+        (b"a 0\n;; 0\n", b""),
+        (b"b 2\na;b 1\n 4\nb 3\nc 0\n", b" 4\na;b 1\nb 5\n"),
+        (b"a!;x 1\na;b 1\na 2\na!;x 6\n", b"a 2\na;b 1\na!;x 7\n"),
+    ];
+    for (text, want) in table {
+        let rows = aggregate(rt.alloc(), &read_folded(rt.alloc(), text)?)?;
+        assert!(rt;
+            write_folded(rt.alloc(), &rows)?.as_slice() == want,
+            "{text:?}"
+        );
+    }
+    Ok(())
+}
+
+#[test]
+fn a_batch_is_exported_as_a_profile(rt: HostRuntime) -> Result<(), Fail> {
+    let batch = read_folded(rt.alloc(), b"f 7\n")?;
+    let profile = profile_of(rt.alloc(), &batch, "cpu", "ns")?;
+    let want: [&[u8]; 8] = [
+        b"\x0a\x04\x08\x01\x10\x02",
+        b"\x12\x06\x0a\x01\x01\x12\x01\x07",
+        b"\x22\x06\x08\x01\x22\x02\x08\x01",
+        b"\x2a\x04\x08\x01\x10\x03",
+        b"\x32\x00",
+        b"\x32\x03cpu",
+        b"\x32\x02ns",
+        b"\x32\x01f",
+    ];
+    let mut bytes = Vec::new(rt.alloc());
+    for field in want {
+        bytes.extend_from_slice(field)?;
+    }
+    assert!(rt; encode(rt.alloc(), &profile)?.as_slice() == bytes.as_slice());
     Ok(())
 }

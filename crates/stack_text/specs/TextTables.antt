@@ -1,0 +1,28 @@
+-- Distinct texts in the order in which they came.
+use Rattle.std.specs.Prelude.{ℕ, ◌≡◌, ◌+◌, List, [], ◌∷◌, ◌++◌, Some, None, if◌then◌else◌}
+use Rattle.std.specs.List.{list_any}
+use Rattle.std.specs.HashMap as hash
+use Rattle.std.specs.HashMap.{HashMap}
+use Rattle.std.specs.Str.{bytes_eq}
+use Rattle.std.specs.declared.hash.FoldHasher.{FoldHasher}
+use Rattle.std.specs.declared.hash.BuildHasherDefault.{BuildHasherDefault}
+use denote.Ref.{Bor}
+
+-- the first place of a text; where it is missing, how many texts there are
+abbrev pub place_in : List (List ℕ) → List ℕ → ℕ
+place_in [] text = 0
+place_in (first ∷ texts) text = if bytes_eq text first then 0 else place_in texts text + 1
+
+-- a text that is there isn't added again
+abbrev pub with_text : List (List ℕ) → List ℕ → List (List ℕ)
+with_text texts text = if list_any (bytes_eq text) texts then texts else texts ++ text ∷ []
+
+-- texts added in their order
+abbrev pub with_texts : List (List ℕ) → List (List ℕ) → List (List ℕ)
+with_texts texts [] = texts
+with_texts texts (text ∷ more) = with_texts (with_text texts text) more
+
+-- the map has the place of each text, and nothing else
+abbrev pub ArePlacesOf : List (List ℕ) → HashMap (Bor (List ℕ)) ℕ (BuildHasherDefault FoldHasher) → Type 0
+ArePlacesOf texts places = (text : List ℕ)
+    → hash.get_by (λ (key : Bor (List ℕ)). bytes_eq text key.now) places ≡ (if list_any (bytes_eq text) texts then Some (place_in texts text) else None)

@@ -13,6 +13,8 @@ use Rattle.stack_text.specs.declared.sampling.BatchFault.TheVariants as batch
 use Rattle.stack_text.specs.declared.sampling.ValueChoice.{ValueChoice}
 use Rattle.stack_text.specs.declared.sampling.ValueChoice.TheVariants.{Default, Named}
 use Rattle.stack_text.specs.Aggregate.{aggregate_of}
+use Rattle.pprof_profile.specs.Canonical.{canonical_bytes_of}
+use Rattle.stack_text.specs.Export.{exported_profile_of}
 use Rattle.stack_text.specs.FoldedText.{IsFirstFault, IsFoldedText}
 use Rattle.stack_text.specs.Samples.{IsBatchOf, IsFirstBatchFault}
 use Rattle.stack_text.specs.TopList.{top_text_of}
@@ -25,7 +27,7 @@ use Rattle.flame_tool.specs.declared.outcomes.ToolFault.TheVariants as tool
 use Rattle.flame_tool.specs.declared.request.Format.{Format}
 use Rattle.flame_tool.specs.declared.request.Format.TheVariants.{Folded, Pprof}
 use Rattle.flame_tool.specs.declared.request.Request.{Request}
-use Rattle.flame_tool.specs.declared.request.Request.TheVariants.{Report}
+use Rattle.flame_tool.specs.declared.request.Request.TheVariants.{Report, Export}
 
 -- ---- the rows of an input
 
@@ -52,9 +54,11 @@ AreRowsIn Pprof value input rows = AreProfileRows value input rows
 -- how a request reads its input
 abbrev pub format_for : Request → Format
 format_for (Report source query) = source.format
+format_for (Export kind unit) = Folded
 
 abbrev pub value_for : Request → Option (List ℕ)
 value_for (Report source query) = source.value
+value_for (Export kind unit) = None
 
 -- ---- the text of an answer
 
@@ -67,6 +71,7 @@ answer_text (answer.Folded text) = text
 -- what a request wants of rows
 abbrev pub output_of : Request → List Row → List ℕ
 output_of (Report source query) rows = answer_text (answer_of rows query)
+output_of (Export kind unit) rows = canonical_bytes_of (exported_profile_of rows kind unit)
 
 -- the text is what the request wants of the rows of the input
 pub record IsAnswer (request : Request) (input text : List ℕ) : Type 0 where

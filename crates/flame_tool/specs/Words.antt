@@ -7,7 +7,7 @@ use Rattle.flame_report.specs.declared.query.Kind.{Kind}
 use Rattle.flame_report.specs.declared.query.Kind.TheVariants as kind
 use Rattle.flame_tool.specs.declared.request.Format.{Format}
 use Rattle.flame_tool.specs.declared.request.Request.{Request}
-use Rattle.flame_tool.specs.declared.request.Request.TheVariants.{Report}
+use Rattle.flame_tool.specs.declared.request.Request.TheVariants.{Report, Export}
 use Rattle.flame_tool.specs.declared.words.WordsFault.{WordsFault}
 use Rattle.flame_tool.specs.declared.words.WordsFault.TheVariants.{Refused, BadName, NoMemory}
 use Rattle.flame_tool.specs.Options.{flame_kind, format_named, is_name_if_given, text_or, top_kind}
@@ -40,12 +40,15 @@ flame_graph_app = with_rule (with_filters (with_source (new_app (codes "flame"))
 abbrev pub fold_app : App
 fold_app = with_filters (with_source (new_app (codes "fold")))
 
+abbrev pub proto_app : App
+proto_app = with_rule (with_rule (new_app (codes "proto")) (default_rule (codes "kind") (codes "samples"))) (default_rule (codes "unit") (codes "count"))
+
 -- `flame`, which wants one of its subcommands
 abbrev pub flame_app : App
 flame_app = record { top = record (new_app (codes "flame")).top { subcommand_required = true }; subs = [] }
 
 abbrev pub program_app : App
-program_app = with_subcommand (with_subcommand (with_subcommand flame_app top_app.top) flame_graph_app.top) fold_app.top
+program_app = with_subcommand (with_subcommand (with_subcommand (with_subcommand flame_app top_app.top) flame_graph_app.top) fold_app.top) proto_app.top
 
 -- ---- what words ask for
 
@@ -76,6 +79,9 @@ report_of (Some kind) (Some format) rows =
 abbrev pub report_in : Option Kind → List Row → Reading
 report_in kind rows = report_of kind (format_named (text_or (codes "folded") (codes "format") rows)) rows
 
+abbrev pub export_in : List Row → Reading
+export_in rows = asked (Export (text_or (codes "samples") (codes "kind") rows) (text_or (codes "count") (codes "unit") rows))
+
 -- what a subcommand asks for, by its name and its options
 abbrev pub asked_by : Option (Text × List Row) → Reading
 asked_by None = refused
@@ -83,6 +89,7 @@ asked_by (Some subcommand) =
     if bytes_eq subcommand.0 (codes "top") then report_in (top_kind subcommand.1) subcommand.1
     else if bytes_eq subcommand.0 (codes "flame") then report_in (flame_kind subcommand.1) subcommand.1
     else if bytes_eq subcommand.0 (codes "fold") then report_in (Some kind.Folded) subcommand.1
+    else if bytes_eq subcommand.0 (codes "proto") then export_in subcommand.1
     else refused
 
 -- a reading, where nothing is wrong with the words

@@ -1,18 +1,23 @@
 //! What an input answers to a request.
-ghost use Rattle.std.specs.Prelude.{ℕ, ◌≡◌, ◌∷◌, ◌++◌, [], List, MatchResult, IfOk, Option};
+ghost use Rattle.std.specs.Prelude.{ℕ, ◌≡◌, ◌∷◌, ◌++◌, [], List, MatchResult, IfOk, Option, None};
 ghost use Rattle.stack_text.specs.declared.batch.Row.{Row};
 ghost use Rattle.stack_text.specs.FoldedText.{IsFoldedText};
+ghost use Rattle.stack_text.specs.Export.{exported_profile_of};
+ghost use Rattle.pprof_profile.specs.Canonical.{canonical_bytes_of};
 ghost use Rattle.flame_report.specs.Answers.{answer_of};
 ghost use Rattle.flame_tool.specs.Answers.{AreSumsIn, IsAnswer, IsChoice, IsInputFault, IsRefusedIn, answer_text, batch_fault_of, folded_fault_of, profile_fault_of};
 ghost use Rattle.flame_tool.specs.declared.request.Format.TheVariants.{Folded, Pprof};
-ghost use Rattle.flame_tool.specs.declared.request.Request.TheVariants.{Report};
+ghost use Rattle.flame_tool.specs.declared.request.Request.TheVariants.{Report, Export};
 
 use crate::outcomes::ToolFault;
 use crate::request::{Format, Request, Source};
 use flame_report::laws::answers_are_by_the_aggregate;
 use flame_report::{Answer, Query, flame_json, report_of, top_text};
-use pprof_profile::{ProfileFault, Text, decode};
-use stack_text::{Batch, BatchFault, FoldedFault, NoMemory, ValueChoice, sum_folded, sum_samples};
+use pprof_profile::{ProfileFault, Text, decode, encode};
+use stack_text::{
+    Batch, BatchFault, FoldedFault, NoMemory, ValueChoice, profile_of, read_folded, sum_folded,
+    sum_samples,
+};
 use std::alloc::Global;
 
 /// The whole text that is written for an input.
@@ -27,6 +32,7 @@ pub fn answer(alloc: Global, request: &Request, input: &[u8]) -> Result<Vec<u8>,
 {
     match request {
         Request::Report { source, query } => report_on(alloc, source, query, input),
+        Request::Export { kind, unit } => export(alloc, kind, unit, input),
     }
 }
 
@@ -44,6 +50,36 @@ fn report_on(
     let sums = sums_in(alloc, source, input)?;
     answers_are_by_the_aggregate();
     Ok(report_text(alloc, &sums, query)?)
+}
+
+/// The bytes of the profile that folded text is exported as.
+fn export(alloc: Global, kind: &Text, unit: &Text, input: &[u8]) -> Result<Vec<u8>, ToolFault>
+    ensures { MatchResult result
+        (λ bytes. IsAnswer (Export kind.now unit.now) input.now bytes.items)
+        (λ fault. IsInputFault (Export kind.now unit.now) input.now fault) }
+{
+    let rows = rows_of(alloc, input)?;
+    Ok(profile_bytes(alloc, &rows, kind.as_str(), unit.as_str())?)
+}
+
+/// The rows of folded text, each as it stands.
+fn rows_of(alloc: Global, input: &[u8]) -> Result<Batch, ToolFault>
+    ensures { MatchResult result
+        (λ rows. IsFoldedText input.now rows)
+        (λ fault. IsRefusedIn Folded None input.now fault) }
+{
+    match read_folded(alloc, input) {
+        Ok(rows) => Ok(rows),
+        Err(found) => Err(folded_fault(found)),
+    }
+}
+
+/// The bytes of the profile that rows are exported as.
+fn profile_bytes(alloc: Global, rows: &Batch, kind: &str, unit: &str) -> Result<Vec<u8>, NoMemory>
+    ensures { IfOk result (λ bytes. bytes.items ≡ canonical_bytes_of (exported_profile_of rows.now kind.now unit.now)) }
+{
+    let profile = profile_of(alloc, rows, kind, unit)?;
+    encode(alloc, &profile)
 }
 
 /// Rows that add up to those of the input.

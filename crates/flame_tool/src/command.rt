@@ -2,7 +2,7 @@
 ghost use Rattle.std.specs.Prelude.{◌≡◌, IfOk, false};
 ghost use Rattle.clap.specs.Words.{app_of, rule_of};
 ghost use Rattle.clap.specs.declared.builder.command.Command.TheViews.{out-Command};
-ghost use Rattle.flame_tool.specs.Words.{default_rule, flame_app, flame_graph_app, fold_app, option_rule, program_app, top_app, with_filters, with_source};
+ghost use Rattle.flame_tool.specs.Words.{default_rule, flame_app, flame_graph_app, fold_app, option_rule, program_app, proto_app, top_app, with_filters, with_source};
 
 use crate::help;
 use clap::{Arg, Command};
@@ -98,6 +98,18 @@ fn fold_command<'a>(alloc: Global) -> Result<Command<'a>, AllocError>
     with_filters(alloc, with_source(alloc, command)?)
 }
 
+// The subcommand `proto`.
+fn proto_command<'a>(alloc: Global) -> Result<Command<'a>, AllocError>
+    ensures app { IfOk result (λ command. app_of command ≡ proto_app) }
+    ensures local { IfOk result (λ command. (out-Command command).has_globals ≡ false) }
+{
+    Command::new(alloc, "proto")
+        .about(help::ABOUT_PROTO)
+        .after_help(help::AFTER_PROTO)
+        .arg(default_option(alloc, "kind", "samples", "KIND", help::KIND))?
+        .arg(default_option(alloc, "unit", "count", "UNIT", help::UNIT))
+}
+
 /// The command `flame`, with its subcommands and their texts.
 pub fn command<'a>(alloc: Global) -> Result<Command<'a>, AllocError>
     ensures { IfOk result (λ command. app_of command ≡ program_app) }
@@ -107,5 +119,6 @@ pub fn command<'a>(alloc: Global) -> Result<Command<'a>, AllocError>
         .subcommand_required(true)
         .subcommand(top_command(alloc)?)?
         .subcommand(flame_graph_command(alloc)?)?
-        .subcommand(fold_command(alloc)?)
+        .subcommand(fold_command(alloc)?)?
+        .subcommand(proto_command(alloc)?)
 }

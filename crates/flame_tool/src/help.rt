@@ -9,6 +9,8 @@ pub const ABOUT_FLAME: &str = "Lays out a flame graph as JSON";
 
 pub const ABOUT_FOLD: &str = "Adds up equal stacks";
 
+pub const ABOUT_PROTO: &str = "Writes folded stacks as a pprof profile";
+
 pub const FORMAT: &str =
     "How the input is written: folded (stacks, as collapse scripts write them) or pprof (profile.proto, unpacked) [default: folded]";
 
@@ -25,6 +27,10 @@ pub const BY: &str =
 pub const COUNT: &str = "How many names are listed at most [default: 20]";
 
 pub const COLUMNS: &str = "How many columns the whole graph takes, 1 to 65535 [default: 100]";
+
+pub const KIND: &str = "The name of the profile's sample type [default: samples]";
+
+pub const UNIT: &str = "The unit of the profile's sample type [default: count]";
 
 pub const AFTER_TOP: &str = "\
 The first line of output has the total. Each line after it has the flat weight of a name (the
@@ -60,3 +66,11 @@ Examples:
   main 1
   main;a 5
   $ gunzip -c heap.pb.gz | flame fold --format pprof --value alloc_space | flamegraph.pl > heap.svg";
+
+pub const AFTER_PROTO: &str = "\
+The input is folded stacks. The output is a message of pprof's profile.proto with a sample for
+each line, which other tools open.
+
+Example:
+  $ flame proto --kind cpu --unit nanoseconds < stacks.folded > stacks.pb
+  $ go tool pprof -top stacks.pb";

@@ -25,4 +25,6 @@ pub struct Source {
 pub enum Request {
     /// A report on the rows of the input.
     Report { source: Source, query: Query },
+    /// A profile of the rows of folded input, whose only sample type has this name and unit.
+    Export { kind: Text, unit: Text },
 }

@@ -2,7 +2,7 @@
 ghost use Rattle.std.specs.Prelude.{◌≡◌, ◌⊎◌, List, MatchResult, Some, Option, true, ⊤, codes, option_map};
 ghost use Rattle.clap.specs.Words.{Text, first_of, found_of, kind_of, rows_of, subcommand_rows_of};
 ghost use Rattle.flame_tool.specs.Options.{is_name_if_given};
-ghost use Rattle.flame_tool.specs.Words.{IsNameFault, IsReadAs, IsRefused, IsUnread, Reading, asked_by, named_report, reading_of, report_in, texts_of};
+ghost use Rattle.flame_tool.specs.Words.{IsNameFault, IsReadAs, IsRefused, IsUnread, Reading, asked_by, export_in, named_report, reading_of, report_in, texts_of};
 ghost use Rattle.flame_tool.specs.Words.Reading.{refused};
 
 use crate::command::command;
@@ -73,6 +73,7 @@ fn named_request(alloc: Global, name: &str, options: &ArgMatches<'_>) -> Result<
         "top" => report_in(alloc, top_kind(options), options),
         "flame" => report_in(alloc, flame_kind(options), options),
         "fold" => report_in(alloc, Some(Kind::Folded), options),
+        "proto" => export_in(alloc, options),
         _ => Err(refusal(format!(in alloc; "error: there is no subcommand {name}\n"))),
     }
 }
@@ -139,6 +140,15 @@ fn text_from(alloc: Global, text: Option<&str>) -> Result<Option<Text>, AllocErr
         Some(text) => Ok(Some(Text::copied(alloc, text)?)),
         None => Ok(None),
     }
+}
+
+// An export with its options.
+fn export_in(alloc: Global, options: &ArgMatches<'_>) -> Result<Request, WordsFault>
+    ensures { IsReadAs (export_in (rows_of (found_of options.now))) result }
+{
+    let kind = Text::copied(alloc, text_or(options, "kind", "samples"))?;
+    let unit = Text::copied(alloc, text_or(options, "unit", "count"))?;
+    Ok(Request::Export { kind, unit })
 }
 
 // What is said of an option whose value it can't have.

@@ -1,10 +1,10 @@
 //! What no clause says: that calls succeed with ample memory, with values from the format's description.
 
 use crate::{
-    Batch, FoldedFault, MAX_DEPTH, MAX_TOTAL, Name, NameFault, PushFault, Row, Stack, aggregate,
-    profile_of, read_folded, write_folded,
+    Batch, FoldedFault, MAX_DEPTH, MAX_TOTAL, Name, NameFault, PushFault, Row, Stack, ValueChoice,
+    aggregate, batch_of, read_folded, unfold, write_folded,
 };
-use pprof_profile::encode;
+use pprof_profile::decode;
 use std::alloc::{AllocError, Global};
 use std::test::Fail;
 
@@ -160,24 +160,19 @@ fn an_aggregate_has_each_stack_once(rt: HostRuntime) -> Result<(), Fail> {
     Ok(())
 }
 
+// a, inlined into b, inlined into c, under a location without lines at 0xff; the value is 2.
+const INLINED: &[u8] =
+    b"\x0a\x04\x08\x01\x10\x02\x12\x07\x0a\x02\x01\x02\x12\x01\x02\x22\x0e\x08\x01\x22\x02\x08\x01\x22\x02\x08\x02\x22\x02\x08\x03\x22\x05\x08\x02\x18\xff\x01\x2a\x04\x08\x01\x10\x03\x2a\x04\x08\x02\x10\x04\x2a\x04\x08\x03\x10\x05\x32\x00\x32\x03cpu\x32\x02ns\x32\x01a\x32\x01b\x32\x01c";
+
 #[test]
-fn a_batch_is_exported_as_a_profile(rt: HostRuntime) -> Result<(), Fail> {
-    let batch = read_folded(rt.alloc(), b"f 7\n")?;
-    let profile = profile_of(rt.alloc(), &batch, "cpu", "ns")?;
-    let want: [&[u8]; 8] = [
-        b"\x0a\x04\x08\x01\x10\x02",
-        b"\x12\x06\x0a\x01\x01\x12\x01\x07",
-        b"\x22\x06\x08\x01\x22\x02\x08\x01",
-        b"\x2a\x04\x08\x01\x10\x03",
-        b"\x32\x00",
-        b"\x32\x03cpu",
-        b"\x32\x02ns",
-        b"\x32\x01f",
-    ];
-    let mut bytes = Vec::new(rt.alloc());
-    for field in want {
-        bytes.extend_from_slice(field)?;
-    }
-    assert!(rt; encode(rt.alloc(), &profile)?.as_slice() == bytes.as_slice());
+fn inlined_lines_and_bare_locations(rt: HostRuntime) -> Result<(), Fail> {
+    let alloc = rt.alloc();
+    let profile = decode(alloc, INLINED)?;
+    assert!(rt; profile.draft().samples.len() == 1);
+    let names = unfold(alloc, &profile, 0)?;
+    assert_eq!(rt; names.len(), 4);
+    assert!(rt; names[0].text() == "a" && names[3].text() == "0xff");
+    let batch = batch_of(alloc, &profile, ValueChoice::Default)?;
+    assert!(rt; write_folded(alloc, &batch)?.as_slice() == b"0xff;c;b;a 2\n".as_slice());
     Ok(())
 }

@@ -49,6 +49,21 @@ fn folded_profiles(rt: HostRuntime) -> Result<(), Fail> {
 }
 
 #[test]
+fn export_of_one_row(rt: HostRuntime) -> Result<(), Fail> {
+    let words = ["flame", "proto", "--kind", "cpu", "--unit", "ns"];
+    let (status, written) = run_on(rt.alloc(), words.as_slice(), b"f 7\n", MAX_INPUT);
+    assert_eq!(rt; status.code, 0);
+    assert_eq!(rt; written.as_slice(), ONE_SAMPLE);
+    let (status, written) = run_on(rt.alloc(), words.as_slice(), b"f\n", MAX_INPUT);
+    assert_eq!(rt;
+        status.cause.to_string(rt.alloc())?.as_str(),
+        "flame: F2 NoCount line 1\n"
+    );
+    assert!(rt; written.is_empty());
+    Ok(())
+}
+
+#[test]
 fn refused_profiles(rt: HostRuntime) -> Result<(), Fail> {
     let cases: [(&[&str], &[u8], &str); 7] = [
         (FOLD.as_slice(), b"", "flame: P4 NoStrings\n"),

@@ -2,6 +2,7 @@
 """Compares flame's reports on real profiles with those of other tools.
 
 For each profile that compare_profiles.py makes (and those named as arguments), and each of its sample types:
+(Semicolons in the names of functions are colons in flame's, since folded text can't hold them; they are made so here too.)
 - `flame top` with the flat and cumulative weights that `go tool pprof -top` gives, its trimming switched off;
 - `flame fold` with the stacks of `go tool pprof -traces`;
 - `flame flame` with a layout made here from the folded stacks, in 100 and in 1,200 columns;
@@ -40,6 +41,11 @@ def sample_types(raw):
     return [tuple(word.replace("[dflt]", "").split("/")) for word in words]
 
 
+def cleaned(name):
+    """A name as folded text can hold it: with a colon for each semicolon."""
+    return name.replace(";", ":")
+
+
 def number(word):
     return int(VALUE.match(word).group(1)) if VALUE.match(word) else None
 
@@ -64,7 +70,7 @@ def pprof_top(path, kind, unit):
     for line in lines[start + 1:]:
         words = line.split(None, 5)
         if len(words) == 6:
-            name = re.sub(r" \((partial-)?inline\)$", "", words[5])
+            name = cleaned(re.sub(r" \((partial-)?inline\)$", "", words[5]))
             sums[name][0] += number(words[0])
             sums[name][1] += number(words[3])
     return {name: tuple(pair) for name, pair in sums.items() if pair != [0, 0]}
@@ -76,11 +82,11 @@ def pprof_traces(path, kind, unit):
         frames, value = [], None
         for line in block.rstrip("\n").split("\n"):
             head, name = line[:10].strip(), line[13:]
-            if head.endswith(":"):
+            if line[10:11] == ":":
                 continue
             if value is None:
                 value = number(head)
-            frames.append(re.sub(r" \(inline\)$", "", name))
+            frames.append(cleaned(re.sub(r" \(inline\)$", "", name)))
         if value:
             stacks[tuple(reversed(frames))] += value
     return stacks

@@ -5,6 +5,8 @@ ghost use Rattle.stack_text.specs.declared.batch.Row.{Row};
 ghost use Rattle.stack_text.specs.Rows.{kept_rows, weight_of, weight_where};
 ghost use Rattle.stack_text.specs.Aggregate.{aggregate_of, rows_of, weight_in, with_rows};
 ghost use Rattle.stack_text.specs.Layout.{rectangles_of};
+ghost use Rattle.pprof_profile.specs.Valid.{IsValidDraft};
+ghost use Rattle.stack_text.specs.Export.{exported_profile_of};
 ghost use Rattle.stack_text.specs.TopList.{AreSumsOf, NameSums, Ranking, top_cmp, top_list_of};
 
 /// However the weights of the names were sorted by a top list's order, the front of what came out is the top list.
@@ -58,4 +60,9 @@ pub fn top_lists_are_by_the_aggregate()
 pub fn rectangles_are_by_the_aggregate()
     ensures { (columns : ℕ) (rows others : List Row) → aggregate_of rows ≡ aggregate_of others
         → rectangles_of columns rows ≡ rectangles_of columns others }
+{}
+
+/// Every rows' export is a valid profile.
+pub fn export_reads_back()
+    ensures valid { (rows : List Row) (kind unit : List ℕ) → IsValidDraft (exported_profile_of rows kind unit) }
 {}

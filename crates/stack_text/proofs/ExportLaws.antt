@@ -1,18 +1,28 @@
--- The profile of rows is valid.
-use Rattle.std.proofs.Common.{◌≡◌, ℕ, ◌+◌, ◌<◌, Bool, true, false, cond, ◌||◌, eqb, List, [], ◌∷◌, ◌++◌, length, map, refl, sym, ap, ◌∙◌, subst, arith}
-use Rattle.std.specs.Prelude.{⊤, pos, Option, Some, None, ◌==◌, reverse}
-use Rattle.std.specs.List.{list_all, list_any, flat_map}
+-- The profile of rows is valid, and its rows are those rows.
+use Rattle.std.proofs.Common.{◌≡◌, ℕ, suc, ◌+◌, ◌^◌, ◌<◌, Bool, true, false, cond, ◌||◌, eqb, List, [], ◌∷◌, ◌++◌, length, map, refl, sym, ap, ◌∙◌, subst, arith}
+use Rattle.std.specs.Prelude.{⊤, pos, Option, Some, None, ◌==◌, reverse, slice_index_or, unwrap_or}
+use Rattle.std.specs.List.{All, AllByRecursion, list_all, list_any, flat_map}
 use Rattle.std.specs.Str.{bytes_eq}
 use Rattle.std.proofs.lemmas.Bool.{and_parts, eq-eqb, ne_eqb, lt-ltb, false≢true}
+use Rattle.std.proofs.lemmas.List.{reverse-reverse}
 use Rattle.std.proofs.lemmas.List.Concat.{flat_map-cons}
+use Rattle.std.proofs.lemmas.List.Elements.{recursion_from_All}
 use Rattle.std.proofs.lemmas.List.Folds.{list_all-append, list_any-append}
-use Rattle.std.proofs.lemmas.Grind.{reverse_onto}
+use Rattle.std.proofs.lemmas.Grind.{flat_map-append, reverse_onto}
 use Rattle.pprof_profile.specs.declared.faults.ProfileFault.{ProfileFault}
 use Rattle.pprof_profile.specs.declared.faults.ProfileFault.TheVariants.{NoStrings, FirstString, StringIndex, ZeroId, DoubleId, NoLocation, NoMapping, NoFunction, ValueCount}
+use Rattle.pprof_profile.specs.declared.messages.Function.{Function}
+use Rattle.pprof_profile.specs.declared.messages.Location.{Location}
 use Rattle.pprof_profile.specs.Valid.{IsValidDraft, all_index, begins_with_empty, each_has_values, function_ids, function_indexes, has_double, is_index, is_known, is_nonempty, location_ids, mapping_ids, names_functions, names_locations, names_mappings, no_double_id, no_zero_id, sample_indexes}
 use Rattle.stack_text.specs.declared.batch.Row.{Row}
+use Rattle.stack_text.specs.declared.sampling.ValueChoice.TheVariants.{Default}
+use Rattle.stack_text.specs.Names.{IsName, cleaned_name_of}
+use Rattle.stack_text.specs.Rows.{total_of}
+use Rattle.stack_text.specs.FoldedText.{IsBatchRow}
+use Rattle.stack_text.specs.Samples.{AreSampleRows, IsBatchOf, IsSampleRow, address_name, first_name, frames_at, frames_of_id, item_with, named_by, string_at}
 use Rattle.stack_text.specs.TextTables.{place_in, with_text, with_texts}
 use Rattle.stack_text.specs.Export.{exported_function, exported_location, exported_profile_of, exported_sample, id_in, names_of, profile_with, strings_of}
+use Rattle.stack_text.proofs.Cleaning.{cleaned-name}
 use Rattle.stack_text.proofs.SameNames.{same_from_is_same_name, is_same_name-self}
 use Rattle.stack_text.proofs.TextPlaces.{any_push, turned}
 
@@ -247,6 +257,7 @@ pub record AreExported (names strings : List (List ℕ)) (rows : List Row) (kind
   pub own : AllStand names names
   pub apart : AreDistinct names
   pub strung : AllStand strings names
+  pub stacks_strung : RowsStand strings rows
   pub kind_there : stands_in strings kind ≡ true
   pub unit_there : stands_in strings unit ≡ true
   pub begun : begins_with_empty strings ≡ true
@@ -281,12 +292,14 @@ exported_names rows kind unit =
     let frames = flat_map (λ (row : Row). row.stack) rows in
     let names = names_of rows in
     let all = [] ∷ kind ∷ unit ∷ names in
+    let spelled : (q : List ℕ) → stands_in names q ≡ true → stands_in (with_texts [] all) q ≡ true = λ q e. with_texts-own [] all q
+        (or_right (bytes_eq q []) (bytes_eq q kind || (bytes_eq q unit || stands_in names q))
+        (or_right (bytes_eq q kind) (bytes_eq q unit || stands_in names q) (or_right (bytes_eq q unit) (stands_in names q) e))) in
     record {
       own = stand_where names names (λ q e. e);
       apart = distinct_with_texts [] frames tt;
-      strung = stand_where names (with_texts [] all) (λ q e. with_texts-own [] all q
-          (or_right (bytes_eq q []) (bytes_eq q kind || (bytes_eq q unit || stands_in names q))
-          (or_right (bytes_eq q kind) (bytes_eq q unit || stands_in names q) (or_right (bytes_eq q unit) (stands_in names q) e))));
+      strung = stand_where names (strings_of kind unit names) spelled;
+      stacks_strung = rows_stand (strings_of kind unit names) rows (λ q e. spelled q (with_texts-own [] frames q e));
       kind_there = with_texts-own [] all kind
           (or_right (bytes_eq kind []) (bytes_eq kind kind || (bytes_eq kind unit || stands_in names kind))
           (or_left (bytes_eq kind kind) (bytes_eq kind unit || stands_in names kind) (is_same_name-self kind)));
@@ -299,3 +312,84 @@ exported_names rows kind unit =
 
 pub export_valid : (rows : List Row) (kind unit : List ℕ) → IsValidDraft (exported_profile_of rows kind unit)
 export_valid rows kind unit = valid_with (names_of rows) (strings_of kind unit (names_of rows)) rows kind unit (exported_names rows kind unit)
+
+-- ---- the rows of the profile
+
+-- the text at its place
+text_at : (texts : List (List ℕ)) (text : List ℕ) → stands_in texts text ≡ true → slice_index_or texts (place_in texts text) [] ≡ text
+text_at [] text e = absurd (false≢true e)
+text_at (first ∷ texts) text e =
+    elim (bytes_eq text first) as (λ b. bytes_eq text first ≡ b → (b || stands_in texts text) ≡ true → slice_index_or (first ∷ texts) (cond b 0 (place_in texts text + 1)) [] ≡ text) [
+      | true ↦ λ is r. sym (same_from_is_same_name text first is)
+      | false ↦ λ other r. let up : place_in texts text + 1 ≡ suc (place_in texts text) = omega arith in
+          ap (λ k. slice_index_or (first ∷ texts) k []) up ∙ text_at texts text r
+    ] refl e
+
+-- among what is exported for each name, the name's own is found by its id
+found_by_id : {A : Type 0} (id_of : A → ℕ) (made : List ℕ → A) (names sub : List (List ℕ)) (q : List ℕ) → ((text : List ℕ) → id_of (made text) ≡ id_in names text)
+    → stands_in names q ≡ true → AllStand names sub → stands_in sub q ≡ true → item_with id_of (id_in names q) (map made sub) ≡ Some (made q)
+found_by_id id_of made names [] q ids e all there = absurd (false≢true there)
+found_by_id id_of made names (text ∷ sub) q ids e all there =
+    let rest = item_with id_of (id_in names q) (map made sub) in
+    ap (λ id. cond (eqb id (id_in names q)) (Some (made text)) rest) (ids text)
+    ∙ ap (λ b. cond b (Some (made text)) rest) (same_id names text q all.0 e)
+    ∙ elim (bytes_eq q text) as (λ b. bytes_eq q text ≡ b → (b || stands_in sub q) ≡ true → cond (bytes_eq text q) (Some (made text)) rest ≡ Some (made q)) [
+      | true ↦ λ same r. ap (λ t. cond (bytes_eq t q) (Some (made t)) rest) (sym (same_from_is_same_name q text same)) ∙ ap (λ b. cond b (Some (made q)) rest) (is_same_name-self q)
+      | false ↦ λ other r. ap (λ b. cond b (Some (made text)) rest) (turned q text other) ∙ found_by_id id_of made names sub q ids e all.1 r
+    ] refl there
+
+-- a name's location has it as its one frame
+frame_of_id : (names strings : List (List ℕ)) (rows : List Row) (kind unit text : List ℕ) → AreExported names strings rows kind unit → stands_in names text ≡ true → stands_in strings text ≡ true → IsName text
+    → frames_of_id (profile_with names strings rows kind unit) (id_in names text) ≡ text ∷ []
+frame_of_id names strings rows kind unit text this there strung is_name =
+    let draft = profile_with names strings rows kind unit in
+    let function = exported_function names strings text in
+    let location_found = found_by_id (λ (location : Location). location.id) (exported_location names) names names text (λ t. refl) there this.own there in
+    let function_found = found_by_id (λ (function : Function). function.id) (exported_function names strings) names names text (λ t. refl) there this.own there in
+    let named : cleaned_name_of (string_at strings function.name) ≡ Some text = ap cleaned_name_of (text_at strings text strung) ∙ cleaned-name text is_name in
+    ap (frames_at draft) location_found
+    ∙ ap (λ found. unwrap_or (named_by strings found) (address_name 0) ∷ []) function_found
+    ∙ ap (λ name. unwrap_or (first_name name (cleaned_name_of (string_at strings function.system_name))) (address_name 0) ∷ []) named
+
+flat_of_reversed : (frames_of : ℕ → List (List ℕ)) (id_of : List ℕ → ℕ) (stack : List (List ℕ)) → AllByRecursion (λ text. frames_of (id_of text) ≡ text ∷ []) stack
+    → flat_map frames_of (reverse (map id_of stack)) ≡ reverse stack
+flat_of_reversed frames_of id_of [] each = refl
+flat_of_reversed frames_of id_of (text ∷ stack) each =
+    ap (flat_map frames_of) (reverse_onto (map id_of stack) (id_of text) [])
+    ∙ flat_map-append frames_of (reverse (map id_of stack)) (id_of text ∷ [])
+    ∙ ap (λ frames. frames ++ flat_map frames_of (id_of text ∷ [])) (flat_of_reversed frames_of id_of stack each.1)
+    ∙ ap (λ frames. reverse stack ++ frames) (flat_map-cons frames_of (id_of text) [] ∙ ap (λ frames. frames ++ flat_map frames_of []) each.0)
+    ∙ sym (reverse_onto stack text [])
+
+module _ (names strings : List (List ℕ)) (rows : List Row) (kind unit : List ℕ) (this : AreExported names strings rows kind unit) where
+  each_frame : (stack : List (List ℕ)) → AllStand names stack → AllStand strings stack → AllByRecursion IsName stack
+      → AllByRecursion (λ text. frames_of_id (profile_with names strings rows kind unit) (id_in names text) ≡ text ∷ []) stack
+  each_frame [] all strung are_names = tt
+  each_frame (text ∷ stack) all strung are_names =
+      (frame_of_id names strings rows kind unit text this all.0 strung.0 are_names.0, each_frame stack all.1 strung.1 are_names.1)
+
+  row_sampled : (row : Row) → AllStand names row.stack → AllStand strings row.stack → IsBatchRow row → IsSampleRow (profile_with names strings rows kind unit) 0 (exported_sample names row) row
+  row_sampled row all strung batch_row = record {
+    stack = sym (ap reverse (flat_of_reversed (frames_of_id (profile_with names strings rows kind unit)) (id_in names) row.stack
+        (each_frame row.stack all strung (recursion_from_All IsName row.stack batch_row.names))) ∙ reverse-reverse row.stack);
+    depth = batch_row.depth;
+    value = refl;
+  }
+
+  rows_sampled : (some : List Row) → RowsStand names some → RowsStand strings some → AllByRecursion IsBatchRow some
+      → AreSampleRows (profile_with names strings rows kind unit) 0 (map (exported_sample names) some) some
+  rows_sampled [] all strung batch_rows = refl
+  rows_sampled (row ∷ some) all strung batch_rows = (row_sampled row all.0 strung.0 batch_rows.0, rows_sampled some all.1 strung.1 batch_rows.1)
+
+-- the rows come back
+pub export_rows : (rows : List Row) (kind unit : List ℕ) → All IsBatchRow rows → total_of rows < 2 ^ 63 → IsBatchOf (exported_profile_of rows kind unit) Default rows
+export_rows rows kind unit batch_rows fits =
+    let names = names_of rows in
+    let strings = strings_of kind unit names in
+    let this = exported_names rows kind unit in
+    record {
+      chosen = 0;
+      is_chosen = refl;
+      rows_samples = rows_sampled names strings rows kind unit this rows this.stacks this.stacks_strung (recursion_from_All IsBatchRow rows batch_rows);
+      total_fits = fits;
+    }

@@ -1,5 +1,5 @@
 -- The draft of the batch's own names and strings; so it gives the rows back.
-use Rattle.std.proofs.Common.{◌≡◌, ◌≤◌, All, ap, length, pos, subst, sym, ◌∙◌}
+use Rattle.std.proofs.Common.{◌≤◌, All, ap, length, pos, subst, sym, ◌∙◌}
 use Rattle.std.specs.Int.{w64}
 use Rattle.std.proofs.lemmas.Int.{to_z_pos}
 use Rattle.pprof_profile.specs.declared.messages.Draft.{Draft}

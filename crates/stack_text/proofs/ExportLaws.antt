@@ -268,15 +268,20 @@ valid_with names strings rows kind unit this =
     let draft = profile_with names strings rows kind unit in
     let some = begun_nonempty strings this.begun in
     let indices : all_index draft ≡ true =
-        rw (is_index-place strings kind this.kind_there, is_index-place strings unit this.unit_there, samples_index names (length strings) rows,
-          functions_index names strings names some this.strung, is_index-zero strings some) refl in
+    rw (
+      is_index-place strings kind this.kind_there,
+      is_index-place strings unit this.unit_there,
+      samples_index names (length strings) rows,
+      functions_index names strings names some this.strung,
+      is_index-zero strings some,
+    ) refl in
     let no_zero : no_zero_id draft ≡ true = rw (locations_not_zero names names, functions_not_zero names strings names) refl in
     let no_double : no_double_id draft ≡ true =
-        rw (ap has_double (location_ids_are names names) ∙ ids_single names names this.own this.apart, ap has_double (function_ids_are names strings names) ∙ ids_single names names this.own this.apart) refl in
+    rw (ap has_double (location_ids_are names names) ∙ ids_single names names this.own this.apart, ap has_double (function_ids_are names strings names) ∙ ids_single names names this.own this.apart) refl in
     let locations : names_locations (is_known (location_ids draft)) draft.samples ≡ true =
-        ap (λ ids. names_locations (is_known ids) (map (exported_sample names) rows)) (location_ids_are names names) ∙ locations_known names rows this.own this.stacks in
+    ap (λ ids. names_locations (is_known ids) (map (exported_sample names) rows)) (location_ids_are names names) ∙ locations_known names rows this.own this.stacks in
     let functions : names_functions (is_known (function_ids draft)) draft.locations ≡ true =
-        ap (λ ids. names_functions (is_known ids) (map (exported_location names) names)) (function_ids_are names strings names) ∙ functions_known names names this.own this.own in
+    ap (λ ids. names_functions (is_known ids) (map (exported_location names) names)) (function_ids_are names strings names) ∙ functions_known names names this.own this.own in
     rule_kept (is_nonempty draft.strings) NoStrings _ some
     (rule_kept (begins_with_empty draft.strings) FirstString _ this.begun
     (rule_kept (all_index draft) StringIndex _ indices
@@ -293,8 +298,8 @@ exported_names rows kind unit =
     let names = names_of rows in
     let all = [] ∷ kind ∷ unit ∷ names in
     let spelled : (q : List ℕ) → stands_in names q ≡ true → stands_in (with_texts [] all) q ≡ true = λ q e. with_texts-own [] all q
-        (or_right (bytes_eq q []) (bytes_eq q kind || (bytes_eq q unit || stands_in names q))
-        (or_right (bytes_eq q kind) (bytes_eq q unit || stands_in names q) (or_right (bytes_eq q unit) (stands_in names q) e))) in
+    (or_right (bytes_eq q []) (bytes_eq q kind || (bytes_eq q unit || stands_in names q))
+    (or_right (bytes_eq q kind) (bytes_eq q unit || stands_in names q) (or_right (bytes_eq q unit) (stands_in names q) e))) in
     record {
       own = stand_where names names (λ q e. e);
       apart = distinct_with_texts [] frames tt;

@@ -18,13 +18,13 @@ returns-in-Ok c =
     let kind = c.args.kind.now in
     let unit = c.args.unit.now in
     let made =
-        c.in-Ok.ensures.valid.0 ∙ c.in_ok-draft.ensures
-        ∙ (λ i. draft_with c.in_ok-names.names c.in_ok-strings.strings rows (record {
-          kind = (to_z_pos w64 c.place_of.result c.place_of.ensures.fits ∙ ap pos c.place_of.ensures.place) i;
-          unit = (to_z_pos w64 c.place_of-2.result c.place_of-2.ensures.fits ∙ ap pos c.place_of-2.ensures.place) i;
-        }))
-        ∙ ap (λ strings. profile_with c.in_ok-names.names strings rows kind unit) c.in_ok-strings.ensures
-        ∙ ap (λ names. profile_with names (strings_of kind unit names) rows kind unit) (c.in_ok-names.ensures.texts ∙ ap names_of c.rows.ensures.rows) in
+    c.in-Ok.ensures.valid.0 ∙ c.in_ok-draft.ensures
+    ∙ (λ i. draft_with c.in_ok-names.names c.in_ok-strings.strings rows (record {
+      kind = (to_z_pos w64 c.place_of.result c.place_of.ensures.fits ∙ ap pos c.place_of.ensures.place) i;
+      unit = (to_z_pos w64 c.place_of-2.result c.place_of-2.ensures.fits ∙ ap pos c.place_of-2.ensures.place) i;
+    }))
+    ∙ ap (λ strings. profile_with c.in_ok-names.names strings rows kind unit) c.in_ok-strings.ensures
+    ∙ ap (λ names. profile_with names (strings_of kind unit names) rows kind unit) (c.in_ok-names.ensures.texts ∙ ap names_of c.rows.ensures.rows) in
     let each = subst (All (λ (row : Row). All IsName row.stack × (length row.stack ≤ 65535))) c.rows.ensures.rows c.in_ok-names.ensures.each in
     record {
       profile = made;

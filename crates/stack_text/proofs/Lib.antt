@@ -2,6 +2,7 @@ pub mod AnswerLaws
 pub mod Cleaning
 pub mod Counts
 pub mod EntryLaws
+pub mod ExportLaws
 pub mod FirstFault
 pub mod Frames
 pub mod ItemsById

@@ -41,7 +41,7 @@ place_in-more (first ∷ texts) more text some =
       | false ↦ λ e. ap (λ n. n + 1) (place_in-more texts more text e)
     ] some
 
-any_push : (texts : List (List ℕ)) (text q : List ℕ) → list_any (bytes_eq q) (texts ++ text ∷ []) ≡ (list_any (bytes_eq q) texts || bytes_eq q text)
+pub any_push : (texts : List (List ℕ)) (text q : List ℕ) → list_any (bytes_eq q) (texts ++ text ∷ []) ≡ (list_any (bytes_eq q) texts || bytes_eq q text)
 any_push [] text q = elim (bytes_eq q text) as (λ b. (b || false) ≡ b) [ true ↦ refl | false ↦ refl ]
 any_push (first ∷ texts) text q = elim (bytes_eq q first) as (λ b. (b || list_any (bytes_eq q) (texts ++ text ∷ [])) ≡ ((b || list_any (bytes_eq q) texts) || bytes_eq q text)) [
   | true ↦ refl
@@ -56,7 +56,7 @@ place_at_end (first ∷ texts) text none =
       | false ↦ λ e. let rest = place_at_end texts text e in omega (arith, rest)
     ] none
 
-turned : (a b : List ℕ) → bytes_eq a b ≡ false → bytes_eq b a ≡ false
+pub turned : (a b : List ℕ) → bytes_eq a b ≡ false → bytes_eq b a ≡ false
 turned a b none = elim (bytes_eq b a) as (λ t. bytes_eq b a ≡ t → t ≡ false) [
   | true ↦ λ e. absurd (false≢true (sym none ∙ ap (bytes_eq a) (same_from_is_same_name b a e) ∙ is_same_name-self a))
   | false ↦ λ e. refl

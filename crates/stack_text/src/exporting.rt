@@ -1,6 +1,9 @@
-ghost use Rattle.std.specs.Prelude.{◌≡◌, ◌+◌, ◌<◌, ◌^◌, IfOk, map, reverse};
+ghost use Rattle.std.specs.Prelude.{◌≡◌, ◌+◌, ◌<◌, ◌≤◌, ◌^◌, All, IfOk, OnOk, length, map, reverse};
 ghost use Rattle.stack_text.specs.Export.{exported_function, exported_location, exported_profile_of, exported_sample, draft_with, id_in, names_of, strings_of};
+ghost use Rattle.stack_text.specs.Names.{IsName};
+ghost use Rattle.stack_text.specs.Samples.{IsBatchOf};
 ghost use Rattle.stack_text.specs.TextTables.{with_texts};
+ghost use Rattle.stack_text.specs.declared.sampling.ValueChoice.TheVariants.{Default};
 
 use crate::batch::{Batch, Row};
 use crate::name::Name;
@@ -13,7 +16,8 @@ use std::alloc::Global;
 
 /// The table with the names of a stack.
 fn with_names<'a>(mut table: TextTable<'a>, names: &'a [Name]) -> Result<TextTable<'a>, NoMemory>
-    ensures { IfOk result (λ more. more ≡ with_texts table.entry names.now) }
+    ensures texts { IfOk result (λ more. more ≡ with_texts table.entry names.now) }
+    ensures each { OnOk result (All IsName names.now) }
 {
     for name in names {
         table = table.with(name.text())?;
@@ -23,7 +27,8 @@ fn with_names<'a>(mut table: TextTable<'a>, names: &'a [Name]) -> Result<TextTab
 
 /// The names of rows as they first stand.
 fn names_of<'a>(alloc: Global, rows: &'a [Row]) -> Result<TextTable<'a>, NoMemory>
-    ensures { IfOk result (λ names. names ≡ names_of rows.now) }
+    ensures texts { IfOk result (λ names. names ≡ names_of rows.now) }
+    ensures each { OnOk result (All (λ row. All IsName row.stack × (length row.stack ≤ 65535)) rows.now) }
 {
     let mut names = TextTable::new(alloc);
     for row in rows {
@@ -173,13 +178,14 @@ fn draft_of(
 }
 
 /// The batch as a profile of one sample type, whose kind and unit these are: a sample for each row in order, and a function and a
-/// location for each name, numbered from 1 as the names first stand.
+/// location for each name, numbered from 1 as the names first stand. Its samples give the rows of the batch back, in order.
 ///
 /// # Errors
 ///
 /// `NoMemory`.
 pub fn profile_of(alloc: Global, batch: &Batch, kind: &str, unit: &str) -> Result<Profile, NoMemory>
     ensures profile { IfOk result (λ profile. profile ≡ exported_profile_of batch.now kind.now unit.now) }
+    ensures reads_back { IfOk result (λ profile. IsBatchOf profile Default batch.now) }
 {
     let names = names_of(alloc, batch.rows())?;
     let strings = strings_of(alloc, kind, unit, &names)?;

@@ -1,10 +1,15 @@
 //! Laws of the definitions in `specs/`, each the contract of a function that does nothing. A caller calls one to use its law.
 
-ghost use Rattle.std.specs.Prelude.{ℕ, ◌≡◌, ◌++◌, Bool, List, Option, IsPermutation, IsSorted, take};
+ghost use Rattle.std.specs.Prelude.{ℕ, ◌≡◌, ◌++◌, ◌<◌, ◌^◌, All, Bool, List, Option, IsPermutation, IsSorted, take};
 ghost use Rattle.stack_text.specs.declared.batch.Row.{Row};
-ghost use Rattle.stack_text.specs.Rows.{kept_rows, weight_of, weight_where};
+ghost use Rattle.stack_text.specs.Rows.{kept_rows, total_of, weight_of, weight_where};
 ghost use Rattle.stack_text.specs.Aggregate.{aggregate_of, rows_of, weight_in, with_rows};
 ghost use Rattle.stack_text.specs.Layout.{rectangles_of};
+ghost use Rattle.pprof_profile.specs.Valid.{IsValidDraft};
+ghost use Rattle.stack_text.specs.declared.sampling.ValueChoice.TheVariants.{Default};
+ghost use Rattle.stack_text.specs.Export.{exported_profile_of};
+ghost use Rattle.stack_text.specs.FoldedText.{IsBatchRow};
+ghost use Rattle.stack_text.specs.Samples.{IsBatchOf};
 ghost use Rattle.stack_text.specs.TopList.{AreSumsOf, NameSums, Ranking, top_cmp, top_list_of};
 
 /// However the weights of the names were sorted by a top list's order, the front of what came out is the top list.
@@ -58,4 +63,11 @@ pub fn top_lists_are_by_the_aggregate()
 pub fn rectangles_are_by_the_aggregate()
     ensures { (columns : ℕ) (rows others : List Row) → aggregate_of rows ≡ aggregate_of others
         → rectangles_of columns rows ≡ rectangles_of columns others }
+{}
+
+/// Every rows' export is a valid profile, and the rows of a batch are those that its own choice of a value gives back.
+pub fn export_reads_back()
+    ensures valid { (rows : List Row) (kind unit : List ℕ) → IsValidDraft (exported_profile_of rows kind unit) }
+    ensures rows { (rows : List Row) (kind unit : List ℕ) → All IsBatchRow rows → total_of rows < 2 ^ 63
+        → IsBatchOf (exported_profile_of rows kind unit) Default rows }
 {}

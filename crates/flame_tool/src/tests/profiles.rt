@@ -65,32 +65,33 @@ fn export_of_one_row(rt: HostRuntime) -> Result<(), Fail> {
 
 #[test]
 fn refused_profiles(rt: HostRuntime) -> Result<(), Fail> {
-    let cases: [(&[&str], &[u8], &str); 7] = [
-        (FOLD.as_slice(), b"", "flame: P4 NoStrings\n"),
-        (FOLD.as_slice(), b"\x1f\x8b", "flame: P1 Gzip\n"),
-        (FOLD.as_slice(), b"\x1f", "flame: P2 Wire W5 WireType\n"),
+    let cases: [(&[&str], &[u8], &[u8]); 7] = [
+        (FOLD.as_slice(), b"", b"flame: P4 NoStrings\n"),
+        (FOLD.as_slice(), b"\x1f\x8b", b"flame: P1 Gzip\n"),
+        (FOLD.as_slice(), b"\x1f", b"flame: P2 Wire W5 WireType\n"),
         (
             FOLD.as_slice(),
             &ONE_SAMPLE[..1],
-            "flame: P2 Wire W1 Truncated\n",
+            b"flame: P2 Wire W1 Truncated\n",
         ),
         (
             FOLD.as_slice(),
             &ONE_SAMPLE[..30],
-            "flame: P6 StringIndex\n",
+            b"flame: P6 StringIndex\n",
         ),
         (
             FOLD.as_slice(),
             NEGATIVE_VALUE,
-            "flame: B2 Negative sample 0\n",
+            b"flame: B2 Negative sample 0\n",
         ),
-        (FOLD_WALL.as_slice(), TWO_TYPES, "flame: B1 NoValue\n"),
+        (FOLD_WALL.as_slice(), TWO_TYPES, b"flame: B1 NoValue\n"),
     ];
-    for (words, input, line) in cases {
+    for (place, (words, input, line)) in cases.iter().enumerate() {
         let (status, written) = run_on(rt.alloc(), words, input, MAX_INPUT);
-        assert_eq!(rt; status.cause.to_string(rt.alloc())?.as_str(), line);
-        assert_eq!(rt; status.code, 1, "{line}");
-        assert!(rt; written.is_empty(), "{line}");
+        let said = status.cause.to_string(rt.alloc())?;
+        assert_eq!(rt; said.as_bytes(), *line, "{place}");
+        assert_eq!(rt; status.code, 1, "{place}");
+        assert!(rt; written.is_empty(), "{place}");
     }
     Ok(())
 }

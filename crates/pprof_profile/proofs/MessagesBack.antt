@@ -13,7 +13,7 @@ use Rattle.pprof_profile.specs.declared.messages.Draft.{Draft}
 use Rattle.pprof_profile.specs.declared.faults.ProfileFault.{ProfileFault}
 use Rattle.pprof_profile.specs.Reading.{Spells}
 use Rattle.pprof_profile.specs.Messages.{unsigned_of, signed_of, no_value_type, value_type_table, no_line, line_table, no_label, label_table, no_mapping, mapping_table, no_function, function_table, no_location, location_table, no_sample, sample_table, no_draft, draft_table}
-use Rattle.pprof_profile.specs.Canonical.{number_fields, content_fields, each_field, packed_bytes, number_of_unsigned, number_of_signed, number_of_flag, FitsUnsigned, mapping_place_fields, mapping_detail_fields, draft_item_fields, draft_setting_fields, value_type_bytes, FitsValueType, line_bytes, FitsLine, label_bytes, FitsLabel, mapping_bytes, FitsMapping, function_bytes, FitsFunction, location_bytes, FitsLocation, sample_bytes, FitsSample, draft_bytes, FitsDraft}
+use Rattle.pprof_profile.specs.Canonical.{number_fields, content_fields, each_field, packed_bytes, number_of_unsigned, number_of_signed, number_of_flag, FitsUnsigned, mapping_place_fields, mapping_detail_fields, draft_item_fields, draft_table_fields, draft_setting_fields, value_type_bytes, FitsValueType, line_bytes, FitsLine, label_bytes, FitsLabel, mapping_bytes, FitsMapping, function_bytes, FitsFunction, location_bytes, FitsLocation, sample_bytes, FitsSample, draft_bytes, FitsDraft}
 use Rattle.pprof_profile.proofs.Once.{reads_once}
 use Rattle.pprof_profile.proofs.MessagesOnce.{value_type_once}
 use Rattle.pprof_profile.proofs.ReadBack.{Piece, pieces_joined, number_piece, content_piece, each_piece, signed_back, signed_zero, signed_below, flag_back, flag_zero, flag_below, unpacked_back, none_unpacked}
@@ -470,19 +470,23 @@ draft_default_sample_type_piece item fits =
     number_piece draft_table (draft_with_default_sample_type item (pos 0)) (draft_with_default_sample_type item item.default_sample_type) 14 (number_of_signed item.default_sample_type) (numbered 14 (omega arith) (omega arith)) (signed_below item.default_sample_type fits.default_sample_type_fits)
     (ap Ok (signed_back item.default_sample_type fits.default_sample_type_fits), refl) (λ none. ap (draft_with_default_sample_type item) (signed_zero item.default_sample_type fits.default_sample_type_fits none))
 
+draft_table_fields_piece : (item : Draft) → FitsDraft item → Piece draft_table (draft_with_mappings item []) (draft_table_fields item) (draft_with_strings item item.strings)
+draft_table_fields_piece item fits =
+    (pieces_joined draft_table (draft_with_mappings item []) (draft_with_functions item item.functions) (draft_with_strings item item.strings)
+    (each_field 3 (map mapping_bytes item.mappings) ++ each_field 4 (map location_bytes item.locations) ++ each_field 5 (map function_bytes item.functions)) (each_field 6 item.strings)
+    (pieces_joined draft_table (draft_with_mappings item []) (draft_with_locations item item.locations) (draft_with_functions item item.functions)
+    (each_field 3 (map mapping_bytes item.mappings) ++ each_field 4 (map location_bytes item.locations)) (each_field 5 (map function_bytes item.functions))
+    (pieces_joined draft_table (draft_with_mappings item []) (draft_with_mappings item item.mappings) (draft_with_locations item item.locations)
+    (each_field 3 (map mapping_bytes item.mappings)) (each_field 4 (map location_bytes item.locations))
+    (draft_mappings_piece item fits) (draft_locations_piece item fits)) (draft_functions_piece item fits)) (draft_strings_piece item fits))
+
 draft_item_fields_piece : (item : Draft) → FitsDraft item → Piece draft_table (draft_with_sample_types item []) (draft_item_fields item) (draft_with_strings item item.strings)
 draft_item_fields_piece item fits =
-    (pieces_joined draft_table (draft_with_sample_types item []) (draft_with_functions item item.functions) (draft_with_strings item item.strings)
-    (each_field 1 (map value_type_bytes item.sample_types) ++ each_field 2 (map sample_bytes item.samples) ++ each_field 3 (map mapping_bytes item.mappings) ++ each_field 4 (map location_bytes item.locations) ++ each_field 5 (map function_bytes item.functions)) (each_field 6 item.strings)
-    (pieces_joined draft_table (draft_with_sample_types item []) (draft_with_locations item item.locations) (draft_with_functions item item.functions)
-    (each_field 1 (map value_type_bytes item.sample_types) ++ each_field 2 (map sample_bytes item.samples) ++ each_field 3 (map mapping_bytes item.mappings) ++ each_field 4 (map location_bytes item.locations)) (each_field 5 (map function_bytes item.functions))
-    (pieces_joined draft_table (draft_with_sample_types item []) (draft_with_mappings item item.mappings) (draft_with_locations item item.locations)
-    (each_field 1 (map value_type_bytes item.sample_types) ++ each_field 2 (map sample_bytes item.samples) ++ each_field 3 (map mapping_bytes item.mappings)) (each_field 4 (map location_bytes item.locations))
-    (pieces_joined draft_table (draft_with_sample_types item []) (draft_with_samples item item.samples) (draft_with_mappings item item.mappings)
-    (each_field 1 (map value_type_bytes item.sample_types) ++ each_field 2 (map sample_bytes item.samples)) (each_field 3 (map mapping_bytes item.mappings))
+    (pieces_joined draft_table (draft_with_sample_types item []) (draft_with_samples item item.samples) (draft_with_strings item item.strings)
+    (each_field 1 (map value_type_bytes item.sample_types) ++ each_field 2 (map sample_bytes item.samples)) (draft_table_fields item)
     (pieces_joined draft_table (draft_with_sample_types item []) (draft_with_sample_types item item.sample_types) (draft_with_samples item item.samples)
     (each_field 1 (map value_type_bytes item.sample_types)) (each_field 2 (map sample_bytes item.samples))
-    (draft_sample_types_piece item fits) (draft_samples_piece item fits)) (draft_mappings_piece item fits)) (draft_locations_piece item fits)) (draft_functions_piece item fits)) (draft_strings_piece item fits))
+    (draft_sample_types_piece item fits) (draft_samples_piece item fits)) (draft_table_fields_piece item fits))
 
 draft_setting_fields_piece : (item : Draft) → FitsDraft item → Piece draft_table (draft_with_drop_frames item (pos 0)) (draft_setting_fields item) (draft_with_default_sample_type item item.default_sample_type)
 draft_setting_fields_piece item fits =

@@ -196,14 +196,22 @@ pub record FitsSample (item : Sample) : Type 0 where
 
 -- ---- message Profile
 
+-- The samples' fields, one after the other.
+abbrev pub samples_bytes : List Sample → List ℕ
+samples_bytes samples = bytes_of_fields (each_field 2 (map sample_bytes samples))
+
+abbrev pub draft_table_fields : Draft → List PlainField
+draft_table_fields item =
+    each_field 3 (map mapping_bytes item.mappings)
+    ++ each_field 4 (map location_bytes item.locations)
+    ++ each_field 5 (map function_bytes item.functions)
+    ++ each_field 6 item.strings
+
 abbrev pub draft_item_fields : Draft → List PlainField
 draft_item_fields item =
     each_field 1 (map value_type_bytes item.sample_types)
     ++ each_field 2 (map sample_bytes item.samples)
-    ++ each_field 3 (map mapping_bytes item.mappings)
-    ++ each_field 4 (map location_bytes item.locations)
-    ++ each_field 5 (map function_bytes item.functions)
-    ++ each_field 6 item.strings
+    ++ draft_table_fields item
 
 abbrev pub draft_setting_fields : Draft → List PlainField
 draft_setting_fields item =

@@ -1,7 +1,9 @@
-ghost use Rattle.std.specs.Prelude.{◌≡◌, ◌++◌, ◌<◌, ◌^◌, length, map, OnOk};
+ghost use Rattle.std.specs.Prelude.{◌≡◌, ◌++◌, ◌<◌, ◌^◌, List, length, map, OnOk};
 ghost use Rattle.std.specs.Int.{w64};
 ghost use Rattle.std.specs.Int.RustNames.{FitsSigned};
-ghost use Rattle.pprof_profile.specs.Canonical.{mapping_place_fields, mapping_detail_fields, draft_item_fields, draft_setting_fields, FitsUnsigned, FitsNumbers, FitsTexts, FitsEach, packed_bytes, number_of_signed, value_type_bytes, sample_bytes, mapping_bytes, location_bytes, function_bytes, bytes_of_fields, value_type_fields, FitsValueType, line_fields, FitsLine, label_fields, FitsLabel, mapping_fields, FitsMapping, function_fields, FitsFunction, location_fields, FitsLocation, sample_fields, FitsSample, draft_fields, FitsDraft};
+ghost use Rattle.pprof_profile.specs.declared.messages.Draft.{Draft};
+ghost use Rattle.pprof_profile.specs.declared.messages.Sample.{Sample};
+ghost use Rattle.pprof_profile.specs.Canonical.{mapping_place_fields, mapping_detail_fields, draft_item_fields, draft_setting_fields, draft_table_fields, samples_bytes, canonical_bytes_of, FitsUnsigned, FitsNumbers, FitsTexts, FitsEach, packed_bytes, number_of_signed, value_type_bytes, sample_bytes, mapping_bytes, location_bytes, function_bytes, bytes_of_fields, value_type_fields, FitsValueType, line_fields, FitsLine, label_fields, FitsLabel, mapping_fields, FitsMapping, function_fields, FitsFunction, location_fields, FitsLocation, sample_fields, FitsSample, draft_fields, FitsDraft};
 
 use crate::messages::{Draft, Function, Label, Line, Location, Mapping, Sample, ValueType};
 use crate::writing::{
@@ -164,6 +166,18 @@ fn write_draft_item_fields(
 {
     write_messages(alloc, out, 1, &item.sample_types, spare)?;
     write_messages(alloc, out, 2, &item.samples, spare)?;
+    write_draft_table_fields(alloc, item, out, spare)
+}
+
+fn write_draft_table_fields(
+    alloc: Global,
+    item: &Draft,
+    out: &mut Vec<u8>,
+    spare: &mut Vec<u8>,
+) -> Result<(), NoMemory>
+    ensures written { OnOk result (out.new.items ≡ out.old.items ++ bytes_of_fields (draft_table_fields item.now)) }
+    ensures fits { OnOk result ((FitsEach FitsMapping mapping_bytes item.now.mappings) × (FitsEach FitsLocation location_bytes item.now.locations) × (FitsEach FitsFunction function_bytes item.now.functions) × (FitsTexts item.now.strings)) }
+{
     write_messages(alloc, out, 3, &item.mappings, spare)?;
     write_messages(alloc, out, 4, &item.locations, spare)?;
     write_messages(alloc, out, 5, &item.functions, spare)?;
@@ -187,4 +201,21 @@ fn write_draft_setting_fields(
     write_number(out, 12, &item.period)?;
     write_numbers(out, 13, &item.comments, spare)?;
     write_number(out, 14, &item.default_sample_type)
+}
+
+/// Appends the fields of a draft whose samples stand as bytes.
+pub(crate) fn write_around_samples(
+    alloc: Global,
+    item: &Draft,
+    samples: &[u8],
+    out: &mut Vec<u8>,
+) -> Result<(), NoMemory>
+    ensures { (items : List Sample) → samples.now ≡ samples_bytes items
+        → OnOk result (out.new.items ≡ out.old.items ++ canonical_bytes_of (record item.now { samples = items })) }
+{
+    let mut spare = Vec::new(alloc);
+    write_messages(alloc, out, 1, &item.sample_types, &mut spare)?;
+    out.extend_from_slice(samples)?;
+    write_draft_table_fields(alloc, item, out, &mut spare)?;
+    write_draft_setting_fields(alloc, item, out, &mut spare)
 }

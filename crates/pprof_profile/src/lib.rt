@@ -19,6 +19,7 @@ mod tables;
 #[cfg(test)]
 mod tests;
 mod validity;
+mod written_samples;
 mod writing;
 
 pub use faults::{ProfileFault, Refused};
@@ -26,3 +27,4 @@ pub use items::{Items, Text};
 pub use messages::{Draft, Function, Label, Line, Location, Mapping, Sample, ValueType};
 pub use pprof_wire::{NoMemory, WireFault};
 pub use profile::{Profile, check, decode, encode};
+pub use written_samples::{WrittenSamples, encode_around};

@@ -61,8 +61,24 @@ pub(crate) fn write_numbers<N: Number>(
     ensures fits { OnOk result (FitsNumbers N.fits items.now) }
     ensures short { OnOk result (length (packed_bytes (map N.to items.now)) < 2 ^ 64) }
 {
+    write_packed(out, number, items.as_slice(), spare)
+}
+
+/// Appends numbers that are lent, packed in one field, if there are any.
+pub(crate) fn write_packed<N: Number>(
+    out: &mut Vec<u8>,
+    number: u32,
+    items: &[N],
+    spare: &mut Vec<u8>,
+) -> Result<(), NoMemory>
+    requires { IsFieldNumber number }
+    ensures written { OnOk result (out.new.items ≡ out.old.items
+        ++ bytes_of_fields (content_fields number (packed_bytes (map N.to items.now)))) }
+    ensures fits { OnOk result (FitsNumbers N.fits items.now) }
+    ensures short { OnOk result (length (packed_bytes (map N.to items.now)) < 2 ^ 64) }
+{
     spare.clear();
-    push_numbers(spare, items.as_slice())?;
+    push_numbers(spare, items)?;
     write_content(out, number, spare.as_slice())
 }
 

@@ -24,7 +24,7 @@ use Rattle.stack_text.specs.TextTables.{place_in, with_text, with_texts}
 use Rattle.stack_text.specs.Export.{exported_function, exported_location, exported_profile_of, exported_sample, id_in, names_of, profile_with, strings_of}
 use Rattle.stack_text.proofs.Cleaning.{cleaned-name}
 use Rattle.stack_text.proofs.SameNames.{same_from_is_same_name, is_same_name-self}
-use Rattle.stack_text.proofs.TextPlaces.{any_push, turned}
+use Rattle.stack_text.proofs.TextPlaces.{any_push, place_in-lt, turned}
 
 -- whether a text stands among texts
 abbrev pub stands_in : List (List ℕ) → List ℕ → Bool
@@ -54,7 +54,7 @@ or_left x y e = rw e refl
 
 -- ---- texts that are added stand there, each once
 
-with_text-stands : (texts : List (List ℕ)) (text q : List ℕ) → stands_in texts q ≡ true → stands_in (with_text texts text) q ≡ true
+pub with_text-stands : (texts : List (List ℕ)) (text q : List ℕ) → stands_in texts q ≡ true → stands_in (with_text texts text) q ≡ true
 with_text-stands texts text q e = elim (stands_in texts text) as (λ b. stands_in (cond b texts (texts ++ text ∷ [])) q ≡ true) [
   | true ↦ e
   | false ↦ any_push texts text q ∙ or_left (stands_in texts q) (bytes_eq q text) e
@@ -70,7 +70,7 @@ with_texts-stands : (texts more : List (List ℕ)) (q : List ℕ) → stands_in 
 with_texts-stands texts [] q e = e
 with_texts-stands texts (text ∷ more) q e = with_texts-stands (with_text texts text) more q (with_text-stands texts text q e)
 
-with_texts-own : (texts more : List (List ℕ)) (q : List ℕ) → stands_in more q ≡ true → stands_in (with_texts texts more) q ≡ true
+pub with_texts-own : (texts more : List (List ℕ)) (q : List ℕ) → stands_in more q ≡ true → stands_in (with_texts texts more) q ≡ true
 with_texts-own texts [] q e = absurd (false≢true e)
 with_texts-own texts (text ∷ more) q e =
     elim (bytes_eq q text) as (λ b. bytes_eq q text ≡ b → (b || stands_in more q) ≡ true → stands_in (with_texts (with_text texts text) more) q ≡ true) [
@@ -95,20 +95,12 @@ distinct_with_texts : (texts more : List (List ℕ)) → AreDistinct texts → A
 distinct_with_texts texts [] all = all
 distinct_with_texts texts (text ∷ more) all = distinct_with_texts (with_text texts text) more (distinct_with_text texts text all)
 
-stand_where : (sub full : List (List ℕ)) → ((q : List ℕ) → stands_in sub q ≡ true → stands_in full q ≡ true) → AllStand full sub
+pub stand_where : (sub full : List (List ℕ)) → ((q : List ℕ) → stands_in sub q ≡ true → stands_in full q ≡ true) → AllStand full sub
 stand_where [] full h = tt
 stand_where (text ∷ sub) full h =
     (h text (or_left (bytes_eq text text) (stands_in sub text) (is_same_name-self text)), stand_where sub full (λ q e. h q (or_right (bytes_eq q text) (stands_in sub q) e)))
 
 -- ---- places
-
-place_in-lt : (texts : List (List ℕ)) (text : List ℕ) → stands_in texts text ≡ true → place_in texts text < length texts
-place_in-lt [] text e = absurd (false≢true e)
-place_in-lt (first ∷ texts) text e =
-    elim (bytes_eq text first) as (λ b. (b || stands_in texts text) ≡ true → cond b 0 (place_in texts text + 1) < length (first ∷ texts)) [
-      | true ↦ λ r. omega arith
-      | false ↦ λ r. let rest = place_in-lt texts text r in omega (arith, rest)
-    ] e
 
 -- texts that stand in one place are one text
 place_in-one : (texts : List (List ℕ)) (a b : List ℕ) → stands_in texts a ≡ true → stands_in texts b ≡ true → place_in texts a ≡ place_in texts b → a ≡ b
@@ -222,7 +214,7 @@ locations_known names [] whole all = refl
 locations_known names (row ∷ rows) whole all =
     rw (list_all_reversed (is_known (map (id_in names) names)) (map (id_in names) row.stack) (ids_known names row.stack whole all.0), locations_known names rows whole all.1) refl
 
-rows_stand : (names : List (List ℕ)) (rows : List Row) → ((q : List ℕ) → stands_in (flat_map (λ row. row.stack) rows) q ≡ true → stands_in names q ≡ true) → RowsStand names rows
+pub rows_stand : (names : List (List ℕ)) (rows : List Row) → ((q : List ℕ) → stands_in (flat_map (λ row. row.stack) rows) q ≡ true → stands_in names q ≡ true) → RowsStand names rows
 rows_stand names [] h = tt
 rows_stand names (row ∷ rows) h = (
   stand_where row.stack names (λ q e. h q (joined q ∙ or_left (stands_in row.stack q) (stands_in (flat_map (λ (r : Row). r.stack) rows) q) e)),

@@ -3,6 +3,7 @@ pub mod Cleaning
 pub mod Counts
 pub mod EntryLaws
 pub mod ExportLaws
+pub mod ExportedRows
 pub mod FirstFault
 pub mod Frames
 pub mod ItemsById

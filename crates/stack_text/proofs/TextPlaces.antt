@@ -32,6 +32,15 @@ place_in-missing (first ∷ texts) text none =
       | false ↦ λ e. let rest = place_in-missing texts text e in omega (arith, rest)
     ] none
 
+-- a text that is there stands before the end
+pub place_in-lt : (texts : List (List ℕ)) (text : List ℕ) → list_any (bytes_eq text) texts ≡ true → place_in texts text < length texts
+place_in-lt [] text e = absurd (false≢true e)
+place_in-lt (first ∷ texts) text e =
+    elim (bytes_eq text first) as (λ b. (b || list_any (bytes_eq text) texts) ≡ true → cond b 0 (place_in texts text + 1) < length (first ∷ texts)) [
+      | true ↦ λ r. omega arith
+      | false ↦ λ r. let rest = place_in-lt texts text r in omega (arith, rest)
+    ] e
+
 -- more texts change no place
 pub place_in-more : (texts more : List (List ℕ)) (text : List ℕ) → list_any (bytes_eq text) texts ≡ true → place_in (texts ++ more) text ≡ place_in texts text
 place_in-more [] more text some = absurd (false≢true some)
@@ -109,6 +118,27 @@ with_text-new texts text e = ap (λ b. cond b texts (texts ++ text ∷ [])) e
 pub with_texts-append : (texts more others : List (List ℕ)) → with_texts texts (more ++ others) ≡ with_texts (with_texts texts more) others
 with_texts-append texts [] others = refl
 with_texts-append texts (text ∷ more) others = with_texts-append (with_text texts text) more others
+
+-- adding a text leaves it the place that it has, or would have
+pub place_in-with : (texts : List (List ℕ)) (text : List ℕ) → place_in (with_text texts text) text ≡ place_in texts text
+place_in-with texts text = elim (list_any (bytes_eq text) texts) as (λ b. list_any (bytes_eq text) texts ≡ b → place_in (cond b texts (texts ++ text ∷ [])) text ≡ place_in texts text) [
+  | true ↦ λ e. refl
+  | false ↦ λ e. place_at_end texts text e ∙ sym (place_in-missing texts text e)
+] refl
+
+-- a text whose place is before the end is there
+pub with_text-there : (texts : List (List ℕ)) (text : List ℕ) → place_in texts text < length texts → with_text texts text ≡ texts
+with_text-there texts text inside = elim (list_any (bytes_eq text) texts) as (λ b. list_any (bytes_eq text) texts ≡ b → cond b texts (texts ++ text ∷ []) ≡ texts) [
+  | true ↦ λ e. refl
+  | false ↦ λ e. let end = place_in-missing texts text e in absurd (omega (arith, end, inside))
+] refl
+
+-- a text whose place is not before the end is missing
+pub none_at_end : (texts : List (List ℕ)) (text : List ℕ) → length texts ≤ place_in texts text → list_any (bytes_eq text) texts ≡ false
+none_at_end texts text end = elim (list_any (bytes_eq text) texts) as (λ b. list_any (bytes_eq text) texts ≡ b → b ≡ false) [
+  | true ↦ λ e. let inside = place_in-lt texts text e in absurd (omega (arith, end, inside))
+  | false ↦ λ e. refl
+] refl
 
 -- ---- a loop over texts that are lent
 

@@ -1,5 +1,5 @@
 ghost use Rattle.std.specs.Prelude.{◌≡◌, ◌+◌, ◌<◌, ◌≤◌, ◌^◌, All, IfOk, OnOk, length, map, reverse};
-ghost use Rattle.stack_text.specs.Export.{exported_function, exported_location, exported_profile_of, exported_sample, draft_with, id_in, names_of, strings_of};
+ghost use Rattle.stack_text.specs.Export.{draft_with, exported_draft, exported_function, exported_location, exported_profile_of, exported_sample, id_in, names_of, strings_of};
 ghost use Rattle.stack_text.specs.Names.{IsName};
 ghost use Rattle.stack_text.specs.Samples.{IsBatchOf};
 ghost use Rattle.stack_text.specs.TextTables.{with_texts};
@@ -149,19 +149,19 @@ fn copies_of(alloc: Global, texts: &TextTable) -> Result<Items<Text>, NoMemory>
     Ok(Items::new(copies))
 }
 
-/// The draft of a batch whose names and strings these are.
+/// The draft of these samples, names and strings.
 fn draft_of(
     alloc: Global,
-    batch: &Batch,
+    samples: Items<Sample>,
     names: &TextTable,
     strings: &TextTable,
     sample_type: ValueType,
 ) -> Result<Draft, NoMemory>
-    ensures { IfOk result (λ draft. draft ≡ draft_with names.now strings.now batch.now sample_type) }
+    ensures { IfOk result (λ draft. draft ≡ draft_with names.now strings.now samples sample_type) }
 {
     Ok(Draft {
         sample_types: Items::new(vec![in alloc; sample_type]?),
-        samples: samples_of(alloc, names, batch)?,
+        samples,
         mappings: Items::empty(alloc),
         locations: locations_of(alloc, names)?,
         functions: functions_of(alloc, names, strings)?,
@@ -177,6 +177,24 @@ fn draft_of(
     })
 }
 
+/// The draft of samples whose values are of a kind and in a unit, and of the names that they number.
+pub(crate) fn exported_draft(
+    alloc: Global,
+    samples: Items<Sample>,
+    names: &TextTable,
+    kind: &str,
+    unit: &str,
+) -> Result<Draft, NoMemory>
+    ensures { IfOk result (λ draft. draft ≡ exported_draft names.now samples kind.now unit.now) }
+{
+    let strings = strings_of(alloc, kind, unit, names)?;
+    let sample_type = ValueType {
+        kind: strings.place_of(kind) as i64,
+        unit: strings.place_of(unit) as i64,
+    };
+    draft_of(alloc, samples, names, &strings, sample_type)
+}
+
 /// The batch as a profile of one sample type, whose kind and unit these are: a sample for each row in order, and a function and a
 /// location for each name, numbered from 1 as the names first stand. Its samples give the rows of the batch back, in order.
 ///
@@ -188,12 +206,8 @@ pub fn profile_of(alloc: Global, batch: &Batch, kind: &str, unit: &str) -> Resul
     ensures reads_back { IfOk result (λ profile. IsBatchOf profile Default batch.now) }
 {
     let names = names_of(alloc, batch.rows())?;
-    let strings = strings_of(alloc, kind, unit, &names)?;
-    let sample_type = ValueType {
-        kind: strings.place_of(kind) as i64,
-        unit: strings.place_of(unit) as i64,
-    };
-    let draft = draft_of(alloc, batch, &names, &strings, sample_type)?;
+    let samples = samples_of(alloc, &names, batch)?;
+    let draft = exported_draft(alloc, samples, &names, kind, unit)?;
     match check(alloc, draft) {
         Ok(profile) => Ok(profile),
         Err(_) => Err(NoMemory),

@@ -178,7 +178,11 @@ pub(crate) fn fitting_depth(
 
 /// What a line spells, where its row can follow rows of the weight `held`. Takes no memory: a line's fault is found before memory
 /// can run out at that line.
-fn read_line<'a>(line: &'a [u8], held: u64, number: u64) -> Result<Spelled<'a>, FoldedFault>
+pub(crate) fn read_line<'a>(
+    line: &'a [u8],
+    held: u64,
+    number: u64,
+) -> Result<Spelled<'a>, FoldedFault>
     requires { held < 2 ^ 63 }
     ensures spelled { IfOk result (λ found. IsUtf8 line.now × (held + found.weight < 2 ^ 63)
         × ((digits : List ℕ) × HasCount line.now found.stack.now digits × (found.weight ≡ digits_value 10 digits))

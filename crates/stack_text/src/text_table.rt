@@ -1,4 +1,4 @@
-ghost use Rattle.std.specs.Prelude.{◌≡◌, ◌<◌, ◌^◌, [], IfOk, map};
+ghost use Rattle.std.specs.Prelude.{◌≡◌, ◌<◌, ◌^◌, [], IfOk, OnOk, map};
 ghost use Rattle.stack_text.specs.TextTables.{place_in, with_text, with_texts};
 
 use pprof_wire::NoMemory;
@@ -66,5 +66,24 @@ impl<'a> TextTable<'a> {
         places.insert(text, texts.as_slice().len())?;
         texts.push(text)?;
         Ok(TextTable { places, texts })
+    }
+    /// The place of a text, which is added where it is missing.
+    pub fn place_with(&mut self, text: &'a str) -> Result<usize, NoMemory>
+        ensures texts { OnOk result (self.new ≡ with_text self.old text.now) }
+        ensures place { IfOk result (λ place. place ≡ place_in (with_text self.old text.now) text.now) }
+        ensures fits { IfOk result (λ place. place < 2 ^ 63) }
+    {
+        let place = self.place_of(text);
+        if place < self.texts().len() {
+            return Ok(place);
+        }
+        self.texts.push(text)?;
+        match self.places.insert(text, place) {
+            Ok(_) => Ok(place),
+            Err(_) => {
+                self.texts.pop();
+                Err(NoMemory)
+            }
+        }
     }
 }

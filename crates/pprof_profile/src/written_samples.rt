@@ -1,0 +1,74 @@
+ghost use Rattle.std.specs.Prelude.{◌≡◌, ◌++◌, ◌∷◌, [], List, IfOk, OnOk};
+ghost use Rattle.pprof_profile.specs.declared.messages.Draft.{Draft};
+ghost use Rattle.pprof_profile.specs.declared.messages.Sample.{Sample};
+ghost use Rattle.pprof_profile.specs.Canonical.{canonical_bytes_of, samples_bytes};
+
+use crate::encoding::write_around_samples;
+use crate::messages::Draft;
+use crate::writing::write_packed;
+use pprof_wire::{NoMemory, Value, write_field};
+use std::alloc::Global;
+use std::marker::Model;
+
+/// Samples as they stand in a profile's bytes, so that each can be written when it comes and none is kept as a message. A contract
+/// sees the bytes.
+#[derive(Drop)]
+pub struct WrittenSamples {
+    bytes: Vec<u8>,
+    content: Vec<u8>,
+    packed: Vec<u8>,
+}
+
+impl Model for WrittenSamples {
+    ghost use Rattle.std.specs.Prelude.{List, ℕ};
+
+    ghost Value = { List ℕ };
+
+    ghost view = { λ w. w.bytes.items };
+}
+
+impl WrittenSamples {
+    /// No samples yet. Takes no memory.
+    pub fn new(alloc: Global) -> WrittenSamples
+        ensures { result ≡ samples_bytes [] }
+    {
+        WrittenSamples {
+            bytes: Vec::new(alloc),
+            content: Vec::new(alloc),
+            packed: Vec::new(alloc),
+        }
+    }
+
+    /// Adds a sample without labels.
+    ///
+    /// # Errors
+    ///
+    /// `NoMemory`.
+    pub fn push(&mut self, location_ids: &[u64], values: &[i64]) -> Result<(), NoMemory>
+        ensures { (samples : List Sample) → self.old ≡ samples_bytes samples
+            → OnOk result (self.new ≡ samples_bytes (samples ++ (record { location_ids = location_ids.now; values = values.now; labels = [] }) ∷ [])) }
+    {
+        self.content.clear();
+        write_packed(&mut self.content, 1, location_ids, &mut self.packed)?;
+        write_packed(&mut self.content, 2, values, &mut self.packed)?;
+        write_field(&mut self.bytes, 2, Value::Bytes(self.content.as_slice()))
+    }
+}
+
+/// The canonical bytes of the draft with these samples for its own: what [`encode`](crate::encode) gives where that is a profile.
+///
+/// # Errors
+///
+/// `NoMemory`.
+pub fn encode_around(
+    alloc: Global,
+    draft: &Draft,
+    samples: &WrittenSamples,
+) -> Result<Vec<u8>, NoMemory>
+    ensures { (items : List Sample) → samples.now ≡ samples_bytes items
+        → IfOk result (λ bytes. bytes.items ≡ canonical_bytes_of (record draft.now { samples = items })) }
+{
+    let mut bytes = Vec::new(alloc);
+    write_around_samples(alloc, draft, samples.bytes.as_slice(), &mut bytes)?;
+    Ok(bytes)
+}

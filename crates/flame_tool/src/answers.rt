@@ -1,9 +1,6 @@
 //! What an input answers to a request.
-ghost use Rattle.std.specs.Prelude.{ℕ, ◌≡◌, ◌∷◌, ◌++◌, [], List, MatchResult, IfOk, Option, None};
+ghost use Rattle.std.specs.Prelude.{ℕ, ◌≡◌, ◌∷◌, ◌++◌, [], List, MatchResult, IfOk, Option};
 ghost use Rattle.stack_text.specs.declared.batch.Row.{Row};
-ghost use Rattle.stack_text.specs.FoldedText.{IsFoldedText};
-ghost use Rattle.stack_text.specs.Export.{exported_profile_of};
-ghost use Rattle.pprof_profile.specs.Canonical.{canonical_bytes_of};
 ghost use Rattle.flame_report.specs.Answers.{answer_of};
 ghost use Rattle.flame_tool.specs.Answers.{AreSumsIn, IsAnswer, IsChoice, IsInputFault, IsRefusedIn, answer_text, batch_fault_of, folded_fault_of, profile_fault_of};
 ghost use Rattle.flame_tool.specs.declared.request.Format.TheVariants.{Folded, Pprof};
@@ -13,10 +10,9 @@ use crate::outcomes::ToolFault;
 use crate::request::{Format, Request, Source};
 use flame_report::laws::answers_are_by_the_aggregate;
 use flame_report::{Answer, Query, flame_json, report_of, top_text};
-use pprof_profile::{ProfileFault, Text, decode, encode};
+use pprof_profile::{ProfileFault, Text, decode};
 use stack_text::{
-    Batch, BatchFault, FoldedFault, NoMemory, ValueChoice, profile_of, read_folded, sum_folded,
-    sum_samples,
+    Batch, BatchFault, FoldedFault, NoMemory, ValueChoice, export_folded, sum_folded, sum_samples,
 };
 use std::alloc::Global;
 
@@ -58,28 +54,10 @@ fn export(alloc: Global, kind: &Text, unit: &Text, input: &[u8]) -> Result<Vec<u
         (λ bytes. IsAnswer (Export kind.now unit.now) input.now bytes.items)
         (λ fault. IsInputFault (Export kind.now unit.now) input.now fault) }
 {
-    let rows = rows_of(alloc, input)?;
-    Ok(profile_bytes(alloc, &rows, kind.as_str(), unit.as_str())?)
-}
-
-/// The rows of folded text, each as it stands.
-fn rows_of(alloc: Global, input: &[u8]) -> Result<Batch, ToolFault>
-    ensures { MatchResult result
-        (λ rows. IsFoldedText input.now rows)
-        (λ fault. IsRefusedIn Folded None input.now fault) }
-{
-    match read_folded(alloc, input) {
-        Ok(rows) => Ok(rows),
+    match export_folded(alloc, input, kind.as_str(), unit.as_str()) {
+        Ok(bytes) => Ok(bytes),
         Err(found) => Err(folded_fault(found)),
     }
-}
-
-/// The bytes of the profile that rows are exported as.
-fn profile_bytes(alloc: Global, rows: &Batch, kind: &str, unit: &str) -> Result<Vec<u8>, NoMemory>
-    ensures { IfOk result (λ bytes. bytes.items ≡ canonical_bytes_of (exported_profile_of rows.now kind.now unit.now)) }
-{
-    let profile = profile_of(alloc, rows, kind, unit)?;
-    encode(alloc, &profile)
 }
 
 /// Rows that add up to those of the input.

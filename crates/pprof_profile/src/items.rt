@@ -65,6 +65,13 @@ impl<T> Items<T> {
         self.items
     }
 
+    /// Takes memory for so many more items, or leaves them as they were.
+    pub fn reserve(&mut self, more: usize) -> Result<(), AllocError>
+        ensures { self.new ≡ self.old }
+    {
+        self.items.reserve(more)
+    }
+
     /// Adds an item at the end. Where memory runs out the items are as they were, and the new one is handed back.
     pub fn push(&mut self, item: T) -> Result<(), AllocFailed<T>>
         ensures pushed { OnOk result (self.new ≡ self.old ++ item ∷ []) }

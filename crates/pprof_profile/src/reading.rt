@@ -89,11 +89,17 @@ pub(crate) fn push_numbers<N: Number>(
     }
 }
 
-/// Adds the packed numbers.
+/// How many varints end in these bytes.
+fn count_ends(bytes: &[u8]) -> usize {
+    bytes.iter().filter(|byte| **byte < 0x80).count()
+}
+
+/// Adds the packed numbers, with memory for all of them taken at once.
 fn push_packed<N: Number>(items: &mut Items<N>, bytes: &[u8]) -> Result<(), ProfileFault>
     ensures added { OnOk result (IsUnpacked N.of items.old bytes.now items.new) }
     ensures fault { IfErr result (λ fault. fault ≢ ProfileFault.NoMemory → IsPackedFault bytes.now fault) }
 {
+    items.reserve(count_ends(bytes))?;
     let mut numbers = packed(bytes);
     while let Some(read) = numbers.next_value() {
         match read {

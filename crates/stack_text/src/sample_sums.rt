@@ -93,7 +93,7 @@ pub fn sum_samples(
         return Err(BatchFault::NoValue);
     };
     let frames = LocationFrames::new(alloc, profile)?;
-    let mut known = HashMap::new(alloc);
+    let mut known = HashMap::with_capacity(alloc, profile.draft().samples.len())?;
     let mut sums = Batch::new(alloc);
     for (index, sample) in profile.draft().samples.as_slice().iter().enumerate() {
         sum_sample(

@@ -10,7 +10,7 @@ use crate::stack::{MAX_DEPTH, Stack};
 use crate::unfolding::{LocationFrames, string_at};
 use pprof_profile::{Draft, Profile, Sample};
 use pprof_wire::NoMemory;
-use std::alloc::Global;
+use std::alloc::{AllocError, Global};
 use thiserror::Error;
 
 /// Which value of each sample is its weight.
@@ -49,6 +49,17 @@ impl From<NoMemory> for BatchFault {
     ghost from_gives = { λ _ fault. fault ≡ NoMemory };
 
     fn from(_error: NoMemory) -> BatchFault {
+        BatchFault::NoMemory
+    }
+}
+
+impl From<AllocError> for BatchFault {
+    ghost use Rattle.std.specs.Prelude.{◌≡◌};
+    ghost use Rattle.stack_text.specs.declared.sampling.BatchFault.TheVariants.{NoMemory};
+
+    ghost from_gives = { λ _ fault. fault ≡ NoMemory };
+
+    fn from(_error: AllocError) -> BatchFault {
         BatchFault::NoMemory
     }
 }

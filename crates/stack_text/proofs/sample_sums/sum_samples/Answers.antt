@@ -12,7 +12,7 @@ use Rattle.stack_text.proofs.sample_sums.sum_samples.Goals as goal
 
 pub sum_sample-requires-clause-values : goal.sum_sample-requires-clause-values
 sum_sample-requires-clause-values c =
-    let samples : c.as_slice-sample-items.result.now ≡ c.args.profile.now.samples = c.as_slice-sample-items.ensures ∙ ap (λ (d : Draft). d.samples) c.draft-2.ensures.draft in
+    let samples : c.as_slice-sample-items.result.now ≡ c.args.profile.now.samples = c.as_slice-sample-items.ensures ∙ ap (λ (d : Draft). d.samples) c.draft-3.ensures.draft in
     let item = c.sample-item.is ∙ ap (λ ss. get_or ss c.loop-index.index c.sample-item.result) samples in
     let within = subst (λ ss. c.loop-index.index < length ss) samples c.loop-index-test.true in
     let chosen : chosen_type_of c.args.profile.now c.args.choice ≡ Some c.in-Some.chosen = search rules in
@@ -20,7 +20,7 @@ sum_sample-requires-clause-values c =
 
 pub returns-in_err-sum_sample-clause-read : goal.returns-in_err-sum_sample-clause-read
 returns-in_err-sum_sample-clause-read c =
-    let samples : c.as_slice-sample-items.result.now ≡ c.args.profile.now.samples = c.as_slice-sample-items.ensures ∙ ap (λ (d : Draft). d.samples) c.draft-2.ensures.draft in
+    let samples : c.as_slice-sample-items.result.now ≡ c.args.profile.now.samples = c.as_slice-sample-items.ensures ∙ ap (λ (d : Draft). d.samples) c.draft-3.ensures.draft in
     let item = c.sample-item.is ∙ ap (λ ss. get_or ss c.loop-index.index c.sample-item.result) samples in
     let within = subst (λ ss. c.loop-index.index < length ss) samples c.loop-index-test.true in
     let chosen : chosen_type_of c.args.profile.now c.args.choice ≡ Some c.in-Some.chosen = search rules in
@@ -35,7 +35,7 @@ returns-in_err-sum_sample-clause-accepted c = only_batch_sums c.args.profile.now
 
 pub loop-index-preserved : goal.loop-index-preserved
 loop-index-preserved c =
-    let samples : c.as_slice-sample-items.result.now ≡ c.args.profile.now.samples = c.as_slice-sample-items.ensures ∙ ap (λ (d : Draft). d.samples) c.draft-2.ensures.draft in
+    let samples : c.as_slice-sample-items.result.now ≡ c.args.profile.now.samples = c.as_slice-sample-items.ensures ∙ ap (λ (d : Draft). d.samples) c.draft-3.ensures.draft in
     let item = c.sample-item.is ∙ ap (λ ss. get_or ss c.loop-index.index c.sample-item.result) samples in
     let within = subst (λ ss. c.loop-index.index < length ss) samples c.loop-index-test.true in
     let (rows, so_far, sums) = c.loop-index.invariant.0 in
@@ -52,7 +52,7 @@ loop-index-preserved c =
 
 pub returns-clause-read : goal.returns-clause-read
 returns-clause-read c =
-    let samples : c.as_slice-sample-items.result.now ≡ c.args.profile.now.samples = c.as_slice-sample-items.ensures ∙ ap (λ (d : Draft). d.samples) c.draft-2.ensures.draft in
+    let samples : c.as_slice-sample-items.result.now ≡ c.args.profile.now.samples = c.as_slice-sample-items.ensures ∙ ap (λ (d : Draft). d.samples) c.draft-3.ensures.draft in
     let whole = subst (λ ss. length ss ≤ c.loop-index.index) samples c.loop-index-test.false in
     let chosen : chosen_type_of c.args.profile.now c.args.choice ≡ Some c.in-Some.chosen = search rules in
     let (rows, so_far, sums) = c.loop-index.invariant.0 in

@@ -69,26 +69,45 @@ fn totals_text(alloc: Global, tree: &CallTree) -> Result<String, Fail> {
     Ok(text)
 }
 
+// All that a tree answers: its total, its rows, and its names.
+fn answers(alloc: Global, tree: &CallTree) -> Result<String, Fail> {
+    let mut text = String::new(alloc);
+    write!(text, "{} | ", tree.total())?;
+    text.push_str(rows_text(alloc, tree)?.as_str())?;
+    text.push_str(" | ")?;
+    text.push_str(totals_text(alloc, tree)?.as_str())?;
+    Ok(text)
+}
+
+// The weights of stacks, as their frames spell them.
+fn self_weights(alloc: Global, tree: &CallTree, stacks: &[&str]) -> Result<Vec<u64>, Fail> {
+    let mut weights = Vec::new(alloc);
+    for frames in stacks {
+        weights.push(tree.self_weight(&stack_of(alloc, frames)?))?;
+    }
+    Ok(weights)
+}
+
 const WORKED: [(&str, u64); 3] = [("main;a;b", 3), ("main;a", 2), ("main;c", 5)];
 
 #[test]
 fn a_grown_tree_answers_for_its_rows(rt: HostRuntime) -> Result<(), Fail> {
     let alloc = rt.alloc();
     let grower = grown(alloc, &WORKED)?;
-    let tree = grower.tree();
-    assert_eq!(rt; tree.total(), 10);
-    assert_eq!(rt; tree.self_weight(&stack_of(alloc, "main;a")?), 2);
-    assert_eq!(rt; tree.self_weight(&stack_of(alloc, "main;a;b")?), 3);
-    assert_eq!(rt; tree.self_weight(&stack_of(alloc, "main")?), 0);
-    assert_eq!(rt; tree.self_weight(&stack_of(alloc, "a")?), 0);
+    let text = answers(alloc, grower.tree())?;
     assert_eq!(rt;
-        totals_text(alloc, tree)?.as_str(),
-        "a 2/5,b 3/3,c 5/5,main 0/10,"
+        text.as_str(),
+        "10 | main;a 2,main;a;b 3,main;c 5, | a 2/5,b 3/3,c 5/5,main 0/10,"
     );
-    assert_eq!(rt;
-        rows_text(alloc, tree)?.as_str(),
-        "main;a 2,main;a;b 3,main;c 5,"
-    );
+    Ok(())
+}
+
+#[test]
+fn a_grown_tree_weighs_stacks(rt: HostRuntime) -> Result<(), Fail> {
+    let alloc = rt.alloc();
+    let grower = grown(alloc, &WORKED)?;
+    let weights = self_weights(alloc, grower.tree(), &["main;a", "main;a;b", "main", "a"])?;
+    assert_eq!(rt; weights.as_slice(), [2, 3, 0, 0].as_slice());
     Ok(())
 }
 
@@ -98,29 +117,37 @@ fn a_dropped_plan_shows_in_no_call(rt: HostRuntime) -> Result<(), Fail> {
     let mut grower = grown(alloc, &WORKED)?;
     let other = batch_of(alloc, &[("main;d", 4), ("e", 1), ("main;a", 7)])?;
     plan(alloc, &mut grower, &other, false)?;
-    assert_eq!(rt; grower.tree().total(), 10);
+    let text = answers(alloc, grower.tree())?;
     assert_eq!(rt;
-        totals_text(alloc, grower.tree())?.as_str(),
-        "a 2/5,b 3/3,c 5/5,main 0/10,"
-    );
-    assert_eq!(rt;
-        rows_text(alloc, grower.tree())?.as_str(),
-        "main;a 2,main;a;b 3,main;c 5,"
+        text.as_str(),
+        "10 | main;a 2,main;a;b 3,main;c 5, | a 2/5,b 3/3,c 5/5,main 0/10,"
     );
     Ok(())
+}
+
+// A tree of a row, with a dropped plan below it and one that is kept.
+fn grown_beside_a_dropped_plan(alloc: Global) -> Result<Grower, Fail> {
+    let mut grower = grown(alloc, &[("a", 1)])?;
+    plan(alloc, &mut grower, &batch_of(alloc, &[("a;b", 2)])?, false)?;
+    plan(alloc, &mut grower, &batch_of(alloc, &[("a;c", 3)])?, true)?;
+    Ok(grower)
 }
 
 #[test]
 fn what_a_dropped_plan_left_can_be_credited_beside(rt: HostRuntime) -> Result<(), Fail> {
     let alloc = rt.alloc();
-    let mut grower = grown(alloc, &[("a", 1)])?;
-    plan(alloc, &mut grower, &batch_of(alloc, &[("a;b", 2)])?, false)?;
-    plan(alloc, &mut grower, &batch_of(alloc, &[("a;c", 3)])?, true)?;
-    let tree = grower.tree();
-    assert_eq!(rt; tree.total(), 4);
-    assert_eq!(rt; rows_text(alloc, tree)?.as_str(), "a 1,a;c 3,");
-    assert_eq!(rt; totals_text(alloc, tree)?.as_str(), "a 1/4,c 3/3,");
-    assert_eq!(rt; tree.self_weight(&stack_of(alloc, "a;b")?), 0);
+    let grower = grown_beside_a_dropped_plan(alloc)?;
+    let text = answers(alloc, grower.tree())?;
+    assert_eq!(rt; text.as_str(), "4 | a 1,a;c 3, | a 1/4,c 3/3,");
+    Ok(())
+}
+
+#[test]
+fn what_a_dropped_plan_left_weighs_nothing(rt: HostRuntime) -> Result<(), Fail> {
+    let alloc = rt.alloc();
+    let grower = grown_beside_a_dropped_plan(alloc)?;
+    let weights = self_weights(alloc, grower.tree(), &["a;b"])?;
+    assert_eq!(rt; weights.as_slice(), [0].as_slice());
     Ok(())
 }
 
@@ -128,25 +155,27 @@ fn what_a_dropped_plan_left_can_be_credited_beside(rt: HostRuntime) -> Result<()
 fn recursion_counts_once(rt: HostRuntime) -> Result<(), Fail> {
     let alloc = rt.alloc();
     let grower = grown(alloc, &[("main;f;g;f", 4)])?;
-    assert_eq!(rt;
-        totals_text(alloc, grower.tree())?.as_str(),
-        "f 4/4,g 0/4,main 0/4,"
-    );
+    let text = totals_text(alloc, grower.tree())?;
+    assert_eq!(rt; text.as_str(), "f 4/4,g 0/4,main 0/4,");
     Ok(())
 }
 
 #[test]
 fn stack_order_is_by_names(rt: HostRuntime) -> Result<(), Fail> {
     let alloc = rt.alloc();
-    let grower = grown(
-        alloc,
-        &[("a!;x", 1), ("a;b", 1), ("", 6), ("a;b", 2), ("z", 0)],
-    )?;
-    assert_eq!(rt;
-        rows_text(alloc, grower.tree())?.as_str(),
-        " 6,a;b 3,a!;x 1,"
-    );
-    assert_eq!(rt; grower.tree().self_weight(&stack_of(alloc, "")?), 6);
+    let rows = [("a!;x", 1), ("a;b", 1), ("", 6), ("a;b", 2), ("z", 0)];
+    let grower = grown(alloc, &rows)?;
+    let text = rows_text(alloc, grower.tree())?;
+    assert_eq!(rt; text.as_str(), " 6,a;b 3,a!;x 1,");
+    Ok(())
+}
+
+#[test]
+fn the_empty_stack_has_a_weight(rt: HostRuntime) -> Result<(), Fail> {
+    let alloc = rt.alloc();
+    let grower = grown(alloc, &[("a", 1), ("", 6)])?;
+    let weights = self_weights(alloc, grower.tree(), &[""])?;
+    assert_eq!(rt; weights.as_slice(), [6].as_slice());
     Ok(())
 }
 
@@ -154,9 +183,8 @@ fn stack_order_is_by_names(rt: HostRuntime) -> Result<(), Fail> {
 fn an_empty_tree_has_no_rows(rt: HostRuntime) -> Result<(), Fail> {
     let alloc = rt.alloc();
     let grower = Grower::new(alloc)?;
-    assert_eq!(rt; grower.tree().total(), 0);
-    assert_eq!(rt; rows_text(alloc, grower.tree())?.as_str(), "");
-    assert_eq!(rt; totals_text(alloc, grower.tree())?.as_str(), "");
+    let text = answers(alloc, grower.tree())?;
+    assert_eq!(rt; text.as_str(), "0 |  | ");
     Ok(())
 }
 
@@ -165,9 +193,10 @@ fn the_greatest_total_is_held(rt: HostRuntime) -> Result<(), Fail> {
     let alloc = rt.alloc();
     let mut grower = grown(alloc, &[("a;b", MAX_TOTAL - 1)])?;
     plan(alloc, &mut grower, &batch_of(alloc, &[("a", 1)])?, true)?;
+    let text = totals_text(alloc, grower.tree())?;
     assert_eq!(rt; grower.tree().total(), MAX_TOTAL);
     assert_eq!(rt;
-        totals_text(alloc, grower.tree())?.as_str(),
+        text.as_str(),
         "a 1/9223372036854775807,b 9223372036854775806/9223372036854775806,"
     );
     Ok(())
@@ -183,9 +212,8 @@ fn deepest(alloc: Global, even: &str, odd: &str) -> Result<Stack, Fail> {
     Ok(Stack::make(names).ok().ok_or("too deep")?)
 }
 
-#[test]
-fn the_deepest_recursion_is_counted_once(rt: HostRuntime) -> Result<(), Fail> {
-    let alloc = rt.alloc();
+// A tree of the two deepest stacks.
+fn grown_deepest(alloc: Global) -> Result<Grower, Fail> {
     let mut batch = Batch::new(alloc);
     batch
         .push(deepest(alloc, "f", "f")?, 2)
@@ -197,11 +225,27 @@ fn the_deepest_recursion_is_counted_once(rt: HostRuntime) -> Result<(), Fail> {
         .ok_or("too heavy")?;
     let mut grower = Grower::new(alloc)?;
     plan(alloc, &mut grower, &batch, true)?;
-    assert_eq!(rt; totals_text(alloc, grower.tree())?.as_str(), "f 5/5,g 0/3,");
-    assert_eq!(rt; grower.tree().self_weight(&deepest(alloc, "f", "g")?), 3);
+    Ok(grower)
+}
+
+#[test]
+fn the_deepest_recursion_is_counted_once(rt: HostRuntime) -> Result<(), Fail> {
+    let alloc = rt.alloc();
+    let grower = grown_deepest(alloc)?;
+    let text = totals_text(alloc, grower.tree())?;
+    assert_eq!(rt; text.as_str(), "f 5/5,g 0/3,");
+    Ok(())
+}
+
+#[test]
+fn the_deepest_stacks_have_rows(rt: HostRuntime) -> Result<(), Fail> {
+    let alloc = rt.alloc();
+    let grower = grown_deepest(alloc)?;
+    let other = deepest(alloc, "f", "g")?;
+    assert_eq!(rt; grower.tree().self_weight(&other), 3);
     let rows = grower.tree().rows(alloc)?;
-    assert_eq!(rt; rows.rows().len(), 2);
-    assert!(rt; rows.rows()[0].stack == deepest(alloc, "f", "f")?);
+    let stacks = rows.rows();
+    assert!(rt; stacks.len() == 2 && stacks[1].stack == other);
     Ok(())
 }
 
@@ -276,6 +320,48 @@ fn slow_totals_text(alloc: Global, rows: &[(String, u64)]) -> Result<String, All
     Ok(text)
 }
 
+// Up to three rows of such stacks.
+fn some_rows(alloc: Global, numbers: &mut Numbers) -> Result<Vec<(String, u64)>, AllocError> {
+    let mut rows = Vec::new(alloc);
+    for _ in 0..numbers.next() % 4 {
+        let frames = some_frames(alloc, numbers)?;
+        rows.push((frames, numbers.next() % 10))?;
+    }
+    Ok(rows)
+}
+
+fn batch_of_texts(alloc: Global, rows: &[(String, u64)]) -> Result<Batch, Fail> {
+    let mut lent = Vec::new(alloc);
+    for (frames, weight) in rows {
+        lent.push((frames.as_str(), *weight))?;
+    }
+    batch_of(alloc, &lent)
+}
+
+// Plans the rows, and where `kept` credits them and adds them to those before.
+fn grow_by(
+    alloc: Global,
+    grower: &mut Grower,
+    before: &mut Vec<(String, u64)>,
+    rows: Vec<(String, u64)>,
+    kept: bool,
+) -> Result<(), Fail> {
+    plan(alloc, grower, &batch_of_texts(alloc, &rows)?, kept)?;
+    if kept {
+        for row in rows {
+            before.push(row)?;
+        }
+    }
+    Ok(())
+}
+
+// Whether a tree has the rows and the totals that a slow program has.
+fn agrees(alloc: Global, tree: &CallTree, rows: &[(String, u64)]) -> Result<bool, Fail> {
+    let same_rows = rows_text(alloc, tree)? == slow_rows_text(alloc, rows)?;
+    let same_totals = totals_text(alloc, tree)? == slow_totals_text(alloc, rows)?;
+    Ok(same_rows && same_totals)
+}
+
 #[test]
 fn a_tree_answers_as_a_slow_program_does(rt: HostRuntime) -> Result<(), Fail> {
     let alloc = rt.alloc();
@@ -283,30 +369,10 @@ fn a_tree_answers_as_a_slow_program_does(rt: HostRuntime) -> Result<(), Fail> {
     let mut rows: Vec<(String, u64)> = Vec::new(alloc);
     let mut grower = Grower::new(alloc)?;
     for round in 0..100u64 {
-        let mut batch = Batch::new(alloc);
         let kept = numbers.next() % 3 > 0;
-        for _ in 0..numbers.next() % 4 {
-            let frames = some_frames(alloc, &mut numbers)?;
-            let weight = numbers.next() % 10;
-            batch
-                .push(stack_of(alloc, &frames)?, weight)
-                .ok()
-                .ok_or("too heavy")?;
-            if kept {
-                rows.push((frames, weight))?;
-            }
-        }
-        plan(alloc, &mut grower, &batch, kept)?;
-        let rows_now = rows_text(alloc, grower.tree())?;
-        let totals_now = totals_text(alloc, grower.tree())?;
-        assert!(rt;
-            rows_now == slow_rows_text(alloc, &rows)?,
-            "rows of round {round}: {rows_now}"
-        );
-        assert!(rt;
-            totals_now == slow_totals_text(alloc, &rows)?,
-            "totals of round {round}: {totals_now}"
-        );
+        let more = some_rows(alloc, &mut numbers)?;
+        grow_by(alloc, &mut grower, &mut rows, more, kept)?;
+        assert!(rt; agrees(alloc, grower.tree(), &rows)?, "round {round}");
     }
     Ok(())
 }

@@ -1,6 +1,7 @@
 //! Reports on profiles: the vectors of the format, and their faults.
 use super::fakes::run_on;
 use crate::streams::MAX_INPUT;
+use std::alloc::{AllocError, Global};
 use std::test::Fail;
 
 static FOLD: [&str; 4] = ["flame", "fold", "--format", "pprof"];
@@ -93,5 +94,85 @@ fn refused_profiles(rt: HostRuntime) -> Result<(), Fail> {
         assert_eq!(rt; status.code, 1, "{place}");
         assert!(rt; written.is_empty(), "{place}");
     }
+    Ok(())
+}
+
+// A profile of these samples' fields, which have f's one location.
+fn profile_of(alloc: Global, samples: &[u8]) -> Result<Vec<u8>, AllocError> {
+    let mut bytes = Vec::from_slice(alloc, &ONE_SAMPLE[..6])?;
+    bytes.extend_from_slice(samples)?;
+    bytes.extend_from_slice(&ONE_SAMPLE[14..])?;
+    Ok(bytes)
+}
+
+// What is written and said of a folded profile of these samples.
+fn fold_of(alloc: Global, samples: &[u8]) -> Result<(Vec<u8>, String), AllocError> {
+    let input = profile_of(alloc, samples)?;
+    let (status, written) = run_on(alloc, FOLD.as_slice(), input.as_slice(), MAX_INPUT);
+    Ok((written, status.cause.to_string(alloc)?))
+}
+
+#[test]
+fn samples_of_the_greatest_total(rt: HostRuntime) -> Result<(), Fail> {
+    let samples =
+        b"\x12\x0e\x0a\x01\x01\x12\x09\x80\x80\x80\x80\x80\x80\x80\x80\x40\x12\x0e\x0a\x01\x01\x12\x09\xff\xff\xff\xff\xff\xff\xff\xff\x3f";
+    let (written, _) = fold_of(rt.alloc(), samples)?;
+    assert_eq!(rt; written.as_slice(), b"f 9223372036854775807\n".as_slice());
+    Ok(())
+}
+
+#[test]
+fn samples_past_the_greatest_total(rt: HostRuntime) -> Result<(), Fail> {
+    let samples =
+        b"\x12\x0e\x0a\x01\x01\x12\x09\x80\x80\x80\x80\x80\x80\x80\x80\x40\x12\x0e\x0a\x01\x01\x12\x09\x80\x80\x80\x80\x80\x80\x80\x80\x40";
+    let (written, said) = fold_of(rt.alloc(), samples)?;
+    assert_eq!(rt; said.as_str(), "flame: B4 Heavy sample 1\n");
+    assert!(rt; written.is_empty());
+    Ok(())
+}
+
+// The field of a sample of f so many times, which weighs 7. Its length and that of its ids are given as varints.
+fn deep_sample(
+    alloc: Global,
+    length: &[u8],
+    depth: &[u8],
+    frames: usize,
+) -> Result<Vec<u8>, AllocError> {
+    let mut field = Vec::from_slice(alloc, b"\x12")?;
+    field.extend_from_slice(length)?;
+    field.push(0x0a)?;
+    field.extend_from_slice(depth)?;
+    for _ in 0..frames {
+        field.push(1)?;
+    }
+    field.extend_from_slice(b"\x12\x01\x07")?;
+    Ok(field)
+}
+
+#[test]
+fn the_deepest_sample(rt: HostRuntime) -> Result<(), Fail> {
+    let sample = deep_sample(rt.alloc(), b"\x86\x80\x04", b"\xff\xff\x03", 65_535)?;
+    let (written, _) = fold_of(rt.alloc(), sample.as_slice())?;
+    assert_eq!(rt; written.len(), 2 * 65_535 + 2);
+    Ok(())
+}
+
+#[test]
+fn a_sample_too_deep(rt: HostRuntime) -> Result<(), Fail> {
+    let sample = deep_sample(rt.alloc(), b"\x87\x80\x04", b"\x80\x80\x04", 65_536)?;
+    let (written, said) = fold_of(rt.alloc(), sample.as_slice())?;
+    assert_eq!(rt; said.as_str(), "flame: B3 Depth sample 0\n");
+    assert!(rt; written.is_empty());
+    Ok(())
+}
+
+// The system name of the one function: `a;b`, a line feed, `c`.
+const SYSTEM_NAME: &[u8] =
+    b"\x0a\x04\x08\x01\x10\x02\x12\x06\x0a\x01\x01\x12\x01\x07\x22\x06\x08\x01\x22\x02\x08\x01\x2a\x04\x08\x01\x18\x03\x32\x00\x32\x03cpu\x32\x02ns\x32\x05a;b\nc";
+
+#[test]
+fn a_name_that_folded_text_cannot_hold(rt: HostRuntime) -> Result<(), Fail> {
+    let (_, written) = run_on(rt.alloc(), FOLD.as_slice(), SYSTEM_NAME, MAX_INPUT);
+    assert_eq!(rt; written.as_slice(), b"a:b c 7\n".as_slice());
     Ok(())
 }

@@ -12,6 +12,8 @@ use Rattle.flame_tool.specs.declared.outcomes.ToolFault.{ToolFault}
 use Rattle.flame_tool.specs.declared.outcomes.ToolFault.TheVariants.{Folded, Profile, Batch, Name, Read, Write, TooLong, NoMemory}
 use Rattle.flame_tool.specs.declared.streams.ReadFault.{ReadFault}
 use Rattle.flame_tool.specs.declared.streams.ReadFault.TheVariants as reading
+use Rattle.flame_tool.specs.declared.words.WordsFault.{WordsFault}
+use Rattle.flame_tool.specs.declared.words.WordsFault.TheVariants as words
 use Rattle.flame_tool.specs.declared.request.Request.{Request}
 
 -- the words ask for something
@@ -73,3 +75,9 @@ abbrev pub read_fault_of : ReadFault → ToolFault
 read_fault_of reading.Read = Read
 read_fault_of reading.TooLong = TooLong
 read_fault_of reading.NoMemory = NoMemory
+
+-- how a run ends whose words ask for nothing
+abbrev pub unasked_outcome_of : WordsFault → Outcome
+unasked_outcome_of (words.Refused text) = Words text
+unasked_outcome_of words.BadName = Fault Name
+unasked_outcome_of words.NoMemory = Fault NoMemory

@@ -2,9 +2,8 @@
 ghost use Rattle.std.specs.Prelude.{◌≡◌, ◌≢◌, ◌+◌, ◌≤◌, ◌↔◌, ◌⊎◌, List, ℕ, Some, None, IfSome};
 ghost use Rattle.std.specs.Io.KnownBytes.{Keeps};
 ghost use Rattle.flame_tool.specs.Parts.{TakesAtMost};
-ghost use Rattle.flame_tool.specs.Program.{EndsBy, IsAccepted, IsCut, IsDone, IsEnd, read_fault_of};
+ghost use Rattle.flame_tool.specs.Program.{EndsBy, IsAccepted, IsCut, IsDone, IsEnd, read_fault_of, unasked_outcome_of};
 ghost use Rattle.flame_tool.specs.Words.{IsMisnamed, IsRefused, request_of, texts_of};
-ghost use Rattle.flame_tool.specs.declared.request.Request.{Request};
 ghost use Rattle.flame_tool.specs.declared.request.Request.{Request};
 
 use crate::answers::answer;
@@ -64,9 +63,18 @@ fn outcome_of<'a, R: Read, W: Write>(
 {
     match read_words(alloc, words) {
         Ok(request) => respond(alloc, request, reader, writer, limit),
-        Err(WordsFault::Refused(text)) => Outcome::Words(text),
-        Err(WordsFault::BadName) => Outcome::Fault(ToolFault::Name),
-        Err(WordsFault::NoMemory) => Outcome::Fault(ToolFault::NoMemory),
+        Err(fault) => unasked(fault),
+    }
+}
+
+// How a run ends whose words ask for nothing.
+fn unasked(fault: WordsFault) -> Outcome
+    ensures { result ≡ unasked_outcome_of fault }
+{
+    match fault {
+        WordsFault::Refused(text) => Outcome::Words(text),
+        WordsFault::BadName => Outcome::Fault(ToolFault::Name),
+        WordsFault::NoMemory => Outcome::Fault(ToolFault::NoMemory),
     }
 }
 

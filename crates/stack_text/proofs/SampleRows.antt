@@ -35,7 +35,8 @@ or_last_within : (draft : Draft) (found : Option ℕ) (chosen : ℕ) → ((at : 
 or_last_within draft None chosen h e = last_within draft.sample_types chosen e
 or_last_within draft (Some at) chosen h e = h chosen e
 
-chosen_within : (draft : Draft) (choice : ValueChoice) (chosen : ℕ) → chosen_type_of draft choice ≡ Some chosen → chosen < length draft.sample_types
+-- the chosen type is one of the types
+pub chosen_within : (draft : Draft) (choice : ValueChoice) (chosen : ℕ) → chosen_type_of draft choice ≡ Some chosen → chosen < length draft.sample_types
 chosen_within draft Default chosen e =
     elim (is_zero draft.default_sample_type) as (λ b. is_zero draft.default_sample_type ≡ b → chosen < length draft.sample_types) [
       | true ↦ λ z. last_within draft.sample_types chosen (rw z at e)
@@ -61,11 +62,10 @@ counted_each count [] k d all lt = absurd (omega (arith, lt))
 counted_each count (sample ∷ samples) zero d all lt = eqb-true (length sample.values) count (and_parts (length sample.values == count) (each_has_values count samples) all).0
 counted_each count (sample ∷ samples) (suc k) d all lt = counted_each count samples k d (and_parts (length sample.values == count) (each_has_values count samples) all).1 (omega (arith, lt))
 
--- so each has the chosen one
-pub has_chosen : (draft : Draft) (choice : ValueChoice) (chosen count : ℕ) (sample : Sample) → IsValidDraft draft → chosen_type_of draft choice ≡ Some chosen → count < length draft.samples
-    → sample ≡ get_or draft.samples count sample → chosen < length sample.values
-has_chosen draft choice chosen count sample valid e lt item =
-    let within = chosen_within draft choice chosen e in
+-- so each has the one at an index of a sample type
+pub has_value : (draft : Draft) (chosen count : ℕ) (sample : Sample) → IsValidDraft draft → chosen < length draft.sample_types → count < length draft.samples → sample ≡ get_or draft.samples count sample
+    → chosen < length sample.values
+has_value draft chosen count sample valid within lt item =
     let values = counted_each (length draft.sample_types) draft.samples count sample (values_counted draft valid) lt in
     let same = ap (λ (s : Sample). length s.values) item in
     omega (arith, within, values, same)
@@ -195,9 +195,9 @@ AreRowsSoFar-end draft choice chosen count rows is_chosen whole so_far =
     record { chosen = chosen; is_chosen = is_chosen; rows_samples = subst (λ ss. AreSampleRows draft chosen ss rows) (take_all count draft.samples whole) so_far.known; total_fits = so_far.fits }
 
 -- a sample with a fault is the first one
-stands : (draft : Draft) (choice : ValueChoice) (chosen count : ℕ) (sample : Sample) (rows : List Row) (fault : BatchFault) → chosen_type_of draft choice ≡ Some chosen → count < length draft.samples
+pub AreRowsSoFar-stands : (draft : Draft) (choice : ValueChoice) (chosen count : ℕ) (sample : Sample) (rows : List Row) (fault : BatchFault) → chosen_type_of draft choice ≡ Some chosen → count < length draft.samples
     → sample ≡ get_or draft.samples count sample → AreRowsSoFar draft chosen count rows → IsSampleFault draft chosen (total_of rows) count sample fault → StandsAtSample draft choice fault
-stands draft choice chosen count sample rows fault is_chosen lt item so_far there =
+AreRowsSoFar-stands draft choice chosen count sample rows fault is_chosen lt item so_far there =
     let long : length (take count draft.samples) ≡ count = grind (arith, common_steps) in
     let back : drop count draft.samples ≡ sample ∷ drop (suc count) draft.samples = drop-cons draft.samples count sample lt ∙ ap (λ s. s ∷ drop (suc count) draft.samples) (sym item) in (
       chosen,
@@ -212,13 +212,18 @@ stands draft choice chosen count sample rows fault is_chosen lt item so_far ther
       subst (λ n. IsSampleFault draft chosen (total_of rows) n sample fault) (sym long) there,
     )
 
-pub AreRowsSoFar-fault : (draft : Draft) (choice : ValueChoice) (chosen count : ℕ) (sample : Sample) (rows : List Row) (fault : BatchFault) → chosen_type_of draft choice ≡ Some chosen → count < length draft.samples
-    → sample ≡ get_or draft.samples count sample → AreRowsSoFar draft chosen count rows → IsSampleFault draft chosen (total_of rows) count sample fault → IsFirstBatchFault draft choice fault
-AreRowsSoFar-fault draft choice chosen count sample rows NoValue is_chosen lt item so_far there = absurd there
-AreRowsSoFar-fault draft choice chosen count sample rows (Negative at) is_chosen lt item so_far there = stands draft choice chosen count sample rows (Negative at) is_chosen lt item so_far there
-AreRowsSoFar-fault draft choice chosen count sample rows (Depth at) is_chosen lt item so_far there = stands draft choice chosen count sample rows (Depth at) is_chosen lt item so_far there
-AreRowsSoFar-fault draft choice chosen count sample rows (Heavy at) is_chosen lt item so_far there = stands draft choice chosen count sample rows (Heavy at) is_chosen lt item so_far there
-AreRowsSoFar-fault draft choice chosen count sample rows NoMemory is_chosen lt item so_far there = (chosen, is_chosen)
+-- what stands at a sample is a profile's first fault
+stands_first : (draft : Draft) (choice : ValueChoice) (fault : BatchFault) → StandsAtSample draft choice fault → IsFirstBatchFault draft choice fault
+stands_first draft choice NoValue there = absurd there.9
+stands_first draft choice (Negative at) there = there
+stands_first draft choice (Depth at) there = there
+stands_first draft choice (Heavy at) there = there
+stands_first draft choice NoMemory there = (there.0, there.5)
+
+pub first_of_standing : {T : Type 0} (P : T → Type 0) (draft : Draft) (choice : ValueChoice) (outcome : Result T BatchFault) → MatchResult outcome P (λ fault. StandsAtSample draft choice fault)
+    → MatchResult outcome P (λ fault. IsFirstBatchFault draft choice fault)
+first_of_standing P draft choice (Ok made) this = this
+first_of_standing P draft choice (Err fault) there = stands_first draft choice fault there
 
 -- ---- one sample
 

@@ -1,8 +1,9 @@
-ghost use Rattle.std.specs.Prelude.{◌≡◌, ◌+◌, ◌^◌, ◌<◌, ◌≤◌, IfErr, List, MatchResult, OnErr, OnOk, length, pos, slice_get, Some};
+ghost use Rattle.std.specs.Prelude.{[], ◌≡◌, ◌+◌, ◌^◌, ◌<◌, ◌≤◌, IfErr, List, MatchResult, OnErr, OnOk, length, pos, slice_get, Some};
 ghost use Rattle.stack_text.specs.declared.batch.Row.{Row};
+ghost use Rattle.stack_text.specs.declared.sampling.ValueChoice.{ValueChoice};
 ghost use Rattle.stack_text.specs.Aggregate.{aggregate_of};
 ghost use Rattle.stack_text.specs.Rows.{total_of};
-ghost use Rattle.stack_text.specs.Samples.{IsBatchOf, IsFirstBatchFault, IsSampleFault, IsSampleRow, sample_stack_of};
+ghost use Rattle.stack_text.specs.Samples.{IsBatchOf, IsFirstBatchFault, IsSampleFault, IsSampleRow, StandsAtSample, chosen_type_of, sample_stack_of};
 ghost use Rattle.stack_text.specs.Sums.{AddsRow, ArePlacedBy, IsSumOfBatch, with_added_at};
 
 use crate::batch::Batch;
@@ -74,6 +75,36 @@ fn sum_sample<'a>(
     }
 }
 
+/// The rows of a profile's samples by the values at an index, those of the same locations put together by a map that is empty yet.
+/// Where memory runs out, the samples before have no fault, nor has the one at hand.
+fn sums_by<'a>(
+    alloc: Global,
+    profile: &'a Profile,
+    frames: &LocationFrames,
+    mut known: HashMap<&'a [u64], usize>,
+    chosen: usize,
+) -> Result<Batch, BatchFault>
+    requires framed { frames.now ≡ profile.now }
+    requires typed { chosen < length profile.now.sample_types }
+    requires placed { ArePlacedBy (sample_stack_of profile.now) known [] }
+    ensures { (choice : ValueChoice) → chosen_type_of profile.now choice ≡ Some chosen
+        → MatchResult result (λ sums. IsSumOfBatch profile.now choice sums) (λ fault. StandsAtSample profile.now choice fault) }
+{
+    let mut sums = Batch::new(alloc);
+    for (index, sample) in profile.draft().samples.as_slice().iter().enumerate() {
+        sum_sample(
+            alloc,
+            frames,
+            &mut known,
+            &mut sums,
+            chosen,
+            sample,
+            index as u64,
+        )?;
+    }
+    Ok(sums)
+}
+
 /// The rows of a profile's samples, those of the same locations put together: as [`batch_of`](crate::batch_of), and every report on
 /// them is the same, in fewer rows.
 ///
@@ -93,18 +124,6 @@ pub fn sum_samples(
         return Err(BatchFault::NoValue);
     };
     let frames = LocationFrames::new(alloc, profile)?;
-    let mut known = HashMap::with_capacity(alloc, profile.draft().samples.len())?;
-    let mut sums = Batch::new(alloc);
-    for (index, sample) in profile.draft().samples.as_slice().iter().enumerate() {
-        sum_sample(
-            alloc,
-            &frames,
-            &mut known,
-            &mut sums,
-            chosen,
-            sample,
-            index as u64,
-        )?;
-    }
-    Ok(sums)
+    let known = HashMap::with_capacity(alloc, profile.draft().samples.len())?;
+    sums_by(alloc, profile, &frames, known, chosen)
 }

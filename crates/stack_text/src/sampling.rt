@@ -1,8 +1,9 @@
 ghost use Rattle.std.specs.Prelude.{◌≡◌, ◌+◌, ◌^◌, ◌<◌, ◌∷◌, ◌++◌, [], ◌≤◌, IfErr, IfOk, List, MatchResult, OnOk, Some, ℕ, pos, length, slice_get};
 ghost use Rattle.pprof_profile.specs.declared.messages.ValueType.{ValueType};
 ghost use Rattle.stack_text.specs.declared.batch.Row.{Row};
+ghost use Rattle.stack_text.specs.declared.sampling.ValueChoice.{ValueChoice};
 ghost use Rattle.stack_text.specs.Rows.{total_of};
-ghost use Rattle.stack_text.specs.Samples.{IsBatchOf, IsFirstBatchFault, IsSampleFault, IsSampleRow, IsValueFault, IsFitFault, chosen_type_of, default_type, frames_of_sample, sample_stack_of, type_named};
+ghost use Rattle.stack_text.specs.Samples.{IsBatchOf, IsFirstBatchFault, StandsAtSample, IsSampleFault, IsSampleRow, IsValueFault, IsFitFault, chosen_type_of, default_type, frames_of_sample, sample_stack_of, type_named};
 
 use crate::batch::{Batch, MAX_TOTAL};
 use crate::name::Name;
@@ -171,6 +172,26 @@ fn add_sample(
     Ok(push_row(alloc, frames, batch, ids, weight)?)
 }
 
+/// The rows of a profile's samples by the values at an index. Where memory runs out, the samples before have no fault, nor has the
+/// one at hand.
+fn rows_by(
+    alloc: Global,
+    profile: &Profile,
+    frames: &LocationFrames,
+    chosen: usize,
+) -> Result<Batch, BatchFault>
+    requires framed { frames.now ≡ profile.now }
+    requires typed { chosen < length profile.now.sample_types }
+    ensures { (choice : ValueChoice) → chosen_type_of profile.now choice ≡ Some chosen
+        → MatchResult result (λ batch. IsBatchOf profile.now choice batch) (λ fault. StandsAtSample profile.now choice fault) }
+{
+    let mut batch = Batch::new(alloc);
+    for (index, sample) in profile.draft().samples.as_slice().iter().enumerate() {
+        add_sample(alloc, frames, &mut batch, chosen, sample, index as u64)?;
+    }
+    Ok(batch)
+}
+
 /// The rows of a profile's samples: a row for each, in order. Its stack has the frames of the sample's locations, root first; its
 /// weight is the chosen value.
 ///
@@ -187,11 +208,7 @@ pub fn batch_of(alloc: Global, profile: &Profile, choice: ValueChoice) -> Result
         return Err(BatchFault::NoValue);
     };
     let frames = LocationFrames::new(alloc, profile)?;
-    let mut batch = Batch::new(alloc);
-    for (index, sample) in profile.draft().samples.as_slice().iter().enumerate() {
-        add_sample(alloc, &frames, &mut batch, chosen, sample, index as u64)?;
-    }
-    Ok(batch)
+    rows_by(alloc, profile, &frames, chosen)
 }
 
 /// The names of a sample's frames, leaf first: the lines of its locations in order. Samples are numbered from 0.

@@ -1,62 +1,20 @@
--- The samples are read in order: each is added to the sums, or has the first fault.
-use Rattle.std.proofs.Common.{rules, ◌≡◌, ◌+◌, ◌^◌, ◌<◌, ◌≤◌, ◌++◌, ◌∷◌, [], length, get_or, ap, subst, ◌∙◌, refl}
-use Rattle.std.specs.Prelude.{Some, Ok}
-use Rattle.std.proofs.lemmas.Result.{err_from_is_err_and}
-use Rattle.pprof_profile.specs.declared.messages.Draft.{Draft}
-use Rattle.stack_text.specs.Samples.{chosen_type_of, IsSampleRow, IsSampleFault, sample_stack_of}
-use Rattle.stack_text.specs.Rows.{total_of}
-use Rattle.stack_text.specs.Sums.{ArePlacedBy}
-use Rattle.stack_text.proofs.PutTogether.{AreSumsSoFar-row, AreSumsSoFar-same, only_batch_sums}
-use Rattle.stack_text.proofs.SampleRows.{AreRowsSoFar-row, AreRowsSoFar-end, AreRowsSoFar-fault, has_chosen}
+-- What stands at a sample is the first fault.
+use Rattle.std.proofs.Common.{rules, ◌≡◌, Some}
+use Rattle.stack_text.specs.Samples.{chosen_type_of}
+use Rattle.stack_text.specs.Sums.{IsSumOfBatch}
+use Rattle.stack_text.proofs.PutTogether.{only_batch_sums}
+use Rattle.stack_text.proofs.SampleRows.{chosen_within, first_of_standing}
 use Rattle.stack_text.proofs.sample_sums.sum_samples.Goals as goal
 
-pub sum_sample-requires-clause-values : goal.sum_sample-requires-clause-values
-sum_sample-requires-clause-values c =
-    let samples : c.as_slice-sample-items.result.now ≡ c.args.profile.now.samples = c.as_slice-sample-items.ensures ∙ ap (λ (d : Draft). d.samples) c.draft-3.ensures.draft in
-    let item = c.sample-item.is ∙ ap (λ ss. get_or ss c.loop-index.index c.sample-item.result) samples in
-    let within = subst (λ ss. c.loop-index.index < length ss) samples c.loop-index-test.true in
+pub sums_by-requires-clause-typed : goal.sums_by-requires-clause-typed
+sums_by-requires-clause-typed c =
     let chosen : chosen_type_of c.args.profile.now c.args.choice ≡ Some c.in-Some.chosen = search rules in
-    has_chosen c.args.profile.now c.args.choice c.in-Some.chosen c.loop-index.index c.sample-item.result c.draft.ensures.valid chosen within item
-
-pub returns-in_err-sum_sample-clause-read : goal.returns-in_err-sum_sample-clause-read
-returns-in_err-sum_sample-clause-read c =
-    let samples : c.as_slice-sample-items.result.now ≡ c.args.profile.now.samples = c.as_slice-sample-items.ensures ∙ ap (λ (d : Draft). d.samples) c.draft-3.ensures.draft in
-    let item = c.sample-item.is ∙ ap (λ ss. get_or ss c.loop-index.index c.sample-item.result) samples in
-    let within = subst (λ ss. c.loop-index.index < length ss) samples c.loop-index-test.true in
-    let chosen : chosen_type_of c.args.profile.now c.args.choice ≡ Some c.in-Some.chosen = search rules in
-    let p = err_from_is_err_and c.from_residual-in_err-sum_sample.result c.from_residual-in_err-sum_sample.ensures.1 in
-    let (rows, so_far, sums) = c.loop-index.invariant.0 in
-    let own = subst (λ d. IsSampleFault d c.in-Some.chosen (total_of c.loop-index.sums) c.loop-index.index c.sample-item.result c.in_err-sum_sample.field-0.0) c.in_ok-frames.ensures c.in_err-sum_sample.ensures.fault in
-    let there = subst (λ held. IsSampleFault c.args.profile.now c.in-Some.chosen held c.loop-index.index c.sample-item.result c.in_err-sum_sample.field-0.0) sums.total own in
-    rw (p.1, p.2) (AreRowsSoFar-fault c.args.profile.now c.args.choice c.in-Some.chosen c.loop-index.index c.sample-item.result rows c.in_err-sum_sample.field-0.0 chosen within item so_far there)
-
-pub returns-in_err-sum_sample-clause-accepted : goal.returns-in_err-sum_sample-clause-accepted
-returns-in_err-sum_sample-clause-accepted c = only_batch_sums c.args.profile.now c.args.choice _ (returns-in_err-sum_sample-clause-read c)
-
-pub loop-index-preserved : goal.loop-index-preserved
-loop-index-preserved c =
-    let samples : c.as_slice-sample-items.result.now ≡ c.args.profile.now.samples = c.as_slice-sample-items.ensures ∙ ap (λ (d : Draft). d.samples) c.draft-3.ensures.draft in
-    let item = c.sample-item.is ∙ ap (λ ss. get_or ss c.loop-index.index c.sample-item.result) samples in
-    let within = subst (λ ss. c.loop-index.index < length ss) samples c.loop-index-test.true in
-    let (rows, so_far, sums) = c.loop-index.invariant.0 in
-    let (row, this, adds) = c.in_ok-sum_sample.ensures.added in
-    let own = subst (λ d. IsSampleRow d c.in-Some.chosen c.sample-item.result row) c.in_ok-frames.ensures this in
-    let fits = subst (λ held. held + row.weight < 2 ^ 63) sums.total adds.fits in (
-      (
-        rows ++ row ∷ [],
-        AreRowsSoFar-row c.args.profile.now c.in-Some.chosen c.loop-index.index c.sample-item.result rows row (rows ++ row ∷ []) within item so_far own fits refl,
-        AreSumsSoFar-row rows (rows ++ row ∷ []) c.loop-index.sums c.sum_sample.new.sums row sums adds refl,
-      ),
-      subst (λ d. ArePlacedBy (sample_stack_of d) c.sum_sample.new.known c.sum_sample.new.sums) c.in_ok-frames.ensures c.in_ok-sum_sample.ensures.placed,
-    )
+    chosen_within c.args.profile.now c.args.choice c.in-Some.chosen chosen
 
 pub returns-clause-read : goal.returns-clause-read
 returns-clause-read c =
-    let samples : c.as_slice-sample-items.result.now ≡ c.args.profile.now.samples = c.as_slice-sample-items.ensures ∙ ap (λ (d : Draft). d.samples) c.draft-3.ensures.draft in
-    let whole = subst (λ ss. length ss ≤ c.loop-index.index) samples c.loop-index-test.false in
     let chosen : chosen_type_of c.args.profile.now c.args.choice ≡ Some c.in-Some.chosen = search rules in
-    let (rows, so_far, sums) = c.loop-index.invariant.0 in
-    record { rows = rows; sampled = AreRowsSoFar-end c.args.profile.now c.args.choice c.in-Some.chosen c.loop-index.index rows chosen whole so_far; same = AreSumsSoFar-same rows c.loop-index.sums sums }
+    first_of_standing (λ sums. IsSumOfBatch c.args.profile.now c.args.choice sums) c.args.profile.now c.args.choice c.sums_by.result (c.sums_by.ensures c.args.choice chosen)
 
 pub returns-clause-accepted : goal.returns-clause-accepted
-returns-clause-accepted c = only_batch_sums c.args.profile.now c.args.choice (Ok c.loop-index.sums) (returns-clause-read c)
+returns-clause-accepted c = only_batch_sums c.args.profile.now c.args.choice c.sums_by.result (returns-clause-read c)

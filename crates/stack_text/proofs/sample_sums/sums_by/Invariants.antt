@@ -4,7 +4,7 @@ use Rattle.stack_text.specs.Samples.{sample_stack_of}
 use Rattle.stack_text.specs.Sums.{ArePlacedBy}
 use Rattle.stack_text.proofs.PutTogether.{AreSumsSoFar}
 use Rattle.stack_text.proofs.SampleRows.{AreRowsSoFar}
-use Rattle.stack_text.proofs.sample_sums.sum_samples.Given as goal
+use Rattle.stack_text.proofs.sample_sums.sums_by.Given as goal
 
 -- the samples so far give rows that add up to the sums so far
 abbrev pub invariant-loop-index : goal.invariant-loop-index

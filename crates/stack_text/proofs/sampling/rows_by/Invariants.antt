@@ -1,5 +1,5 @@
 use Rattle.stack_text.proofs.SampleRows.{AreRowsSoFar}
-use Rattle.stack_text.proofs.sampling.batch_of.Given as goal
+use Rattle.stack_text.proofs.sampling.rows_by.Given as goal
 
 -- the samples so far give the rows so far
 abbrev pub invariant-loop-index : goal.invariant-loop-index

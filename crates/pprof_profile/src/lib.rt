@@ -19,8 +19,8 @@ mod tables;
 #[cfg(test)]
 mod tests;
 mod validity;
-mod written_samples;
 mod writing;
+mod written_samples;
 
 pub use faults::{ProfileFault, Refused};
 pub use items::{Items, Text};

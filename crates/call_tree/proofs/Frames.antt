@@ -15,10 +15,11 @@ use Rattle.stack_text.proofs.EntryLaws.{weight_where-rows_of}
 use Rattle.stack_text.proofs.SameNames.{same_from_is_same_name, is_same_name-self}
 use borrow.Author.Tests.{lt-ltb}
 use Rattle.call_tree.specs.declared.node.Node.{Node}
-use Rattle.call_tree.specs.declared.tree.FrameTotal.{FrameTotal}
+use Rattle.stack_text.specs.declared.frame_totals.FrameTotal.{FrameTotal}
 use Rattle.call_tree.specs.State.{name_at}
 use Rattle.call_tree.specs.Shape.{node_rows, at, counted_if, IsTree}
-use Rattle.call_tree.specs.Totals.{names_of_weight, shown}
+use Rattle.stack_text.specs.TopList.{shown}
+use Rattle.call_tree.specs.Totals.{names_of_weight}
 
 abbrev mark : List ℕ → NameSums → ℕ
 mark name sums = cond (is_same_name name sums.name) 1 0

@@ -11,5 +11,5 @@ mod tree;
 mod walk;
 
 pub use grower::{Grower, Plan};
-pub use stack_text::NoMemory;
-pub use tree::{CallTree, FrameTotal};
+pub use stack_text::{FrameTotal, NoMemory};
+pub use tree::CallTree;

@@ -8,19 +8,9 @@ ghost use Rattle.call_tree.specs.State.{TreeState, weights_of, total_in, name_at
 
 use crate::node::Node;
 use crate::table::Table;
-use stack_text::{Batch, MAX_DEPTH, Name, NoMemory, Row, Stack};
+use stack_text::{Batch, FrameTotal, MAX_DEPTH, Name, NoMemory, Row, Stack};
 use std::alloc::{AllocError, Global};
 use std::marker::Model;
-
-/// What a name weighs in a tree, as pprof has it.
-#[derive(Drop)]
-pub struct FrameTotal {
-    pub name: Name,
-    /// The weight of the stacks whose leaf has the name.
-    pub flat: u64,
-    /// The weight of the stacks that have the name, each once, however often it recurs.
-    pub cum: u64,
-}
 
 /// The flat and the cumulative weight of a name.
 #[derive(Clone, Copy)]
@@ -48,7 +38,8 @@ impl Model for CallTree {
 }
 
 impl CallTree {
-    ghost use Rattle.call_tree.specs.Totals.{AreSums, name_order, shown};
+    ghost use Rattle.stack_text.specs.TopList.{shown};
+    ghost use Rattle.call_tree.specs.Totals.{AreSums, name_order};
 
     /// The weight of all stacks together. Takes no time per stack.
     pub fn total(&self) -> u64

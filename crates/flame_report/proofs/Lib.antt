@@ -1,7 +1,6 @@
 pub mod Drawn
 pub mod Held
 pub mod InOrder
-pub mod Kept
 pub mod Listed
 pub mod Narrow
 pub mod NewPaths
@@ -12,6 +11,4 @@ pub mod RowSums
 pub mod Same
 pub mod Siblings
 pub mod Spans
-pub mod TallyLaws
 pub mod TokenLaws
-pub mod Weighted

@@ -7,14 +7,14 @@ use Rattle.std.specs.Cmp.{IsTotalOrder}
 use Rattle.std.proofs.lemmas.Cmp.{then_total, on_total, back_total, nat_cmp_total, nat_list_cmp_total}
 use Rattle.std.proofs.lemmas.List.{get_or-map, length-map}
 use Rattle.stack_text.specs.TopList.{NameSums, Ranking, chosen_weight, top_cmp}
-use Rattle.flame_report.specs.declared.tallies.Sums.{Sums}
-use Rattle.flame_report.specs.Tallies.{shown}
+use Rattle.stack_text.specs.declared.frame_totals.FrameTotal.{FrameTotal}
+use Rattle.stack_text.specs.TopList.{shown}
 
 pub top_cmp-total : (ranking : Ranking) → IsTotalOrder (top_cmp ranking)
 top_cmp-total ranking = then_total (on_total (chosen_weight ranking) (back_total nat_cmp_total)) (on_total (λ (sums : NameSums). sums.name) nat_list_cmp_total)
 
 -- a list that is sorted by what it shows shows a sorted list
-pub sorted_shown : (ranking : Ranking) (list : List Sums) → IsSortedBy (λ (a b : Sums). is_lt (top_cmp ranking (shown a) (shown b))) list → IsSorted (top_cmp ranking) (map shown list)
+pub sorted_shown : (ranking : Ranking) (list : List FrameTotal) → IsSortedBy (λ (a b : FrameTotal). is_lt (top_cmp ranking (shown a) (shown b))) list → IsSorted (top_cmp ranking) (map shown list)
 sorted_shown ranking [] sorted k d low lt = absurd (omega arith)
 sorted_shown ranking (first ∷ list) sorted k d low lt =
     let long = length-map (first ∷ list) shown in

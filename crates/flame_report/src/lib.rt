@@ -9,7 +9,6 @@ pub mod laws;
 mod layout;
 mod query;
 mod reports;
-mod tallies;
 #[cfg(test)]
 mod tests;
 mod top;
@@ -20,4 +19,4 @@ pub use json_text::flame_json;
 pub use query::{Columns, Kind, MAX_COLUMNS, Query, Rank};
 pub use reports::{report, report_of};
 pub use stack_text::NoMemory;
-pub use top::top_text;
+pub use top::{top_list, top_text};

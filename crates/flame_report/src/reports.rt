@@ -13,10 +13,10 @@ use crate::answer::{Answer, Flame, Top};
 use crate::items::Items;
 use crate::layout::{Scale, rects_of};
 use crate::query::{Columns, Kind, Query, Rank};
-use crate::top::{kept_total, top_of_rows, top_of_totals};
+use crate::top::{kept_total, top_list, top_of_rows};
 use call_tree::{CallTree, Grower};
 use stack_text::laws::sums_are_those_of_the_aggregate;
-use stack_text::{Batch, MAX_TOTAL, NoMemory, Row, write_folded};
+use stack_text::{Batch, FrameTotals, MAX_TOTAL, NoMemory, Row, write_folded};
 use std::alloc::Global;
 
 /// The rows of a batch that a query keeps.
@@ -75,7 +75,7 @@ fn answer(alloc: Global, rows: Batch, query: &Query) -> Result<Answer, NoMemory>
     match query.kind {
         Kind::Total => Ok(Answer::Total(kept_total(rows.rows(), query))),
         Kind::Top { rank, count } => {
-            let top = top_of_rows(alloc, rows.rows(), query, rank, count)?;
+            let top = top_of_rows(alloc, &rows, query, rank, count)?;
             Ok(Answer::Top(top))
         }
         Kind::Flame { columns } => {
@@ -93,9 +93,9 @@ fn answer(alloc: Global, rows: Batch, query: &Query) -> Result<Answer, NoMemory>
 fn top_of_tree(alloc: Global, tree: &CallTree, rank: Rank, count: u32) -> Result<Top, NoMemory>
     ensures { IfOk result (λ top. top ≡ top_of rank count (rows_of (weights_of tree.now))) }
 {
-    let totals = tree.frame_totals(alloc)?;
-    let top = top_of_totals(alloc, &totals, tree.total(), rank, count)?;
-    Ok(top)
+    let frames = tree.frame_totals(alloc)?;
+    let total = tree.total();
+    top_list(alloc, FrameTotals { total, frames }, rank, count)
 }
 
 /// The answer over the rows of a tree. What asks for all of them needs no rows.
@@ -150,7 +150,7 @@ pub fn report_of(alloc: Global, batch: &Batch, query: &Query) -> Result<Answer, 
     match query.kind {
         Kind::Total => Ok(Answer::Total(kept_total(batch.rows(), query))),
         Kind::Top { rank, count } => {
-            let top = top_of_rows(alloc, batch.rows(), query, rank, count)?;
+            let top = top_of_rows(alloc, batch, query, rank, count)?;
             Ok(Answer::Top(top))
         }
         _ => {

@@ -3,44 +3,40 @@
 ghost use Rattle.std.specs.Prelude.{ℕ, ◌≡◌, ◌^◌, ◌<◌, List, IfOk, OnOk, IsSorted, IsPermutation, map, take, string_bytes, ◌++◌};
 ghost use Rattle.stack_text.specs.declared.batch.Row.{Row};
 ghost use Rattle.stack_text.specs.Rows.{total_of};
-ghost use Rattle.stack_text.specs.TopList.{AreSumsOf, top_cmp, top_line, top_list_of, top_text_of};
+ghost use Rattle.stack_text.specs.TopList.{AreSumsOf, AreTotalsOf, shown, top_cmp, top_line, top_list_of, top_text_of};
 ghost use Rattle.flame_report.specs.Answers.{kept_by, ranking_of, sums_in, top_of, top_row_of};
 ghost use Rattle.flame_report.specs.declared.query.Rank.TheVariants.{Flat, Cum};
-ghost use Rattle.flame_report.specs.Tallies.{shown};
-ghost use Rattle.flame_report.specs.Totals.{totals_shown};
 
 use crate::answer::{Top, TopRow};
 use crate::items::Items;
 use crate::query::{Query, Rank};
-use crate::tallies::{Sums, tallies_of, weighted};
-use call_tree::FrameTotal;
 use stack_text::laws::top_list_is_front_of_sorted;
-use stack_text::{NoMemory, Row};
+use stack_text::{Batch, FrameTotal, FrameTotals, NoMemory, Row, kept_totals};
 use std::alloc::{AllocError, Global};
 use std::cmp::Ordering;
 
 /// By falling flat weight, and names of one weight by their bytes.
-fn compare_flat(left: &Sums, right: &Sums) -> Ordering
+fn compare_flat(left: &FrameTotal, right: &FrameTotal) -> Ordering
     ensures { result ≡ top_cmp (ranking_of Flat) (shown left.now) (shown right.now) }
 {
     right
         .flat
         .cmp(&left.flat)
-        .then_with(|| left.name.cmp(right.name))
+        .then_with(|| left.name.cmp(&right.name))
 }
 
 /// By falling cumulative weight, and names of one weight by their bytes.
-fn compare_cumulative(left: &Sums, right: &Sums) -> Ordering
+fn compare_cumulative(left: &FrameTotal, right: &FrameTotal) -> Ordering
     ensures { result ≡ top_cmp (ranking_of Cum) (shown left.now) (shown right.now) }
 {
     right
-        .cumulative
-        .cmp(&left.cumulative)
-        .then_with(|| left.name.cmp(right.name))
+        .cum
+        .cmp(&left.cum)
+        .then_with(|| left.name.cmp(&right.name))
 }
 
 /// Sorts names by their flat weight.
-fn sort_by_flat(list: &mut Vec<Sums>) -> Result<(), AllocError>
+fn sort_by_flat(list: &mut Vec<FrameTotal>) -> Result<(), AllocError>
     ensures permutation { IsPermutation list.old.items list.new.items }
     ensures sorted { OnOk result (IsSorted (top_cmp (ranking_of Flat)) (map shown list.new.items)) }
 {
@@ -49,7 +45,7 @@ fn sort_by_flat(list: &mut Vec<Sums>) -> Result<(), AllocError>
 }
 
 /// Sorts names by their cumulative weight.
-fn sort_by_cumulative(list: &mut Vec<Sums>) -> Result<(), AllocError>
+fn sort_by_cumulative(list: &mut Vec<FrameTotal>) -> Result<(), AllocError>
     ensures permutation { IsPermutation list.old.items list.new.items }
     ensures sorted { OnOk result (IsSorted (top_cmp (ranking_of Cum)) (map shown list.new.items)) }
 {
@@ -58,7 +54,7 @@ fn sort_by_cumulative(list: &mut Vec<Sums>) -> Result<(), AllocError>
 }
 
 /// Sorts names by the weight that `rank` chooses.
-fn sort_names(list: &mut Vec<Sums>, rank: Rank) -> Result<(), AllocError>
+fn sort_names(list: &mut Vec<FrameTotal>, rank: Rank) -> Result<(), AllocError>
     ensures permutation { IsPermutation list.old.items list.new.items }
     ensures sorted { OnOk result (IsSorted (top_cmp (ranking_of rank)) (map shown list.new.items)) }
 {
@@ -69,7 +65,7 @@ fn sort_names(list: &mut Vec<Sums>, rank: Rank) -> Result<(), AllocError>
 }
 
 /// Keeps the first `count` names by the weight that `rank` chooses.
-fn rank_names(list: &mut Vec<Sums>, rank: Rank, count: u32) -> Result<(), AllocError>
+fn rank_names(list: &mut Vec<FrameTotal>, rank: Rank, count: u32) -> Result<(), AllocError>
     ensures { (rows : List Row) → AreSumsOf rows (map shown list.old.items)
         → OnOk result (map shown list.new.items ≡ top_list_of (ranking_of rank) count rows) }
 {
@@ -80,16 +76,16 @@ fn rank_names(list: &mut Vec<Sums>, rank: Rank, count: u32) -> Result<(), AllocE
 }
 
 /// The names of a top list with second owners of their texts.
-fn rows_of(alloc: Global, list: &[Sums]) -> Result<Vec<TopRow>, AllocError>
+fn rows_of(alloc: Global, list: &[FrameTotal]) -> Result<Vec<TopRow>, AllocError>
     ensures { IfOk result (λ rows. rows.items ≡ map top_row_of (map shown list.now)) }
 {
     let mut rows = Vec::with_capacity(alloc, list.len())?;
-    for sums in list {
-        let name = sums.name.share()?;
+    for total in list {
+        let name = total.name.share()?;
         rows.push(TopRow {
             name,
-            flat: sums.flat,
-            cum: sums.cumulative,
+            flat: total.flat,
+            cum: total.cum,
         })?;
     }
     Ok(rows)
@@ -109,35 +105,22 @@ pub(crate) fn kept_total(rows: &[Row], query: &Query) -> u64
     total
 }
 
-/// The names of a tree as names with their weights.
-fn sums_of<'a>(alloc: Global, totals: &'a [FrameTotal]) -> Result<Vec<Sums<'a>>, AllocError>
-    ensures { IfOk result (λ list. map shown list.items ≡ map totals_shown totals.now) }
-{
-    let mut list = Vec::with_capacity(alloc, totals.len())?;
-    for total in totals {
-        list.push(Sums {
-            name: &total.name,
-            flat: total.flat,
-            cumulative: total.cum,
-        })?;
-    }
-    Ok(list)
-}
-
-/// The top list of rows of this total, from the weights of their names.
-pub(crate) fn top_of_totals(
+/// The top list of rows, from what their names weigh: the first `count` names by the weight that `rank` chooses.
+///
+/// # Errors
+///
+/// `NoMemory`.
+pub fn top_list(
     alloc: Global,
-    totals: &[FrameTotal],
-    total: u64,
+    totals: FrameTotals,
     rank: Rank,
     count: u32,
-) -> Result<Top, AllocError>
-    ensures { (rows : List Row) → AreSumsOf rows (map totals_shown totals.now) → total ≡ total_of rows
-        → IfOk result (λ top. top ≡ top_of rank count rows) }
+) -> Result<Top, NoMemory>
+    ensures { (rows : List Row) → AreTotalsOf rows totals → IfOk result (λ top. top ≡ top_of rank count rows) }
 {
-    let mut list = sums_of(alloc, totals)?;
-    rank_names(&mut list, rank, count)?;
-    let rows = rows_of(alloc, &list)?;
+    let FrameTotals { total, mut frames } = totals;
+    rank_names(&mut frames, rank, count)?;
+    let rows = rows_of(alloc, frames.as_slice())?;
     Ok(Top {
         total,
         rows: Items::new(rows),
@@ -147,22 +130,15 @@ pub(crate) fn top_of_totals(
 /// The top list of the rows that a query keeps.
 pub(crate) fn top_of_rows(
     alloc: Global,
-    rows: &[Row],
+    batch: &Batch,
     query: &Query,
     rank: Rank,
     count: u32,
-) -> Result<Top, AllocError>
-    requires { total_of rows.now < 2 ^ 63 }
-    ensures { IfOk result (λ top. top ≡ top_of rank count (kept_by query.now rows.now)) }
+) -> Result<Top, NoMemory>
+    ensures { IfOk result (λ top. top ≡ top_of rank count (kept_by query.now batch.now)) }
 {
-    let tallies = tallies_of(alloc, rows, query)?;
-    let mut list = weighted(alloc, &tallies)?;
-    rank_names(&mut list, rank, count)?;
-    let rows_listed = rows_of(alloc, &list)?;
-    Ok(Top {
-        total: kept_total(rows, query),
-        rows: Items::new(rows_listed),
-    })
+    let totals = kept_totals(alloc, batch, query.focus.as_ref(), query.ignore.as_ref())?;
+    top_list(alloc, totals, rank, count)
 }
 
 /// Adds the line of a name.

@@ -1,7 +1,9 @@
 //! What an input answers to a request.
 ghost use Rattle.std.specs.Prelude.{ℕ, ◌≡◌, ◌∷◌, ◌++◌, [], List, MatchResult, IfOk, Option};
 ghost use Rattle.stack_text.specs.declared.batch.Row.{Row};
-ghost use Rattle.flame_report.specs.Answers.{answer_of};
+ghost use Rattle.stack_text.specs.FoldedText.{IsFoldedText};
+ghost use Rattle.flame_report.specs.Answers.{answer_by, answer_of};
+ghost use Rattle.flame_report.specs.declared.query.Kind.TheVariants.{Top};
 ghost use Rattle.flame_tool.specs.Answers.{AreSumsIn, IsAnswer, IsChoice, IsInputFault, IsRefusedIn, answer_text, batch_fault_of, folded_fault_of, profile_fault_of};
 ghost use Rattle.flame_tool.specs.declared.request.Format.TheVariants.{Folded, Pprof};
 ghost use Rattle.flame_tool.specs.declared.request.Request.TheVariants.{Report, Export};
@@ -9,10 +11,11 @@ ghost use Rattle.flame_tool.specs.declared.request.Request.TheVariants.{Report, 
 use crate::outcomes::ToolFault;
 use crate::request::{Format, Request, Source};
 use flame_report::laws::answers_are_by_the_aggregate;
-use flame_report::{Answer, Query, flame_json, report_of, top_text};
+use flame_report::{Answer, Kind, Query, Rank, flame_json, report_of, top_list, top_text};
 use pprof_profile::{ProfileFault, Text, decode};
 use stack_text::{
-    Batch, BatchFault, FoldedFault, NoMemory, ValueChoice, export_folded, sum_folded, sum_samples,
+    Batch, BatchFault, FoldedFault, NoMemory, ValueChoice, export_folded, folded_totals,
+    sum_folded, sum_samples,
 };
 use std::alloc::Global;
 
@@ -43,9 +46,30 @@ fn report_on(
         (λ text. IsAnswer (Report source.now query.now) input.now text.items)
         (λ fault. IsInputFault (Report source.now query.now) input.now fault) }
 {
-    let sums = sums_in(alloc, source, input)?;
-    answers_are_by_the_aggregate();
-    Ok(report_text(alloc, &sums, query)?)
+    match (source.format, query.kind) {
+        (Format::Folded, Kind::Top { rank, count }) if query.keeps_all() => {
+            folded_top(alloc, rank, count, input)
+        }
+        _ => {
+            let sums = sums_in(alloc, source, input)?;
+            answers_are_by_the_aggregate();
+            Ok(report_text(alloc, &sums, query)?)
+        }
+    }
+}
+
+/// The text of the top list of folded text's rows, which aren't kept for it.
+fn folded_top(alloc: Global, rank: Rank, count: u32, input: &[u8]) -> Result<Vec<u8>, ToolFault>
+    ensures { (value : Option (List ℕ)) → MatchResult result
+        (λ text. (rows : List Row) × IsFoldedText input.now rows × (text.items ≡ answer_text (answer_by (Top rank count) rows)))
+        (λ fault. IsRefusedIn Folded value input.now fault) }
+{
+    let totals = match folded_totals(alloc, input) {
+        Ok(totals) => totals,
+        Err(fault) => return Err(folded_fault(fault)),
+    };
+    let top = top_list(alloc, totals, rank, count)?;
+    Ok(top_text(alloc, &top)?)
 }
 
 /// The bytes of the profile that folded text is exported as.

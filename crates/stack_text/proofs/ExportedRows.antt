@@ -15,7 +15,7 @@ use Rattle.stack_text.specs.declared.folded.FoldedFault.TheVariants.{NoMemory}
 use Rattle.stack_text.specs.FoldedText.{IsFoldedText}
 use Rattle.stack_text.specs.Rows.{total_of}
 use Rattle.stack_text.specs.TextTables.{place_in, with_text, with_texts}
-use Rattle.stack_text.specs.Export.{AreSamplesOf, IsExportFault, IsExportOfText, exported_profile_of, exported_sample, id_in, names_of}
+use Rattle.stack_text.specs.Export.{AreSamplesOf, IsExportOfText, exported_profile_of, exported_sample, id_in, names_of}
 use Rattle.stack_text.proofs.ExportLaws.{AllStand, RowsStand, rows_stand, stand_where, stands_in, with_text-stands, with_texts-own}
 use Rattle.stack_text.proofs.Reading.{IsFirstFault-folded, IsFoldedText-same}
 use Rattle.stack_text.proofs.TextPlaces.{next_mapped, place_in-more, with_texts-append}
@@ -94,7 +94,7 @@ AreSamplesOf-push rows row names next samples after ids total sum so_far added n
 -- ---- what the export answers
 
 -- folded text has one export
-pub only_export : {T : Type 0} (items : T → List ℕ) (text kind unit : List ℕ) (outcome : Result T FoldedFault) → MatchResult outcome (λ bytes. IsExportOfText text kind unit (items bytes)) (λ fault. IsExportFault text fault)
+pub only_export : {T : Type 0} (items : T → List ℕ) (text kind unit : List ℕ) (outcome : Result T FoldedFault) → MatchResult outcome (λ bytes. IsExportOfText text kind unit (items bytes)) (λ fault. IsWorkFault text fault)
     → (rows : List Row) → IsFoldedText text rows → MatchResult outcome (λ bytes. items bytes ≡ canonical_bytes_of (exported_profile_of rows kind unit)) (λ fault. fault ≡ NoMemory)
 only_export items text kind unit (Ok bytes) exported rows folded = exported.profile ∙ ap (λ some. canonical_bytes_of (exported_profile_of some kind unit)) (IsFoldedText-same text exported.rows rows exported.folded folded)
 only_export items text kind unit (Err fault) exported rows folded = elim exported [

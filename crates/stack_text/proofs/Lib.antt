@@ -1,5 +1,6 @@
 pub mod AnswerLaws
 pub mod Cleaning
+pub mod Counting
 pub mod Counts
 pub mod EntryLaws
 pub mod ExportLaws
@@ -7,6 +8,7 @@ pub mod ExportedRows
 pub mod FirstFault
 pub mod Frames
 pub mod ItemsById
+pub mod Kept
 pub mod LentStacks
 pub mod Lines
 pub mod Members
@@ -18,6 +20,8 @@ pub mod Reading
 pub mod RowLaws
 pub mod SameNames
 pub mod SampleRows
+pub mod TallyLaws
 pub mod TextPlaces
+pub mod Weighted
 pub mod WorkedRows
 pub mod Writing

@@ -1,5 +1,6 @@
 -- What a text is folded text of.
 use Rattle.std.proofs.Common.{◌≡◌, ◌≢◌, ℕ, ◌+◌, ◌^◌, ◌<◌, ◌≤◌, List, [], ◌∷◌, ◌++◌, length, refl, sym, ap, ◌∙◌, arith, subst, append_assoc, length-append}
+use Rattle.std.proofs.Math.ListN.{get_or-append}
 use Rattle.std.proofs.lemmas.List.{get_or_at, append-nil, nil_from_length}
 use Rattle.std.proofs.lemmas.List.Sums.{sum_by-cons, sum_by-append, sum_by_push}
 use Rattle.std.specs.Str.{IsUtf8}
@@ -129,6 +130,12 @@ IsRowLine-read line stack digits weight utf8 count value depth fits = record {
   depth = depth;
   fits = fits;
 }
+
+-- the stack text of a line holds no line feed either
+pub text_one_line : (line text digits : List ℕ) → HasCount line text digits → All (λ byte. byte ≢ 10) line → All (λ byte. byte ≢ 10) text
+text_one_line line text digits count all = λ k d below.
+    let long = length-append text (32 ∷ digits) in
+    subst (λ byte. byte ≢ 10) (get_or-append text (32 ∷ digits) d k below) (subst (All (λ byte. byte ≢ 10)) count.parts all k d (omega (arith, long, below)))
 
 -- ---- the loop over the lines
 

@@ -1,5 +1,5 @@
 -- The profile that a batch is exported as: one sample type, a sample for each row, and a function and a location for each name.
-use Rattle.std.specs.Prelude.{ℕ, ◌≡◌, ◌⊎◌, pos, List, [], ◌∷◌, ◌+◌, map, reverse}
+use Rattle.std.specs.Prelude.{ℕ, ◌≡◌, pos, List, [], ◌∷◌, ◌+◌, map, reverse}
 use Rattle.std.specs.List.{flat_map}
 use Rattle.pprof_profile.specs.declared.messages.Draft.{Draft}
 use Rattle.pprof_profile.specs.declared.messages.Sample.{Sample}
@@ -8,10 +8,8 @@ use Rattle.pprof_profile.specs.declared.messages.Function.{Function}
 use Rattle.pprof_profile.specs.declared.messages.ValueType.{ValueType}
 use Rattle.pprof_profile.specs.Messages.{no_draft, no_function, no_line, no_location}
 use Rattle.stack_text.specs.declared.batch.Row.{Row}
-use Rattle.stack_text.specs.declared.folded.FoldedFault.{FoldedFault}
-use Rattle.stack_text.specs.declared.folded.FoldedFault.TheVariants.{NoMemory}
 use Rattle.pprof_profile.specs.Canonical.{canonical_bytes_of, samples_bytes}
-use Rattle.stack_text.specs.FoldedText.{IsFirstFault, IsFoldedText}
+use Rattle.stack_text.specs.FoldedText.{IsFoldedText}
 use Rattle.stack_text.specs.Rows.{total_of}
 use Rattle.stack_text.specs.TextTables.{place_in, with_texts}
 
@@ -75,7 +73,3 @@ pub record IsExportOfText (text kind unit bytes : List ℕ) : Type 0 where
   pub rows : List Row
   pub folded : IsFoldedText text rows
   pub profile : bytes ≡ canonical_bytes_of (exported_profile_of rows kind unit)
-
--- why there is no such profile: the text's first fault, or memory runs out after its last line
-abbrev pub IsExportFault : List ℕ → FoldedFault → Type 0
-IsExportFault text fault = IsFirstFault text fault ⊎ ((fault ≡ NoMemory) × (rows : List Row) × IsFoldedText text rows)

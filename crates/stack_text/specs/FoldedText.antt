@@ -1,6 +1,6 @@
 -- Folded stacks as text, read and written (FlameGraph, the header comment of flamegraph.pl: one line for each stack, its frames
 -- from root to leaf separated by semicolons, then a space and a count). What reads it strictly is this project's choice.
-use Rattle.std.specs.Prelude.{ℕ, ◌≡◌, ◌+◌, ◌^◌, ◌<◌, ◌≤◌, ◌==◌, All, List, [], ◌∷◌, ◌++◌, filter, length, not}
+use Rattle.std.specs.Prelude.{ℕ, ◌≡◌, ◌⊎◌, ◌+◌, ◌^◌, ◌<◌, ◌≤◌, ◌==◌, All, List, [], ◌∷◌, ◌++◌, filter, length, not}
 use Rattle.std.specs.List.{slice_split, flat_map, join_with_byte}
 use Rattle.std.specs.Fmt.{decimal}
 use Rattle.std.specs.Str.{IsUtf8}
@@ -85,6 +85,10 @@ abbrev pub IsFirstFault : List ℕ → FoldedFault → Type 0
 IsFirstFault text fault = (before : List (List ℕ)) × (line : List ℕ) × (after : List (List ℕ)) × (rows : List Row)
     × (lines text ≡ before ++ line ∷ after) × AreRowLines before rows × (total_of rows < 2 ^ 63)
     × (0 < length line) × IsLineFault (total_of rows) (length before + 1) line fault
+
+-- why work on the rows of a text has no result: the text's first fault, or memory runs out after its last line
+abbrev pub IsWorkFault : List ℕ → FoldedFault → Type 0
+IsWorkFault text fault = IsFirstFault text fault ⊎ ((fault ≡ NoMemory) × (rows : List Row) × IsFoldedText text rows)
 
 -- what every row of a batch is: its names are names, within the limits
 pub record IsBatchRow (row : Row) : Type 0 where

@@ -13,6 +13,7 @@ pub mod Pushing
 pub mod Rows
 pub mod Samples
 pub mod Sums
+pub mod Tallies
 pub mod TextTables
 pub mod TopList
 pub mod Unfolding

@@ -5,6 +5,9 @@ use Rattle.std.specs.Fmt.{decimal}
 use Rattle.std.specs.declared.cmp.Ordering.{Ordering}
 use Rattle.std.specs.Ordering.{nat_cmp, ordering_then}
 use Rattle.stack_text.specs.declared.batch.Row.{Row}
+use Rattle.stack_text.specs.declared.frame_totals.FrameTotal.{FrameTotal}
+use Rattle.stack_text.specs.declared.frame_totals.FrameTotals.{FrameTotals}
+use Rattle.stack_text.specs.FoldedText.{IsFoldedText}
 use Rattle.stack_text.specs.Names.{name_cmp, is_same_name}
 use Rattle.stack_text.specs.Order.{in_order}
 use Rattle.stack_text.specs.Rows.{total_of, flat_weight_of, cumulative_weight_of}
@@ -48,6 +51,21 @@ occurrences name list = sum_by (λ (sums : NameSums). if is_same_name name sums.
 pub record AreSumsOf (rows : List Row) (list : List NameSums) : Type 0 where
   pub weights : All (λ sums. sums ≡ sums_at rows sums.name) list
   pub once : (name : List ℕ) → occurrences name list ≡ (if nat_lt 0 (cumulative_weight_of rows name) then 1 else 0)
+
+-- a frame total as a name with its weights
+abbrev pub shown : FrameTotal → NameSums
+shown total = record { name = total.name; flat = total.flat; cumulative = total.cum }
+
+-- what the names of rows weigh, and what the rows weigh together
+pub record AreTotalsOf (rows : List Row) (totals : FrameTotals) : Type 0 where
+  pub sums : AreSumsOf rows (map shown totals.frames.items)
+  pub total : totals.total ≡ total_of rows
+
+-- what the names weigh in the rows that the text is folded text of
+pub record AreTotalsOfText (text : List ℕ) (totals : FrameTotals) : Type 0 where
+  pub rows : List Row
+  pub folded : IsFoldedText text rows
+  pub totals_rows : AreTotalsOf rows totals
 
 -- one line: the flat weight, the cumulative weight and the name
 abbrev pub top_line : NameSums → List ℕ

@@ -1,7 +1,7 @@
 ghost use Rattle.std.specs.Prelude.{◌≡◌, ◌≢◌, ◌+◌, ◌^◌, ◌<◌, ◌≤◌, ◌∷◌, ◌++◌, [], All, IfErr, IfOk, List, MatchResult, OnOk, length, map, reverse};
 ghost use Rattle.pprof_profile.specs.Canonical.{canonical_bytes_of};
 ghost use Rattle.stack_text.specs.declared.batch.Row.{Row};
-ghost use Rattle.stack_text.specs.Export.{AreSamplesOf, IsExportFault, IsExportOfText, exported_profile_of, id_in};
+ghost use Rattle.stack_text.specs.Export.{AreSamplesOf, IsExportOfText, exported_profile_of, id_in};
 ghost use Rattle.stack_text.specs.FoldedText.{IsFoldedText, IsLineFault, IsRowLine, frames_of};
 ghost use Rattle.stack_text.specs.Rows.{total_of};
 ghost use Rattle.stack_text.specs.TextTables.{with_texts};
@@ -91,7 +91,7 @@ pub fn export_folded(
     kind: &str,
     unit: &str,
 ) -> Result<Vec<u8>, FoldedFault>
-    ensures exported { MatchResult result (λ bytes. IsExportOfText text.now kind.now unit.now bytes.items) (λ fault. IsExportFault text.now fault) }
+    ensures exported { MatchResult result (λ bytes. IsExportOfText text.now kind.now unit.now bytes.items) (λ fault. IsWorkFault text.now fault) }
     ensures accepted { (rows : List Row) → IsFoldedText text.now rows
         → MatchResult result (λ bytes. bytes.items ≡ canonical_bytes_of (exported_profile_of rows kind.now unit.now)) (λ fault. fault ≡ FoldedFault.NoMemory) }
 {

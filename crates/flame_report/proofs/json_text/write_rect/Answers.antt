@@ -2,7 +2,7 @@
 use Rattle.std.proofs.Common.{◌++◌, ◌∷◌, [], codes, ap, ◌∙◌}
 use Rattle.json.specs.Token.{begin_object, end_object, key, string}
 use Rattle.flame_report.specs.Tokens.{member_token}
-use Rattle.flame_report.proofs.TallyLaws.{on_ok_more}
+use Rattle.stack_text.proofs.TallyLaws.{on_ok_more}
 use Rattle.flame_report.proofs.TokenLaws.{one_list}
 use Rattle.flame_report.proofs.json_text.write_rect.Goals as goal
 

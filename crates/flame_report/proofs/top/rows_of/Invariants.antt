@@ -1,8 +1,8 @@
 use Rattle.std.proofs.Common.{◌≡◌, map, take}
 use Rattle.flame_report.specs.Answers.{top_row_of}
-use Rattle.flame_report.specs.Tallies.{shown}
+use Rattle.stack_text.specs.TopList.{shown}
 use Rattle.flame_report.proofs.top.rows_of.Given as goal
 
 -- the names so far
-abbrev pub invariant-loop-sums : goal.invariant-loop-sums
-invariant-loop-sums l = l.rows.items ≡ map top_row_of (map shown (take l.sums-index l.list))
+abbrev pub invariant-loop-total : goal.invariant-loop-sums
+invariant-loop-total l = l.rows.items ≡ map top_row_of (map shown (take l.total-index l.list))

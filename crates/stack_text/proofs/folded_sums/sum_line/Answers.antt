@@ -12,7 +12,7 @@ use Rattle.stack_text.specs.Rows.{total_of}
 use Rattle.stack_text.specs.FoldedText.{HasCount, IsFittingFault, IsLineFault, IsRowLine, frames_of}
 use Rattle.stack_text.specs.Sums.{AddsRow, row_at, row_spelled, with_added_at}
 use Rattle.stack_text.proofs.PutTogether.{AddsRow-added, IsPlacedAt, placed_at}
-use Rattle.stack_text.proofs.Reading.{IsLineFault-fitting, IsLineFault-memory, IsRowLine-read}
+use Rattle.stack_text.proofs.Reading.{IsLineFault-fitting, IsLineFault-memory, IsRowLine-read, text_one_line}
 use Rattle.stack_text.proofs.folded_sums.sum_line.Goals as goal
 
 -- a row of the line's stack, which weighs more now
@@ -33,12 +33,6 @@ refused_at at weight number line text digits sums (Ok done) utf8 count value sma
 refused_at at weight number line text digits sums (Err found) utf8 count value small there fault =
     subst (IsLineFault (total_of sums) number line) (sym fault.0)
     (refl, record { stack = frames_of text; weight = weight }, IsRowLine-read line text digits weight utf8 count value there.2 small, fault.1)
-
--- the stack text of a line holds no line feed either
-text_one_line : (line text digits : List ℕ) → HasCount line text digits → All (λ byte. byte ≢ 10) line → All (λ byte. byte ≢ 10) text
-text_one_line line text digits count all = λ k d below.
-    let long = length-append text (32 ∷ digits) in
-    subst (λ byte. byte ≢ 10) (get_or-append text (32 ∷ digits) d k below) (subst (All (λ byte. byte ≢ 10)) count.parts all k d (omega (arith, long, below)))
 
 pub add_to_row-requires : goal.add_to_row-requires
 add_to_row-requires c =

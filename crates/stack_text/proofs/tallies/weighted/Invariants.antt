@@ -1,0 +1,13 @@
+use Rattle.std.proofs.Common.{◌≡◌, ◌++◌, map}
+use Rattle.std.specs.List.{AllByRecursion}
+use Rattle.stack_text.specs.Tallies.{weighted_in}
+use Rattle.stack_text.specs.TopList.{shown}
+use Rattle.stack_text.proofs.Weighted.{IsNamed}
+use Rattle.stack_text.proofs.tallies.weighted.Given as goal
+
+-- the names so far, and those of the entries that are left, which have names for keys
+abbrev pub invariant-loop-name : goal.invariant-loop-name
+invariant-loop-name l = record {
+  whole : map shown l.list.items ++ weighted_in l.name-iterator ≡ weighted_in l.tallies.entries;
+  names : AllByRecursion IsNamed l.name-iterator;
+}

@@ -12,7 +12,7 @@ use Rattle.pprof_profile.specs.Canonical.{canonical_bytes_of, samples_bytes}
 use Rattle.stack_text.specs.declared.batch.Row.{Row}
 use Rattle.stack_text.specs.declared.folded.FoldedFault.{FoldedFault}
 use Rattle.stack_text.specs.declared.folded.FoldedFault.TheVariants.{NoMemory}
-use Rattle.stack_text.specs.FoldedText.{IsFoldedText}
+use Rattle.stack_text.specs.FoldedText.{IsFoldedText, IsWorkFault}
 use Rattle.stack_text.specs.Rows.{total_of}
 use Rattle.stack_text.specs.TextTables.{place_in, with_text, with_texts}
 use Rattle.stack_text.specs.Export.{AreSamplesOf, IsExportOfText, exported_profile_of, exported_sample, id_in, names_of}

@@ -2,7 +2,7 @@ ghost use Rattle.std.specs.Prelude.{◌≡◌, ◌≢◌, ◌+◌, ◌^◌, ◌<
 ghost use Rattle.pprof_profile.specs.Canonical.{canonical_bytes_of};
 ghost use Rattle.stack_text.specs.declared.batch.Row.{Row};
 ghost use Rattle.stack_text.specs.Export.{AreSamplesOf, IsExportOfText, exported_profile_of, id_in};
-ghost use Rattle.stack_text.specs.FoldedText.{IsFoldedText, IsLineFault, IsRowLine, frames_of};
+ghost use Rattle.stack_text.specs.FoldedText.{IsFoldedText, IsLineFault, IsRowLine, IsWorkFault, frames_of};
 ghost use Rattle.stack_text.specs.Rows.{total_of};
 ghost use Rattle.stack_text.specs.TextTables.{with_texts};
 

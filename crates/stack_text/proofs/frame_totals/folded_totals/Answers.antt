@@ -1,5 +1,5 @@
 -- The lines are read in order: each is a row counted, or empty, or has the first fault.
-use Rattle.std.proofs.Common.{ℕ, List, ◌+◌, ◌^◌, ◌++◌, ◌∷◌, subst, lit<, ◌≡◌, ◌<◌, length, [], inl, inr, sym, ap, ◌∙◌, refl, arith}
+use Rattle.std.proofs.Common.{ℕ, List, ◌+◌, ◌++◌, ◌∷◌, subst, lit<, ◌≡◌, ◌<◌, length, [], inl, sym, ap, ◌∙◌, refl, arith}
 use Rattle.std.proofs.lemmas.Bool.{eqb-true, eqb-false}
 use Rattle.std.proofs.lemmas.Result.{err_from_is_err_and}
 use Rattle.std.specs.Prelude.{◌==◌, false}

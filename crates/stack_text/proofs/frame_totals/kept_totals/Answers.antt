@@ -1,9 +1,8 @@
 -- A kept row is counted, and another leaves what is counted.
-use Rattle.std.proofs.Common.{◌≡◌, ◌+◌, ◌<◌, ◌^◌, ℕ, List, take, get_or, true, ap, sym, ◌∙◌, subst, arith}
+use Rattle.std.proofs.Common.{◌≡◌, take, get_or, true, ap, sym, ◌∙◌, arith}
 use Rattle.std.specs.Option.{option_copied}
 use Rattle.stack_text.specs.declared.batch.Row.{Row}
 use Rattle.stack_text.specs.Rows.{total_of}
-use Rattle.stack_text.specs.Tallies.{AreTalliesOf}
 use Rattle.stack_text.proofs.Kept.{kept_rows-left, kept_rows-more, weight_where-kept-le}
 use Rattle.stack_text.proofs.TallyLaws.{total_of-take}
 use Rattle.stack_text.proofs.frame_totals.kept_totals.Goals as goal

@@ -1,6 +1,7 @@
 -- What a text is folded text of.
-use Rattle.std.proofs.Common.{◌≡◌, ◌≢◌, ℕ, ◌+◌, ◌^◌, ◌<◌, ◌≤◌, List, [], ◌∷◌, ◌++◌, length, refl, sym, ap, ◌∙◌, arith, subst, append_assoc, length-append}
+use Rattle.std.proofs.Common.{◌≡◌, ◌≢◌, ℕ, ◌+◌, ◌^◌, ◌<◌, ◌≤◌, List, [], ◌∷◌, ◌++◌, length, map, refl, sym, ap, ◌∙◌, arith, lit<, subst, append_assoc, length-append}
 use Rattle.std.proofs.Math.ListN.{get_or-append}
+use Rattle.std.proofs.lemmas.Bool.{eqb-false}
 use Rattle.std.proofs.lemmas.List.{get_or_at, append-nil, nil_from_length}
 use Rattle.std.proofs.lemmas.List.Sums.{sum_by-cons, sum_by-append, sum_by_push}
 use Rattle.std.specs.Str.{IsUtf8}
@@ -11,9 +12,11 @@ use Rattle.stack_text.specs.declared.folded.FoldedFault.{FoldedFault}
 use Rattle.stack_text.specs.declared.folded.FoldedFault.TheVariants.{NotUtf8, NoCount, Count, Depth, Heavy, NoMemory}
 use Rattle.stack_text.specs.Rows.{total_of}
 use Rattle.stack_text.specs.FoldedText.{HasCount, IsRowLine, AreRowLines, IsFoldedText, IsLineFault, IsFirstFault, IsFittingFault, frames_of}
-use Rattle.std.specs.Prelude.{Result, Ok, Err, MatchResult, All}
+use Rattle.std.specs.Prelude.{◌==◌, false, Result, Ok, Err, MatchResult, All}
+use Rattle.std.specs.declared.iter.Enumerate.{Enumerate}
+use Rattle.bstr.specs.Text.{lines_of, without_terminator}
 use Rattle.stack_text.proofs.Counts.{HasCount-same}
-use Rattle.stack_text.proofs.Lines.{lines-one_line}
+use Rattle.stack_text.proofs.Lines.{lines-one_line, lines_of-lines}
 
 same_row : (a b : Row) → a.stack ≡ b.stack → a.weight ≡ b.weight → a ≡ b
 same_row a b stack weight =
@@ -146,6 +149,21 @@ pub record IsReadTo (text : List ℕ) (rest : List (List ℕ)) (count : ℕ) (ro
   pub counted : count ≡ length before
   pub known : AreRowLines before rows
   pub fits : total_of rows < 2 ^ 63
+
+-- a line that isn't empty has a byte
+pub filled : (line : List ℕ) → (length line == 0) ≡ false → 0 < length line
+filled line e = let some = eqb-false (length line) 0 e in omega arith
+
+-- before the first of the numbered lines no row is read
+pub IsReadTo-begin : (text : List ℕ) (iterator numbered : Enumerate (List (List ℕ))) (rows : List Row)
+    → iterator ≡ numbered → numbered.iter ≡ map without_terminator (lines_of text) → numbered.count ≡ 0 → rows ≡ [] → IsReadTo text iterator.iter iterator.count rows
+IsReadTo-begin text iterator numbered rows same source first none = record {
+  before = [];
+  cut = sym (ap (λ (s : Enumerate (List (List ℕ))). s.iter) same ∙ source ∙ lines_of-lines text);
+  counted = ap (λ (s : Enumerate (List (List ℕ))). s.count) same ∙ first;
+  known = none;
+  fits = subst (λ some. total_of some < 2 ^ 63) (sym none) (lit< tt);
+}
 
 regroup : (text : List ℕ) (before rest : List (List ℕ)) (line : List ℕ) (next : List (List ℕ)) → lines text ≡ before ++ rest → rest ≡ line ∷ next → lines text ≡ (before ++ line ∷ []) ++ next
 regroup text before rest line next cut e = cut ∙ ap (λ ls. before ++ ls) e ∙ sym (append_assoc before (line ∷ []) next)

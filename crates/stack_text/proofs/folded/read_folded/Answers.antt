@@ -1,32 +1,14 @@
 -- The lines are read in order: each is a row more, or empty, or has the first fault.
-use Rattle.std.proofs.Common.{Ok, ℕ, List, ◌+◌, subst, lit<, eqb-true, false, ◌≡◌, ◌<◌, length, [], sym, ap, ◌∙◌, arith}
+use Rattle.std.proofs.Common.{Ok, ◌+◌, subst, eqb-true, length, sym, ◌∙◌}
 use Rattle.std.proofs.lemmas.Result.{err_from_is_err_and}
-use Rattle.std.specs.Prelude.{◌==◌}
-use Rattle.std.specs.Str.Lines.{lines}
-use Rattle.std.specs.declared.iter.Enumerate.{Enumerate}
-use borrow.Author.Tests.{eqb-false}
 use Rattle.stack_text.specs.Rows.{total_of}
 use Rattle.stack_text.specs.FoldedText.{IsLineFault}
-use Rattle.stack_text.proofs.Lines.{lines_of-lines}
-use Rattle.stack_text.proofs.Reading.{only_answer, IsReadTo-row, IsReadTo-skip, IsReadTo-one_line, IsReadTo-fault, IsReadTo-end}
+use Rattle.stack_text.proofs.Reading.{only_answer, filled, IsReadTo-begin, IsReadTo-row, IsReadTo-skip, IsReadTo-one_line, IsReadTo-fault, IsReadTo-end}
 use Rattle.stack_text.proofs.FirstFault.{only_fault}
 use Rattle.stack_text.proofs.folded.read_folded.Goals as goal
 
-filled : (line : List ℕ) → (length line == 0) ≡ false → 0 < length line
-filled line e = let some = eqb-false (length line) 0 e in omega arith
-
 pub loop-index-init : goal.loop-index-init
-loop-index-init c =
-    let iterator = c.into_iter-index-iterator.ensures.into_iter_gives in
-    let items : c.into_iter-index-iterator.result.iter ≡ lines c.args.text.now =
-    ap (λ (s : Enumerate (List (List ℕ))). s.iter) iterator ∙ c.enumerate-index-items.ensures.source ∙ c.lines.ensures.value ∙ lines_of-lines c.args.text.now in
-    record {
-      before = [];
-      cut = sym items;
-      counted = ap (λ (s : Enumerate (List (List ℕ))). s.count) iterator ∙ c.enumerate-index-items.ensures.count;
-      known = c.new-batch.ensures;
-      fits = rw c.new-batch.ensures (lit< tt);
-    }
+loop-index-init c = IsReadTo-begin c.args.text.now c.into_iter-index-iterator.result _ c.new-batch.result c.into_iter-index-iterator.ensures.into_iter_gives (c.enumerate-index-items.ensures.source ∙ c.lines.ensures.value) c.enumerate-index-items.ensures.count c.new-batch.ensures
 
 pub add_line-requires : goal.add_line-requires
 add_line-requires c = IsReadTo-one_line c.args.text.now _ _ _ c.in-Some.line.now _ c.loop-index.invariant c.in-Some.ensures.steps.0

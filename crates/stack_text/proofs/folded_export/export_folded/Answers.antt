@@ -1,37 +1,21 @@
 -- The lines are read in order: each is a sample more, or empty, or has the first fault.
-use Rattle.std.proofs.Common.{ℕ, List, ◌+◌, ◌^◌, ◌++◌, ◌∷◌, subst, lit<, ◌≡◌, ◌<◌, length, [], inl, inr, sym, ap, ◌∙◌, refl, arith}
-use Rattle.std.proofs.lemmas.Bool.{eqb-true, eqb-false}
+use Rattle.std.proofs.Common.{ℕ, ◌+◌, ◌++◌, ◌∷◌, subst, ◌≡◌, length, [], inl, sym, ap, ◌∙◌, refl}
+use Rattle.std.proofs.lemmas.Bool.{eqb-true}
 use Rattle.std.proofs.lemmas.Result.{err_from_is_err_and}
-use Rattle.std.specs.Prelude.{◌==◌, false}
-use Rattle.std.specs.Str.Lines.{lines}
-use Rattle.std.specs.declared.iter.Enumerate.{Enumerate}
 use Rattle.std.specs.declared.vec.Vec.{Vec}
 use Rattle.pprof_profile.specs.Canonical.{canonical_bytes_of}
 use Rattle.stack_text.specs.Export.{exported_profile_of}
 use Rattle.stack_text.specs.FoldedText.{IsLineFault}
 use Rattle.stack_text.proofs.ExportedRows.{AreSamplesOf-none, only_export}
-use Rattle.stack_text.proofs.Lines.{lines_of-lines}
-use Rattle.stack_text.proofs.Reading.{IsReadTo-row, IsReadTo-skip, IsReadTo-one_line, IsReadTo-fault, IsReadTo-end, IsFoldedText-same}
+use Rattle.stack_text.proofs.Reading.{filled, IsReadTo-begin, IsReadTo-row, IsReadTo-skip, IsReadTo-one_line, IsReadTo-fault, IsReadTo-end, IsFoldedText-same}
 use Rattle.stack_text.proofs.folded_export.export_folded.Goals as goal
 
-filled : (line : List ℕ) → (length line == 0) ≡ false → 0 < length line
-filled line e = let some = eqb-false (length line) 0 e in omega arith
-
 pub loop-index-init : goal.loop-index-init
-loop-index-init c =
-    let iterator = c.into_iter-index-iterator.ensures.into_iter_gives in
-    let items : c.into_iter-index-iterator.result.iter ≡ lines c.args.text.now =
-    ap (λ (s : Enumerate (List (List ℕ))). s.iter) iterator ∙ c.enumerate-index-items.ensures.source ∙ c.lines.ensures.value ∙ lines_of-lines c.args.text.now in (
-      [],
-      record {
-        before = [];
-        cut = sym items;
-        counted = ap (λ (s : Enumerate (List (List ℕ))). s.count) iterator ∙ c.enumerate-index-items.ensures.count;
-        known = refl;
-        fits = lit< tt;
-      },
-      AreSamplesOf-none c.new.result c.new-2.result c.new.ensures c.new-2.ensures,
-    )
+loop-index-init c = (
+  [],
+  IsReadTo-begin c.args.text.now c.into_iter-index-iterator.result _ [] c.into_iter-index-iterator.ensures.into_iter_gives (c.enumerate-index-items.ensures.source ∙ c.lines.ensures.value) c.enumerate-index-items.ensures.count refl,
+  AreSamplesOf-none c.new.result c.new-2.result c.new.ensures c.new-2.ensures,
+)
 
 pub loop-index-preserved-in_ok-add_line : goal.loop-index-preserved-in_ok-add_line
 loop-index-preserved-in_ok-add_line c =

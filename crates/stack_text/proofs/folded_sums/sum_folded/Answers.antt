@@ -1,38 +1,23 @@
 -- The lines are read in order: each is added to the sums, or empty, or has the first fault.
-use Rattle.std.proofs.Common.{ℕ, List, ◌+◌, ◌^◌, ◌++◌, ◌∷◌, subst, lit<, ◌≡◌, ◌<◌, length, [], sym, ap, ◌∙◌, refl, arith, rules}
-use Rattle.std.proofs.lemmas.Bool.{eqb-true, eqb-false}
+use Rattle.std.proofs.Common.{◌+◌, ◌^◌, ◌++◌, ◌∷◌, subst, ◌<◌, length, [], sym, ◌∙◌, refl, rules}
+use Rattle.std.proofs.lemmas.Bool.{eqb-true}
 use Rattle.std.proofs.lemmas.Result.{err_from_is_err_and}
-use Rattle.std.specs.Prelude.{◌==◌, false, Ok}
-use Rattle.std.specs.Str.Lines.{lines}
-use Rattle.std.specs.declared.iter.Enumerate.{Enumerate}
+use Rattle.std.specs.Prelude.{Ok}
 use Rattle.stack_text.specs.Rows.{total_of}
 use Rattle.stack_text.specs.FoldedText.{IsLineFault}
-use Rattle.stack_text.proofs.Lines.{lines_of-lines}
 use Rattle.stack_text.proofs.PutTogether.{AreSumsSoFar-none, AreSumsSoFar-row, AreSumsSoFar-same, only_text_sums}
-use Rattle.stack_text.proofs.Reading.{IsReadTo-row, IsReadTo-skip, IsReadTo-one_line, IsReadTo-fault, IsReadTo-end}
+use Rattle.stack_text.proofs.Reading.{filled, IsReadTo-begin, IsReadTo-row, IsReadTo-skip, IsReadTo-one_line, IsReadTo-fault, IsReadTo-end}
 use Rattle.stack_text.proofs.folded_sums.sum_folded.Goals as goal
 
-filled : (line : List ℕ) → (length line == 0) ≡ false → 0 < length line
-filled line e = let some = eqb-false (length line) 0 e in omega arith
-
 pub loop-index-init : goal.loop-index-init
-loop-index-init c =
-    let iterator = c.into_iter-index-iterator.ensures.into_iter_gives in
-    let items : c.into_iter-index-iterator.result.iter ≡ lines c.args.text.now =
-    ap (λ (s : Enumerate (List (List ℕ))). s.iter) iterator ∙ c.enumerate-index-items.ensures.source ∙ c.lines.ensures.value ∙ lines_of-lines c.args.text.now in (
-      (
-        [],
-        record {
-          before = [];
-          cut = sym items;
-          counted = ap (λ (s : Enumerate (List (List ℕ))). s.count) iterator ∙ c.enumerate-index-items.ensures.count;
-          known = refl;
-          fits = lit< tt;
-        },
-        AreSumsSoFar-none _ c.new-sums.ensures,
-      ),
-      search rules,
-    )
+loop-index-init c = (
+  (
+    [],
+    IsReadTo-begin c.args.text.now c.into_iter-index-iterator.result _ [] c.into_iter-index-iterator.ensures.into_iter_gives (c.enumerate-index-items.ensures.source ∙ c.lines.ensures.value) c.enumerate-index-items.ensures.count refl,
+    AreSumsSoFar-none _ c.new-sums.ensures,
+  ),
+  search rules,
+)
 
 pub sum_line-requires-clause-one_line : goal.sum_line-requires-clause-one_line
 sum_line-requires-clause-one_line c =

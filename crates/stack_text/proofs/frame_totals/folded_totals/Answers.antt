@@ -9,28 +9,16 @@ use Rattle.stack_text.specs.FoldedText.{IsLineFault}
 use Rattle.stack_text.specs.TopList.{AreTotalsOf}
 use Rattle.stack_text.proofs.Counting.{only_totals}
 use Rattle.stack_text.proofs.Lines.{lines_of-lines}
-use Rattle.stack_text.proofs.Reading.{IsReadTo-row, IsReadTo-skip, IsReadTo-one_line, IsReadTo-fault, IsReadTo-end, IsFoldedText-same}
+use Rattle.stack_text.proofs.Reading.{filled, IsReadTo-begin, IsReadTo-row, IsReadTo-skip, IsReadTo-one_line, IsReadTo-fault, IsReadTo-end, IsFoldedText-same}
 use Rattle.stack_text.proofs.TallyLaws.{AreTalliesOf-none}
 use Rattle.stack_text.proofs.frame_totals.folded_totals.Goals as goal
 
-filled : (line : List ℕ) → (length line == 0) ≡ false → 0 < length line
-filled line e = let some = eqb-false (length line) 0 e in omega arith
-
 pub loop-index-init : goal.loop-index-init
-loop-index-init c =
-    let iterator = c.into_iter-index-iterator.ensures.into_iter_gives in
-    let items : c.into_iter-index-iterator.result.iter ≡ lines c.args.text.now =
-    ap (λ (s : Enumerate (List (List ℕ))). s.iter) iterator ∙ c.enumerate-index-items.ensures.source ∙ c.lines.ensures.value ∙ lines_of-lines c.args.text.now in (
-      [],
-      record {
-        before = [];
-        cut = sym items;
-        counted = ap (λ (s : Enumerate (List (List ℕ))). s.count) iterator ∙ c.enumerate-index-items.ensures.count;
-        known = refl;
-        fits = lit< tt;
-      },
-      AreTalliesOf-none c.new.result c.new.ensures.empty,
-    )
+loop-index-init c = (
+  [],
+  IsReadTo-begin c.args.text.now c.into_iter-index-iterator.result _ [] c.into_iter-index-iterator.ensures.into_iter_gives (c.enumerate-index-items.ensures.source ∙ c.lines.ensures.value) c.enumerate-index-items.ensures.count refl,
+  AreTalliesOf-none c.new.result c.new.ensures.empty,
+)
 
 pub count_line-requires-clause-one_line : goal.count_line-requires-clause-one_line
 count_line-requires-clause-one_line c =

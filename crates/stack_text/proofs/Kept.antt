@@ -1,11 +1,9 @@
 -- What is kept of rows, row by row.
-use Rattle.std.proofs.Common.{◌≡◌, ℕ, ◌+◌, ◌<◌, ◌≤◌, Bool, true, false, cond, List, [], ◌∷◌, ◌++◌, length, get_or, take, Option, None, refl, sym, ap, ◌∙◌, subst, arith}
+use Rattle.std.proofs.Common.{◌≡◌, ℕ, ◌+◌, ◌<◌, ◌≤◌, Bool, true, false, cond, List, [], ◌∷◌, ◌++◌, length, get_or, take, Option, None, refl, sym, ap, ◌∙◌, arith}
 use Rattle.std.proofs.lemmas.List.{take_more}
 use Rattle.std.proofs.lemmas.List.Sums.{sum_by-cons}
 use Rattle.stack_text.specs.declared.batch.Row.{Row}
 use Rattle.stack_text.specs.Rows.{is_kept, kept_rows, weight_if, weight_where, total_of}
-use Rattle.stack_text.specs.Rows.{has_name, ends_with_name}
-use Rattle.stack_text.proofs.RowLaws.{weight_where-push}
 
 pub kept_rows-push : (focus ignored : Option (List ℕ)) (rows : List Row) (row : Row)
     → kept_rows focus ignored (rows ++ row ∷ []) ≡ cond (is_kept focus ignored row.stack) (kept_rows focus ignored rows ++ row ∷ []) (kept_rows focus ignored rows)

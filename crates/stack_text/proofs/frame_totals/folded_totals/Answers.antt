@@ -1,14 +1,10 @@
 -- The lines are read in order: each is a row counted, or empty, or has the first fault.
-use Rattle.std.proofs.Common.{ℕ, List, ◌+◌, ◌++◌, ◌∷◌, subst, lit<, ◌≡◌, ◌<◌, length, [], inl, sym, ap, ◌∙◌, refl, arith}
-use Rattle.std.proofs.lemmas.Bool.{eqb-true, eqb-false}
+use Rattle.std.proofs.Common.{◌+◌, ◌++◌, ◌∷◌, subst, ◌≡◌, length, [], inl, sym, ◌∙◌, refl}
+use Rattle.std.proofs.lemmas.Bool.{eqb-true}
 use Rattle.std.proofs.lemmas.Result.{err_from_is_err_and}
-use Rattle.std.specs.Prelude.{◌==◌, false}
-use Rattle.std.specs.Str.Lines.{lines}
-use Rattle.std.specs.declared.iter.Enumerate.{Enumerate}
 use Rattle.stack_text.specs.FoldedText.{IsLineFault}
 use Rattle.stack_text.specs.TopList.{AreTotalsOf}
 use Rattle.stack_text.proofs.Counting.{only_totals}
-use Rattle.stack_text.proofs.Lines.{lines_of-lines}
 use Rattle.stack_text.proofs.Reading.{filled, IsReadTo-begin, IsReadTo-row, IsReadTo-skip, IsReadTo-one_line, IsReadTo-fault, IsReadTo-end, IsFoldedText-same}
 use Rattle.stack_text.proofs.TallyLaws.{AreTalliesOf-none}
 use Rattle.stack_text.proofs.frame_totals.folded_totals.Goals as goal

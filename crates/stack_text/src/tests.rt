@@ -1,8 +1,9 @@
 //! What no clause says: that calls succeed with ample memory, with values from the format's description.
 
 use crate::{
-    Batch, FoldedFault, MAX_DEPTH, MAX_TOTAL, Name, NameFault, PushFault, Row, Stack, ValueChoice,
-    aggregate, batch_of, read_folded, unfold, write_folded,
+    Batch, FoldedFault, FrameTotals, MAX_DEPTH, MAX_TOTAL, Name, NameFault, PushFault, Row, Stack,
+    ValueChoice, aggregate, batch_of, folded_totals, kept_totals, read_folded, unfold,
+    write_folded,
 };
 use pprof_profile::decode;
 use std::alloc::{AllocError, Global};
@@ -148,6 +149,41 @@ fn an_aggregate_has_each_stack_once(rt: HostRuntime) -> Result<(), Fail> {
     let batch = read_folded(alloc, b"b 2\na;b 1\n 4\nb 3\nc 0\n")?;
     let rows = aggregate(alloc, &batch)?;
     assert!(rt; write_folded(alloc, &rows)?.as_slice() == b" 4\na;b 1\nb 5\n".as_slice());
+    Ok(())
+}
+
+// The flat and the cumulative weight of a name, where it is listed.
+fn weights(totals: &FrameTotals, name: &str) -> Option<(u64, u64)> {
+    for total in totals.frames.as_slice() {
+        if total.name.text() == name {
+            return Some((total.flat, total.cum));
+        }
+    }
+    None
+}
+
+// Recursion, a row that weighs nothing, and one without frames.
+const RECURSIVE: &[u8] = b"a;b;a 5\nb 3\nx 0\n 2\n";
+
+#[test]
+fn names_of_folded_text_are_counted_once_a_row(rt: HostRuntime) -> Result<(), Fail> {
+    let totals = folded_totals(rt.alloc(), RECURSIVE)?;
+    assert_eq!(rt; totals.total, 10);
+    assert_eq!(rt; totals.frames.len(), 2);
+    assert!(rt; weights(&totals, "a") == Some((5, 5)));
+    assert!(rt; weights(&totals, "b") == Some((3, 8)));
+    Ok(())
+}
+
+#[test]
+fn names_of_kept_rows_are_counted(rt: HostRuntime) -> Result<(), Fail> {
+    let alloc = rt.alloc();
+    let batch = read_folded(alloc, RECURSIVE)?;
+    let name = Name::make(alloc, "a")?;
+    let focused = kept_totals(alloc, &batch, Some(&name), None)?;
+    assert!(rt; focused.total == 5 && weights(&focused, "b") == Some((0, 5)));
+    let others = kept_totals(alloc, &batch, None, Some(&name))?;
+    assert!(rt; others.total == 5 && weights(&others, "b") == Some((3, 3)));
     Ok(())
 }
 

@@ -1,5 +1,5 @@
 -- What faults of an input say, and the text of answers.
-use Rattle.std.proofs.Common.{◌≡◌, ◌≢◌, ℕ, List, refl, sym, ap, ◌∙◌, subst}
+use Rattle.std.proofs.Common.{◌≡◌, ◌≢◌, ℕ, List, refl, sym, ap, ◌∙◌, subst, inl, inr}
 use Rattle.std.specs.Prelude.{Option, Some, None}
 use Rattle.pprof_profile.specs.declared.faults.ProfileFault.{ProfileFault}
 use Rattle.pprof_profile.specs.declared.faults.ProfileFault.TheVariants as profile
@@ -12,12 +12,17 @@ use Rattle.stack_text.specs.declared.sampling.BatchFault.{BatchFault}
 use Rattle.stack_text.specs.declared.sampling.BatchFault.TheVariants as batch
 use Rattle.stack_text.specs.declared.sampling.ValueChoice.{ValueChoice}
 use Rattle.stack_text.specs.declared.sampling.ValueChoice.TheVariants.{Default, Named}
-use Rattle.stack_text.specs.FoldedText.{IsFirstFault, IsFoldedText}
+use Rattle.stack_text.specs.FoldedText.{IsFirstFault, IsFoldedText, IsWorkFault}
 use Rattle.stack_text.specs.Samples.{IsBatchOf, IsFirstBatchFault, chosen_type_of, type_named}
 use Rattle.stack_text.specs.Sums.{IsSumOfBatch, IsSumOfText}
+use Rattle.flame_report.specs.Answers.{answer_by, kept_by}
+use Rattle.flame_report.specs.declared.query.Kind.{Kind}
+use Rattle.flame_report.specs.declared.query.Query.{Query}
+use Rattle.flame_tool.specs.declared.request.Request.TheVariants.{Report}
+use Rattle.flame_tool.specs.declared.request.Source.{Source}
 use Rattle.flame_tool.specs.declared.outcomes.ToolFault.TheVariants as tool
 use Rattle.flame_tool.specs.declared.request.Format.TheVariants.{Folded, Pprof}
-use Rattle.flame_tool.specs.Answers.{AreSumsIn, HasNoRows, IsChoice, IsFaultIn, IsRefusedIn, batch_fault_of, folded_fault_of, profile_fault_of}
+use Rattle.flame_tool.specs.Answers.{AreRowsIn, AreSumsIn, HasNoRows, IsAnswer, IsAnswerOfText, IsChoice, IsFaultIn, IsRefusedIn, answer_text, batch_fault_of, folded_fault_of, profile_fault_of}
 
 -- ---- folded text
 
@@ -33,6 +38,21 @@ folded_refused value input (folded.Count line) first rows = refused_folded value
 folded_refused value input (folded.Depth line) first rows = refused_folded value input (folded.Depth line) first rows (λ e. cc)
 folded_refused value input (folded.Heavy line) first rows = refused_folded value input (folded.Heavy line) first rows (λ e. cc)
 folded_refused value input folded.NoMemory first rows = tt
+
+-- what work on a text's rows ends without a result by
+pub work_refused : (value : Option (List ℕ)) (input : List ℕ) (fault : FoldedFault) → IsWorkFault input fault → ((rows : List Row) → IsFoldedText input rows → fault ≡ folded.NoMemory)
+    → IsRefusedIn Folded value input (folded_fault_of fault)
+work_refused value input fault (inl first) rows = folded_refused value input fault first rows
+work_refused value input fault (inr late) rows = subst (λ (f : FoldedFault). IsRefusedIn Folded value input (folded_fault_of f)) (sym late.0) tt
+
+-- a query that keeps every row of folded text is answered by all of them
+pub IsAnswer-of_text : (source : Source) (query : Query) (kind : Kind) (input text : List ℕ) → source.format ≡ Folded → query.kind ≡ kind → ((rows : List Row) → kept_by query rows ≡ rows)
+    → IsAnswerOfText input kind text → IsAnswer (Report source query) input text
+IsAnswer-of_text source query kind input text format asked keeps (rows, spelled, whole) = record {
+  rows = rows;
+  spelled = subst (λ f. AreRowsIn f source.value input rows) (sym format) spelled;
+  whole = whole ∙ ap (λ k. answer_text (answer_by k rows)) (sym asked) ∙ ap (λ kept. answer_text (answer_by query.kind kept)) (sym (keeps rows));
+}
 
 -- ---- profiles
 

@@ -20,7 +20,8 @@ use Rattle.stack_text.specs.Samples.{IsBatchOf, IsFirstBatchFault}
 use Rattle.stack_text.specs.TopList.{top_text_of}
 use Rattle.flame_report.specs.declared.answer.Answer.{Answer}
 use Rattle.flame_report.specs.declared.answer.Answer.TheVariants as answer
-use Rattle.flame_report.specs.Answers.{answer_of, sums_in}
+use Rattle.flame_report.specs.Answers.{answer_by, answer_of, sums_in}
+use Rattle.flame_report.specs.declared.query.Kind.{Kind}
 use Rattle.flame_report.specs.Json.{flame_json_of}
 use Rattle.flame_tool.specs.declared.outcomes.ToolFault.{ToolFault}
 use Rattle.flame_tool.specs.declared.outcomes.ToolFault.TheVariants as tool
@@ -78,6 +79,10 @@ pub record IsAnswer (request : Request) (input text : List ℕ) : Type 0 where
   pub rows : List Row
   pub spelled : AreRowsIn (format_for request) (value_for request) input rows
   pub whole : text ≡ output_of request rows
+
+-- the text is what all rows of folded text answer to a question
+abbrev pub IsAnswerOfText : List ℕ → Kind → List ℕ → Type 0
+IsAnswerOfText input kind text = (rows : List Row) × IsFoldedText input rows × (text ≡ answer_text (answer_by kind rows))
 
 -- ---- inputs without rows
 

@@ -1,10 +1,9 @@
 //! What an input answers to a request.
 ghost use Rattle.std.specs.Prelude.{ℕ, ◌≡◌, ◌∷◌, ◌++◌, [], List, MatchResult, IfOk, Option};
 ghost use Rattle.stack_text.specs.declared.batch.Row.{Row};
-ghost use Rattle.stack_text.specs.FoldedText.{IsFoldedText};
-ghost use Rattle.flame_report.specs.Answers.{answer_by, answer_of};
+ghost use Rattle.flame_report.specs.Answers.{answer_of};
 ghost use Rattle.flame_report.specs.declared.query.Kind.TheVariants.{Top};
-ghost use Rattle.flame_tool.specs.Answers.{AreSumsIn, IsAnswer, IsChoice, IsInputFault, IsRefusedIn, answer_text, batch_fault_of, folded_fault_of, profile_fault_of};
+ghost use Rattle.flame_tool.specs.Answers.{AreSumsIn, IsAnswer, IsAnswerOfText, IsChoice, IsInputFault, IsRefusedIn, answer_text, batch_fault_of, folded_fault_of, profile_fault_of};
 ghost use Rattle.flame_tool.specs.declared.request.Format.TheVariants.{Folded, Pprof};
 ghost use Rattle.flame_tool.specs.declared.request.Request.TheVariants.{Report, Export};
 
@@ -61,7 +60,7 @@ fn report_on(
 /// The text of the top list of folded text's rows, which aren't kept for it.
 fn folded_top(alloc: Global, rank: Rank, count: u32, input: &[u8]) -> Result<Vec<u8>, ToolFault>
     ensures { (value : Option (List ℕ)) → MatchResult result
-        (λ text. (rows : List Row) × IsFoldedText input.now rows × (text.items ≡ answer_text (answer_by (Top rank count) rows)))
+        (λ text. IsAnswerOfText input.now (Top rank count) text.items)
         (λ fault. IsRefusedIn Folded value input.now fault) }
 {
     let totals = match folded_totals(alloc, input) {

@@ -4,5 +4,5 @@ use Rattle.stack_text.specs.TopList.{shown}
 use Rattle.flame_report.proofs.top.rows_of.Given as goal
 
 -- the names so far
-abbrev pub invariant-loop-total : goal.invariant-loop-sums
+abbrev pub invariant-loop-total : goal.invariant-loop-total
 invariant-loop-total l = l.rows.items ≡ map top_row_of (map shown (take l.total-index l.list))

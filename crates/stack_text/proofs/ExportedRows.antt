@@ -1,8 +1,7 @@
 -- Rows that are written as samples when they come: a name keeps its id as more names come.
-use Rattle.std.proofs.Common.{◌≡◌, ℕ, ◌+◌, true, false, cond, List, [], ◌∷◌, ◌++◌, length, map, inl, inr, pos, refl, sym, ap, ◌∙◌, subst}
+use Rattle.std.proofs.Common.{◌≡◌, ℕ, ◌+◌, true, false, cond, List, [], ◌∷◌, ◌++◌, map, inl, inr, pos, refl, sym, ap, ◌∙◌, subst}
 use Rattle.std.specs.Prelude.{Err, MatchResult, Ok, Result, reverse}
-use Rattle.std.specs.List.{flat_map, list_any}
-use Rattle.std.specs.Str.{bytes_eq}
+use Rattle.std.specs.List.{flat_map}
 use Rattle.std.proofs.lemmas.List.{map-append, append-nil}
 use Rattle.std.proofs.lemmas.List.Concat.{flat_map-cons}
 use Rattle.std.proofs.lemmas.List.Sums.{sum_by_push}
@@ -13,7 +12,6 @@ use Rattle.stack_text.specs.declared.batch.Row.{Row}
 use Rattle.stack_text.specs.declared.folded.FoldedFault.{FoldedFault}
 use Rattle.stack_text.specs.declared.folded.FoldedFault.TheVariants.{NoMemory}
 use Rattle.stack_text.specs.FoldedText.{IsFoldedText}
-use Rattle.stack_text.specs.Rows.{total_of}
 use Rattle.stack_text.specs.TextTables.{place_in, with_text, with_texts}
 use Rattle.stack_text.specs.Export.{AreSamplesOf, IsExportFault, IsExportOfText, exported_profile_of, exported_sample, id_in, names_of}
 use Rattle.stack_text.proofs.ExportLaws.{AllStand, RowsStand, rows_stand, stand_where, stands_in, with_text-stands, with_texts-own}

@@ -1,5 +1,5 @@
 -- The draft of the batch's own names and strings; so it gives the rows back.
-use Rattle.std.proofs.Common.{◌≤◌, All, ap, length, pos, subst, sym, ◌∙◌}
+use Rattle.std.proofs.Common.{◌≤◌, All, ap, length, subst, sym, ◌∙◌}
 use Rattle.pprof_profile.specs.declared.messages.Draft.{Draft}
 use Rattle.stack_text.specs.declared.batch.Row.{Row}
 use Rattle.stack_text.specs.declared.sampling.ValueChoice.TheVariants.{Default}

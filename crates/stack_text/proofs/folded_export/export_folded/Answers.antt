@@ -7,7 +7,7 @@ use Rattle.pprof_profile.specs.Canonical.{canonical_bytes_of}
 use Rattle.stack_text.specs.Export.{exported_profile_of}
 use Rattle.stack_text.specs.FoldedText.{IsLineFault}
 use Rattle.stack_text.proofs.ExportedRows.{AreSamplesOf-none, only_export}
-use Rattle.stack_text.proofs.Reading.{filled, IsReadTo-begin, IsReadTo-row, IsReadTo-skip, IsReadTo-one_line, IsReadTo-fault, IsReadTo-end, IsFoldedText-same}
+use Rattle.stack_text.proofs.Reading.{filled, IsReadTo-begin, IsReadTo-row, IsReadTo-skip, IsReadTo-fault, IsReadTo-end, IsFoldedText-same}
 use Rattle.stack_text.proofs.folded_export.export_folded.Goals as goal
 
 pub loop-index-init : goal.loop-index-init

@@ -1,12 +1,12 @@
 -- The pieces that aren't empty are the frames, in order, and each has its place; a place stays as more names come.
-use Rattle.std.proofs.Common.{rules, ℕ, List, [], ◌∷◌, ◌++◌, ◌≡◌, ◌+◌, ◌≤◌, length, map, reverse, take, lit<, sym, ap, ◌∙◌, subst, arith}
+use Rattle.std.proofs.Common.{rules, ℕ, List, [], ◌∷◌, ◌++◌, ◌≡◌, ◌+◌, length, map, reverse, take, lit<, sym, ap, ◌∙◌, arith}
 use Rattle.std.specs.Prelude.{◌==◌, not}
-use Rattle.std.proofs.lemmas.List.{take_all, take_more, length_push, map-append}
+use Rattle.std.proofs.lemmas.List.{take_all, take_more, length_push}
 use Rattle.std.proofs.lemmas.Iterator.Consumers.{YieldsList-at, YieldsList-from_filter, YieldsList-turn, YieldsList-end}
 use Rattle.std.proofs.lemmas.Iterator.Splits.{YieldsList-from_str_split}
 use Rattle.stack_text.specs.Export.{id_in}
 use Rattle.stack_text.specs.FoldedText.{frames_of}
-use Rattle.stack_text.specs.TextTables.{with_text, with_texts}
+use Rattle.stack_text.specs.TextTables.{with_texts}
 use Rattle.stack_text.proofs.ExportedRows.{ids_with}
 use Rattle.stack_text.proofs.TextPlaces.{next_with}
 use Rattle.stack_text.proofs.folded_export.replace_ids.Goals as goal

@@ -1,5 +1,5 @@
 -- The samples are read in order: each is a row more, or has the first fault.
-use Rattle.std.proofs.Common.{rules, ◌≡◌, ◌<◌, ◌≤◌, length, get_or, Some, Ok, ap, subst, ◌∙◌}
+use Rattle.std.proofs.Common.{◌≡◌, ◌<◌, ◌≤◌, length, get_or, ap, subst, ◌∙◌}
 use Rattle.std.proofs.lemmas.Result.{err_from_is_err_and}
 use Rattle.pprof_profile.specs.declared.messages.Draft.{Draft}
 use Rattle.stack_text.specs.Samples.{IsSampleRow, IsSampleFault}

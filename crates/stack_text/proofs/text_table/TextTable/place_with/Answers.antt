@@ -4,7 +4,7 @@ use Rattle.std.specs.List.{list_any}
 use Rattle.std.specs.Str.{bytes_eq}
 use Rattle.std.proofs.lemmas.List.{length-map, map-append}
 use denote.Ref.{Bor}
-use Rattle.stack_text.specs.TextTables.{ArePlacesOf, place_in, with_text}
+use Rattle.stack_text.specs.TextTables.{ArePlacesOf, place_in}
 use Rattle.stack_text.proofs.TextPlaces.{ArePlacesOf-push, none_at_end, place_in-le, place_in-with, with_text-new, with_text-there}
 use Rattle.stack_text.proofs.text_table.TextTable.place_with.Goals as goal
 

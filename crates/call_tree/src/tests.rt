@@ -249,6 +249,17 @@ fn the_deepest_stacks_have_rows(rt: HostRuntime) -> Result<(), Fail> {
     Ok(())
 }
 
+#[test]
+fn the_deepest_recursion_has_the_first_row(rt: HostRuntime) -> Result<(), Fail> {
+    let alloc = rt.alloc();
+    let grower = grown_deepest(alloc)?;
+    let first = deepest(alloc, "f", "f")?;
+    let rows = grower.tree().rows(alloc)?;
+    let stacks = rows.rows();
+    assert!(rt; stacks.len() == 2 && stacks[0].stack == first);
+    Ok(())
+}
+
 // Numbers that look random, by a linear congruence.
 #[derive(Drop)]
 struct Numbers {

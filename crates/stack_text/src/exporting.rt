@@ -1,4 +1,4 @@
-ghost use Rattle.std.specs.Prelude.{◌≡◌, ◌+◌, ◌<◌, ◌≤◌, ◌^◌, All, IfOk, OnOk, length, map, reverse};
+ghost use Rattle.std.specs.Prelude.{◌≡◌, ◌<◌, ◌≤◌, ◌^◌, All, IfOk, OnOk, length, map, reverse};
 ghost use Rattle.stack_text.specs.Export.{draft_with, exported_draft, exported_function, exported_location, exported_profile_of, exported_sample, id_in, names_of, strings_of};
 ghost use Rattle.stack_text.specs.Names.{IsName};
 ghost use Rattle.stack_text.specs.Samples.{IsBatchOf};

@@ -1,4 +1,4 @@
-ghost use Rattle.std.specs.Prelude.{◌≡◌, ◌≢◌, ◌+◌, ◌^◌, ◌<◌, ◌≤◌, ◌∷◌, ◌++◌, [], All, IfErr, IfOk, List, MatchResult, OnOk, length, map, reverse};
+ghost use Rattle.std.specs.Prelude.{◌≡◌, ◌+◌, ◌^◌, ◌<◌, ◌∷◌, ◌++◌, [], IfErr, IfOk, List, MatchResult, OnOk, map, reverse};
 ghost use Rattle.pprof_profile.specs.Canonical.{canonical_bytes_of};
 ghost use Rattle.stack_text.specs.declared.batch.Row.{Row};
 ghost use Rattle.stack_text.specs.Export.{AreSamplesOf, IsExportOfText, exported_profile_of, id_in};

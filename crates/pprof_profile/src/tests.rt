@@ -1,6 +1,6 @@
 use crate::{
     Draft, Function, Items, Label, Line, Location, Mapping, Profile, ProfileFault, Sample, Text,
-    ValueType, WireFault, check, decode, encode,
+    ValueType, WireFault, WrittenSamples, check, decode, encode, encode_around,
 };
 use std::alloc::Global;
 use std::test::Fail;
@@ -735,6 +735,16 @@ fn drafts_are_handed_back(rt: HostRuntime) -> Result<(), Fail> {
     };
     assert_eq!(rt; profile.draft().samples.len(), 1);
     assert_eq!(rt; encode(rt.alloc(), &profile)?.as_slice(), ONE_SAMPLE);
+    Ok(())
+}
+
+#[test]
+fn samples_are_written_when_they_come(rt: HostRuntime) -> Result<(), Fail> {
+    let profile = decode(rt.alloc(), ONE_SAMPLE)?;
+    let mut samples = WrittenSamples::new(rt.alloc());
+    samples.push(&[1], &[7])?;
+    let written = encode_around(rt.alloc(), profile.draft(), &samples)?;
+    assert_eq!(rt; written.as_slice(), ONE_SAMPLE);
     Ok(())
 }
 

@@ -1,4 +1,4 @@
-ghost use Rattle.std.specs.Prelude.{◌≡◌, ◌++◌, ◌∷◌, [], List, IfOk, OnOk};
+ghost use Rattle.std.specs.Prelude.{◌≡◌, ◌++◌, ◌∷◌, [], List, IfOk, OnErr, OnOk};
 ghost use Rattle.pprof_profile.specs.declared.messages.Draft.{Draft};
 ghost use Rattle.pprof_profile.specs.declared.messages.Sample.{Sample};
 ghost use Rattle.pprof_profile.specs.Canonical.{canonical_bytes_of, samples_bytes};
@@ -43,10 +43,11 @@ impl WrittenSamples {
     ///
     /// # Errors
     ///
-    /// `NoMemory`.
+    /// `NoMemory`; the samples are then as they were.
     pub fn push(&mut self, location_ids: &[u64], values: &[i64]) -> Result<(), NoMemory>
-        ensures { (samples : List Sample) → self.old ≡ samples_bytes samples
+        ensures pushed { (samples : List Sample) → self.old ≡ samples_bytes samples
             → OnOk result (self.new ≡ samples_bytes (samples ++ (record { location_ids = location_ids.now; values = values.now; labels = [] }) ∷ [])) }
+        ensures kept { OnErr result (self.new ≡ self.old) }
     {
         self.content.clear();
         write_packed(&mut self.content, 1, location_ids, &mut self.packed)?;

@@ -2,8 +2,8 @@
 
 use crate::{
     Batch, FoldedFault, FrameTotals, MAX_DEPTH, MAX_TOTAL, Name, NameFault, PushFault, Row, Stack,
-    ValueChoice, aggregate, batch_of, folded_totals, kept_totals, read_folded, unfold,
-    write_folded,
+    ValueChoice, aggregate, batch_of, export_folded, folded_totals, kept_totals, read_folded,
+    unfold, write_folded,
 };
 use pprof_profile::decode;
 use std::alloc::{AllocError, Global};
@@ -149,6 +149,17 @@ fn an_aggregate_has_each_stack_once(rt: HostRuntime) -> Result<(), Fail> {
     let batch = read_folded(alloc, b"b 2\na;b 1\n 4\nb 3\nc 0\n")?;
     let rows = aggregate(alloc, &batch)?;
     assert!(rt; write_folded(alloc, &rows)?.as_slice() == b" 4\na;b 1\nb 5\n".as_slice());
+    Ok(())
+}
+
+// One sample of the frame f and of weight 7, of the type cpu in ns.
+const EXPORTED: &[u8] =
+    b"\x0a\x04\x08\x01\x10\x02\x12\x06\x0a\x01\x01\x12\x01\x07\x22\x06\x08\x01\x22\x02\x08\x01\x2a\x04\x08\x01\x10\x03\x32\x00\x32\x03cpu\x32\x02ns\x32\x01f";
+
+#[test]
+fn folded_text_is_exported_as_a_profile(rt: HostRuntime) -> Result<(), Fail> {
+    let bytes = export_folded(rt.alloc(), b"f 7\n", "cpu", "ns")?;
+    assert!(rt; bytes.as_slice() == EXPORTED);
     Ok(())
 }
 

@@ -1,5 +1,5 @@
 //! Reports on profiles: the vectors of the format, and their faults.
-use super::fakes::run_on;
+use super::fakes::{repeated, run_on};
 use crate::streams::MAX_INPUT;
 use std::alloc::{AllocError, Global};
 use std::test::Fail;
@@ -60,6 +60,21 @@ fn export_of_one_row(rt: HostRuntime) -> Result<(), Fail> {
         status.cause.to_string(rt.alloc())?.as_str(),
         "flame: F2 NoCount line 1\n"
     );
+    assert!(rt; written.is_empty());
+    Ok(())
+}
+
+#[test]
+fn export_of_a_stack_too_deep(rt: HostRuntime) -> Result<(), Fail> {
+    let mut deeper = repeated(rt.alloc(), b"a;", 65_535)?;
+    deeper.extend_from_slice(b"a 1\n")?;
+    let words = ["flame", "proto", "--kind", "cpu", "--unit", "ns"];
+    let (status, written) = run_on(rt.alloc(), words.as_slice(), deeper.as_slice(), MAX_INPUT);
+    assert_eq!(rt;
+        status.cause.to_string(rt.alloc())?.as_str(),
+        "flame: F4 Depth line 1\n"
+    );
+    assert_eq!(rt; status.code, 1);
     assert!(rt; written.is_empty());
     Ok(())
 }

@@ -19,6 +19,6 @@ returns c = λ before so_far.
     let samples = map (exported_sample c.args.rows.now.names) before in
     AreSamplesOf-push before (record { stack = frames_of c.args.spelled.stack.now; weight = c.args.spelled.weight }) c.args.rows.now.names c.replace_ids.new.names c.args.rows.now.samples c.push.new.self c.replace_ids.new.ids.items c.args.rows.now.total _ so_far
     c.in_ok-replace_ids.ensures.names c.in_ok-replace_ids.ensures.ids refl
-    (c.in_ok-push.ensures samples so_far.samples_rows
+    (c.in_ok-push.ensures.pushed samples so_far.samples_rows
     ∙ ap (λ value. with_sample samples c.as_slice.result.now value) (to_z_pos w64 c.args.spelled.weight small)
     ∙ ap (λ ids. with_sample samples ids (pos c.args.spelled.weight)) c.as_slice.ensures.value)

@@ -1,10 +1,11 @@
-use Rattle.std.proofs.Common.{ap, ◌∙◌}
-use Rattle.flame_tool.specs.Answers.{answer_text}
+-- A query that keeps every row of folded text is answered by all of them.
+use Rattle.std.proofs.Common.{ℕ}
+use Rattle.std.specs.declared.vec.Vec.{Vec}
+use Rattle.flame_report.specs.declared.query.Kind.TheVariants.{Top}
+use Rattle.flame_tool.proofs.Inputs.{answered-of_text}
 use Rattle.flame_tool.proofs.answers.report_on.Goals as goal
 
-pub returns : goal.returns
-returns c = record {
-  rows = c.in_ok-sums.ensures.rows;
-  spelled = c.in_ok-sums.ensures.spelled;
-  whole = c.in_ok-report_text.ensures ∙ ap answer_text (c.answers_are_by_the_aggregate.ensures c.args.query.now c.in_ok-sums.sums c.in_ok-sums.ensures.rows c.in_ok-sums.ensures.same);
-}
+pub returns-in-Folded-Top : goal.returns-in-Folded-Top
+returns-in-Folded-Top c =
+    answered-of_text (λ (text : Vec ℕ _). text.items) c.args.source.now c.args.query.now (Top c.in-Folded-Top.rank c.in-Folded-Top.count) c.args.input.now c.folded_top.result c.in-Folded-Top.is-0 c.in-Folded-Top.is-1
+    (c.keeps_all.ensures c.if-keeps_all.true) c.folded_top.ensures

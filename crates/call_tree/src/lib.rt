@@ -5,8 +5,6 @@
 mod grower;
 mod node;
 mod table;
-#[cfg(test)]
-mod tests;
 mod tree;
 mod walk;
 

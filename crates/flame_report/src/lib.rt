@@ -9,8 +9,6 @@ pub mod laws;
 mod layout;
 mod query;
 mod reports;
-#[cfg(test)]
-mod tests;
 mod top;
 
 pub use answer::{Answer, Flame, Label, Rect, Top, TopRow};

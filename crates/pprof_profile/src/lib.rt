@@ -5,8 +5,6 @@
 
 mod encoding;
 mod faults;
-#[cfg(test)]
-mod hostile_tests;
 mod ids;
 mod indices;
 mod items;
@@ -16,8 +14,6 @@ mod numbers;
 mod profile;
 mod reading;
 mod tables;
-#[cfg(test)]
-mod tests;
 mod validity;
 mod writing;
 mod written_samples;

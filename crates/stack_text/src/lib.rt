@@ -17,8 +17,6 @@ mod sample_sums;
 mod sampling;
 mod stack;
 mod tallies;
-#[cfg(test)]
-mod tests;
 mod text_table;
 mod unfolding;
 mod written;

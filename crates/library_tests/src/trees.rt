@@ -1,6 +1,6 @@
 //! What no clause says: that calls succeed with ample memory, and what they answer on worked rows.
 
-use crate::{CallTree, Grower};
+use call_tree::{CallTree, Grower};
 use stack_text::{Batch, MAX_DEPTH, MAX_TOTAL, Name, Stack};
 use std::alloc::{AllocError, Global};
 use std::test::Fail;

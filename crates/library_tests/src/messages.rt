@@ -1,4 +1,4 @@
-use crate::{
+use pprof_profile::{
     Draft, Function, Items, Label, Line, Location, Mapping, Profile, ProfileFault, Sample, Text,
     ValueType, WireFault, WrittenSamples, check, decode, encode, encode_around,
 };

@@ -2,11 +2,11 @@
 
 ghost use Rattle.std.specs.Prelude.{◌<◌, length};
 
-use crate::tests::{
+use crate::messages::{
     EACH_FIELD, INLINED_AND_BARE_LOCATIONS, LONG_VARINT_ID, NEGATIVE_VALUE, ONE_SAMPLE,
     SEMICOLON_IN_NAME, TWO_SAMPLE_TYPES, UNPACKED_NUMBERS, encoded_again,
 };
-use crate::{ProfileFault, WireFault, decode};
+use pprof_profile::{ProfileFault, WireFault, decode};
 use std::alloc::Global;
 use std::test::Fail;
 

@@ -1,9 +1,9 @@
 //! What no clause says: that calls succeed with ample memory, and what they answer on worked rows.
 
-use crate::{
+use call_tree::Grower;
+use flame_report::{
     Answer, Columns, Flame, Kind, MAX_COLUMNS, Query, Rank, flame_json, report, report_of, top_text,
 };
-use call_tree::Grower;
 use stack_text::{Batch, MAX_TOTAL, Name, read_folded};
 use std::alloc::Global;
 use std::test::Fail;

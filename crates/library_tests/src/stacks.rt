@@ -1,11 +1,11 @@
 //! What no clause says: that calls succeed with ample memory, with values from the format's description.
 
-use crate::{
+use pprof_profile::decode;
+use stack_text::{
     Batch, FoldedFault, FrameTotals, MAX_DEPTH, MAX_TOTAL, Name, NameFault, PushFault, Row, Stack,
     ValueChoice, aggregate, batch_of, export_folded, folded_totals, kept_totals, read_folded,
     unfold, write_folded,
 };
-use pprof_profile::decode;
 use std::alloc::{AllocError, Global};
 use std::test::Fail;
 

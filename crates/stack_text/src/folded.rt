@@ -155,6 +155,21 @@ pub(crate) fn counted<'a>(line: &'a [u8], number: u64) -> Result<(&'a str, u64),
     }
 }
 
+/// Whether a row of so many frames can follow rows of the weight `held`.
+pub(crate) fn fitting(depth: usize, weight: u64, held: u64, number: u64) -> Result<(), FoldedFault>
+    requires { held < 2 ^ 63 }
+    ensures fits { OnOk result ((depth ≤ MAX_DEPTH) × (held + weight < 2 ^ 63)) }
+    ensures fault { IfErr result (λ fault. (text : List ℕ) → depth ≡ length (frames_of text) → IsFittingFault held number text weight fault) }
+{
+    if depth > MAX_DEPTH {
+        return Err(FoldedFault::Depth { line: number });
+    }
+    if weight > MAX_TOTAL - held {
+        return Err(FoldedFault::Heavy { line: number });
+    }
+    Ok(())
+}
+
 /// How many frames a stack text has, where a row of it can follow rows of the weight `held`.
 pub(crate) fn fitting_depth(
     text: &str,
@@ -167,12 +182,7 @@ pub(crate) fn fitting_depth(
     ensures fault { IfErr result (IsFittingFault held number text.now weight) }
 {
     let depth = depth_of(text);
-    if depth > MAX_DEPTH {
-        return Err(FoldedFault::Depth { line: number });
-    }
-    if weight > MAX_TOTAL - held {
-        return Err(FoldedFault::Heavy { line: number });
-    }
+    fitting(depth, weight, held, number)?;
     Ok(depth)
 }
 

@@ -10,7 +10,7 @@ ghost use Rattle.stack_text.specs.Tallies.{AreTalliesOf};
 ghost use Rattle.stack_text.specs.TopList.{AreTotalsOf, AreTotalsOfText};
 
 use crate::batch::{Batch, Row};
-use crate::folded::{FoldedFault, read_line};
+use crate::folded::{FoldedFault, counted, fitting, fitting_depth};
 use crate::keeping::keeps;
 use crate::name::Name;
 use crate::tallies::{Tally, count_stack, weighted};
@@ -101,9 +101,14 @@ fn count_line<'a>(
         × AreTalliesOf (before ++ row ∷ []) rows.new.total rows.new.tallies) }
     ensures fault { IfErr result (IsLineFault rows.old.total number line.now) }
 {
-    let spelled = read_line(line, rows.total, number)?;
-    replace_by_text(&mut rows.frames, spelled.stack)?;
-    Ok(count_frames(rows, spelled.weight)?)
+    let (stack, weight) = counted(line, number)?;
+    let Ok(()) = replace_by_text(&mut rows.frames, stack) else {
+        // a line's own fault comes before want of memory at it
+        fitting_depth(stack, weight, rows.total, number)?;
+        return Err(FoldedFault::NoMemory);
+    };
+    fitting(rows.frames.len(), weight, rows.total, number)?;
+    Ok(count_frames(rows, weight)?)
 }
 
 /// Counts a row.

@@ -110,12 +110,7 @@ pub(crate) fn kept_total(rows: &[Row], query: &Query) -> u64
 /// # Errors
 ///
 /// `NoMemory`.
-pub fn top_list(
-    alloc: Global,
-    totals: FrameTotals,
-    rank: Rank,
-    count: u32,
-) -> Result<Top, NoMemory>
+pub fn top_list(alloc: Global, totals: FrameTotals, rank: Rank, count: u32) -> Result<Top, NoMemory>
     ensures { (rows : List Row) → AreTotalsOf rows totals → IfOk result (λ top. top ≡ top_of rank count rows) }
 {
     let FrameTotals { total, mut frames } = totals;

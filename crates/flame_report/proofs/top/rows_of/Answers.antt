@@ -19,7 +19,7 @@ loop-total-preserved c =
     ∙ ap (λ rows. rows ++ row_from c.in_ok-name.name item.flat item.cum ∷ []) c.loop-total.invariant
     ∙ ap (λ name. map top_row_of (map shown seen) ++ row_from name item.flat item.cum ∷ []) c.in_ok-name.ensures
     ∙ sym (
-      ap (λ list. map top_row_of (map shown list)) more
-      ∙ ap (map top_row_of) (map-append shown seen (item ∷ []))
-      ∙ map-append top_row_of (map shown seen) (shown item ∷ [])
+    ap (λ list. map top_row_of (map shown list)) more
+    ∙ ap (map top_row_of) (map-append shown seen (item ∷ []))
+    ∙ map-append top_row_of (map shown seen) (shown item ∷ [])
     )

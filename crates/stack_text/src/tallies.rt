@@ -11,7 +11,8 @@ use crate::name::Name;
 use std::alloc::{AllocError, Global};
 use std::collections::HashMap;
 
-/// What a name weighs so far: as a leaf, and in the rows that have it, of which `row` is the number of the last, from 1.
+/// What a name weighs so far: as a leaf, and in the rows that have it. `row` is the number of the last of these, which is the weight
+/// counted up to it.
 #[derive(Clone, Copy, Debug)]
 pub(crate) struct Tally {
     flat: u64,

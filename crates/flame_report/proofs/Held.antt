@@ -11,7 +11,7 @@ use Rattle.stack_text.specs.Names.{name_cmp}
 use Rattle.stack_text.specs.Rows.{total_of, weight_where}
 use Rattle.flame_report.specs.Sharing.{known_at, stack_at, held_weight, IsAscending, AreHeld}
 use Rattle.flame_report.proofs.PathOrder as order
-use Rattle.flame_report.proofs.RowSums.{names_total, names_same, in_order, held_weight-new, weight_where-more, weight_where-same_more, weight_where-le-total}
+use Rattle.flame_report.proofs.RowSums.{names_total, names_same, in_order, held_weight-new, weight_where-more, weight_where-same_more, weight_where-take-le}
 
 pub known-le : (rows : List Row) (n : ℕ) → IsAscending rows → n < length rows → known_at rows n ≤ length (stack_at rows n)
 known-le rows zero up h = omega arith
@@ -87,7 +87,7 @@ held_more held rows n above d up h is a =
 
 held_total : (rows : List Row) (n : ℕ) (path : List (List ℕ)) → n ≤ length rows → held_weight rows n path ≤ total_of (take n rows)
 held_total rows n path h = subst (λ xs. weight_where (λ stack. begins_with name_cmp stack path) xs ≤ total_of (take n rows)) (take_all n (take n rows) (omega (arith, length-take-le n rows h)))
-    (weight_where-le-total (λ stack. begins_with name_cmp stack path) (take n rows) n)
+    (weight_where-take-le (λ stack. begins_with name_cmp stack path) (take n rows) n)
 
 pub held_weight-le : (rows : List Row) (n : ℕ) → n < length rows → held_weight rows n (stack_at rows n) ≤ total_of (take n rows)
 held_weight-le rows n h = held_total rows n (stack_at rows n) (omega arith)

@@ -6,7 +6,7 @@ use Rattle.std.specs.Cmp.{IsTotalOrder}
 use Rattle.std.specs.FinMap.{IsAntisymmetric, slice_cmp-IsAntisymmetric, nat_cmp-IsAntisymmetric}
 use Rattle.std.specs.Cmp.Lexicographic.{nat_list_cmp_total, lists_total}
 use Rattle.std.specs.List.{common_prefix_len}
-use Rattle.std.proofs.lemmas.List.Sums.{sum_by-cons, sum_by-take-drop, sum_by_more_le, sum_by_more, sum_by-take-le, sum_by-le-sum_by}
+use Rattle.std.proofs.lemmas.List.Sums.{sum_by-cons, sum_by-take-drop, sum_by_more, sum_by-take-le}
 use Rattle.std.proofs.lemmas.Bool.{cases_Bool, both_ways, cases_eq}
 use Rattle.std.proofs.lemmas.List.{length-take, get_or-map, get_or_default, get_or-drop, length-drop, get_or-take, length-take-le}
 use Rattle.stack_text.specs.declared.batch.Row.{Row}
@@ -14,6 +14,7 @@ use Rattle.stack_text.specs.Paths.{begins_with, lies_left_of}
 use Rattle.stack_text.specs.Names.{name_cmp}
 use Rattle.stack_text.specs.Rows.{stack_cmp, weight_where, total_of}
 use Rattle.stack_text.specs.Paths.{path_weight, path_start}
+use Rattle.stack_text.proofs.RowLaws.{weight_where-le-total}
 use Rattle.flame_report.specs.Sharing.{IsAscending, stack_at, shared_paths, known_at, held_weight}
 use Rattle.flame_report.proofs.PathOrder as order
 
@@ -119,15 +120,11 @@ path_start-first rows path i d up inside here none =
 pub stack_at-get : (rows : List Row) (k : ℕ) (d : Row) → k < length rows → stack_at rows k ≡ stack_of rows k d
 stack_at-get rows k d h = get_or-map (λ row. row.stack) rows k d [] h
 
-cond_le : (b : Bool) (w : ℕ) → cond b w 0 ≤ w
-cond_le true w = omega arith
-cond_le false w = omega arith
-
-pub weight_where-le-total : (test : List (List ℕ) → Bool) (rows : List Row) (n : ℕ) → weight_where test (take n rows) ≤ total_of rows
-weight_where-le-total test rows n =
-    let a = sum_by-le-sum_by (λ r. cond (test r.stack) r.weight 0) (λ r. r.weight) (take n rows) (λ r. cond_le (test r.stack) r.weight) in
-    let b = sum_by-take-le (λ (r : Row). r.weight) rows n in
-    omega (arith, a, b)
+pub weight_where-take-le : (test : List (List ℕ) → Bool) (rows : List Row) (n : ℕ) → weight_where test (take n rows) ≤ total_of rows
+weight_where-take-le test rows n =
+    let kept = weight_where-le-total test (take n rows) in
+    let front = sum_by-take-le (λ (r : Row). r.weight) rows n in
+    omega (arith, kept, front)
 
 -- one more row that passes, and one more that doesn't
 pub weight_where-more : (test : List (List ℕ) → Bool) (rows : List Row) (i : ℕ) (d : Row) → i < length rows → test (stack_at rows i) ≡ true → weight_where test (take (i + 1) rows) ≡ weight_where test (take i rows) + (get_or rows i d).weight
@@ -270,10 +267,6 @@ path_start-path_weight-le (row ∷ rows) path =
     rw (weight_where-cons (lies_left_of name_cmp path) row rows, weight_where-cons (begins_with name_cmp path) row rows, sum_by-cons (λ r. r.weight) row rows)
     (span_fits (begins_with name_cmp path row.stack) (lies_left_of name_cmp path row.stack) row.weight (path_start rows path) (path_weight rows path) (total_of rows)
     (order.not_left_under names_total names_same path row.stack) (path_start-path_weight-le rows path))
-
--- the rows so far and one more are within the whole
-pub total-more : (rows : List Row) (i : ℕ) (d : Row) → i < length rows → total_of (take i rows) + (get_or rows i d).weight ≤ total_of rows
-total-more rows i d h = sum_by_more_le (λ r. r.weight) rows i d h
 
 pub total-next : (rows : List Row) (i : ℕ) (d : Row) → i < length rows → total_of (take (i + 1) rows) ≡ total_of (take i rows) + (get_or rows i d).weight
 total-next rows i d h = sum_by_more (λ r. r.weight) rows i d h

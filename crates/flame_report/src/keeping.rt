@@ -1,4 +1,4 @@
-ghost use Rattle.std.specs.Prelude.{◌≡◌, IsTrue, List};
+ghost use Rattle.std.specs.Prelude.{◌≡◌, ◌↔◌, IsNone, IsTrue, List};
 ghost use Rattle.stack_text.specs.declared.batch.Row.{Row};
 ghost use Rattle.flame_report.specs.Answers.{kept_by};
 ghost use Rattle.stack_text.specs.Rows.{is_kept};
@@ -9,7 +9,8 @@ use stack_text::{Row, keeps};
 impl Query {
     /// Whether the query has no focus and ignores no name, and so keeps every row.
     pub fn keeps_all(&self) -> bool
-        ensures { IsTrue result → (rows : List Row) → kept_by self.now rows ≡ rows }
+        ensures keeps { IsTrue result → (rows : List Row) → kept_by self.now rows ≡ rows }
+        ensures exact { IsTrue result ↔ (IsNone self.now.focus × IsNone self.now.ignore) }
     {
         self.focus.is_none() && self.ignore.is_none()
     }

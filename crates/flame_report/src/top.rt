@@ -75,18 +75,14 @@ fn rank_names(list: &mut Vec<FrameTotal>, rank: Rank, count: u32) -> Result<(), 
     Ok(())
 }
 
-/// The names of a top list with second owners of their texts.
-fn rows_of(alloc: Global, list: &[FrameTotal]) -> Result<Vec<TopRow>, AllocError>
-    ensures { IfOk result (λ rows. rows.items ≡ map top_row_of (map shown list.now)) }
+/// The rows of a top list.
+fn rows_of(alloc: Global, list: Vec<FrameTotal>) -> Result<Vec<TopRow>, AllocError>
+    ensures { IfOk result (λ rows. rows.items ≡ map top_row_of (map shown list.items)) }
 {
     let mut rows = Vec::with_capacity(alloc, list.len())?;
     for total in list {
-        let name = total.name.share()?;
-        rows.push(TopRow {
-            name,
-            flat: total.flat,
-            cum: total.cum,
-        })?;
+        let FrameTotal { name, flat, cum } = total;
+        rows.push(TopRow { name, flat, cum })?;
     }
     Ok(rows)
 }
@@ -115,7 +111,7 @@ pub fn top_list(alloc: Global, totals: FrameTotals, rank: Rank, count: u32) -> R
 {
     let FrameTotals { total, mut frames } = totals;
     rank_names(&mut frames, rank, count)?;
-    let rows = rows_of(alloc, frames.as_slice())?;
+    let rows = rows_of(alloc, frames)?;
     Ok(Top {
         total,
         rows: Items::new(rows),

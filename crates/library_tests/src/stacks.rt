@@ -1,5 +1,6 @@
 //! What no clause says: that calls succeed with ample memory, with values from the format's description.
 
+use crate::messages::{INLINED_AND_BARE_LOCATIONS, ONE_SAMPLE};
 use pprof_profile::decode;
 use stack_text::{
     Batch, FoldedFault, FrameTotals, MAX_DEPTH, MAX_TOTAL, Name, NameFault, PushFault, Row, Stack,
@@ -153,13 +154,10 @@ fn an_aggregate_has_each_stack_once(rt: HostRuntime) -> Result<(), Fail> {
 }
 
 // One sample of the frame f and of weight 7, of the type cpu in ns.
-const EXPORTED: &[u8] =
-    b"\x0a\x04\x08\x01\x10\x02\x12\x06\x0a\x01\x01\x12\x01\x07\x22\x06\x08\x01\x22\x02\x08\x01\x2a\x04\x08\x01\x10\x03\x32\x00\x32\x03cpu\x32\x02ns\x32\x01f";
-
 #[test]
 fn folded_text_is_exported_as_a_profile(rt: HostRuntime) -> Result<(), Fail> {
     let bytes = export_folded(rt.alloc(), b"f 7\n", "cpu", "ns")?;
-    assert!(rt; bytes.as_slice() == EXPORTED);
+    assert!(rt; bytes.as_slice() == ONE_SAMPLE);
     Ok(())
 }
 
@@ -199,13 +197,10 @@ fn names_of_kept_rows_are_counted(rt: HostRuntime) -> Result<(), Fail> {
 }
 
 // a, inlined into b, inlined into c, under a location without lines at 0xff; the value is 2.
-const INLINED: &[u8] =
-    b"\x0a\x04\x08\x01\x10\x02\x12\x07\x0a\x02\x01\x02\x12\x01\x02\x22\x0e\x08\x01\x22\x02\x08\x01\x22\x02\x08\x02\x22\x02\x08\x03\x22\x05\x08\x02\x18\xff\x01\x2a\x04\x08\x01\x10\x03\x2a\x04\x08\x02\x10\x04\x2a\x04\x08\x03\x10\x05\x32\x00\x32\x03cpu\x32\x02ns\x32\x01a\x32\x01b\x32\x01c";
-
 #[test]
 fn inlined_lines_and_bare_locations(rt: HostRuntime) -> Result<(), Fail> {
     let alloc = rt.alloc();
-    let profile = decode(alloc, INLINED)?;
+    let profile = decode(alloc, INLINED_AND_BARE_LOCATIONS)?;
     assert!(rt; profile.draft().samples.len() == 1);
     let names = unfold(alloc, &profile, 0)?;
     assert_eq!(rt; names.len(), 4);

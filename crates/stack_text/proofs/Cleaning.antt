@@ -1,9 +1,9 @@
 -- The names of a profile's texts.
-use Rattle.std.proofs.Common.{◌≡◌, ◌≢◌, ℕ, ◌+◌, ◌/◌, ◌%◌, ◌<◌, ◌≤◌, true, false, List, [], ◌∷◌, length, map, refl, sym, ap, ◌∙◌, subst, arith, ◌⊎◌, inl, inr}
-use Rattle.std.specs.Prelude.{Some, ◌==◌}
+use Rattle.std.proofs.Common.{◌≡◌, ◌≢◌, ℕ, ◌+◌, ◌/◌, ◌%◌, ◌<◌, ◌≤◌, true, List, [], ◌∷◌, length, map, refl, sym, ap, ◌∙◌, subst, arith, ◌⊎◌, inl, inr}
+use Rattle.std.specs.Prelude.{Some}
 use Rattle.std.specs.List.{AllByRecursion}
 use Rattle.std.specs.Str.{IsUtf8}
-use Rattle.std.proofs.lemmas.Bool.{eqb-false, cases_lt, cases_eq, eq-eqb, ne_eqb, le-ltb, lt-ltb, and_parts}
+use Rattle.std.proofs.lemmas.Bool.{cases_lt, cases_eq, eq-eqb, ne_eqb, le-ltb, lt-ltb, and_parts}
 use Rattle.std.proofs.lemmas.List.{map-append, length-map}
 use Rattle.std.proofs.lemmas.List.Elements.{All-from_recursion, recursion_from_All}
 use Rattle.std.proofs.lemmas.Str.{IsUtf8-nil, IsUtf8-append, IsUtf8-encode, IsUtf8-from_ascii, encode_ascii}
@@ -109,6 +109,3 @@ IsName-cleaned text utf8 some = record {
 pub cleaned_name_of-some : (text : List ℕ) → 0 < length text → cleaned_name_of text ≡ Some (map cleaned_byte text)
 cleaned_name_of-some [] some = absurd (omega (arith, some))
 cleaned_name_of-some (byte ∷ bytes) some = refl
-
-pub filled_text : (text : List ℕ) → (length text == 0) ≡ false → 0 < length text
-filled_text text e = let some = eqb-false (length text) 0 e in omega arith

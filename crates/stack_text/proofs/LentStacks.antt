@@ -1,5 +1,5 @@
 -- The map of lent stacks grows as the aggregate does.
-use Rattle.std.proofs.Common.{◌≡◌, ℕ, zero, suc, ◌+◌, ◌^◌, ◌<◌, ◌≤◌, true, false, cond, List, [], ◌∷◌, ◌++◌, length, get_or, Some, take, map, refl, sym, ap, ◌∙◌, arith}
+use Rattle.std.proofs.Common.{◌≡◌, ℕ, ◌+◌, ◌^◌, ◌<◌, cond, List, [], ◌∷◌, ◌++◌, length, get_or, Some, take, map, refl, sym, ap, ◌∙◌, arith}
 use Rattle.std.specs.Option.{unwrap_or}
 use Rattle.std.specs.Map.{lookup}
 use Rattle.std.specs.declared.cmp.Ordering.{Ordering}
@@ -11,13 +11,13 @@ use Rattle.std.specs.FinMap.{find, put, entries-insert, get-entries}
 use Rattle.std.specs.FinMap.Entries.{by_order}
 use Rattle.std.proofs.lemmas.Bool.{lt-ltb, le-ltb}
 use Rattle.std.proofs.lemmas.List.{take_more}
-use Rattle.std.proofs.lemmas.List.Sums.{sum_by-cons, sum_by_push}
+use Rattle.std.proofs.lemmas.List.Sums.{sum_by_push, sum_by-take-le}
 use denote.Ref.{Bor}
 use Rattle.stack_text.specs.declared.batch.Row.{Row}
-use Rattle.stack_text.specs.Rows.{stack_cmp, is_same_stack, weight_if, weight_of, total_of}
+use Rattle.stack_text.specs.Rows.{stack_cmp, is_same_stack, total_of}
 use Rattle.stack_text.specs.Aggregate.{weight_in, with_row, aggregate_of}
 use Rattle.stack_text.specs.LentStacks.{lent_entry, entries_in}
-use Rattle.stack_text.proofs.RowLaws.{stack_cmp_total, weight_in-aggregate_of, with_rows-append}
+use Rattle.stack_text.proofs.RowLaws.{stack_cmp_total, weight_in-aggregate_of, weight_where-le-total, with_rows-append}
 
 abbrev LentStack : Type 0
 LentStack = Bor (List (List ℕ))
@@ -71,29 +71,12 @@ entries_in-weighted m n rows all row key held some is key_is so_far held_is n_is
 
 -- ---- what a stack weighs fits
 
-weight_of-le : (rows : List Row) (stack : List (List ℕ)) → weight_of rows stack ≤ total_of rows
-weight_of-le [] stack = omega arith
-weight_of-le (row ∷ rows) stack =
-    let rest = weight_of-le rows stack in
-    let weights = sum_by-cons (weight_if (is_same_stack stack)) row rows in
-    let totals = sum_by-cons (λ (r : Row). r.weight) row rows in
-    let here : weight_if (is_same_stack stack) row ≤ row.weight = elim (is_same_stack stack row.stack) as (λ b. cond b row.weight 0 ≤ row.weight) [ true ↦ omega arith | false ↦ omega arith ] in
-    omega (arith, rest, weights, totals, here)
-
-total_of-take : (rows : List Row) (k : ℕ) → total_of (take k rows) ≤ total_of rows
-total_of-take [] zero = omega arith
-total_of-take [] (suc k) = omega arith
-total_of-take (row ∷ rows) zero = omega arith
-total_of-take (row ∷ rows) (suc k) =
-    let rest = total_of-take rows k in
-    omega (arith, rest, sum_by-cons (λ (r : Row). r.weight) row rows, sum_by-cons (λ (r : Row). r.weight) row (take k rows))
-
 pub held-fits : (rows : List Row) (k : ℕ) (row : Row) (stack : List (List ℕ)) → take (k + 1) rows ≡ take k rows ++ row ∷ [] → total_of rows < 2 ^ 63
     → weight_in (aggregate_of (take k rows)) stack + row.weight < 2 ^ 63
 held-fits rows k row stack is fits =
     let weight = weight_in-aggregate_of (take k rows) stack in
-    let most = weight_of-le (take k rows) stack in
-    let all = total_of-take rows (k + 1) in
+    let most = weight_where-le-total (is_same_stack stack) (take k rows) in
+    let all = sum_by-take-le (λ (r : Row). r.weight) rows (k + 1) in
     let more : total_of (take (k + 1) rows) ≡ total_of (take k rows) + row.weight = ap total_of is ∙ sum_by_push (λ (r : Row). r.weight) (take k rows) row in
     omega (arith, weight, most, all, more, fits)
 

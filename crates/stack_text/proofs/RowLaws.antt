@@ -8,12 +8,12 @@ use Rattle.std.specs.Cmp.{IsTotalOrder}
 use Rattle.std.specs.FinMap as map
 use Rattle.std.specs.FinMap.{IsAntisymmetric, slice_cmp-IsAntisymmetric, nat_cmp-IsAntisymmetric, get-insert, get-empty, get_tied, same_map}
 use Rattle.std.proofs.lemmas.Cmp.{nat_list_cmp_total, lists_total, tied_itself}
-use Rattle.std.proofs.lemmas.List.Sums.{sum_by-cons, sum_by_push, sum_by-set}
+use Rattle.std.proofs.lemmas.List.Sums.{sum_by-cons, sum_by_push, sum_by-set, sum_by-le-sum_by}
 use Rattle.std.proofs.Math.ListN.{set}
 use Rattle.std.proofs.lemmas.Bool.{ltb-false}
 use borrow.Author.Tests.{ltb-true}
 use Rattle.stack_text.specs.declared.batch.Row.{Row}
-use Rattle.stack_text.specs.Rows.{stack_cmp, is_same_stack, weight_if, weight_where, weight_of}
+use Rattle.stack_text.specs.Rows.{stack_cmp, is_same_stack, weight_if, weight_where, weight_of, total_of}
 use Rattle.stack_text.specs.Aggregate.{Weighted, weight_in, with_row, with_rows, aggregate_of}
 
 pub stack_cmp_total : IsTotalOrder stack_cmp
@@ -136,3 +136,10 @@ weight_where-one test row = omega (arith, sum_by-cons (weight_if test) row [])
 pub with_rows-append : (m : Weighted) (rows more : List Row) → with_rows m (rows ++ more) ≡ with_rows (with_rows m rows) more
 with_rows-append m [] more = refl
 with_rows-append m (row ∷ rows) more = with_rows-append (with_row m row) rows more
+
+pub weight_where-le-total : (test : List (List ℕ) → Bool) (rows : List Row) → weight_where test rows ≤ total_of rows
+weight_where-le-total test rows = sum_by-le-sum_by (weight_if test) (λ (row : Row). row.weight) rows (λ row. at_most (test row.stack) row.weight)
+  where
+    at_most : (b : Bool) (n : ℕ) → cond b n 0 ≤ n
+    at_most true n = omega arith
+    at_most false n = omega arith

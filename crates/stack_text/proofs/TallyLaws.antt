@@ -1,8 +1,6 @@
 -- A tally written changes the tally of one name.
-use Rattle.std.proofs.Common.{◌≡◌, ◌≢◌, ℕ, ◌+◌, ◌^◌, ◌<◌, ◌≤◌, Bool, true, false, cond, ◌||◌, List, [], ◌∷◌, ◌++◌, length, get_or, take, Option, Some, refl, sym, ap, ◌∙◌, arith, zero-add, All, subst}
-use Rattle.std.specs.Prelude.{unwrap_or, Result, Ok, Err, OnOk}
-use Prim.Native.Nat.{zero, suc}
-use Rattle.std.proofs.lemmas.List.Sums.{sum_by-cons}
+use Rattle.std.proofs.Common.{◌≡◌, ◌≢◌, ℕ, ◌+◌, ◌^◌, ◌<◌, ◌≤◌, Bool, true, false, cond, ◌||◌, List, [], ◌∷◌, ◌++◌, Option, Some, refl, sym, ap, ◌∙◌, arith, zero-add, All, subst}
+use Rattle.std.specs.Prelude.{unwrap_or}
 use Rattle.std.specs.HashMap as hash
 use Rattle.std.proofs.lemmas.Map.Text.{hash_map_updates_str}
 use Rattle.std.proofs.lemmas.Cmp.{nat_list_eq_equiv}
@@ -19,7 +17,7 @@ use Rattle.stack_text.specs.Rows.{has_name, ends_with_name, weight_if, weight_wh
 use Rattle.stack_text.proofs.SameNames.{same_from_is_same_name}
 use Rattle.stack_text.specs.declared.tallies.Tally.{Tally}
 use Rattle.stack_text.specs.Tallies.{AreTalliesOf, IsTallyOf, Tallies, tally_at, frame_counted, callers_counted, row_counted}
-use Rattle.stack_text.proofs.RowLaws.{weight_where-push}
+use Rattle.stack_text.proofs.RowLaws.{weight_where-le-total, weight_where-push}
 
 abbrev pub zero_tally : Tally
 zero_tally = record { flat = 0; cumulative = 0; row = 0 }
@@ -141,35 +139,6 @@ row_counted-empty row number name t empty =
     same_tally _ _ (omega arith) (omega arith) refl
     ∙ ap (λ b. tally_from b false number row.weight t) (sym (ap (ends_with_name name) empty))
     ∙ ap (λ b. tally_from (ends_with_name name row.stack) b number row.weight t) (sym (ap (has_name name) empty))
-
-pub on_ok_more : {T E P Q : Type 0} (r : Result T E) → (P → Q) → OnOk r P → OnOk r Q
-on_ok_more (Ok x) f p = f p
-on_ok_more (Err e) f p = tt
-
--- ---- rows
-
-pub weight_where-le-total : (test : List (List ℕ) → Bool) (rows : List Row) → weight_where test rows ≤ total_of rows
-weight_where-le-total test [] = omega arith
-weight_where-le-total test (row ∷ rows) =
-    let rest = weight_where-le-total test rows in
-    let left = sum_by-cons (weight_if test) row rows in
-    let right = sum_by-cons (λ (row : Row). row.weight) row rows in
-    let here = at_most (test row.stack) row.weight in
-    omega arith
-  where
-    at_most : (b : Bool) (n : ℕ) → cond b n 0 ≤ n
-    at_most true n = omega arith
-    at_most false n = omega arith
-
--- a row and those before it weigh no more than all
-pub total_of-take : (rows : List Row) (k : ℕ) (d : Row) → k < length rows → total_of (take k rows) + (get_or rows k d).weight ≤ total_of rows
-total_of-take [] k d lt = absurd (omega arith)
-total_of-take (row ∷ rows) zero d lt = let all = sum_by-cons (λ (row : Row). row.weight) row rows in omega arith
-total_of-take (row ∷ rows) (suc k) d lt =
-    let rest = total_of-take rows k d (omega arith) in
-    let all = sum_by-cons (λ (row : Row). row.weight) row rows in
-    let front = sum_by-cons (λ (row : Row). row.weight) row (take k rows) in
-    omega arith
 
 -- ---- the tallies of rows, row by row
 

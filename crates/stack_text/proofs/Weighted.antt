@@ -1,6 +1,6 @@
 -- The entries of tallies show each name that weighs something once.
 use Rattle.std.proofs.Common.{◌≡◌, ℕ, ◌+◌, ◌<◌, Bool, true, false, cond, List, [], ◌∷◌, get_or, refl, sym, ap, ◌∙◌, subst, arith, Some}
-use Rattle.std.specs.Prelude.{nat_lt, unwrap_or}
+use Rattle.std.specs.Prelude.{filter, map, nat_lt, unwrap_or}
 use Rattle.std.specs.Cmp.{IsEquivalence, on_equiv}
 use Rattle.std.proofs.lemmas.Cmp.{nat_list_eq_equiv}
 use Rattle.stack_text.specs.TopList.{NameSums}
@@ -17,11 +17,18 @@ use Rattle.std.proofs.lemmas.List.Sums.{sum_by-cons}
 use Rattle.std.proofs.lemmas.List.Elements.{All-from_recursion, recursion_from_All}
 use denote.Ref.{Bor}
 use Rattle.stack_text.specs.declared.tallies.Tally.{Tally}
-use Rattle.stack_text.specs.Tallies.{Tallies, IsTallyOf, AreTalliesOf, entry_shown, weighted_in}
+use Rattle.stack_text.specs.Tallies.{Tallies, IsTallyOf, AreTalliesOf}
 use Rattle.stack_text.proofs.TallyLaws.{zero_tally}
 
 abbrev pub Entry : Type 0
 Entry = Bor (List ℕ) × Tally
+
+abbrev entry_shown : Entry → NameSums
+entry_shown entry = record { name = entry.0.now; flat = entry.1.flat; cumulative = entry.1.cumulative }
+
+-- the names of cumulative weight above 0
+abbrev pub weighted_in : List Entry → List NameSums
+weighted_in entries = filter (λ sums. nat_lt 0 sums.cumulative) (map entry_shown entries)
 
 abbrev is_key : List ℕ → Bor (List ℕ) → Bool
 is_key name key = is_same_name name key.now

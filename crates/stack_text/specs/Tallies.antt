@@ -1,5 +1,5 @@
 -- What each name weighs so far.
-use Rattle.std.specs.Prelude.{ℕ, ◌≡◌, ◌<◌, ◌≤◌, ◌+◌, ◌==◌, List, map, filter, nat_lt, unwrap_or, if◌then◌else◌}
+use Rattle.std.specs.Prelude.{ℕ, ◌≡◌, ◌<◌, ◌≤◌, ◌+◌, ◌==◌, List, unwrap_or, if◌then◌else◌}
 use Rattle.std.specs.HashMap as hash
 use Rattle.std.specs.HashMap.{HashMap}
 use Rattle.std.specs.declared.hash.FoldHasher.{FoldHasher}
@@ -8,7 +8,6 @@ use denote.Ref.{Bor}
 use Rattle.stack_text.specs.declared.batch.Row.{Row}
 use Rattle.stack_text.specs.Names.{IsName, is_same_name}
 use Rattle.stack_text.specs.Rows.{has_name, ends_with_name, weight_if, total_of, flat_weight_of, cumulative_weight_of}
-use Rattle.stack_text.specs.TopList.{NameSums}
 use Rattle.stack_text.specs.declared.tallies.Tally.{Tally}
 
 abbrev pub Tallies : Type 0
@@ -48,10 +47,3 @@ pub record IsTallyOf (rows : List Row) (last : ℕ) (name : List ℕ) (tally : T
 pub record AreTalliesOf (rows : List Row) (held : ℕ) (tallies : Tallies) : Type 0 where
   pub each : (name : List ℕ) → IsTallyOf rows held name (tally_at tallies name)
   pub total : held ≡ total_of rows
-
-abbrev pub entry_shown : Bor (List ℕ) × Tally → NameSums
-entry_shown entry = record { name = entry.0.now; flat = entry.1.flat; cumulative = entry.1.cumulative }
-
--- the names of cumulative weight above 0
-abbrev pub weighted_in : List (Bor (List ℕ) × Tally) → List NameSums
-weighted_in entries = filter (λ sums. nat_lt 0 sums.cumulative) (map entry_shown entries)

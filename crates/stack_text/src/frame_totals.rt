@@ -45,6 +45,19 @@ struct CountedRows<'a> {
     frames: Vec<&'a str>,
 }
 
+impl<'a> CountedRows<'a> {
+    /// No row yet.
+    fn new(alloc: Global) -> CountedRows<'a>
+        ensures { AreTalliesOf [] result.total result.tallies }
+    {
+        CountedRows {
+            tallies: HashMap::new(alloc),
+            total: 0,
+            frames: Vec::new(alloc),
+        }
+    }
+}
+
 /// The frames of a stack text, root first, in the place of others.
 fn replace_by_text<'a>(frames: &mut Vec<&'a str>, text: &'a str) -> Result<(), AllocError>
     requires { All (λ byte. byte ≢ 10) text.now }
@@ -148,11 +161,7 @@ pub fn kept_totals(
 ) -> Result<FrameTotals, NoMemory>
     ensures { IfOk result (AreTotalsOf (kept_rows (option_copied focus.entry) (option_copied ignored.entry) batch.now)) }
 {
-    let mut rows = CountedRows {
-        tallies: HashMap::new(alloc),
-        total: 0,
-        frames: Vec::new(alloc),
-    };
+    let mut rows = CountedRows::new(alloc);
     for row in batch.rows() {
         if keeps(row, focus, ignored) {
             count_named(&mut rows, row)?;
@@ -172,11 +181,7 @@ pub fn folded_totals(alloc: Global, text: &[u8]) -> Result<FrameTotals, FoldedFa
     ensures accepted { (rows : List Row) → IsFoldedText text.now rows
         → MatchResult result (AreTotalsOf rows) (λ fault. fault ≡ FoldedFault.NoMemory) }
 {
-    let mut rows = CountedRows {
-        tallies: HashMap::new(alloc),
-        total: 0,
-        frames: Vec::new(alloc),
-    };
+    let mut rows = CountedRows::new(alloc);
     for (index, line) in text.lines().enumerate() {
         if !line.is_empty() {
             count_line(&mut rows, line, index as u64 + 1)?;

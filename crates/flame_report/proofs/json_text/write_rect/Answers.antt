@@ -1,13 +1,13 @@
 -- The members of a rectangle, one after the other.
 use Rattle.std.proofs.Common.{◌++◌, ◌∷◌, [], codes, ap, ◌∙◌}
+use Rattle.std.proofs.lemmas.Result.{on_ok_weaker}
 use Rattle.json.specs.Token.{begin_object, end_object, key, string}
 use Rattle.flame_report.specs.Tokens.{member_token}
-use Rattle.stack_text.proofs.TallyLaws.{on_ok_more}
 use Rattle.flame_report.proofs.TokenLaws.{one_list}
 use Rattle.flame_report.proofs.json_text.write_rect.Goals as goal
 
 pub returns-clause-tokens : goal.returns-clause-tokens
-returns-clause-tokens c = on_ok_more c.end_object.result (λ last.
+returns-clause-tokens c = on_ok_weaker c.end_object.result (λ last.
     last
     ∙ ap (λ t. t ++ end_object ∷ []) (c.in_ok-write_count-5.ensures.tokens
     ∙ ap (λ t. t ++ member_token (codes "x") c.args.rect.now.x) (c.in_ok-write_count-4.ensures.tokens

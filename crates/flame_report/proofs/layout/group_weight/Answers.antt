@@ -5,7 +5,7 @@ use Rattle.stack_text.specs.Names.{name_cmp}
 use Rattle.stack_text.specs.Rows.{weight_where}
 use Rattle.flame_report.specs.Sharing.{stack_at, shared_paths}
 use Rattle.flame_report.proofs.PathOrder as order
-use Rattle.flame_report.proofs.RowSums.{names_total, names_same, group_first, group_next, group_ends, group_whole, weight_where-more, weight_where-le-total, known_next}
+use Rattle.flame_report.proofs.RowSums.{names_total, names_same, group_first, group_next, group_ends, group_whole, weight_where-more, weight_where-take-le, known_next}
 use Rattle.flame_report.proofs.layout.group_weight.Goals as goal
 
 pub loop-next-init : goal.loop-next-init
@@ -39,7 +39,7 @@ pub overflow_add-weight : goal.overflow_add-weight
 overflow_add-weight c =
     let path = take c.args.depth (stack_at c.args.rows.now c.args.at) in
     let more = weight_where-more (begins_with name_cmp path) c.args.rows.now c.loop-next.next c.index-rows-next.result c.loop-next-test.true (under c) in
-    let most = weight_where-le-total (begins_with name_cmp path) c.args.rows.now (c.loop-next.next + 1) in
+    let most = weight_where-take-le (begins_with name_cmp path) c.args.rows.now (c.loop-next.next + 1) in
     omega (arith, more, most, c.requires.fits)
 
 pub loop-next-preserved : goal.loop-next-preserved

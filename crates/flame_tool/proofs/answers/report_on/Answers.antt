@@ -8,4 +8,4 @@ use Rattle.flame_tool.proofs.answers.report_on.Goals as goal
 pub returns-in-Folded-Top : goal.returns-in-Folded-Top
 returns-in-Folded-Top c =
     answered-of_text (λ (text : Vec ℕ _). text.items) c.args.source.now c.args.query.now (Top c.in-Folded-Top.rank c.in-Folded-Top.count) c.args.input.now c.folded_top.result c.in-Folded-Top.is-0 c.in-Folded-Top.is-1
-    (c.keeps_all.ensures c.if-keeps_all.true) c.folded_top.ensures
+    (c.keeps_all.ensures.keeps c.if-keeps_all.true) c.folded_top.ensures

@@ -6,14 +6,13 @@ use Rattle.stack_text.specs.FoldedText.{IsLineFault}
 use Rattle.stack_text.specs.TopList.{AreTotalsOf}
 use Rattle.stack_text.proofs.Counting.{only_totals}
 use Rattle.stack_text.proofs.Reading.{filled, IsReadTo-begin, IsReadTo-row, IsReadTo-skip, IsReadTo-one_line, IsReadTo-fault, IsReadTo-end, IsFoldedText-same}
-use Rattle.stack_text.proofs.TallyLaws.{AreTalliesOf-none}
 use Rattle.stack_text.proofs.frame_totals.folded_totals.Goals as goal
 
 pub loop-index-init : goal.loop-index-init
 loop-index-init c = (
   [],
   IsReadTo-begin c.args.text.now c.into_iter-index-iterator.result _ [] c.into_iter-index-iterator.ensures.into_iter_gives (c.enumerate-index-items.ensures.source ∙ c.lines.ensures.value) c.enumerate-index-items.ensures.count refl,
-  AreTalliesOf-none c.new.result c.new.ensures.empty,
+  c.new-rows.ensures,
 )
 
 pub count_line-requires-clause-one_line : goal.count_line-requires-clause-one_line

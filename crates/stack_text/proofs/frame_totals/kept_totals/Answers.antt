@@ -1,10 +1,10 @@
 -- A kept row is counted, and another leaves what is counted.
 use Rattle.std.proofs.Common.{◌≡◌, take, get_or, true, ap, sym, ◌∙◌, arith}
 use Rattle.std.specs.Option.{option_copied}
+use Rattle.std.proofs.lemmas.List.Sums.{sum_by_more_le}
 use Rattle.stack_text.specs.declared.batch.Row.{Row}
 use Rattle.stack_text.specs.Rows.{total_of}
 use Rattle.stack_text.proofs.Kept.{kept_rows-left, kept_rows-more, weight_where-kept-le}
-use Rattle.stack_text.proofs.TallyLaws.{total_of-take}
 use Rattle.stack_text.proofs.frame_totals.kept_totals.Goals as goal
 use Rattle.stack_text.proofs.frame_totals.kept_totals.Goals.{then-keeps+in_ok-count_named, else-keeps}
 
@@ -12,7 +12,7 @@ pub count_named-requires-clause-fits : goal.count_named-requires-clause-fits
 count_named-requires-clause-fits c =
     let rows = c.rows-row-items.result.now in
     let before = weight_where-kept-le (option_copied c.args.focus) (option_copied c.args.ignored) (λ stack. true) (take c.loop-row.row-index rows) in
-    let all = total_of-take rows c.loop-row.row-index c.row-item.result c.loop-row-test.true in
+    let all = sum_by_more_le (λ (row : Row). row.weight) rows c.loop-row.row-index c.row-item.result c.loop-row-test.true in
     let row : c.row-item.result.weight ≡ (get_or rows c.loop-row.row-index c.row-item.result).weight = ap (λ (row : Row). row.weight) c.row-item.is in
     let held = c.loop-row.invariant.total in
     let batch = ap total_of c.rows-row-items.ensures.rows in

@@ -1,11 +1,12 @@
 -- The callers of the row, and then its leaf.
 use Rattle.std.proofs.Common.{◌≡◌, ◌++◌, ◌∷◌, [], ℕ, List, cond, map, ap, ◌∙◌, arith}
 use Rattle.std.proofs.lemmas.List.{map-append}
+use Rattle.std.proofs.lemmas.Result.{on_ok_weaker}
 use denote.Ref.{Bor}
 use Rattle.stack_text.specs.Names.{is_same_name}
 use Rattle.stack_text.specs.Tallies.{tally_at, frame_counted}
 use Rattle.stack_text.specs.declared.batch.Row.{Row}
-use Rattle.stack_text.proofs.TallyLaws.{on_ok_more, row_counted-leaf}
+use Rattle.stack_text.proofs.TallyLaws.{row_counted-leaf}
 use Rattle.stack_text.proofs.tallies.count_row.Goals as goal
 
 pub count_frame-requires-clause-numbered : goal.count_frame-requires-clause-numbered
@@ -15,7 +16,7 @@ abbrev texts : List (Bor (List ℕ)) → List (List ℕ)
 texts frames = map (λ (frame : Bor (List ℕ)). frame.now) frames
 
 pub returns-in_ok-count_callers-in-Some : goal.returns-in_ok-count_callers-in-Some
-returns-in_ok-count_callers-in-Some c = on_ok_more c.count_frame.result (λ counted q.
+returns-in_ok-count_callers-in-Some c = on_ok_weaker c.count_frame.result (λ counted q.
     let row : Row = record { stack = texts c.args.frames.now; weight = c.args.weight } in
     let stack : texts c.args.frames.now ≡ texts c.in-Some.callers.now ++ c.in-Some.leaf.now.now ∷ [] =
     ap texts c.in-Some.ensures.cases.0 ∙ map-append (λ (frame : Bor (List ℕ)). frame.now) c.in-Some.callers.now (c.in-Some.leaf.now ∷ []) in

@@ -1,8 +1,9 @@
 -- The row's number is new, and no name weighs more than the rows.
 use Rattle.std.proofs.Common.{ℕ, List, map, arith}
+use Rattle.std.proofs.lemmas.Result.{on_ok_weaker}
 use denote.Ref.{Bor}
 use Rattle.stack_text.specs.declared.batch.Row.{Row}
-use Rattle.stack_text.proofs.TallyLaws.{AreTalliesOf-counted, AreTalliesOf-cumulative, AreTalliesOf-flat, on_ok_more}
+use Rattle.stack_text.proofs.TallyLaws.{AreTalliesOf-counted, AreTalliesOf-cumulative, AreTalliesOf-flat}
 use Rattle.stack_text.proofs.tallies.count_stack.Goals as goal
 
 pub count_row-requires-clause-cumulative : goal.count_row-requires-clause-cumulative
@@ -20,4 +21,4 @@ count_row-requires-clause-flat c = λ q.
 pub returns : goal.returns
 returns c = λ rows are.
     let row : Row = record { stack = map (λ (frame : Bor (List ℕ)). frame.now) c.args.frames.now; weight = c.args.weight } in
-    on_ok_more c.count_row.result (AreTalliesOf-counted rows row c.args.held c.args.tallies.now c.count_row.new.tallies c.requires.names are) c.count_row.ensures
+    on_ok_weaker c.count_row.result (AreTalliesOf-counted rows row c.args.held c.args.tallies.now c.count_row.new.tallies c.requires.names are) c.count_row.ensures

@@ -2,9 +2,8 @@
 use Rattle.std.proofs.Common.{◌≡◌, ◌++◌, map, subst, sym, ap, ◌∙◌}
 use Rattle.std.proofs.lemmas.List.{append-nil}
 use Rattle.stack_text.specs.TopList.{AreSumsOf, shown}
-use Rattle.stack_text.specs.Tallies.{weighted_in}
 use Rattle.std.specs.List.{AllByRecursion}
-use Rattle.stack_text.proofs.Weighted.{IsNamed, entries-IsNamed, shown-AreSumsOf}
+use Rattle.stack_text.proofs.Weighted.{IsNamed, weighted_in, entries-IsNamed, shown-AreSumsOf}
 use Rattle.stack_text.proofs.tallies.weighted.Goals as goal
 
 pub loop-name-init : goal.loop-name-init

@@ -1,8 +1,7 @@
 use Rattle.std.proofs.Common.{◌≡◌, ◌++◌, map}
 use Rattle.std.specs.List.{AllByRecursion}
-use Rattle.stack_text.specs.Tallies.{weighted_in}
 use Rattle.stack_text.specs.TopList.{shown}
-use Rattle.stack_text.proofs.Weighted.{IsNamed}
+use Rattle.stack_text.proofs.Weighted.{IsNamed, weighted_in}
 use Rattle.stack_text.proofs.tallies.weighted.Given as goal
 
 -- the names so far, and those of the entries that are left, which have names for keys

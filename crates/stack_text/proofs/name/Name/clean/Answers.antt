@@ -2,7 +2,8 @@
 use Rattle.std.proofs.Common.{rules, sym, ap, ◌∙◌, subst}
 use Rattle.std.specs.Prelude.{Some}
 use Rattle.stack_text.specs.Names.{IsName}
-use Rattle.stack_text.proofs.Cleaning.{IsName-cleaned, cleaned-name, cleaned_name_of-some, filled_text}
+use Rattle.stack_text.proofs.Cleaning.{IsName-cleaned, cleaned-name, cleaned_name_of-some}
+use Rattle.stack_text.proofs.Reading.{filled}
 use Rattle.stack_text.proofs.name.Name.clean.Goals as goal
 
 pub returns-then-is_name : goal.returns-then-is_name
@@ -12,9 +13,9 @@ returns-then-is_name c =
 
 pub keep-requires-2 : goal.keep-requires-2
 keep-requires-2 c =
-    subst IsName (sym (c.as_str.ensures.value ∙ c.in_ok-cleaned.ensures)) (IsName-cleaned c.args.text.now c.utf8.text (filled_text c.args.text.now (sym c.is_empty.ensures ∙ c.if-is_empty.false)))
+    subst IsName (sym (c.as_str.ensures.value ∙ c.in_ok-cleaned.ensures)) (IsName-cleaned c.args.text.now c.utf8.text (filled c.args.text.now (sym c.is_empty.ensures ∙ c.if-is_empty.false)))
 
 pub returns : goal.returns
 returns c =
     ap Some (c.in_ok-keep-2.ensures ∙ c.as_str.ensures.value ∙ c.in_ok-cleaned.ensures)
-    ∙ sym (cleaned_name_of-some c.args.text.now (filled_text c.args.text.now (sym c.is_empty.ensures ∙ c.if-is_empty.false)))
+    ∙ sym (cleaned_name_of-some c.args.text.now (filled c.args.text.now (sym c.is_empty.ensures ∙ c.if-is_empty.false)))

@@ -1,4 +1,6 @@
 pub mod Answers
+pub mod Equality
+pub mod EqualityLaws
 pub mod Json
 pub mod Labels
 pub mod Sharing

@@ -1,4 +1,4 @@
-ghost use Rattle.std.specs.Prelude.{◌≡◌, [], IfOk};
+ghost use Rattle.std.specs.Prelude.{◌≡◌, ◌↔◌, [], IfOk, IsTrue};
 
 use crate::items::Items;
 use crate::query::Columns;
@@ -7,7 +7,7 @@ use std::alloc::AllocError;
 use std::marker::Model;
 
 /// A name and what it weighs.
-#[derive(Drop)]
+#[derive(Drop, PartialEq, Eq)]
 pub struct TopRow {
     pub name: Name,
     /// The weight of the rows whose leaf has the name.
@@ -17,7 +17,7 @@ pub struct TopRow {
 }
 
 /// The names that weigh most, and what all rows weigh together.
-#[derive(Drop)]
+#[derive(Drop, PartialEq, Eq)]
 pub struct Top {
     pub total: u64,
     pub rows: Items<TopRow>,
@@ -65,8 +65,28 @@ impl Label {
     }
 }
 
+impl PartialEq for Label {
+    ghost use Rattle.stack_text.specs.Names.{is_same_name};
+    ghost use Rattle.std.specs.Cmp.{partial_equiv_from_equiv};
+    ghost use Rattle.std.specs.Cmp.Lexicographic.{nat_list_eq_equiv};
+
+    ghost eq = { is_same_name };
+
+    ghost laws = { partial_equiv_from_equiv nat_list_eq_equiv };
+
+    fn eq(&self, other: &Label) -> bool {
+        self.text().as_bytes() == other.text().as_bytes()
+    }
+}
+
+impl Eq for Label {
+    ghost use Rattle.std.specs.Cmp.Lexicographic.{nat_list_eq_equiv};
+
+    ghost laws = { nat_list_eq_equiv };
+}
+
 /// A rectangle of a flame graph: a path of the kept stacks that is wide enough to be seen.
-#[derive(Drop)]
+#[derive(Drop, PartialEq, Eq)]
 pub struct Rect {
     /// How many names the path has.
     pub depth: u32,
@@ -82,7 +102,7 @@ pub struct Rect {
 }
 
 /// The layout of a flame graph. Its rectangles come in the order of their paths.
-#[derive(Drop)]
+#[derive(Drop, PartialEq, Eq)]
 pub struct Flame {
     pub total: u64,
     pub columns: Columns,
@@ -96,4 +116,34 @@ pub enum Answer {
     Top(Top),
     Flame(Flame),
     Folded(Items<u8>),
+}
+
+impl PartialEq for Answer {
+    ghost use Rattle.flame_report.specs.Equality.{answer_eq};
+    ghost use Rattle.flame_report.specs.EqualityLaws.{answer_eq-laws};
+    ghost use Rattle.std.specs.Cmp.{partial_equiv_from_equiv};
+
+    ghost eq = { answer_eq };
+
+    ghost laws = { partial_equiv_from_equiv answer_eq-laws };
+
+    /// Whether the answers say the same.
+    fn eq(&self, other: &Answer) -> bool
+        ensures compared { result ≡ answer_eq self.now other.now }
+        ensures equal { IsTrue result ↔ (self.now ≡ other.now) }
+    {
+        match (self, other) {
+            (Answer::Total(total), Answer::Total(other)) => total == other,
+            (Answer::Top(top), Answer::Top(other)) => top == other,
+            (Answer::Flame(flame), Answer::Flame(other)) => flame == other,
+            (Answer::Folded(text), Answer::Folded(other)) => text == other,
+            _ => false,
+        }
+    }
+}
+
+impl Eq for Answer {
+    ghost use Rattle.flame_report.specs.EqualityLaws.{answer_eq-laws};
+
+    ghost laws = { answer_eq-laws };
 }

@@ -1,4 +1,4 @@
-ghost use Rattle.std.specs.Prelude.{◌≡◌, ◌<◌, ◌≤◌, ◌⊎◌, MatchOption};
+ghost use Rattle.std.specs.Prelude.{◌≡◌, ◌<◌, ◌≤◌, ◌⊎◌, ◌↔◌, IsTrue, MatchOption};
 
 use stack_text::Name;
 use std::marker::Model;
@@ -7,7 +7,7 @@ use std::marker::Model;
 pub const MAX_COLUMNS: u32 = 65_535;
 
 /// How many columns a layout has: 1 to [`MAX_COLUMNS`].
-#[derive(Clone, Copy, Debug)]
+#[derive(Clone, Copy, Debug, PartialEq, Eq)]
 pub struct Columns {
     count: u32,
 }
@@ -55,7 +55,7 @@ pub enum Rank {
 }
 
 /// What a query asks for.
-#[derive(Clone, Copy, Debug)]
+#[derive(Clone, Copy, Debug, PartialEq, Eq)]
 pub enum Kind {
     /// The weight of all kept rows.
     Total,
@@ -75,4 +75,28 @@ pub struct Query {
     /// Where there is one, rows whose stack has this name aren't kept.
     pub ignore: Option<Name>,
     pub kind: Kind,
+}
+
+impl PartialEq for Query {
+    ghost use Rattle.flame_report.specs.Equality.{query_eq};
+    ghost use Rattle.flame_report.specs.EqualityLaws.{query_eq-laws};
+    ghost use Rattle.std.specs.Cmp.{partial_equiv_from_equiv};
+
+    ghost eq = { query_eq };
+
+    ghost laws = { partial_equiv_from_equiv query_eq-laws };
+
+    /// Whether the queries ask the same.
+    fn eq(&self, other: &Query) -> bool
+        ensures compared { result ≡ query_eq self.now other.now }
+        ensures equal { IsTrue result ↔ (self.now ≡ other.now) }
+    {
+        self.focus == other.focus && self.ignore == other.ignore && self.kind == other.kind
+    }
+}
+
+impl Eq for Query {
+    ghost use Rattle.flame_report.specs.EqualityLaws.{query_eq-laws};
+
+    ghost laws = { query_eq-laws };
 }

@@ -3,6 +3,7 @@ pub mod Cleaning
 pub mod Counting
 pub mod Counts
 pub mod EntryLaws
+pub mod EqualRows
 pub mod ExportLaws
 pub mod ExportedRows
 pub mod FirstFault

@@ -162,8 +162,10 @@ impl PartialEq for Batch {
 
     ghost laws = { lists_per (partial_equiv_from_equiv row_eq-laws) };
 
+    /// Whether the batches have the same rows in the same order.
     fn eq(&self, other: &Batch) -> bool
-        ensures { result ≡ pointwise row_eq self.now other.now }
+        ensures compared { result ≡ pointwise row_eq self.now other.now }
+        ensures equal { IsTrue result ↔ (self.now ≡ other.now) }
     {
         self.rows.as_slice() == other.rows.as_slice()
     }

@@ -1,0 +1,68 @@
+-- One entry more keeps what a ledger keeps.
+use Rattle.std.proofs.Common.{◌≡◌, ℕ, ◌+◌, ◌<◌, ◌≤◌, cond, List, [], ◌∷◌, ◌++◌, length, get_or, set, sym, ap, ◌∙◌, subst, arith, inl, inr}
+use Rattle.std.specs.Prelude.{◌==◌}
+use Rattle.std.proofs.lemmas.Bool.{cases_eq, eq-eqb, ne_eqb}
+use Rattle.std.proofs.lemmas.List.{length-append, length-map, length-set, get_or-set_same, get_or-set_other}
+use Rattle.std.proofs.lemmas.List.Sums.{count_by-le-length}
+use Rattle.op_book.specs.Books.{HasTurn}
+use Rattle.op_book.specs.Ledgers.{IsLedger}
+use Rattle.op_book.specs.Operations.{PlainEntry, addition_of, additions_of, operations_of, plain_answer}
+use Rattle.op_book.specs.Runs.{turns_of}
+use Rattle.op_book.proofs.EntryLaws.{EachAfter-push, addition_of-le, additions_of-le, additions_of-push, operations_of-push, turns_of-push}
+
+-- the count that a ledger has of a session's entries
+pub turn_held : (entries : List PlainEntry) (additions limit : ℕ) (turns : List ℕ) (session held : ℕ) → IsLedger entries additions limit turns → session < length turns
+    → held ≡ get_or turns session held → held ≡ turns_of entries session
+turn_held entries additions limit turns session held is known there = there ∙ is.turns_are session held known
+
+pub turns_of-le : (entries : List PlainEntry) (session : ℕ) → turns_of entries session ≤ length entries
+turns_of-le entries session = count_by-le-length (λ (entry : PlainEntry). entry.session == session) entries
+
+-- how many additions there are with one operation more
+pub additions-le : (entries : List PlainEntry) (additions limit : ℕ) (turns : List ℕ) (entry : PlainEntry) → IsLedger entries additions limit turns
+    → additions + length (addition_of entry.op) ≤ limit + 1
+additions-le entries additions limit turns entry is =
+    let most = additions_of-le (operations_of entries) in
+    let one = addition_of-le entry.op in
+    let size : length (operations_of entries) ≡ length entries = length-map entries (λ (e : PlainEntry). e.op) in
+    omega (arith, most, one, size, is.additions_are, is.count)
+
+counted : (entries : List PlainEntry) (additions : ℕ) (entry : PlainEntry) → additions ≡ length (additions_of (operations_of entries))
+    → additions + length (addition_of entry.op) ≡ length (additions_of (operations_of (entries ++ entry ∷ [])))
+counted entries additions entry is =
+    let all : additions_of (operations_of (entries ++ entry ∷ [])) ≡ additions_of (operations_of entries) ++ addition_of entry.op =
+    ap additions_of (operations_of-push entries entry) ∙ additions_of-push (operations_of entries) entry.op in
+    ap (λ n. n + length (addition_of entry.op)) is ∙ sym (ap length all ∙ length-append (additions_of (operations_of entries)) (addition_of entry.op))
+
+next_turns : (entries : List PlainEntry) (turns : List ℕ) (entry : PlainEntry) → ((session otherwise : ℕ) → session < length turns → get_or turns session otherwise ≡ turns_of entries session)
+    → (session otherwise : ℕ) → session < length turns → get_or (set turns entry.session (turns_of entries entry.session + 1)) session otherwise ≡ turns_of (entries ++ entry ∷ []) session
+next_turns entries turns entry are session otherwise lt =
+    let more = turns_of-push entries entry session in
+    elim (cases_eq session entry.session) [
+      | inl same ↦
+          let one : turns_of (entries ++ entry ∷ []) session ≡ turns_of entries session + 1 = more ∙ ap (λ b. turns_of entries session + cond b 1 0) (eq-eqb entry.session session (sym same)) in
+          let here : get_or (set turns session (turns_of entries entry.session + 1)) session otherwise ≡ turns_of entries entry.session + 1 = get_or-set_same turns session (turns_of entries entry.session + 1) otherwise lt in
+          ap (λ at. get_or (set turns at (turns_of entries entry.session + 1)) session otherwise) (sym same) ∙ here ∙ ap (λ s. turns_of entries s + 1) (sym same) ∙ sym one
+      | inr other ↦
+          let none : turns_of (entries ++ entry ∷ []) session ≡ turns_of entries session + 0 = more ∙ ap (λ b. turns_of entries session + cond b 1 0) (ne_eqb entry.session session (λ e. other (sym e))) in
+          let kept = are session otherwise lt in
+          let left = get_or-set_other turns entry.session session (turns_of entries entry.session + 1) otherwise other in
+          omega (arith, none, kept, left)
+    ]
+
+pub IsLedger-append : (entries : List PlainEntry) (additions limit : ℕ) (turns : List ℕ) (entry : PlainEntry) → IsLedger entries additions limit turns
+    → HasTurn entries limit (length turns) entry.session entry.turn → entry.reply ≡ plain_answer (operations_of entries) entry.op
+    → IsLedger (entries ++ entry ∷ []) (additions + length (addition_of entry.op)) limit (set turns entry.session (turns_of entries entry.session + 1))
+IsLedger-append entries additions limit turns entry is turn reply =
+    let sessions : length (set turns entry.session (turns_of entries entry.session + 1)) ≡ length turns = length-set turns entry.session (turns_of entries entry.session + 1) in
+    let size = length-append entries (entry ∷ []) in
+    record {
+      legal = EachAfter-push (λ before last. last.reply ≡ plain_answer (operations_of before) last.op) entries entry is.legal reply;
+      in_turn = EachAfter-push (λ before last. last.turn ≡ turns_of before last.session) entries entry is.in_turn turn.next;
+      known = rw sessions (EachAfter-push (λ before last. last.session < length turns) entries entry is.known turn.known);
+      additions_are = counted entries additions entry is.additions_are;
+      turns_are = λ session otherwise lt. next_turns entries turns entry is.turns_are session otherwise (subst (λ n. session < n) sessions lt);
+      count = omega (arith, size, turn.room);
+      few = rw sessions is.few;
+      small = is.small;
+    }

@@ -1,0 +1,5 @@
+pub mod Books
+pub mod Equality
+pub mod Ledgers
+pub mod Operations
+pub mod Runs

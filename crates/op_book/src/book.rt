@@ -1,0 +1,261 @@
+//! The book of a store: the journal so far, and the tree of all that was added.
+
+ghost use Rattle.std.specs.Prelude.{◌≡◌, ◌≤◌, ◌<◌, ◌^◌, [], length, IfErr, IfOk, OnErr, OnOk};
+ghost use Rattle.std.specs.Arc.{arc_value};
+ghost use Rattle.call_tree.specs.State.{total_in, weights_of};
+ghost use Rattle.op_book.specs.Books.{IsAppended, IsFirstBookFault, IsOrderly, IsReplay, IsSameBook, IsTaken, receipt_after, weight_held};
+ghost use Rattle.op_book.specs.Operations.{add, answered, ask, operations_of, placed, plain_answer};
+
+use crate::entry::{Entry, Receipt};
+use crate::fault::{BookFault, Refused};
+use crate::journal::Journal;
+use crate::ledger::Ledger;
+use crate::operation::{Op, Reply};
+use call_tree::{CallTree, Grower};
+use flame_report::{Answer, NoMemory, Query, report};
+use stack_text::laws::{aggregate_of_more_rows, sums_are_those_of_the_aggregate};
+use stack_text::{Batch, MAX_TOTAL};
+use std::alloc::Global;
+use std::marker::Model;
+use std::sync::Arc;
+
+/// Operations in order, each with its reply, and the tree of all that they added. Whatever is done to a book, its tree is the
+/// aggregate of the additions in it, and each reply is what the plain profile gives after the operations before.
+#[derive(Drop)]
+pub struct Book {
+    ledger: Ledger,
+    grower: Grower,
+}
+
+impl Model for Book {
+    ghost use Rattle.std.specs.Prelude.{◌≡◌};
+    ghost use Rattle.stack_text.specs.Aggregate.{aggregate_of};
+    ghost use Rattle.call_tree.specs.State.{weights_of};
+    ghost use Rattle.call_tree.specs.State.{total_in, weights_of};
+    ghost use Rattle.op_book.specs.Books.{BookState};
+    ghost use Rattle.op_book.specs.Operations.{operations_of, profile_after};
+
+    ghost Value = { BookState };
+
+    ghost view = { λ b. record { entries = b.ledger.entries; tree = b.grower; limit = b.ledger.limit; sessions = b.ledger.sessions } };
+
+    ghost invariant = { λ b. weights_of b.grower ≡ aggregate_of (profile_after (operations_of b.ledger.entries)) };
+}
+
+/// Where an addition was placed.
+struct Placing {
+    /// How many additions stand before it.
+    place: u64,
+    /// The place of its entry.
+    at: u64,
+}
+
+/// An answer, and the place of its entry.
+#[derive(Drop)]
+struct Report {
+    answer: Arc<Answer>,
+    at: u64,
+}
+
+impl Book {
+    /// A book without entries, for at most `limit` of them, of sessions that are numbered from 0: 1 to 64.
+    ///
+    /// # Errors
+    ///
+    /// `NoMemory`.
+    pub fn new(alloc: Global, limit: u32, sessions: u32) -> Result<Book, NoMemory>
+        requires some { 0 < sessions }
+        requires few { sessions ≤ 64 }
+        ensures entries { IfOk result (λ book. book.entries ≡ []) }
+        ensures limits { IfOk result (λ book. (book.limit ≡ limit) × (book.sessions ≡ sessions)) }
+        ensures replay { IfOk result (λ book. IsReplay book.entries book.tree) }
+        ensures orderly { IfOk result IsOrderly }
+    {
+        let ledger = Ledger::new(alloc, limit, sessions)?;
+        let grower = Grower::new(alloc)?;
+        Ok(Book { ledger, grower })
+    }
+
+    /// Adds the rows of a batch as the turn of a session. The journal gets exactly one entry, of which the receipt tells.
+    ///
+    /// # Errors
+    ///
+    /// The first [`BookFault`]: memory is wanting only where there is no other. The book is then as it was, and the batch is
+    /// handed back.
+    pub fn add(
+        &mut self,
+        alloc: Global,
+        session: u32,
+        turn: u64,
+        batch: Arc<Batch>,
+    ) -> Result<Receipt, Refused<Arc<Batch>>>
+        ensures appended { OnOk result (IsAppended self.old session turn (add (arc_value batch)) self.new) }
+        ensures receipt { IfOk result (λ receipt. receipt ≡ receipt_after self.old.entries (add (arc_value batch))) }
+        ensures taken { OnOk result (IsTaken self.old session turn (add (arc_value batch))) }
+        ensures unchanged { OnErr result (IsSameBook self.old self.new) }
+        ensures back { IfErr result (λ refused. refused.back ≡ batch) }
+        ensures first_fault { IfErr result (λ refused. IsFirstBookFault self.old session turn (add (arc_value batch)) refused.fault) }
+        ensures replay { IsReplay self.new.entries self.new.tree }
+        ensures orderly { IsOrderly self.new }
+    {
+        let appended = self.append_addition(alloc, session, turn, &batch);
+        self.known();
+        match appended {
+            Ok(Placing { place, at }) => Ok(Receipt {
+                op: Op::Add(batch),
+                reply: Reply::Placed(place),
+                at,
+            }),
+            Err(fault) => Err(Refused { fault, back: batch }),
+        }
+    }
+
+    /// Answers a query over all that was added so far as the turn of a session. The journal gets exactly one entry, of which
+    /// the receipt tells.
+    ///
+    /// # Errors
+    ///
+    /// The first [`BookFault`], which is never `Heavy`: memory is wanting only where there is no other. The book is then as it
+    /// was, and the query is handed back.
+    pub fn ask(
+        &mut self,
+        alloc: Global,
+        session: u32,
+        turn: u64,
+        query: Arc<Query>,
+    ) -> Result<Receipt, Refused<Arc<Query>>>
+        ensures appended { OnOk result (IsAppended self.old session turn (ask (arc_value query)) self.new) }
+        ensures receipt { IfOk result (λ receipt. receipt ≡ receipt_after self.old.entries (ask (arc_value query))) }
+        ensures taken { OnOk result (IsTaken self.old session turn (ask (arc_value query))) }
+        ensures unchanged { OnErr result (IsSameBook self.old self.new) }
+        ensures back { IfErr result (λ refused. refused.back ≡ query) }
+        ensures first_fault { IfErr result (λ refused. IsFirstBookFault self.old session turn (ask (arc_value query)) refused.fault) }
+        ensures replay { IsReplay self.new.entries self.new.tree }
+        ensures orderly { IsOrderly self.new }
+    {
+        let appended = self.append_report(alloc, session, turn, &query);
+        self.known();
+        match appended {
+            Ok(Report { answer, at }) => Ok(Receipt {
+                op: Op::Ask(query),
+                reply: Reply::Answered(answer),
+                at,
+            }),
+            Err(fault) => Err(Refused { fault, back: query }),
+        }
+    }
+
+    /// Adds a batch and its entry. All memory is taken before anything is changed.
+    fn append_addition(
+        &mut self,
+        alloc: Global,
+        session: u32,
+        turn: u64,
+        batch: &Arc<Batch>,
+    ) -> Result<Placing, BookFault>
+        ensures appended { OnOk result (IsAppended self.old session turn (add (arc_value batch.now)) self.new) }
+        ensures placing { IfOk result (λ placing. (placed placing.place ≡ plain_answer (operations_of self.old.entries) (add (arc_value batch.now)))
+            × (placing.at ≡ length self.old.entries)) }
+        ensures taken { OnOk result (IsTaken self.old session turn (add (arc_value batch.now))) }
+        ensures unchanged { OnErr result (IsSameBook self.old self.new) }
+        ensures first_fault { IfErr result (λ fault. IsFirstBookFault self.old session turn (add (arc_value batch.now)) fault) }
+    {
+        self.ledger.admit(session, turn)?;
+        let held = self.held();
+        if batch.total() > MAX_TOTAL - held {
+            return Err(BookFault::Heavy { held });
+        }
+        let place = self.ledger.additions();
+        let entry = Entry {
+            session,
+            turn,
+            op: Op::Add(Arc::try_clone(batch)?),
+            reply: Reply::Placed(place),
+        };
+        let plan = self.grower.plan(alloc, batch)?;
+        let at = self.ledger.append(entry)?;
+        aggregate_of_more_rows();
+        self.grower.credit(plan);
+        Ok(Placing { place, at })
+    }
+
+    /// Answers a query, and adds its entry.
+    fn append_report(
+        &mut self,
+        alloc: Global,
+        session: u32,
+        turn: u64,
+        query: &Arc<Query>,
+    ) -> Result<Report, BookFault>
+        ensures appended { OnOk result (IsAppended self.old session turn (ask (arc_value query.now)) self.new) }
+        ensures answer { IfOk result (λ report. (answered (arc_value report.answer) ≡ plain_answer (operations_of self.old.entries) (ask (arc_value query.now)))
+            × (report.at ≡ length self.old.entries)) }
+        ensures taken { OnOk result (IsTaken self.old session turn (ask (arc_value query.now))) }
+        ensures unchanged { OnErr result (IsSameBook self.old self.new) }
+        ensures first_fault { IfErr result (λ fault. IsFirstBookFault self.old session turn (ask (arc_value query.now)) fault) }
+    {
+        self.known();
+        self.ledger.admit(session, turn)?;
+        let answer = Arc::new(alloc, report(alloc, self.grower.tree(), query)?)?;
+        let entry = Entry {
+            session,
+            turn,
+            op: Op::Ask(Arc::try_clone(query)?),
+            reply: Reply::Answered(Arc::try_clone(&answer)?),
+        };
+        let at = self.ledger.append(entry)?;
+        Ok(Report { answer, at })
+    }
+
+    /// What every book keeps.
+    fn known(&self)
+        ensures replay { IsReplay self.now.entries self.now.tree }
+        ensures orderly { IsOrderly self.now }
+    {
+        let _ = self.ledger.entries();
+        let _ = self.held();
+    }
+
+    /// What all rows that were added weigh.
+    fn held(&self) -> u64
+        ensures held { result ≡ weight_held self.now }
+        ensures tree { result ≡ total_in (weights_of self.now.tree) }
+        ensures fits { weight_held self.now < 2 ^ 63 }
+    {
+        sums_are_those_of_the_aggregate();
+        self.grower.tree().total()
+    }
+
+    /// The entries.
+    pub(crate) fn entries(&self) -> &[Entry]
+        ensures entries { result.now ≡ self.now.entries }
+        ensures replay { IsReplay self.now.entries self.now.tree }
+        ensures orderly { IsOrderly self.now }
+    {
+        self.known();
+        self.ledger.entries()
+    }
+
+    /// The tree of all that was added.
+    pub(crate) fn tree(&self) -> &CallTree
+        ensures tree { result.now ≡ self.now.tree }
+        ensures replay { IsReplay self.now.entries self.now.tree }
+    {
+        self.known();
+        self.grower.tree()
+    }
+
+    /// How many sessions the book has.
+    pub(crate) fn sessions(&self) -> u32
+        ensures { result ≡ self.now.sessions }
+    {
+        self.ledger.sessions()
+    }
+
+    /// The book closed: what it holds, to which nothing is added any more. Takes no memory.
+    pub fn into_journal(self) -> Journal
+        ensures { result ≡ record { entries = self.entries; tree = self.tree; sessions = self.sessions } }
+    {
+        Journal::new(self)
+    }
+}

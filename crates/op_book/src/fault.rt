@@ -1,0 +1,65 @@
+//! Why a book refuses an operation.
+
+use flame_report::NoMemory;
+use std::alloc::{AllocError, AllocFailed};
+use thiserror::Error;
+
+/// Why a book refuses an operation. The first cause in this order is told.
+#[derive(Clone, Copy, Debug, PartialEq, Eq, Error)]
+pub enum BookFault {
+    /// The book has no session of this number.
+    #[error("K1 Session")]
+    Session,
+    /// The turn isn't the number of entries that the session has, `held`.
+    #[error("K2 Turn held {held}")]
+    Turn { held: u64 },
+    /// The journal has as many entries as it may have, `held`.
+    #[error("K3 Full held {held}")]
+    Full { held: u32 },
+    /// What was added so far weighs `held`, and passes [`stack_text::MAX_TOTAL`] together with the batch.
+    #[error("K4 Heavy held {held}")]
+    Heavy { held: u64 },
+    /// Memory ran out.
+    #[error("K5 NoMemory")]
+    NoMemory,
+}
+
+impl From<NoMemory> for BookFault {
+    ghost use Rattle.std.specs.Prelude.{◌≡◌};
+    ghost use Rattle.op_book.specs.declared.fault.BookFault.TheVariants as fault;
+
+    ghost from_gives = { λ _ given. given ≡ fault.NoMemory };
+
+    fn from(_error: NoMemory) -> BookFault {
+        BookFault::NoMemory
+    }
+}
+
+impl From<AllocError> for BookFault {
+    ghost use Rattle.std.specs.Prelude.{◌≡◌};
+    ghost use Rattle.op_book.specs.declared.fault.BookFault.TheVariants as fault;
+
+    ghost from_gives = { λ _ given. given ≡ fault.NoMemory };
+
+    fn from(_error: AllocError) -> BookFault {
+        BookFault::NoMemory
+    }
+}
+
+impl<T: Drop> From<AllocFailed<T>> for BookFault {
+    ghost use Rattle.std.specs.Prelude.{◌≡◌};
+    ghost use Rattle.op_book.specs.declared.fault.BookFault.TheVariants as fault;
+
+    ghost from_gives = { λ _ given. given ≡ fault.NoMemory };
+
+    fn from(_error: AllocFailed<T>) -> BookFault {
+        BookFault::NoMemory
+    }
+}
+
+/// A fault, and the value that was refused.
+#[derive(Drop)]
+pub struct Refused<T> {
+    pub fault: BookFault,
+    pub back: T,
+}

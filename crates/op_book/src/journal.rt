@@ -1,0 +1,61 @@
+//! What a closed book leaves.
+
+ghost use Rattle.std.specs.Prelude.{◌≡◌, ◌<◌, ◌^◌};
+ghost use Rattle.stack_text.specs.Rows.{total_of};
+ghost use Rattle.op_book.specs.Operations.{operations_of, profile_after};
+ghost use Rattle.op_book.specs.Books.{IsReplay};
+ghost use Rattle.op_book.specs.Runs.{AreOfSessions, AreTurnsInOrder};
+
+use crate::book::Book;
+use crate::entry::Entry;
+use call_tree::CallTree;
+use std::marker::Model;
+
+/// The entries of a closed book, with the tree that they made.
+#[derive(Drop)]
+pub struct Journal {
+    book: Book,
+}
+
+impl Model for Journal {
+    ghost use Rattle.op_book.specs.Books.{JournalState};
+
+    ghost Value = { JournalState };
+
+    ghost view = { λ j. record { entries = j.book.entries; tree = j.book.tree; sessions = j.book.sessions } };
+}
+
+impl Journal {
+    /// The journal of a book.
+    pub(crate) fn new(book: Book) -> Journal
+        ensures { result ≡ record { entries = book.entries; tree = book.tree; sessions = book.sessions } }
+    {
+        Journal { book }
+    }
+
+    /// The entries, in the order in which the operations were taken.
+    pub fn entries(&self) -> &[Entry]
+        ensures entries { result.now ≡ self.now.entries }
+        ensures replay { IsReplay self.now.entries self.now.tree }
+        ensures turns { AreTurnsInOrder self.now.entries }
+        ensures known { AreOfSessions self.now.sessions self.now.entries }
+        ensures weight { total_of (profile_after (operations_of self.now.entries)) < 2 ^ 63 }
+    {
+        self.book.entries()
+    }
+
+    /// The tree of all that was added.
+    pub fn tree(&self) -> &CallTree
+        ensures tree { result.now ≡ self.now.tree }
+        ensures replay { IsReplay self.now.entries self.now.tree }
+    {
+        self.book.tree()
+    }
+
+    /// How many sessions the book had, whose numbers are from 0.
+    pub fn sessions(&self) -> u32
+        ensures { result ≡ self.now.sessions }
+    {
+        self.book.sessions()
+    }
+}

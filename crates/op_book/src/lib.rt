@@ -1,0 +1,16 @@
+//! The journal of a profile store: each addition and each question is one entry, with the reply that the plain profile gives.
+#![tactic(auto)]
+
+mod book;
+mod entry;
+mod fault;
+mod journal;
+mod ledger;
+mod operation;
+
+pub use book::Book;
+pub use entry::{Entry, Receipt};
+pub use fault::{BookFault, Refused};
+pub use flame_report::NoMemory;
+pub use journal::Journal;
+pub use operation::{Op, Reply};

@@ -1,6 +1,7 @@
 //! What a journal keeps of an operation, and what its session is told of it.
 
 use crate::operation::{Op, Reply};
+use flame_report::Items;
 use std::marker::Model;
 
 /// An entry of a journal. A contract sees what its operation and its reply hold.
@@ -36,4 +37,11 @@ impl Model for Receipt {
     ghost Value = { PlainReceipt };
 
     ghost view = { λ r. record { op = plain_op r.op; reply = plain_reply r.reply; at = r.at } };
+}
+
+/// What a session was told, in its own order.
+#[derive(Drop)]
+pub struct SessionLog {
+    pub session: u32,
+    pub receipts: Items<Receipt>,
 }

@@ -9,7 +9,7 @@ mod ledger;
 mod operation;
 
 pub use book::Book;
-pub use entry::{Entry, Receipt};
+pub use entry::{Entry, Receipt, SessionLog};
 pub use fault::{BookFault, Refused};
 pub use flame_report::NoMemory;
 pub use journal::Journal;

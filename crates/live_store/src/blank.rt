@@ -1,0 +1,49 @@
+//! A store before any thread uses it.
+
+ghost use Rattle.std.specs.Prelude.{◌≡◌, ◌<◌, ◌≤◌, ◌⊎◌, IfOk, MatchResult};
+ghost use Rattle.live_store.specs.Stores.{IsMakeFault};
+
+use crate::fault::MakeFault;
+use op_book::Book;
+use std::alloc::Global;
+use std::marker::Model;
+
+/// The most sessions of a store.
+pub const MAX_SESSIONS: u32 = 64;
+
+/// An empty store that has no name yet: [`Store::start`](crate::Store::start) takes it.
+pub struct Blank {
+    pub(crate) book: Book,
+    pub(crate) sessions: u32,
+}
+
+impl Model for Blank {
+    ghost use Rattle.std.specs.Prelude.{◌≡◌, ◌≤◌, []};
+    ghost use Rattle.live_store.specs.Stores.{StoreLimits};
+
+    ghost Value = { StoreLimits };
+
+    ghost view = { λ b. record { limit = b.book.limit; sessions = b.sessions } };
+
+    ghost invariant = { λ b. (b.book.entries ≡ []) × (b.book.sessions ≡ b.sessions) × (b.sessions ≤ 64) };
+}
+
+impl Blank {
+    /// An empty store of at most `limit` operations, and 1 to [`MAX_SESSIONS`] sessions.
+    ///
+    /// # Errors
+    ///
+    /// `Sessions` exactly where it can't have so many sessions; `NoMemory`.
+    pub fn make(alloc: Global, limit: u32, sessions: u32) -> Result<Blank, MakeFault>
+        ensures made { IfOk result (λ blank. blank ≡ record { limit = limit; sessions = sessions }) }
+        ensures sessions { MatchResult result (λ _. (0 < sessions) × (sessions ≤ MAX_SESSIONS)) (λ fault. IsMakeFault sessions fault) }
+    {
+        if sessions == 0 || sessions > MAX_SESSIONS {
+            return Err(MakeFault::Sessions);
+        }
+        match Book::new(alloc, limit, sessions) {
+            Ok(book) => Ok(Blank { book, sessions }),
+            Err(_) => Err(MakeFault::NoMemory),
+        }
+    }
+}

@@ -1,0 +1,16 @@
+//! A profile store of many threads: a book behind a lock, and a session for each thread, which keeps a log of its receipts.
+#![tactic(auto)]
+
+mod blank;
+mod desk;
+mod fault;
+mod session;
+mod store;
+#[cfg(test)]
+mod tests;
+
+pub use blank::{Blank, MAX_SESSIONS};
+pub use fault::{MakeFault, Refused, SessionFault};
+pub use op_book::BookFault;
+pub use session::{Placed, Session};
+pub use store::{Store, StoreName};

@@ -1,0 +1,208 @@
+//! A session: what one thread asks of a store, and what it was told.
+
+ghost use Rattle.std.specs.Prelude.{◌≡◌, ◌≢◌, ◌<◌, ◌++◌, ◌∷◌, [], ℕ, List, length, IfErr, IfOk, OnErr, OnOk};
+ghost use Rattle.std.specs.Arc.{arc_value};
+ghost use Rattle.stack_text.specs.Rows.{total_of};
+ghost use Rattle.op_book.specs.Operations.{PlainOp, PlainReceipt, add, answered, ask, placed, plain_reply};
+ghost use Rattle.flame_report.specs.declared.answer.Answer.{Answer};
+ghost use Rattle.live_store.specs.Stores.{ShowsCause};
+
+use crate::fault::Refused;
+use crate::store::{Store, StoreName};
+use flame_report::{Answer, Items, Query};
+use op_book::{BookFault, Receipt, Reply, SessionLog};
+use stack_text::Batch;
+use std::alloc::Global;
+use std::marker::Model;
+use std::sync::{Arc, Wait};
+
+/// Where an addition was placed.
+#[derive(Clone, Copy, Debug, PartialEq, Eq)]
+pub struct Placed {
+    /// How many additions stand before it.
+    pub place: u64,
+}
+
+/// The place that an addition was told.
+fn place_in(reply: &Reply) -> u64
+    requires { (place : ℕ) × (plain_reply reply.now ≡ placed place) }
+    ensures { plain_reply reply.now ≡ placed result }
+{
+    match reply {
+        Reply::Placed(place) => *place,
+        Reply::Answered(_) => unreachable!(),
+    }
+}
+
+/// What one thread asks of a store. It keeps a receipt of each operation that succeeded.
+#[derive(Drop)]
+pub struct Session<'a, N: StoreName> {
+    store: &'a Store<N>,
+    number: u32,
+    log: Vec<Receipt>,
+}
+
+impl<'a, N: StoreName> Model for Session<'a, N> {
+    ghost use Rattle.std.specs.Prelude.{◌<◌};
+    ghost use Rattle.live_store.specs.Stores.{SessionState};
+
+    ghost Value = { SessionState };
+
+    ghost view = { λ s. record { number = s.number; log = s.log.items } };
+
+    ghost invariant = { λ s. s.number < N.sessions };
+}
+
+impl<'a, N: StoreName> Session<'a, N> {
+    ghost use Rattle.std.specs.Borrow.{sem, follows_so};
+    ghost use Rattle.std.specs.Prelude.{⊤};
+    ghost use mathlib.Core.Option.{none};
+    ghost use mir.Syntax.{named};
+    ghost use Rattle.live_store.specs.contracts.session.Session.{the_row};
+
+    /// A session that was told nothing yet.
+    pub(crate) fn new(store: &'a Store<N>, alloc: Global, number: u32) -> Session<'a, N>
+        requires { number < N.sessions }
+        ensures { result ≡ record { number = number; log = [] } }
+    {
+        Session {
+            store,
+            number,
+            log: Vec::new(alloc),
+        }
+    }
+
+    /// The session's number, from 0.
+    pub fn number(&self) -> u32
+        ensures number { result ≡ self.now.number }
+        ensures known { self.now.number < N.sessions }
+    {
+        self.number
+    }
+
+    /// The receipts so far, in order.
+    pub fn log(&self) -> &[Receipt]
+        ensures { result.now ≡ self.now.log }
+    {
+        let log: &Vec<Receipt> = &self.log;
+        log.as_slice()
+    }
+
+    /// The session's log. The session ends.
+    pub fn close(self) -> SessionLog
+        ensures { result ≡ record { session = self.entry.number; receipts = self.entry.log } }
+    {
+        SessionLog {
+            session: self.number,
+            receipts: Items::new(self.log),
+        }
+    }
+
+    /// Adds the rows of a batch, and keeps the receipt.
+    ///
+    /// # Errors
+    ///
+    /// The book's first [`BookFault`]. The log is then as it was, and the batch is handed back.
+    pub fn add<R: Wait>(
+        &mut self,
+        rt: &R,
+        alloc: Global,
+        batch: Arc<Batch>,
+    ) -> Result<Placed, Refused<Arc<Batch>>>
+        ensures extended { IfOk result (λ placing. (at : ℕ) × (self.new.log ≡ self.old.log ++ (record { op = add (arc_value batch); reply = placed placing.place; at = at }) ∷ [])) }
+        ensures unchanged { OnErr result (self.new ≡ self.old) }
+        ensures number { self.new.number ≡ self.old.number }
+        ensures back { IfErr result (λ refused. refused.back ≡ batch) }
+        ensures cause { IfErr result (λ refused. ShowsCause N.limit (length self.old.log) (total_of (arc_value batch)) refused.fault) }
+    {
+        if self.log.reserve(1).is_err() {
+            return Err(Refused {
+                fault: BookFault::NoMemory,
+                back: batch,
+            });
+        }
+        let turn = self.log.len() as u64;
+        let added = self
+            .store
+            .desk()
+            .lock(rt)
+            .add(alloc, self.number, turn, batch);
+        match added {
+            Ok(receipt) => {
+                let place = place_in(&receipt.reply);
+                match self.log.push(receipt) {
+                    Ok(()) => Ok(Placed { place }),
+                    // there is room for it
+                    Err(_) => unreachable!(),
+                }
+            }
+            Err(refused) => Err(Refused {
+                fault: refused.fault,
+                back: refused.back,
+            }),
+        }
+    }
+
+    /// Answers a query over all that was added so far, and keeps the receipt, from which the answer is lent. The query is shared. The
+    /// contract speaks of the session once the answer is let go: its log then ends with exactly this receipt.
+    ///
+    /// # Errors
+    ///
+    /// The book's first [`BookFault`], which is never `Heavy`. The log is then as it was.
+    pub fn ask<R: Wait>(
+        &mut self,
+        rt: &R,
+        alloc: Global,
+        query: &Arc<Query>,
+    ) -> Result<&Answer, BookFault>
+        ensures cause { IfErr result (λ fault. ShowsCause N.limit (length self.entry.now.log) 0 fault) }
+        ensures* ends { sem 𝓛 (follows_so (the_row (record { mir = named 1; lft = [] }) N.row N.StoreName) (the_row (record { mir = named 1; lft = [] }) N.row N.StoreName)
+            self.entry.ghost_name none (λ _ _. ⊤) (λ end. (end.number ≡ self.entry.now.number)
+            × IfOk result (λ answer. (at : ℕ) × (end.log ≡ self.entry.now.log ++ (record { op = ask (arc_value query.now); reply = answered answer.now; at = at }) ∷ []))
+            × OnErr result (end.log ≡ self.entry.now.log))) }
+    {
+        self.report(rt, alloc, query)?;
+        Ok(self.last_answer())
+    }
+
+    /// Answers a query, and keeps the receipt.
+    fn report<R: Wait>(
+        &mut self,
+        rt: &R,
+        alloc: Global,
+        query: &Arc<Query>,
+    ) -> Result<(), BookFault>
+        ensures extended { OnOk result ((answer : Answer) × (at : ℕ) × (self.new.log ≡ self.old.log ++ (record { op = ask (arc_value query.now); reply = answered answer; at = at }) ∷ [])) }
+        ensures unchanged { OnErr result (self.new ≡ self.old) }
+        ensures number { self.new.number ≡ self.old.number }
+        ensures cause { IfErr result (λ fault. ShowsCause N.limit (length self.old.log) 0 fault) }
+    {
+        let shared = Arc::try_clone(query)?;
+        self.log.reserve(1)?;
+        let turn = self.log.len() as u64;
+        let asked = self
+            .store
+            .desk()
+            .lock(rt)
+            .ask(alloc, self.number, turn, shared);
+        match asked {
+            Ok(receipt) => match self.log.push(receipt) {
+                Ok(()) => Ok(()),
+                // there is room for it
+                Err(_) => unreachable!(),
+            },
+            Err(refused) => Err(refused.fault),
+        }
+    }
+
+    /// The answer of the last receipt.
+    fn last_answer(&self) -> &Answer
+        requires { (front : List PlainReceipt) × (op : PlainOp) × (answer : Answer) × (at : ℕ) × (self.now.log ≡ front ++ (record { op = op; reply = answered answer; at = at }) ∷ []) }
+        ensures { (front : List PlainReceipt) (op : PlainOp) (answer : Answer) (at : ℕ) → self.now.log ≡ front ++ (record { op = op; reply = answered answer; at = at }) ∷ [] → result.now ≡ answer }
+    {
+        match &self.log[self.log.len() - 1].reply {
+            Reply::Answered(answer) => answer,
+            Reply::Placed(_) => unreachable!(),
+        }
+    }
+}

@@ -1,6 +1,6 @@
 //! What a store's lock keeps.
 
-ghost use Rattle.std.specs.Prelude.{◌≡◌, ◌<◌, ◌≤◌, ℕ, IfErr, IfOk, IfSome};
+ghost use Rattle.std.specs.Prelude.{◌≡◌, ◌≢◌, ◌<◌, ◌≤◌, ℕ, IfErr, IfOk, IfSome};
 ghost use Rattle.std.specs.Arc.{arc_value};
 ghost use Rattle.stack_text.specs.Rows.{total_of};
 ghost use Rattle.flame_report.specs.declared.answer.Answer.{Answer};
@@ -9,7 +9,7 @@ ghost use Rattle.live_store.specs.Stores.{ShowsCause};
 
 use crate::store::StoreName;
 use flame_report::Query;
-use op_book::{Book, Journal, Receipt, Refused};
+use op_book::{Book, BookFault, Journal, Receipt, Refused};
 use stack_text::Batch;
 use std::alloc::Global;
 use std::marker::PhantomData;
@@ -82,6 +82,7 @@ impl<N: StoreName> Desk<N> {
         ensures receipt { IfOk result (λ receipt. (answer : Answer) × (at : ℕ) × (receipt ≡ record { op = ask (arc_value query); reply = answered answer; at = at })) }
         ensures back { IfErr result (λ refused. refused.back ≡ query) }
         ensures cause { IfErr result (λ refused. ShowsCause N.limit turn 0 refused.fault) }
+        ensures light { IfErr result (λ refused. (held : ℕ) → refused.fault ≢ BookFault.Heavy held) }
     {
         self.book.ask(alloc, session, turn, query)
     }

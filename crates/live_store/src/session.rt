@@ -156,6 +156,7 @@ impl<'a, N: StoreName> Session<'a, N> {
         query: &Arc<Query>,
     ) -> Result<&Answer, BookFault>
         ensures cause { IfErr result (λ fault. ShowsCause N.limit (length self.entry.now.log) 0 fault) }
+        ensures light { IfErr result (λ fault. (held : ℕ) → fault ≢ BookFault.Heavy held) }
         ensures* ends { sem 𝓛 (follows_so (the_row (record { mir = named 1; lft = [] }) N.row N.StoreName) (the_row (record { mir = named 1; lft = [] }) N.row N.StoreName)
             self.entry.ghost_name none (λ _ _. ⊤) (λ end. (end.number ≡ self.entry.now.number)
             × IfOk result (λ answer. (at : ℕ) × (end.log ≡ self.entry.now.log ++ (record { op = ask (arc_value query.now); reply = answered answer.now; at = at }) ∷ []))
@@ -176,6 +177,7 @@ impl<'a, N: StoreName> Session<'a, N> {
         ensures unchanged { OnErr result (self.new ≡ self.old) }
         ensures number { self.new.number ≡ self.old.number }
         ensures cause { IfErr result (λ fault. ShowsCause N.limit (length self.old.log) 0 fault) }
+        ensures light { IfErr result (λ fault. (held : ℕ) → fault ≢ BookFault.Heavy held) }
     {
         let shared = Arc::try_clone(query)?;
         self.log.reserve(1)?;

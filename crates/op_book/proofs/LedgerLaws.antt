@@ -63,6 +63,7 @@ IsLedger-append entries additions limit turns entry is turn reply =
       additions_are = counted entries additions entry is.additions_are;
       turns_are = λ session otherwise lt. next_turns entries turns entry is.turns_are session otherwise (subst (λ n. session < n) sessions lt);
       count = omega (arith, size, turn.room);
+      some = rw sessions is.some;
       few = rw sessions is.few;
       small = is.small;
     }

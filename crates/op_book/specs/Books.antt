@@ -26,12 +26,14 @@ pub record IsReplay (entries : List PlainEntry) (tree : TreeState) : Type 0 wher
   pub aggregate : weights_of tree ≡ aggregate_of (profile_after (operations_of entries))
   pub legal : IsLegalRun entries
 
--- the entries are of the book's sessions, whose turns are in order, and keep the limits of weights and of entries
+-- the entries are of the book's sessions, 1 to 64, whose turns are in order, and keep the limits of weights and of entries
 pub record IsOrderly (book : BookState) : Type 0 where
   pub turns : AreTurnsInOrder book.entries
   pub known : AreOfSessions book.sessions book.entries
   pub weight : total_of (profile_after (operations_of book.entries)) < 2 ^ 63
   pub count : length book.entries ≤ book.limit
+  pub some : 0 < book.sessions
+  pub few : book.sessions ≤ 64
 
 -- the entry that an operation makes after those of a book
 abbrev pub entry_after : List PlainEntry → ℕ → ℕ → PlainOp → PlainEntry

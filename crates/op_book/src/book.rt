@@ -1,6 +1,6 @@
 //! The book of a store: the journal so far, and the tree of all that was added.
 
-ghost use Rattle.std.specs.Prelude.{◌≡◌, ◌≤◌, ◌<◌, ◌^◌, [], length, IfErr, IfOk, OnErr, OnOk};
+ghost use Rattle.std.specs.Prelude.{◌≡◌, ◌≢◌, ◌≤◌, ◌<◌, ◌^◌, ℕ, [], length, IfErr, IfOk, OnErr, OnOk};
 ghost use Rattle.std.specs.Arc.{arc_value};
 ghost use Rattle.call_tree.specs.State.{total_in, weights_of};
 ghost use Rattle.op_book.specs.Books.{IsAppended, IsFirstBookFault, IsOrderly, IsReplay, IsSameBook, IsTaken, receipt_after, weight_held};
@@ -31,7 +31,6 @@ impl Model for Book {
     ghost use Rattle.std.specs.Prelude.{◌≡◌};
     ghost use Rattle.stack_text.specs.Aggregate.{aggregate_of};
     ghost use Rattle.call_tree.specs.State.{weights_of};
-    ghost use Rattle.call_tree.specs.State.{total_in, weights_of};
     ghost use Rattle.op_book.specs.Books.{BookState};
     ghost use Rattle.op_book.specs.Operations.{operations_of, profile_after};
 
@@ -130,6 +129,7 @@ impl Book {
         ensures unchanged { OnErr result (IsSameBook self.old self.new) }
         ensures back { IfErr result (λ refused. refused.back ≡ query) }
         ensures first_fault { IfErr result (λ refused. IsFirstBookFault self.old session turn (ask (arc_value query)) refused.fault) }
+        ensures light { IfErr result (λ refused. (held : ℕ) → refused.fault ≢ BookFault.Heavy held) }
         ensures replay { IsReplay self.new.entries self.new.tree }
         ensures orderly { IsOrderly self.new }
     {
@@ -193,6 +193,7 @@ impl Book {
         ensures taken { OnOk result (IsTaken self.old session turn (ask (arc_value query.now))) }
         ensures unchanged { OnErr result (IsSameBook self.old self.new) }
         ensures first_fault { IfErr result (λ fault. IsFirstBookFault self.old session turn (ask (arc_value query.now)) fault) }
+        ensures light { IfErr result (λ fault. (held : ℕ) → fault ≢ BookFault.Heavy held) }
     {
         self.known();
         self.ledger.admit(session, turn)?;
@@ -231,6 +232,7 @@ impl Book {
         ensures entries { result.now ≡ self.now.entries }
         ensures replay { IsReplay self.now.entries self.now.tree }
         ensures orderly { IsOrderly self.now }
+        ensures small { length self.now.entries < 2 ^ 32 }
     {
         self.known();
         self.ledger.entries()
@@ -247,8 +249,10 @@ impl Book {
 
     /// How many sessions the book has.
     pub(crate) fn sessions(&self) -> u32
-        ensures { result ≡ self.now.sessions }
+        ensures sessions { result ≡ self.now.sessions }
+        ensures orderly { IsOrderly self.now }
     {
+        self.known();
         self.ledger.sessions()
     }
 

@@ -1,6 +1,6 @@
 //! What a closed book leaves.
 
-ghost use Rattle.std.specs.Prelude.{◌≡◌, ◌<◌, ◌^◌};
+ghost use Rattle.std.specs.Prelude.{◌≡◌, ◌<◌, ◌≤◌, ◌^◌, length};
 ghost use Rattle.stack_text.specs.Rows.{total_of};
 ghost use Rattle.op_book.specs.Operations.{operations_of, profile_after};
 ghost use Rattle.op_book.specs.Books.{IsReplay};
@@ -39,6 +39,7 @@ impl Journal {
         ensures replay { IsReplay self.now.entries self.now.tree }
         ensures turns { AreTurnsInOrder self.now.entries }
         ensures known { AreOfSessions self.now.sessions self.now.entries }
+        ensures count { length self.now.entries < 2 ^ 32 }
         ensures weight { total_of (profile_after (operations_of self.now.entries)) < 2 ^ 63 }
     {
         self.book.entries()
@@ -54,7 +55,9 @@ impl Journal {
 
     /// How many sessions the book had, whose numbers are from 0.
     pub fn sessions(&self) -> u32
-        ensures { result ≡ self.now.sessions }
+        ensures sessions { result ≡ self.now.sessions }
+        ensures some { 0 < result }
+        ensures few { result ≤ 64 }
     {
         self.book.sessions()
     }

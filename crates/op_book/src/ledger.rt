@@ -1,6 +1,6 @@
 //! Entries in order, with the next turn of each session.
 
-ghost use Rattle.std.specs.Prelude.{◌≡◌, ◌≤◌, ◌++◌, ◌∷◌, [], length, IfOk, MatchResult, OnErr, OnOk};
+ghost use Rattle.std.specs.Prelude.{◌≡◌, ◌<◌, ◌≤◌, ◌^◌, ◌++◌, ◌∷◌, [], length, IfOk, MatchResult, OnErr, OnOk};
 ghost use Rattle.op_book.specs.Books.{HasTurn, IsTurnFault};
 ghost use Rattle.op_book.specs.Operations.{additions_of, operations_of, plain_answer};
 ghost use Rattle.op_book.specs.Runs.{AreOfSessions, AreTurnsInOrder, IsLegalRun};
@@ -36,7 +36,8 @@ impl Model for Ledger {
 impl Ledger {
     /// No entries yet.
     pub(crate) fn new(alloc: Global, limit: u32, sessions: u32) -> Result<Ledger, AllocError>
-        requires { sessions ≤ 64 }
+        requires some { 0 < sessions }
+        requires few { sessions ≤ 64 }
         ensures { IfOk result (λ ledger. ledger ≡ record { entries = []; limit = limit; sessions = sessions }) }
     {
         let turns = vec![in alloc; 0; sessions as usize]?;
@@ -55,6 +56,9 @@ impl Ledger {
         ensures turns { AreTurnsInOrder self.now.entries }
         ensures known { AreOfSessions self.now.sessions self.now.entries }
         ensures count { length self.now.entries ≤ self.now.limit }
+        ensures small { self.now.limit < 2 ^ 32 }
+        ensures some { 0 < self.now.sessions }
+        ensures few { self.now.sessions ≤ 64 }
     {
         let entries: &Vec<Entry> = &self.entries;
         entries.as_slice()

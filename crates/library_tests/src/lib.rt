@@ -3,8 +3,6 @@
 #![tactic(auto)]
 
 #[cfg(test)]
-mod books;
-#[cfg(test)]
 mod hostile_messages;
 #[cfg(test)]
 mod messages;

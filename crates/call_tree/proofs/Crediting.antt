@@ -3,10 +3,10 @@ use Rattle.std.proofs.Common.{◌≡◌, ℕ, ◌+◌, ◌<◌, Bool, true, fals
 use Rattle.std.proofs.lemmas.List.{get_or-set_same, get_or-set_other, length-set}
 use Rattle.std.proofs.lemmas.List.Sums.{sum_by-set}
 use Rattle.std.proofs.lemmas.Bool.{cases_eq}
-use Rattle.stack_text.specs.declared.batch.Row.{Row}
-use Rattle.stack_text.specs.Rows.{is_same_stack, total_of, weight_of, weight_where}
-use Rattle.stack_text.specs.Aggregate.{with_row, aggregate_of}
-use Rattle.stack_text.proofs.RowLaws.{weight_where-set, weight_where-one, aggregate_of-more}
+use Rattle.profile_rows.specs.declared.batch.Row.{Row}
+use Rattle.profile_rows.specs.Rows.{is_same_stack, total_of, weight_of, weight_where}
+use Rattle.profile_rows.specs.Aggregate.{with_row, aggregate_of}
+use Rattle.profile_rows.proofs.RowLaws.{weight_where-set, weight_where-one, aggregate_of-more}
 use Rattle.call_tree.specs.State.{no_row, node_at, stack_at, credited}
 
 pub length-credited : (rows : List Row) (k w : ℕ) → length (credited rows k w) ≡ length rows

@@ -4,9 +4,9 @@ use Rattle.std.proofs.Math.Seq.{take-length}
 use Rattle.std.proofs.lemmas.List.{take_more, same_from_push}
 use Rattle.std.proofs.lemmas.List.Sums.{sum_by-cons}
 use Rattle.std.proofs.lemmas.Bool.{cases_eq}
-use Rattle.stack_text.specs.declared.batch.Row.{Row}
-use Rattle.stack_text.specs.Rows.{is_same_stack, weight_of, weight_if}
-use Rattle.stack_text.proofs.RowLaws.{same_from_is_same_stack, is_same_stack-self}
+use Rattle.profile_rows.specs.declared.batch.Row.{Row}
+use Rattle.profile_rows.specs.Rows.{is_same_stack, weight_of, weight_if}
+use Rattle.profile_rows.proofs.RowLaws.{same_from_is_same_stack, is_same_stack-self}
 use Rattle.call_tree.specs.declared.node.Node.{Node}
 use Rattle.call_tree.specs.State.{name_at, node_at, stack_at}
 use Rattle.call_tree.specs.Shape.{node_rows, at, IsTree}

@@ -6,19 +6,19 @@ use Rattle.std.proofs.lemmas.List.{append-nil, take_more, map_push}
 use Rattle.std.proofs.lemmas.List.Elements.{All-from_recursion}
 use Rattle.std.proofs.lemmas.List.Sorted.{All-permutation, sum_by-IsPermutation}
 use Rattle.std.proofs.lemmas.List.Sums.{sum_by-cons}
-use Rattle.stack_text.specs.declared.batch.Row.{Row}
-use Rattle.stack_text.specs.Names.{is_same_name}
-use Rattle.stack_text.specs.Rows.{has_name, ends_with_name, flat_weight_of, cumulative_weight_of}
-use Rattle.stack_text.specs.Aggregate.{aggregate_of, rows_of}
-use Rattle.stack_text.specs.TopList.{NameSums, AreSumsOf, occurrences, sums_at}
-use Rattle.stack_text.proofs.EntryLaws.{weight_where-rows_of}
-use Rattle.stack_text.proofs.SameNames.{same_from_is_same_name, is_same_name-self}
+use Rattle.profile_rows.specs.declared.batch.Row.{Row}
+use Rattle.profile_rows.specs.Names.{is_same_name}
+use Rattle.profile_rows.specs.Rows.{has_name, ends_with_name, flat_weight_of, cumulative_weight_of}
+use Rattle.profile_rows.specs.Aggregate.{aggregate_of, rows_of}
+use Rattle.profile_rows.specs.TopList.{NameSums, AreSumsOf, occurrences, sums_at}
+use Rattle.profile_rows.proofs.EntryLaws.{weight_where-rows_of}
+use Rattle.profile_rows.proofs.SameNames.{same_from_is_same_name, is_same_name-self}
 use borrow.Author.Tests.{lt-ltb}
 use Rattle.call_tree.specs.declared.node.Node.{Node}
-use Rattle.stack_text.specs.declared.frame_totals.FrameTotal.{FrameTotal}
+use Rattle.profile_rows.specs.declared.frame_totals.FrameTotal.{FrameTotal}
 use Rattle.call_tree.specs.State.{name_at}
 use Rattle.call_tree.specs.Shape.{node_rows, at, counted_if, IsTree}
-use Rattle.stack_text.specs.TopList.{shown}
+use Rattle.profile_rows.specs.TopList.{shown}
 use Rattle.call_tree.specs.Totals.{names_of_weight}
 
 abbrev mark : List ℕ → NameSums → ℕ

@@ -6,11 +6,11 @@ use Rattle.std.proofs.lemmas.Bool.{cases_eq, eqb-true, eq-eqb}
 use Rattle.std.specs.Prelude.{IfOk, IsOk, Ok, Err, Result, position}
 use Rattle.std.specs.List.{list_any}
 use Rattle.std.proofs.lemmas.List.Quantifiers.{position-Some}
-use Rattle.stack_text.specs.declared.batch.Row.{Row}
-use Rattle.stack_text.specs.Names.{is_same_name}
-use Rattle.stack_text.specs.Rows.{is_same_stack}
-use Rattle.stack_text.proofs.RowLaws.{weight_where-push, aggregate_of-same}
-use Rattle.stack_text.proofs.SameNames.{same_from_is_same_name, is_same_name-self}
+use Rattle.profile_rows.specs.declared.batch.Row.{Row}
+use Rattle.profile_rows.specs.Names.{is_same_name}
+use Rattle.profile_rows.specs.Rows.{is_same_stack}
+use Rattle.profile_rows.proofs.RowLaws.{weight_where-push, aggregate_of-same}
+use Rattle.profile_rows.proofs.SameNames.{same_from_is_same_name, is_same_name-self}
 use Rattle.call_tree.specs.State.{TreeState, IsState, IsChild, IsIndex, IsGrown, same_key, name_at, no_row, node_at, stack_at}
 
 pub IsIndex-look : (look other : ℕ × ℕ → Option ℕ) (tree : TreeState) → ((key : ℕ × ℕ) → other key ≡ look key) → IsIndex look tree → IsIndex other tree

@@ -5,10 +5,10 @@ use Rattle.std.specs.List.{list_any}
 use Rattle.std.proofs.lemmas.List.{take_more, get_or_append_left, get_or_push, length_push}
 use Rattle.std.proofs.lemmas.List.Folds.{list_any-append}
 use Rattle.std.proofs.lemmas.Bool.{cases_eq, eqb-true, eq-eqb}
-use Rattle.stack_text.specs.declared.batch.Row.{Row}
-use Rattle.stack_text.specs.Names.{is_same_name}
-use Rattle.stack_text.specs.Rows.{has_name}
-use Rattle.stack_text.proofs.SameNames.{same_from_is_same_name, is_same_name-self}
+use Rattle.profile_rows.specs.declared.batch.Row.{Row}
+use Rattle.profile_rows.specs.Names.{is_same_name}
+use Rattle.profile_rows.specs.Rows.{has_name}
+use Rattle.profile_rows.proofs.SameNames.{same_from_is_same_name, is_same_name-self}
 use Rattle.call_tree.specs.declared.grower.Credit.{Credit}
 use Rattle.call_tree.specs.State.{TreeState, IsState, IsGrown, name_at, node_at, stack_at}
 use Rattle.call_tree.specs.Plans.{IsCredit, no_credit, credit_at}

@@ -2,9 +2,9 @@
 use Rattle.std.proofs.Common.{◌≡◌, ℕ, ◌+◌, ◌<◌, ◌^◌, List, [], ◌∷◌, ◌++◌, length, take, Option, refl, sym, ap, ◌∙◌, arith}
 use Rattle.std.proofs.lemmas.List.{take_more}
 use Rattle.std.proofs.lemmas.List.Sums.{sum_by_more, sum_by_more_le}
-use Rattle.stack_text.specs.declared.batch.Row.{Row}
-use Rattle.stack_text.specs.Rows.{total_of}
-use Rattle.stack_text.specs.Aggregate.{Weighted, with_row, with_rows, aggregate_of}
+use Rattle.profile_rows.specs.declared.batch.Row.{Row}
+use Rattle.profile_rows.specs.Rows.{total_of}
+use Rattle.profile_rows.specs.Aggregate.{Weighted, with_row, with_rows, aggregate_of}
 use Rattle.call_tree.specs.declared.grower.Credit.{Credit}
 use Rattle.call_tree.specs.State.{TreeState, weights_of, name_at, no_row, node_at, stack_at, credited, IsIndex}
 use Rattle.call_tree.specs.Plans.{IsCredit, IsPlan, credit_at}

@@ -6,11 +6,11 @@ use Rattle.std.proofs.lemmas.List.{get_or-set_same, get_or-set_other, length-set
 use Rattle.std.proofs.lemmas.List.Sums.{sum_by-set, get_or-le-sum_by}
 use Rattle.std.proofs.lemmas.List.Folds.{list_any-append}
 use Rattle.std.proofs.lemmas.Bool.{cases_eq}
-use Rattle.stack_text.proofs.SameNames.{same_from_is_same_name}
+use Rattle.profile_rows.proofs.SameNames.{same_from_is_same_name}
 use Rattle.call_tree.proofs.Crediting.{stack_at-credited, weight_where-credited, total_of-credited}
-use Rattle.stack_text.specs.declared.batch.Row.{Row}
-use Rattle.stack_text.specs.Names.{is_same_name}
-use Rattle.stack_text.specs.Rows.{has_name, total_of, cumulative_weight_of}
+use Rattle.profile_rows.specs.declared.batch.Row.{Row}
+use Rattle.profile_rows.specs.Names.{is_same_name}
+use Rattle.profile_rows.specs.Rows.{has_name, total_of, cumulative_weight_of}
 use Rattle.call_tree.specs.declared.node.Node.{Node}
 use Rattle.call_tree.specs.State.{name_at, no_row, node_at, stack_at, credited}
 use Rattle.call_tree.specs.Shape.{link_of, no_node, stacks_of, node_rows, at, rows_with, stacks_from, counted_if, counted_total, IsTree}

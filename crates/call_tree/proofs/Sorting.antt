@@ -14,10 +14,10 @@ use Rattle.std.proofs.lemmas.List.{append-nil, take_more}
 use Rattle.std.proofs.lemmas.List.Elements.{recursion_from_All, All-from_recursion}
 use Rattle.std.proofs.lemmas.List.Sorted.{All-permutation, sum_by-IsPermutation, sorted_far, ranks_by}
 use Rattle.std.proofs.lemmas.List.Sums.{sum_by-cons}
-use Rattle.stack_text.specs.declared.batch.Row.{Row}
-use Rattle.stack_text.specs.Rows.{stack_cmp, is_same_stack, weight_if, weight_of}
-use Rattle.stack_text.specs.Aggregate.{Weighted, aggregate_of, row_of, rows_of}
-use Rattle.stack_text.proofs.RowLaws.{stack_cmp_total, stack_cmp_apart, same_from_is_same_stack, is_same_stack-self, IsPositive-aggregate_of, same_weighted, weight_in-aggregate_of}
+use Rattle.profile_rows.specs.declared.batch.Row.{Row}
+use Rattle.profile_rows.specs.Rows.{stack_cmp, is_same_stack, weight_if, weight_of}
+use Rattle.profile_rows.specs.Aggregate.{Weighted, aggregate_of, row_of, rows_of}
+use Rattle.profile_rows.proofs.RowLaws.{stack_cmp_total, stack_cmp_apart, same_from_is_same_stack, is_same_stack-self, IsPositive-aggregate_of, same_weighted, weight_in-aggregate_of}
 use Rattle.call_tree.specs.State.{no_row, node_at, stack_at, has_weight}
 
 -- ---- the loop's step

@@ -3,10 +3,10 @@ use Rattle.std.proofs.Common.{◌≡◌, ℕ, zero, suc, ◌+◌, ◌<◌, ◌�
 use Rattle.std.proofs.lemmas.List.{take_all}
 use Rattle.std.proofs.lemmas.List.Sums.{sum_by-cons, sum_by_more_le, sum_by_more_le_part, sum_by-le-sum_by}
 use Rattle.std.proofs.lemmas.Bool.{eqb-true, eq-eqb}
-use Rattle.stack_text.specs.declared.batch.Row.{Row}
-use Rattle.stack_text.specs.Names.{is_same_name}
-use Rattle.stack_text.specs.Rows.{has_name, ends_with_name, total_of, weight_if, flat_weight_of, cumulative_weight_of}
-use Rattle.stack_text.proofs.SameNames.{same_from_is_same_name, is_same_name-self}
+use Rattle.profile_rows.specs.declared.batch.Row.{Row}
+use Rattle.profile_rows.specs.Names.{is_same_name}
+use Rattle.profile_rows.specs.Rows.{has_name, ends_with_name, total_of, weight_if, flat_weight_of, cumulative_weight_of}
+use Rattle.profile_rows.proofs.SameNames.{same_from_is_same_name, is_same_name-self}
 use Rattle.call_tree.specs.declared.node.Node.{Node}
 use Rattle.call_tree.specs.declared.tree.Sums.{Sums}
 use Rattle.call_tree.specs.State.{name_at, node_at, stack_at}

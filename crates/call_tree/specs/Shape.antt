@@ -1,8 +1,8 @@
 -- The stacks of the nodes, and what a tree keeps true.
 use Rattle.std.specs.Prelude.{ℕ, ◌≡◌, ◌<◌, ◌≤◌, ◌^◌, false, ◌&&◌, not, List, [], ◌∷◌, ◌++◌, length, map, slice_index_or, sum_by, if◌then◌else◌}
-use Rattle.stack_text.specs.declared.batch.Row.{Row}
-use Rattle.stack_text.specs.Names.{is_same_name}
-use Rattle.stack_text.specs.Rows.{has_name, total_of, cumulative_weight_of}
+use Rattle.profile_rows.specs.declared.batch.Row.{Row}
+use Rattle.profile_rows.specs.Names.{is_same_name}
+use Rattle.profile_rows.specs.Rows.{has_name, total_of, cumulative_weight_of}
 use Rattle.call_tree.specs.declared.node.Node.{Node}
 use Rattle.call_tree.specs.State.{name_at, stack_at}
 

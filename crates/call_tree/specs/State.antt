@@ -1,8 +1,8 @@
 -- What contracts see of a tree.
 use Rattle.std.specs.Prelude.{ℕ, ◌≡◌, ◌<◌, ◌≤◌, ◌+◌, ◌^◌, Bool, ◌&&◌, not, nat_eq, nat_lt, Option, Some, List, [], ◌∷◌, ◌++◌, length, slice_index_or, slice_set}
-use Rattle.stack_text.specs.declared.batch.Row.{Row}
-use Rattle.stack_text.specs.Rows.{has_name, total_of}
-use Rattle.stack_text.specs.Aggregate.{Weighted, aggregate_of, rows_of}
+use Rattle.profile_rows.specs.declared.batch.Row.{Row}
+use Rattle.profile_rows.specs.Rows.{has_name, total_of}
+use Rattle.profile_rows.specs.Aggregate.{Weighted, aggregate_of, rows_of}
 
 -- the names by their numbers, and for each node in order its stack and the weight of that stack alone
 pub record TreeState : Type 0 where

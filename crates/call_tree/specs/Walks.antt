@@ -1,8 +1,8 @@
 -- A walk from the root along the frames of a stack.
 use Rattle.std.specs.Prelude.{ℕ, ◌≡◌, ◌<◌, Bool, List, length, take, slice_index_or}
 use Rattle.std.specs.List.{list_any}
-use Rattle.stack_text.specs.Names.{is_same_name}
-use Rattle.stack_text.specs.Rows.{has_name}
+use Rattle.profile_rows.specs.Names.{is_same_name}
+use Rattle.profile_rows.specs.Rows.{has_name}
 use Rattle.call_tree.specs.State.{TreeState, name_at, stack_at}
 
 -- of the names with the numbers in a list, one is this

@@ -2,15 +2,15 @@
 
 ghost use Rattle.std.specs.Prelude.{◌≡◌, ◌<◌, ◌+◌, ◌≤◌, ◌^◌, ◌++◌, ◌∷◌, ℕ, [], length, not, IfOk, OnOk, OnErr};
 ghost use Rattle.std.specs.FinMap as map;
-ghost use Rattle.stack_text.specs.Rows.{total_of, has_name};
-ghost use Rattle.stack_text.specs.Aggregate.{with_rows};
+ghost use Rattle.profile_rows.specs.Rows.{total_of, has_name};
+ghost use Rattle.profile_rows.specs.Aggregate.{with_rows};
 ghost use Rattle.call_tree.specs.State.{TreeState, PlanState, IsFresh, IsGrown, weights_of, total_in, name_at, stack_at};
 ghost use Rattle.call_tree.specs.Walks.{IsOnPath};
 
 use crate::tree::CallTree;
 use crate::walk::Walk;
 use indexmap::IndexSet;
-use stack_text::{Batch, Name, NoMemory, Stack};
+use profile_rows::{Batch, Name, NoMemory, Stack};
 use std::alloc::Global;
 use std::collections::HashMap;
 use std::marker::Model;
@@ -107,7 +107,7 @@ impl Grower {
         })
     }
 
-    /// Makes room for the rows of a batch, whose total and the tree's are together at most [`stack_text::MAX_TOTAL`]. Each
+    /// Makes room for the rows of a batch, whose total and the tree's are together at most [`profile_rows::MAX_TOTAL`]. Each
     /// stack keeps its weight, also where the plan is refused.
     ///
     /// # Errors

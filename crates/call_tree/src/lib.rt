@@ -9,5 +9,5 @@ mod tree;
 mod walk;
 
 pub use grower::{Grower, Plan};
-pub use stack_text::{FrameTotal, NoMemory};
+pub use profile_rows::{FrameTotal, NoMemory};
 pub use tree::CallTree;

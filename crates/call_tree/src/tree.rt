@@ -1,14 +1,14 @@
 //! The call tree: nodes with links to their parents, each with its own weight and a running total.
 
 ghost use Rattle.std.specs.Prelude.{◌≡◌, ◌<◌, ◌+◌, ◌++◌, ◌∷◌, ◌^◌, ℕ, [], filter, length, map, IfOk, IfSome, OnOk, OnErr, IsSorted};
-ghost use Rattle.stack_text.specs.Rows.{total_of};
-ghost use Rattle.stack_text.specs.Aggregate.{weight_in, rows_of};
-ghost use Rattle.stack_text.specs.TopList.{AreSumsOf};
+ghost use Rattle.profile_rows.specs.Rows.{total_of};
+ghost use Rattle.profile_rows.specs.Aggregate.{weight_in, rows_of};
+ghost use Rattle.profile_rows.specs.TopList.{AreSumsOf};
 ghost use Rattle.call_tree.specs.State.{TreeState, weights_of, total_in, name_at, stack_at, credited, has_weight, IsChild, IsFresh, IsState};
 
 use crate::node::Node;
 use crate::table::Table;
-use stack_text::{Batch, FrameTotal, MAX_DEPTH, Name, NoMemory, Row, Stack};
+use profile_rows::{Batch, FrameTotal, MAX_DEPTH, Name, NoMemory, Row, Stack};
 use std::alloc::{AllocError, Global};
 use std::marker::Model;
 
@@ -38,7 +38,7 @@ impl Model for CallTree {
 }
 
 impl CallTree {
-    ghost use Rattle.stack_text.specs.TopList.{shown};
+    ghost use Rattle.profile_rows.specs.TopList.{shown};
     ghost use Rattle.call_tree.specs.Totals.{AreSums, name_order};
 
     /// The weight of all stacks together. Takes no time per stack.

@@ -2,10 +2,10 @@
 use Rattle.std.proofs.Common.{ℕ, ◌≡◌, ◌+◌, ◌≤◌, List, [], ◌∷◌, ◌++◌, length, take, drop, map, refl, sym, ap, ◌∙◌, true, arith}
 use Rattle.std.proofs.lemmas.List.{map-append}
 use Rattle.std.proofs.lemmas.List.Sums.{sum_by-cons}
-use Rattle.stack_text.specs.declared.batch.Row.{Row}
-use Rattle.stack_text.specs.Layout.{Rectangle, is_shown, rectangle_at}
-use Rattle.stack_text.specs.Paths.{prefixes}
-use Rattle.stack_text.specs.Rows.{total_of}
+use Rattle.profile_rows.specs.declared.batch.Row.{Row}
+use Rattle.profile_rows.specs.Layout.{Rectangle, is_shown, rectangle_at}
+use Rattle.profile_rows.specs.Paths.{prefixes}
+use Rattle.profile_rows.specs.Rows.{total_of}
 use Rattle.flame_report.specs.Answers.{rect_of}
 use Rattle.flame_report.specs.Sharing.{AreWeighty, shown_of, span_of}
 use Rattle.flame_report.specs.declared.answer.Rect.{Rect}

@@ -5,10 +5,10 @@ use Rattle.std.proofs.lemmas.List.Sums.{common_prefix_len-le}
 use Rattle.std.proofs.lemmas.Bool.{cases_lt}
 use Rattle.std.specs.List.{common_prefix_len}
 use Rattle.std.specs.Ordering.{eq_by_cmp}
-use Rattle.stack_text.specs.declared.batch.Row.{Row}
-use Rattle.stack_text.specs.Paths.{begins_with}
-use Rattle.stack_text.specs.Names.{name_cmp}
-use Rattle.stack_text.specs.Rows.{total_of, weight_where}
+use Rattle.profile_rows.specs.declared.batch.Row.{Row}
+use Rattle.profile_rows.specs.Paths.{begins_with}
+use Rattle.profile_rows.specs.Names.{name_cmp}
+use Rattle.profile_rows.specs.Rows.{total_of, weight_where}
 use Rattle.flame_report.specs.Sharing.{known_at, stack_at, held_weight, IsAscending, AreHeld}
 use Rattle.flame_report.proofs.PathOrder as order
 use Rattle.flame_report.proofs.RowSums.{names_total, names_same, in_order, held_weight-new, weight_where-more, weight_where-same_more, weight_where-take-le}

@@ -12,10 +12,10 @@ use Rattle.std.proofs.lemmas.Bool.{lt-ltb, ltb-true}
 use Rattle.std.proofs.lemmas.List.{append-nil, append_assoc, nil_from_length}
 use Rattle.std.proofs.lemmas.List.Elements.{recursion_from_All, All-from_recursion, All-filter}
 use Rattle.std.proofs.lemmas.List.Kept.{AllPairs-cons, AllPairs-filter}
-use Rattle.stack_text.specs.declared.batch.Row.{Row}
-use Rattle.stack_text.specs.Rows.{stack_cmp, is_kept, kept_rows}
-use Rattle.stack_text.specs.Aggregate.{Weighted, weight_in, with_row, with_rows, aggregate_of, row_of, rows_of}
-use Rattle.stack_text.proofs.RowLaws.{stack_cmp_total}
+use Rattle.profile_rows.specs.declared.batch.Row.{Row}
+use Rattle.profile_rows.specs.Rows.{stack_cmp, is_kept, kept_rows}
+use Rattle.profile_rows.specs.Aggregate.{Weighted, weight_in, with_row, with_rows, aggregate_of, row_of, rows_of}
+use Rattle.profile_rows.proofs.RowLaws.{stack_cmp_total}
 use Rattle.flame_report.specs.Sharing.{IsAscending, AreWeighty}
 
 abbrev Entry : Type 0

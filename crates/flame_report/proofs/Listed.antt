@@ -4,13 +4,13 @@ use Rattle.std.specs.Prelude.{nat_lt}
 use Rattle.std.specs.List.{Contains, list_any, flat_map}
 use Rattle.std.proofs.lemmas.Bool.{ltb-true, ltb-false}
 use Rattle.std.proofs.lemmas.Map.Views.{Contains-from_any}
-use Rattle.stack_text.specs.declared.batch.Row.{Row}
-use Rattle.stack_text.specs.Layout.{column_at, is_shown, rectangle_at, rectangles_of}
-use Rattle.stack_text.specs.Names.{name_cmp}
-use Rattle.stack_text.specs.Paths.{begins_with, path_start, path_weight, paths_of, prefixes}
-use Rattle.stack_text.specs.Rows.{stack_cmp, is_same_stack, total_of}
-use Rattle.stack_text.proofs.Members.{member-in_order}
-use Rattle.stack_text.proofs.RowLaws.{stack_cmp_total, stack_cmp_apart, same_from_is_same_stack}
+use Rattle.profile_rows.specs.declared.batch.Row.{Row}
+use Rattle.profile_rows.specs.Layout.{column_at, is_shown, rectangle_at, rectangles_of}
+use Rattle.profile_rows.specs.Names.{name_cmp}
+use Rattle.profile_rows.specs.Paths.{begins_with, path_start, path_weight, paths_of, prefixes}
+use Rattle.profile_rows.specs.Rows.{stack_cmp, is_same_stack, total_of}
+use Rattle.profile_rows.proofs.Members.{member-in_order}
+use Rattle.profile_rows.proofs.RowLaws.{stack_cmp_total, stack_cmp_apart, same_from_is_same_stack}
 use Rattle.flame_report.proofs.NewPaths.{among-all, begins_row}
 use Rattle.flame_report.proofs.RowSums.{weight_where-cons}
 use Rattle.flame_report.proofs.Spans.{parents_are_shown}

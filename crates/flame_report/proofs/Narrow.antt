@@ -3,9 +3,9 @@ use Rattle.std.proofs.Common.{ℕ, ◌≡◌, ◌<◌, ◌≤◌, ◌+◌, List,
 use Rattle.std.proofs.lemmas.Bool.{cases_Bool, both_ways}
 use Rattle.std.proofs.lemmas.List.{take-take, take-append-drop}
 use Rattle.std.proofs.Common.{inl, inr}
-use Rattle.stack_text.specs.declared.batch.Row.{Row}
-use Rattle.stack_text.specs.Layout.{is_shown, last_name, rectangle_at}
-use Rattle.stack_text.specs.Paths.{prefixes}
+use Rattle.profile_rows.specs.declared.batch.Row.{Row}
+use Rattle.profile_rows.specs.Layout.{is_shown, last_name, rectangle_at}
+use Rattle.profile_rows.specs.Paths.{prefixes}
 use Rattle.flame_report.specs.Sharing.{shown_of}
 use Rattle.flame_report.proofs.Prefixes.{drop-prefixes_more, drop-prefixes_all, shown_of-no}
 use Rattle.flame_report.proofs.Spans.{parents_are_shown}

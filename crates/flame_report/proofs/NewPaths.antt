@@ -2,8 +2,8 @@
 use Rattle.std.proofs.Common.{ℕ, ◌≡◌, ◌<◌, ◌≤◌, ◌+◌, List, [], ◌∷◌, ◌++◌, length, take, drop, get_or, map, refl, sym, ap, subst, ◌∙◌, arith, zero, suc, true, false, inl, inr, Bool, ◌⊎◌, filter}
 use Rattle.std.specs.Prelude.{◌||◌, nat_lt}
 use Rattle.std.specs.List.{list_any, flat_map, AllByRecursion}
-use Rattle.stack_text.proofs.Members.{same_members, in_order-Rises, member-in_order}
-use Rattle.stack_text.proofs.RowLaws.{stack_cmp_total, stack_cmp_apart}
+use Rattle.profile_rows.proofs.Members.{same_members, in_order-Rises, member-in_order}
+use Rattle.profile_rows.proofs.RowLaws.{stack_cmp_total, stack_cmp_apart}
 use borrow.Author.Tests.{lt-ltb}
 use Rattle.std.specs.Ordering.{is_eq, eq_by_cmp, match_ordering}
 use Rattle.std.specs.declared.cmp.Ordering.{Ordering}
@@ -13,12 +13,12 @@ use Rattle.std.proofs.lemmas.List.{drop-map, take_all, get_or-take, length-take-
 use Rattle.std.proofs.Math.Seq.{take-suc}
 use Rattle.std.proofs.lemmas.Cmp.{tied_itself}
 use Rattle.flame_report.proofs.Prefixes.{get_or-prefixes, length-prefixes}
-use Rattle.stack_text.specs.declared.batch.Row.{Row}
-use Rattle.stack_text.specs.Paths.{prefixes, begins_with}
-use Rattle.stack_text.specs.Names.{name_cmp}
-use Rattle.stack_text.specs.Rows.{stack_cmp}
+use Rattle.profile_rows.specs.declared.batch.Row.{Row}
+use Rattle.profile_rows.specs.Paths.{prefixes, begins_with}
+use Rattle.profile_rows.specs.Names.{name_cmp}
+use Rattle.profile_rows.specs.Rows.{stack_cmp}
 use Rattle.flame_report.specs.Sharing.{IsAscending, AreWeighty, known_at, stack_at}
-use Rattle.stack_text.specs.Paths.{paths_of}
+use Rattle.profile_rows.specs.Paths.{paths_of}
 use Rattle.flame_report.specs.Sharing.{paths_until}
 use Rattle.flame_report.proofs.PathOrder as order
 use Rattle.flame_report.proofs.RowSums.{names_total, names_same, in_order, new_path-first, stack_at-get}

@@ -8,7 +8,7 @@ use Rattle.std.specs.Cmp.Lexicographic.{slice_cmp}
 use Rattle.std.specs.FinMap.{IsAntisymmetric}
 use Rattle.std.specs.List.{common_prefix_len}
 use Rattle.std.proofs.lemmas.Cmp.{tied_itself}
-use Rattle.stack_text.specs.Paths.{begins_with, lies_left_of}
+use Rattle.profile_rows.specs.Paths.{begins_with, lies_left_of}
 
 -- what an equation on a first comparison says
 then_less : (a c : Ordering) → ordering_then a c ≡ Less → (a ≡ Less) ⊎ ((a ≡ Equal) × (c ≡ Less))

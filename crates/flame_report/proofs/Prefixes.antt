@@ -1,13 +1,13 @@
 -- The paths of one stack, and how many of them are known.
 use Rattle.std.proofs.Common.{ℕ, ◌≡◌, ◌<◌, ◌≤◌, ◌+◌, List, [], ◌∷◌, ◌++◌, length, take, drop, get_or, map, refl, sym, ap, ◌∙◌, arith, zero, suc, true, false, Bool, cond, filter}
-use Rattle.stack_text.specs.Layout.{is_shown, rectangle_at}
+use Rattle.profile_rows.specs.Layout.{is_shown, rectangle_at}
 use Rattle.flame_report.specs.Sharing.{shown_of}
 use Rattle.std.proofs.lemmas.List.{append_assoc, map-append, length-map, get_or-map, drop_more, drop_all}
 use Rattle.std.proofs.lemmas.List.Sums.{common_prefix_len-le}
 use Rattle.std.specs.Ordering.{eq_by_cmp}
-use Rattle.stack_text.specs.declared.batch.Row.{Row}
-use Rattle.stack_text.specs.Paths.{prefixes}
-use Rattle.stack_text.specs.Names.{name_cmp}
+use Rattle.profile_rows.specs.declared.batch.Row.{Row}
+use Rattle.profile_rows.specs.Paths.{prefixes}
+use Rattle.profile_rows.specs.Names.{name_cmp}
 use Rattle.flame_report.specs.Sharing.{known_at, stack_at}
 
 pub length-prefixes : {K : Type 0} (s : List K) → length (prefixes s) ≡ length s + 1

@@ -6,9 +6,9 @@ use Rattle.std.specs.Ordering.{is_lt}
 use Rattle.std.specs.Cmp.{IsTotalOrder}
 use Rattle.std.proofs.lemmas.Cmp.{then_total, on_total, back_total, nat_cmp_total, nat_list_cmp_total}
 use Rattle.std.proofs.lemmas.List.{get_or-map, length-map}
-use Rattle.stack_text.specs.TopList.{NameSums, Ranking, chosen_weight, top_cmp}
-use Rattle.stack_text.specs.declared.frame_totals.FrameTotal.{FrameTotal}
-use Rattle.stack_text.specs.TopList.{shown}
+use Rattle.profile_rows.specs.TopList.{NameSums, Ranking, chosen_weight, top_cmp}
+use Rattle.profile_rows.specs.declared.frame_totals.FrameTotal.{FrameTotal}
+use Rattle.profile_rows.specs.TopList.{shown}
 
 pub top_cmp-total : (ranking : Ranking) → IsTotalOrder (top_cmp ranking)
 top_cmp-total ranking = then_total (on_total (chosen_weight ranking) (back_total nat_cmp_total)) (on_total (λ (sums : NameSums). sums.name) nat_list_cmp_total)

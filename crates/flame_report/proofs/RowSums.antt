@@ -9,12 +9,12 @@ use Rattle.std.specs.List.{common_prefix_len}
 use Rattle.std.proofs.lemmas.List.Sums.{sum_by-cons, sum_by-take-drop, sum_by_more, sum_by-take-le}
 use Rattle.std.proofs.lemmas.Bool.{cases_Bool, both_ways, cases_eq}
 use Rattle.std.proofs.lemmas.List.{length-take, get_or-map, get_or_default, get_or-drop, length-drop, get_or-take, length-take-le}
-use Rattle.stack_text.specs.declared.batch.Row.{Row}
-use Rattle.stack_text.specs.Paths.{begins_with, lies_left_of}
-use Rattle.stack_text.specs.Names.{name_cmp}
-use Rattle.stack_text.specs.Rows.{stack_cmp, weight_where, total_of}
-use Rattle.stack_text.specs.Paths.{path_weight, path_start}
-use Rattle.stack_text.proofs.RowLaws.{weight_where-le-total}
+use Rattle.profile_rows.specs.declared.batch.Row.{Row}
+use Rattle.profile_rows.specs.Paths.{begins_with, lies_left_of}
+use Rattle.profile_rows.specs.Names.{name_cmp}
+use Rattle.profile_rows.specs.Rows.{stack_cmp, weight_where, total_of}
+use Rattle.profile_rows.specs.Paths.{path_weight, path_start}
+use Rattle.profile_rows.proofs.RowLaws.{weight_where-le-total}
 use Rattle.flame_report.specs.Sharing.{IsAscending, stack_at, shared_paths, known_at, held_weight}
 use Rattle.flame_report.proofs.PathOrder as order
 

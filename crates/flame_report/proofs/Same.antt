@@ -1,14 +1,14 @@
 -- An answer depends on the aggregate of the rows alone.
 use Rattle.std.proofs.Common.{◌≡◌, ℕ, List, map, true, Result, Ok, Err, sym, ap, ◌∙◌}
 use Rattle.std.specs.Prelude.{IfOk}
-use Rattle.stack_text.specs.declared.batch.Row.{Row}
-use Rattle.stack_text.specs.Aggregate.{aggregate_of, rows_of}
-use Rattle.stack_text.specs.FoldedText.{rows_text}
-use Rattle.stack_text.specs.Layout.{rectangles_of}
-use Rattle.stack_text.specs.Rows.{total_of}
-use Rattle.stack_text.specs.TopList.{top_list_of}
-use Rattle.stack_text.proofs.AnswerLaws.{aggregate_of-rows_of, kept_rows-same, top_list_of-same_aggregate, rectangles_of-same}
-use Rattle.stack_text.proofs.EntryLaws.{weight_where-same}
+use Rattle.profile_rows.specs.declared.batch.Row.{Row}
+use Rattle.profile_rows.specs.Aggregate.{aggregate_of, rows_of}
+use Rattle.folded_text.specs.FoldedText.{rows_text}
+use Rattle.profile_rows.specs.Layout.{rectangles_of}
+use Rattle.profile_rows.specs.Rows.{total_of}
+use Rattle.profile_rows.specs.TopList.{top_list_of}
+use Rattle.profile_rows.proofs.AnswerLaws.{aggregate_of-rows_of, kept_rows-same, top_list_of-same_aggregate, rectangles_of-same}
+use Rattle.profile_rows.proofs.EntryLaws.{weight_where-same}
 use Rattle.flame_report.specs.Answers.{answer_by, answer_of, kept_by, ranking_of, rect_of, top_row_of}
 use Rattle.flame_report.specs.declared.answer.Answer.TheVariants as answer
 use Rattle.flame_report.specs.declared.answer.Flame.{Flame}

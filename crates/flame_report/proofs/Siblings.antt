@@ -3,10 +3,10 @@ use Rattle.std.proofs.Common.{◌≡◌, ℕ, ◌+◌, ◌≤◌, true, false, c
 use Rattle.std.specs.declared.cmp.Ordering.TheVariants.{Less, Equal, Greater}
 use Rattle.std.specs.Ordering.{is_eq, match_ordering, ordering_then}
 use Rattle.std.proofs.lemmas.Cmp.{tied_itself}
-use Rattle.stack_text.specs.declared.batch.Row.{Row}
-use Rattle.stack_text.specs.Names.{name_cmp}
-use Rattle.stack_text.specs.Paths.{begins_with, lies_left_of, path_start, path_weight}
-use Rattle.stack_text.specs.Rows.{stack_cmp, is_same_stack, weight_of}
+use Rattle.profile_rows.specs.declared.batch.Row.{Row}
+use Rattle.profile_rows.specs.Names.{name_cmp}
+use Rattle.profile_rows.specs.Paths.{begins_with, lies_left_of, path_start, path_weight}
+use Rattle.profile_rows.specs.Rows.{stack_cmp, is_same_stack, weight_of}
 use Rattle.flame_report.proofs.PathOrder as order
 use Rattle.flame_report.proofs.RowSums.{names_total, names_same, weight_where-cons}
 

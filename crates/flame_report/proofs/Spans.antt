@@ -3,12 +3,12 @@ use Rattle.std.proofs.Common.{ℕ, ◌≡◌, ◌≤◌, ◌+◌, ◌*◌, List,
 use Rattle.std.proofs.lemmas.Bool.{both_ways, lt-ltb, ltb-true}
 use Rattle.std.proofs.Math.Nat.{div-zero, div-mul-le_self, mul-le-mul_right, le-div_iff_mul-le}
 use Rattle.std.proofs.Common.{zero, suc}
-use Rattle.stack_text.specs.declared.batch.Row.{Row}
-use Rattle.stack_text.specs.Paths.{begins_with, lies_left_of}
-use Rattle.stack_text.specs.Names.{name_cmp}
-use Rattle.stack_text.specs.Rows.{weight_where, total_of}
-use Rattle.stack_text.specs.Paths.{path_start, path_weight}
-use Rattle.stack_text.specs.Layout.{column_at, is_shown, rectangle_at}
+use Rattle.profile_rows.specs.declared.batch.Row.{Row}
+use Rattle.profile_rows.specs.Paths.{begins_with, lies_left_of}
+use Rattle.profile_rows.specs.Names.{name_cmp}
+use Rattle.profile_rows.specs.Rows.{weight_where, total_of}
+use Rattle.profile_rows.specs.Paths.{path_start, path_weight}
+use Rattle.profile_rows.specs.Layout.{column_at, is_shown, rectangle_at}
 use Rattle.flame_report.proofs.PathOrder as order
 use Rattle.flame_report.proofs.RowSums.{names_total, names_same, weight_where-cons}
 

@@ -1,11 +1,11 @@
 -- The plain answer to a query, over the rows that it keeps.
 use Rattle.std.specs.Prelude.{ℕ, List, map}
-use Rattle.stack_text.specs.declared.batch.Row.{Row}
-use Rattle.stack_text.specs.FoldedText.{folded_text_of}
-use Rattle.stack_text.specs.Layout.{Rectangle, rectangles_of}
-use Rattle.stack_text.specs.Rows.{kept_rows, total_of}
-use Rattle.stack_text.specs.TopList.{NameSums, Ranking, top_list_of}
-use Rattle.stack_text.specs.TopList.Ranking.{by_flat, by_cumulative}
+use Rattle.profile_rows.specs.declared.batch.Row.{Row}
+use Rattle.folded_text.specs.FoldedText.{folded_text_of}
+use Rattle.profile_rows.specs.Layout.{Rectangle, rectangles_of}
+use Rattle.profile_rows.specs.Rows.{kept_rows, total_of}
+use Rattle.profile_rows.specs.TopList.{NameSums, Ranking, top_list_of}
+use Rattle.profile_rows.specs.TopList.Ranking.{by_flat, by_cumulative}
 use Rattle.flame_report.specs.declared.answer.Answer.{Answer}
 use Rattle.flame_report.specs.declared.answer.Answer.TheVariants as answer
 use Rattle.flame_report.specs.declared.answer.Flame.{Flame}

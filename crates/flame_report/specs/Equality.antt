@@ -2,7 +2,7 @@
 use Rattle.std.specs.Prelude.{Bool, true, false, ◌==◌, ◌&&◌}
 use Rattle.std.specs.Option.{option_eq}
 use Rattle.std.specs.Cmp.Lexicographic.{pointwise}
-use Rattle.stack_text.specs.Names.{is_same_name}
+use Rattle.profile_rows.specs.Names.{is_same_name}
 use Rattle.flame_report.specs.declared.answer.Answer.{Answer}
 use Rattle.flame_report.specs.declared.answer.Answer.TheVariants as answer
 use Rattle.flame_report.specs.declared.answer.Flame.{Flame}

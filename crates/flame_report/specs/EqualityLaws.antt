@@ -5,7 +5,7 @@ use Rattle.std.specs.Bool.{Decides}
 use Rattle.std.specs.Option.{option_eq}
 use Rattle.std.specs.Cmp.{IsEquivalence, unsigned_Decides}
 use lib.Pointwise.{pointwise_decides}
-use Rattle.stack_text.proofs.EqualRows.{both_decide, decided-IsEquivalence, is_same_name-decides}
+use Rattle.profile_rows.proofs.EqualRows.{both_decide, decided-IsEquivalence, is_same_name-decides}
 use Rattle.flame_report.specs.Equality.{rank_eq, kind_eq, query_eq, top_row_eq, top_eq, rect_eq, flame_eq, answer_eq}
 use Rattle.flame_report.specs.declared.answer.Answer.{Answer}
 use Rattle.flame_report.specs.declared.answer.Answer.TheVariants as answer

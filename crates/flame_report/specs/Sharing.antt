@@ -4,11 +4,11 @@ use Prim.Native.Nat.{zero, suc}
 use Rattle.std.specs.Ordering.{eq_by_cmp}
 use Rattle.std.specs.declared.cmp.Ordering.TheVariants.{Less}
 use Rattle.std.specs.List.{AllPairs, common_prefix_len}
-use Rattle.stack_text.specs.declared.batch.Row.{Row}
-use Rattle.stack_text.specs.Layout.{Rectangle, is_shown, rectangle_at}
-use Rattle.stack_text.specs.Names.{name_cmp}
-use Rattle.stack_text.specs.Paths.{begins_with, prefixes}
-use Rattle.stack_text.specs.Rows.{stack_cmp, weight_where}
+use Rattle.profile_rows.specs.declared.batch.Row.{Row}
+use Rattle.profile_rows.specs.Layout.{Rectangle, is_shown, rectangle_at}
+use Rattle.profile_rows.specs.Names.{name_cmp}
+use Rattle.profile_rows.specs.Paths.{begins_with, prefixes}
+use Rattle.profile_rows.specs.Rows.{stack_cmp, weight_where}
 use Rattle.flame_report.specs.declared.layout.Span.{Span}
 
 -- each stack comes before those after it: in order, and none twice

@@ -2,7 +2,7 @@ ghost use Rattle.std.specs.Prelude.{◌≡◌, ◌↔◌, [], IfOk, IsTrue};
 
 use crate::items::Items;
 use crate::query::Columns;
-use stack_text::Name;
+use profile_rows::Name;
 use std::alloc::AllocError;
 use std::marker::Model;
 
@@ -66,7 +66,7 @@ impl Label {
 }
 
 impl PartialEq for Label {
-    ghost use Rattle.stack_text.specs.Names.{is_same_name};
+    ghost use Rattle.profile_rows.specs.Names.{is_same_name};
     ghost use Rattle.std.specs.Cmp.{partial_equiv_from_equiv};
     ghost use Rattle.std.specs.Cmp.Lexicographic.{nat_list_eq_equiv};
 

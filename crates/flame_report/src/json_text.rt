@@ -7,7 +7,7 @@ ghost use Rattle.flame_report.specs.Tokens.{flame_tokens, member_token, rect_tok
 
 use crate::answer::{Flame, Rect};
 use json::Writer;
-use stack_text::NoMemory;
+use profile_rows::NoMemory;
 use std::alloc::{AllocError, Global};
 
 /// Adds a member that is a number.

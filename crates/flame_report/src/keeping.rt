@@ -1,10 +1,10 @@
 ghost use Rattle.std.specs.Prelude.{◌≡◌, ◌↔◌, IsNone, IsTrue, List};
-ghost use Rattle.stack_text.specs.declared.batch.Row.{Row};
+ghost use Rattle.profile_rows.specs.declared.batch.Row.{Row};
 ghost use Rattle.flame_report.specs.Answers.{kept_by};
-ghost use Rattle.stack_text.specs.Rows.{is_kept};
+ghost use Rattle.profile_rows.specs.Rows.{is_kept};
 
 use crate::query::Query;
-use stack_text::{Row, keeps};
+use profile_rows::{Row, keeps};
 
 impl Query {
     /// Whether the query has no focus and ignores no name, and so keeps every row.

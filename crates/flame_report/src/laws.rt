@@ -2,14 +2,14 @@
 
 ghost use Rattle.std.specs.Prelude.{ℕ, ◌≡◌, ◌≤◌, ◌+◌, ◌++◌, ◌∷◌, [], List, Contains, true};
 ghost use Rattle.std.specs.declared.cmp.Ordering.TheVariants.{Less};
-ghost use Rattle.stack_text.specs.declared.batch.Row.{Row};
-ghost use Rattle.stack_text.specs.Aggregate.{aggregate_of};
+ghost use Rattle.profile_rows.specs.declared.batch.Row.{Row};
+ghost use Rattle.profile_rows.specs.Aggregate.{aggregate_of};
 ghost use Rattle.flame_report.specs.Answers.{answer_of};
 ghost use Rattle.flame_report.specs.declared.query.Query.{Query};
-ghost use Rattle.stack_text.specs.Layout.{column_at, is_shown, rectangle_at, rectangles_of};
-ghost use Rattle.stack_text.specs.Names.{name_cmp};
-ghost use Rattle.stack_text.specs.Paths.{path_start, path_weight};
-ghost use Rattle.stack_text.specs.Rows.{total_of, weight_of};
+ghost use Rattle.profile_rows.specs.Layout.{column_at, is_shown, rectangle_at, rectangles_of};
+ghost use Rattle.profile_rows.specs.Names.{name_cmp};
+ghost use Rattle.profile_rows.specs.Paths.{path_start, path_weight};
+ghost use Rattle.profile_rows.specs.Rows.{total_of, weight_of};
 
 /// The children of a path stand side by side, in the order of their names: the first starts where the path does, and each other
 /// where the one before it ends. Between two neighbours no name has weight.

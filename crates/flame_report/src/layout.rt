@@ -4,16 +4,16 @@
 ghost use Rattle.std.specs.Prelude.{ℕ, ◌≡◌, ◌++◌, ◌+◌, ◌<◌, ◌≤◌, ◌^◌, false, IfOk, OnOk, drop, length, map, take};
 ghost use Rattle.std.specs.List.{common_prefix_len};
 ghost use Rattle.std.specs.Ordering.{eq_by_cmp};
-ghost use Rattle.stack_text.specs.Layout.{column_at, last_name, rectangle_at, rectangles_of};
-ghost use Rattle.stack_text.specs.Names.{name_cmp};
-ghost use Rattle.stack_text.specs.Paths.{begins_with, path_weight, prefixes};
-ghost use Rattle.stack_text.specs.Rows.{total_of};
+ghost use Rattle.profile_rows.specs.Layout.{column_at, last_name, rectangle_at, rectangles_of};
+ghost use Rattle.profile_rows.specs.Names.{name_cmp};
+ghost use Rattle.profile_rows.specs.Paths.{begins_with, path_weight, prefixes};
+ghost use Rattle.profile_rows.specs.Rows.{total_of};
 ghost use Rattle.flame_report.specs.Answers.{rect_of};
 ghost use Rattle.flame_report.specs.Sharing.{AreHeld, AreKnownPaths, AreWeighty, IsAscending, held_weight, known_at, shown_of, span_of, stack_at};
 
 use crate::answer::{Label, Rect};
 use crate::query::Columns;
-use stack_text::{Name, Row};
+use profile_rows::{Name, Row};
 use std::alloc::{AllocError, Global};
 
 /// Weights in columns: the total of all rows fills them.

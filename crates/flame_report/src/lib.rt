@@ -16,5 +16,5 @@ pub use items::Items;
 pub use json_text::flame_json;
 pub use query::{Columns, Kind, MAX_COLUMNS, Query, Rank};
 pub use reports::{report, report_of};
-pub use stack_text::NoMemory;
+pub use profile_rows::NoMemory;
 pub use top::{top_list, top_text};

@@ -1,6 +1,6 @@
 ghost use Rattle.std.specs.Prelude.{◌≡◌, ◌<◌, ◌≤◌, ◌⊎◌, ◌↔◌, IsTrue, MatchOption};
 
-use stack_text::Name;
+use profile_rows::Name;
 use std::marker::Model;
 
 /// The most columns of a layout.

@@ -1,10 +1,10 @@
 //! Reports: the answer to a query over a call tree, or over a batch.
 
 ghost use Rattle.std.specs.Prelude.{◌≡◌, ◌+◌, ◌^◌, ◌<◌, IfOk, IsTrue, List};
-ghost use Rattle.stack_text.specs.Aggregate.{aggregate_of, rows_of};
-ghost use Rattle.stack_text.specs.FoldedText.{folded_text_of};
-ghost use Rattle.stack_text.specs.Rows.{total_of};
-ghost use Rattle.stack_text.specs.declared.batch.Row.{Row};
+ghost use Rattle.profile_rows.specs.Aggregate.{aggregate_of, rows_of};
+ghost use Rattle.folded_text.specs.FoldedText.{folded_text_of};
+ghost use Rattle.profile_rows.specs.Rows.{total_of};
+ghost use Rattle.profile_rows.specs.declared.batch.Row.{Row};
 ghost use Rattle.call_tree.specs.State.{weights_of};
 ghost use Rattle.flame_report.specs.Answers.{answer_of, flame_of, kept_by, top_of};
 ghost use Rattle.flame_report.specs.Sharing.{AreWeighty, IsAscending};
@@ -15,8 +15,9 @@ use crate::layout::{Scale, rects_of};
 use crate::query::{Columns, Kind, Query, Rank};
 use crate::top::{kept_total, top_list, top_of_rows};
 use call_tree::{CallTree, Grower};
-use stack_text::laws::sums_are_those_of_the_aggregate;
-use stack_text::{Batch, FrameTotals, MAX_TOTAL, NoMemory, Row, write_folded};
+use profile_rows::laws::sums_are_those_of_the_aggregate;
+use folded_text::write_folded;
+use profile_rows::{Batch, FrameTotals, MAX_TOTAL, NoMemory, Row};
 use std::alloc::Global;
 
 /// The rows of a batch that a query keeps.

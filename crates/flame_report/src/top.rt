@@ -1,17 +1,17 @@
 //! Top lists: the names that weigh most, and their text.
 
 ghost use Rattle.std.specs.Prelude.{ℕ, ◌≡◌, ◌^◌, ◌<◌, List, IfOk, OnOk, IsSorted, IsPermutation, map, take, string_bytes, ◌++◌};
-ghost use Rattle.stack_text.specs.declared.batch.Row.{Row};
-ghost use Rattle.stack_text.specs.Rows.{total_of};
-ghost use Rattle.stack_text.specs.TopList.{AreSumsOf, AreTotalsOf, shown, top_cmp, top_line, top_list_of, top_text_of};
+ghost use Rattle.profile_rows.specs.declared.batch.Row.{Row};
+ghost use Rattle.profile_rows.specs.Rows.{total_of};
+ghost use Rattle.profile_rows.specs.TopList.{AreSumsOf, AreTotalsOf, shown, top_cmp, top_line, top_list_of, top_text_of};
 ghost use Rattle.flame_report.specs.Answers.{kept_by, ranking_of, sums_in, top_of, top_row_of};
 ghost use Rattle.flame_report.specs.declared.query.Rank.TheVariants.{Flat, Cum};
 
 use crate::answer::{Top, TopRow};
 use crate::items::Items;
 use crate::query::{Query, Rank};
-use stack_text::laws::top_list_is_front_of_sorted;
-use stack_text::{Batch, FrameTotal, FrameTotals, NoMemory, Row, kept_totals};
+use profile_rows::laws::top_list_is_front_of_sorted;
+use profile_rows::{Batch, FrameTotal, FrameTotals, NoMemory, Row, kept_totals};
 use std::alloc::{AllocError, Global};
 use std::cmp::Ordering;
 

@@ -5,16 +5,17 @@ use Rattle.pprof_profile.specs.declared.faults.ProfileFault.{ProfileFault}
 use Rattle.pprof_profile.specs.declared.faults.ProfileFault.TheVariants as profile
 use Rattle.pprof_profile.specs.declared.messages.Draft.{Draft}
 use Rattle.pprof_profile.specs.Profiles.{IsProfile, IsProfileFault}
-use Rattle.stack_text.specs.declared.batch.Row.{Row}
-use Rattle.stack_text.specs.declared.folded.FoldedFault.{FoldedFault}
-use Rattle.stack_text.specs.declared.folded.FoldedFault.TheVariants as folded
-use Rattle.stack_text.specs.declared.sampling.BatchFault.{BatchFault}
-use Rattle.stack_text.specs.declared.sampling.BatchFault.TheVariants as batch
-use Rattle.stack_text.specs.declared.sampling.ValueChoice.{ValueChoice}
-use Rattle.stack_text.specs.declared.sampling.ValueChoice.TheVariants.{Default, Named}
-use Rattle.stack_text.specs.FoldedText.{IsFirstFault, IsFoldedText, IsWorkFault}
-use Rattle.stack_text.specs.Samples.{IsBatchOf, IsFirstBatchFault, chosen_type_of, type_named}
-use Rattle.stack_text.specs.Sums.{IsSumOfBatch, IsSumOfText}
+use Rattle.profile_rows.specs.declared.batch.Row.{Row}
+use Rattle.folded_text.specs.declared.folded.FoldedFault.{FoldedFault}
+use Rattle.folded_text.specs.declared.folded.FoldedFault.TheVariants as folded
+use Rattle.profile_samples.specs.declared.sampling.BatchFault.{BatchFault}
+use Rattle.profile_samples.specs.declared.sampling.BatchFault.TheVariants as batch
+use Rattle.profile_samples.specs.declared.sampling.ValueChoice.{ValueChoice}
+use Rattle.profile_samples.specs.declared.sampling.ValueChoice.TheVariants.{Default, Named}
+use Rattle.folded_text.specs.FoldedText.{IsFirstFault, IsFoldedText, IsWorkFault}
+use Rattle.profile_samples.specs.Samples.{IsBatchOf, IsFirstBatchFault, chosen_type_of, type_named}
+use Rattle.profile_samples.specs.SampleSums.{IsSumOfBatch}
+use Rattle.folded_text.specs.TextSums.{IsSumOfText}
 use Rattle.flame_report.specs.Answers.{answer_by, kept_by}
 use Rattle.flame_report.specs.declared.query.Kind.{Kind}
 use Rattle.flame_report.specs.declared.query.Query.{Query}

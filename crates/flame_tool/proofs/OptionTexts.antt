@@ -7,7 +7,7 @@ use Rattle.std.specs.Str.{IsUtf8}
 use Rattle.std.specs.Str.Parse.{AllDigits, IsNumeral, digits_value}
 use Rattle.std.proofs.lemmas.Bool.{and_parts, eqb-false, leb-true, le-ltb, lt-ltb, ne_eqb, not-true}
 use Rattle.std.proofs.lemmas.List.Elements.{All-from_recursion, recursion_from_All}
-use Rattle.stack_text.specs.Names.{IsName}
+use Rattle.profile_rows.specs.Names.{IsName}
 use Rattle.flame_report.specs.declared.query.Kind.{Kind}
 use Rattle.flame_tool.specs.declared.request.Format.{Format}
 use Rattle.flame_tool.specs.declared.request.Request.TheVariants.{Report}

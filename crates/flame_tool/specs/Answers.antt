@@ -5,19 +5,19 @@ use Rattle.pprof_profile.specs.declared.faults.ProfileFault.{ProfileFault}
 use Rattle.pprof_profile.specs.declared.faults.ProfileFault.TheVariants as profile
 use Rattle.pprof_profile.specs.declared.messages.Draft.{Draft}
 use Rattle.pprof_profile.specs.Profiles.{IsProfile, IsProfileFault}
-use Rattle.stack_text.specs.declared.batch.Row.{Row}
-use Rattle.stack_text.specs.declared.folded.FoldedFault.{FoldedFault}
-use Rattle.stack_text.specs.declared.folded.FoldedFault.TheVariants as folded
-use Rattle.stack_text.specs.declared.sampling.BatchFault.{BatchFault}
-use Rattle.stack_text.specs.declared.sampling.BatchFault.TheVariants as batch
-use Rattle.stack_text.specs.declared.sampling.ValueChoice.{ValueChoice}
-use Rattle.stack_text.specs.declared.sampling.ValueChoice.TheVariants.{Default, Named}
-use Rattle.stack_text.specs.Aggregate.{aggregate_of}
+use Rattle.profile_rows.specs.declared.batch.Row.{Row}
+use Rattle.folded_text.specs.declared.folded.FoldedFault.{FoldedFault}
+use Rattle.folded_text.specs.declared.folded.FoldedFault.TheVariants as folded
+use Rattle.profile_samples.specs.declared.sampling.BatchFault.{BatchFault}
+use Rattle.profile_samples.specs.declared.sampling.BatchFault.TheVariants as batch
+use Rattle.profile_samples.specs.declared.sampling.ValueChoice.{ValueChoice}
+use Rattle.profile_samples.specs.declared.sampling.ValueChoice.TheVariants.{Default, Named}
+use Rattle.profile_rows.specs.Aggregate.{aggregate_of}
 use Rattle.pprof_profile.specs.Canonical.{canonical_bytes_of}
-use Rattle.stack_text.specs.Export.{exported_profile_of}
-use Rattle.stack_text.specs.FoldedText.{IsFirstFault, IsFoldedText}
-use Rattle.stack_text.specs.Samples.{IsBatchOf, IsFirstBatchFault}
-use Rattle.stack_text.specs.TopList.{top_text_of}
+use Rattle.profile_samples.specs.Export.{exported_profile_of}
+use Rattle.folded_text.specs.FoldedText.{IsFirstFault, IsFoldedText}
+use Rattle.profile_samples.specs.Samples.{IsBatchOf, IsFirstBatchFault}
+use Rattle.profile_rows.specs.TopList.{top_text_of}
 use Rattle.flame_report.specs.declared.answer.Answer.{Answer}
 use Rattle.flame_report.specs.declared.answer.Answer.TheVariants as answer
 use Rattle.flame_report.specs.Answers.{answer_by, answer_of, sums_in}

@@ -1,7 +1,7 @@
 -- How a run of the program ends, over what its reader had left and what its writer holds, before and after.
 use Rattle.std.specs.Prelude.{ℕ, ◌≡◌, ◌+◌, ◌≤◌, List, length, Option, Some}
 use Rattle.std.specs.Io.KnownBytes.{Appends, Keeps}
-use Rattle.stack_text.specs.declared.batch.Row.{Row}
+use Rattle.profile_rows.specs.declared.batch.Row.{Row}
 use Rattle.flame_tool.specs.Answers.{AreRowsIn, IsAnswer, IsInputFault, format_for, value_for}
 use Rattle.flame_tool.specs.Parts.{AppendsBeginning, IsWholeInput, TakesAtMost, TakesExactly}
 use Rattle.flame_tool.specs.Outcomes.{code_of}

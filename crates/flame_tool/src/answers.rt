@@ -1,6 +1,6 @@
 //! What an input answers to a request.
 ghost use Rattle.std.specs.Prelude.{ℕ, ◌≡◌, ◌∷◌, ◌++◌, [], List, MatchResult, IfOk, Option};
-ghost use Rattle.stack_text.specs.declared.batch.Row.{Row};
+ghost use Rattle.profile_rows.specs.declared.batch.Row.{Row};
 ghost use Rattle.flame_report.specs.Answers.{answer_of};
 ghost use Rattle.flame_report.specs.declared.query.Kind.TheVariants.{Top};
 ghost use Rattle.flame_tool.specs.Answers.{AreSumsIn, IsAnswer, IsAnswerOfText, IsChoice, IsInputFault, IsRefusedIn, answer_text, batch_fault_of, folded_fault_of, profile_fault_of};

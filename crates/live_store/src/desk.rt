@@ -2,7 +2,7 @@
 
 ghost use Rattle.std.specs.Prelude.{◌≡◌, ◌≢◌, ◌<◌, ◌≤◌, ℕ, IfErr, IfOk, IfSome};
 ghost use Rattle.std.specs.Arc.{arc_value};
-ghost use Rattle.stack_text.specs.Rows.{total_of};
+ghost use Rattle.profile_rows.specs.Rows.{total_of};
 ghost use Rattle.flame_report.specs.declared.answer.Answer.{Answer};
 ghost use Rattle.op_book.specs.Operations.{add, answered, ask, placed};
 ghost use Rattle.live_store.specs.Stores.{ShowsCause};
@@ -10,7 +10,7 @@ ghost use Rattle.live_store.specs.Stores.{ShowsCause};
 use crate::store::StoreName;
 use flame_report::Query;
 use op_book::{Book, BookFault, Journal, Receipt, Refused};
-use stack_text::Batch;
+use profile_rows::Batch;
 use std::alloc::Global;
 use std::marker::PhantomData;
 use std::sync::Arc;

@@ -2,7 +2,7 @@
 
 ghost use Rattle.std.specs.Prelude.{◌≡◌, ◌≢◌, ◌<◌, ◌++◌, ◌∷◌, [], ℕ, List, length, IfErr, IfOk, OnErr, OnOk};
 ghost use Rattle.std.specs.Arc.{arc_value};
-ghost use Rattle.stack_text.specs.Rows.{total_of};
+ghost use Rattle.profile_rows.specs.Rows.{total_of};
 ghost use Rattle.op_book.specs.Operations.{PlainOp, PlainReceipt, add, answered, ask, placed, plain_reply};
 ghost use Rattle.flame_report.specs.declared.answer.Answer.{Answer};
 ghost use Rattle.live_store.specs.Stores.{ShowsCause};
@@ -11,7 +11,7 @@ use crate::fault::Refused;
 use crate::store::{Store, StoreName};
 use flame_report::{Answer, Items, Query};
 use op_book::{BookFault, Receipt, Reply, SessionLog};
-use stack_text::Batch;
+use profile_rows::Batch;
 use std::alloc::Global;
 use std::marker::Model;
 use std::sync::{Arc, Wait};

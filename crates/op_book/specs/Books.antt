@@ -1,7 +1,7 @@
 -- What contracts see of a book and of a journal, and what both keep.
 use Rattle.std.specs.Prelude.{ℕ, ◌≡◌, ◌≢◌, ◌<◌, ◌≤◌, ◌+◌, ◌^◌, List, [], ◌∷◌, ◌++◌, length}
-use Rattle.stack_text.specs.Aggregate.{aggregate_of}
-use Rattle.stack_text.specs.Rows.{total_of}
+use Rattle.profile_rows.specs.Aggregate.{aggregate_of}
+use Rattle.profile_rows.specs.Rows.{total_of}
 use Rattle.call_tree.specs.State.{TreeState, weights_of}
 use Rattle.op_book.specs.Operations.{PlainOp, PlainEntry, PlainReceipt, operations_of, plain_answer, profile_after, rows_added}
 use Rattle.op_book.specs.Runs.{AreOfSessions, AreTurnsInOrder, IsLegalRun, turns_of}

@@ -4,9 +4,9 @@ use Rattle.std.specs.Bool.{Decides}
 use Rattle.std.specs.Cmp.{IsEquivalence, on_equiv, unsigned_Decides}
 use Rattle.std.specs.Cmp.Lexicographic.{pointwise}
 use Rattle.std.proofs.Common.{ap}
-use Rattle.stack_text.specs.declared.batch.Row.{Row}
-use Rattle.stack_text.specs.Equality.{row_eq}
-use Rattle.stack_text.proofs.EqualRows.{decided-IsEquivalence, rows_eq-decides}
+use Rattle.profile_rows.specs.declared.batch.Row.{Row}
+use Rattle.profile_rows.specs.Equality.{row_eq}
+use Rattle.profile_rows.proofs.EqualRows.{decided-IsEquivalence, rows_eq-decides}
 use Rattle.flame_report.specs.declared.answer.Answer.{Answer}
 use Rattle.flame_report.specs.declared.query.Query.{Query}
 use Rattle.flame_report.specs.Equality.{answer_eq, query_eq}

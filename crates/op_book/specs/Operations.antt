@@ -2,7 +2,7 @@
 use Rattle.std.specs.Prelude.{ℕ, List, [], ◌∷◌, length, map}
 use Rattle.std.specs.List.{flat_map}
 use Rattle.std.specs.Arc.{arc_value}
-use Rattle.stack_text.specs.declared.batch.Row.{Row}
+use Rattle.profile_rows.specs.declared.batch.Row.{Row}
 use Rattle.flame_report.specs.declared.answer.Answer.{Answer}
 use Rattle.flame_report.specs.declared.query.Query.{Query}
 use Rattle.flame_report.specs.Answers.{answer_of}

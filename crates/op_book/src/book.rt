@@ -13,8 +13,8 @@ use crate::ledger::Ledger;
 use crate::operation::{Op, Reply};
 use call_tree::{CallTree, Grower};
 use flame_report::{Answer, NoMemory, Query, report};
-use stack_text::laws::{aggregate_of_more_rows, sums_are_those_of_the_aggregate};
-use stack_text::{Batch, MAX_TOTAL};
+use profile_rows::laws::{aggregate_of_more_rows, sums_are_those_of_the_aggregate};
+use profile_rows::{Batch, MAX_TOTAL};
 use std::alloc::Global;
 use std::marker::Model;
 use std::sync::Arc;
@@ -29,7 +29,7 @@ pub struct Book {
 
 impl Model for Book {
     ghost use Rattle.std.specs.Prelude.{◌≡◌};
-    ghost use Rattle.stack_text.specs.Aggregate.{aggregate_of};
+    ghost use Rattle.profile_rows.specs.Aggregate.{aggregate_of};
     ghost use Rattle.call_tree.specs.State.{weights_of};
     ghost use Rattle.op_book.specs.Books.{BookState};
     ghost use Rattle.op_book.specs.Operations.{operations_of, profile_after};

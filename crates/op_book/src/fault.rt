@@ -16,7 +16,7 @@ pub enum BookFault {
     /// The journal has as many entries as it may have, `held`.
     #[error("K3 Full held {held}")]
     Full { held: u32 },
-    /// What was added so far weighs `held`, and passes [`stack_text::MAX_TOTAL`] together with the batch.
+    /// What was added so far weighs `held`, and passes [`profile_rows::MAX_TOTAL`] together with the batch.
     #[error("K4 Heavy held {held}")]
     Heavy { held: u64 },
     /// Memory ran out.

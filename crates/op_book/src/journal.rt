@@ -1,7 +1,7 @@
 //! What a closed book leaves.
 
 ghost use Rattle.std.specs.Prelude.{◌≡◌, ◌<◌, ◌≤◌, ◌^◌, length};
-ghost use Rattle.stack_text.specs.Rows.{total_of};
+ghost use Rattle.profile_rows.specs.Rows.{total_of};
 ghost use Rattle.op_book.specs.Operations.{operations_of, profile_after};
 ghost use Rattle.op_book.specs.Books.{IsReplay};
 ghost use Rattle.op_book.specs.Runs.{AreOfSessions, AreTurnsInOrder};

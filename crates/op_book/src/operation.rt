@@ -4,7 +4,7 @@ ghost use Rattle.std.specs.Prelude.{◌≡◌, ◌↔◌, IsTrue, length};
 ghost use Rattle.op_book.specs.Operations.{addition_of, plain_op, plain_reply};
 
 use flame_report::{Answer, Query};
-use stack_text::Batch;
+use profile_rows::Batch;
 use std::sync::Arc;
 
 /// An operation of a session.

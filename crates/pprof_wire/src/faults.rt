@@ -1,23 +1,4 @@
-use std::alloc::{AllocError, AllocFailed};
-use std::fmt;
 use thiserror::Error;
-
-/// No memory was to be had. The crates above share this type.
-#[derive(Clone, Copy, Debug, PartialEq, Eq, Error)]
-#[error("NoMemory")]
-pub struct NoMemory;
-
-impl From<AllocError> for NoMemory {
-    fn from(_refused: AllocError) -> NoMemory {
-        NoMemory
-    }
-}
-
-impl<T: Drop> From<AllocFailed<T>> for NoMemory {
-    fn from(_refused: AllocFailed<T>) -> NoMemory {
-        NoMemory
-    }
-}
 
 /// Why bytes are not in the wire format of Protocol Buffers.
 #[derive(Clone, Copy, Debug, PartialEq, Eq, Error)]

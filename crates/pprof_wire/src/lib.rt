@@ -15,8 +15,9 @@ mod values;
 mod varints;
 mod writing;
 
-pub use faults::{NoMemory, WireFault};
+pub use faults::WireFault;
 pub use fields::Fields;
+pub use no_memory::NoMemory;
 pub use numbers::packed;
 pub use packing::Packed;
 pub use values::{Field, Value};

@@ -1,6 +1,6 @@
 use Rattle.std.proofs.Common.{◌++◌, ◌+◌}
-use Rattle.stack_text.specs.Paths.{path_start, path_weight}
-use Rattle.stack_text.specs.Rows.{total_of}
+use Rattle.profile_rows.specs.Paths.{path_start, path_weight}
+use Rattle.profile_rows.specs.Rows.{total_of}
 use Rattle.flame_report.proofs.Spans.{child_starts_inside, child_ends_inside, columns_keep_order}
 use Rattle.flame_report.proofs.laws.children_lie_inside.Goals as goal
 

@@ -1,6 +1,6 @@
 use Rattle.std.proofs.Common.{◌++◌, ◌∷◌, [], ◌+◌}
-use Rattle.stack_text.specs.Paths.{path_start, path_weight}
-use Rattle.stack_text.specs.Rows.{total_of}
+use Rattle.profile_rows.specs.Paths.{path_start, path_weight}
+use Rattle.profile_rows.specs.Rows.{total_of}
 use Rattle.flame_report.proofs.Siblings.{siblings-order}
 use Rattle.flame_report.proofs.Spans as spans
 use Rattle.flame_report.proofs.laws.columns_keep_order.Goals as goal

@@ -1,8 +1,8 @@
 use Rattle.std.proofs.Common.{◌≡◌, ◌+◌, ◌-◌, ◌<◌, ◌≤◌, length, take, true, subst, sym, ap, arith, ◌∙◌, slice_index_or}
 use Rattle.std.proofs.lemmas.List.{take_all, length-take-le}
-use Rattle.stack_text.specs.Paths.{begins_with}
-use Rattle.stack_text.specs.Names.{name_cmp}
-use Rattle.stack_text.specs.Rows.{weight_where}
+use Rattle.profile_rows.specs.Paths.{begins_with}
+use Rattle.profile_rows.specs.Names.{name_cmp}
+use Rattle.profile_rows.specs.Rows.{weight_where}
 use Rattle.flame_report.specs.Sharing.{stack_at, shared_paths}
 use Rattle.flame_report.proofs.PathOrder as order
 use Rattle.flame_report.proofs.RowSums.{names_total, names_same, group_first, group_next, group_ends, group_whole, weight_where-more, weight_where-take-le, known_next}

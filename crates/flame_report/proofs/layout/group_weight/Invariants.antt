@@ -1,7 +1,7 @@
 use Rattle.std.proofs.Common.{◌≡◌, ◌-◌, take, true}
-use Rattle.stack_text.specs.Paths.{begins_with}
-use Rattle.stack_text.specs.Names.{name_cmp}
-use Rattle.stack_text.specs.Rows.{weight_where}
+use Rattle.profile_rows.specs.Paths.{begins_with}
+use Rattle.profile_rows.specs.Names.{name_cmp}
+use Rattle.profile_rows.specs.Rows.{weight_where}
 use Rattle.flame_report.specs.Sharing.{stack_at}
 use Rattle.flame_report.proofs.layout.group_weight.Given as goal
 

@@ -1,7 +1,7 @@
 use Rattle.std.proofs.Common.{◌≡◌, ◌+◌, ◌-◌, ◌++◌, ◌∷◌, [], length, take, vec_len, replicate, slice_index_or, sym, ap, subst, arith, ◌∙◌, suc}
 use Rattle.std.proofs.lemmas.List.{take_all, length-take-le, append_assoc}
 use Rattle.std.proofs.lemmas.List.Sums.{sum_by_more_le}
-use Rattle.stack_text.specs.declared.batch.Row.{Row}
+use Rattle.profile_rows.specs.declared.batch.Row.{Row}
 use Rattle.flame_report.specs.Sharing.{stack_at, known_at, AreHeld}
 use Rattle.flame_report.proofs.RowSums.{stack_at-get}
 use Rattle.flame_report.proofs.Held.{known-le, known-le-held, held_more, held_weight-le}

@@ -1,7 +1,7 @@
 use Rattle.std.proofs.Common.{◌≡◌, ◌+◌, ◌-◌, ◌<◌, length, sym, ap, arith, ◌∙◌, inl, inr, slice_index_or}
 use Rattle.std.proofs.lemmas.Bool.{cases_eq}
 use Rattle.std.proofs.lemmas.List.{get_or_push, get_or_append_left, length_push}
-use Rattle.stack_text.specs.Names.{name_cmp}
+use Rattle.profile_rows.specs.Names.{name_cmp}
 use Rattle.flame_report.specs.Sharing.{shared_paths, stack_at, known_at}
 use Rattle.std.specs.List.{common_prefix_len}
 use Rattle.std.specs.Ordering.{eq_by_cmp}

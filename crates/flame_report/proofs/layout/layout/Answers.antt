@@ -1,6 +1,6 @@
 -- Row by row, each path is drawn where it first comes.
 use Rattle.std.proofs.Common.{◌≡◌, ◌+◌, ◌++◌, length, drop, sym, ap, arith, ◌∙◌, suc, map}
-use Rattle.stack_text.specs.Paths.{prefixes}
+use Rattle.profile_rows.specs.Paths.{prefixes}
 use Rattle.flame_report.specs.Answers.{rect_of}
 use Rattle.flame_report.specs.Sharing.{known_at, paths_until, shown_of, stack_at}
 use Rattle.flame_report.proofs.Drawn.{drawn-append}

@@ -1,5 +1,5 @@
 use Rattle.std.proofs.Common.{◌≡◌, map, take}
-use Rattle.stack_text.specs.Rows.{total_of}
+use Rattle.profile_rows.specs.Rows.{total_of}
 use Rattle.flame_report.specs.Answers.{rect_of}
 use Rattle.flame_report.specs.Sharing.{AreHeld, paths_until, shown_of}
 use Rattle.flame_report.proofs.layout.layout.Given as goal

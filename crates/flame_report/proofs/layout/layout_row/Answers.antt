@@ -2,8 +2,8 @@
 use Rattle.std.proofs.Common.{◌≡◌, ◌+◌, ◌≤◌, ◌++◌, ◌∷◌, length, take, drop, map, sym, ap, arith, ◌∙◌, true, false, ◌-◌}
 use Rattle.std.proofs.lemmas.List.{append-nil, length-take-le}
 use Rattle.std.proofs.lemmas.Bool.{lt-ltb, le-ltb}
-use Rattle.stack_text.specs.Layout.{is_shown, last_name, rectangle_at}
-use Rattle.stack_text.specs.Paths.{prefixes}
+use Rattle.profile_rows.specs.Layout.{is_shown, last_name, rectangle_at}
+use Rattle.profile_rows.specs.Paths.{prefixes}
 use Rattle.flame_report.specs.Answers.{rect_of}
 use Rattle.flame_report.specs.Sharing.{shown_of, stack_at}
 use Rattle.flame_report.specs.declared.answer.Rect.{Rect}

@@ -1,5 +1,5 @@
 use Rattle.std.proofs.Common.{◌≡◌, ◌+◌, ◌≤◌, ◌++◌, drop, length, map}
-use Rattle.stack_text.specs.Paths.{prefixes}
+use Rattle.profile_rows.specs.Paths.{prefixes}
 use Rattle.flame_report.specs.Answers.{rect_of}
 use Rattle.flame_report.specs.Sharing.{known_at, shown_of, stack_at}
 use Rattle.flame_report.proofs.layout.layout_row.Given as goal

@@ -1,6 +1,6 @@
 -- A path is called by its last name.
 use Rattle.std.proofs.Common.{◌≡◌, ◌-◌, take, sym, ap, refl, ◌∙◌, arith, suc}
-use Rattle.stack_text.specs.Layout.{last_name}
+use Rattle.profile_rows.specs.Layout.{last_name}
 use Rattle.flame_report.proofs.Narrow.{last_name-take}
 use Rattle.flame_report.proofs.layout.rect_at.Goals as goal
 use Rattle.flame_report.proofs.layout.rect_at.Goals.{then-depth-eq0, else-depth-eq0+in_ok-name}

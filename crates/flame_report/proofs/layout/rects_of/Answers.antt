@@ -1,6 +1,6 @@
 -- Without weight there are no rows.
 use Rattle.std.proofs.Common.{map, sym, ap, ◌∙◌}
-use Rattle.stack_text.specs.Layout.{rectangles_of}
+use Rattle.profile_rows.specs.Layout.{rectangles_of}
 use Rattle.flame_report.specs.Answers.{rect_of}
 use Rattle.flame_report.proofs.Drawn.{no_rows}
 use Rattle.flame_report.proofs.layout.rects_of.Goals as goal

@@ -6,7 +6,7 @@ use Rattle.std.specs.Cmp.Lexicographic.{texts_ties, pointwise}
 use Rattle.std.proofs.lemmas.List.Sums.{common_prefix_len-drop_yes, common_prefix_len-drop_no, common_prefix_len-le}
 use Rattle.std.proofs.lemmas.List.{drop_all}
 use Rattle.std.proofs.lemmas.Bool.{not-false, not-true}
-use Rattle.stack_text.specs.Names.{name_cmp}
+use Rattle.profile_rows.specs.Names.{name_cmp}
 use Rattle.flame_report.proofs.layout.shared_names.Goals as goal
 use Rattle.flame_report.proofs.layout.shared_names.Goals.{then-at-right-via-then-at-right, then-at-right-via-else-at-right+then-ne}
 

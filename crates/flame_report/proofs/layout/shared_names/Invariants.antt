@@ -1,7 +1,7 @@
 use Rattle.std.proofs.Common.{◌≡◌, ◌+◌, ◌≤◌, drop, length}
 use Rattle.std.specs.List.{common_prefix_len}
 use Rattle.std.specs.Ordering.{eq_by_cmp}
-use Rattle.stack_text.specs.Names.{name_cmp}
+use Rattle.profile_rows.specs.Names.{name_cmp}
 use Rattle.flame_report.proofs.layout.shared_names.Given as goal
 
 abbrev pub invariant-loop-at : goal.invariant-loop-at

@@ -1,6 +1,6 @@
 use Rattle.std.proofs.Common.{◌≡◌, take, sym, arith}
 use Rattle.std.proofs.lemmas.List.{length-take-le}
-use Rattle.stack_text.specs.Paths.{path_start}
+use Rattle.profile_rows.specs.Paths.{path_start}
 use Rattle.flame_report.specs.Sharing.{stack_at}
 use Rattle.flame_report.proofs.RowSums.{new_path-first, new_path-start, path_start-path_weight-le}
 use Rattle.flame_report.proofs.layout.span_at.Goals as goal

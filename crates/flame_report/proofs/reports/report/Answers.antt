@@ -1,6 +1,6 @@
 -- The rows of a tree have the answer of all rows that add up to it.
 use Rattle.call_tree.specs.State.{weights_of}
-use Rattle.stack_text.specs.Aggregate.{rows_of}
+use Rattle.profile_rows.specs.Aggregate.{rows_of}
 use Rattle.flame_report.specs.Answers.{answer_of}
 use Rattle.flame_report.proofs.Same.{answer_of-rows_of, if_ok_seen}
 use Rattle.flame_report.proofs.reports.report.Goals as goal

@@ -1,6 +1,6 @@
 -- The rows that a batch adds up to have its answer.
 use Rattle.std.proofs.Common.{refl, subst, sym, ap, ◌∙◌}
-use Rattle.stack_text.specs.Aggregate.{aggregate_of}
+use Rattle.profile_rows.specs.Aggregate.{aggregate_of}
 use Rattle.flame_report.specs.Answers.{answer_of}
 use Rattle.flame_report.specs.Sharing.{AreWeighty, IsAscending}
 use Rattle.flame_report.proofs.InOrder.{rows_of-AreWeighty, rows_of-IsAscending}

@@ -1,8 +1,8 @@
 -- What is kept weighs no more than all rows together.
 use Rattle.std.proofs.Common.{◌≡◌, take, get_or, ap, true, arith}
 use Rattle.std.proofs.lemmas.List.Sums.{sum_by_more_le}
-use Rattle.stack_text.specs.declared.batch.Row.{Row}
-use Rattle.stack_text.proofs.Kept.{weight_where-kept-le}
+use Rattle.profile_rows.specs.declared.batch.Row.{Row}
+use Rattle.profile_rows.proofs.Kept.{weight_where-kept-le}
 use Rattle.flame_report.proofs.top.kept_total.Goals as goal
 
 pub overflow_add-total : goal.overflow_add-total

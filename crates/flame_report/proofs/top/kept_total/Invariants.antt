@@ -1,5 +1,5 @@
 use Rattle.std.proofs.Common.{◌≡◌, take}
-use Rattle.stack_text.specs.Rows.{total_of}
+use Rattle.profile_rows.specs.Rows.{total_of}
 use Rattle.flame_report.specs.Answers.{kept_by}
 use Rattle.flame_report.proofs.top.kept_total.Given as goal
 

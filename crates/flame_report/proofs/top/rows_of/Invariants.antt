@@ -1,6 +1,6 @@
 use Rattle.std.proofs.Common.{◌≡◌, ◌++◌, map}
 use Rattle.flame_report.specs.Answers.{top_row_of}
-use Rattle.stack_text.specs.TopList.{shown}
+use Rattle.profile_rows.specs.TopList.{shown}
 use Rattle.flame_report.proofs.top.rows_of.Given as goal
 
 -- the names so far, and those that are left

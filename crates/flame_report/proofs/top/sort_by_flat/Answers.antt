@@ -2,11 +2,11 @@
 use Rattle.std.proofs.Common.{rules, ◌≡◌, ap}
 use Rattle.std.specs.Ordering.{is_lt}
 use Rattle.std.proofs.lemmas.List.Sorted.{ranks_by, answers_always}
-use Rattle.stack_text.specs.TopList.{top_cmp}
+use Rattle.profile_rows.specs.TopList.{top_cmp}
 use Rattle.flame_report.specs.Answers.{ranking_of}
 use Rattle.flame_report.specs.declared.query.Rank.TheVariants.{Flat}
-use Rattle.stack_text.specs.declared.frame_totals.FrameTotal.{FrameTotal}
-use Rattle.stack_text.specs.TopList.{shown}
+use Rattle.profile_rows.specs.declared.frame_totals.FrameTotal.{FrameTotal}
+use Rattle.profile_rows.specs.TopList.{shown}
 use Rattle.flame_report.proofs.Ranked.{top_cmp-total, sorted_shown}
 use Rattle.flame_report.proofs.top.sort_by_flat.Goals as goal
 

@@ -1,7 +1,7 @@
 use Rattle.std.proofs.Common.{◌≡◌, ◌∷◌, ◌++◌, [], take, map, codes, string_bytes}
 use Rattle.std.specs.List.{flat_map}
 use Rattle.std.specs.Fmt.{decimal}
-use Rattle.stack_text.specs.TopList.{top_line}
+use Rattle.profile_rows.specs.TopList.{top_line}
 use Rattle.flame_report.specs.Answers.{sums_in}
 use Rattle.flame_report.proofs.top.top_text.Given as goal
 

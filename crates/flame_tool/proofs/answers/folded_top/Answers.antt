@@ -1,6 +1,6 @@
 -- The list is that of the rows whose sums were counted.
 use Rattle.std.proofs.Common.{map, sym, subst, ap, ◌∙◌}
-use Rattle.stack_text.specs.TopList.{top_text_of}
+use Rattle.profile_rows.specs.TopList.{top_text_of}
 use Rattle.flame_report.specs.Answers.{sums_in}
 use Rattle.flame_report.specs.declared.answer.Top.{Top}
 use Rattle.flame_tool.specs.Answers.{IsRefusedIn}

@@ -3,7 +3,7 @@ use Rattle.std.specs.HashMap as hash
 use Rattle.call_tree.specs.State.{TreeState, IsIndex, same_key, name_at}
 use Rattle.std.specs.Prelude.{if◌then◌else◌}
 use Rattle.indexmap.specs.IndexSet.{insert_key}
-use Rattle.stack_text.specs.Names.{is_same_name}
+use Rattle.profile_rows.specs.Names.{is_same_name}
 use Rattle.call_tree.proofs.Indexing.{IsIndex-named, from_ok, not_named}
 use Rattle.call_tree.proofs.grower.Grower.add_name.Goals as goal
 

@@ -1,6 +1,6 @@
 use Rattle.std.proofs.Common.{◌≡◌, ◌<◌, length, sym, ap, ◌∙◌, subst}
 use Rattle.std.specs.List.{list_any}
-use Rattle.stack_text.specs.Names.{is_same_name}
+use Rattle.profile_rows.specs.Names.{is_same_name}
 use Rattle.call_tree.specs.State.{name_at}
 use Rattle.call_tree.proofs.Indexing.{if_ok_more, named_at, unnamed}
 use Rattle.call_tree.proofs.grower.Grower.intern.Goals as goal

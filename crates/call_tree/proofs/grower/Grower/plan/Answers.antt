@@ -1,5 +1,5 @@
 use Rattle.std.proofs.Common.{arith, ap}
-use Rattle.stack_text.specs.Rows.{total_of}
+use Rattle.profile_rows.specs.Rows.{total_of}
 use Rattle.call_tree.proofs.Totals.{total_in-weights_of}
 use Rattle.call_tree.proofs.grower.Grower.plan.Goals as goal
 

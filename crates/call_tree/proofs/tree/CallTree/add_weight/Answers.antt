@@ -1,5 +1,5 @@
 use Rattle.std.proofs.Common.{◌<◌, ◌+◌, ◌^◌, length, arith, refl, sym, ap, ◌∙◌, subst}
-use Rattle.stack_text.specs.Rows.{total_of}
+use Rattle.profile_rows.specs.Rows.{total_of}
 use Rattle.call_tree.specs.State.{credited}
 use Rattle.call_tree.specs.Shape.{IsTree, node_rows}
 use Rattle.call_tree.proofs.Shapes.{length-node_rows}

@@ -2,10 +2,10 @@ use Rattle.std.proofs.Common.{rules, ◌≡◌, map, ap}
 use Rattle.std.specs.Ordering.{is_lt}
 use Rattle.std.proofs.lemmas.Cmp.{nat_list_cmp_total}
 use Rattle.std.proofs.lemmas.List.Sorted.{IsPermutation-map, ranks_by, answers_always}
-use Rattle.stack_text.specs.Aggregate.{rows_of}
-use Rattle.stack_text.specs.declared.frame_totals.FrameTotal.{FrameTotal}
+use Rattle.profile_rows.specs.Aggregate.{rows_of}
+use Rattle.profile_rows.specs.declared.frame_totals.FrameTotal.{FrameTotal}
 use Rattle.call_tree.specs.State.{weights_of}
-use Rattle.stack_text.specs.TopList.{shown}
+use Rattle.profile_rows.specs.TopList.{shown}
 use Rattle.call_tree.specs.Totals.{name_order}
 use Rattle.call_tree.proofs.Frames.{AreSumsOf-permutation}
 use Rattle.call_tree.proofs.tree.CallTree.frame_totals.Goals as goal

@@ -1,8 +1,8 @@
 use Rattle.std.proofs.Common.{◌≡◌, ◌<◌, [], length, map, take, arith, sym, ap, ◌∙◌, subst}
 use Rattle.std.proofs.lemmas.List.{get_or_read, take_all}
-use Rattle.stack_text.specs.TopList.{AreSumsOf}
+use Rattle.profile_rows.specs.TopList.{AreSumsOf}
 use Rattle.call_tree.specs.State.{TreeState, name_at}
-use Rattle.stack_text.specs.TopList.{shown}
+use Rattle.profile_rows.specs.TopList.{shown}
 use Rattle.call_tree.specs.Totals.{names_of_weight, no_sums, sums_at}
 use Rattle.call_tree.proofs.Frames.{named, unnamed, AreSumsOf-tree, AreSumsOf-aggregate}
 use Rattle.call_tree.proofs.tree.CallTree.named_sums.Goals as goal

@@ -1,5 +1,5 @@
 use Rattle.std.proofs.Common.{◌≡◌, map, take}
-use Rattle.stack_text.specs.TopList.{shown}
+use Rattle.profile_rows.specs.TopList.{shown}
 use Rattle.call_tree.specs.Totals.{names_of_weight}
 use Rattle.call_tree.proofs.tree.CallTree.named_sums.Given as goal
 

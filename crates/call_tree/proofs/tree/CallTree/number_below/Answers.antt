@@ -1,6 +1,6 @@
 use Rattle.std.proofs.Common.{◌≡◌, ◌<◌, ◌++◌, ◌∷◌, [], length, arith, sym, ap, ◌∙◌, subst}
 use Rattle.std.proofs.lemmas.List.{get_or_read}
-use Rattle.stack_text.proofs.SameNames.{same_from_is_same_name}
+use Rattle.profile_rows.proofs.SameNames.{same_from_is_same_name}
 use Rattle.call_tree.specs.State.{TreeState, IsChild, name_at, stack_at}
 use Rattle.call_tree.specs.Shape.{at, node_rows}
 use Rattle.call_tree.proofs.Raising.{read_is}

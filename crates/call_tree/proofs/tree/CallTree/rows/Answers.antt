@@ -2,9 +2,9 @@ use Rattle.std.proofs.Common.{rules, ◌≡◌, filter, ap, ◌∙◌, subst, Is
 use Rattle.std.specs.Prelude.{IsSorted}
 use Rattle.std.specs.Ordering.{is_lt}
 use Rattle.std.proofs.lemmas.List.Sorted.{ranks_by, answers_always}
-use Rattle.stack_text.specs.declared.batch.Row.{Row}
-use Rattle.stack_text.specs.Rows.{stack_cmp}
-use Rattle.stack_text.proofs.RowLaws.{stack_cmp_total}
+use Rattle.profile_rows.specs.declared.batch.Row.{Row}
+use Rattle.profile_rows.specs.Rows.{stack_cmp}
+use Rattle.profile_rows.proofs.RowLaws.{stack_cmp_total}
 use Rattle.call_tree.specs.State.{has_weight}
 use Rattle.call_tree.proofs.Indexing.{if_ok_more}
 use Rattle.call_tree.proofs.Sorting.{rows_of-sorted}

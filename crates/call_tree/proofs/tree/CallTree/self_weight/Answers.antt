@@ -1,8 +1,8 @@
 use Rattle.std.proofs.Common.{◌≡◌, ◌<◌, ◌+◌, ℕ, true, false, [], length, get_or, arith, sym, ap, ◌∙◌, subst}
-use Rattle.stack_text.specs.Names.{is_same_name}
-use Rattle.stack_text.specs.Aggregate.{weight_in}
-use Rattle.stack_text.proofs.RowLaws.{weight_in-aggregate_of}
-use Rattle.stack_text.proofs.SameNames.{same_from_is_same_name, is_same_name-self}
+use Rattle.profile_rows.specs.Names.{is_same_name}
+use Rattle.profile_rows.specs.Aggregate.{weight_in}
+use Rattle.profile_rows.proofs.RowLaws.{weight_in-aggregate_of}
+use Rattle.profile_rows.proofs.SameNames.{same_from_is_same_name, is_same_name-self}
 use Rattle.call_tree.specs.State.{weights_of, name_at}
 use Rattle.call_tree.specs.Shape.{at, node_rows}
 use Rattle.std.proofs.lemmas.List.{get_or_read}

@@ -1,0 +1,131 @@
+-- A text has one first fault, want of memory aside.
+use Rattle.std.proofs.Common.{◌≡◌, ◌≢◌, ◌⊎◌, ℕ, ◌+◌, List, [], ◌∷◌, ◌++◌, length, refl, sym, ap, ◌∙◌, inl, inr, subst, arith}
+use Rattle.std.specs.Str.Parse.{digits_value}
+use Rattle.std.specs.Prelude.{Result, Ok, Err, MatchResult}
+use Rattle.profile_rows.specs.declared.batch.Row.{Row}
+use Rattle.folded_text.specs.declared.folded.FoldedFault.{FoldedFault}
+use Rattle.folded_text.specs.declared.folded.FoldedFault.TheVariants.{NotUtf8, NoCount, Count, Depth, Heavy, NoMemory}
+use Rattle.profile_rows.specs.Rows.{total_of}
+use Rattle.folded_text.specs.FoldedText.{AreRowLines, IsFoldedText, IsLineFault, IsFirstFault}
+use Rattle.folded_text.proofs.Counts.{HasCount-same}
+use Rattle.folded_text.proofs.Reading.{AreRowLines-same, IsFirstFault-folded, faultless_at, shared}
+
+-- two cuts of a list at an element: at one place, or one lies before the other
+abbrev AreCuts : List (List ℕ) → List ℕ → List (List ℕ) → List ℕ → Type 0
+AreCuts before line others other = ((before ≡ others) × (line ≡ other))
+    ⊎ (((rest : List (List ℕ)) × (before ≡ others ++ other ∷ rest)) ⊎ ((rest : List (List ℕ)) × (others ≡ before ++ line ∷ rest)))
+
+cuts : (before : List (List ℕ)) (line : List ℕ) (after others : List (List ℕ)) (other : List ℕ) (rest : List (List ℕ))
+    → before ++ line ∷ after ≡ others ++ other ∷ rest → AreCuts before line others other
+cuts [] line after [] other rest e = inl (refl, cc)
+cuts [] line after (l ∷ others) other rest e = inr (inr (others, cc))
+cuts (b ∷ before) line after [] other rest e = inr (inl (before, cc))
+cuts (b ∷ before) line after (l ∷ others) other rest e =
+    let head : b ≡ l = cc in
+    elim (cuts before line after others other rest (cc)) [
+      | inl same ↦ inl (ap (λ z. z ∷ before) head ∙ ap (λ z. l ∷ z) same.0, same.1)
+      | inr (inl within) ↦ inr (inl (within.0, ap (λ z. z ∷ before) head ∙ ap (λ z. l ∷ z) within.1))
+      | inr (inr within) ↦ inr (inr (within.0, ap (λ z. z ∷ others) (sym head) ∙ ap (λ z. b ∷ z) within.1))
+    ]
+
+-- A line has one fault: each case of a fault says that those of the cases before it don't stand.
+abbrev IsOneFault : FoldedFault → FoldedFault → Type 0
+IsOneFault fault other = (fault ≡ NoMemory) ⊎ ((other ≡ NoMemory) ⊎ (fault ≡ other))
+
+NotUtf8-NoCount : (held number : ℕ) (line : List ℕ) (x y : ℕ) → IsLineFault held number line (NotUtf8 x) → IsLineFault held number line (NoCount y) → ⊥
+NotUtf8-NoCount held number line x y ha hb = ha.1 hb.1
+
+NotUtf8-Count : (held number : ℕ) (line : List ℕ) (x y : ℕ) → IsLineFault held number line (NotUtf8 x) → IsLineFault held number line (Count y) → ⊥
+NotUtf8-Count held number line x y ha hb = ha.1 hb.1
+
+NotUtf8-Depth : (held number : ℕ) (line : List ℕ) (x y : ℕ) → IsLineFault held number line (NotUtf8 x) → IsLineFault held number line (Depth y) → ⊥
+NotUtf8-Depth held number line x y ha hb = ha.1 hb.1
+
+NotUtf8-Heavy : (held number : ℕ) (line : List ℕ) (x y : ℕ) → IsLineFault held number line (NotUtf8 x) → IsLineFault held number line (Heavy y) → ⊥
+NotUtf8-Heavy held number line x y ha hb = ha.1 hb.2.utf8
+
+NoCount-Count : (held number : ℕ) (line : List ℕ) (x y : ℕ) → IsLineFault held number line (NoCount x) → IsLineFault held number line (Count y) → ⊥
+NoCount-Count held number line x y ha hb = ha.2 hb.2 hb.3 hb.4
+
+NoCount-Depth : (held number : ℕ) (line : List ℕ) (x y : ℕ) → IsLineFault held number line (NoCount x) → IsLineFault held number line (Depth y) → ⊥
+NoCount-Depth held number line x y ha hb = ha.2 hb.2 hb.3 hb.4
+
+NoCount-Heavy : (held number : ℕ) (line : List ℕ) (x y : ℕ) → IsLineFault held number line (NoCount x) → IsLineFault held number line (Heavy y) → ⊥
+NoCount-Heavy held number line x y ha hb = ha.2 hb.2.counted.0 hb.2.counted.1 hb.2.counted.2.count
+
+Count-Depth : (held number : ℕ) (line : List ℕ) (x y : ℕ) → IsLineFault held number line (Count x) → IsLineFault held number line (Depth y) → ⊥
+Count-Depth held number line x y ha hb =
+    let same = HasCount-same line ha.2 hb.2 ha.3 hb.3 ha.4 hb.4 in
+    omega (arith, ap (digits_value 10) same.1, ha.5, hb.5)
+
+Count-Heavy : (held number : ℕ) (line : List ℕ) (x y : ℕ) → IsLineFault held number line (Count x) → IsLineFault held number line (Heavy y) → ⊥
+Count-Heavy held number line x y ha hb =
+    let same = shared line hb.1 ha.2 ha.3 hb.2 ha.4 in
+    let small = hb.2.fits in
+    omega (arith, same.weight, small, ha.5)
+
+Depth-Heavy : (held number : ℕ) (line : List ℕ) (x y : ℕ) → IsLineFault held number line (Depth x) → IsLineFault held number line (Heavy y) → ⊥
+Depth-Heavy held number line x y ha hb =
+    let same = shared line hb.1 ha.2 ha.3 hb.2 ha.4 in
+    let deep = hb.2.depth in
+    omega (arith, ap length same.frames, deep, ha.6)
+
+one_fault : (held number : ℕ) (line : List ℕ) (fault other : FoldedFault) → IsLineFault held number line fault → IsLineFault held number line other → IsOneFault fault other
+one_fault held number line NoMemory other ha hb = inl refl
+one_fault held number line (NotUtf8 x) (NotUtf8 y) ha hb = inr (inr (ap NotUtf8 (ha.0 ∙ sym hb.0)))
+one_fault held number line (NotUtf8 x) (NoCount y) ha hb = absurd (NotUtf8-NoCount held number line x y ha hb)
+one_fault held number line (NotUtf8 x) (Count y) ha hb = absurd (NotUtf8-Count held number line x y ha hb)
+one_fault held number line (NotUtf8 x) (Depth y) ha hb = absurd (NotUtf8-Depth held number line x y ha hb)
+one_fault held number line (NotUtf8 x) (Heavy y) ha hb = absurd (NotUtf8-Heavy held number line x y ha hb)
+one_fault held number line (NotUtf8 x) NoMemory ha hb = inr (inl refl)
+one_fault held number line (NoCount x) (NotUtf8 y) ha hb = absurd (NotUtf8-NoCount held number line y x hb ha)
+one_fault held number line (NoCount x) (NoCount y) ha hb = inr (inr (ap NoCount (ha.0 ∙ sym hb.0)))
+one_fault held number line (NoCount x) (Count y) ha hb = absurd (NoCount-Count held number line x y ha hb)
+one_fault held number line (NoCount x) (Depth y) ha hb = absurd (NoCount-Depth held number line x y ha hb)
+one_fault held number line (NoCount x) (Heavy y) ha hb = absurd (NoCount-Heavy held number line x y ha hb)
+one_fault held number line (NoCount x) NoMemory ha hb = inr (inl refl)
+one_fault held number line (Count x) (NotUtf8 y) ha hb = absurd (NotUtf8-Count held number line y x hb ha)
+one_fault held number line (Count x) (NoCount y) ha hb = absurd (NoCount-Count held number line y x hb ha)
+one_fault held number line (Count x) (Count y) ha hb = inr (inr (ap Count (ha.0 ∙ sym hb.0)))
+one_fault held number line (Count x) (Depth y) ha hb = absurd (Count-Depth held number line x y ha hb)
+one_fault held number line (Count x) (Heavy y) ha hb = absurd (Count-Heavy held number line x y ha hb)
+one_fault held number line (Count x) NoMemory ha hb = inr (inl refl)
+one_fault held number line (Depth x) (NotUtf8 y) ha hb = absurd (NotUtf8-Depth held number line y x hb ha)
+one_fault held number line (Depth x) (NoCount y) ha hb = absurd (NoCount-Depth held number line y x hb ha)
+one_fault held number line (Depth x) (Count y) ha hb = absurd (Count-Depth held number line y x hb ha)
+one_fault held number line (Depth x) (Depth y) ha hb = inr (inr (ap Depth (ha.0 ∙ sym hb.0)))
+one_fault held number line (Depth x) (Heavy y) ha hb = absurd (Depth-Heavy held number line x y ha hb)
+one_fault held number line (Depth x) NoMemory ha hb = inr (inl refl)
+one_fault held number line (Heavy x) (NotUtf8 y) ha hb = absurd (NotUtf8-Heavy held number line y x hb ha)
+one_fault held number line (Heavy x) (NoCount y) ha hb = absurd (NoCount-Heavy held number line y x hb ha)
+one_fault held number line (Heavy x) (Count y) ha hb = absurd (Count-Heavy held number line y x hb ha)
+one_fault held number line (Heavy x) (Depth y) ha hb = absurd (Depth-Heavy held number line y x hb ha)
+one_fault held number line (Heavy x) (Heavy y) ha hb = inr (inr (ap Heavy (ha.0 ∙ sym hb.0)))
+one_fault held number line (Heavy x) NoMemory ha hb = inr (inl refl)
+
+-- at one place the lines before spell the same rows, and of two places the first is a row's
+IsFirstFault-same : (text : List ℕ) (fault other : FoldedFault) → IsFirstFault text fault → IsFirstFault text other → IsOneFault fault other
+IsFirstFault-same text fault other (before, line, after, rows, cut, known, fits, some, there) (others, line_b, after_b, rows_b, cut_b, known_b, fits_b, some_b, there_b) =
+    elim (cuts before line after others line_b after_b (sym cut ∙ cut_b)) [
+      | inl same ↦
+          let known_here : AreRowLines before rows_b = subst (λ ls. AreRowLines ls rows_b) (sym same.0) known_b in
+          let one : rows_b ≡ rows = AreRowLines-same before rows_b rows known_here known in
+          let here : IsLineFault (total_of rows) (length before + 1) line other =
+          subst (λ l. IsLineFault (total_of rows) (length before + 1) l other) (sym same.1)
+          (subst (λ ls. IsLineFault (total_of rows) (length ls + 1) line_b other) (sym same.0)
+          (subst (λ rs. IsLineFault (total_of rs) (length others + 1) line_b other) one there_b)) in
+          one_fault (total_of rows) (length before + 1) line fault other there here
+      | inr (inl within) ↦ inr (inl (faultless_at others line_b within.0 rows_b rows (length others + 1) other (subst (λ ls. AreRowLines ls rows) within.1 known) fits known_b some_b there_b))
+      | inr (inr within) ↦ inl (faultless_at before line within.0 rows rows_b (length before + 1) fault (subst (λ ls. AreRowLines ls rows_b) within.1 known_b) fits_b known some there)
+    ]
+
+-- what reading answers to a text with a first fault
+pub only_fault : (text : List ℕ) (outcome : Result (List Row) FoldedFault) → MatchResult outcome (λ batch. IsFoldedText text batch) (λ fault. IsFirstFault text fault)
+    → (first : FoldedFault) → first ≢ NoMemory → IsFirstFault text first → MatchResult outcome (λ batch. ⊥) (λ fault. (fault ≡ NoMemory) ⊎ (fault ≡ first))
+only_fault text (Ok batch) read first some there = some (IsFirstFault-folded text batch first read there)
+only_fault text (Err fault) read first some there =
+    elim (IsFirstFault-same text fault first read there) [
+      | inl none ↦ inl none
+      | inr (inl none) ↦ absurd (some none)
+      | inr (inr same) ↦ inr same
+    ]

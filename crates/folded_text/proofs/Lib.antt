@@ -1,0 +1,10 @@
+pub mod Counting
+pub mod Counts
+pub mod FirstFault
+pub mod Frames
+pub mod Lines
+pub mod Pieces
+pub mod Reading
+pub mod TextSums
+pub mod WorkedTexts
+pub mod Writing

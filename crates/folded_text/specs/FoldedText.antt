@@ -1,0 +1,103 @@
+-- Folded stacks as text, read and written (FlameGraph, the header comment of flamegraph.pl: one line for each stack, its frames
+-- from root to leaf separated by semicolons, then a space and a count). What reads it strictly is this project's choice.
+use Rattle.std.specs.Prelude.{ℕ, ◌≡◌, ◌⊎◌, ◌+◌, ◌^◌, ◌<◌, ◌≤◌, ◌==◌, All, List, [], ◌∷◌, ◌++◌, filter, length, not}
+use Rattle.std.specs.List.{slice_split, flat_map, join_with_byte}
+use Rattle.std.specs.Fmt.{decimal}
+use Rattle.std.specs.Str.{IsUtf8}
+use Rattle.std.specs.Str.Lines.{lines}
+use Rattle.std.specs.Str.Parse.{IsNumeral, digits_value}
+use Rattle.profile_rows.specs.declared.batch.Row.{Row}
+use Rattle.folded_text.specs.declared.folded.FoldedFault.{FoldedFault}
+use Rattle.folded_text.specs.declared.folded.FoldedFault.TheVariants.{NotUtf8, NoCount, Count, Depth, Heavy, NoMemory}
+use Rattle.profile_rows.specs.Names.{IsName}
+use Rattle.profile_rows.specs.Rows.{total_of}
+use Rattle.profile_rows.specs.Aggregate.{aggregate_of, rows_of}
+
+-- the frames of a stack text: the pieces between its semicolons, without the empty ones
+abbrev pub frames_of : List ℕ → List (List ℕ)
+frames_of text = filter (λ piece. not (length piece == 0)) (slice_split (λ byte. byte == 59) text)
+
+-- The line is a stack text, a space and the digits of a count. Digits hold no space, so it is the line's last one.
+pub record HasCount (line stack digits : List ℕ) : Type 0 where
+  pub parts : line ≡ stack ++ 32 ∷ digits
+  pub numeral : IsNumeral 10 digits
+
+-- a stack text whose frames are the row's, and a count that is its weight
+pub record IsCounted (line : List ℕ) (row : Row) (stack digits : List ℕ) : Type 0 where
+  pub count : HasCount line stack digits
+  pub frames : row.stack ≡ frames_of stack
+  pub weight : row.weight ≡ digits_value 10 digits
+
+-- the line spells the row, within the limits of 65,535 frames and of a weight of 2^63 - 1
+pub record IsRowLine (line : List ℕ) (row : Row) : Type 0 where
+  pub utf8 : IsUtf8 line
+  pub counted : (stack : List ℕ) × (digits : List ℕ) × IsCounted line row stack digits
+  pub depth : length row.stack ≤ 65535
+  pub fits : row.weight < 2 ^ 63
+
+-- the lines that aren't empty spell the rows, one each, in order
+abbrev pub AreRowLines : List (List ℕ) → List Row → Type 0
+AreRowLines [] rows = rows ≡ []
+AreRowLines ([] ∷ lines) rows = AreRowLines lines rows
+AreRowLines ((byte ∷ line) ∷ lines) [] = ⊥
+AreRowLines ((byte ∷ line) ∷ lines) (row ∷ rows) = IsRowLine (byte ∷ line) row × AreRowLines lines rows
+
+-- The text is folded text of these rows: its lines spell them, and they keep the limit of 2^63 - 1 together. `lines` ends a line
+-- at each line feed, drops one carriage return directly before it, and reads a last line that has no line feed.
+pub record IsFoldedText (text : List ℕ) (rows : List Row) : Type 0 where
+  pub rows_lines : AreRowLines (lines text) rows
+  pub total_fits : total_of rows < 2 ^ 63
+
+-- why a line spells no stack text and weight: what a row's line fails by before its frames are looked at
+abbrev pub IsCountFault : ℕ → List ℕ → FoldedFault → Type 0
+IsCountFault number line (NotUtf8 at) = (at ≡ number) × ¬ IsUtf8 line
+IsCountFault number line (NoCount at) = (at ≡ number) × IsUtf8 line × ((stack digits : List ℕ) → ¬ HasCount line stack digits)
+IsCountFault number line (Count at) = (at ≡ number) × IsUtf8 line × (stack : List ℕ) × (digits : List ℕ)
+    × HasCount line stack digits × (2 ^ 63 ≤ digits_value 10 digits)
+IsCountFault number line (Depth at) = ⊥
+IsCountFault number line (Heavy at) = ⊥
+IsCountFault number line NoMemory = ⊥
+
+-- why a stack text and a weight give no row that can follow rows of the weight `held`
+abbrev pub IsFittingFault : ℕ → ℕ → List ℕ → ℕ → FoldedFault → Type 0
+IsFittingFault held number text weight (NotUtf8 at) = ⊥
+IsFittingFault held number text weight (NoCount at) = ⊥
+IsFittingFault held number text weight (Count at) = ⊥
+IsFittingFault held number text weight (Depth at) = (at ≡ number) × (65535 < length (frames_of text))
+IsFittingFault held number text weight (Heavy at) = (at ≡ number) × (length (frames_of text) ≤ 65535) × (2 ^ 63 ≤ held + weight)
+IsFittingFault held number text weight NoMemory = ⊥
+
+-- Why a line, which isn't empty, adds no row to rows of the weight `held`. Each case says that the ones before it don't stand,
+-- and memory runs out only at a line without a fault: one that spells a row which can follow.
+abbrev pub IsLineFault : ℕ → ℕ → List ℕ → FoldedFault → Type 0
+IsLineFault held number line (NotUtf8 at) = (at ≡ number) × ¬ IsUtf8 line
+IsLineFault held number line (NoCount at) = (at ≡ number) × IsUtf8 line × ((stack digits : List ℕ) → ¬ HasCount line stack digits)
+IsLineFault held number line (Count at) = (at ≡ number) × IsUtf8 line × (stack : List ℕ) × (digits : List ℕ)
+    × HasCount line stack digits × (2 ^ 63 ≤ digits_value 10 digits)
+IsLineFault held number line (Depth at) = (at ≡ number) × IsUtf8 line × (stack : List ℕ) × (digits : List ℕ)
+    × HasCount line stack digits × (digits_value 10 digits < 2 ^ 63) × (65535 < length (frames_of stack))
+IsLineFault held number line (Heavy at) = (at ≡ number) × (row : Row) × IsRowLine line row × (2 ^ 63 ≤ held + row.weight)
+IsLineFault held number line NoMemory = (row : Row) × IsRowLine line row × (held + row.weight < 2 ^ 63)
+
+-- The first fault of a text: it stands at a line, and the lines before it spell rows within the limit. Lines count from 1, empty
+-- ones too. Where memory ran out, the lines up to there have no fault.
+abbrev pub IsFirstFault : List ℕ → FoldedFault → Type 0
+IsFirstFault text fault = (before : List (List ℕ)) × (line : List ℕ) × (after : List (List ℕ)) × (rows : List Row)
+    × (lines text ≡ before ++ line ∷ after) × AreRowLines before rows × (total_of rows < 2 ^ 63)
+    × (0 < length line) × IsLineFault (total_of rows) (length before + 1) line fault
+
+-- why work on the rows of a text has no result: the text's first fault, or memory runs out after its last line
+abbrev pub IsWorkFault : List ℕ → FoldedFault → Type 0
+IsWorkFault text fault = IsFirstFault text fault ⊎ ((fault ≡ NoMemory) × (rows : List Row) × IsFoldedText text rows)
+
+-- a row as folded text: its names joined by semicolons, a space, its weight in decimal, a line feed
+abbrev pub row_text : Row → List ℕ
+row_text row = join_with_byte 59 row.stack ++ 32 ∷ decimal row.weight ++ 10 ∷ []
+
+-- rows as folded text, each in its place
+abbrev pub rows_text : List Row → List ℕ
+rows_text rows = flat_map row_text rows
+
+-- the folded report: each stack of weight above 0 once, with its weight, in the order of stacks
+abbrev pub folded_text_of : List Row → List ℕ
+folded_text_of rows = rows_text (rows_of (aggregate_of rows))

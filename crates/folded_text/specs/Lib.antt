@@ -1,0 +1,3 @@
+pub mod FoldedText
+pub mod KnownNames
+pub mod TextSums

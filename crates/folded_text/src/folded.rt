@@ -1,0 +1,271 @@
+ghost use Rattle.std.specs.Prelude.{ℕ, ◌≡◌, ◌≢◌, ◌⊎◌, ◌+◌, ◌^◌, ◌<◌, ◌≤◌, ◌↔◌, ◌∷◌, ◌++◌, [], All, IfErr, IfOk, IsTrue, List, MatchOption, MatchResult, OnOk, length};
+ghost use Rattle.std.specs.Str.{IsUtf8};
+ghost use Rattle.std.specs.Str.Parse.{IsNumeral, digits_value};
+ghost use Rattle.profile_rows.specs.declared.batch.Row.{Row};
+ghost use Rattle.folded_text.specs.declared.folded.FoldedFault.{FoldedFault};
+ghost use Rattle.folded_text.specs.FoldedText.{HasCount, IsFirstFault, IsFoldedText, IsFittingFault, IsLineFault, IsRowLine, IsCountFault, frames_of};
+ghost use Rattle.profile_rows.specs.Names.{IsName};
+ghost use Rattle.profile_rows.specs.Rows.{total_of};
+
+use crate::known_names::KnownNames;
+use bstr::ByteSlice;
+use no_memory::NoMemory;
+use profile_rows::{Batch, MAX_DEPTH, MAX_TOTAL, Name, Stack};
+use std::alloc::{AllocError, AllocFailed, Global};
+use thiserror::Error;
+
+/// Why bytes aren't folded text, with the line of the first fault. Lines count from 1, empty ones too.
+#[derive(Clone, Copy, Debug, PartialEq, Eq, Error)]
+pub enum FoldedFault {
+    /// The line isn't UTF-8.
+    #[error("F1 NotUtf8 line {line}")]
+    NotUtf8 { line: u64 },
+    /// The line has no space, or what follows its last space isn't one or more ASCII digits.
+    #[error("F2 NoCount line {line}")]
+    NoCount { line: u64 },
+    /// The count is above 2^63 - 1.
+    #[error("F3 Count line {line}")]
+    Count { line: u64 },
+    /// The stack has more than 65,535 frames.
+    #[error("F4 Depth line {line}")]
+    Depth { line: u64 },
+    /// The weights so far, the line's among them, are above 2^63 - 1 together.
+    #[error("F5 Heavy line {line}")]
+    Heavy { line: u64 },
+    /// Memory ran out.
+    #[error("F6 NoMemory")]
+    NoMemory,
+}
+
+impl From<AllocError> for FoldedFault {
+    ghost use Rattle.std.specs.Prelude.{◌≡◌};
+    ghost use Rattle.folded_text.specs.declared.folded.FoldedFault.TheVariants.{NoMemory};
+
+    ghost from_gives = { λ _ fault. fault ≡ NoMemory };
+
+    fn from(_error: AllocError) -> FoldedFault {
+        FoldedFault::NoMemory
+    }
+}
+
+impl From<NoMemory> for FoldedFault {
+    ghost use Rattle.std.specs.Prelude.{◌≡◌};
+    ghost use Rattle.folded_text.specs.declared.folded.FoldedFault.TheVariants.{NoMemory};
+
+    ghost from_gives = { λ _ fault. fault ≡ NoMemory };
+
+    fn from(_error: NoMemory) -> FoldedFault {
+        FoldedFault::NoMemory
+    }
+}
+
+impl<T: Drop> From<AllocFailed<T>> for FoldedFault {
+    ghost use Rattle.std.specs.Prelude.{◌≡◌};
+    ghost use Rattle.folded_text.specs.declared.folded.FoldedFault.TheVariants.{NoMemory};
+
+    ghost from_gives = { λ _ fault. fault ≡ NoMemory };
+
+    fn from(_error: AllocFailed<T>) -> FoldedFault {
+        FoldedFault::NoMemory
+    }
+}
+
+/// Whether a text is one or more ASCII digits.
+fn is_numeral(text: &str) -> bool
+    ensures { IsTrue result ↔ IsNumeral 10 text.now }
+{
+    !text.is_empty() && text.bytes().all(|byte| byte.is_ascii_digit())
+}
+
+/// Cuts a line at its last space, where what follows is a count.
+fn split_count(line: &str) -> Option<(&str, &str)>
+    ensures { MatchOption result ((stack digits : List ℕ) → ¬ HasCount line.now stack digits)
+        (λ parts. HasCount line.now parts.0.now parts.1.now) }
+{
+    let (stack, digits) = line.rsplit_once(' ')?;
+    if is_numeral(digits) {
+        Some((stack, digits))
+    } else {
+        None
+    }
+}
+
+/// The weight that digits write, where it is within the limit.
+fn weight_from(digits: &str) -> Option<u64>
+    requires { IsNumeral 10 digits.now }
+    ensures { MatchOption result (2 ^ 63 ≤ digits_value 10 digits.now)
+        (λ weight. (weight ≡ digits_value 10 digits.now) × (weight < 2 ^ 63)) }
+{
+    match digits.parse::<u64>() {
+        Ok(weight) if weight <= MAX_TOTAL => Some(weight),
+        _ => None,
+    }
+}
+
+/// How many frames a stack text has.
+fn depth_of(text: &str) -> usize
+    ensures { result ≡ length (frames_of text.now) }
+{
+    text.split(';').filter(|frame| !frame.is_empty()).count()
+}
+
+/// What a line spells: the text of a stack, how many frames that has, and the weight.
+#[derive(Clone, Copy)]
+pub struct Spelled<'a> {
+    pub stack: &'a str,
+    pub depth: usize,
+    pub weight: u64,
+}
+
+/// The names of the frames of a stack text, root first.
+pub(crate) fn names_from<'a>(
+    alloc: Global,
+    names: &mut KnownNames<'a>,
+    text: &'a str,
+    depth: usize,
+) -> Result<Vec<Name>, AllocError>
+    requires one_line { All (λ byte. byte ≢ 10) text.now }
+    requires depth { depth ≡ length (frames_of text.now) }
+    ensures { IfOk result (λ frames. frames.items ≡ frames_of text.now) }
+{
+    let mut frames = Vec::with_capacity(alloc, depth)?;
+    for frame in text.split(';').filter(|frame| !frame.is_empty()) {
+        frames.push(names.name_of(alloc, frame)?)?;
+    }
+    Ok(frames)
+}
+
+/// The stack text and the weight of a line.
+pub(crate) fn counted<'a>(line: &'a [u8], number: u64) -> Result<(&'a str, u64), FoldedFault>
+    ensures counted { IfOk result (λ found. IsUtf8 line.now × (found.1 < 2 ^ 63)
+        × (digits : List ℕ) × HasCount line.now found.0.now digits × (found.1 ≡ digits_value 10 digits)) }
+    ensures fault { IfErr result (IsCountFault number line.now) }
+{
+    let Ok(text) = str::from_utf8(line) else {
+        return Err(FoldedFault::NotUtf8 { line: number });
+    };
+    let Some((stack, digits)) = split_count(text) else {
+        return Err(FoldedFault::NoCount { line: number });
+    };
+    match weight_from(digits) {
+        Some(weight) => Ok((stack, weight)),
+        None => Err(FoldedFault::Count { line: number }),
+    }
+}
+
+/// Whether a row of so many frames can follow rows of the weight `held`.
+pub(crate) fn fitting(depth: usize, weight: u64, held: u64, number: u64) -> Result<(), FoldedFault>
+    requires { held < 2 ^ 63 }
+    ensures fits { OnOk result ((depth ≤ MAX_DEPTH) × (held + weight < 2 ^ 63)) }
+    ensures fault { IfErr result (λ fault. (text : List ℕ) → depth ≡ length (frames_of text) → IsFittingFault held number text weight fault) }
+{
+    if depth > MAX_DEPTH {
+        return Err(FoldedFault::Depth { line: number });
+    }
+    if weight > MAX_TOTAL - held {
+        return Err(FoldedFault::Heavy { line: number });
+    }
+    Ok(())
+}
+
+/// How many frames a stack text has, where a row of it can follow rows of the weight `held`.
+pub(crate) fn fitting_depth(
+    text: &str,
+    weight: u64,
+    held: u64,
+    number: u64,
+) -> Result<usize, FoldedFault>
+    requires { held < 2 ^ 63 }
+    ensures depth { IfOk result (λ depth. (depth ≡ length (frames_of text.now)) × (depth ≤ MAX_DEPTH) × (held + weight < 2 ^ 63)) }
+    ensures fault { IfErr result (IsFittingFault held number text.now weight) }
+{
+    let depth = depth_of(text);
+    fitting(depth, weight, held, number)?;
+    Ok(depth)
+}
+
+/// What a line spells, where its row can follow rows of the weight `held`. Takes no memory: a line's fault is found before memory
+/// can run out at that line.
+///
+/// # Errors
+///
+/// The line's fault, under this number.
+pub fn read_line<'a>(
+    line: &'a [u8],
+    held: u64,
+    number: u64,
+) -> Result<Spelled<'a>, FoldedFault>
+    requires { held < 2 ^ 63 }
+    ensures spelled { IfOk result (λ found. IsUtf8 line.now × (held + found.weight < 2 ^ 63)
+        × ((digits : List ℕ) × HasCount line.now found.stack.now digits × (found.weight ≡ digits_value 10 digits))
+        × (found.depth ≡ length (frames_of found.stack.now)) × (found.depth ≤ MAX_DEPTH)) }
+    ensures fault { IfErr result (IsLineFault held number line.now) }
+{
+    let (stack, weight) = counted(line, number)?;
+    let depth = fitting_depth(stack, weight, held, number)?;
+    Ok(Spelled {
+        stack,
+        depth,
+        weight,
+    })
+}
+
+/// Adds a row of the stack that a text spells, which fits.
+pub(crate) fn push_spelled<'a>(
+    alloc: Global,
+    names: &mut KnownNames<'a>,
+    batch: &mut Batch,
+    spelled: Spelled<'a>,
+) -> Result<(), NoMemory>
+    requires one_line { All (λ byte. byte ≢ 10) spelled.stack.now }
+    requires depth { (spelled.depth ≡ length (frames_of spelled.stack.now)) × (spelled.depth ≤ MAX_DEPTH) }
+    requires fits { total_of batch.old + spelled.weight < 2 ^ 63 }
+    ensures { OnOk result (batch.new ≡ batch.old ++ (record { stack = frames_of spelled.entry.stack.now; weight = spelled.entry.weight }) ∷ []) }
+{
+    let frames = names_from(alloc, names, spelled.stack, spelled.depth)?;
+    let Ok(stack) = Stack::make(frames) else {
+        return Err(NoMemory);
+    };
+    batch.push(stack, spelled.weight).map_err(|_| NoMemory)
+}
+
+/// Adds the row that a line spells, where it spells one that can follow the rows of the batch.
+fn add_line<'a>(
+    alloc: Global,
+    names: &mut KnownNames<'a>,
+    batch: &mut Batch,
+    line: &'a [u8],
+    number: u64,
+) -> Result<(), FoldedFault>
+    requires { All (λ byte. byte ≢ 10) line.now }
+    ensures added { OnOk result ((row : Row) × IsRowLine line.now row × (total_of batch.old + row.weight < 2 ^ 63)
+        × (batch.new ≡ batch.old ++ row ∷ [])) }
+    ensures fault { IfErr result (IsLineFault (total_of batch.old) number line.now) }
+{
+    let spelled = read_line(line, batch.total(), number)?;
+    Ok(push_spelled(alloc, names, batch, spelled)?)
+}
+
+/// Reads folded stacks: a line for each row, its frames from root to leaf separated by semicolons, then a space and a count.
+/// A line ends at its line feed, and one carriage return directly before that is dropped; the last line may lack it. Empty
+/// lines are skipped, and so are empty parts between semicolons: a stack may be empty.
+///
+/// # Errors
+///
+/// The fault of the first line that has one, in the order of [`FoldedFault`]'s variants; `NoMemory`.
+pub fn read_folded(alloc: Global, text: &[u8]) -> Result<Batch, FoldedFault>
+    ensures read { MatchResult result (λ batch. IsFoldedText text.now batch) (λ fault. IsFirstFault text.now fault) }
+    ensures accepted { (rows : List Row) → IsFoldedText text.now rows
+        → MatchResult result (λ batch. batch ≡ rows) (λ fault. fault ≡ FoldedFault.NoMemory) }
+    ensures every_fault { (first : FoldedFault) → first ≢ FoldedFault.NoMemory → IsFirstFault text.now first
+        → MatchResult result (λ batch. ⊥) (λ fault. (fault ≡ FoldedFault.NoMemory) ⊎ (fault ≡ first)) }
+{
+    let mut names = KnownNames::new(alloc);
+    let mut batch = Batch::new(alloc);
+    for (index, line) in text.lines().enumerate() {
+        if !line.is_empty() {
+            add_line(alloc, &mut names, &mut batch, line, index as u64 + 1)?;
+        }
+    }
+    Ok(batch)
+}

@@ -1,0 +1,108 @@
+ghost use Rattle.std.specs.Prelude.{◌≡◌, ◌≢◌, ◌+◌, ◌^◌, ◌<◌, ◌≤◌, All, IfErr, List, MatchResult, OnOk, length};
+ghost use Rattle.profile_rows.specs.declared.batch.Row.{Row};
+ghost use Rattle.profile_rows.specs.Aggregate.{aggregate_of};
+ghost use Rattle.profile_rows.specs.Rows.{total_of};
+ghost use Rattle.folded_text.specs.FoldedText.{IsFirstFault, IsFoldedText, IsLineFault, IsRowLine, frames_of};
+ghost use Rattle.profile_rows.specs.Sums.{AddsRow, ArePlacedBy, with_added_at};
+ghost use Rattle.folded_text.specs.TextSums.{IsSumOfText};
+
+use crate::folded::{FoldedFault, Spelled, counted, fitting_depth, push_spelled};
+use crate::known_names::KnownNames;
+use bstr::ByteSlice;
+use no_memory::NoMemory;
+use profile_rows::Batch;
+use std::alloc::Global;
+use std::collections::HashMap;
+
+/// Adds the row of a stack text that no row has yet.
+fn push_sum<'a>(
+    alloc: Global,
+    names: &mut KnownNames<'a>,
+    known: &mut HashMap<&'a str, usize>,
+    sums: &mut Batch,
+    spelled: Spelled<'a>,
+) -> Result<(), NoMemory>
+    requires one_line { All (λ byte. byte ≢ 10) spelled.stack.now }
+    requires depth { (spelled.depth ≡ length (frames_of spelled.stack.now)) × (spelled.depth ≤ 65535) }
+    requires fits { total_of sums.old + spelled.weight < 2 ^ 63 }
+    requires placed { ArePlacedBy frames_of known.old sums.old }
+    ensures added { OnOk result (AddsRow sums.old sums.new (record { stack = frames_of spelled.entry.stack.now; weight = spelled.entry.weight })) }
+    ensures placed { OnOk result (ArePlacedBy frames_of known.new sums.new) }
+{
+    let at = sums.rows().len();
+    push_spelled(alloc, names, sums, spelled)?;
+    known.insert(spelled.stack, at)?;
+    Ok(())
+}
+
+/// Adds to the weight of a row.
+fn add_to_row(sums: &mut Batch, at: usize, weight: u64, number: u64) -> Result<(), FoldedFault>
+    requires { at < length sums.old }
+    ensures added { OnOk result (sums.new ≡ with_added_at sums.old at weight) }
+    ensures fits { OnOk result (total_of sums.old + weight < 2 ^ 63) }
+    ensures fault { IfErr result (λ fault. (fault ≡ FoldedFault.Heavy number) × (2 ^ 63 ≤ total_of sums.old + weight)) }
+{
+    match sums.add_weight(at, weight) {
+        Ok(()) => Ok(()),
+        Err(_) => Err(FoldedFault::Heavy { line: number }),
+    }
+}
+
+/// Adds the row that a line spells, to the row of the same stack text where there is one.
+fn sum_line<'a>(
+    alloc: Global,
+    names: &mut KnownNames<'a>,
+    known: &mut HashMap<&'a str, usize>,
+    sums: &mut Batch,
+    line: &'a [u8],
+    number: u64,
+) -> Result<(), FoldedFault>
+    requires one_line { All (λ byte. byte ≢ 10) line.now }
+    requires placed { ArePlacedBy frames_of known.old sums.old }
+    ensures added { OnOk result ((row : Row) × IsRowLine line.now row × AddsRow sums.old sums.new row) }
+    ensures placed { OnOk result (ArePlacedBy frames_of known.new sums.new) }
+    ensures fault { IfErr result (IsLineFault (total_of sums.old) number line.now) }
+{
+    let (stack, weight) = counted(line, number)?;
+    match known.get(stack).copied() {
+        Some(at) => add_to_row(sums, at, weight, number),
+        None => {
+            let depth = fitting_depth(stack, weight, sums.total(), number)?;
+            let spelled = Spelled {
+                stack,
+                depth,
+                weight,
+            };
+            Ok(push_sum(alloc, names, known, sums, spelled)?)
+        }
+    }
+}
+
+/// Reads folded stacks and puts the lines of one stack text together: as [`read_folded`](crate::read_folded), and every report on
+/// the rows is the same, in fewer rows.
+///
+/// # Errors
+///
+/// Those of [`read_folded`](crate::read_folded).
+pub fn sum_folded(alloc: Global, text: &[u8]) -> Result<Batch, FoldedFault>
+    ensures read { MatchResult result (λ sums. IsSumOfText text.now sums) (λ fault. IsFirstFault text.now fault) }
+    ensures accepted { (rows : List Row) → IsFoldedText text.now rows
+        → MatchResult result (λ sums. aggregate_of sums ≡ aggregate_of rows) (λ fault. fault ≡ FoldedFault.NoMemory) }
+{
+    let mut names = KnownNames::new(alloc);
+    let mut known = HashMap::new(alloc);
+    let mut sums = Batch::new(alloc);
+    for (index, line) in text.lines().enumerate() {
+        if !line.is_empty() {
+            sum_line(
+                alloc,
+                &mut names,
+                &mut known,
+                &mut sums,
+                line,
+                index as u64 + 1,
+            )?;
+        }
+    }
+    Ok(sums)
+}

@@ -1,0 +1,74 @@
+//! What the names weigh in the rows of folded text, counted while it is read.
+
+ghost use Rattle.std.specs.Prelude.{ℕ, ◌≡◌, ◌≢◌, ◌+◌, ◌^◌, ◌<◌, ◌++◌, ◌∷◌, [], All, List, MatchResult, IfErr, OnOk, map};
+ghost use Rattle.profile_rows.specs.declared.batch.Row.{Row};
+ghost use Rattle.profile_rows.specs.Names.{IsName};
+ghost use Rattle.profile_rows.specs.Rows.{total_of};
+ghost use Rattle.profile_rows.specs.Tallies.{AreTalliesOf};
+ghost use Rattle.profile_rows.specs.TopList.{AreTotalsOf};
+ghost use Rattle.folded_text.specs.FoldedText.{IsFoldedText, IsLineFault, IsRowLine, IsWorkFault, frames_of};
+ghost use Rattle.folded_text.specs.TextSums.{AreTotalsOfText};
+
+use crate::folded::{FoldedFault, counted, fitting, fitting_depth};
+use bstr::ByteSlice;
+use profile_rows::{CountedRows, FrameTotals};
+use std::alloc::{AllocError, Global};
+
+/// The frames of a stack text, root first, in the place of others.
+fn replace_by_text<'a>(frames: &mut Vec<&'a str>, text: &'a str) -> Result<(), AllocError>
+    requires { All (λ byte. byte ≢ 10) text.now }
+    ensures names { OnOk result (All IsName (frames_of text.now)) }
+    ensures texts { OnOk result (map (λ frame. frame.now) frames.new.items ≡ frames_of text.now) }
+{
+    frames.clear();
+    for frame in text.split(';').filter(|frame| !frame.is_empty()) {
+        frames.push(frame)?;
+    }
+    Ok(())
+}
+
+/// Counts the row that a line spells, where it spells one that can follow the others. Its frames take the place of others in the
+/// buffer.
+fn count_line<'a>(
+    rows: &mut CountedRows<'a>,
+    frames: &mut Vec<&'a str>,
+    line: &'a [u8],
+    number: u64,
+) -> Result<(), FoldedFault>
+    requires one_line { All (λ byte. byte ≢ 10) line.now }
+    requires counted { (before : List Row) × AreTalliesOf before rows.old.total rows.old.tallies × (total_of before < 2 ^ 63) }
+    ensures counted { (before : List Row) → AreTalliesOf before rows.old.total rows.old.tallies
+        → OnOk result ((row : Row) × IsRowLine line.now row × (total_of before + row.weight < 2 ^ 63)
+        × AreTalliesOf (before ++ row ∷ []) rows.new.total rows.new.tallies) }
+    ensures fault { IfErr result (IsLineFault rows.old.total number line.now) }
+{
+    let (stack, weight) = counted(line, number)?;
+    let Ok(()) = replace_by_text(frames, stack) else {
+        // a line's own fault comes before want of memory at it
+        fitting_depth(stack, weight, rows.total, number)?;
+        return Err(FoldedFault::NoMemory);
+    };
+    fitting(frames.len(), weight, rows.total, number)?;
+    Ok(rows.count(frames.as_slice(), weight)?)
+}
+
+/// What the names weigh in the rows that [`read_folded`](crate::read_folded) reads. The rows are counted while they are read, and
+/// not kept: memory is for the names.
+///
+/// # Errors
+///
+/// Those of [`read_folded`](crate::read_folded).
+pub fn folded_totals(alloc: Global, text: &[u8]) -> Result<FrameTotals, FoldedFault>
+    ensures counted { MatchResult result (AreTotalsOfText text.now) (IsWorkFault text.now) }
+    ensures accepted { (rows : List Row) → IsFoldedText text.now rows
+        → MatchResult result (AreTotalsOf rows) (λ fault. fault ≡ FoldedFault.NoMemory) }
+{
+    let mut rows = CountedRows::new(alloc);
+    let mut frames = Vec::new(alloc);
+    for (index, line) in text.lines().enumerate() {
+        if !line.is_empty() {
+            count_line(&mut rows, &mut frames, line, index as u64 + 1)?;
+        }
+    }
+    Ok(rows.totals(alloc)?)
+}

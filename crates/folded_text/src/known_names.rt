@@ -1,0 +1,45 @@
+ghost use Rattle.std.specs.Prelude.{◌≡◌, IfOk};
+ghost use Rattle.profile_rows.specs.Names.{IsName};
+
+use profile_rows::Name;
+use std::alloc::{AllocError, Global};
+use std::collections::HashMap;
+use std::marker::Model;
+
+/// The names met so far by their texts, so that each text is kept once and a frame costs a lookup and a share.
+#[derive(Drop)]
+pub struct KnownNames<'a> {
+    names: HashMap<&'a str, Name>,
+}
+
+impl<'a> Model for KnownNames<'a> {
+    ghost use Rattle.folded_text.specs.KnownNames.{AreKept};
+
+    ghost Value = { Unit {0} };
+
+    ghost view = { λ _. tt };
+
+    ghost invariant = { λ known. AreKept known.names };
+}
+
+impl<'a> KnownNames<'a> {
+    /// No names yet. Takes no memory.
+    pub fn new(alloc: Global) -> KnownNames<'a> {
+        KnownNames {
+            names: HashMap::new(alloc),
+        }
+    }
+
+    /// The name of a text, kept now or before.
+    pub fn name_of(&mut self, alloc: Global, text: &'a str) -> Result<Name, AllocError>
+        requires { IsName text.now }
+        ensures { IfOk result (λ name. name ≡ text.now) }
+    {
+        if let Some(name) = self.names.get(text) {
+            return name.share();
+        }
+        let name = Name::keep(alloc, text)?;
+        self.names.insert(text, name.share()?)?;
+        Ok(name)
+    }
+}

@@ -1,0 +1,54 @@
+ghost use Rattle.std.specs.Prelude.{◌≡◌, ◌++◌, ◌^◌, ◌<◌, ◌≤◌, All, IfOk, OnOk, length};
+ghost use Rattle.std.specs.List.{join_with_byte};
+ghost use Rattle.folded_text.specs.FoldedText.{IsFoldedText, row_text, rows_text};
+ghost use Rattle.profile_rows.specs.Names.{IsName};
+
+use itoa::Buffer;
+use no_memory::NoMemory;
+use profile_rows::{Batch, Name, Row};
+use std::alloc::Global;
+
+/// Adds the names of a stack, separated by semicolons.
+fn push_stack(text: &mut Vec<u8>, names: &[Name]) -> Result<(), NoMemory>
+    ensures joined { OnOk result (text.new.items ≡ text.old.items ++ join_with_byte 59 names.now) }
+    ensures names { OnOk result (All IsName names.now) }
+{
+    for (index, name) in names.iter().enumerate() {
+        if index > 0 {
+            text.push(b';')?;
+        }
+        text.extend_from_slice(name.text().as_bytes())?;
+    }
+    Ok(())
+}
+
+/// Adds the line of a row.
+fn push_row(text: &mut Vec<u8>, row: &Row) -> Result<(), NoMemory>
+    ensures line { OnOk result (text.new.items ≡ text.old.items ++ row_text row.now) }
+    ensures names { OnOk result (All IsName row.now.stack) }
+    ensures depth { length row.now.stack ≤ 65535 }
+{
+    let mut buffer = Buffer::new();
+    push_stack(text, row.stack.names())?;
+    text.push(b' ')?;
+    text.extend_from_slice(buffer.format(row.weight).as_bytes())?;
+    text.push(b'\n')?;
+    Ok(())
+}
+
+/// Writes each row as a line of folded text, in the order of the rows, also rows of weight 0: the names joined by semicolons, a
+/// space, the weight in decimal, a line feed. Reading it gives the same rows.
+///
+/// # Errors
+///
+/// `NoMemory`.
+pub fn write_folded(alloc: Global, batch: &Batch) -> Result<Vec<u8>, NoMemory>
+    ensures text { IfOk result (λ text. text.items ≡ rows_text batch.now) }
+    ensures reads_back { IfOk result (λ text. IsFoldedText text.items batch.now) }
+{
+    let mut text = Vec::new(alloc);
+    for row in batch.rows() {
+        push_row(&mut text, row)?;
+    }
+    Ok(text)
+}

@@ -1,0 +1,15 @@
+pub mod AnswerLaws
+pub mod BatchRows
+pub mod Cleaning
+pub mod EntryLaws
+pub mod EqualRows
+pub mod Kept
+pub mod LentStacks
+pub mod Members
+pub mod PutTogether
+pub mod Ranking
+pub mod RowLaws
+pub mod SameNames
+pub mod TallyLaws
+pub mod Weighted
+pub mod WorkedRows

@@ -1,0 +1,125 @@
+-- A list put in order rises, and two rising lists with the same members are one.
+use Rattle.std.proofs.Common.{◌≡◌, Bool, true, false, ◌||◌, List, [], ◌∷◌, refl, sym, ap, ◌∙◌}
+use Rattle.std.specs.List.{AllByRecursion, list_any}
+use Rattle.std.specs.declared.cmp.Ordering.{Ordering}
+use Rattle.std.specs.declared.cmp.Ordering.TheVariants.{Less, Equal, Greater}
+use Rattle.std.specs.Ordering.{is_eq, eq_by_cmp, match_ordering, ordering_reverse}
+use Rattle.std.specs.Cmp.{IsTotalOrder}
+use Rattle.std.specs.FinMap.{IsAntisymmetric}
+use Rattle.std.proofs.lemmas.Cmp.{tied_itself}
+use Rattle.profile_rows.specs.Order.{with_member, in_order}
+
+module _ {K : Type 0} (cmp : K → K → Ordering) (total : IsTotalOrder cmp) (apart : IsAntisymmetric cmp) where
+  abbrev is_member : K → List K → Bool
+  is_member q xs = list_any (eq_by_cmp cmp q) xs
+
+  -- each element is below those after it
+  abbrev Rises : List K → Type 0
+  Rises [] = Unit {0}
+  Rises (x ∷ xs) = AllByRecursion (λ y. cmp x y ≡ Less) xs × Rises xs
+
+  turn : (x y : K) (o : Ordering) → cmp x y ≡ o → cmp y x ≡ ordering_reverse o
+  turn x y o e = total.antisymm y x ∙ ap ordering_reverse e
+
+  below_all : (x y : K) (ys : List K) → cmp x y ≡ Less → AllByRecursion (λ z. cmp y z ≡ Less) ys → AllByRecursion (λ z. cmp x z ≡ Less) ys
+  below_all x y [] less all = tt
+  below_all x y (z ∷ ys) less all = (total.trans x y z less all.0, below_all x y ys less all.1)
+
+  all-with_member : (P : K → Type 0) (x : K) (xs : List K) → P x → AllByRecursion P xs → AllByRecursion P (with_member cmp x xs)
+  all-with_member P x [] here all = (here, tt)
+  all-with_member P x (y ∷ ys) here all =
+      let rest = all-with_member P x ys here all.1 in
+      elim (cmp x y) as (λ o. AllByRecursion P (match_ordering o (x ∷ y ∷ ys) (y ∷ ys) (y ∷ with_member cmp x ys))) [
+        | Less ↦ (here, all)
+        | Equal ↦ all
+        | Greater ↦ (all.0, rest)
+      ]
+
+  with_member-Rises : (x : K) (xs : List K) → Rises xs → Rises (with_member cmp x xs)
+  with_member-Rises x [] up = (tt, tt)
+  with_member-Rises x (y ∷ ys) up =
+      let rest = with_member-Rises x ys up.1 in
+      elim (cmp x y) as (λ o. cmp x y ≡ o → Rises (match_ordering o (x ∷ y ∷ ys) (y ∷ ys) (y ∷ with_member cmp x ys))) [
+        | Less ↦ λ e. ((e, below_all x y ys e up.0), up)
+        | Equal ↦ λ e. up
+        | Greater ↦ λ e. (all-with_member (λ z. cmp y z ≡ Less) x ys (turn x y Greater e) up.0, rest)
+      ] refl
+
+  pub in_order-Rises : (xs : List K) → Rises (in_order cmp xs)
+  in_order-Rises [] = tt
+  in_order-Rises (x ∷ xs) = with_member-Rises x (in_order cmp xs) (in_order-Rises xs)
+
+  either_way : (a b c : Bool) → (a || (b || c)) ≡ (b || (a || c))
+  either_way true true c = refl
+  either_way true false c = refl
+  either_way false true c = refl
+  either_way false false c = refl
+
+  twice : (a b : Bool) → (a || b) ≡ (a || (a || b))
+  twice true b = refl
+  twice false b = refl
+
+  member-with_member : (q x : K) (xs : List K) → is_member q (with_member cmp x xs) ≡ (eq_by_cmp cmp q x || is_member q xs)
+  member-with_member q x [] = refl
+  member-with_member q x (y ∷ ys) =
+      let rest = member-with_member q x ys in
+      elim (cmp x y) as (λ o. cmp x y ≡ o → is_member q (match_ordering o (x ∷ y ∷ ys) (y ∷ ys) (y ∷ with_member cmp x ys)) ≡ (eq_by_cmp cmp q x || is_member q (y ∷ ys))) [
+        | Less ↦ λ e. refl
+        | Equal ↦ λ e. twice (eq_by_cmp cmp q y) (is_member q ys) ∙ ap (λ z. eq_by_cmp cmp q z || is_member q (y ∷ ys)) (sym (apart x y e))
+        | Greater ↦ λ e. ap (λ b. eq_by_cmp cmp q y || b) rest ∙ either_way (eq_by_cmp cmp q y) (eq_by_cmp cmp q x) (is_member q ys)
+      ] refl
+
+  pub member-in_order : (q : K) (xs : List K) → is_member q (in_order cmp xs) ≡ is_member q xs
+  member-in_order q [] = refl
+  member-in_order q (x ∷ xs) = member-with_member q x (in_order cmp xs) ∙ ap (λ b. eq_by_cmp cmp q x || b) (member-in_order q xs)
+
+  is_eq-below : (q x : K) → cmp q x ≡ Less → eq_by_cmp cmp q x ≡ false
+  is_eq-below q x e = ap is_eq e
+
+  -- what is below all elements is none of them
+  absent : (q : K) (xs : List K) → AllByRecursion (λ y. cmp q y ≡ Less) xs → is_member q xs ≡ false
+  absent q [] all = refl
+  absent q (x ∷ xs) all = ap (λ b. b || is_member q xs) (is_eq-below q x all.0) ∙ absent q xs all.1
+
+  present : (x : K) (xs : List K) → is_member x (x ∷ xs) ≡ true
+  present x xs = ap (λ o. is_eq o || is_member x xs) (tied_itself total x)
+
+  same_first : (x : K) (xs : List K) (y : K) (ys : List K) → Rises (x ∷ xs) → Rises (y ∷ ys) → ((q : K) → is_member q (x ∷ xs) ≡ is_member q (y ∷ ys)) → x ≡ y
+  same_first x xs y ys up_x up_y same =
+      elim (cmp x y) as (λ o. cmp x y ≡ o → x ≡ y) [
+        | Less ↦ λ e. absurd (clash (sym (present x xs) ∙ same x ∙ absent x (y ∷ ys) (e, below_all x y ys e up_y.0)))
+        | Equal ↦ λ e. apart x y e
+        | Greater ↦ λ e. let less : cmp y x ≡ Less = turn x y Greater e in
+            absurd (clash (sym (present y ys) ∙ sym (same y) ∙ absent y (x ∷ xs) (less, below_all y x xs less up_x.0)))
+      ] refl
+    where
+      clash : true ≡ false → ⊥
+      clash e = cc
+
+  is_equal : (o : Ordering) → is_eq o ≡ true → o ≡ Equal
+  is_equal Less e = cc
+  is_equal Equal e = refl
+  is_equal Greater e = cc
+
+  -- two rising lists with the same members are one
+  pub same_members : (xs ys : List K) → Rises xs → Rises ys → ((q : K) → is_member q xs ≡ is_member q ys) → xs ≡ ys
+  same_members [] [] up_x up_y same = refl
+  same_members [] (y ∷ ys) up_x up_y same = let clash : false ≡ true = same y ∙ present y ys in cc
+  same_members (x ∷ xs) [] up_x up_y same = let clash : true ≡ false = sym (present x xs) ∙ same x in cc
+  same_members (x ∷ xs) (y ∷ ys) up_x up_y same =
+      let first : x ≡ y = same_first x xs y ys up_x up_y same in
+      let rest : (q : K) → is_member q xs ≡ is_member q ys = λ q.
+      elim (eq_by_cmp cmp q x) as (λ b. eq_by_cmp cmp q x ≡ b → is_member q xs ≡ is_member q ys) [
+        | true ↦ λ e.
+            let is_x : q ≡ x = apart q x (is_equal (cmp q x) e) in
+            ap (λ z. is_member z xs) is_x ∙ absent x xs up_x.0 ∙ sym (absent y ys up_y.0) ∙ ap (λ z. is_member z ys) (sym (is_x ∙ first))
+        | false ↦ λ e.
+            sym (ap (λ b. b || is_member q xs) e) ∙ same q ∙ ap (λ z. eq_by_cmp cmp q z || is_member q ys) (sym first) ∙ ap (λ b. b || is_member q ys) e
+      ] refl in
+      ap (λ z. z ∷ xs) first ∙ ap (λ zs. y ∷ zs) (same_members xs ys up_x.1 up_y.1 rest)
+
+  -- lists with the same members are one in order
+  pub in_order-same : (xs ys : List K) → ((q : K) → is_member q xs ≡ is_member q ys) → in_order cmp xs ≡ in_order cmp ys
+  in_order-same xs ys same =
+      same_members (in_order cmp xs) (in_order cmp ys) (in_order-Rises xs) (in_order-Rises ys)
+      (λ q. member-in_order q xs ∙ same q ∙ sym (member-in_order q ys))

@@ -1,0 +1,12 @@
+pub mod Aggregate
+pub mod Equality
+pub mod Layout
+pub mod LentStacks
+pub mod Names
+pub mod Order
+pub mod Paths
+pub mod Pushing
+pub mod Rows
+pub mod Sums
+pub mod Tallies
+pub mod TopList

@@ -1,0 +1,101 @@
+-- Rows that are written as samples when they come: a name keeps its id as more names come.
+use Rattle.std.proofs.Common.{◌≡◌, ℕ, ◌+◌, true, false, cond, List, [], ◌∷◌, ◌++◌, map, inl, inr, pos, refl, sym, ap, ◌∙◌, subst}
+use Rattle.std.specs.Prelude.{Err, MatchResult, Ok, Result, reverse}
+use Rattle.std.specs.List.{flat_map}
+use Rattle.std.proofs.lemmas.List.{map-append, append-nil}
+use Rattle.std.proofs.lemmas.List.Concat.{flat_map-cons}
+use Rattle.std.proofs.lemmas.List.Sums.{sum_by_push}
+use Rattle.std.proofs.lemmas.Grind.{flat_map-append}
+use Rattle.pprof_profile.specs.declared.messages.Sample.{Sample}
+use Rattle.pprof_profile.specs.Canonical.{canonical_bytes_of, samples_bytes}
+use Rattle.profile_rows.specs.declared.batch.Row.{Row}
+use Rattle.folded_text.specs.declared.folded.FoldedFault.{FoldedFault}
+use Rattle.folded_text.specs.declared.folded.FoldedFault.TheVariants.{NoMemory}
+use Rattle.folded_text.specs.FoldedText.{IsFoldedText, IsWorkFault}
+use Rattle.profile_samples.specs.TextTables.{place_in, with_text, with_texts}
+use Rattle.profile_samples.specs.Export.{AreSamplesOf, IsExportOfText, exported_profile_of, exported_sample, id_in, names_of}
+use Rattle.profile_samples.proofs.ExportLaws.{AllStand, RowsStand, rows_stand, stand_where, stands_in, with_text-stands, with_texts-own}
+use Rattle.folded_text.proofs.Reading.{IsFirstFault-folded, IsFoldedText-same}
+use Rattle.profile_samples.proofs.TextPlaces.{next_mapped, place_in-more, with_texts-append}
+
+-- ---- a text that is there keeps its place
+
+place_in-kept : (texts : List (List ℕ)) (text q : List ℕ) → stands_in texts q ≡ true → place_in (with_text texts text) q ≡ place_in texts q
+place_in-kept texts text q there = elim (stands_in texts text) as (λ b. place_in (cond b texts (texts ++ text ∷ [])) q ≡ place_in texts q) [
+  | true ↦ refl
+  | false ↦ place_in-more texts (text ∷ []) q there
+]
+
+ids_kept : (texts : List (List ℕ)) (text : List ℕ) (stack : List (List ℕ)) → AllStand texts stack → map (id_in (with_text texts text)) stack ≡ map (id_in texts) stack
+ids_kept texts text [] all = refl
+ids_kept texts text (name ∷ stack) all =
+    ap (λ place. (place + 1) ∷ map (id_in (with_text texts text)) stack) (place_in-kept texts text name all.0)
+    ∙ ap (λ ids. id_in texts name ∷ ids) (ids_kept texts text stack all.1)
+
+-- the ids of a stack's frames so far, and the next one's
+pub ids_with : (start old new seen next : List (List ℕ)) (text : List ℕ) (place : ℕ) → place ≡ place_in (with_text old text) text → new ≡ with_text old text → old ≡ with_texts start seen → next ≡ seen ++ text ∷ []
+    → map (id_in old) seen ++ (place + 1) ∷ [] ≡ map (id_in new) next
+ids_with start old new seen next text place is added so_far more =
+    let all : AllStand old seen = subst (λ texts. AllStand texts seen) (sym so_far) (stand_where seen (with_texts start seen) (λ q e. with_texts-own start seen q e)) in
+    ap (λ ids. ids ++ (place + 1) ∷ []) (sym (ids_kept old text seen all))
+    ∙ ap (λ p. map (id_in (with_text old text)) seen ++ (p + 1) ∷ []) is
+    ∙ next_mapped (id_in (with_text old text)) seen next text more
+    ∙ ap (λ names. map (id_in names) next) (sym added)
+
+-- ---- the samples of rows
+
+stack_stays : (texts : List (List ℕ)) (text : List ℕ) (stack : List (List ℕ)) → AllStand texts stack → AllStand (with_text texts text) stack
+stack_stays texts text [] all = tt
+stack_stays texts text (name ∷ stack) all = (with_text-stands texts text name all.0, stack_stays texts text stack all.1)
+
+rows_stay : (texts : List (List ℕ)) (text : List ℕ) (rows : List Row) → RowsStand texts rows → RowsStand (with_text texts text) rows
+rows_stay texts text [] all = tt
+rows_stay texts text (row ∷ rows) all = (stack_stays texts text row.stack all.0, rows_stay texts text rows all.1)
+
+samples_kept-text : (texts : List (List ℕ)) (text : List ℕ) (rows : List Row) → RowsStand texts rows → map (exported_sample (with_text texts text)) rows ≡ map (exported_sample texts) rows
+samples_kept-text texts text [] all = refl
+samples_kept-text texts text (row ∷ rows) all =
+    ap (λ ids. let sample : Sample = record { location_ids = reverse ids; values = pos row.weight ∷ []; labels = [] } in sample ∷ map (exported_sample (with_text texts text)) rows) (ids_kept texts text row.stack all.0)
+    ∙ ap (λ samples. exported_sample texts row ∷ samples) (samples_kept-text texts text rows all.1)
+
+samples_kept : (texts more : List (List ℕ)) (rows : List Row) → RowsStand texts rows → map (exported_sample (with_texts texts more)) rows ≡ map (exported_sample texts) rows
+samples_kept texts [] rows all = refl
+samples_kept texts (text ∷ more) rows all = samples_kept (with_text texts text) more rows (rows_stay texts text rows all) ∙ samples_kept-text texts text rows all
+
+names_push : (rows : List Row) (row : Row) → names_of (rows ++ row ∷ []) ≡ with_texts (names_of rows) row.stack
+names_push rows row =
+    ap (with_texts []) (flat_map-append (λ (r : Row). r.stack) rows (row ∷ []))
+    ∙ ap (λ last. with_texts [] (flat_map (λ (r : Row). r.stack) rows ++ last)) (flat_map-cons (λ (r : Row). r.stack) row [] ∙ append-nil row.stack)
+    ∙ with_texts-append [] (flat_map (λ (r : Row). r.stack) rows) row.stack
+
+-- no rows yet
+pub AreSamplesOf-none : (names : List (List ℕ)) (samples : List ℕ) → names ≡ [] → samples ≡ samples_bytes [] → AreSamplesOf [] names samples 0
+AreSamplesOf-none names samples none empty = record { names_rows = none; samples_rows = empty; total_rows = refl }
+
+-- a row more
+pub AreSamplesOf-push : (rows : List Row) (row : Row) (names next : List (List ℕ)) (samples after ids : List ℕ) (total sum : ℕ) → AreSamplesOf rows names samples total
+    → next ≡ with_texts names row.stack → ids ≡ reverse (map (id_in next) row.stack) → sum ≡ total + row.weight
+    → after ≡ samples_bytes (map (exported_sample names) rows ++ (record { location_ids = ids; values = pos row.weight ∷ []; labels = [] }) ∷ [])
+    → AreSamplesOf (rows ++ row ∷ []) next after sum
+AreSamplesOf-push rows row names next samples after ids total sum so_far added numbered more written =
+    let all : RowsStand names rows = subst (λ texts. RowsStand texts rows) (sym so_far.names_rows) (rows_stand (names_of rows) rows (λ q e. with_texts-own [] (flat_map (λ (r : Row). r.stack) rows) q e)) in
+    let kept : map (exported_sample names) rows ≡ map (exported_sample next) rows = sym (samples_kept names row.stack rows all) ∙ ap (λ texts. map (exported_sample texts) rows) (sym added) in
+    record {
+      names_rows = added ∙ ap (λ texts. with_texts texts row.stack) so_far.names_rows ∙ sym (names_push rows row);
+      samples_rows = written
+          ∙ ap (λ is. let sample : Sample = record { location_ids = is; values = pos row.weight ∷ []; labels = [] } in samples_bytes (map (exported_sample names) rows ++ sample ∷ [])) numbered
+          ∙ ap (λ before. samples_bytes (before ++ exported_sample next row ∷ [])) kept
+          ∙ ap samples_bytes (sym (map-append (exported_sample next) rows (row ∷ [])));
+      total_rows = more ∙ ap (λ held. held + row.weight) so_far.total_rows ∙ sym (sum_by_push (λ (r : Row). r.weight) rows row);
+    }
+
+-- ---- what the export answers
+
+-- folded text has one export
+pub only_export : {T : Type 0} (items : T → List ℕ) (text kind unit : List ℕ) (outcome : Result T FoldedFault) → MatchResult outcome (λ bytes. IsExportOfText text kind unit (items bytes)) (λ fault. IsWorkFault text fault)
+    → (rows : List Row) → IsFoldedText text rows → MatchResult outcome (λ bytes. items bytes ≡ canonical_bytes_of (exported_profile_of rows kind unit)) (λ fault. fault ≡ NoMemory)
+only_export items text kind unit (Ok bytes) exported rows folded = exported.profile ∙ ap (λ some. canonical_bytes_of (exported_profile_of some kind unit)) (IsFoldedText-same text exported.rows rows exported.folded folded)
+only_export items text kind unit (Err fault) exported rows folded = elim exported [
+  | inl first ↦ IsFirstFault-folded text rows fault folded first
+  | inr late ↦ late.0
+]

@@ -1,0 +1,8 @@
+use Rattle.std.proofs.Common.{◌≡◌, All, take}
+use Rattle.profile_rows.specs.Names.{IsName}
+use Rattle.profile_samples.specs.TextTables.{with_texts}
+use Rattle.profile_samples.proofs.exporting.with_names.Given as goal
+
+-- the names so far are in the table, and can be names
+abbrev pub invariant-loop-name : goal.invariant-loop-name
+invariant-loop-name l = (l.table ≡ with_texts l.initial.table (take l.name-index l.fn.names)) × All IsName (take l.name-index l.fn.names)

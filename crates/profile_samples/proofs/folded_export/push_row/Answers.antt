@@ -1,0 +1,24 @@
+-- The row's sample has the ids of its names, and its weight for its value.
+use Rattle.std.proofs.Common.{◌<◌, ◌^◌, ℕ, ℤ, List, [], ◌∷◌, ◌++◌, arith, map, pos, refl, ap, ◌∙◌}
+use Rattle.std.specs.Int.{w64}
+use Rattle.std.proofs.lemmas.Int.{to_z_pos}
+use Rattle.pprof_profile.specs.declared.messages.Sample.{Sample}
+use Rattle.pprof_profile.specs.Canonical.{samples_bytes}
+use Rattle.profile_samples.specs.Export.{exported_sample}
+use Rattle.folded_text.specs.FoldedText.{frames_of}
+use Rattle.profile_samples.proofs.ExportedRows.{AreSamplesOf-push}
+use Rattle.profile_samples.proofs.folded_export.push_row.Goals as goal
+
+abbrev with_sample : List Sample → List ℕ → ℤ → List ℕ
+with_sample samples ids value = samples_bytes (samples ++ (record { location_ids = ids; values = value ∷ []; labels = [] }) ∷ [])
+
+pub returns : goal.returns
+returns c = λ before so_far.
+    let fits = c.requires.fits in
+    let small : c.args.spelled.weight < 2 ^ 63 = omega (arith, fits) in
+    let samples = map (exported_sample c.args.rows.now.names) before in
+    AreSamplesOf-push before (record { stack = frames_of c.args.spelled.stack.now; weight = c.args.spelled.weight }) c.args.rows.now.names c.replace_ids.new.names c.args.rows.now.samples c.push.new.self c.replace_ids.new.ids.items c.args.rows.now.total _ so_far
+    c.in_ok-replace_ids.ensures.names c.in_ok-replace_ids.ensures.ids refl
+    (c.in_ok-push.ensures.pushed samples so_far.samples_rows
+    ∙ ap (λ value. with_sample samples c.as_slice.result.now value) (to_z_pos w64 c.args.spelled.weight small)
+    ∙ ap (λ ids. with_sample samples ids (pos c.args.spelled.weight)) c.as_slice.ensures.value)

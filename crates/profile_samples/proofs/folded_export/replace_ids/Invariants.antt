@@ -1,0 +1,13 @@
+use Rattle.std.proofs.Common.{◌≡◌, length, map, take}
+use Rattle.profile_samples.specs.Export.{id_in}
+use Rattle.folded_text.specs.FoldedText.{frames_of}
+use Rattle.profile_samples.specs.TextTables.{with_texts}
+use Rattle.profile_samples.proofs.folded_export.replace_ids.Given as goal
+
+-- the frames so far have their places, and the ids are theirs
+abbrev pub invariant-loop-frame : goal.invariant-loop-frame
+invariant-loop-frame l =
+    record {
+      names : l.names ≡ with_texts l.fn.names (take (length l.yielded) (frames_of l.text));
+      ids : l.ids.items ≡ map (id_in l.names) (take (length l.yielded) (frames_of l.text));
+    }

@@ -1,0 +1,7 @@
+use Rattle.std.proofs.Common.{◌≡◌, map, take}
+use Rattle.profile_samples.specs.Samples.{function_name}
+use Rattle.profile_samples.proofs.unfolding.function_names.Given as goal
+
+-- the names so far
+abbrev pub invariant-loop-function : goal.invariant-loop-function
+invariant-loop-function l = l.names.items ≡ map (function_name l.fn.strings) (take l.function-index l.functions)

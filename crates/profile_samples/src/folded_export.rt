@@ -1,0 +1,110 @@
+ghost use Rattle.std.specs.Prelude.{◌≡◌, ◌+◌, ◌^◌, ◌<◌, ◌∷◌, ◌++◌, [], IfErr, IfOk, List, MatchResult, OnOk, map, reverse};
+ghost use Rattle.pprof_profile.specs.Canonical.{canonical_bytes_of};
+ghost use Rattle.profile_rows.specs.declared.batch.Row.{Row};
+ghost use Rattle.profile_samples.specs.Export.{AreSamplesOf, IsExportOfText, exported_profile_of, id_in};
+ghost use Rattle.folded_text.specs.FoldedText.{IsFoldedText, IsLineFault, IsRowLine, IsWorkFault, frames_of};
+ghost use Rattle.profile_rows.specs.Rows.{total_of};
+ghost use Rattle.profile_samples.specs.TextTables.{with_texts};
+
+use crate::exporting::exported_draft;
+use crate::text_table::TextTable;
+use bstr::ByteSlice;
+use folded_text::{FoldedFault, Spelled, read_line};
+use no_memory::NoMemory;
+use pprof_profile::{Items, WrittenSamples, encode_around};
+use std::alloc::Global;
+
+/// Rows as the samples of the profile that they are exported as: written when they come, their names numbered as they first stand.
+#[derive(Drop)]
+struct SampledRows<'a> {
+    names: TextTable<'a>,
+    samples: WrittenSamples,
+    ids: Vec<u64>,
+    total: u64,
+}
+
+/// The ids of a stack text's locations, leaf first, in the place of others.
+fn replace_ids<'a>(
+    names: &mut TextTable<'a>,
+    ids: &mut Vec<u64>,
+    text: &'a str,
+) -> Result<(), NoMemory>
+    ensures names { OnOk result (names.new ≡ with_texts names.old (frames_of text.now)) }
+    ensures ids { OnOk result (ids.new.items ≡ reverse (map (id_in names.new) (frames_of text.now))) }
+{
+    ids.clear();
+    for frame in text.split(';').filter(|frame| !frame.is_empty()) {
+        ids.push(names.place_with(frame)? as u64 + 1)?;
+    }
+    ids.reverse();
+    Ok(())
+}
+
+/// Adds the row that a line spells, which fits.
+fn push_row<'a>(rows: &mut SampledRows<'a>, spelled: Spelled<'a>) -> Result<(), NoMemory>
+    requires fits { rows.old.total + spelled.weight < 2 ^ 63 }
+    ensures { (before : List Row) → AreSamplesOf before rows.old.names rows.old.samples rows.old.total
+        → OnOk result (AreSamplesOf (before ++ (record { stack = frames_of spelled.entry.stack.now; weight = spelled.entry.weight }) ∷ []) rows.new.names rows.new.samples rows.new.total) }
+{
+    replace_ids(&mut rows.names, &mut rows.ids, spelled.stack)?;
+    rows.samples
+        .push(rows.ids.as_slice(), &[spelled.weight as i64])?;
+    rows.total += spelled.weight;
+    Ok(())
+}
+
+/// Adds the row that a line spells, where it spells one that can follow the others.
+fn add_line<'a>(rows: &mut SampledRows<'a>, line: &'a [u8], number: u64) -> Result<(), FoldedFault>
+    requires { rows.old.total < 2 ^ 63 }
+    ensures added { (before : List Row) → AreSamplesOf before rows.old.names rows.old.samples rows.old.total
+        → OnOk result ((row : Row) × IsRowLine line.now row × (total_of before + row.weight < 2 ^ 63)
+        × AreSamplesOf (before ++ row ∷ []) rows.new.names rows.new.samples rows.new.total) }
+    ensures fault { IfErr result (IsLineFault rows.old.total number line.now) }
+{
+    let spelled = read_line(line, rows.total, number)?;
+    Ok(push_row(rows, spelled)?)
+}
+
+/// The bytes of the profile of the rows.
+fn profile_bytes(
+    alloc: Global,
+    rows: &SampledRows,
+    kind: &str,
+    unit: &str,
+) -> Result<Vec<u8>, NoMemory>
+    ensures { (all : List Row) → AreSamplesOf all rows.now.names rows.now.samples rows.now.total
+        → IfOk result (λ bytes. bytes.items ≡ canonical_bytes_of (exported_profile_of all kind.now unit.now)) }
+{
+    let draft = exported_draft(alloc, Items::empty(alloc), &rows.names, kind, unit)?;
+    encode_around(alloc, &draft, &rows.samples)
+}
+
+/// Folded text as a profile's bytes: those that [`encode`](pprof_profile::encode) gives of [`profile_of`](crate::profile_of) the rows
+/// that [`read_folded`](crate::read_folded) reads. Neither rows nor samples are kept: memory is for the bytes and the names.
+///
+/// # Errors
+///
+/// Those of [`read_folded`](crate::read_folded).
+pub fn export_folded(
+    alloc: Global,
+    text: &[u8],
+    kind: &str,
+    unit: &str,
+) -> Result<Vec<u8>, FoldedFault>
+    ensures exported { MatchResult result (λ bytes. IsExportOfText text.now kind.now unit.now bytes.items) (λ fault. IsWorkFault text.now fault) }
+    ensures accepted { (rows : List Row) → IsFoldedText text.now rows
+        → MatchResult result (λ bytes. bytes.items ≡ canonical_bytes_of (exported_profile_of rows kind.now unit.now)) (λ fault. fault ≡ FoldedFault.NoMemory) }
+{
+    let mut rows = SampledRows {
+        names: TextTable::new(alloc),
+        samples: WrittenSamples::new(alloc),
+        ids: Vec::new(alloc),
+        total: 0,
+    };
+    for (index, line) in text.lines().enumerate() {
+        if !line.is_empty() {
+            add_line(&mut rows, line, index as u64 + 1)?;
+        }
+    }
+    Ok(profile_bytes(alloc, &rows, kind, unit)?)
+}

@@ -1,0 +1,16 @@
+//! The samples of a pprof profile as rows, and rows as the samples of a profile.
+#![tactic(auto)]
+
+mod exporting;
+mod folded_export;
+pub mod laws;
+mod places;
+mod sample_sums;
+mod sampling;
+mod text_table;
+mod unfolding;
+
+pub use exporting::profile_of;
+pub use folded_export::export_folded;
+pub use sample_sums::sum_samples;
+pub use sampling::{BatchFault, ValueChoice, batch_of, unfold};

@@ -1,0 +1,61 @@
+ghost use Rattle.std.specs.Prelude.{ℕ, ◌≡◌, ◌≢◌, ◌↔◌, IfOk, IsTrue, MatchOption, Some, slice_get};
+
+use no_memory::NoMemory;
+use std::alloc::Global;
+use std::collections::BTreeMap;
+use std::marker::Model;
+
+/// Where each id stands among the ids of items. An id that is one more than its place, as writers mostly give them, needs no entry.
+/// A contract sees the ids.
+#[derive(Drop)]
+pub(crate) struct Places {
+    ids: Vec<u64>,
+    others: BTreeMap<u64, usize>,
+}
+
+impl Model for Places {
+    ghost use Rattle.std.specs.Prelude.{List, ℕ};
+    ghost use Rattle.profile_samples.specs.Places.{ArePlaces};
+
+    ghost Value = { List ℕ };
+
+    ghost view = { λ places. places.ids.items };
+
+    ghost invariant = { λ places. ArePlaces places.ids.items places.others };
+}
+
+impl Places {
+    /// The places of these ids.
+    ///
+    /// # Errors
+    ///
+    /// `NoMemory`.
+    pub fn new(alloc: Global, ids: Vec<u64>) -> Result<Places, NoMemory>
+        ensures { IfOk result (λ places. places ≡ ids.items) }
+    {
+        let mut others = BTreeMap::new(alloc);
+        for (at, id) in ids.iter().enumerate() {
+            if *id != at as u64 + 1 {
+                others.insert(*id, at)?;
+            }
+        }
+        Ok(Places { ids, others })
+    }
+
+    /// A place at which the id stands.
+    pub fn find(&self, id: u64) -> Option<usize>
+        ensures { MatchOption result ((at : ℕ) → slice_get self.now at ≢ Some id) (λ at. slice_get self.now at ≡ Some id) }
+    {
+        let guess = id.saturating_sub(1) as usize;
+        if self.stands_at(guess, id) {
+            return Some(guess);
+        }
+        self.others.get(&id).copied()
+    }
+
+    fn stands_at(&self, at: usize, id: u64) -> bool
+        ensures { IsTrue result ↔ (slice_get self.now at ≡ Some id) }
+    {
+        self.ids.get(at) == Some(&id)
+    }
+}

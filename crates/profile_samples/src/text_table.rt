@@ -1,0 +1,89 @@
+ghost use Rattle.std.specs.Prelude.{◌≡◌, ◌<◌, ◌^◌, [], IfOk, OnOk, map};
+ghost use Rattle.profile_samples.specs.TextTables.{place_in, with_text, with_texts};
+
+use no_memory::NoMemory;
+use std::alloc::Global;
+use std::collections::HashMap;
+use std::marker::Model;
+
+/// Distinct texts in the order in which they came, each found by its bytes. A contract sees the list of them.
+#[derive(Drop)]
+pub(crate) struct TextTable<'a> {
+    places: HashMap<&'a str, usize>,
+    texts: Vec<&'a str>,
+}
+
+impl<'a> Model for TextTable<'a> {
+    ghost use Rattle.std.specs.Prelude.{List, ℕ, map};
+    ghost use Rattle.profile_samples.specs.TextTables.{ArePlacesOf};
+
+    ghost Value = { List (List ℕ) };
+
+    ghost view = { λ table. map (λ text. text.now) table.texts.items };
+
+    ghost invariant = { λ table. ArePlacesOf (map (λ text. text.now) table.texts.items) table.places };
+}
+
+impl<'a> TextTable<'a> {
+    /// No texts yet. Takes no memory.
+    pub fn new(alloc: Global) -> TextTable<'a>
+        ensures { result ≡ [] }
+    {
+        TextTable {
+            places: HashMap::new(alloc),
+            texts: Vec::new(alloc),
+        }
+    }
+
+    /// The texts, in order.
+    pub fn texts(&self) -> &[&'a str]
+        ensures { map (λ text. text.now) result.now ≡ self.now }
+    {
+        let texts: &Vec<&'a str> = &self.texts;
+        texts.as_slice()
+    }
+
+    /// The place of a text; where it is missing, how many texts there are.
+    pub fn place_of(&self, text: &str) -> usize
+        ensures place { result ≡ place_in self.now text.now }
+        ensures fits { result < 2 ^ 63 }
+    {
+        let missing = self.texts().len();
+        self.places.get(text).copied().unwrap_or(missing)
+    }
+
+    /// The table with the text, which isn't added again where it is there.
+    pub fn with(self, text: &'a str) -> Result<TextTable<'a>, NoMemory>
+        ensures { IfOk result (λ table. table ≡ with_text self.entry text.now) }
+    {
+        if self.places.contains_key(text) {
+            return Ok(self);
+        }
+        let TextTable {
+            mut places,
+            mut texts,
+        } = self;
+        places.insert(text, texts.as_slice().len())?;
+        texts.push(text)?;
+        Ok(TextTable { places, texts })
+    }
+    /// The place of a text, which is added where it is missing.
+    pub fn place_with(&mut self, text: &'a str) -> Result<usize, NoMemory>
+        ensures texts { OnOk result (self.new ≡ with_text self.old text.now) }
+        ensures place { IfOk result (λ place. place ≡ place_in (with_text self.old text.now) text.now) }
+        ensures fits { IfOk result (λ place. place < 2 ^ 63) }
+    {
+        let place = self.place_of(text);
+        if place < self.texts().len() {
+            return Ok(place);
+        }
+        self.texts.push(text)?;
+        match self.places.insert(text, place) {
+            Ok(_) => Ok(place),
+            Err(_) => {
+                self.texts.pop();
+                Err(NoMemory)
+            }
+        }
+    }
+}

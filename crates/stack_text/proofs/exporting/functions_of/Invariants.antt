@@ -1,7 +1,0 @@
-use Rattle.std.proofs.Common.{◌≡◌, map, take}
-use Rattle.stack_text.specs.Export.{exported_function}
-use Rattle.stack_text.proofs.exporting.functions_of.Given as goal
-
--- the functions so far
-abbrev pub invariant-loop-name : goal.invariant-loop-name
-invariant-loop-name l = l.functions.items ≡ map (exported_function l.fn.names l.fn.strings) (take l.name-index l.fn.names)

@@ -1,7 +1,0 @@
-use Rattle.std.proofs.Common.{◌≡◌, map, take}
-use Rattle.stack_text.specs.Export.{exported_location}
-use Rattle.stack_text.proofs.exporting.locations_of.Given as goal
-
--- the locations so far
-abbrev pub invariant-loop-name : goal.invariant-loop-name
-invariant-loop-name l = l.locations.items ≡ map (exported_location l.fn.names) (take l.name-index l.fn.names)

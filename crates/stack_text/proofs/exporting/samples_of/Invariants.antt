@@ -1,7 +1,0 @@
-use Rattle.std.proofs.Common.{◌≡◌, map, take}
-use Rattle.stack_text.specs.Export.{exported_sample}
-use Rattle.stack_text.proofs.exporting.samples_of.Given as goal
-
--- the samples so far
-abbrev pub invariant-loop-row : goal.invariant-loop-row
-invariant-loop-row l = l.samples.items ≡ map (exported_sample l.fn.names) (take l.row-index l.fn.batch)

@@ -1,9 +1,0 @@
--- The next name is added.
-use Rattle.std.proofs.Common.{take}
-use Rattle.stack_text.proofs.TextPlaces.{next_text, next_with}
-use Rattle.stack_text.proofs.exporting.strings_of.Goals as goal
-
-pub loop-name-preserved : goal.loop-name-preserved
-loop-name-preserved c =
-    next_with _ c.loop-name.strings _ (take c.loop-name.name-index c.args.names.now) _ _ c.in_ok-strings-2.ensures c.loop-name.invariant
-    (next_text c.texts-name-items.result.now c.args.names.now c.loop-name.name-index c.texts-name-items.ensures c.loop-name-test.true)

@@ -1,8 +1,0 @@
-use Rattle.std.proofs.Common.{◌≡◌, All, take}
-use Rattle.stack_text.specs.Names.{IsName}
-use Rattle.stack_text.specs.TextTables.{with_texts}
-use Rattle.stack_text.proofs.exporting.with_names.Given as goal
-
--- the names so far are in the table, and can be names
-abbrev pub invariant-loop-name : goal.invariant-loop-name
-invariant-loop-name l = (l.table ≡ with_texts l.initial.table (take l.name-index l.fn.names)) × All IsName (take l.name-index l.fn.names)

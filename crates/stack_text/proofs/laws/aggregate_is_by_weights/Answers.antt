@@ -1,5 +1,0 @@
-use Rattle.stack_text.proofs.RowLaws.{aggregate_of-same}
-use Rattle.stack_text.proofs.laws.aggregate_is_by_weights.Goals as goal
-
-pub returns : goal.returns
-returns c = aggregate_of-same

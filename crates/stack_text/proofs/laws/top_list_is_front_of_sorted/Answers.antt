@@ -1,5 +1,0 @@
-use Rattle.stack_text.proofs.Ranking.{top_list_of-ranked}
-use Rattle.stack_text.proofs.laws.top_list_is_front_of_sorted.Goals as goal
-
-pub returns : goal.returns
-returns c = top_list_of-ranked

@@ -1,5 +1,0 @@
-use Rattle.stack_text.proofs.AnswerLaws.{top_list_of-same_aggregate}
-use Rattle.stack_text.proofs.laws.top_lists_are_by_the_aggregate.Goals as goal
-
-pub returns : goal.returns
-returns c = top_list_of-same_aggregate

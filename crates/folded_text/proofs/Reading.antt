@@ -1,7 +1,6 @@
 -- What a text is folded text of.
 use Rattle.std.proofs.Common.{◌≡◌, ◌≢◌, ℕ, ◌+◌, ◌^◌, ◌<◌, ◌≤◌, List, [], ◌∷◌, ◌++◌, length, map, refl, sym, ap, ◌∙◌, arith, lit<, subst, append_assoc, length-append}
 use Rattle.std.proofs.Math.ListN.{get_or-append}
-use Rattle.std.proofs.lemmas.Bool.{eqb-false}
 use Rattle.std.proofs.lemmas.List.{get_or_at, append-nil, nil_from_length}
 use Rattle.std.proofs.lemmas.List.Sums.{sum_by-cons, sum_by-append, sum_by_push}
 use Rattle.std.specs.Str.{IsUtf8}
@@ -12,7 +11,7 @@ use Rattle.folded_text.specs.declared.folded.FoldedFault.{FoldedFault}
 use Rattle.folded_text.specs.declared.folded.FoldedFault.TheVariants.{NotUtf8, NoCount, Count, Depth, Heavy, NoMemory}
 use Rattle.profile_rows.specs.Rows.{total_of}
 use Rattle.folded_text.specs.FoldedText.{HasCount, IsRowLine, AreRowLines, IsFoldedText, IsLineFault, IsFirstFault, IsFittingFault, frames_of}
-use Rattle.std.specs.Prelude.{◌==◌, false, Result, Ok, Err, MatchResult, All}
+use Rattle.std.specs.Prelude.{Result, Ok, Err, MatchResult, All}
 use Rattle.std.specs.declared.iter.Enumerate.{Enumerate}
 use Rattle.bstr.specs.Text.{lines_of, without_terminator}
 use Rattle.folded_text.proofs.Counts.{HasCount-same}

@@ -1,5 +1,5 @@
 -- Rows as folded text, which is folded text of these rows.
-use Rattle.std.proofs.Common.{◌≡◌, ℕ, ◌+◌, ◌-◌, ◌^◌, ◌<◌, ◌≤◌, false, cond, eqb, List, [], ◌∷◌, ◌++◌, length, get_or, take, map, filter, refl, sym, ap, ◌∙◌, subst, lit<, arith, append_assoc, length-append, ◌⊎◌, inl, inr}
+use Rattle.std.proofs.Common.{◌≡◌, ℕ, ◌+◌, ◌-◌, ◌^◌, ◌<◌, false, cond, eqb, List, [], ◌∷◌, ◌++◌, length, get_or, take, map, filter, refl, sym, ap, ◌∙◌, subst, lit<, arith, append_assoc, length-append, ◌⊎◌, inl, inr}
 use Rattle.std.specs.Prelude.{◌==◌, not}
 use Rattle.std.specs.List.{AllByRecursion, All, slice_split, join_with_byte}
 use Rattle.std.specs.Fmt.{decimal}
@@ -12,7 +12,6 @@ use Rattle.std.proofs.lemmas.List.Elements.{All-from_recursion, recursion_from_A
 use Rattle.std.proofs.lemmas.List.Splits.{slice_split_none, slice_split_at}
 use Rattle.std.proofs.lemmas.Str.{IsUtf8-append, IsUtf8-from_ascii, IsUtf8-nil}
 use Rattle.std.proofs.lemmas.List.{get_or-append_right, append-nil, flat_map_more, length-take-le, take_more}
-use Rattle.std.proofs.lemmas.List.Sums.{sum_by-cons}
 use Prim.Native.Nat.{zero, suc}
 use borrow.Author.Tests.{ne_eqb}
 use Rattle.profile_rows.specs.declared.batch.Row.{Row}

@@ -1,6 +1,6 @@
 -- Folded stacks as text, read and written (FlameGraph, the header comment of flamegraph.pl: one line for each stack, its frames
 -- from root to leaf separated by semicolons, then a space and a count). What reads it strictly is this project's choice.
-use Rattle.std.specs.Prelude.{ℕ, ◌≡◌, ◌⊎◌, ◌+◌, ◌^◌, ◌<◌, ◌≤◌, ◌==◌, All, List, [], ◌∷◌, ◌++◌, filter, length, not}
+use Rattle.std.specs.Prelude.{ℕ, ◌≡◌, ◌⊎◌, ◌+◌, ◌^◌, ◌<◌, ◌≤◌, ◌==◌, List, [], ◌∷◌, ◌++◌, filter, length, not}
 use Rattle.std.specs.List.{slice_split, flat_map, join_with_byte}
 use Rattle.std.specs.Fmt.{decimal}
 use Rattle.std.specs.Str.{IsUtf8}
@@ -9,7 +9,6 @@ use Rattle.std.specs.Str.Parse.{IsNumeral, digits_value}
 use Rattle.profile_rows.specs.declared.batch.Row.{Row}
 use Rattle.folded_text.specs.declared.folded.FoldedFault.{FoldedFault}
 use Rattle.folded_text.specs.declared.folded.FoldedFault.TheVariants.{NotUtf8, NoCount, Count, Depth, Heavy, NoMemory}
-use Rattle.profile_rows.specs.Names.{IsName}
 use Rattle.profile_rows.specs.Rows.{total_of}
 use Rattle.profile_rows.specs.Aggregate.{aggregate_of, rows_of}
 

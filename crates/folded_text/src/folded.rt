@@ -190,11 +190,7 @@ pub(crate) fn fitting_depth(
 /// # Errors
 ///
 /// The line's fault, under this number.
-pub fn read_line<'a>(
-    line: &'a [u8],
-    held: u64,
-    number: u64,
-) -> Result<Spelled<'a>, FoldedFault>
+pub fn read_line<'a>(line: &'a [u8], held: u64, number: u64) -> Result<Spelled<'a>, FoldedFault>
     requires { held < 2 ^ 63 }
     ensures spelled { IfOk result (λ found. IsUtf8 line.now × (held + found.weight < 2 ^ 63)
         × ((digits : List ℕ) × HasCount line.now found.stack.now digits × (found.weight ≡ digits_value 10 digits))

@@ -3,11 +3,11 @@
 
 mod folded;
 mod folded_sums;
-mod folded_totals;
 mod known_names;
+mod text_totals;
 mod written;
 
 pub use folded::{FoldedFault, Spelled, read_folded, read_line};
 pub use folded_sums::sum_folded;
-pub use folded_totals::folded_totals;
+pub use text_totals::folded_totals;
 pub use written::write_folded;

@@ -7,7 +7,7 @@ use Rattle.profile_rows.specs.TopList.{AreTotalsOf}
 use Rattle.folded_text.proofs.Counting.{only_totals}
 use Rattle.profile_rows.proofs.Cleaning.{filled}
 use Rattle.folded_text.proofs.Reading.{IsReadTo-begin, IsReadTo-row, IsReadTo-skip, IsReadTo-one_line, IsReadTo-fault, IsReadTo-end, IsFoldedText-same}
-use Rattle.folded_text.proofs.folded_totals.folded_totals.Goals as goal
+use Rattle.folded_text.proofs.text_totals.folded_totals.Goals as goal
 
 pub loop-index-init : goal.loop-index-init
 loop-index-init c = (
@@ -53,4 +53,4 @@ pub returns-clause-accepted : goal.returns-clause-accepted
 returns-clause-accepted c = λ all folded.
     let (rows, so_far, counted) = c.loop-index.invariant in
     let same : rows ≡ all = IsFoldedText-same c.args.text.now rows all (IsReadTo-end c.args.text.now _ _ rows so_far c.in-None.ensures.steps.0.0) folded in
-    subst (λ some. AreTotalsOf some c.in_ok-totals_of.field-0) same (c.in_ok-totals_of.ensures rows counted)
+    subst (λ some. AreTotalsOf some c.in_ok-totals.field-0) same (c.in_ok-totals.ensures rows counted)

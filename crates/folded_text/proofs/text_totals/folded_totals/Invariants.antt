@@ -2,7 +2,7 @@ use Rattle.std.specs.Prelude.{List}
 use Rattle.profile_rows.specs.declared.batch.Row.{Row}
 use Rattle.profile_rows.specs.Tallies.{AreTalliesOf}
 use Rattle.folded_text.proofs.Reading.{IsReadTo}
-use Rattle.folded_text.proofs.folded_totals.folded_totals.Given as goal
+use Rattle.folded_text.proofs.text_totals.folded_totals.Given as goal
 
 -- the lines so far spell the rows that are counted
 abbrev pub invariant-loop-index : goal.invariant-loop-index

@@ -5,7 +5,7 @@ use Rattle.std.proofs.lemmas.Result.{err_from_is_err_and}
 use denote.Ref.{Bor}
 use Rattle.folded_text.specs.FoldedText.{frames_of}
 use Rattle.folded_text.proofs.Reading.{IsLineFault-fitting, IsLineFault-memory}
-use Rattle.folded_text.proofs.folded_totals.count_line.Goals as goal
+use Rattle.folded_text.proofs.text_totals.count_line.Goals as goal
 
 pub returns-in_err-fitting_depth-clause-fault : goal.returns-in_err-fitting_depth-clause-fault
 returns-in_err-fitting_depth-clause-fault c =
@@ -30,10 +30,10 @@ returns-in_err-fitting-clause-fault c =
     let depth = long (frames_of c.in_ok-stack.stack.now) c.replace_by_text.new.frames.items c.len.result (search rules) c.in-Ok.ensures.texts in
     rw (p.1, p.2) (IsLineFault-fitting c.args.rows.now.total c.args.number c.args.line.now c.in_ok-stack.stack.now digits c.in_ok-stack.weight c.in_err-fitting.field-0.0 utf8 small count value (c.in_err-fitting.ensures.fault c.in_ok-stack.stack.now depth))
 
-pub returns-in_err-count_frames-clause-fault : goal.returns-in_err-count_frames-clause-fault
-returns-in_err-count_frames-clause-fault c =
+pub returns-in_err-count-clause-fault : goal.returns-in_err-count-clause-fault
+returns-in_err-count-clause-fault c =
     let (utf8, small, digits, count, value) = c.in_ok-stack.ensures.counted in
     let (most, fits) = c.in_ok-fitting.ensures.fits in
-    let p = err_from_is_err_and c.from_residual-in_err-count_frames.result c.from_residual-in_err-count_frames.ensures.1 in
+    let p = err_from_is_err_and c.from_residual-in_err-count.result c.from_residual-in_err-count.ensures.1 in
     let depth = long (frames_of c.in_ok-stack.stack.now) c.replace_by_text.new.frames.items c.len.result (search rules) c.in-Ok.ensures.texts in
     rw (p.1, p.2) (IsLineFault-memory c.args.rows.now.total c.args.rows.now.total c.args.number c.args.line.now c.in_ok-stack.stack.now digits c.len.result c.in_ok-stack.weight refl utf8 fits count value depth most)

@@ -7,7 +7,7 @@ use Rattle.std.proofs.lemmas.Iterator.Splits.{YieldsList-from_str_split}
 use denote.Ref.{Bor}
 use Rattle.folded_text.specs.FoldedText.{frames_of}
 use Rattle.folded_text.proofs.Frames.{frames_of-IsName}
-use Rattle.folded_text.proofs.folded_totals.replace_by_text.Goals as goal
+use Rattle.folded_text.proofs.text_totals.replace_by_text.Goals as goal
 
 pub loop-frame-preserved : goal.loop-frame-preserved
 loop-frame-preserved c =

@@ -15,8 +15,8 @@ use crate::layout::{Scale, rects_of};
 use crate::query::{Columns, Kind, Query, Rank};
 use crate::top::{kept_total, top_list, top_of_rows};
 use call_tree::{CallTree, Grower};
-use profile_rows::laws::sums_are_those_of_the_aggregate;
 use folded_text::write_folded;
+use profile_rows::laws::sums_are_those_of_the_aggregate;
 use profile_rows::{Batch, FrameTotals, MAX_TOTAL, NoMemory, Row};
 use std::alloc::Global;
 

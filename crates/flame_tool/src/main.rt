@@ -1,23 +1,13 @@
 //! The program `flame`: reads stacks from the standard input, and writes the report that its words ask for.
 //!
-//! `program::run` is the whole of it, over any reader and writer. What stands here only gives it the process's own.
+//! `flame_program::run` is the whole of it, over any reader and writer. What stands here only gives it the process's own.
 #![tactic(auto)]
 
-mod answers;
-mod command;
-mod help;
-mod options;
-mod outcomes;
-mod program;
-mod request;
-mod streams;
 #[cfg(test)]
 mod tests;
-mod words;
 
-use crate::outcomes::{Outcome, Status, ToolFault};
-use crate::program::run;
-use crate::streams::MAX_INPUT;
+use flame_answers::{MAX_INPUT, Outcome, Status, ToolFault};
+use flame_program::run;
 use std::alloc::{AllocError, Global};
 use std::io::ErrorKind;
 use std::process::ExitCode;

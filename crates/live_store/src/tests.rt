@@ -5,8 +5,8 @@ ghost use Rattle.std.specs.Prelude.{◌≡◌};
 
 use crate::{Blank, BookFault, Session, Store, StoreName};
 use flame_report::{Answer, Kind, Query};
-use op_book::Journal;
 use folded_text::read_folded;
+use op_book::Journal;
 use profile_rows::Batch;
 use std::alloc::Global;
 use std::marker::Brand;

@@ -1,7 +1,6 @@
 //! A reader and a writer that move few bytes at a time and then fail, and a run on given bytes.
-use crate::outcomes::Status;
-use crate::program::run;
-use crate::streams::MAX_INPUT;
+use flame_answers::{MAX_INPUT, Status};
+use flame_program::run;
 use std::alloc::{AllocError, Global};
 use std::io;
 use std::io::{ErrorKind, Read, Write};

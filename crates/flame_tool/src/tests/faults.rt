@@ -1,8 +1,7 @@
 //! The statuses other than 0, and what the program says of them.
 use super::fakes::{Dripping, Narrow, TOP, repeated, run_on};
-use crate::outcomes::Outcome;
-use crate::program::run;
-use crate::streams::MAX_INPUT;
+use flame_answers::{MAX_INPUT, Outcome};
+use flame_program::run;
 use std::test::Fail;
 
 const STORED: &[u8] = b"main;a;b 3\nmain;a 2\nmain;c 5\n";

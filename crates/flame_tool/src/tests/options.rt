@@ -1,6 +1,6 @@
 //! What the options change, worked by hand.
 use super::fakes::run_on;
-use crate::streams::MAX_INPUT;
+use flame_answers::MAX_INPUT;
 use std::test::Fail;
 
 const STORED: &[u8] = b"main;a;b 3\nmain;a 2\nmain;c 5\n";

@@ -1,6 +1,6 @@
 //! Reading and writing in parts.
 use super::fakes::{Dripping, Narrow, repeated};
-use crate::streams::{MAX_INPUT, ReadFault, read_input, write_text};
+use flame_answers::{MAX_INPUT, ReadFault, read_input, write_text};
 use std::test::Fail;
 
 // More than one read asks for.

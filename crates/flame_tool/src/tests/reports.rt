@@ -1,7 +1,7 @@
 //! The reports of `top` and of `fold`, worked by hand.
 use super::fakes::{Dripping, FOLD, Narrow, TOP, run_on};
-use crate::program::run;
-use crate::streams::MAX_INPUT;
+use flame_answers::MAX_INPUT;
+use flame_program::run;
 use std::test::Fail;
 
 const STORED: &[u8] = b"main;a;b 3\nmain;a 2\nmain;c 5\n";

@@ -1,0 +1,126 @@
+-- What faults of an input say, and the text of answers.
+use Rattle.std.proofs.Common.{◌≡◌, ◌≢◌, ℕ, List, refl, sym, ap, ◌∙◌, subst, inl, inr}
+use Rattle.std.specs.Prelude.{Option, Some, None, Result, Ok, Err, MatchResult}
+use Rattle.pprof_profile.specs.declared.faults.ProfileFault.{ProfileFault}
+use Rattle.pprof_profile.specs.declared.faults.ProfileFault.TheVariants as profile
+use Rattle.pprof_profile.specs.declared.messages.Draft.{Draft}
+use Rattle.pprof_profile.specs.Profiles.{IsProfile, IsProfileFault}
+use Rattle.profile_rows.specs.declared.batch.Row.{Row}
+use Rattle.folded_text.specs.declared.folded.FoldedFault.{FoldedFault}
+use Rattle.folded_text.specs.declared.folded.FoldedFault.TheVariants as folded
+use Rattle.profile_samples.specs.declared.sampling.BatchFault.{BatchFault}
+use Rattle.profile_samples.specs.declared.sampling.BatchFault.TheVariants as batch
+use Rattle.profile_samples.specs.declared.sampling.ValueChoice.{ValueChoice}
+use Rattle.profile_samples.specs.declared.sampling.ValueChoice.TheVariants.{Default, Named}
+use Rattle.folded_text.specs.FoldedText.{IsFirstFault, IsFoldedText, IsWorkFault}
+use Rattle.profile_samples.specs.Samples.{IsBatchOf, IsFirstBatchFault, chosen_type_of, type_named}
+use Rattle.profile_samples.specs.SampleSums.{IsSumOfBatch}
+use Rattle.folded_text.specs.TextSums.{IsSumOfText}
+use Rattle.flame_report.specs.Answers.{answer_by, kept_by}
+use Rattle.flame_report.specs.declared.query.Kind.{Kind}
+use Rattle.flame_report.specs.declared.query.Query.{Query}
+use Rattle.flame_answers.specs.declared.request.Request.TheVariants.{Report}
+use Rattle.flame_answers.specs.declared.request.Source.{Source}
+use Rattle.flame_answers.specs.declared.outcomes.ToolFault.{ToolFault}
+use Rattle.flame_answers.specs.declared.outcomes.ToolFault.TheVariants as tool
+use Rattle.flame_answers.specs.declared.request.Format.TheVariants.{Folded, Pprof}
+use Rattle.flame_answers.specs.Answers.{AreRowsIn, AreSumsIn, HasNoRows, IsAnswer, IsAnswerOfText, IsChoice, IsFaultIn, IsInputFault, IsRefusedIn, answer_text, batch_fault_of, folded_fault_of, profile_fault_of}
+
+-- ---- folded text
+
+refused_folded : (value : Option (List ℕ)) (input : List ℕ) (fault : FoldedFault) → IsFirstFault input fault → ((rows : List Row) → IsFoldedText input rows → fault ≡ folded.NoMemory)
+    → fault ≢ folded.NoMemory → (IsFirstFault input fault × (fault ≢ folded.NoMemory)) × HasNoRows Folded value input
+refused_folded value input fault first rows other = ((first, other), λ found this. other (rows found this))
+
+pub folded_refused : (value : Option (List ℕ)) (input : List ℕ) (fault : FoldedFault) → IsFirstFault input fault → ((rows : List Row) → IsFoldedText input rows → fault ≡ folded.NoMemory)
+    → IsRefusedIn Folded value input (folded_fault_of fault)
+folded_refused value input (folded.NotUtf8 line) first rows = refused_folded value input (folded.NotUtf8 line) first rows (λ e. cc)
+folded_refused value input (folded.NoCount line) first rows = refused_folded value input (folded.NoCount line) first rows (λ e. cc)
+folded_refused value input (folded.Count line) first rows = refused_folded value input (folded.Count line) first rows (λ e. cc)
+folded_refused value input (folded.Depth line) first rows = refused_folded value input (folded.Depth line) first rows (λ e. cc)
+folded_refused value input (folded.Heavy line) first rows = refused_folded value input (folded.Heavy line) first rows (λ e. cc)
+folded_refused value input folded.NoMemory first rows = tt
+
+-- what work on a text's rows ends without a result by
+pub work_refused : (value : Option (List ℕ)) (input : List ℕ) (fault : FoldedFault) → IsWorkFault input fault → ((rows : List Row) → IsFoldedText input rows → fault ≡ folded.NoMemory)
+    → IsRefusedIn Folded value input (folded_fault_of fault)
+work_refused value input fault (inl first) rows = folded_refused value input fault first rows
+work_refused value input fault (inr late) rows = subst (λ (f : FoldedFault). IsRefusedIn Folded value input (folded_fault_of f)) (sym late.0) tt
+
+-- a query that keeps every row of folded text is answered by all of them
+IsAnswer-of_text : (source : Source) (query : Query) (kind : Kind) (input text : List ℕ) → source.format ≡ Folded → query.kind ≡ kind → ((rows : List Row) → kept_by query rows ≡ rows)
+    → IsAnswerOfText input kind text → IsAnswer (Report source query) input text
+IsAnswer-of_text source query kind input text format asked keeps (rows, spelled, whole) = record {
+  rows = rows;
+  spelled = subst (λ f. AreRowsIn f source.value input rows) (sym format) spelled;
+  whole = whole ∙ ap (λ k. answer_text (answer_by k rows)) (sym asked) ∙ ap (λ kept. answer_text (answer_by query.kind kept)) (sym (keeps rows));
+}
+
+pub answered-of_text : {T : Type 0} (bytes : T → List ℕ) (source : Source) (query : Query) (kind : Kind) (input : List ℕ) (outcome : Result T ToolFault) → source.format ≡ Folded → query.kind ≡ kind
+    → ((rows : List Row) → kept_by query rows ≡ rows)
+    → ((value : Option (List ℕ)) → MatchResult outcome (λ text. IsAnswerOfText input kind (bytes text)) (λ fault. IsRefusedIn Folded value input fault))
+    → MatchResult outcome (λ text. IsAnswer (Report source query) input (bytes text)) (λ fault. IsInputFault (Report source query) input fault)
+answered-of_text bytes source query kind input (Ok text) format asked keeps answered = IsAnswer-of_text source query kind input (bytes text) format asked keeps (answered source.value)
+answered-of_text bytes source query kind input (Err fault) format asked keeps answered = subst (λ f. IsRefusedIn f source.value input fault) (sym format) (answered source.value)
+
+-- ---- profiles
+
+refused_profile : (value : Option (List ℕ)) (input : List ℕ) (fault : ProfileFault) → (fault ≢ profile.NoMemory → IsProfileFault input fault) → ((draft : Draft) → IsProfile input draft → fault ≡ profile.NoMemory)
+    → fault ≢ profile.NoMemory → (IsProfileFault input fault × (fault ≢ profile.NoMemory)) × HasNoRows Pprof value input
+refused_profile value input fault first drafts other = ((first other, other), λ rows this. other (drafts this.draft this.profile))
+
+pub profile_refused : (value : Option (List ℕ)) (input : List ℕ) (fault : ProfileFault) → (fault ≢ profile.NoMemory → IsProfileFault input fault) → ((draft : Draft) → IsProfile input draft → fault ≡ profile.NoMemory)
+    → IsRefusedIn Pprof value input (profile_fault_of fault)
+profile_refused value input profile.Gzip first drafts = refused_profile value input profile.Gzip first drafts (λ e. cc)
+profile_refused value input (profile.Wire fault) first drafts = refused_profile value input (profile.Wire fault) first drafts (λ e. cc)
+profile_refused value input profile.NotUtf8 first drafts = refused_profile value input profile.NotUtf8 first drafts (λ e. cc)
+profile_refused value input profile.NoStrings first drafts = refused_profile value input profile.NoStrings first drafts (λ e. cc)
+profile_refused value input profile.FirstString first drafts = refused_profile value input profile.FirstString first drafts (λ e. cc)
+profile_refused value input profile.StringIndex first drafts = refused_profile value input profile.StringIndex first drafts (λ e. cc)
+profile_refused value input profile.ZeroId first drafts = refused_profile value input profile.ZeroId first drafts (λ e. cc)
+profile_refused value input profile.DoubleId first drafts = refused_profile value input profile.DoubleId first drafts (λ e. cc)
+profile_refused value input profile.NoLocation first drafts = refused_profile value input profile.NoLocation first drafts (λ e. cc)
+profile_refused value input profile.NoMapping first drafts = refused_profile value input profile.NoMapping first drafts (λ e. cc)
+profile_refused value input profile.NoFunction first drafts = refused_profile value input profile.NoFunction first drafts (λ e. cc)
+profile_refused value input profile.ValueCount first drafts = refused_profile value input profile.ValueCount first drafts (λ e. cc)
+profile_refused value input profile.NoMemory first drafts = tt
+
+-- ---- samples
+
+-- a choice is by its text alone
+same_choice : (draft : Draft) (value : Option (List ℕ)) (one other : ValueChoice) → IsChoice value one → IsChoice value other → chosen_type_of draft one ≡ chosen_type_of draft other
+same_choice draft None Default Default a b = refl
+same_choice draft None Default (Named text) a b = absurd b
+same_choice draft None (Named text) other a b = absurd a
+same_choice draft (Some value) Default other a b = absurd a
+same_choice draft (Some value) (Named text) Default a b = absurd b
+same_choice draft (Some value) (Named text) (Named also) a b = ap (type_named draft) (a ∙ sym b)
+
+same_rows : (draft : Draft) (value : Option (List ℕ)) (one other : ValueChoice) (rows : List Row) → IsChoice value one → IsChoice value other → IsBatchOf draft one rows → IsBatchOf draft other rows
+same_rows draft value one other rows a b this =
+    record { chosen = this.chosen; is_chosen = sym (same_choice draft value one other a b) ∙ this.is_chosen; rows_samples = this.rows_samples; total_fits = this.total_fits }
+
+refused_batch : (value : Option (List ℕ)) (input : List ℕ) (draft : Draft) (choice : ValueChoice) (fault : BatchFault) → IsProfile input draft → ((other : Draft) → IsProfile input other → draft ≡ other)
+    → IsChoice value choice → IsFirstBatchFault draft choice fault → ((rows : List Row) → IsBatchOf draft choice rows → fault ≡ batch.NoMemory) → fault ≢ batch.NoMemory
+    → IsFaultIn Pprof value input (tool.Batch fault) × HasNoRows Pprof value input
+refused_batch value input draft choice fault is only chosen first rows other = (
+  (record { draft = draft; profile = is; choice = choice; chosen = chosen; first = first }, other),
+  λ found this. other (rows found (same_rows draft value this.choice choice found this.chosen chosen (subst (λ d. IsBatchOf d this.choice found) (sym (only this.draft this.profile)) this.sampled))),
+)
+
+pub batch_refused : (value : Option (List ℕ)) (input : List ℕ) (draft : Draft) (choice : ValueChoice) (fault : BatchFault) → IsProfile input draft → ((other : Draft) → IsProfile input other → draft ≡ other)
+    → IsChoice value choice → IsFirstBatchFault draft choice fault → ((rows : List Row) → IsBatchOf draft choice rows → fault ≡ batch.NoMemory) → IsRefusedIn Pprof value input (batch_fault_of fault)
+batch_refused value input draft choice batch.NoValue is only chosen first rows = refused_batch value input draft choice batch.NoValue is only chosen first rows (λ e. cc)
+batch_refused value input draft choice (batch.Negative at) is only chosen first rows = refused_batch value input draft choice (batch.Negative at) is only chosen first rows (λ e. cc)
+batch_refused value input draft choice (batch.Depth at) is only chosen first rows = refused_batch value input draft choice (batch.Depth at) is only chosen first rows (λ e. cc)
+batch_refused value input draft choice (batch.Heavy at) is only chosen first rows = refused_batch value input draft choice (batch.Heavy at) is only chosen first rows (λ e. cc)
+batch_refused value input draft choice batch.NoMemory is only chosen first rows = tt
+
+-- the sums of a batch are sums of the input
+pub AreSumsIn-batch : (value : Option (List ℕ)) (input : List ℕ) (draft : Draft) (choice : ValueChoice) (sums : List Row) → IsProfile input draft → IsChoice value choice → IsSumOfBatch draft choice sums
+    → AreSumsIn Pprof value input sums
+AreSumsIn-batch value input draft choice sums is chosen this =
+    record { rows = this.rows; spelled = record { draft = draft; profile = is; choice = choice; chosen = chosen; sampled = this.sampled }; same = this.same }
+
+pub AreSumsIn-text : (value : Option (List ℕ)) (input : List ℕ) (sums : List Row) → IsSumOfText input sums → AreSumsIn Folded value input sums
+AreSumsIn-text value input sums this = record { rows = this.rows; spelled = this.folded; same = this.same }

@@ -1,0 +1,165 @@
+-- What an input answers to a request.
+use Rattle.std.specs.Prelude.{ℕ, ◌≡◌, ◌≢◌, ⊤, List, [], ◌∷◌, ◌++◌, Option, Some, None, map}
+use Rattle.std.specs.Fmt.{decimal}
+use Rattle.pprof_profile.specs.declared.faults.ProfileFault.{ProfileFault}
+use Rattle.pprof_profile.specs.declared.faults.ProfileFault.TheVariants as profile
+use Rattle.pprof_profile.specs.declared.messages.Draft.{Draft}
+use Rattle.pprof_profile.specs.Profiles.{IsProfile, IsProfileFault}
+use Rattle.profile_rows.specs.declared.batch.Row.{Row}
+use Rattle.folded_text.specs.declared.folded.FoldedFault.{FoldedFault}
+use Rattle.folded_text.specs.declared.folded.FoldedFault.TheVariants as folded
+use Rattle.profile_samples.specs.declared.sampling.BatchFault.{BatchFault}
+use Rattle.profile_samples.specs.declared.sampling.BatchFault.TheVariants as batch
+use Rattle.profile_samples.specs.declared.sampling.ValueChoice.{ValueChoice}
+use Rattle.profile_samples.specs.declared.sampling.ValueChoice.TheVariants.{Default, Named}
+use Rattle.profile_rows.specs.Aggregate.{aggregate_of}
+use Rattle.pprof_profile.specs.Canonical.{canonical_bytes_of}
+use Rattle.profile_samples.specs.Export.{exported_profile_of}
+use Rattle.folded_text.specs.FoldedText.{IsFirstFault, IsFoldedText}
+use Rattle.profile_samples.specs.Samples.{IsBatchOf, IsFirstBatchFault}
+use Rattle.profile_rows.specs.TopList.{top_text_of}
+use Rattle.flame_report.specs.declared.answer.Answer.{Answer}
+use Rattle.flame_report.specs.declared.answer.Answer.TheVariants as answer
+use Rattle.flame_report.specs.Answers.{answer_by, answer_of, sums_in}
+use Rattle.flame_report.specs.declared.query.Kind.{Kind}
+use Rattle.flame_report.specs.Json.{flame_json_of}
+use Rattle.flame_answers.specs.declared.outcomes.ToolFault.{ToolFault}
+use Rattle.flame_answers.specs.declared.outcomes.ToolFault.TheVariants as tool
+use Rattle.flame_answers.specs.declared.request.Format.{Format}
+use Rattle.flame_answers.specs.declared.request.Format.TheVariants.{Folded, Pprof}
+use Rattle.flame_answers.specs.declared.request.Request.{Request}
+use Rattle.flame_answers.specs.declared.request.Request.TheVariants.{Report, Export}
+
+-- ---- the rows of an input
+
+-- the choice of a value that the option `--value` makes
+abbrev pub IsChoice : Option (List ℕ) → ValueChoice → Type 0
+IsChoice None Default = ⊤
+IsChoice None (Named text) = ⊥
+IsChoice (Some value) Default = ⊥
+IsChoice (Some value) (Named text) = text.now ≡ value
+
+-- the rows of the samples of the profile that bytes are
+pub record AreProfileRows (value : Option (List ℕ)) (input : List ℕ) (rows : List Row) : Type 0 where
+  pub draft : Draft
+  pub profile : IsProfile input draft
+  pub choice : ValueChoice
+  pub chosen : IsChoice value choice
+  pub sampled : IsBatchOf draft choice rows
+
+-- the rows of an input of a format
+abbrev pub AreRowsIn : Format → Option (List ℕ) → List ℕ → List Row → Type 0
+AreRowsIn Folded value input rows = IsFoldedText input rows
+AreRowsIn Pprof value input rows = AreProfileRows value input rows
+
+-- how a request reads its input
+abbrev pub format_for : Request → Format
+format_for (Report source query) = source.format
+format_for (Export kind unit) = Folded
+
+abbrev pub value_for : Request → Option (List ℕ)
+value_for (Report source query) = source.value
+value_for (Export kind unit) = None
+
+-- ---- the text of an answer
+
+abbrev pub answer_text : Answer → List ℕ
+answer_text (answer.Total total) = decimal total ++ 10 ∷ []
+answer_text (answer.Top top) = top_text_of top.total (map sums_in top.rows)
+answer_text (answer.Flame flame) = flame_json_of flame ++ 10 ∷ []
+answer_text (answer.Folded text) = text
+
+-- what a request wants of rows
+abbrev pub output_of : Request → List Row → List ℕ
+output_of (Report source query) rows = answer_text (answer_of rows query)
+output_of (Export kind unit) rows = canonical_bytes_of (exported_profile_of rows kind unit)
+
+-- the text is what the request wants of the rows of the input
+pub record IsAnswer (request : Request) (input text : List ℕ) : Type 0 where
+  pub rows : List Row
+  pub spelled : AreRowsIn (format_for request) (value_for request) input rows
+  pub whole : text ≡ output_of request rows
+
+-- the text is what all rows of folded text answer to a question
+abbrev pub IsAnswerOfText : List ℕ → Kind → List ℕ → Type 0
+IsAnswerOfText input kind text = (rows : List Row) × IsFoldedText input rows × (text ≡ answer_text (answer_by kind rows))
+
+-- ---- inputs without rows
+
+-- why a profile has no rows
+pub record HasBatchFault (value : Option (List ℕ)) (input : List ℕ) (fault : BatchFault) : Type 0 where
+  pub draft : Draft
+  pub profile : IsProfile input draft
+  pub choice : ValueChoice
+  pub chosen : IsChoice value choice
+  pub first : IsFirstBatchFault draft choice fault
+
+-- the first fault of an input of a format
+abbrev pub IsFaultIn : Format → Option (List ℕ) → List ℕ → ToolFault → Type 0
+IsFaultIn Folded value input (tool.Folded fault) = IsFirstFault input fault × (fault ≢ folded.NoMemory)
+IsFaultIn Pprof value input (tool.Profile fault) = IsProfileFault input fault × (fault ≢ profile.NoMemory)
+IsFaultIn Pprof value input (tool.Batch fault) = HasBatchFault value input fault × (fault ≢ batch.NoMemory)
+IsFaultIn Folded value input (tool.Profile fault) = ⊥
+IsFaultIn Folded value input (tool.Batch fault) = ⊥
+IsFaultIn Pprof value input (tool.Folded fault) = ⊥
+IsFaultIn format value input tool.Name = ⊥
+IsFaultIn format value input tool.Read = ⊥
+IsFaultIn format value input tool.Write = ⊥
+IsFaultIn format value input tool.TooLong = ⊥
+IsFaultIn format value input tool.NoMemory = ⊥
+
+-- an input of a format without rows
+abbrev pub HasNoRows : Format → Option (List ℕ) → List ℕ → Type 0
+HasNoRows format value input = (rows : List Row) → AreRowsIn format value input rows → ⊥
+
+-- what keeps an input of a format from having rows: its first fault, or want of memory, which claims nothing
+abbrev pub IsRefusedIn : Format → Option (List ℕ) → List ℕ → ToolFault → Type 0
+IsRefusedIn format value input (tool.Folded fault) = IsFaultIn format value input (tool.Folded fault) × HasNoRows format value input
+IsRefusedIn format value input (tool.Profile fault) = IsFaultIn format value input (tool.Profile fault) × HasNoRows format value input
+IsRefusedIn format value input (tool.Batch fault) = IsFaultIn format value input (tool.Batch fault) × HasNoRows format value input
+IsRefusedIn format value input tool.Name = ⊥
+IsRefusedIn format value input tool.Read = ⊥
+IsRefusedIn format value input tool.Write = ⊥
+IsRefusedIn format value input tool.TooLong = ⊥
+IsRefusedIn format value input tool.NoMemory = ⊤
+
+-- what keeps an input from an answer
+abbrev pub IsInputFault : Request → List ℕ → ToolFault → Type 0
+IsInputFault request input fault = IsRefusedIn (format_for request) (value_for request) input fault
+
+-- rows that add up to those of an input
+pub record AreSumsIn (format : Format) (value : Option (List ℕ)) (input : List ℕ) (sums : List Row) : Type 0 where
+  pub rows : List Row
+  pub spelled : AreRowsIn format value input rows
+  pub same : aggregate_of sums ≡ aggregate_of rows
+
+-- want of memory is one fault, wherever it comes
+abbrev pub folded_fault_of : FoldedFault → ToolFault
+folded_fault_of (folded.NotUtf8 line) = tool.Folded (folded.NotUtf8 line)
+folded_fault_of (folded.NoCount line) = tool.Folded (folded.NoCount line)
+folded_fault_of (folded.Count line) = tool.Folded (folded.Count line)
+folded_fault_of (folded.Depth line) = tool.Folded (folded.Depth line)
+folded_fault_of (folded.Heavy line) = tool.Folded (folded.Heavy line)
+folded_fault_of folded.NoMemory = tool.NoMemory
+
+abbrev pub profile_fault_of : ProfileFault → ToolFault
+profile_fault_of profile.Gzip = tool.Profile profile.Gzip
+profile_fault_of (profile.Wire fault) = tool.Profile (profile.Wire fault)
+profile_fault_of profile.NotUtf8 = tool.Profile profile.NotUtf8
+profile_fault_of profile.NoStrings = tool.Profile profile.NoStrings
+profile_fault_of profile.FirstString = tool.Profile profile.FirstString
+profile_fault_of profile.StringIndex = tool.Profile profile.StringIndex
+profile_fault_of profile.ZeroId = tool.Profile profile.ZeroId
+profile_fault_of profile.DoubleId = tool.Profile profile.DoubleId
+profile_fault_of profile.NoLocation = tool.Profile profile.NoLocation
+profile_fault_of profile.NoMapping = tool.Profile profile.NoMapping
+profile_fault_of profile.NoFunction = tool.Profile profile.NoFunction
+profile_fault_of profile.ValueCount = tool.Profile profile.ValueCount
+profile_fault_of profile.NoMemory = tool.NoMemory
+
+abbrev pub batch_fault_of : BatchFault → ToolFault
+batch_fault_of batch.NoValue = tool.Batch batch.NoValue
+batch_fault_of (batch.Negative sample) = tool.Batch (batch.Negative sample)
+batch_fault_of (batch.Depth sample) = tool.Batch (batch.Depth sample)
+batch_fault_of (batch.Heavy sample) = tool.Batch (batch.Heavy sample)
+batch_fault_of batch.NoMemory = tool.NoMemory

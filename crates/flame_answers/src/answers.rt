@@ -1,0 +1,187 @@
+//! What an input answers to a request.
+ghost use Rattle.std.specs.Prelude.{ℕ, ◌≡◌, ◌∷◌, ◌++◌, [], List, MatchResult, IfOk, Option};
+ghost use Rattle.profile_rows.specs.declared.batch.Row.{Row};
+ghost use Rattle.flame_report.specs.Answers.{answer_of};
+ghost use Rattle.flame_report.specs.declared.query.Kind.TheVariants.{Top};
+ghost use Rattle.flame_answers.specs.Answers.{AreSumsIn, IsAnswer, IsAnswerOfText, IsChoice, IsInputFault, IsRefusedIn, answer_text, batch_fault_of, folded_fault_of, profile_fault_of};
+ghost use Rattle.flame_answers.specs.declared.request.Format.TheVariants.{Folded, Pprof};
+ghost use Rattle.flame_answers.specs.declared.request.Request.TheVariants.{Report, Export};
+
+use crate::outcomes::ToolFault;
+use crate::request::{Format, Request, Source};
+use flame_report::laws::answers_are_by_the_aggregate;
+use flame_report::{Answer, Kind, Query, Rank, flame_json, report_of, top_list, top_text};
+use folded_text::{FoldedFault, folded_totals, sum_folded};
+use pprof_profile::{ProfileFault, Text, decode};
+use profile_rows::{Batch, NoMemory};
+use profile_samples::{BatchFault, ValueChoice, export_folded, sum_samples};
+use std::alloc::Global;
+
+/// The whole text that is written for an input.
+///
+/// # Errors
+///
+/// The first fault of an input that has no rows for the request; `NoMemory`.
+pub fn answer(alloc: Global, request: &Request, input: &[u8]) -> Result<Vec<u8>, ToolFault>
+    ensures { MatchResult result
+        (λ text. IsAnswer request.now input.now text.items)
+        (λ fault. IsInputFault request.now input.now fault) }
+{
+    match request {
+        Request::Report { source, query } => report_on(alloc, source, query, input),
+        Request::Export { kind, unit } => export(alloc, kind, unit, input),
+    }
+}
+
+/// The text of a report on an input.
+fn report_on(
+    alloc: Global,
+    source: &Source,
+    query: &Query,
+    input: &[u8],
+) -> Result<Vec<u8>, ToolFault>
+    ensures { MatchResult result
+        (λ text. IsAnswer (Report source.now query.now) input.now text.items)
+        (λ fault. IsInputFault (Report source.now query.now) input.now fault) }
+{
+    match (source.format, query.kind) {
+        (Format::Folded, Kind::Top { rank, count }) if query.keeps_all() => {
+            folded_top(alloc, rank, count, input)
+        }
+        _ => {
+            let sums = sums_in(alloc, source, input)?;
+            answers_are_by_the_aggregate();
+            Ok(report_text(alloc, &sums, query)?)
+        }
+    }
+}
+
+/// The text of the top list of folded text's rows, which aren't kept for it.
+fn folded_top(alloc: Global, rank: Rank, count: u32, input: &[u8]) -> Result<Vec<u8>, ToolFault>
+    ensures { (value : Option (List ℕ)) → MatchResult result
+        (λ text. IsAnswerOfText input.now (Top rank count) text.items)
+        (λ fault. IsRefusedIn Folded value input.now fault) }
+{
+    let totals = match folded_totals(alloc, input) {
+        Ok(totals) => totals,
+        Err(fault) => return Err(folded_fault(fault)),
+    };
+    let top = top_list(alloc, totals, rank, count)?;
+    Ok(top_text(alloc, &top)?)
+}
+
+/// The bytes of the profile that folded text is exported as.
+fn export(alloc: Global, kind: &Text, unit: &Text, input: &[u8]) -> Result<Vec<u8>, ToolFault>
+    ensures { MatchResult result
+        (λ bytes. IsAnswer (Export kind.now unit.now) input.now bytes.items)
+        (λ fault. IsInputFault (Export kind.now unit.now) input.now fault) }
+{
+    match export_folded(alloc, input, kind.as_str(), unit.as_str()) {
+        Ok(bytes) => Ok(bytes),
+        Err(found) => Err(folded_fault(found)),
+    }
+}
+
+/// Rows that add up to those of the input.
+fn sums_in(alloc: Global, source: &Source, input: &[u8]) -> Result<Batch, ToolFault>
+    ensures { MatchResult result
+        (λ sums. AreSumsIn source.now.format source.now.value input.now sums)
+        (λ fault. IsRefusedIn source.now.format source.now.value input.now fault) }
+{
+    match source.format {
+        Format::Folded => folded_sums(alloc, input),
+        Format::Pprof => profile_sums(alloc, &source.value, input),
+    }
+}
+
+/// Rows that add up to those of folded text.
+fn folded_sums(alloc: Global, input: &[u8]) -> Result<Batch, ToolFault>
+    ensures { (value : Option (List ℕ)) → MatchResult result
+        (λ sums. AreSumsIn Folded value input.now sums)
+        (λ fault. IsRefusedIn Folded value input.now fault) }
+{
+    match sum_folded(alloc, input) {
+        Ok(sums) => Ok(sums),
+        Err(fault) => Err(folded_fault(fault)),
+    }
+}
+
+/// Rows that add up to those of a profile's samples.
+fn profile_sums(alloc: Global, value: &Option<Text>, input: &[u8]) -> Result<Batch, ToolFault>
+    ensures { MatchResult result
+        (λ sums. AreSumsIn Pprof value.now input.now sums)
+        (λ fault. IsRefusedIn Pprof value.now input.now fault) }
+{
+    let profile = match decode(alloc, input) {
+        Ok(profile) => profile,
+        Err(fault) => return Err(profile_fault(fault)),
+    };
+    match sum_samples(alloc, &profile, choice_of(value)) {
+        Ok(sums) => Ok(sums),
+        Err(fault) => Err(batch_fault(fault)),
+    }
+}
+
+/// The choice of a value.
+fn choice_of<'a>(value: &'a Option<Text>) -> ValueChoice<'a>
+    ensures { IsChoice value.entry.now result }
+{
+    match value {
+        Some(text) => ValueChoice::Named(text.as_str()),
+        None => ValueChoice::Default,
+    }
+}
+
+/// The text of the answer to a query over the rows.
+fn report_text(alloc: Global, rows: &Batch, query: &Query) -> Result<Vec<u8>, NoMemory>
+    ensures { IfOk result (λ text. text.items ≡ answer_text (answer_of rows.now query.now)) }
+{
+    let answer = report_of(alloc, rows, query)?;
+    text_of(alloc, answer)
+}
+
+/// The text of an answer.
+fn text_of(alloc: Global, answer: Answer) -> Result<Vec<u8>, NoMemory>
+    ensures { IfOk result (λ text. text.items ≡ answer_text answer) }
+{
+    match answer {
+        Answer::Total(total) => Ok(format!(in alloc; "{total}\n")?.into_bytes()),
+        Answer::Top(top) => top_text(alloc, &top),
+        Answer::Flame(flame) => {
+            let mut text = flame_json(alloc, &flame)?.into_bytes();
+            text.push(b'\n')?;
+            Ok(text)
+        }
+        Answer::Folded(text) => Ok(text.into_vec()),
+    }
+}
+
+// The program's fault for one of folded text: want of memory is one for all.
+fn folded_fault(fault: FoldedFault) -> ToolFault
+    ensures { result ≡ folded_fault_of fault }
+{
+    match fault {
+        FoldedFault::NoMemory => ToolFault::NoMemory,
+        _ => ToolFault::Folded(fault),
+    }
+}
+
+// The program's fault for one of a profile.
+fn profile_fault(fault: ProfileFault) -> ToolFault
+    ensures { result ≡ profile_fault_of fault }
+{
+    match fault {
+        ProfileFault::NoMemory => ToolFault::NoMemory,
+        _ => ToolFault::Profile(fault),
+    }
+}
+
+// The program's fault for one of a profile's samples.
+fn batch_fault(fault: BatchFault) -> ToolFault
+    ensures { result ≡ batch_fault_of fault }
+{
+    match fault {
+        BatchFault::NoMemory => ToolFault::NoMemory,
+        _ => ToolFault::Batch(fault),
+    }
+}

@@ -1,0 +1,12 @@
+//! What the program does once its words are read: a request, an input within a limit, the text that answers it, and how a run ends.
+#![tactic(auto)]
+
+mod answers;
+mod outcomes;
+mod request;
+mod streams;
+
+pub use answers::answer;
+pub use outcomes::{Outcome, Status, ToolFault};
+pub use request::{Format, Request, Source};
+pub use streams::{MAX_INPUT, ReadFault, WriteFault, read_input, write_text};

@@ -1,0 +1,109 @@
+//! How a run ends, and why.
+ghost use Rattle.std.specs.Prelude.{◌≡◌};
+ghost use Rattle.flame_answers.specs.Outcomes.{code_of};
+
+use folded_text::FoldedFault;
+use pprof_profile::ProfileFault;
+use profile_rows::NoMemory;
+use profile_samples::BatchFault;
+use std::fmt;
+use thiserror::Error;
+
+/// A fault that ends the program. Its `Display` is what the program says of it.
+#[derive(Clone, Copy, Debug, PartialEq, Eq, Error)]
+pub enum ToolFault {
+    /// The input isn't folded text.
+    #[error("{0}")]
+    Folded(FoldedFault),
+    /// The input is no profile.
+    #[error("{0}")]
+    Profile(ProfileFault),
+    /// The profile's samples give no rows.
+    #[error("{0}")]
+    Batch(BatchFault),
+    /// A focus or an ignored name can't be a name.
+    #[error("C1 Name")]
+    Name,
+    /// A read failed.
+    #[error("E1 Read")]
+    Read,
+    /// A write or a flush failed, or a write took no byte.
+    #[error("E2 Write")]
+    Write,
+    /// The input has more bytes than the limit.
+    #[error("E3 TooLong")]
+    TooLong,
+    /// Memory ran out.
+    #[error("E4 NoMemory")]
+    NoMemory,
+}
+
+impl From<NoMemory> for ToolFault {
+    ghost use Rattle.std.specs.Prelude.{◌≡◌};
+    ghost use Rattle.flame_answers.specs.declared.outcomes.ToolFault.TheVariants.{NoMemory};
+
+    ghost from_gives = { λ _ fault. fault ≡ NoMemory };
+
+    fn from(_error: NoMemory) -> ToolFault {
+        ToolFault::NoMemory
+    }
+}
+
+/// How a run ended.
+#[derive(Debug, Drop)]
+pub enum Outcome {
+    /// The text was written whole.
+    Done,
+    /// The words were refused, or ask for help: the text for the user.
+    Words(String),
+    /// A fault.
+    Fault(ToolFault),
+}
+
+/// The end of a run: the process's exit status, and its cause.
+#[derive(Debug, Drop)]
+pub struct Status {
+    pub code: u8,
+    pub cause: Outcome,
+}
+
+/// What the program says of its end on the standard error: nothing where it is done.
+impl fmt::Display for Outcome {
+    fn fmt<W: fmt::Write>(&self, f: &mut fmt::Formatter<W>) -> fmt::Result {
+        match self {
+            Outcome::Done => Ok(()),
+            Outcome::Words(text) => f.write_str(text.as_str()),
+            Outcome::Fault(fault) => writeln!(f, "flame: {fault}"),
+        }
+    }
+}
+
+impl Status {
+    /// The status of this cause: 0 done, 1 input refused, 2 words refused or help, 3 read or write, 4 memory.
+    pub fn of(cause: Outcome) -> Status
+        ensures cause { result.cause ≡ cause }
+        ensures code { result.code ≡ code_of cause }
+    {
+        let code = cause.code();
+        Status { code, cause }
+    }
+}
+
+impl Outcome {
+    fn code(&self) -> u8
+        ensures { result ≡ code_of self.now }
+    {
+        match self {
+            Outcome::Done => 0,
+            Outcome::Fault(
+                ToolFault::Folded(_)
+                | ToolFault::Profile(_)
+                | ToolFault::Batch(_)
+                | ToolFault::TooLong,
+            ) => 1,
+            Outcome::Words(_) | Outcome::Fault(ToolFault::Name) => 2,
+            Outcome::Fault(ToolFault::Read | ToolFault::Write) => 3,
+            Outcome::Fault(ToolFault::NoMemory) => 4,
+        }
+    }
+}

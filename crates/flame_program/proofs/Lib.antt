@@ -1,0 +1,4 @@
+pub mod CommandLine
+pub mod Deciding
+pub mod Endings
+pub mod OptionTexts

@@ -1,0 +1,116 @@
+//! The whole program over any reader and writer.
+ghost use Rattle.std.specs.Prelude.{◌≡◌, ◌≢◌, ◌+◌, ◌≤◌, ◌↔◌, ◌⊎◌, List, ℕ, Some, None, IfSome};
+ghost use Rattle.std.specs.Io.KnownBytes.{Keeps};
+ghost use Rattle.flame_answers.specs.Parts.{TakesAtMost};
+ghost use Rattle.flame_program.specs.Program.{EndsBy, IsAccepted, IsCut, IsDone, IsEnd, read_fault_of, unasked_outcome_of};
+ghost use Rattle.flame_program.specs.Words.{IsMisnamed, IsRefused, request_of, texts_of};
+ghost use Rattle.flame_answers.specs.declared.request.Request.{Request};
+
+use crate::words::{WordsFault, read_words};
+use flame_answers::{
+    MAX_INPUT, Outcome, ReadFault, Request, Status, ToolFault, answer, read_input, write_text,
+};
+use std::alloc::Global;
+use std::io::{Read, Write};
+
+/// Reads the words, then the whole input, and writes the whole report on it.
+///
+/// The first word is the program's name. At most `limit` bytes of input are taken, and one more shows that it is too long.
+/// Nothing is written before the whole text is made.
+pub fn run<'a, R: Read, W: Write>(
+    alloc: Global,
+    words: &'a [&'a str],
+    reader: &mut R,
+    writer: &mut W,
+    limit: usize,
+) -> Status
+    requires { limit ≤ MAX_INPUT }
+    // The code is the cause's, and the cause says what was read and what was written.
+    ensures ends { IsEnd (texts_of words.entry.now) limit (R.remaining reader.old) (R.remaining reader.new)
+        (W.contents writer.old) (W.contents writer.new) result.code result.cause }
+    // At 0 the input was read to its end, and exactly the report on the rows that it spells was appended.
+    ensures done { result.code ≡ 0 → IsDone (texts_of words.entry.now) limit (R.remaining reader.old) (R.remaining reader.new)
+        (W.contents writer.old) (W.contents writer.new) }
+    // Where the words ask for something, the input alone decides, but where the streams or memory failed.
+    ensures decided { IfSome (R.remaining reader.old) (λ input. (request : Request) → request_of (texts_of words.entry.now) ≡ Some request
+        → result.code ≢ 3 → result.code ≢ 4
+        → ((result.code ≡ 0) ↔ IsAccepted request limit input) × ((result.code ≡ 1) ↔ ¬ IsAccepted request limit input)) }
+    // Words that ask for nothing end with 2, want of memory aside, and no others do.
+    ensures refused { result.code ≡ 2 → IsRefused (texts_of words.entry.now) ⊎ IsMisnamed (texts_of words.entry.now) }
+    ensures unasked { request_of (texts_of words.entry.now) ≡ None → result.code ≢ 4 → result.code ≡ 2 }
+    // Nothing is written, but at 0 and at a fault of writing: then a beginning of the report.
+    ensures silent { result.code ≢ 0 → result.cause ≢ Outcome.Fault ToolFault.Write
+        → Keeps (W.contents writer.old) (W.contents writer.new) }
+    ensures cut { result.cause ≡ Outcome.Fault ToolFault.Write → IsCut (texts_of words.entry.now) limit
+        (R.remaining reader.old) (R.remaining reader.new) (W.contents writer.old) (W.contents writer.new) }
+    ensures reads_at_most { TakesAtMost (limit + 1) (R.remaining reader.old) (R.remaining reader.new) }
+{
+    Status::of(outcome_of(alloc, words, reader, writer, limit))
+}
+
+// How the run ends.
+fn outcome_of<'a, R: Read, W: Write>(
+    alloc: Global,
+    words: &'a [&'a str],
+    reader: &mut R,
+    writer: &mut W,
+    limit: usize,
+) -> Outcome
+    requires { limit ≤ MAX_INPUT }
+    ensures { EndsBy (texts_of words.entry.now) limit (R.remaining reader.old) (R.remaining reader.new)
+        (W.contents writer.old) (W.contents writer.new) result }
+{
+    match read_words(alloc, words) {
+        Ok(request) => respond(alloc, request, reader, writer, limit),
+        Err(fault) => unasked(fault),
+    }
+}
+
+// How a run ends whose words ask for nothing.
+fn unasked(fault: WordsFault) -> Outcome
+    ensures { result ≡ unasked_outcome_of fault }
+{
+    match fault {
+        WordsFault::Refused(text) => Outcome::Words(text),
+        WordsFault::BadName => Outcome::Fault(ToolFault::Name),
+        WordsFault::NoMemory => Outcome::Fault(ToolFault::NoMemory),
+    }
+}
+
+// Reads the input, makes the text, and writes it.
+fn respond<R: Read, W: Write>(
+    alloc: Global,
+    request: Request,
+    reader: &mut R,
+    writer: &mut W,
+    limit: usize,
+) -> Outcome
+    requires { limit ≤ MAX_INPUT }
+    ensures { (words : List (List ℕ)) → request_of words ≡ Some request
+        → EndsBy words limit (R.remaining reader.old) (R.remaining reader.new)
+        (W.contents writer.old) (W.contents writer.new) result }
+{
+    let input = match read_input(alloc, reader, limit) {
+        Ok(input) => input,
+        Err(fault) => return Outcome::Fault(read_fault(fault)),
+    };
+    let text = match answer(alloc, &request, input.as_slice()) {
+        Ok(text) => text,
+        Err(fault) => return Outcome::Fault(fault),
+    };
+    match write_text(writer, text.as_slice()) {
+        Ok(()) => Outcome::Done,
+        Err(_) => Outcome::Fault(ToolFault::Write),
+    }
+}
+
+// The program's fault for one of reading.
+fn read_fault(fault: ReadFault) -> ToolFault
+    ensures { result ≡ read_fault_of fault }
+{
+    match fault {
+        ReadFault::Read => ToolFault::Read,
+        ReadFault::TooLong => ToolFault::TooLong,
+        ReadFault::NoMemory => ToolFault::NoMemory,
+    }
+}

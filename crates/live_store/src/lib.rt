@@ -6,8 +6,6 @@ mod desk;
 mod fault;
 mod session;
 mod store;
-#[cfg(test)]
-mod tests;
 
 pub use blank::{Blank, MAX_SESSIONS};
 pub use fault::{MakeFault, Refused, SessionFault};

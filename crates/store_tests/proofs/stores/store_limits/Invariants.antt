@@ -1,4 +1,4 @@
-use Rattle.live_store.proofs.tests.store_limits.Given as goal
+use Rattle.store_tests.proofs.stores.store_limits.Given as goal
 
 abbrev pub ghosts-refused : goal.ghosts-refused
 ghosts-refused g a = record { limit = a.blank.limit; sessions = a.blank.sessions }

@@ -3,11 +3,10 @@
 
 ghost use Rattle.std.specs.Prelude.{◌≡◌};
 
-use crate::{Blank, BookFault, Session, Store, StoreName};
 use flame_report::{Answer, Kind, Query};
-use folded_text::read_folded;
+use live_store::{Blank, BookFault, Session, Store, StoreName};
 use op_book::Journal;
-use profile_rows::Batch;
+use stack_text::{Batch, read_folded};
 use std::alloc::Global;
 use std::marker::Brand;
 use std::sync::{Arc, Wait};

@@ -1,0 +1,5 @@
+//! Tests of the libraries of journals and stores: what no clause says of them.
+#![tactic(auto)]
+
+#[cfg(test)]
+mod stores;

@@ -115,6 +115,7 @@ pub fn command<'a>(alloc: Global) -> Result<Command<'a>, AllocError>
     ensures { IfOk result (λ command. app_of command ≡ program_app) }
 {
     Command::new(alloc, "flame")
+        .bin_name("flame")?
         .about(help::ABOUT)
         .subcommand_required(true)
         .subcommand(top_command(alloc)?)?

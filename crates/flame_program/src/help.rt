@@ -12,7 +12,7 @@ pub const ABOUT_FOLD: &str = "Adds up equal stacks";
 pub const ABOUT_PROTO: &str = "Writes folded stacks as a pprof profile";
 
 pub const FORMAT: &str =
-    "How the input is written: folded (stacks, as collapse scripts write them) or pprof (profile.proto, unpacked) [default: folded]";
+    "How the input is written: folded (stacks, as collapse scripts write them) or pprof (profile.proto, unpacked: gunzip -c cpu.pb.gz | flame top --format pprof)";
 
 pub const VALUE: &str =
     "The sample type of a pprof profile whose values are the weights, by its name, such as cpu or alloc_space; without it the profile's own choice";
@@ -22,15 +22,15 @@ pub const FOCUS: &str = "Keep only stacks that have a frame of exactly this name
 pub const IGNORE: &str = "Leave out stacks that have a frame of exactly this name";
 
 pub const BY: &str =
-    "What the names are ordered by: flat (the weight of stacks that end with the name) or cum (of stacks that contain it) [default: flat]";
+    "What the names are ordered by: flat (the weight of stacks that end with the name) or cum (of stacks that contain it)";
 
-pub const COUNT: &str = "How many names are listed at most [default: 20]";
+pub const COUNT: &str = "How many names are listed at most";
 
-pub const COLUMNS: &str = "How many columns the whole graph takes, 1 to 65535 [default: 100]";
+pub const COLUMNS: &str = "How many columns the whole graph takes, 1 to 65535";
 
-pub const KIND: &str = "The name of the profile's sample type [default: samples]";
+pub const KIND: &str = "The name of the profile's sample type";
 
-pub const UNIT: &str = "The unit of the profile's sample type [default: count]";
+pub const UNIT: &str = "The unit of the profile's sample type";
 
 pub const AFTER_TOP: &str = "\
 The first line of output has the total. Each line after it has the flat weight of a name (the

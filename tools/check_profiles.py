@@ -237,8 +237,8 @@ def own_answer(data):
 
 
 def vectors():
-    """The byte lists that the crate's tests name, read from their text."""
-    text = (TOP / "crates/pprof_profile/src/tests.rt").read_text()
+    """The byte lists that the tests of messages name, read from their text."""
+    text = (TOP / "crates/library_tests/src/messages.rt").read_text()
     for body in re.findall(r"const [A-Z_]+: &\[u8\] = &\[(.*?)\];", text, re.DOTALL):
         yield bytes(int(byte, 16) for byte in re.findall(r"0x([0-9a-f]{2})", body))
 

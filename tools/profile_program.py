@@ -11,7 +11,8 @@ import subprocess
 import sys
 import tempfile
 
-CRATES = """pprof_wire: thiserror
+CRATES = """no_memory: thiserror
+pprof_wire: no_memory thiserror
 pprof_profile: pprof_wire thiserror
 profile_answers: pprof_profile
 """
@@ -71,9 +72,9 @@ def unframed(output):
 
 
 def built(root):
-    """The program, in a repository of its own with the two crates and what earlier checks of them kept."""
+    """The program, in a repository of its own with the three crates and what earlier checks of them kept."""
     top = pathlib.Path(__file__).resolve().parent.parent
-    for crate in ["pprof_wire", "pprof_profile"]:
+    for crate in ["no_memory", "pprof_wire", "pprof_profile"]:
         shutil.copytree(top / "crates" / crate, root / "crates" / crate)
     program = root / "crates/profile_answers"
     (program / "src").mkdir(parents=True)

@@ -1,11 +1,11 @@
 //! What no clause says: that calls succeed with ample memory, with values from the format's description.
 
 use crate::messages::{INLINED_AND_BARE_LOCATIONS, ONE_SAMPLE};
-use pprof_profile::decode;
+use pprof_profile::{decode, encode};
 use stack_text::{
     Batch, FoldedFault, FrameTotals, MAX_DEPTH, MAX_TOTAL, Name, NameFault, PushFault, Row, Stack,
-    ValueChoice, aggregate, batch_of, export_folded, folded_totals, kept_totals, read_folded,
-    unfold, write_folded,
+    ValueChoice, aggregate, batch_of, export_folded, folded_totals, kept_totals, profile_of,
+    read_folded, sum_folded, sum_samples, unfold, write_folded,
 };
 use std::alloc::{AllocError, Global};
 use std::test::Fail;
@@ -158,6 +158,52 @@ fn an_aggregate_has_each_stack_once(rt: HostRuntime) -> Result<(), Fail> {
 fn folded_text_is_exported_as_a_profile(rt: HostRuntime) -> Result<(), Fail> {
     let bytes = export_folded(rt.alloc(), b"f 7\n", "cpu", "ns")?;
     assert!(rt; bytes.as_slice() == ONE_SAMPLE);
+    Ok(())
+}
+
+// The same sample, from a batch.
+#[test]
+fn a_batch_is_exported_as_a_profile(rt: HostRuntime) -> Result<(), Fail> {
+    let alloc = rt.alloc();
+    let batch = read_folded(alloc, b"f 7\n").ok().ok_or("refused")?;
+    let profile = profile_of(alloc, &batch, "cpu", "ns")
+        .ok()
+        .ok_or("no memory")?;
+    let bytes = encode(alloc, &profile).ok().ok_or("no memory")?;
+    assert!(rt; bytes.as_slice() == ONE_SAMPLE);
+    Ok(())
+}
+
+#[test]
+fn lines_of_one_stack_are_merged(rt: HostRuntime) -> Result<(), Fail> {
+    let alloc = rt.alloc();
+    let sums = sum_folded(alloc, b"a;b 1\nc 2\na;b 3\n")
+        .ok()
+        .ok_or("refused")?;
+    let text = write_folded(alloc, &sums).ok().ok_or("no memory")?;
+    assert!(rt; text.as_slice() == b"a;b 4\nc 2\n".as_slice());
+    Ok(())
+}
+
+#[test]
+fn samples_are_merged_to_rows(rt: HostRuntime) -> Result<(), Fail> {
+    let alloc = rt.alloc();
+    let profile = decode(alloc, INLINED_AND_BARE_LOCATIONS)
+        .ok()
+        .ok_or("refused")?;
+    let sums = sum_samples(alloc, &profile, ValueChoice::Default)
+        .ok()
+        .ok_or("refused")?;
+    let text = write_folded(alloc, &sums).ok().ok_or("no memory")?;
+    assert!(rt; text.as_slice() == b"0xff;c;b;a 2\n".as_slice());
+    Ok(())
+}
+
+#[test]
+fn texts_of_profiles_are_cleaned(rt: HostRuntime) -> Result<(), Fail> {
+    let name = Name::clean(rt.alloc(), "a;b\nc").ok().ok_or("no memory")?;
+    let name = name.ok_or("no name")?;
+    assert_eq!(rt; name.text(), "a:b c");
     Ok(())
 }
 

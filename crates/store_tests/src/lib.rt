@@ -2,4 +2,6 @@
 #![tactic(auto)]
 
 #[cfg(test)]
+mod books;
+#[cfg(test)]
 mod stores;

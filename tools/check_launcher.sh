@@ -19,13 +19,13 @@ run() {
     status=$?
 }
 
-# Says whether the last run ended as it must: with this status, this report, and a line on standard error that the
-# pattern finds.
+# Says whether the last run ended as it must: with this status, this report, and, if one is given, a line that the
+# pattern finds on standard error.
 judge() {
     local name=$1 why=
     [ "$status" = "$2" ] || why+=" status $status and not $2;"
     cmp -s "$work/report" "$3" || why+=" another report;"
-    grep -qE "$4" "$work/said" || why+=" no line on standard error like $4;"
+    [ -z "$4" ] || grep -qE "$4" "$work/said" || why+=" no line on standard error like $4;"
     if [ -z "$why" ]; then
         echo "ok      $kind: $name"
     else

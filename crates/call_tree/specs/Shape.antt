@@ -52,9 +52,12 @@ pub record IsTree (names : List (List ℕ)) (nodes : List Node) : Type 0 where
   pub rooted : 0 < length nodes
   pub root : (at nodes 0).counts ≡ false
   pub links : (k : ℕ) → 0 < k → k < length nodes → ((at nodes k).parent < k) × ((at nodes k).name < length names)
-  pub counts : (k : ℕ) → 0 < k → k < length nodes → (at nodes k).counts ≡ not (has_name (name_at names (at nodes k).name) (stack_at (node_rows names nodes) (at nodes k).parent))
+  pub counts : (k : ℕ) → 0 < k → k < length nodes
+      → (at nodes k).counts
+      ≡ not (has_name (name_at names (at nodes k).name) (stack_at (node_rows names nodes) (at nodes k).parent))
   pub deep : (k : ℕ) → k < length nodes → length (stack_at (node_rows names nodes) k) ≤ 65535
-  pub apart : (i j : ℕ) → i < length nodes → j < length nodes → stack_at (node_rows names nodes) i ≡ stack_at (node_rows names nodes) j → i ≡ j
+  pub apart : (i j : ℕ) → i < length nodes → j < length nodes
+      → stack_at (node_rows names nodes) i ≡ stack_at (node_rows names nodes) j → i ≡ j
   pub unlike : (i j : ℕ) → i < length names → j < length names → name_at names i ≡ name_at names j → i ≡ j
   pub sums : (name : List ℕ) → counted_total names nodes name ≡ cumulative_weight_of (node_rows names nodes) name
   pub whole : (at nodes 0).total ≡ total_of (node_rows names nodes)

@@ -34,7 +34,8 @@ has_weight row = nat_lt 0 row.weight
 
 -- the nodes after one more weight at a node
 abbrev pub credited : List Row → ℕ → ℕ → List Row
-credited nodes at weight = slice_set nodes at (record { stack = stack_at nodes at; weight = (node_at nodes at).weight + weight })
+credited nodes at weight =
+    slice_set nodes at (record { stack = stack_at nodes at; weight = (node_at nodes at).weight + weight })
 
 -- a node and a name that make up a stack
 pub record HasParent (tree : TreeState) (stack : List (List ℕ)) (name : List ℕ) : Type 0 where
@@ -45,13 +46,17 @@ pub record HasParent (tree : TreeState) (stack : List (List ℕ)) (name : List �
   pub parent_stack : stack_at tree.nodes parent ≡ stack
   pub name_is : name_at tree.names number ≡ name
 
--- what every tree keeps true: the root has the empty stack, no two nodes have one stack and no two numbers one name, and a node's parent is a node
+-- what every tree keeps true: the root has the empty stack, no two nodes have one stack and no two numbers one name,
+-- and a node's parent is a node
 pub record IsState (tree : TreeState) : Type 0 where
   pub rooted : 0 < length tree.nodes
   pub root : stack_at tree.nodes 0 ≡ []
-  pub apart : (i j : ℕ) → i < length tree.nodes → j < length tree.nodes → stack_at tree.nodes i ≡ stack_at tree.nodes j → i ≡ j
-  pub unlike : (i j : ℕ) → i < length tree.names → j < length tree.names → name_at tree.names i ≡ name_at tree.names j → i ≡ j
-  pub closed : (k : ℕ) (stack : List (List ℕ)) (name : List ℕ) → k < length tree.nodes → stack_at tree.nodes k ≡ stack ++ name ∷ [] → HasParent tree stack name
+  pub apart : (i j : ℕ) → i < length tree.nodes → j < length tree.nodes → stack_at tree.nodes i ≡ stack_at tree.nodes j
+      → i ≡ j
+  pub unlike : (i j : ℕ) → i < length tree.names → j < length tree.names → name_at tree.names i ≡ name_at tree.names j
+      → i ≡ j
+  pub closed : (k : ℕ) (stack : List (List ℕ)) (name : List ℕ) → k < length tree.nodes
+      → stack_at tree.nodes k ≡ stack ++ name ∷ [] → HasParent tree stack name
   pub fits : total_of tree.nodes < 2 ^ 63
 
 -- the tree after some more names and some more nodes of weight 0
@@ -88,4 +93,5 @@ pub record IsFresh (tree : TreeState) (parent name : ℕ) (counts : Bool) : Type
   pub name_lt : name < length tree.names
   pub counted : counts ≡ not (has_name (name_at tree.names name) (stack_at tree.nodes parent))
   pub deep : length (stack_at tree.nodes parent) < 65535
-  pub fresh : (k : ℕ) → k < length tree.nodes → stack_at tree.nodes k ≡ stack_at tree.nodes parent ++ name_at tree.names name ∷ [] → ⊥
+  pub fresh : (k : ℕ) → k < length tree.nodes
+      → stack_at tree.nodes k ≡ stack_at tree.nodes parent ++ name_at tree.names name ∷ [] → ⊥

@@ -24,7 +24,8 @@ struct Credit {
     weight: u64,
 }
 
-/// A batch for which a [`Grower`] has made room. It remembers the grower as it was then, and serves it as long as it is so.
+/// A batch for which a [`Grower`] has made room. It remembers the grower as it was then, and serves it as long as it is
+/// so.
 #[derive(Drop)]
 pub struct Plan {
     credits: Vec<Credit>,
@@ -75,7 +76,8 @@ impl Grower {
         &self.tree
     }
 
-    /// Adds the rows of a plan, which this grower made as it is now: no plan and no credit changed it since. Takes no memory.
+    /// Adds the rows of a plan, which this grower made as it is now: no plan and no credit changed it since. Takes no
+    /// memory.
     pub fn credit(&mut self, plan: Plan)
         requires { plan.before ≡ self.old }
         ensures { weights_of self.new ≡ with_rows (weights_of self.old) plan.rows }
@@ -107,8 +109,8 @@ impl Grower {
         })
     }
 
-    /// Makes room for the rows of a batch, whose total and the tree's are together at most [`profile_rows::MAX_TOTAL`]. Each
-    /// stack keeps its weight, also where the plan is refused.
+    /// Makes room for the rows of a batch, whose total and the tree's are together at most [`profile_rows::MAX_TOTAL`].
+    /// Each stack keeps its weight, also where the plan is refused.
     ///
     /// # Errors
     ///
@@ -150,7 +152,8 @@ impl Grower {
 
     /// The node of a stack, with new nodes of weight 0 where there are none.
     fn grow(&mut self, stack: &Stack, walk: &mut Walk) -> Result<u32, NoMemory>
-        ensures node { IfOk result (λ node. (node < length self.new.nodes) × (stack_at self.new.nodes node ≡ stack.now)) }
+        ensures node { IfOk result
+            (λ node. (node < length self.new.nodes) × (stack_at self.new.nodes node ≡ stack.now)) }
         ensures grown { IsGrown self.old self.new }
     {
         walk.start();
@@ -210,7 +213,8 @@ impl Grower {
 
     /// The number of a name, a new one where it has none.
     fn intern(&mut self, name: &Name) -> Result<u32, NoMemory>
-        ensures number { IfOk result (λ number. (number < length self.new.names) × (name_at self.new.names number ≡ name.now)) }
+        ensures number { IfOk result
+            (λ number. (number < length self.new.names) × (name_at self.new.names number ≡ name.now)) }
         ensures grown { IsGrown self.old self.new }
         ensures nodes { self.new.nodes ≡ self.old.nodes }
     {
@@ -223,7 +227,8 @@ impl Grower {
     /// A name that has no number yet, with the next one. Nothing is changed where memory runs out.
     fn add_name(&mut self, name: &Name) -> Result<u32, NoMemory>
         requires { (k : ℕ) → k < length self.old.names → name_at self.old.names k ≡ name.now → ⊥ }
-        ensures number { IfOk result (λ number. (number < length self.new.names) × (name_at self.new.names number ≡ name.now)) }
+        ensures number { IfOk result
+            (λ number. (number < length self.new.names) × (name_at self.new.names number ≡ name.now)) }
         ensures grown { IsGrown self.old self.new }
         ensures nodes { self.new.nodes ≡ self.old.nodes }
     {

@@ -1,5 +1,5 @@
-//! A tree of the stacks of a profile with their weights, which grows by batches: a plan makes room for a batch, and a credit
-//! adds it without taking memory.
+//! A tree of the stacks of a profile with their weights, which grows by batches: a plan makes room for a batch, and a
+//! credit adds it without taking memory.
 #![tactic(auto)]
 
 mod grower;

@@ -19,7 +19,8 @@ struct Sums {
     cum: u64,
 }
 
-/// Stacks with their weights. What the calls answer depends on the weights of the stacks alone, not on how the tree grew.
+/// Stacks with their weights. What the calls answer depends on the weights of the stacks alone, not on how the tree
+/// grew.
 #[derive(Drop)]
 pub struct CallTree {
     names: Table<Name>,
@@ -90,7 +91,10 @@ impl CallTree {
     ) -> Result<(), AllocError>
         requires { IsFresh self.old parent name counts }
         ensures ok { OnOk result ((self.new.names ≡ self.old.names)
-            × (self.new.nodes ≡ self.old.nodes ++ (record { stack = stack_at self.old.nodes parent ++ name_at self.old.names name ∷ []; weight = 0 }) ∷ [])) }
+            × (self.new.nodes ≡ self.old.nodes ++ (record {
+                stack = stack_at self.old.nodes parent ++ name_at self.old.names name ∷ [];
+                weight = 0;
+            }) ∷ [])) }
         ensures err { OnErr result (self.new ≡ self.old) }
     {
         self.nodes.append(Node {
@@ -105,7 +109,8 @@ impl CallTree {
 
     /// The number of the name, where the node `child` stands below `parent` by that name.
     pub(crate) fn number_below(&self, parent: u32, child: u32, name: &Name) -> Option<u32>
-        ensures { IfSome result (λ number. IsChild self.now parent number child × (name_at self.now.names number ≡ name.now)) }
+        ensures { IfSome result
+            (λ number. IsChild self.now parent number child × (name_at self.now.names number ≡ name.now)) }
     {
         if child == 0 || child as usize >= self.nodes.len() {
             return None;
@@ -118,7 +123,8 @@ impl CallTree {
         }
     }
 
-    /// The weight of exactly this stack, 0 where it has none. One pass over the nodes, since a node stands after its parent.
+    /// The weight of exactly this stack, 0 where it has none. One pass over the nodes, since a node stands after its
+    /// parent.
     pub fn self_weight(&self, stack: &Stack) -> u64
         ensures { result ≡ weight_in (weights_of self.now) stack.now }
     {

@@ -6,8 +6,8 @@ ghost use Rattle.std.specs.List.{list_any};
 use std::alloc::{AllocError, Global};
 use std::marker::Model;
 
-/// The name numbers on this walk so far, as a sparse set that is emptied, asked and added to in one step each, and the nodes
-/// that the walks before went through.
+/// The name numbers on this walk so far, as a sparse set that is emptied, asked and added to in one step each, and the
+/// nodes that the walks before went through.
 #[derive(Drop)]
 pub struct Walk {
     /// Where a name may stand in `names`; any number for one that doesn't.
@@ -25,7 +25,8 @@ impl Model for Walk {
     ghost view = { λ w. w.names.items };
 
     ghost invariant = { λ w. (k : ℕ) → k < length w.names.items
-        → (slice_index w.names.items k < length w.places.items) × (slice_index w.places.items (slice_index w.names.items k) ≡ k) };
+        → (slice_index w.names.items k < length w.places.items)
+        × (slice_index w.places.items (slice_index w.names.items k) ≡ k) };
 }
 
 impl Walk {
@@ -65,7 +66,8 @@ impl Walk {
         Ok(false)
     }
 
-    /// The node where a walk before went at this depth, or the root. Whether it serves this walk is for the caller to see.
+    /// The node where a walk before went at this depth, or the root. Whether it serves this walk is for the caller to
+    /// see.
     pub fn guess(&self, depth: usize) -> u32 {
         match self.nodes.get(depth) {
             Some(node) => *node,

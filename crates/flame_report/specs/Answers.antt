@@ -31,7 +31,8 @@ abbrev pub sums_in : TopRow → NameSums
 sums_in row = record { name = row.name; flat = row.flat; cumulative = row.cum }
 
 abbrev pub top_of : Rank → ℕ → List Row → Top
-top_of rank count rows = record { total = total_of rows; rows = map top_row_of (top_list_of (ranking_of rank) count rows) }
+top_of rank count rows =
+    record { total = total_of rows; rows = map top_row_of (top_list_of (ranking_of rank) count rows) }
 
 -- a rectangle, as an answer has it
 abbrev pub rect_of : Rectangle → Rect
@@ -45,7 +46,8 @@ rect_of rectangle = record {
 }
 
 abbrev pub flame_of : ℕ → List Row → Flame
-flame_of columns rows = record { total = total_of rows; columns = columns; rects = map rect_of (rectangles_of columns rows) }
+flame_of columns rows =
+    record { total = total_of rows; columns = columns; rects = map rect_of (rectangles_of columns rows) }
 
 -- what is asked for, of these rows
 abbrev pub answer_by : Kind → List Row → Answer

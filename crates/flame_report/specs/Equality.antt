@@ -29,13 +29,15 @@ kind_eq kind.Folded kind.Folded = true
 kind_eq a b = false
 
 abbrev pub query_eq : Query → Query → Bool
-query_eq a b = option_eq is_same_name a.focus b.focus && option_eq is_same_name a.ignore b.ignore && kind_eq a.kind b.kind
+query_eq a b = option_eq is_same_name a.focus b.focus && option_eq is_same_name a.ignore b.ignore
+    && kind_eq a.kind b.kind
 
 abbrev pub top_row_eq : TopRow → TopRow → Bool
 top_row_eq a b = is_same_name a.name b.name && (a.flat == b.flat) && (a.cum == b.cum)
 
 abbrev pub rect_eq : Rect → Rect → Bool
-rect_eq a b = (a.depth == b.depth) && is_same_name a.name b.name && (a.x == b.x) && (a.weight == b.weight) && (a.left == b.left) && (a.right == b.right)
+rect_eq a b = (a.depth == b.depth) && is_same_name a.name b.name && (a.x == b.x) && (a.weight == b.weight)
+    && (a.left == b.left) && (a.right == b.right)
 
 abbrev pub top_eq : Top → Top → Bool
 top_eq a b = (a.total == b.total) && pointwise top_row_eq a.rows b.rows

@@ -44,7 +44,8 @@ held_weight rows n path = weight_where (λ stack. begins_with name_cmp stack pat
 abbrev pub AreHeld : List ℕ → List Row → ℕ → Type 0
 AreHeld held rows zero = ⊤
 AreHeld held rows (suc n) = (length held ≡ length (stack_at rows n) + 1)
-    × ((e : ℕ) → e ≤ length (stack_at rows n) → slice_index_or held e 0 ≡ held_weight rows (suc n) (take e (stack_at rows n)))
+    × ((e : ℕ) → e ≤ length (stack_at rows n)
+    → slice_index_or held e 0 ≡ held_weight rows (suc n) (take e (stack_at rows n)))
 
 -- the paths of the rows before an index, each where it first comes
 abbrev pub paths_until : List Row → ℕ → List (List (List ℕ))
@@ -57,4 +58,5 @@ shown_of columns rows paths = filter is_shown (map (rectangle_at columns rows) p
 
 -- where a rectangle stands
 abbrev pub span_of : Rectangle → Span
-span_of rectangle = record { start = rectangle.start; weight = rectangle.weight; left = rectangle.left; right = rectangle.right }
+span_of rectangle =
+    record { start = rectangle.start; weight = rectangle.weight; left = rectangle.left; right = rectangle.right }

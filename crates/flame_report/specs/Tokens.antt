@@ -12,12 +12,15 @@ member_token name count = key name ∷ number (decimal count) ∷ []
 
 abbrev pub rect_tokens : Rect → List Token
 rect_tokens rect = begin_object ∷ (member_token (codes "depth") rect.depth ++ (member_token (codes "left") rect.left
-    ++ (key (codes "name") ∷ string rect.name ∷ (member_token (codes "right") rect.right ++ (member_token (codes "weight") rect.weight
+    ++ (key (codes "name") ∷ string rect.name ∷ (member_token (codes "right") rect.right
+    ++ (member_token (codes "weight") rect.weight
     ++ (member_token (codes "x") rect.x ++ end_object ∷ []))))))
 
 abbrev pub rects_tokens : List Rect → List Token
 rects_tokens rects = flat_map rect_tokens rects
 
 abbrev pub flame_tokens : Flame → List Token
-flame_tokens flame = begin_object ∷ (member_token (codes "columns") flame.columns ++ (key (codes "rects") ∷ begin_array ∷ (rects_tokens flame.rects
+flame_tokens flame =
+    begin_object ∷ (member_token (codes "columns") flame.columns
+    ++ (key (codes "rects") ∷ begin_array ∷ (rects_tokens flame.rects
     ++ (end_array ∷ (member_token (codes "total") flame.total ++ end_object ∷ [])))))

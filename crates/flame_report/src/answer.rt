@@ -1,3 +1,5 @@
+//! Answers: totals, top lists, layouts of rectangles and folded text.
+
 ghost use Rattle.std.specs.Prelude.{◌≡◌, ◌↔◌, [], IfOk, IsTrue};
 
 use crate::items::Items;

@@ -1,3 +1,5 @@
+//! A list that answers hold, which can be compared.
+
 ghost use Rattle.std.specs.Prelude.{◌≡◌};
 
 use std::marker::Model;

@@ -71,8 +71,8 @@ fn text_of(bytes: Vec<u8>) -> Result<String, NoMemory>
     text.map_err(|_| NoMemory)
 }
 
-/// A layout as JSON without white space: an object of `columns`, `rects` and `total`, and each rectangle an object of `depth`,
-/// `left`, `name`, `right`, `weight` and `x`, in this order. The text doesn't end with a line feed.
+/// A layout as JSON without white space: an object of `columns`, `rects` and `total`, and each rectangle an object of
+/// `depth`, `left`, `name`, `right`, `weight` and `x`, in this order. The text doesn't end with a line feed.
 ///
 /// # Errors
 ///

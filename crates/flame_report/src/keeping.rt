@@ -1,3 +1,5 @@
+//! Which rows a query keeps.
+
 ghost use Rattle.std.specs.Prelude.{◌≡◌, ◌↔◌, IsNone, IsTrue, List};
 ghost use Rattle.profile_rows.specs.declared.batch.Row.{Row};
 ghost use Rattle.flame_report.specs.Answers.{kept_by};

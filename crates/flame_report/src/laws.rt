@@ -11,31 +11,38 @@ ghost use Rattle.profile_rows.specs.Names.{name_cmp};
 ghost use Rattle.profile_rows.specs.Paths.{path_start, path_weight};
 ghost use Rattle.profile_rows.specs.Rows.{total_of, weight_of};
 
-/// The children of a path stand side by side, in the order of their names: the first starts where the path does, and each other
-/// where the one before it ends. Between two neighbours no name has weight.
+/// The children of a path stand side by side, in the order of their names: the first starts where the path does, and
+/// each other where the one before it ends. Between two neighbours no name has weight.
 pub fn siblings_meet()
     ensures first { (rows : List Row) (path : List (List ℕ)) (child : List ℕ)
         → ((name : List ℕ) → name_cmp name child ≡ Less → path_weight rows (path ++ name ∷ []) ≡ 0)
         → path_start rows (path ++ child ∷ []) ≡ path_start rows path }
     ensures next { (rows : List Row) (path : List (List ℕ)) (child following : List ℕ) → name_cmp child following ≡ Less
-        → ((name : List ℕ) → name_cmp child name ≡ Less → name_cmp name following ≡ Less → path_weight rows (path ++ name ∷ []) ≡ 0)
-        → path_start rows (path ++ following ∷ []) ≡ path_start rows (path ++ child ∷ []) + path_weight rows (path ++ child ∷ []) }
+        → ((name : List ℕ) → name_cmp child name ≡ Less → name_cmp name following ≡ Less
+        → path_weight rows (path ++ name ∷ []) ≡ 0)
+        → path_start rows (path ++ following ∷ [])
+        ≡ path_start rows (path ++ child ∷ []) + path_weight rows (path ++ child ∷ []) }
 {}
 
-/// Behind the last child of a path there is the path's own weight, and nothing else; a path without children is its own weight.
+/// Behind the last child of a path there is the path's own weight, and nothing else; a path without children is its own
+/// weight.
 pub fn own_weight_lies_right()
     ensures last { (rows : List Row) (path : List (List ℕ)) (child : List ℕ)
         → ((name : List ℕ) → name_cmp child name ≡ Less → path_weight rows (path ++ name ∷ []) ≡ 0)
-        → path_start rows (path ++ child ∷ []) + path_weight rows (path ++ child ∷ []) + weight_of rows path ≡ path_start rows path + path_weight rows path }
-    ensures alone { (rows : List Row) (path : List (List ℕ)) → ((name : List ℕ) → path_weight rows (path ++ name ∷ []) ≡ 0)
+        → path_start rows (path ++ child ∷ []) + path_weight rows (path ++ child ∷ []) + weight_of rows path
+        ≡ path_start rows path + path_weight rows path }
+    ensures alone { (rows : List Row) (path : List (List ℕ))
+        → ((name : List ℕ) → path_weight rows (path ++ name ∷ []) ≡ 0)
         → path_weight rows path ≡ weight_of rows path }
 {}
 
 /// A longer path lies inside its beginning, in weight and in columns.
 pub fn children_lie_inside()
-    ensures starts { (rows : List Row) (path rest : List (List ℕ)) → path_start rows path ≤ path_start rows (path ++ rest) }
+    ensures starts { (rows : List Row) (path rest : List (List ℕ))
+        → path_start rows path ≤ path_start rows (path ++ rest) }
     ensures ends { (rows : List Row) (path rest : List (List ℕ))
-        → path_start rows (path ++ rest) + path_weight rows (path ++ rest) ≤ path_start rows path + path_weight rows path }
+        → path_start rows (path ++ rest) + path_weight rows (path ++ rest)
+        ≤ path_start rows path + path_weight rows path }
     ensures left { (columns : ℕ) (rows : List Row) (path rest : List (List ℕ))
         → (rectangle_at columns rows path).left ≤ (rectangle_at columns rows (path ++ rest)).left }
     ensures right { (columns : ℕ) (rows : List Row) (path rest : List (List ℕ))
@@ -45,20 +52,27 @@ pub fn children_lie_inside()
 /// Of two siblings the one of the smaller name ends no later than the other starts, in weight and in columns.
 pub fn columns_keep_order()
     ensures weights { (rows : List Row) (path : List (List ℕ)) (child later : List ℕ) → name_cmp child later ≡ Less
-        → path_start rows (path ++ child ∷ []) + path_weight rows (path ++ child ∷ []) ≤ path_start rows (path ++ later ∷ []) }
-    ensures columns { (columns : ℕ) (rows : List Row) (path : List (List ℕ)) (child later : List ℕ) → name_cmp child later ≡ Less
-        → (rectangle_at columns rows (path ++ child ∷ [])).right ≤ (rectangle_at columns rows (path ++ later ∷ [])).left }
+        → path_start rows (path ++ child ∷ []) + path_weight rows (path ++ child ∷ [])
+        ≤ path_start rows (path ++ later ∷ []) }
+    ensures columns { (columns : ℕ) (rows : List Row) (path : List (List ℕ)) (child later : List ℕ)
+        → name_cmp child later ≡ Less
+        → (rectangle_at columns rows (path ++ child ∷ [])).right
+        ≤ (rectangle_at columns rows (path ++ later ∷ [])).left }
 {}
 
-/// The rectangles have that of every path that takes a column, and with a path's rectangle that of each of its beginnings.
+/// The rectangles have that of every path that takes a column, and with a path's rectangle that of each of its
+/// beginnings.
 pub fn parents_are_shown()
-    ensures shown { (columns : ℕ) (rows : List Row) (path : List (List ℕ)) → is_shown (rectangle_at columns rows path) ≡ true
+    ensures shown { (columns : ℕ) (rows : List Row) (path : List (List ℕ))
+        → is_shown (rectangle_at columns rows path) ≡ true
         → Contains (rectangles_of columns rows) (rectangle_at columns rows path) }
     ensures parents { (columns : ℕ) (rows : List Row) (path rest : List (List ℕ))
-        → Contains (rectangles_of columns rows) (rectangle_at columns rows (path ++ rest)) → Contains (rectangles_of columns rows) (rectangle_at columns rows path) }
+        → Contains (rectangles_of columns rows) (rectangle_at columns rows (path ++ rest))
+        → Contains (rectangles_of columns rows) (rectangle_at columns rows path) }
 {}
 
 /// The answer to a query depends on the aggregate of the rows alone.
 pub fn answers_are_by_the_aggregate()
-    ensures { (query : Query) (rows others : List Row) → aggregate_of rows ≡ aggregate_of others → answer_of rows query ≡ answer_of others query }
+    ensures { (query : Query) (rows others : List Row) → aggregate_of rows ≡ aggregate_of others
+        → answer_of rows query ≡ answer_of others query }
 {}

@@ -1,5 +1,5 @@
-//! The layout of a flame graph, by one pass over rows in order. A row is compared with the row before alone: what the two don't
-//! share are the paths that come first with this row, in the order of paths.
+//! The layout of a flame graph, by one pass over rows in order. A row is compared with the row before alone: what the
+//! two don't share are the paths that come first with this row, in the order of paths.
 
 ghost use Rattle.std.specs.Prelude.{ℕ, ◌≡◌, ◌++◌, ◌+◌, ◌<◌, ◌≤◌, ◌^◌, false, IfOk, OnOk, drop, length, map, take};
 ghost use Rattle.std.specs.List.{common_prefix_len};
@@ -78,7 +78,8 @@ fn group_weight(rows: &[Row], known: &[usize], at: usize, depth: usize) -> u64
     requires known { AreKnownPaths known.now rows.now }
     requires at { at < length rows.now }
     requires depth { depth ≤ length (stack_at rows.now at) }
-    requires first { (k : ℕ) → k < at → begins_with name_cmp (take depth (stack_at rows.now at)) (stack_at rows.now k) ≡ false }
+    requires first { (k : ℕ) → k < at
+        → begins_with name_cmp (take depth (stack_at rows.now at)) (stack_at rows.now k) ≡ false }
     requires fits { total_of rows.now < 2 ^ 63 }
     ensures { result ≡ path_weight rows.now (take depth (stack_at rows.now at)) }
 {
@@ -125,7 +126,8 @@ fn span_at(
 fn rect_at(names: &[Name], depth: usize, span: Span) -> Result<Rect, AllocError>
     requires within { depth ≤ length names.now }
     requires deep { depth ≤ 65535 }
-    ensures { IfOk result (λ rect. (rect.depth ≡ depth) × (rect.name ≡ last_name (take depth names.now)) × (rect.x ≡ span.start)
+    ensures { IfOk result
+        (λ rect. (rect.depth ≡ depth) × (rect.name ≡ last_name (take depth names.now)) × (rect.x ≡ span.start)
         × (rect.weight ≡ span.weight) × (rect.left ≡ span.left) × (rect.right ≡ span.right)) }
 {
     let name = if depth == 0 {
@@ -160,7 +162,8 @@ fn layout_row(
     requires some { 0 < scale.now.total }
     requires fits { scale.now.total < 2 ^ 63 }
     ensures { OnOk result (rects.new.items ≡ rects.old.items
-        ++ map rect_of (shown_of scale.now.columns rows.now (drop (known_at rows.now at) (prefixes (stack_at rows.now at))))) }
+        ++ map rect_of
+        (shown_of scale.now.columns rows.now (drop (known_at rows.now at) (prefixes (stack_at rows.now at))))) }
 {
     let names = rows[at].stack.names();
     for depth in known[at]..names.len() + 1 {

@@ -1,4 +1,5 @@
-//! Reports on a profile: totals, top lists, the layout of a flame graph and folded text, over the rows that a query keeps.
+//! Reports on a profile: totals, top lists, the layout of a flame graph and folded text, over the rows that a query
+//! keeps.
 #![tactic(auto)]
 
 mod answer;

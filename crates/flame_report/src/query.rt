@@ -1,3 +1,5 @@
+//! Queries: which rows a report is over, and which report it is.
+
 ghost use Rattle.std.specs.Prelude.{◌≡◌, ◌<◌, ◌≤◌, ◌⊎◌, ◌↔◌, IsTrue, MatchOption};
 
 use profile_rows::Name;
@@ -27,7 +29,8 @@ impl Model for Columns {
 impl Columns {
     /// So many columns; nothing exactly where there are none or more than [`MAX_COLUMNS`].
     pub fn new(count: u32) -> Option<Columns>
-        ensures { MatchOption result ((count ≡ 0) ⊎ (MAX_COLUMNS < count)) (λ columns. (columns ≡ count) × (0 < count) × (count ≤ MAX_COLUMNS)) }
+        ensures { MatchOption result ((count ≡ 0) ⊎ (MAX_COLUMNS < count))
+            (λ columns. (columns ≡ count) × (0 < count) × (count ≤ MAX_COLUMNS)) }
     {
         if count == 0 || count > MAX_COLUMNS {
             return None;

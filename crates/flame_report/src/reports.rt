@@ -122,7 +122,8 @@ fn held_answer(alloc: Global, tree: &CallTree, query: &Query) -> Result<Answer, 
 ///
 /// `NoMemory`.
 pub fn report(alloc: Global, tree: &CallTree, query: &Query) -> Result<Answer, NoMemory>
-    ensures { (rows : List Row) → aggregate_of rows ≡ weights_of tree.now → IfOk result (λ answer. answer ≡ answer_of rows query.now) }
+    ensures { (rows : List Row) → aggregate_of rows ≡ weights_of tree.now
+        → IfOk result (λ answer. answer ≡ answer_of rows query.now) }
 {
     held_answer(alloc, tree, query)
 }
@@ -139,8 +140,8 @@ fn summed(alloc: Global, batch: &Batch) -> Result<Batch, NoMemory>
     grower.tree().rows(alloc)
 }
 
-/// The plain answer to a query over the rows of a batch. A total and a top list are made from the rows as they stand, and no
-/// tree for them.
+/// The plain answer to a query over the rows of a batch. A total and a top list are made from the rows as they stand,
+/// and no tree for them.
 ///
 /// # Errors
 ///

@@ -139,8 +139,8 @@ fn push_line(text: &mut String, row: &TopRow) -> Result<(), AllocError>
     writeln!(text, "{} {} {}", row.flat, row.cum, row.name.text())
 }
 
-/// A top list as text: the word `total`, a space and the total, then a line for each name: its flat weight, its cumulative
-/// weight and the name, with a space between. Each line ends with a line feed.
+/// A top list as text: the word `total`, a space and the total, then a line for each name: its flat weight, its
+/// cumulative weight and the name, with a space between. Each line ends with a line feed.
 ///
 /// # Errors
 ///

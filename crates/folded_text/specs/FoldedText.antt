@@ -1,5 +1,6 @@
--- Folded stacks as text, read and written (FlameGraph, the header comment of flamegraph.pl: one line for each stack, its frames
--- from root to leaf separated by semicolons, then a space and a count). What reads it strictly is this project's choice.
+-- Folded stacks as text, read and written (FlameGraph, the header comment of flamegraph.pl: one line for each stack,
+-- its frames from root to leaf separated by semicolons, then a space and a count). What reads it strictly is this
+-- project's choice.
 use Rattle.std.specs.Prelude.{ℕ, ◌≡◌, ◌⊎◌, ◌+◌, ◌^◌, ◌<◌, ◌≤◌, ◌==◌, List, [], ◌∷◌, ◌++◌, filter, length, not}
 use Rattle.std.specs.List.{slice_split, flat_map, join_with_byte}
 use Rattle.std.specs.Fmt.{decimal}
@@ -41,8 +42,9 @@ AreRowLines ([] ∷ lines) rows = AreRowLines lines rows
 AreRowLines ((byte ∷ line) ∷ lines) [] = ⊥
 AreRowLines ((byte ∷ line) ∷ lines) (row ∷ rows) = IsRowLine (byte ∷ line) row × AreRowLines lines rows
 
--- The text is folded text of these rows: its lines spell them, and they keep the limit of 2^63 - 1 together. `lines` ends a line
--- at each line feed, drops one carriage return directly before it, and reads a last line that has no line feed.
+-- The text is folded text of these rows: its lines spell them, and they keep the limit of 2^63 - 1 together. `lines`
+-- ends a line at each line feed, drops one carriage return directly before it, and reads a last line that has no line
+-- feed.
 pub record IsFoldedText (text : List ℕ) (rows : List Row) : Type 0 where
   pub rows_lines : AreRowLines (lines text) rows
   pub total_fits : total_of rows < 2 ^ 63
@@ -50,7 +52,8 @@ pub record IsFoldedText (text : List ℕ) (rows : List Row) : Type 0 where
 -- why a line spells no stack text and weight: what a row's line fails by before its frames are looked at
 abbrev pub IsCountFault : ℕ → List ℕ → FoldedFault → Type 0
 IsCountFault number line (NotUtf8 at) = (at ≡ number) × ¬ IsUtf8 line
-IsCountFault number line (NoCount at) = (at ≡ number) × IsUtf8 line × ((stack digits : List ℕ) → ¬ HasCount line stack digits)
+IsCountFault number line (NoCount at) = (at ≡ number) × IsUtf8 line
+    × ((stack digits : List ℕ) → ¬ HasCount line stack digits)
 IsCountFault number line (Count at) = (at ≡ number) × IsUtf8 line × (stack : List ℕ) × (digits : List ℕ)
     × HasCount line stack digits × (2 ^ 63 ≤ digits_value 10 digits)
 IsCountFault number line (Depth at) = ⊥
@@ -63,23 +66,26 @@ IsFittingFault held number text weight (NotUtf8 at) = ⊥
 IsFittingFault held number text weight (NoCount at) = ⊥
 IsFittingFault held number text weight (Count at) = ⊥
 IsFittingFault held number text weight (Depth at) = (at ≡ number) × (65535 < length (frames_of text))
-IsFittingFault held number text weight (Heavy at) = (at ≡ number) × (length (frames_of text) ≤ 65535) × (2 ^ 63 ≤ held + weight)
+IsFittingFault held number text weight (Heavy at) = (at ≡ number) × (length (frames_of text) ≤ 65535)
+    × (2 ^ 63 ≤ held + weight)
 IsFittingFault held number text weight NoMemory = ⊥
 
--- Why a line, which isn't empty, adds no row to rows of the weight `held`. Each case says that the ones before it don't stand,
--- and memory runs out only at a line without a fault: one that spells a row which can follow.
+-- Why a line, which isn't empty, adds no row to rows of the weight `held`. Each case says that the ones before it don't
+-- stand, and memory runs out only at a line without a fault: one that spells a row which can follow.
 abbrev pub IsLineFault : ℕ → ℕ → List ℕ → FoldedFault → Type 0
 IsLineFault held number line (NotUtf8 at) = (at ≡ number) × ¬ IsUtf8 line
-IsLineFault held number line (NoCount at) = (at ≡ number) × IsUtf8 line × ((stack digits : List ℕ) → ¬ HasCount line stack digits)
+IsLineFault held number line (NoCount at) = (at ≡ number) × IsUtf8 line
+    × ((stack digits : List ℕ) → ¬ HasCount line stack digits)
 IsLineFault held number line (Count at) = (at ≡ number) × IsUtf8 line × (stack : List ℕ) × (digits : List ℕ)
     × HasCount line stack digits × (2 ^ 63 ≤ digits_value 10 digits)
 IsLineFault held number line (Depth at) = (at ≡ number) × IsUtf8 line × (stack : List ℕ) × (digits : List ℕ)
     × HasCount line stack digits × (digits_value 10 digits < 2 ^ 63) × (65535 < length (frames_of stack))
-IsLineFault held number line (Heavy at) = (at ≡ number) × (row : Row) × IsRowLine line row × (2 ^ 63 ≤ held + row.weight)
+IsLineFault held number line (Heavy at) = (at ≡ number) × (row : Row) × IsRowLine line row
+    × (2 ^ 63 ≤ held + row.weight)
 IsLineFault held number line NoMemory = (row : Row) × IsRowLine line row × (held + row.weight < 2 ^ 63)
 
--- The first fault of a text: it stands at a line, and the lines before it spell rows within the limit. Lines count from 1, empty
--- ones too. Where memory ran out, the lines up to there have no fault.
+-- The first fault of a text: it stands at a line, and the lines before it spell rows within the limit. Lines count from
+-- 1, empty ones too. Where memory ran out, the lines up to there have no fault.
 abbrev pub IsFirstFault : List ℕ → FoldedFault → Type 0
 IsFirstFault text fault = (before : List (List ℕ)) × (line : List ℕ) × (after : List (List ℕ)) × (rows : List Row)
     × (lines text ≡ before ++ line ∷ after) × AreRowLines before rows × (total_of rows < 2 ^ 63)

@@ -9,4 +9,5 @@ use denote.Ref.{Bor}
 
 -- what is kept at a text is the name of that text
 abbrev pub AreKept : HashMap (Bor (List ℕ)) (List ℕ) (BuildHasherDefault FoldHasher) → Type 0
-AreKept names = (text : List ℕ) → IfSome (hash.get_by (λ (key : Bor (List ℕ)). bytes_eq text key.now) names) (λ name. name ≡ text)
+AreKept names = (text : List ℕ)
+    → IfSome (hash.get_by (λ (key : Bor (List ℕ)). bytes_eq text key.now) names) (λ name. name ≡ text)

@@ -1,3 +1,5 @@
+//! Folded text read: a line is cut, tested against the limits, and becomes a row.
+
 ghost use Rattle.std.specs.Prelude.{ℕ, ◌≡◌, ◌≢◌, ◌⊎◌, ◌+◌, ◌^◌, ◌<◌, ◌≤◌, ◌↔◌, ◌∷◌, ◌++◌, [], All, IfErr, IfOk, IsTrue, List, MatchOption, MatchResult, OnOk, length};
 ghost use Rattle.std.specs.Str.{IsUtf8};
 ghost use Rattle.std.specs.Str.Parse.{IsNumeral, digits_value};
@@ -157,7 +159,8 @@ pub(crate) fn counted<'a>(line: &'a [u8], number: u64) -> Result<(&'a str, u64),
 pub(crate) fn fitting(depth: usize, weight: u64, held: u64, number: u64) -> Result<(), FoldedFault>
     requires { held < 2 ^ 63 }
     ensures fits { OnOk result ((depth ≤ MAX_DEPTH) × (held + weight < 2 ^ 63)) }
-    ensures fault { IfErr result (λ fault. (text : List ℕ) → depth ≡ length (frames_of text) → IsFittingFault held number text weight fault) }
+    ensures fault { IfErr result
+        (λ fault. (text : List ℕ) → depth ≡ length (frames_of text) → IsFittingFault held number text weight fault) }
 {
     if depth > MAX_DEPTH {
         return Err(FoldedFault::Depth { line: number });
@@ -176,7 +179,8 @@ pub(crate) fn fitting_depth(
     number: u64,
 ) -> Result<usize, FoldedFault>
     requires { held < 2 ^ 63 }
-    ensures depth { IfOk result (λ depth. (depth ≡ length (frames_of text.now)) × (depth ≤ MAX_DEPTH) × (held + weight < 2 ^ 63)) }
+    ensures depth { IfOk result
+        (λ depth. (depth ≡ length (frames_of text.now)) × (depth ≤ MAX_DEPTH) × (held + weight < 2 ^ 63)) }
     ensures fault { IfErr result (IsFittingFault held number text.now weight) }
 {
     let depth = depth_of(text);
@@ -184,8 +188,8 @@ pub(crate) fn fitting_depth(
     Ok(depth)
 }
 
-/// What a line spells, where its row can follow rows of the weight `held`. Takes no memory: a line's fault is found before memory
-/// can run out at that line.
+/// What a line spells, where its row can follow rows of the weight `held`. Takes no memory: a line's fault is found
+/// before memory can run out at that line.
 ///
 /// # Errors
 ///
@@ -216,7 +220,9 @@ pub(crate) fn push_spelled<'a>(
     requires one_line { All (λ byte. byte ≢ 10) spelled.stack.now }
     requires depth { (spelled.depth ≡ length (frames_of spelled.stack.now)) × (spelled.depth ≤ MAX_DEPTH) }
     requires fits { total_of batch.old + spelled.weight < 2 ^ 63 }
-    ensures { OnOk result (batch.new ≡ batch.old ++ (record { stack = frames_of spelled.entry.stack.now; weight = spelled.entry.weight }) ∷ []) }
+    ensures { OnOk result
+        (batch.new ≡ batch.old
+        ++ (record { stack = frames_of spelled.entry.stack.now; weight = spelled.entry.weight }) ∷ []) }
 {
     let frames = names_from(alloc, names, spelled.stack, spelled.depth)?;
     let Ok(stack) = Stack::make(frames) else {
@@ -242,9 +248,9 @@ fn add_line<'a>(
     Ok(push_spelled(alloc, names, batch, spelled)?)
 }
 
-/// Reads folded stacks: a line for each row, its frames from root to leaf separated by semicolons, then a space and a count.
-/// A line ends at its line feed, and one carriage return directly before that is dropped; the last line may lack it. Empty
-/// lines are skipped, and so are empty parts between semicolons: a stack may be empty.
+/// Reads folded stacks: a line for each row, its frames from root to leaf separated by semicolons, then a space and a
+/// count. A line ends at its line feed, and one carriage return directly before that is dropped; the last line may lack
+/// it. Empty lines are skipped, and so are empty parts between semicolons: a stack may be empty.
 ///
 /// # Errors
 ///

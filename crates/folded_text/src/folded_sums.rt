@@ -1,3 +1,5 @@
+//! Folded text read into one row for each stack text.
+
 ghost use Rattle.std.specs.Prelude.{◌≡◌, ◌≢◌, ◌+◌, ◌^◌, ◌<◌, ◌≤◌, All, IfErr, List, MatchResult, OnOk, length};
 ghost use Rattle.profile_rows.specs.declared.batch.Row.{Row};
 ghost use Rattle.profile_rows.specs.Aggregate.{aggregate_of};
@@ -26,7 +28,9 @@ fn push_sum<'a>(
     requires depth { (spelled.depth ≡ length (frames_of spelled.stack.now)) × (spelled.depth ≤ 65535) }
     requires fits { total_of sums.old + spelled.weight < 2 ^ 63 }
     requires placed { ArePlacedBy frames_of known.old sums.old }
-    ensures added { OnOk result (AddsRow sums.old sums.new (record { stack = frames_of spelled.entry.stack.now; weight = spelled.entry.weight })) }
+    ensures added { OnOk result
+        (AddsRow sums.old sums.new
+        (record { stack = frames_of spelled.entry.stack.now; weight = spelled.entry.weight })) }
     ensures placed { OnOk result (ArePlacedBy frames_of known.new sums.new) }
 {
     let at = sums.rows().len();
@@ -78,8 +82,8 @@ fn sum_line<'a>(
     }
 }
 
-/// Reads folded stacks and puts the lines of one stack text together: as [`read_folded`](crate::read_folded), and every report on
-/// the rows is the same, in fewer rows.
+/// Reads folded stacks and puts the lines of one stack text together: as [`read_folded`](crate::read_folded), and every
+/// report on the rows is the same, in fewer rows.
 ///
 /// # Errors
 ///

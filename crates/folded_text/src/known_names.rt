@@ -1,3 +1,5 @@
+//! The names met so far in a text.
+
 ghost use Rattle.std.specs.Prelude.{◌≡◌, IfOk};
 ghost use Rattle.profile_rows.specs.Names.{IsName};
 

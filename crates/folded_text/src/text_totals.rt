@@ -27,8 +27,8 @@ fn replace_by_text<'a>(frames: &mut Vec<&'a str>, text: &'a str) -> Result<(), A
     Ok(())
 }
 
-/// Counts the row that a line spells, where it spells one that can follow the others. Its frames take the place of others in the
-/// buffer.
+/// Counts the row that a line spells, where it spells one that can follow the others. Its frames take the place of
+/// others in the buffer.
 fn count_line<'a>(
     rows: &mut CountedRows<'a>,
     frames: &mut Vec<&'a str>,
@@ -36,7 +36,8 @@ fn count_line<'a>(
     number: u64,
 ) -> Result<(), FoldedFault>
     requires one_line { All (λ byte. byte ≢ 10) line.now }
-    requires counted { (before : List Row) × AreTalliesOf before rows.old.total rows.old.tallies × (total_of before < 2 ^ 63) }
+    requires counted { (before : List Row) × AreTalliesOf before rows.old.total rows.old.tallies
+        × (total_of before < 2 ^ 63) }
     ensures counted { (before : List Row) → AreTalliesOf before rows.old.total rows.old.tallies
         → OnOk result ((row : Row) × IsRowLine line.now row × (total_of before + row.weight < 2 ^ 63)
         × AreTalliesOf (before ++ row ∷ []) rows.new.total rows.new.tallies) }
@@ -52,8 +53,8 @@ fn count_line<'a>(
     Ok(rows.count(frames.as_slice(), weight)?)
 }
 
-/// What the names weigh in the rows that [`read_folded`](crate::read_folded) reads. The rows are counted while they are read, and
-/// not kept: memory is for the names.
+/// What the names weigh in the rows that [`read_folded`](crate::read_folded) reads. The rows are counted while they are
+/// read, and not kept: memory is for the names.
 ///
 /// # Errors
 ///

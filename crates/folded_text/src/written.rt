@@ -1,3 +1,5 @@
+//! Folded text written.
+
 ghost use Rattle.std.specs.Prelude.{◌≡◌, ◌++◌, ◌^◌, ◌<◌, ◌≤◌, All, IfOk, OnOk, length};
 ghost use Rattle.std.specs.List.{join_with_byte};
 ghost use Rattle.folded_text.specs.FoldedText.{IsFoldedText, row_text, rows_text};
@@ -36,8 +38,8 @@ fn push_row(text: &mut Vec<u8>, row: &Row) -> Result<(), NoMemory>
     Ok(())
 }
 
-/// Writes each row as a line of folded text, in the order of the rows, also rows of weight 0: the names joined by semicolons, a
-/// space, the weight in decimal, a line feed. Reading it gives the same rows.
+/// Writes each row as a line of folded text, in the order of the rows, also rows of weight 0: the names joined by
+/// semicolons, a space, the weight in decimal, a line feed. Reading it gives the same rows.
 ///
 /// # Errors
 ///

@@ -36,7 +36,8 @@ impl Blank {
     /// `Sessions` exactly where it can't have so many sessions; `NoMemory`.
     pub fn make(alloc: Global, limit: u32, sessions: u32) -> Result<Blank, MakeFault>
         ensures made { IfOk result (λ blank. blank ≡ record { limit = limit; sessions = sessions }) }
-        ensures sessions { MatchResult result (λ _. (0 < sessions) × (sessions ≤ MAX_SESSIONS)) (λ fault. IsMakeFault sessions fault) }
+        ensures sessions { MatchResult result (λ _. (0 < sessions) × (sessions ≤ MAX_SESSIONS))
+            (λ fault. IsMakeFault sessions fault) }
     {
         if sessions == 0 || sessions > MAX_SESSIONS {
             return Err(MakeFault::Sessions);

@@ -63,7 +63,9 @@ impl<N: StoreName> Desk<N> {
         batch: Arc<Batch>,
     ) -> Result<Receipt, Refused<Arc<Batch>>>
         requires { session < N.sessions }
-        ensures receipt { IfOk result (λ receipt. (place at : ℕ) × (receipt ≡ record { op = add (arc_value batch); reply = placed place; at = at })) }
+        ensures receipt { IfOk result
+            (λ receipt. (place at : ℕ)
+            × (receipt ≡ record { op = add (arc_value batch); reply = placed place; at = at })) }
         ensures back { IfErr result (λ refused. refused.back ≡ batch) }
         ensures cause { IfErr result (λ refused. ShowsCause N.limit turn (total_of (arc_value batch)) refused.fault) }
     {
@@ -79,7 +81,9 @@ impl<N: StoreName> Desk<N> {
         query: Arc<Query>,
     ) -> Result<Receipt, Refused<Arc<Query>>>
         requires { session < N.sessions }
-        ensures receipt { IfOk result (λ receipt. (answer : Answer) × (at : ℕ) × (receipt ≡ record { op = ask (arc_value query); reply = answered answer; at = at })) }
+        ensures receipt { IfOk result
+            (λ receipt. (answer : Answer) × (at : ℕ)
+            × (receipt ≡ record { op = ask (arc_value query); reply = answered answer; at = at })) }
         ensures back { IfErr result (λ refused. refused.back ≡ query) }
         ensures cause { IfErr result (λ refused. ShowsCause N.limit turn 0 refused.fault) }
         ensures light { IfErr result (λ refused. (held : ℕ) → refused.fault ≢ BookFault.Heavy held) }

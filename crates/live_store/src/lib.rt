@@ -1,4 +1,5 @@
-//! A profile store of many threads: a book behind a lock, and a session for each thread, which keeps a log of its receipts.
+//! A profile store of many threads: a book behind a lock, and a session for each thread, which keeps a log of its
+//! receipts.
 #![tactic(auto)]
 
 mod blank;

@@ -109,11 +109,15 @@ impl<'a, N: StoreName> Session<'a, N> {
         alloc: Global,
         batch: Arc<Batch>,
     ) -> Result<Placed, Refused<Arc<Batch>>>
-        ensures extended { IfOk result (λ placing. (at : ℕ) × (self.new.log ≡ self.old.log ++ (record { op = add (arc_value batch); reply = placed placing.place; at = at }) ∷ [])) }
+        ensures extended { IfOk result
+            (λ placing. (at : ℕ)
+            × (self.new.log
+            ≡ self.old.log ++ (record { op = add (arc_value batch); reply = placed placing.place; at = at }) ∷ [])) }
         ensures unchanged { OnErr result (self.new ≡ self.old) }
         ensures number { self.new.number ≡ self.old.number }
         ensures back { IfErr result (λ refused. refused.back ≡ batch) }
-        ensures cause { IfErr result (λ refused. ShowsCause N.limit (length self.old.log) (total_of (arc_value batch)) refused.fault) }
+        ensures cause { IfErr result
+            (λ refused. ShowsCause N.limit (length self.old.log) (total_of (arc_value batch)) refused.fault) }
     {
         if self.log.reserve(1).is_err() {
             return Err(Refused {
@@ -143,8 +147,9 @@ impl<'a, N: StoreName> Session<'a, N> {
         }
     }
 
-    /// Answers a query over all that was added so far, and keeps the receipt, from which the answer is lent. The query is shared. The
-    /// contract speaks of the session once the answer is let go: its log then ends with exactly this receipt.
+    /// Answers a query over all that was added so far, and keeps the receipt, from which the answer is lent. The query
+    /// is shared. The contract speaks of the session once the answer is let go: its log then ends with exactly this
+    /// receipt.
     ///
     /// # Errors
     ///
@@ -157,9 +162,14 @@ impl<'a, N: StoreName> Session<'a, N> {
     ) -> Result<&Answer, BookFault>
         ensures cause { IfErr result (λ fault. ShowsCause N.limit (length self.entry.now.log) 0 fault) }
         ensures light { IfErr result (λ fault. (held : ℕ) → fault ≢ BookFault.Heavy held) }
-        ensures* ends { sem 𝓛 (follows_so (the_row (record { mir = named 1; lft = [] }) N.row N.StoreName) (the_row (record { mir = named 1; lft = [] }) N.row N.StoreName)
+        ensures* ends { sem 𝓛
+            (follows_so (the_row (record { mir = named 1; lft = [] }) N.row N.StoreName)
+            (the_row (record { mir = named 1; lft = [] }) N.row N.StoreName)
             self.entry.ghost_name none (λ _ _. ⊤) (λ end. (end.number ≡ self.entry.now.number)
-            × IfOk result (λ answer. (at : ℕ) × (end.log ≡ self.entry.now.log ++ (record { op = ask (arc_value query.now); reply = answered answer.now; at = at }) ∷ []))
+            × IfOk result
+            (λ answer. (at : ℕ)
+            × (end.log ≡ self.entry.now.log
+            ++ (record { op = ask (arc_value query.now); reply = answered answer.now; at = at }) ∷ []))
             × OnErr result (end.log ≡ self.entry.now.log))) }
     {
         self.report(rt, alloc, query)?;
@@ -173,7 +183,10 @@ impl<'a, N: StoreName> Session<'a, N> {
         alloc: Global,
         query: &Arc<Query>,
     ) -> Result<(), BookFault>
-        ensures extended { OnOk result ((answer : Answer) × (at : ℕ) × (self.new.log ≡ self.old.log ++ (record { op = ask (arc_value query.now); reply = answered answer; at = at }) ∷ [])) }
+        ensures extended { OnOk result
+            ((answer : Answer) × (at : ℕ)
+            × (self.new.log
+            ≡ self.old.log ++ (record { op = ask (arc_value query.now); reply = answered answer; at = at }) ∷ [])) }
         ensures unchanged { OnErr result (self.new ≡ self.old) }
         ensures number { self.new.number ≡ self.old.number }
         ensures cause { IfErr result (λ fault. ShowsCause N.limit (length self.old.log) 0 fault) }
@@ -199,8 +212,11 @@ impl<'a, N: StoreName> Session<'a, N> {
 
     /// The answer of the last receipt.
     fn last_answer(&self) -> &Answer
-        requires { (front : List PlainReceipt) × (op : PlainOp) × (answer : Answer) × (at : ℕ) × (self.now.log ≡ front ++ (record { op = op; reply = answered answer; at = at }) ∷ []) }
-        ensures { (front : List PlainReceipt) (op : PlainOp) (answer : Answer) (at : ℕ) → self.now.log ≡ front ++ (record { op = op; reply = answered answer; at = at }) ∷ [] → result.now ≡ answer }
+        requires { (front : List PlainReceipt) × (op : PlainOp) × (answer : Answer) × (at : ℕ)
+            × (self.now.log ≡ front ++ (record { op = op; reply = answered answer; at = at }) ∷ []) }
+        ensures { (front : List PlainReceipt) (op : PlainOp) (answer : Answer) (at : ℕ)
+            → self.now.log ≡ front ++ (record { op = op; reply = answered answer; at = at }) ∷ []
+            → result.now ≡ answer }
     {
         match &self.log[self.log.len() - 1].reply {
             Reply::Answered(answer) => answer,

@@ -11,8 +11,8 @@ use std::alloc::Global;
 use std::marker::Brand;
 use std::sync::{Mutex, Wait};
 
-/// What a store's contracts speak of: how many operations it takes, and how many sessions it has. A type that stands for a store
-/// implements it; it has no calls.
+/// What a store's contracts speak of: how many operations it takes, and how many sessions it has. A type that stands
+/// for a store implements it; it has no calls.
 pub trait StoreName: Send + Sync {
     ghost limit: { ℕ };
 
@@ -25,8 +25,8 @@ impl StoreName for Brand {
     ghost sessions = { 0 };
 }
 
-/// A profile store that many threads use, each through a session of its own. Whenever its lock is free, its tree is the aggregate of the
-/// journal's additions, and each reply is what the plain profile gives after the operations before.
+/// A profile store that many threads use, each through a session of its own. Whenever its lock is free, its tree is the
+/// aggregate of the journal's additions, and each reply is what the plain profile gives after the operations before.
 pub struct Store<N: StoreName> {
     desk: Mutex<Desk<N>>,
 }

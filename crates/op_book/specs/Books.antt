@@ -21,12 +21,14 @@ pub record JournalState : Type 0 where
   pub tree : TreeState
   pub sessions : ℕ
 
--- the tree is the aggregate of the entries' additions, and each reply is what the plain profile gives after the operations before it
+-- the tree is the aggregate of the entries' additions, and each reply is what the plain profile gives after the
+-- operations before it
 pub record IsReplay (entries : List PlainEntry) (tree : TreeState) : Type 0 where
   pub aggregate : weights_of tree ≡ aggregate_of (profile_after (operations_of entries))
   pub legal : IsLegalRun entries
 
--- the entries are of the book's sessions, 1 to 64, whose turns are in order, and keep the limits of weights and of entries
+-- the entries are of the book's sessions, 1 to 64, whose turns are in order, and keep the limits of weights and of
+-- entries
 pub record IsOrderly (book : BookState) : Type 0 where
   pub turns : AreTurnsInOrder book.entries
   pub known : AreOfSessions book.sessions book.entries
@@ -37,7 +39,8 @@ pub record IsOrderly (book : BookState) : Type 0 where
 
 -- the entry that an operation makes after those of a book
 abbrev pub entry_after : List PlainEntry → ℕ → ℕ → PlainOp → PlainEntry
-entry_after entries session turn op = record { session = session; turn = turn; op = op; reply = plain_answer (operations_of entries) op }
+entry_after entries session turn op =
+    record { session = session; turn = turn; op = op; reply = plain_answer (operations_of entries) op }
 
 -- what a session is told of an operation after the entries of a book
 abbrev pub receipt_after : List PlainEntry → PlainOp → PlainReceipt
@@ -65,8 +68,10 @@ pub record HasTurn (entries : List PlainEntry) (limit sessions session turn : �
 -- the first cause to refuse a turn: no such session before another turn than the next, and that before a full journal
 abbrev pub IsTurnFault : List PlainEntry → ℕ → ℕ → ℕ → ℕ → BookFault → Type 0
 IsTurnFault entries limit sessions session turn Session = sessions ≤ session
-IsTurnFault entries limit sessions session turn (Turn held) = (session < sessions) × (held ≡ turns_of entries session) × (turn ≢ held)
-IsTurnFault entries limit sessions session turn (Full held) = (session < sessions) × (turn ≡ turns_of entries session) × (held ≡ length entries) × (limit ≤ held)
+IsTurnFault entries limit sessions session turn (Turn held) = (session < sessions) × (held ≡ turns_of entries session)
+    × (turn ≢ held)
+IsTurnFault entries limit sessions session turn (Full held) = (session < sessions) × (turn ≡ turns_of entries session)
+    × (held ≡ length entries) × (limit ≤ held)
 IsTurnFault entries limit sessions session turn (Heavy held) = ⊥
 IsTurnFault entries limit sessions session turn NoMemory = ⊥
 
@@ -79,8 +84,10 @@ pub record IsTaken (book : BookState) (session turn : ℕ) (op : PlainOp) : Type
   pub turn_is : HasTurn book.entries book.limit book.sessions session turn
   pub fits : weight_held book + total_of (rows_added op) < 2 ^ 63
 
--- the first cause to refuse an operation: those of its turn, then its weight; memory is wanting only where there is no other
+-- the first cause to refuse an operation: those of its turn, then its weight; memory is wanting only where there is no
+-- other
 abbrev pub IsFirstBookFault : BookState → ℕ → ℕ → PlainOp → BookFault → Type 0
-IsFirstBookFault book session turn op (Heavy held) = HasTurn book.entries book.limit book.sessions session turn × (held ≡ weight_held book) × (2 ^ 63 ≤ held + total_of (rows_added op))
+IsFirstBookFault book session turn op (Heavy held) = HasTurn book.entries book.limit book.sessions session turn
+    × (held ≡ weight_held book) × (2 ^ 63 ≤ held + total_of (rows_added op))
 IsFirstBookFault book session turn op NoMemory = IsTaken book session turn op
 IsFirstBookFault book session turn op fault = IsTurnFault book.entries book.limit book.sessions session turn fault

@@ -40,10 +40,12 @@ query_in otherwise (add batch) = otherwise
 query_in otherwise (ask query) = query
 
 pub plain_op_eq-decides : (a b : PlainOp) → Decides (plain_op_eq a b) (a ≡ b)
-plain_op_eq-decides (add batch) (add other) = let rows = rows_eq-decides batch other in (λ e. ap add (rows.0 e), λ e. rows.1 (ap batch_in e))
+plain_op_eq-decides (add batch) (add other) = let rows = rows_eq-decides batch other in
+    (λ e. ap add (rows.0 e), λ e. rows.1 (ap batch_in e))
 plain_op_eq-decides (add batch) (ask query) = (λ e. cc, λ e. cc)
 plain_op_eq-decides (ask query) (add batch) = (λ e. cc, λ e. cc)
-plain_op_eq-decides (ask query) (ask other) = let queries = query_eq-decides query other in (λ e. ap ask (queries.0 e), λ e. queries.1 (ap (query_in query) e))
+plain_op_eq-decides (ask query) (ask other) = let queries = query_eq-decides query other in
+    (λ e. ap ask (queries.0 e), λ e. queries.1 (ap (query_in query) e))
 
 abbrev place_in : PlainReply → ℕ
 place_in (placed place) = place
@@ -54,10 +56,12 @@ answer_in otherwise (placed place) = otherwise
 answer_in otherwise (answered answer) = answer
 
 pub plain_reply_eq-decides : (a b : PlainReply) → Decides (plain_reply_eq a b) (a ≡ b)
-plain_reply_eq-decides (placed place) (placed other) = let places = unsigned_Decides place other in (λ e. ap placed (places.0 e), λ e. places.1 (ap place_in e))
+plain_reply_eq-decides (placed place) (placed other) = let places = unsigned_Decides place other in
+    (λ e. ap placed (places.0 e), λ e. places.1 (ap place_in e))
 plain_reply_eq-decides (placed place) (answered answer) = (λ e. cc, λ e. cc)
 plain_reply_eq-decides (answered answer) (placed place) = (λ e. cc, λ e. cc)
-plain_reply_eq-decides (answered answer) (answered other) = let answers = answer_eq-decides answer other in (λ e. ap answered (answers.0 e), λ e. answers.1 (ap (answer_in answer) e))
+plain_reply_eq-decides (answered answer) (answered other) = let answers = answer_eq-decides answer other in
+    (λ e. ap answered (answers.0 e), λ e. answers.1 (ap (answer_in answer) e))
 
 pub op_eq-laws : IsEquivalence op_eq
 op_eq-laws = on_equiv plain_op (decided-IsEquivalence plain_op_eq-decides)

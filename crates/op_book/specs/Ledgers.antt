@@ -14,7 +14,8 @@ pub record IsLedger (entries : List PlainEntry) (additions limit : ℕ) (turns :
   pub in_turn : AreTurnsInOrder entries
   pub known : AreOfSessions (length turns) entries
   pub additions_are : additions ≡ length (additions_of (operations_of entries))
-  pub turns_are : (session otherwise : ℕ) → session < length turns → get_or turns session otherwise ≡ turns_of entries session
+  pub turns_are : (session otherwise : ℕ) → session < length turns
+      → get_or turns session otherwise ≡ turns_of entries session
   pub count : length entries ≤ limit
   pub some : 0 < length turns
   pub few : length turns ≤ 64

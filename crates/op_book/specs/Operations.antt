@@ -47,7 +47,8 @@ abbrev pub rows_added : PlainOp → List Row
 rows_added (add batch) = batch
 rows_added (ask query) = []
 
--- what the plain profile gives after these operations: an addition's place among the additions, or the answer to a query
+-- what the plain profile gives after these operations: an addition's place among the additions, or the answer to a
+-- query
 abbrev pub plain_answer : List PlainOp → PlainOp → PlainReply
 plain_answer before (add batch) = placed (length (additions_of before))
 plain_answer before (ask query) = answered (answer_of (profile_after before) query)

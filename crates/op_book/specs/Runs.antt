@@ -8,7 +8,8 @@ turns_of entries session = count_by (λ (entry : PlainEntry). entry.session == s
 
 -- each entry has a property together with those before it
 abbrev pub EachAfter : (List PlainEntry → PlainEntry → Type 0) → List PlainEntry → Type 0
-EachAfter Has entries = (at : ℕ) (entry : PlainEntry) → at < length entries → Has (take at entries) (get_or entries at entry)
+EachAfter Has entries = (at : ℕ) (entry : PlainEntry) → at < length entries
+    → Has (take at entries) (get_or entries at entry)
 
 -- each reply is what the plain profile gives after the operations before it
 abbrev pub IsLegalRun : List PlainEntry → Type 0

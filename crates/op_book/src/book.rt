@@ -19,8 +19,8 @@ use std::alloc::Global;
 use std::marker::Model;
 use std::sync::Arc;
 
-/// Operations in order, each with its reply, and the tree of all that they added. Whatever is done to a book, its tree is the
-/// aggregate of the additions in it, and each reply is what the plain profile gives after the operations before.
+/// Operations in order, each with its reply, and the tree of all that they added. Whatever is done to a book, its tree
+/// is the aggregate of the additions in it, and each reply is what the plain profile gives after the operations before.
 #[derive(Drop)]
 pub struct Book {
     ledger: Ledger,
@@ -36,7 +36,8 @@ impl Model for Book {
 
     ghost Value = { BookState };
 
-    ghost view = { λ b. record { entries = b.ledger.entries; tree = b.grower; limit = b.ledger.limit; sessions = b.ledger.sessions } };
+    ghost view = { λ b. record
+        { entries = b.ledger.entries; tree = b.grower; limit = b.ledger.limit; sessions = b.ledger.sessions } };
 
     ghost invariant = { λ b. weights_of b.grower ≡ aggregate_of (profile_after (operations_of b.ledger.entries)) };
 }
@@ -75,12 +76,13 @@ impl Book {
         Ok(Book { ledger, grower })
     }
 
-    /// Adds the rows of a batch as the turn of a session. The journal gets exactly one entry, of which the receipt tells.
+    /// Adds the rows of a batch as the turn of a session. The journal gets exactly one entry, of which the receipt
+    /// tells.
     ///
     /// # Errors
     ///
-    /// The first [`BookFault`]: memory is wanting only where there is no other. The book is then as it was, and the batch is
-    /// handed back.
+    /// The first [`BookFault`]: memory is wanting only where there is no other. The book is then as it was, and the
+    /// batch is handed back.
     pub fn add(
         &mut self,
         alloc: Global,
@@ -93,7 +95,8 @@ impl Book {
         ensures taken { OnOk result (IsTaken self.old session turn (add (arc_value batch))) }
         ensures unchanged { OnErr result (IsSameBook self.old self.new) }
         ensures back { IfErr result (λ refused. refused.back ≡ batch) }
-        ensures first_fault { IfErr result (λ refused. IsFirstBookFault self.old session turn (add (arc_value batch)) refused.fault) }
+        ensures first_fault { IfErr result
+            (λ refused. IsFirstBookFault self.old session turn (add (arc_value batch)) refused.fault) }
         ensures replay { IsReplay self.new.entries self.new.tree }
         ensures orderly { IsOrderly self.new }
     {
@@ -109,13 +112,13 @@ impl Book {
         }
     }
 
-    /// Answers a query over all that was added so far as the turn of a session. The journal gets exactly one entry, of which
-    /// the receipt tells.
+    /// Answers a query over all that was added so far as the turn of a session. The journal gets exactly one entry, of
+    /// which the receipt tells.
     ///
     /// # Errors
     ///
-    /// The first [`BookFault`], which is never `Heavy`: memory is wanting only where there is no other. The book is then as it
-    /// was, and the query is handed back.
+    /// The first [`BookFault`], which is never `Heavy`: memory is wanting only where there is no other. The book is
+    /// then as it was, and the query is handed back.
     pub fn ask(
         &mut self,
         alloc: Global,
@@ -128,7 +131,8 @@ impl Book {
         ensures taken { OnOk result (IsTaken self.old session turn (ask (arc_value query))) }
         ensures unchanged { OnErr result (IsSameBook self.old self.new) }
         ensures back { IfErr result (λ refused. refused.back ≡ query) }
-        ensures first_fault { IfErr result (λ refused. IsFirstBookFault self.old session turn (ask (arc_value query)) refused.fault) }
+        ensures first_fault { IfErr result
+            (λ refused. IsFirstBookFault self.old session turn (ask (arc_value query)) refused.fault) }
         ensures light { IfErr result (λ refused. (held : ℕ) → refused.fault ≢ BookFault.Heavy held) }
         ensures replay { IsReplay self.new.entries self.new.tree }
         ensures orderly { IsOrderly self.new }
@@ -154,11 +158,14 @@ impl Book {
         batch: &Arc<Batch>,
     ) -> Result<Placing, BookFault>
         ensures appended { OnOk result (IsAppended self.old session turn (add (arc_value batch.now)) self.new) }
-        ensures placing { IfOk result (λ placing. (placed placing.place ≡ plain_answer (operations_of self.old.entries) (add (arc_value batch.now)))
+        ensures placing { IfOk result
+            (λ placing. (placed placing.place
+            ≡ plain_answer (operations_of self.old.entries) (add (arc_value batch.now)))
             × (placing.at ≡ length self.old.entries)) }
         ensures taken { OnOk result (IsTaken self.old session turn (add (arc_value batch.now))) }
         ensures unchanged { OnErr result (IsSameBook self.old self.new) }
-        ensures first_fault { IfErr result (λ fault. IsFirstBookFault self.old session turn (add (arc_value batch.now)) fault) }
+        ensures first_fault { IfErr result
+            (λ fault. IsFirstBookFault self.old session turn (add (arc_value batch.now)) fault) }
     {
         self.ledger.admit(session, turn)?;
         let held = self.held();
@@ -188,11 +195,14 @@ impl Book {
         query: &Arc<Query>,
     ) -> Result<Report, BookFault>
         ensures appended { OnOk result (IsAppended self.old session turn (ask (arc_value query.now)) self.new) }
-        ensures answer { IfOk result (λ report. (answered (arc_value report.answer) ≡ plain_answer (operations_of self.old.entries) (ask (arc_value query.now)))
+        ensures answer { IfOk result
+            (λ report. (answered (arc_value report.answer)
+            ≡ plain_answer (operations_of self.old.entries) (ask (arc_value query.now)))
             × (report.at ≡ length self.old.entries)) }
         ensures taken { OnOk result (IsTaken self.old session turn (ask (arc_value query.now))) }
         ensures unchanged { OnErr result (IsSameBook self.old self.new) }
-        ensures first_fault { IfErr result (λ fault. IsFirstBookFault self.old session turn (ask (arc_value query.now)) fault) }
+        ensures first_fault { IfErr result
+            (λ fault. IsFirstBookFault self.old session turn (ask (arc_value query.now)) fault) }
         ensures light { IfErr result (λ fault. (held : ℕ) → fault ≢ BookFault.Heavy held) }
     {
         self.known();

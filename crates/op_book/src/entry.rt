@@ -19,7 +19,8 @@ impl Model for Entry {
 
     ghost Value = { PlainEntry };
 
-    ghost view = { λ e. record { session = e.session; turn = e.turn; op = plain_op e.op; reply = plain_reply e.reply } };
+    ghost view = { λ e. record
+        { session = e.session; turn = e.turn; op = plain_op e.op; reply = plain_reply e.reply } };
 }
 
 /// What a session is told of its operation. A contract sees what the operation and the reply hold.

@@ -1,4 +1,5 @@
-//! The journal of a profile store: each addition and each question is one entry, with the reply that the plain profile gives.
+//! The journal of a profile store: each addition and each question is one entry, with the reply that the plain profile
+//! gives.
 #![tactic(auto)]
 
 mod book;

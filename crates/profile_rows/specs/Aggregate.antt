@@ -15,7 +15,8 @@ weight_in weighted stack = unwrap_or (finite.get weighted stack) 0
 
 -- one row more; a row of weight 0 changes nothing
 abbrev pub with_row : Weighted → Row → Weighted
-with_row weighted row = if nat_lt 0 row.weight then finite.insert weighted row.stack (weight_in weighted row.stack + row.weight) else weighted
+with_row weighted row = if nat_lt 0 row.weight
+    then finite.insert weighted row.stack (weight_in weighted row.stack + row.weight) else weighted
 
 abbrev pub with_rows : Weighted → List Row → Weighted
 with_rows weighted [] = weighted

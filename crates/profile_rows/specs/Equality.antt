@@ -9,4 +9,5 @@ abbrev pub row_eq : Row → Row → Bool
 row_eq a b = pointwise (pointwise ◌==◌) a.stack b.stack && (a.weight == b.weight)
 
 pub row_eq-laws : IsEquivalence row_eq
-row_eq-laws = and_equiv (on_equiv (λ row. row.stack) (lists_equiv nat_list_eq_equiv)) (on_equiv (λ row. row.weight) nat_eq_equiv)
+row_eq-laws = and_equiv (on_equiv (λ row. row.stack) (lists_equiv nat_list_eq_equiv))
+    (on_equiv (λ row. row.weight) nat_eq_equiv)

@@ -4,8 +4,8 @@ use Rattle.profile_rows.specs.declared.batch.Row.{Row}
 use Rattle.profile_rows.specs.Rows.{total_of}
 use Rattle.profile_rows.specs.Paths.{path_weight, path_start, paths_of}
 
--- A rectangle: how many frames its path has, the last one's name (empty for the empty path), where it starts and how wide it
--- is in units of weight, and the columns between which it is drawn.
+-- A rectangle: how many frames its path has, the last one's name (empty for the empty path), where it starts and how
+-- wide it is in units of weight, and the columns between which it is drawn.
 pub record Rectangle : Type 0 where
   pub depth : ℕ
   pub name : List ℕ

@@ -6,7 +6,8 @@ use Rattle.std.specs.Str.{IsUtf8}
 use Rattle.std.specs.Cmp.Lexicographic.{slice_cmp, pointwise}
 
 -- A frame's name, as a line of folded stacks can hold it (FlameGraph, the header comment of flamegraph.pl: frames are
--- separated by semicolons, and a stack takes one line): UTF-8 text, not empty, without a semicolon and without a line feed.
+-- separated by semicolons, and a stack takes one line): UTF-8 text, not empty, without a semicolon and without a line
+-- feed.
 pub record IsName (text : List ℕ) : Type 0 where
   pub utf8 : IsUtf8 text
   pub not_empty : 0 < length text

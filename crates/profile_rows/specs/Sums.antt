@@ -15,7 +15,8 @@ row_at rows at = slice_index_or rows at (record { stack = []; weight = 0 })
 
 -- the rows, of which the one at an index weighs so much more
 abbrev pub with_added_at : List Row → ℕ → ℕ → List Row
-with_added_at rows at weight = slice_set rows at (record { stack = (row_at rows at).stack; weight = (row_at rows at).weight + weight })
+with_added_at rows at weight =
+    slice_set rows at (record { stack = (row_at rows at).stack; weight = (row_at rows at).weight + weight })
 
 -- rows by what spells their stacks
 abbrev pub RowsBySpelling : Type 0
@@ -27,10 +28,12 @@ row_spelled known spelling = hash.get_by (λ (key : Bor (List ℕ)). bytes_eq sp
 -- what a spelling leads to is a row of the stack that it spells
 abbrev pub ArePlacedBy : (List ℕ → List (List ℕ)) → RowsBySpelling → List Row → Type 0
 ArePlacedBy stack_of known rows = (spelling : List ℕ)
-    → IfSome (row_spelled known spelling) (λ at. (at < length rows) × ((row_at rows at).stack ≡ stack_of spelling) × (length (stack_of spelling) ≤ 65535))
+    → IfSome (row_spelled known spelling)
+    (λ at. (at < length rows) × ((row_at rows at).stack ≡ stack_of spelling) × (length (stack_of spelling) ≤ 65535))
 
 -- the rows weigh a row more: each stack does, and all together
 pub record AddsRow (old new : List Row) (row : Row) : Type 0 where
-  pub weights : (stack : List (List ℕ)) → weight_of new stack ≡ weight_of old stack + weight_if (is_same_stack stack) row
+  pub weights : (stack : List (List ℕ))
+      → weight_of new stack ≡ weight_of old stack + weight_if (is_same_stack stack) row
   pub total : total_of new ≡ total_of old + row.weight
   pub fits : total_of old + row.weight < 2 ^ 63

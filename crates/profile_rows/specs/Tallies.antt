@@ -15,9 +15,12 @@ Tallies = HashMap (Bor (List ℕ)) Tally (BuildHasherDefault FoldHasher)
 
 -- the tally of a name, which is 0 where no row so far has it
 abbrev pub tally_at : Tallies → List ℕ → Tally
-tally_at tallies name = unwrap_or (hash.get_by (λ (key : Bor (List ℕ)). is_same_name name key.now) tallies) (record { flat = 0; cumulative = 0; row = 0 })
+tally_at tallies name =
+    unwrap_or (hash.get_by (λ (key : Bor (List ℕ)). is_same_name name key.now) tallies)
+    (record { flat = 0; cumulative = 0; row = 0 })
 
--- a frame more in the row of this number, which weighs `own` as the leaf: only the row's first frame of a name adds the row's weight
+-- a frame more in the row of this number, which weighs `own` as the leaf: only the row's first frame of a name adds the
+-- row's weight
 abbrev pub frame_counted : Tally → ℕ → ℕ → ℕ → Tally
 frame_counted tally row weight own =
     if tally.row == row then (record { flat = tally.flat + own; cumulative = tally.cumulative; row = tally.row })
@@ -26,7 +29,8 @@ frame_counted tally row weight own =
 -- the callers in a row of this number and weight, for the tally of one name
 abbrev pub callers_counted : List (List ℕ) → ℕ → ℕ → List ℕ → Tally → Tally
 callers_counted callers number weight name tally =
-    if has_name name callers then (record { flat = tally.flat; cumulative = tally.cumulative + weight; row = number }) else tally
+    if has_name name callers then (record { flat = tally.flat; cumulative = tally.cumulative + weight; row = number })
+        else tally
 
 -- a row more, for the tally of one name
 abbrev pub row_counted : Row → ℕ → List ℕ → Tally → Tally

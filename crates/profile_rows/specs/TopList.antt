@@ -28,7 +28,8 @@ chosen_weight by_cumulative sums = sums.cumulative
 
 -- by falling chosen weight, and names of one weight by their bytes
 abbrev pub top_cmp : Ranking → NameSums → NameSums → Ordering
-top_cmp ranking a b = ordering_then (nat_cmp (chosen_weight ranking b) (chosen_weight ranking a)) (name_cmp a.name b.name)
+top_cmp ranking a b =
+    ordering_then (nat_cmp (chosen_weight ranking b) (chosen_weight ranking a)) (name_cmp a.name b.name)
 
 -- the weights of a name among these rows
 abbrev pub sums_at : List Row → List ℕ → NameSums
@@ -46,7 +47,8 @@ top_list_of ranking count rows = take count (in_order (top_cmp ranking) (sums_of
 abbrev pub occurrences : List ℕ → List NameSums → ℕ
 occurrences name list = sum_by (λ (sums : NameSums). if is_same_name name sums.name then 1 else 0) list
 
--- the list has each name of cumulative weight above 0 once, with its weights among the rows, and no other name, in any order
+-- the list has each name of cumulative weight above 0 once, with its weights among the rows, and no other name, in any
+-- order
 pub record AreSumsOf (rows : List Row) (list : List NameSums) : Type 0 where
   pub weights : All (λ sums. sums ≡ sums_at rows sums.name) list
   pub once : (name : List ℕ) → occurrences name list ≡ (if nat_lt 0 (cumulative_weight_of rows name) then 1 else 0)

@@ -1,3 +1,5 @@
+//! The aggregate of rows.
+
 ghost use Rattle.std.specs.Prelude.{◌≡◌, IfOk, map};
 ghost use Rattle.profile_rows.specs.Aggregate.{aggregate_of, row_of, rows_of};
 ghost use Rattle.profile_rows.specs.LentStacks.{entries_in};

@@ -1,3 +1,5 @@
+//! Batches: rows in order, whose total keeps the limit.
+
 ghost use Rattle.std.specs.Prelude.{◌≡◌, ◌≤◌, ◌+◌, ◌^◌, ◌<◌, ◌++◌, ◌∷◌, [], length, IfErr, OnErr, OnOk};
 ghost use Rattle.profile_rows.specs.Rows.{total_of};
 ghost use Rattle.profile_rows.specs.Pushing.{IsPushFault};
@@ -96,8 +98,8 @@ impl Batch {
     ///
     /// # Errors
     ///
-    /// `Heavy` exactly where the total would pass [`MAX_TOTAL`], with the total; `NoMemory`. The batch is then as it was, and
-    /// the stack is handed back.
+    /// `Heavy` exactly where the total would pass [`MAX_TOTAL`], with the total; `NoMemory`. The batch is then as it
+    /// was, and the stack is handed back.
     pub fn push(&mut self, stack: Stack, weight: u64) -> Result<(), Refused<Stack>>
         ensures pushed { OnOk result (self.new ≡ self.old ++ (record { stack = stack; weight = weight }) ∷ []) }
         ensures fits { OnOk result (total_of self.old + weight < 2 ^ 63) }
@@ -139,7 +141,8 @@ impl Batch {
         ensures added { OnOk result (self.new ≡ with_added_at self.old at weight) }
         ensures fits { OnOk result (total_of self.old + weight < 2 ^ 63) }
         ensures unchanged { OnErr result (self.new ≡ self.old) }
-        ensures heavy { IfErr result (λ fault. (fault ≡ PushFault.Heavy (total_of self.old)) × (2 ^ 63 ≤ total_of self.old + weight)) }
+        ensures heavy { IfErr result
+            (λ fault. (fault ≡ PushFault.Heavy (total_of self.old)) × (2 ^ 63 ≤ total_of self.old + weight)) }
     {
         let room = MAX_TOTAL - self.total;
         if room < weight {

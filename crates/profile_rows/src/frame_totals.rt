@@ -34,7 +34,8 @@ pub struct FrameTotals {
     pub frames: Vec<FrameTotal>,
 }
 
-/// Rows counted by the names of their frames, and not kept. What has been counted is what contracts say of both fields together.
+/// Rows counted by the names of their frames, and not kept. What has been counted is what contracts say of both fields
+/// together.
 #[derive(Drop)]
 pub struct CountedRows<'a> {
     /// What each name weighs, by its text.
@@ -64,7 +65,10 @@ impl<'a> CountedRows<'a> {
         requires names { All IsName (map (λ frame. frame.now) frames.now) }
         requires counted { (rows : List Row) × AreTalliesOf rows self.old.total self.old.tallies }
         ensures { (rows : List Row) → AreTalliesOf rows self.old.total self.old.tallies
-            → OnOk result (AreTalliesOf (rows ++ (record { stack = map (λ frame. frame.now) frames.now; weight = weight }) ∷ []) self.new.total self.new.tallies) }
+            → OnOk result
+            (AreTalliesOf
+            (rows ++ (record { stack = map (λ frame. frame.now) frames.now; weight = weight }) ∷ []) self.new.total
+            self.new.tallies) }
     {
         count_stack(&mut self.tallies, frames, weight, self.total)?;
         self.total += weight;
@@ -78,7 +82,8 @@ impl<'a> CountedRows<'a> {
     /// Where memory runs out.
     pub fn totals(&self, alloc: Global) -> Result<FrameTotals, AllocError>
         requires { (rows : List Row) × AreTalliesOf rows self.now.total self.now.tallies }
-        ensures { (rows : List Row) → AreTalliesOf rows self.now.total self.now.tallies → IfOk result (AreTotalsOf rows) }
+        ensures { (rows : List Row) → AreTalliesOf rows self.now.total self.now.tallies
+            → IfOk result (AreTotalsOf rows) }
     {
         let frames = weighted(alloc, &self.tallies)?;
         Ok(FrameTotals {
@@ -108,14 +113,15 @@ fn count_row<'a>(
 ) -> Result<(), AllocError>
     requires fits { rows.old.total + row.now.weight < 2 ^ 63 }
     requires counted { (before : List Row) × AreTalliesOf before rows.old.total rows.old.tallies }
-    ensures { (before : List Row) → AreTalliesOf before rows.old.total rows.old.tallies → OnOk result (AreTalliesOf (before ++ row.now ∷ []) rows.new.total rows.new.tallies) }
+    ensures { (before : List Row) → AreTalliesOf before rows.old.total rows.old.tallies
+        → OnOk result (AreTalliesOf (before ++ row.now ∷ []) rows.new.total rows.new.tallies) }
 {
     replace_by_names(frames, row.stack.names())?;
     rows.count(frames.as_slice(), row.weight)
 }
 
-/// What the names weigh in the rows that have the focus, where there is one, and not the ignored name, where there is one. Takes
-/// memory for names, and none for each row.
+/// What the names weigh in the rows that have the focus, where there is one, and not the ignored name, where there is
+/// one. Takes memory for names, and none for each row.
 ///
 /// # Errors
 ///
@@ -126,7 +132,8 @@ pub fn kept_totals(
     focus: Option<&Name>,
     ignored: Option<&Name>,
 ) -> Result<FrameTotals, NoMemory>
-    ensures { IfOk result (AreTotalsOf (kept_rows (option_copied focus.entry) (option_copied ignored.entry) batch.now)) }
+    ensures { IfOk result
+        (AreTotalsOf (kept_rows (option_copied focus.entry) (option_copied ignored.entry) batch.now)) }
 {
     let mut rows = CountedRows::new(alloc);
     let mut frames = Vec::new(alloc);

@@ -1,3 +1,5 @@
+//! Which rows a focus and an ignored name leave.
+
 ghost use Rattle.std.specs.Prelude.{◌≡◌};
 ghost use Rattle.std.specs.Option.{option_copied};
 ghost use Rattle.profile_rows.specs.Rows.{has_name, is_kept};

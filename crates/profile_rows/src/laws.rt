@@ -1,4 +1,5 @@
-//! Laws of the definitions in `specs/`, each the contract of a function that does nothing. A caller calls one to use its law.
+//! Laws of the definitions in `specs/`, each the contract of a function that does nothing. A caller calls one to use
+//! its law.
 
 ghost use Rattle.std.specs.Prelude.{ℕ, ◌≡◌, ◌++◌, ◌<◌, ◌^◌, All, Bool, List, Option, IsPermutation, IsSorted, take};
 ghost use Rattle.profile_rows.specs.declared.batch.Row.{Row};
@@ -30,9 +31,11 @@ pub fn aggregate_of_more_rows()
     ensures { (rows more : List Row) → aggregate_of (rows ++ more) ≡ with_rows (aggregate_of rows) more }
 {}
 
-/// A sum over rows, each once, depends on their aggregate alone: total, flat and cumulative weight, widths and starts of paths.
+/// A sum over rows, each once, depends on their aggregate alone: total, flat and cumulative weight, widths and starts
+/// of paths.
 pub fn sums_are_those_of_the_aggregate()
-    ensures rows { (test : List (List ℕ) → Bool) (rows : List Row) → weight_where test (rows_of (aggregate_of rows)) ≡ weight_where test rows }
+    ensures rows { (test : List (List ℕ) → Bool) (rows : List Row)
+        → weight_where test (rows_of (aggregate_of rows)) ≡ weight_where test rows }
     ensures same { (test : List (List ℕ) → Bool) (rows others : List Row) → aggregate_of rows ≡ aggregate_of others
         → weight_where test rows ≡ weight_where test others }
 {}

@@ -1,3 +1,5 @@
+//! Names of frames.
+
 ghost use Rattle.std.specs.Prelude.{◌≡◌, ◌↔◌, IfOk, IsErrOf, IsTrue, ◌==◌};
 ghost use Rattle.std.specs.Cmp.Lexicographic.{slice_cmp, pointwise};
 ghost use Rattle.std.specs.Ordering.{nat_cmp, as_partial_cmp};
@@ -25,8 +27,8 @@ pub enum NameFault {
     NoMemory,
 }
 
-/// A frame's name: UTF-8 text that isn't empty and holds no semicolon and no line feed, so that a line of folded stacks can
-/// hold it. Names are ordered by their bytes. A second owner shares the text.
+/// A frame's name: UTF-8 text that isn't empty and holds no semicolon and no line feed, so that a line of folded stacks
+/// can hold it. Names are ordered by their bytes. A second owner shares the text.
 #[derive(Drop)]
 pub struct Name {
     text: ArcStr<Global>,

@@ -1,3 +1,5 @@
+//! Stacks of names.
+
 ghost use Rattle.std.specs.Prelude.{◌≡◌, ◌<◌, ◌≤◌, length, IfOk, MatchResult, ◌==◌, refl};
 ghost use Rattle.std.specs.Cmp.Lexicographic.{slice_cmp, pointwise, lists_ties, lists_total, texts_ties, nat_list_cmp_total};
 ghost use Rattle.std.specs.Ordering.{nat_cmp, as_partial_cmp};
@@ -14,8 +16,8 @@ use std::marker::Model;
 /// The most frames that a stack has.
 pub const MAX_DEPTH: usize = 65_535;
 
-/// The frames of a stack by their names, root first: at most [`MAX_DEPTH`], perhaps none. Stacks are ordered as lists of
-/// names, so that a stack comes before those that it begins.
+/// The frames of a stack by their names, root first: at most [`MAX_DEPTH`], perhaps none. Stacks are ordered as lists
+/// of names, so that a stack comes before those that it begins.
 #[derive(Drop)]
 pub struct Stack {
     names: Vec<Name>,
@@ -86,7 +88,8 @@ impl Eq for Stack {
 impl PartialOrd for Stack {
     ghost partial_cmp = { as_partial_cmp (slice_cmp (slice_cmp nat_cmp)) };
 
-    ghost laws = { partial_order_from_agreeing_total (slice_cmp (slice_cmp nat_cmp)) (lists_total nat_list_cmp_total) (λ _ _. refl) (lists_ties (slice_cmp nat_cmp) texts_ties) };
+    ghost laws = { partial_order_from_agreeing_total (slice_cmp (slice_cmp nat_cmp)) (lists_total nat_list_cmp_total)
+        (λ _ _. refl) (lists_ties (slice_cmp nat_cmp) texts_ties) };
 
     fn partial_cmp(&self, other: &Stack) -> Option<Ordering> {
         Some(self.cmp(other))

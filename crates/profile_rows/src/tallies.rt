@@ -11,8 +11,8 @@ use crate::name::Name;
 use std::alloc::{AllocError, Global};
 use std::collections::HashMap;
 
-/// What a name weighs so far: as a leaf, and in the rows that have it. `row` is the number of the last of these, which is the weight
-/// counted up to it.
+/// What a name weighs so far: as a leaf, and in the rows that have it. `row` is the number of the last of these, which
+/// is the weight counted up to it.
 #[derive(Clone, Copy, Debug)]
 pub struct Tally {
     pub flat: u64,
@@ -28,11 +28,13 @@ fn count_frame<'a>(
     weight: u64,
     own: u64,
 ) -> Result<(), AllocError>
-    requires fits { (tally_at tallies.old name.now).row ≢ row → (tally_at tallies.old name.now).cumulative + weight < 2 ^ 63 }
+    requires fits { (tally_at tallies.old name.now).row ≢ row
+        → (tally_at tallies.old name.now).cumulative + weight < 2 ^ 63 }
     requires leaf { (tally_at tallies.old name.now).flat + own < 2 ^ 63 }
     requires numbered { 0 < row }
     ensures { OnOk result ((q : List ℕ) → tally_at tallies.new q
-        ≡ (if is_same_name q name.now then frame_counted (tally_at tallies.old q) row weight own else tally_at tallies.old q)) }
+        ≡ (if is_same_name q name.now then frame_counted (tally_at tallies.old q) row weight own
+        else tally_at tallies.old q)) }
 {
     match tallies.get_mut(name) {
         Some(tally) => {
@@ -64,7 +66,10 @@ fn count_callers<'a>(
     requires fits { (q : List ℕ) → (tally_at tallies.old q).cumulative + weight < 2 ^ 63 }
     requires flat { (q : List ℕ) → (tally_at tallies.old q).flat < 2 ^ 63 }
     requires numbered { (q : List ℕ) → (tally_at tallies.old q).row < row }
-    ensures { OnOk result ((q : List ℕ) → tally_at tallies.new q ≡ callers_counted (map (λ frame. frame.now) callers.now) row weight q (tally_at tallies.old q)) }
+    ensures { OnOk result
+        ((q : List ℕ)
+        → tally_at tallies.new q
+        ≡ callers_counted (map (λ frame. frame.now) callers.now) row weight q (tally_at tallies.old q)) }
 {
     for frame in callers {
         count_frame(tallies, *frame, row, weight, 0)?;
@@ -83,7 +88,8 @@ fn count_row<'a>(
     requires flat { (q : List ℕ) → (tally_at tallies.old q).flat + weight < 2 ^ 63 }
     requires numbered { (q : List ℕ) → (tally_at tallies.old q).row < row }
     ensures { OnOk result ((q : List ℕ) → tally_at tallies.new q
-        ≡ row_counted (record { stack = map (λ frame. frame.now) frames.now; weight = weight }) row q (tally_at tallies.old q)) }
+        ≡ row_counted (record { stack = map (λ frame. frame.now) frames.now; weight = weight }) row q
+        (tally_at tallies.old q)) }
 {
     match frames.split_last() {
         Some((leaf, callers)) => {
@@ -94,8 +100,8 @@ fn count_row<'a>(
     }
 }
 
-/// Counts a row of these frames to rows of the weight `held`. Its number is the weight up to it, which no other row of weight
-/// above 0 has; a row without weight adds nothing to any name.
+/// Counts a row of these frames to rows of the weight `held`. Its number is the weight up to it, which no other row of
+/// weight above 0 has; a row without weight adds nothing to any name.
 pub(crate) fn count_stack<'a>(
     tallies: &mut HashMap<&'a str, Tally>,
     frames: &[&'a str],
@@ -106,7 +112,9 @@ pub(crate) fn count_stack<'a>(
     requires names { All IsName (map (λ frame. frame.now) frames.now) }
     requires counted { (rows : List Row) × AreTalliesOf rows held tallies.old }
     ensures { (rows : List Row) → AreTalliesOf rows held tallies.old
-        → OnOk result (AreTalliesOf (rows ++ (record { stack = map (λ frame. frame.now) frames.now; weight = weight }) ∷ []) (held + weight) tallies.new) }
+        → OnOk result
+        (AreTalliesOf (rows ++ (record { stack = map (λ frame. frame.now) frames.now; weight = weight }) ∷ [])
+        (held + weight) tallies.new) }
 {
     if weight == 0 {
         return Ok(());
@@ -120,7 +128,8 @@ pub(crate) fn weighted(
     tallies: &HashMap<&str, Tally>,
 ) -> Result<Vec<FrameTotal>, AllocError>
     requires { (rows : List Row) × (held : ℕ) × AreTalliesOf rows held tallies.now }
-    ensures { (rows : List Row) (held : ℕ) → AreTalliesOf rows held tallies.now → IfOk result (λ list. AreSumsOf rows (map shown list.items)) }
+    ensures { (rows : List Row) (held : ℕ) → AreTalliesOf rows held tallies.now
+        → IfOk result (λ list. AreSumsOf rows (map shown list.items)) }
 {
     let mut list = Vec::new(alloc);
     for (name, tally) in tallies.iter() {

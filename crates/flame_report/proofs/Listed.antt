@@ -1,15 +1,20 @@
--- The rectangles of a layout are those of the paths that are wide enough.
+-- The paths of rows are those of some weight, in order; the rectangles of a layout are those of the paths that are wide enough.
 use Rattle.std.proofs.Common.{◌≡◌, ℕ, zero, suc, ◌+◌, ◌<◌, Bool, true, false, cond, ◌||◌, List, [], ◌∷◌, ◌++◌, length, map, filter, refl, sym, ap, subst, ◌∙◌, arith}
 use Rattle.std.specs.Prelude.{nat_lt}
-use Rattle.std.specs.List.{Contains, list_any, flat_map}
+use Rattle.std.specs.List.{AllByRecursion, AllPairs, Contains, list_any, flat_map}
+use Rattle.std.specs.Ordering.{is_eq}
+use Rattle.std.specs.declared.cmp.Ordering.TheVariants.{Less}
 use Rattle.std.proofs.lemmas.Bool.{ltb-true, ltb-false}
+use Rattle.std.proofs.lemmas.Cmp.{tied_itself}
+use Rattle.std.proofs.lemmas.List.Elements.{All-from_recursion}
+use Rattle.std.proofs.lemmas.List.Kept.{AllPairs-cons}
 use Rattle.std.proofs.lemmas.Map.Views.{Contains-from_any}
 use Rattle.profile_rows.specs.declared.batch.Row.{Row}
 use Rattle.profile_rows.specs.Layout.{column_at, is_shown, rectangle_at, rectangles_of}
 use Rattle.profile_rows.specs.Names.{name_cmp}
 use Rattle.profile_rows.specs.Paths.{begins_with, path_start, path_weight, paths_of, prefixes}
 use Rattle.profile_rows.specs.Rows.{stack_cmp, is_same_stack, total_of}
-use Rattle.profile_rows.proofs.Members.{member-in_order}
+use Rattle.profile_rows.proofs.Members.{Rises, in_order-Rises, member-in_order}
 use Rattle.profile_rows.proofs.RowLaws.{stack_cmp_total, stack_cmp_apart, same_from_is_same_stack}
 use Rattle.flame_report.proofs.NewPaths.{among-all, begins_row}
 use Rattle.flame_report.proofs.RowSums.{weight_where-cons}
@@ -34,11 +39,69 @@ some_row (row ∷ rows) path some =
     at_most true n none = none
     at_most false n none = refl
 
-weighty_path : (rows : List Row) (path : List (List ℕ)) → 0 < path_weight rows path → Contains (paths_of rows) path
+pub weighty_path : (rows : List Row) (path : List (List ℕ)) → 0 < path_weight rows path → Contains (paths_of rows) path
 weighty_path rows path some =
     Contains-from_any {eq = is_same_stack} (λ x y same. same_from_is_same_stack x y same) path (paths_of rows)
     (member-in_order stack_cmp stack_cmp_total stack_cmp_apart path (flat_map (λ row. prefixes row.stack) (filter (λ row. nat_lt 0 row.weight) rows))
     ∙ among-all path (filter (λ row. nat_lt 0 row.weight) rows) ∙ some_row rows path some)
+
+-- ---- and a path that is listed weighs something
+
+listed : (path : List (List ℕ)) (paths : List (List (List ℕ))) → Contains paths path → list_any (is_same_stack path) paths ≡ true
+listed path [] (k, lt, is) = absurd (omega arith)
+listed path (p ∷ paths) (zero, lt, is) =
+    subst (λ q. (is_same_stack path q || list_any (is_same_stack path) paths) ≡ true) (sym is)
+    (ap (λ o. is_eq o || list_any (is_same_stack path) paths) (tied_itself stack_cmp_total path))
+listed path (p ∷ paths) (suc k, lt, is) =
+    let rest = listed path paths (k, (let low : k < length paths = omega arith in low), is) in
+    elim (is_same_stack path p) as (λ b. (b || list_any (is_same_stack path) paths) ≡ true) [ true ↦ refl | false ↦ rest ]
+
+some_weight : (rows : List Row) (path : List (List ℕ)) → list_any (begins_row path) (filter (λ row. nat_lt 0 row.weight) rows) ≡ true → 0 < path_weight rows path
+some_weight [] path some = cc
+some_weight (row ∷ rows) path some =
+    let cons = weight_where-cons (begins_with name_cmp path) row rows in
+    elim (nat_lt 0 row.weight) as (λ b. nat_lt 0 row.weight ≡ b
+        → list_any (begins_row path) (cond b (row ∷ filter (λ row. nat_lt 0 row.weight) rows) (filter (λ row. nat_lt 0 row.weight) rows)) ≡ true → 0 < path_weight (row ∷ rows) path) [
+      | true ↦ λ e. elim (begins_with name_cmp path row.stack) as (λ b. begins_with name_cmp path row.stack ≡ b
+          → (b || list_any (begins_row path) (filter (λ row. nat_lt 0 row.weight) rows)) ≡ true → 0 < path_weight (row ∷ rows) path) [
+        | true ↦ λ f found.
+            let own : cond (begins_with name_cmp path row.stack) row.weight 0 ≡ row.weight = ap (λ b. cond b row.weight 0) f in
+            let weighs = ltb-true 0 row.weight e in omega arith
+        | false ↦ λ f found. let rest = some_weight rows path found in omega arith
+      ] refl
+      | false ↦ λ e found. let rest = some_weight rows path found in omega arith
+    ] refl some
+
+pub listed_weighs : (rows : List Row) (path : List (List ℕ)) → Contains (paths_of rows) path → 0 < path_weight rows path
+listed_weighs rows path found =
+    some_weight rows path
+    (sym (among-all path (filter (λ row. nat_lt 0 row.weight) rows))
+    ∙ sym (member-in_order stack_cmp stack_cmp_total stack_cmp_apart path (flat_map (λ row. prefixes row.stack) (filter (λ row. nat_lt 0 row.weight) rows)))
+    ∙ listed path (paths_of rows) found)
+
+-- ---- in order
+
+in_pairs : (paths : List (List (List ℕ))) → Rises stack_cmp stack_cmp_total stack_cmp_apart paths → AllPairs (λ a b. stack_cmp a b ≡ Less) paths
+in_pairs [] up = λ i j d lt short. absurd (omega arith)
+in_pairs (path ∷ paths) up =
+    AllPairs-cons (λ a b. stack_cmp a b ≡ Less) path paths (All-from_recursion (λ after. stack_cmp path after ≡ Less) paths up.0) (in_pairs paths up.1)
+
+pub paths_ascend : (rows : List Row) → AllPairs (λ a b. stack_cmp a b ≡ Less) (paths_of rows)
+paths_ascend rows =
+    in_pairs (paths_of rows)
+    (in_order-Rises stack_cmp stack_cmp_total stack_cmp_apart (flat_map (λ row. prefixes row.stack) (filter (λ row. nat_lt 0 row.weight) rows)))
+
+filter-map : {X Y : Type 0} (test : X → Bool) (f : Y → X) (ys : List Y) → filter test (map f ys) ≡ map f (filter (λ y. test (f y)) ys)
+filter-map test f [] = refl
+filter-map test f (y ∷ ys) =
+    elim (test (f y)) as (λ b. cond b (f y ∷ filter test (map f ys)) (filter test (map f ys)) ≡ map f (cond b (y ∷ filter (λ y. test (f y)) ys) (filter (λ y. test (f y)) ys))) [
+      | true ↦ ap (λ more. f y ∷ more) (filter-map test f ys)
+      | false ↦ filter-map test f ys
+    ]
+
+pub drawn_in_order : (columns : ℕ) (rows : List Row)
+    → rectangles_of columns rows ≡ map (rectangle_at columns rows) (filter (λ path. is_shown (rectangle_at columns rows path)) (paths_of rows))
+drawn_in_order columns rows = filter-map is_shown (rectangle_at columns rows) (paths_of rows)
 
 wide_weighs : (columns : ℕ) (rows : List Row) (path : List (List ℕ)) → is_shown (rectangle_at columns rows path) ≡ true → 0 < path_weight rows path
 wide_weighs columns rows path wide =

@@ -1,6 +1,6 @@
 //! Laws of layouts and answers, each the contract of a function that does nothing. A caller calls one to use its law.
 
-ghost use Rattle.std.specs.Prelude.{ℕ, ◌≡◌, ◌≤◌, ◌+◌, ◌++◌, ◌∷◌, [], List, Contains, true};
+ghost use Rattle.std.specs.Prelude.{ℕ, ◌≡◌, ◌≤◌, ◌<◌, ◌↔◌, ◌+◌, ◌++◌, ◌∷◌, [], AllPairs, List, Contains, filter, map, true};
 ghost use Rattle.std.specs.declared.cmp.Ordering.TheVariants.{Less};
 ghost use Rattle.profile_rows.specs.declared.batch.Row.{Row};
 ghost use Rattle.profile_rows.specs.Aggregate.{aggregate_of};
@@ -8,8 +8,8 @@ ghost use Rattle.flame_report.specs.Answers.{answer_of};
 ghost use Rattle.flame_report.specs.declared.query.Query.{Query};
 ghost use Rattle.profile_rows.specs.Layout.{column_at, is_shown, rectangle_at, rectangles_of};
 ghost use Rattle.profile_rows.specs.Names.{name_cmp};
-ghost use Rattle.profile_rows.specs.Paths.{path_start, path_weight};
-ghost use Rattle.profile_rows.specs.Rows.{total_of, weight_of};
+ghost use Rattle.profile_rows.specs.Paths.{path_start, path_weight, paths_of};
+ghost use Rattle.profile_rows.specs.Rows.{stack_cmp, weight_of};
 
 /// The children of a path stand side by side, in the order of their names: the first starts where the path does, and
 /// each other where the one before it ends. Between two neighbours no name has weight.
@@ -69,6 +69,16 @@ pub fn parents_are_shown()
     ensures parents { (columns : ℕ) (rows : List Row) (path rest : List (List ℕ))
         → Contains (rectangles_of columns rows) (rectangle_at columns rows (path ++ rest))
         → Contains (rectangles_of columns rows) (rectangle_at columns rows path) }
+{}
+
+/// The paths of rows come in their order, each once: those that weigh something, and no others. The rectangles are those
+/// of the paths that take a column, in the order of the paths.
+pub fn rectangles_come_in_order()
+    ensures ascending { (rows : List Row) → AllPairs (λ path after. stack_cmp path after ≡ Less) (paths_of rows) }
+    ensures weighty { (rows : List Row) (path : List (List ℕ))
+        → Contains (paths_of rows) path ↔ (0 < path_weight rows path) }
+    ensures drawn { (columns : ℕ) (rows : List Row) → rectangles_of columns rows
+        ≡ map (rectangle_at columns rows) (filter (λ path. is_shown (rectangle_at columns rows path)) (paths_of rows)) }
 {}
 
 /// The answer to a query depends on the aggregate of the rows alone.

@@ -14,7 +14,7 @@ module _ {K : Type 0} (cmp : K → K → Ordering) (total : IsTotalOrder cmp) (a
   is_member q xs = list_any (eq_by_cmp cmp q) xs
 
   -- each element is below those after it
-  abbrev Rises : List K → Type 0
+  abbrev pub Rises : List K → Type 0
   Rises [] = Unit {0}
   Rises (x ∷ xs) = AllByRecursion (λ y. cmp x y ≡ Less) xs × Rises xs
 

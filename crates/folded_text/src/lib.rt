@@ -4,6 +4,7 @@
 mod folded;
 mod folded_sums;
 mod known_names;
+pub mod laws;
 mod text_totals;
 mod written;
 

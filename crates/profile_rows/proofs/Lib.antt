@@ -12,4 +12,5 @@ pub mod RowLaws
 pub mod SameNames
 pub mod TallyLaws
 pub mod Weighted
+pub mod WorkedAggregate
 pub mod WorkedRows

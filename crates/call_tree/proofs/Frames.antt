@@ -10,7 +10,7 @@ use Rattle.profile_rows.specs.declared.batch.Row.{Row}
 use Rattle.profile_rows.specs.Names.{is_same_name}
 use Rattle.profile_rows.specs.Rows.{has_name, ends_with_name, flat_weight_of, cumulative_weight_of}
 use Rattle.profile_rows.specs.Aggregate.{aggregate_of, rows_of}
-use Rattle.profile_rows.specs.TopList.{NameSums, AreSumsOf, occurrences, sums_at}
+use Rattle.profile_rows.specs.TopList.{AreSumsOf, occurrences, sums_at}
 use Rattle.profile_rows.proofs.EntryLaws.{weight_where-rows_of}
 use Rattle.profile_rows.proofs.SameNames.{same_from_is_same_name, is_same_name-self}
 use borrow.Author.Tests.{lt-ltb}
@@ -18,18 +18,17 @@ use Rattle.call_tree.specs.declared.node.Node.{Node}
 use Rattle.profile_rows.specs.declared.frame_totals.FrameTotal.{FrameTotal}
 use Rattle.call_tree.specs.State.{name_at}
 use Rattle.call_tree.specs.Shape.{node_rows, at, counted_if, IsTree}
-use Rattle.profile_rows.specs.TopList.{shown}
 use Rattle.call_tree.specs.Totals.{names_of_weight}
 
-abbrev mark : List ℕ → NameSums → ℕ
+abbrev mark : List ℕ → FrameTotal → ℕ
 mark name sums = cond (is_same_name name sums.name) 1 0
 
-abbrev weighs : NameSums → Bool
-weighs sums = nat_lt 0 sums.cumulative
+abbrev weighs : FrameTotal → Bool
+weighs sums = nat_lt 0 sums.cum
 
 -- ---- one name more
 
-filter_append : (xs ys : List NameSums) → filter weighs (xs ++ ys) ≡ filter weighs xs ++ filter weighs ys
+filter_append : (xs ys : List FrameTotal) → filter weighs (xs ++ ys) ≡ filter weighs xs ++ filter weighs ys
 filter_append [] ys = refl
 filter_append (x ∷ xs) ys =
     let rest = filter_append xs ys in
@@ -47,28 +46,28 @@ names_of_weight-more rows names k lt =
 -- the loop's step, as the code reads and writes
 module _ (rows : List Row) (names : List (List ℕ)) (k flat cum : ℕ) (name : List ℕ) (lt : k < length names)
     (flat_is : flat ≡ flat_weight_of rows (name_at names k)) (cum_is : cum ≡ cumulative_weight_of rows (name_at names k))
-    (totals next : List FrameTotal) (before : map shown totals ≡ names_of_weight rows (take k names)) where
-  pub named : 0 < cum → name ≡ name_at names k → next ≡ totals ++ (record { name = name; flat = flat; cum = cum }) ∷ [] → map shown next ≡ names_of_weight rows (take (k + 1) names)
+    (totals next : List FrameTotal) (before : totals ≡ names_of_weight rows (take k names)) where
+  pub named : 0 < cum → name ≡ name_at names k → next ≡ totals ++ (record { name = name; flat = flat; cum = cum }) ∷ [] → next ≡ names_of_weight rows (take (k + 1) names)
   named some name_is next_is =
       let total : FrameTotal = record { name = name; flat = flat; cum = cum } in
-      let here : shown total ≡ sums_at rows (name_at names k) = λ i. record { name = name_is i; flat = flat_is i; cumulative = cum_is i } in
+      let here : total ≡ sums_at rows (name_at names k) = λ i. record { name = name_is i; flat = flat_is i; cum = cum_is i } in
       let kept : nat_lt 0 (cumulative_weight_of rows (name_at names k)) ≡ true = ap (nat_lt 0) (sym cum_is) ∙ lt-ltb 0 cum some in
-      ap (map shown) next_is ∙ map_push shown totals total ∙ ap (λ xs. xs ++ shown total ∷ []) before
+      next_is ∙ ap (λ xs. xs ++ total ∷ []) before
       ∙ ap (λ x. names_of_weight rows (take k names) ++ x ∷ []) here
       ∙ ap (λ b. names_of_weight rows (take k names) ++ cond b (sums_at rows (name_at names k) ∷ []) []) (sym kept)
       ∙ sym (names_of_weight-more rows names k lt)
 
-  pub unnamed : cum ≡ 0 → next ≡ totals → map shown next ≡ names_of_weight rows (take (k + 1) names)
+  pub unnamed : cum ≡ 0 → next ≡ totals → next ≡ names_of_weight rows (take (k + 1) names)
   unnamed none next_is =
       let left : nat_lt 0 (cumulative_weight_of rows (name_at names k)) ≡ false = ap (nat_lt 0) (sym cum_is ∙ none) in
-      ap (map shown) next_is ∙ before ∙ sym (append-nil (names_of_weight rows (take k names)))
+      next_is ∙ before ∙ sym (append-nil (names_of_weight rows (take k names)))
       ∙ ap (λ b. names_of_weight rows (take k names) ++ cond b (sums_at rows (name_at names k) ∷ []) []) (sym left)
       ∙ sym (names_of_weight-more rows names k lt)
 
 -- ---- how often a name stands there
 
 module _ (rows : List Row) where
-  abbrev of : List (List ℕ) → List NameSums
+  abbrev of : List (List ℕ) → List FrameTotal
   of names = names_of_weight rows names
 
   weighs_cons : (name first : List ℕ) (names : List (List ℕ))
@@ -176,18 +175,18 @@ module _ (names : List (List ℕ)) (nodes : List Node) (tree : IsTree names node
 
 -- ---- the same of other rows and of another order
 
-pub AreSumsOf-permutation : (rows : List Row) (xs ys : List NameSums) → IsPermutation xs ys → AreSumsOf rows xs → AreSumsOf rows ys
+pub AreSumsOf-permutation : (rows : List Row) (xs ys : List FrameTotal) → IsPermutation xs ys → AreSumsOf rows xs → AreSumsOf rows ys
 AreSumsOf-permutation rows xs ys moved are = record {
   weights = All-permutation (λ sums. sums ≡ sums_at rows sums.name) xs ys moved are.weights;
   once = λ name. sum_by-IsPermutation (mark name) xs ys moved ∙ are.once name;
 }
 
-pub AreSumsOf-aggregate : (rows : List Row) (xs : List NameSums) → AreSumsOf rows xs → AreSumsOf (rows_of (aggregate_of rows)) xs
+pub AreSumsOf-aggregate : (rows : List Row) (xs : List FrameTotal) → AreSumsOf rows xs → AreSumsOf (rows_of (aggregate_of rows)) xs
 AreSumsOf-aggregate rows xs are =
     let flat : (name : List ℕ) → flat_weight_of (rows_of (aggregate_of rows)) name ≡ flat_weight_of rows name = λ name. weight_where-rows_of (ends_with_name name) rows in
     let cumulative : (name : List ℕ) → cumulative_weight_of (rows_of (aggregate_of rows)) name ≡ cumulative_weight_of rows name = λ name. weight_where-rows_of (has_name name) rows in
-    let same : (name : List ℕ) → sums_at rows name ≡ sums_at (rows_of (aggregate_of rows)) name = λ name i. record { name = name; flat = sym (flat name) i; cumulative = sym (cumulative name) i } in
+    let same : (name : List ℕ) → sums_at rows name ≡ sums_at (rows_of (aggregate_of rows)) name = λ name i. record { name = name; flat = sym (flat name) i; cum = sym (cumulative name) i } in
     record {
-      weights = subst (λ (f : List ℕ → NameSums). All (λ sums. sums ≡ f sums.name) xs) (λ i name. same name i) are.weights;
+      weights = subst (λ (f : List ℕ → FrameTotal). All (λ sums. sums ≡ f sums.name) xs) (λ i name. same name i) are.weights;
       once = λ name. are.once name ∙ ap (λ n. cond (nat_lt 0 n) 1 0) (sym (cumulative name));
     }

@@ -39,8 +39,7 @@ impl Model for CallTree {
 }
 
 impl CallTree {
-    ghost use Rattle.profile_rows.specs.TopList.{shown};
-    ghost use Rattle.call_tree.specs.Totals.{AreSums, name_order};
+        ghost use Rattle.call_tree.specs.Totals.{AreSums, name_order};
 
     /// The weight of all stacks together. Takes no time per stack.
     pub fn total(&self) -> u64
@@ -200,7 +199,7 @@ impl CallTree {
 
     /// The names of cumulative weight above 0 with their weights, by their numbers.
     fn named_sums(&self, alloc: Global) -> Result<Vec<FrameTotal>, AllocError>
-        ensures { IfOk result (λ totals. AreSumsOf (rows_of (weights_of self.now)) (map shown totals.items)) }
+        ensures { IfOk result (λ totals. AreSumsOf (rows_of (weights_of self.now)) totals.items) }
     {
         let sums = self.sums(alloc)?;
         let mut totals = Vec::new(alloc);
@@ -224,7 +223,7 @@ impl CallTree {
     ///
     /// `NoMemory`.
     pub fn frame_totals(&self, alloc: Global) -> Result<Vec<FrameTotal>, NoMemory>
-        ensures sums { IfOk result (λ totals. AreSumsOf (rows_of (weights_of self.now)) (map shown totals.items)) }
+        ensures sums { IfOk result (λ totals. AreSumsOf (rows_of (weights_of self.now)) totals.items) }
         ensures sorted { IfOk result (λ totals. IsSorted name_order totals.items) }
     {
         let mut totals = self.named_sums(alloc)?;

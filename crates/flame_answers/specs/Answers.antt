@@ -20,7 +20,7 @@ use Rattle.profile_samples.specs.Samples.{IsBatchOf, IsFirstBatchFault}
 use Rattle.profile_rows.specs.TopList.{top_text_of}
 use Rattle.flame_report.specs.declared.answer.Answer.{Answer}
 use Rattle.flame_report.specs.declared.answer.Answer.TheVariants as answer
-use Rattle.flame_report.specs.Answers.{answer_by, answer_of, sums_in}
+use Rattle.flame_report.specs.Answers.{answer_by, answer_of}
 use Rattle.flame_report.specs.declared.query.Kind.{Kind}
 use Rattle.flame_report.specs.Json.{flame_json_of}
 use Rattle.flame_answers.specs.declared.outcomes.ToolFault.{ToolFault}
@@ -65,7 +65,7 @@ value_for (Export kind unit) = None
 
 abbrev pub answer_text : Answer → List ℕ
 answer_text (answer.Total total) = decimal total ++ 10 ∷ []
-answer_text (answer.Top top) = top_text_of top.total (map sums_in top.rows)
+answer_text (answer.Top top) = top_text_of top.total top.rows
 answer_text (answer.Flame flame) = flame_json_of flame ++ 10 ∷ []
 answer_text (answer.Folded text) = text
 

@@ -66,7 +66,7 @@ fn folded_top(alloc: Global, rank: Rank, count: u32, input: &[u8]) -> Result<Vec
         Ok(totals) => totals,
         Err(fault) => return Err(folded_fault(fault)),
     };
-    let top = top_list(alloc, totals, rank, count)?;
+    let top = top_list(totals, rank, count)?;
     Ok(top_text(alloc, &top)?)
 }
 

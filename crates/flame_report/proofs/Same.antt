@@ -9,12 +9,12 @@ use Rattle.profile_rows.specs.Rows.{total_of}
 use Rattle.profile_rows.specs.TopList.{top_list_of}
 use Rattle.profile_rows.proofs.AnswerLaws.{aggregate_of-rows_of, kept_rows-same, top_list_of-same_aggregate, rectangles_of-same}
 use Rattle.profile_rows.proofs.EntryLaws.{weight_where-same}
-use Rattle.flame_report.specs.Answers.{answer_by, answer_of, kept_by, ranking_of, rect_of, top_row_of}
+use Rattle.flame_report.specs.Answers.{answer_by, answer_of, kept_by, ranking_of, rect_of}
 use Rattle.flame_report.specs.declared.answer.Answer.TheVariants as answer
 use Rattle.flame_report.specs.declared.answer.Flame.{Flame}
 use Rattle.flame_report.specs.declared.answer.Rect.{Rect}
 use Rattle.flame_report.specs.declared.answer.Top.{Top}
-use Rattle.flame_report.specs.declared.answer.TopRow.{TopRow}
+use Rattle.profile_rows.specs.declared.frame_totals.FrameTotal.{FrameTotal}
 use Rattle.flame_report.specs.declared.query.Kind.{Kind}
 use Rattle.flame_report.specs.declared.query.Kind.TheVariants as kind
 use Rattle.flame_report.specs.declared.query.Query.{Query}
@@ -22,7 +22,7 @@ use Rattle.flame_report.specs.declared.query.Query.{Query}
 total_of-same : (rows others : List Row) → aggregate_of rows ≡ aggregate_of others → total_of rows ≡ total_of others
 total_of-same rows others same = weight_where-same (λ stack. true) rows others same
 
-abbrev top_from : ℕ → List TopRow → Top
+abbrev top_from : ℕ → List FrameTotal → Top
 top_from total rows = record { total = total; rows = rows }
 
 abbrev flame_from : ℕ → ℕ → List Rect → Flame
@@ -31,8 +31,8 @@ flame_from total columns rects = record { total = total; columns = columns; rect
 answer_by-same : (asked : Kind) (rows others : List Row) → aggregate_of rows ≡ aggregate_of others → answer_by asked rows ≡ answer_by asked others
 answer_by-same kind.Total rows others same = ap answer.Total (total_of-same rows others same)
 answer_by-same (kind.Top rank count) rows others same =
-    ap (λ total. answer.Top (top_from total (map top_row_of (top_list_of (ranking_of rank) count rows)))) (total_of-same rows others same)
-    ∙ ap (λ list. answer.Top (top_from (total_of others) (map top_row_of list))) (top_list_of-same_aggregate (ranking_of rank) count rows others same)
+    ap (λ total. answer.Top (top_from total (top_list_of (ranking_of rank) count rows))) (total_of-same rows others same)
+    ∙ ap (λ list. answer.Top (top_from (total_of others) list)) (top_list_of-same_aggregate (ranking_of rank) count rows others same)
 answer_by-same (kind.Flame columns) rows others same =
     ap (λ total. answer.Flame (flame_from total columns (map rect_of (rectangles_of columns rows)))) (total_of-same rows others same)
     ∙ ap (λ rectangles. answer.Flame (flame_from (total_of others) columns (map rect_of rectangles))) (rectangles_of-same columns rows others same)

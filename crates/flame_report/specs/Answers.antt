@@ -4,14 +4,13 @@ use Rattle.profile_rows.specs.declared.batch.Row.{Row}
 use Rattle.folded_text.specs.FoldedText.{folded_text_of}
 use Rattle.profile_rows.specs.Layout.{Rectangle, rectangles_of}
 use Rattle.profile_rows.specs.Rows.{kept_rows, total_of}
-use Rattle.profile_rows.specs.TopList.{NameSums, Ranking, top_list_of}
+use Rattle.profile_rows.specs.TopList.{Ranking, top_list_of}
 use Rattle.profile_rows.specs.TopList.Ranking.{by_flat, by_cumulative}
 use Rattle.flame_report.specs.declared.answer.Answer.{Answer}
 use Rattle.flame_report.specs.declared.answer.Answer.TheVariants as answer
 use Rattle.flame_report.specs.declared.answer.Flame.{Flame}
 use Rattle.flame_report.specs.declared.answer.Rect.{Rect}
 use Rattle.flame_report.specs.declared.answer.Top.{Top}
-use Rattle.flame_report.specs.declared.answer.TopRow.{TopRow}
 use Rattle.flame_report.specs.declared.query.Kind.{Kind}
 use Rattle.flame_report.specs.declared.query.Kind.TheVariants as kind
 use Rattle.flame_report.specs.declared.query.Query.{Query}
@@ -22,17 +21,8 @@ abbrev pub ranking_of : Rank → Ranking
 ranking_of Flat = by_flat
 ranking_of Cum = by_cumulative
 
--- a name with its weights, as an answer has it
-abbrev pub top_row_of : NameSums → TopRow
-top_row_of sums = record { name = sums.name; flat = sums.flat; cum = sums.cumulative }
-
--- a name of an answer, with its weights
-abbrev pub sums_in : TopRow → NameSums
-sums_in row = record { name = row.name; flat = row.flat; cumulative = row.cum }
-
 abbrev pub top_of : Rank → ℕ → List Row → Top
-top_of rank count rows =
-    record { total = total_of rows; rows = map top_row_of (top_list_of (ranking_of rank) count rows) }
+top_of rank count rows = record { total = total_of rows; rows = top_list_of (ranking_of rank) count rows }
 
 -- a rectangle, as an answer has it
 abbrev pub rect_of : Rectangle → Rect

@@ -8,7 +8,7 @@ use Rattle.flame_report.specs.declared.answer.Answer.TheVariants as answer
 use Rattle.flame_report.specs.declared.answer.Flame.{Flame}
 use Rattle.flame_report.specs.declared.answer.Rect.{Rect}
 use Rattle.flame_report.specs.declared.answer.Top.{Top}
-use Rattle.flame_report.specs.declared.answer.TopRow.{TopRow}
+use Rattle.profile_rows.specs.declared.frame_totals.FrameTotal.{FrameTotal}
 use Rattle.flame_report.specs.declared.query.Kind.{Kind}
 use Rattle.flame_report.specs.declared.query.Kind.TheVariants as kind
 use Rattle.flame_report.specs.declared.query.Query.{Query}
@@ -32,15 +32,15 @@ abbrev pub query_eq : Query → Query → Bool
 query_eq a b = option_eq is_same_name a.focus b.focus && option_eq is_same_name a.ignore b.ignore
     && kind_eq a.kind b.kind
 
-abbrev pub top_row_eq : TopRow → TopRow → Bool
-top_row_eq a b = is_same_name a.name b.name && (a.flat == b.flat) && (a.cum == b.cum)
+abbrev pub frame_total_eq : FrameTotal → FrameTotal → Bool
+frame_total_eq a b = is_same_name a.name b.name && (a.flat == b.flat) && (a.cum == b.cum)
 
 abbrev pub rect_eq : Rect → Rect → Bool
 rect_eq a b = (a.depth == b.depth) && is_same_name a.name b.name && (a.x == b.x) && (a.weight == b.weight)
     && (a.left == b.left) && (a.right == b.right)
 
 abbrev pub top_eq : Top → Top → Bool
-top_eq a b = (a.total == b.total) && pointwise top_row_eq a.rows b.rows
+top_eq a b = (a.total == b.total) && pointwise frame_total_eq a.rows b.rows
 
 abbrev pub flame_eq : Flame → Flame → Bool
 flame_eq a b = (a.total == b.total) && (a.columns == b.columns) && pointwise rect_eq a.rects b.rects

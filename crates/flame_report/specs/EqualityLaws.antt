@@ -6,13 +6,13 @@ use Rattle.std.specs.Option.{option_eq}
 use Rattle.std.specs.Cmp.{IsEquivalence, unsigned_Decides}
 use lib.Pointwise.{pointwise_decides}
 use Rattle.profile_rows.proofs.EqualRows.{both_decide, decided-IsEquivalence, is_same_name-decides}
-use Rattle.flame_report.specs.Equality.{rank_eq, kind_eq, query_eq, top_row_eq, top_eq, rect_eq, flame_eq, answer_eq}
+use Rattle.flame_report.specs.Equality.{rank_eq, kind_eq, query_eq, frame_total_eq, top_eq, rect_eq, flame_eq, answer_eq}
 use Rattle.flame_report.specs.declared.answer.Answer.{Answer}
 use Rattle.flame_report.specs.declared.answer.Answer.TheVariants as answer
 use Rattle.flame_report.specs.declared.answer.Flame.{Flame}
 use Rattle.flame_report.specs.declared.answer.Rect.{Rect}
 use Rattle.flame_report.specs.declared.answer.Top.{Top}
-use Rattle.flame_report.specs.declared.answer.TopRow.{TopRow}
+use Rattle.profile_rows.specs.declared.frame_totals.FrameTotal.{FrameTotal}
 use Rattle.flame_report.specs.declared.query.Kind.{Kind}
 use Rattle.flame_report.specs.declared.query.Kind.TheVariants as kind
 use Rattle.flame_report.specs.declared.query.Query.{Query}
@@ -80,19 +80,19 @@ query_eq-laws = decided-IsEquivalence query_eq-decides
 
 -- ---- answers
 
-top_row_eq-decides : (a b : TopRow) → Decides (top_row_eq a b) (a ≡ b)
-top_row_eq-decides a b =
+frame_total_eq-decides : (a b : FrameTotal) → Decides (frame_total_eq a b) (a ≡ b)
+frame_total_eq-decides a b =
     let parts = both_decide _ _ (both_decide _ _ (is_same_name-decides a.name b.name) (unsigned_Decides a.flat b.flat))
         (unsigned_Decides a.cum b.cum) in (
       λ e. let same = parts.0 e in λ i. record { name = same.0.0 i; flat = same.0.1 i; cum = same.1 i },
-      λ e. parts.1 ((ap (λ (row : TopRow). row.name) e, ap (λ (row : TopRow). row.flat) e),
-          ap (λ (row : TopRow). row.cum) e),
+      λ e. parts.1 ((ap (λ (row : FrameTotal). row.name) e, ap (λ (row : FrameTotal). row.flat) e),
+          ap (λ (row : FrameTotal). row.cum) e),
     )
 
 top_eq-decides : (a b : Top) → Decides (top_eq a b) (a ≡ b)
 top_eq-decides a b =
     let parts = both_decide _ _ (unsigned_Decides a.total b.total)
-        (pointwise_decides top_row_eq-decides a.rows b.rows) in
+        (pointwise_decides frame_total_eq-decides a.rows b.rows) in
     (λ e. let same = parts.0 e in
     λ i. record { total = same.0 i; rows = same.1 i },
     λ e. parts.1 (ap (λ (top : Top). top.total) e, ap (λ (top : Top). top.rows) e))

@@ -4,25 +4,15 @@ ghost use Rattle.std.specs.Prelude.{◌≡◌, ◌↔◌, [], IfOk, IsTrue};
 
 use crate::items::Items;
 use crate::query::Columns;
-use profile_rows::Name;
+use profile_rows::{FrameTotal, Name};
 use std::alloc::AllocError;
 use std::marker::Model;
-
-/// A name and what it weighs.
-#[derive(Drop, PartialEq, Eq)]
-pub struct TopRow {
-    pub name: Name,
-    /// The weight of the rows whose leaf has the name.
-    pub flat: u64,
-    /// The weight of the rows that have the name, each once, however often it recurs.
-    pub cum: u64,
-}
 
 /// The names that weigh most, and what all rows weigh together.
 #[derive(Drop, PartialEq, Eq)]
 pub struct Top {
     pub total: u64,
-    pub rows: Items<TopRow>,
+    pub rows: Items<FrameTotal>,
 }
 
 /// What a rectangle is called: the last name of its path, and nothing for the empty path.

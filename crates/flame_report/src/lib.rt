@@ -12,10 +12,10 @@ mod query;
 mod reports;
 mod top;
 
-pub use answer::{Answer, Flame, Label, Rect, Top, TopRow};
+pub use answer::{Answer, Flame, Label, Rect, Top};
 pub use items::Items;
 pub use json_text::flame_json;
-pub use profile_rows::NoMemory;
+pub use profile_rows::{FrameTotal as TopRow, NoMemory};
 pub use query::{Columns, Kind, MAX_COLUMNS, Query, Rank};
 pub use reports::{report, report_of};
 pub use top::{top_list, top_text};

@@ -96,7 +96,7 @@ fn top_of_tree(alloc: Global, tree: &CallTree, rank: Rank, count: u32) -> Result
 {
     let frames = tree.frame_totals(alloc)?;
     let total = tree.total();
-    top_list(alloc, FrameTotals { total, frames }, rank, count)
+    top_list(FrameTotals { total, frames }, rank, count)
 }
 
 /// The answer over the rows of a tree. What asks for all of them needs no rows.

@@ -3,11 +3,11 @@
 ghost use Rattle.std.specs.Prelude.{ℕ, ◌≡◌, ◌^◌, ◌<◌, List, IfOk, OnOk, IsSorted, IsPermutation, map, take, string_bytes, ◌++◌};
 ghost use Rattle.profile_rows.specs.declared.batch.Row.{Row};
 ghost use Rattle.profile_rows.specs.Rows.{total_of};
-ghost use Rattle.profile_rows.specs.TopList.{AreSumsOf, AreTotalsOf, shown, top_cmp, top_line, top_list_of, top_text_of};
-ghost use Rattle.flame_report.specs.Answers.{kept_by, ranking_of, sums_in, top_of, top_row_of};
+ghost use Rattle.profile_rows.specs.TopList.{AreSumsOf, AreTotalsOf, top_cmp, top_line, top_list_of, top_text_of};
+ghost use Rattle.flame_report.specs.Answers.{kept_by, ranking_of, top_of};
 ghost use Rattle.flame_report.specs.declared.query.Rank.TheVariants.{Flat, Cum};
 
-use crate::answer::{Top, TopRow};
+use crate::answer::Top;
 use crate::items::Items;
 use crate::query::{Query, Rank};
 use profile_rows::laws::top_list_is_front_of_sorted;
@@ -17,7 +17,7 @@ use std::cmp::Ordering;
 
 /// By falling flat weight, and names of one weight by their bytes.
 fn compare_flat(left: &FrameTotal, right: &FrameTotal) -> Ordering
-    ensures { result ≡ top_cmp (ranking_of Flat) (shown left.now) (shown right.now) }
+    ensures { result ≡ top_cmp (ranking_of Flat) left.now right.now }
 {
     right
         .flat
@@ -27,7 +27,7 @@ fn compare_flat(left: &FrameTotal, right: &FrameTotal) -> Ordering
 
 /// By falling cumulative weight, and names of one weight by their bytes.
 fn compare_cumulative(left: &FrameTotal, right: &FrameTotal) -> Ordering
-    ensures { result ≡ top_cmp (ranking_of Cum) (shown left.now) (shown right.now) }
+    ensures { result ≡ top_cmp (ranking_of Cum) left.now right.now }
 {
     right
         .cum
@@ -38,7 +38,7 @@ fn compare_cumulative(left: &FrameTotal, right: &FrameTotal) -> Ordering
 /// Sorts names by their flat weight.
 fn sort_by_flat(list: &mut Vec<FrameTotal>) -> Result<(), AllocError>
     ensures permutation { IsPermutation list.old.items list.new.items }
-    ensures sorted { OnOk result (IsSorted (top_cmp (ranking_of Flat)) (map shown list.new.items)) }
+    ensures sorted { OnOk result (IsSorted (top_cmp (ranking_of Flat)) list.new.items) }
 {
     list.sort_by(|left, right| compare_flat(left, right))?;
     Ok(())
@@ -47,7 +47,7 @@ fn sort_by_flat(list: &mut Vec<FrameTotal>) -> Result<(), AllocError>
 /// Sorts names by their cumulative weight.
 fn sort_by_cumulative(list: &mut Vec<FrameTotal>) -> Result<(), AllocError>
     ensures permutation { IsPermutation list.old.items list.new.items }
-    ensures sorted { OnOk result (IsSorted (top_cmp (ranking_of Cum)) (map shown list.new.items)) }
+    ensures sorted { OnOk result (IsSorted (top_cmp (ranking_of Cum)) list.new.items) }
 {
     list.sort_by(|left, right| compare_cumulative(left, right))?;
     Ok(())
@@ -56,7 +56,7 @@ fn sort_by_cumulative(list: &mut Vec<FrameTotal>) -> Result<(), AllocError>
 /// Sorts names by the weight that `rank` chooses.
 fn sort_names(list: &mut Vec<FrameTotal>, rank: Rank) -> Result<(), AllocError>
     ensures permutation { IsPermutation list.old.items list.new.items }
-    ensures sorted { OnOk result (IsSorted (top_cmp (ranking_of rank)) (map shown list.new.items)) }
+    ensures sorted { OnOk result (IsSorted (top_cmp (ranking_of rank)) list.new.items) }
 {
     match rank {
         Rank::Flat => sort_by_flat(list),
@@ -66,25 +66,13 @@ fn sort_names(list: &mut Vec<FrameTotal>, rank: Rank) -> Result<(), AllocError>
 
 /// Keeps the first `count` names by the weight that `rank` chooses.
 fn rank_names(list: &mut Vec<FrameTotal>, rank: Rank, count: u32) -> Result<(), AllocError>
-    ensures { (rows : List Row) → AreSumsOf rows (map shown list.old.items)
-        → OnOk result (map shown list.new.items ≡ top_list_of (ranking_of rank) count rows) }
+    ensures { (rows : List Row) → AreSumsOf rows list.old.items
+        → OnOk result (list.new.items ≡ top_list_of (ranking_of rank) count rows) }
 {
     sort_names(list, rank)?;
     list.truncate(count as usize);
     top_list_is_front_of_sorted();
     Ok(())
-}
-
-/// The rows of a top list.
-fn rows_of(alloc: Global, list: Vec<FrameTotal>) -> Result<Vec<TopRow>, AllocError>
-    ensures { IfOk result (λ rows. rows.items ≡ map top_row_of (map shown list.items)) }
-{
-    let mut rows = Vec::with_capacity(alloc, list.len())?;
-    for total in list {
-        let FrameTotal { name, flat, cum } = total;
-        rows.push(TopRow { name, flat, cum })?;
-    }
-    Ok(rows)
 }
 
 /// The weight of the rows that a query keeps.
@@ -106,15 +94,14 @@ pub(crate) fn kept_total(rows: &[Row], query: &Query) -> u64
 /// # Errors
 ///
 /// `NoMemory`.
-pub fn top_list(alloc: Global, totals: FrameTotals, rank: Rank, count: u32) -> Result<Top, NoMemory>
+pub fn top_list(totals: FrameTotals, rank: Rank, count: u32) -> Result<Top, NoMemory>
     ensures { (rows : List Row) → AreTotalsOf rows totals → IfOk result (λ top. top ≡ top_of rank count rows) }
 {
     let FrameTotals { total, mut frames } = totals;
     rank_names(&mut frames, rank, count)?;
-    let rows = rows_of(alloc, frames)?;
     Ok(Top {
         total,
-        rows: Items::new(rows),
+        rows: Items::new(frames),
     })
 }
 
@@ -129,12 +116,12 @@ pub(crate) fn top_of_rows(
     ensures { IfOk result (λ top. top ≡ top_of rank count (kept_by query.now batch.now)) }
 {
     let totals = kept_totals(alloc, batch, query.focus.as_ref(), query.ignore.as_ref())?;
-    top_list(alloc, totals, rank, count)
+    top_list(totals, rank, count)
 }
 
 /// Adds the line of a name.
-fn push_line(text: &mut String, row: &TopRow) -> Result<(), AllocError>
-    ensures { OnOk result (string_bytes text.new ≡ string_bytes text.old ++ top_line (sums_in row.now)) }
+fn push_line(text: &mut String, row: &FrameTotal) -> Result<(), AllocError>
+    ensures { OnOk result (string_bytes text.new ≡ string_bytes text.old ++ top_line row.now) }
 {
     writeln!(text, "{} {} {}", row.flat, row.cum, row.name.text())
 }
@@ -146,7 +133,7 @@ fn push_line(text: &mut String, row: &TopRow) -> Result<(), AllocError>
 ///
 /// `NoMemory`.
 pub fn top_text(alloc: Global, top: &Top) -> Result<Vec<u8>, NoMemory>
-    ensures { IfOk result (λ text. text.items ≡ top_text_of top.now.total (map sums_in top.now.rows)) }
+    ensures { IfOk result (λ text. text.items ≡ top_text_of top.now.total top.now.rows) }
 {
     let mut text = format!(in alloc; "total {}\n", top.total)?;
     for row in top.rows.as_slice() {

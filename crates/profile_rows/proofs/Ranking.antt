@@ -19,13 +19,14 @@ use Rattle.profile_rows.specs.Order.{with_member, in_order}
 use Rattle.profile_rows.specs.Rows.{has_name, ends_with_name, weight_if, weight_where, flat_weight_of, cumulative_weight_of}
 use Rattle.std.proofs.lemmas.List.Folds.{list_any-append}
 use Rattle.profile_rows.specs.TopList.Ranking.{by_flat}
-use Rattle.profile_rows.specs.TopList.{NameSums, Ranking, chosen_weight, top_cmp, sums_at, sums_of, top_list_of, occurrences, AreSumsOf}
+use Rattle.profile_rows.specs.declared.frame_totals.FrameTotal.{FrameTotal}
+use Rattle.profile_rows.specs.TopList.{Ranking, chosen_weight, top_cmp, sums_at, sums_of, top_list_of, occurrences, AreSumsOf}
 use Rattle.profile_rows.proofs.SameNames.{same_from_is_same_name, is_same_name-self}
 
 -- ---- the order
 
 pub top_cmp-total : (ranking : Ranking) → IsTotalOrder (top_cmp ranking)
-top_cmp-total ranking = then_total (on_total (chosen_weight ranking) (back_total nat_cmp_total)) (on_total (λ (sums : NameSums). sums.name) nat_list_cmp_total)
+top_cmp-total ranking = then_total (on_total (chosen_weight ranking) (back_total nat_cmp_total)) (on_total (λ (sums : FrameTotal). sums.name) nat_list_cmp_total)
 
 then_equal : (a b : Ordering) → ordering_then a b ≡ Equal → b ≡ Equal
 then_equal Less b e = cc
@@ -33,61 +34,61 @@ then_equal Equal b e = e
 then_equal Greater b e = cc
 
 -- what ties has one name
-tied_name : (ranking : Ranking) (a b : NameSums) → top_cmp ranking a b ≡ Equal → a.name ≡ b.name
+tied_name : (ranking : Ranking) (a b : FrameTotal) → top_cmp ranking a b ≡ Equal → a.name ≡ b.name
 tied_name ranking a b e = slice_cmp-IsAntisymmetric nat_cmp-IsAntisymmetric a.name b.name (then_equal _ _ e)
 
 -- ---- how often a name stands
 
-abbrev mark : List ℕ → NameSums → ℕ
+abbrev mark : List ℕ → FrameTotal → ℕ
 mark name sums = cond (is_same_name name sums.name) 1 0
 
-occurrences-cons : (name : List ℕ) (x : NameSums) (xs : List NameSums) → occurrences name (x ∷ xs) ≡ mark name x + occurrences name xs
+occurrences-cons : (name : List ℕ) (x : FrameTotal) (xs : List FrameTotal) → occurrences name (x ∷ xs) ≡ mark name x + occurrences name xs
 occurrences-cons name x xs = sum_by-cons (mark name) x xs
 
-mark-yes : (name : List ℕ) (x : NameSums) → is_same_name name x.name ≡ true → mark name x ≡ 1
+mark-yes : (name : List ℕ) (x : FrameTotal) → is_same_name name x.name ≡ true → mark name x ≡ 1
 mark-yes name x e = ap (λ b. cond b 1 0) e
 
-mark-no : (name : List ℕ) (x : NameSums) → is_same_name name x.name ≡ false → mark name x ≡ 0
+mark-no : (name : List ℕ) (x : FrameTotal) → is_same_name name x.name ≡ false → mark name x ≡ 0
 mark-no name x e = ap (λ b. cond b 1 0) e
 
-mark-apart : (name : List ℕ) (x : NameSums) → (name ≡ x.name → ⊥) → mark name x ≡ 0
+mark-apart : (name : List ℕ) (x : FrameTotal) → (name ≡ x.name → ⊥) → mark name x ≡ 0
 mark-apart name x apart = elim (is_same_name name x.name) as (λ b. is_same_name name x.name ≡ b → mark name x ≡ 0) [
   | true ↦ λ e. absurd (apart (same_from_is_same_name name x.name e))
   | false ↦ λ e. mark-no name x e
 ] refl
 
-mark-self : (x : NameSums) → mark x.name x ≡ 1
+mark-self : (x : FrameTotal) → mark x.name x ≡ 1
 mark-self x = mark-yes x.name x (is_same_name-self x.name)
 
 -- a name that stands in a list belongs to one of its elements
-found : (P : NameSums → Type 0) (name : List ℕ) (xs : List NameSums) → AllByRecursion P xs → 0 < occurrences name xs → (x : NameSums) × P x × (x.name ≡ name)
+found : (P : FrameTotal → Type 0) (name : List ℕ) (xs : List FrameTotal) → AllByRecursion P xs → 0 < occurrences name xs → (x : FrameTotal) × P x × (x.name ≡ name)
 found P name [] all some = absurd (omega arith)
 found P name (x ∷ xs) all some =
     let cons = occurrences-cons name x xs in
-    elim (is_same_name name x.name) as (λ b. is_same_name name x.name ≡ b → (x : NameSums) × P x × (x.name ≡ name)) [
+    elim (is_same_name name x.name) as (λ b. is_same_name name x.name ≡ b → (x : FrameTotal) × P x × (x.name ≡ name)) [
       | true ↦ λ e. (x, all.0, sym (same_from_is_same_name name x.name e))
       | false ↦ λ e. let none = mark-no name x e in found P name xs all.1 (omega arith)
     ] refl
 
 module _ (rows : List Row) (ranking : Ranking) where
   -- the weights are those of the rows
-  abbrev IsOf : NameSums → Type 0
+  abbrev IsOf : FrameTotal → Type 0
   IsOf sums = sums ≡ sums_at rows sums.name
 
-  same_sums : (a b : NameSums) → IsOf a → IsOf b → a.name ≡ b.name → a ≡ b
+  same_sums : (a b : FrameTotal) → IsOf a → IsOf b → a.name ≡ b.name → a ≡ b
   same_sums a b is_a is_b e = is_a ∙ ap (sums_at rows) e ∙ sym is_b
 
   -- no element is below one before it
-  abbrev Rises : List NameSums → Type 0
+  abbrev Rises : List FrameTotal → Type 0
   Rises [] = Unit {0}
   Rises (x ∷ xs) = AllByRecursion (λ y. top_cmp ranking y x ≢ Less) xs × Rises xs
 
-  tie_self : (x : NameSums) → top_cmp ranking x x ≢ Less
+  tie_self : (x : FrameTotal) → top_cmp ranking x x ≢ Less
   tie_self x e = let turned : top_cmp ranking x x ≡ ordering_reverse (top_cmp ranking x x) = (top_cmp-total ranking).antisymm x x in
       let clash : Less ≡ Greater = sym e ∙ turned ∙ ap ordering_reverse e in cc
 
   -- of two rising lists with the same names, the first elements tie
-  tied : (x : NameSums) (xs : List NameSums) (y : NameSums) (ys : List NameSums) → Rises (x ∷ xs) → Rises (y ∷ ys)
+  tied : (x : FrameTotal) (xs : List FrameTotal) (y : FrameTotal) (ys : List FrameTotal) → Rises (x ∷ xs) → Rises (y ∷ ys)
       → AllByRecursion IsOf (x ∷ xs) → AllByRecursion IsOf (y ∷ ys) → ((name : List ℕ) → occurrences name (x ∷ xs) ≡ occurrences name (y ∷ ys)) → x ≡ y
   tied x xs y ys up_x up_y of_x of_y same =
       let low = first_below x xs y of_x up_x (some y ys (sym (same y.name))) of_y.0 in
@@ -100,20 +101,20 @@ module _ (rows : List Row) (ranking : Ranking) where
       equal Equal p e low high = e
       equal Greater p e low high = absurd (high e)
 
-      some : (x : NameSums) (xs : List NameSums) → {n : ℕ} → occurrences x.name (x ∷ xs) ≡ n → 0 < n
+      some : (x : FrameTotal) (xs : List FrameTotal) → {n : ℕ} → occurrences x.name (x ∷ xs) ≡ n → 0 < n
       some x xs e = let cons = occurrences-cons x.name x xs in let here = mark-self x in omega arith
 
-      first_below : (x : NameSums) (xs : List NameSums) (y : NameSums) → AllByRecursion IsOf (x ∷ xs) → Rises (x ∷ xs) → 0 < occurrences y.name (x ∷ xs) → IsOf y → top_cmp ranking y x ≢ Less
+      first_below : (x : FrameTotal) (xs : List FrameTotal) (y : FrameTotal) → AllByRecursion IsOf (x ∷ xs) → Rises (x ∷ xs) → 0 < occurrences y.name (x ∷ xs) → IsOf y → top_cmp ranking y x ≢ Less
       first_below x xs y of up some is_y =
           let (z, (is_z, above), name) = found (λ z. IsOf z × (top_cmp ranking z x ≢ Less)) y.name (x ∷ xs) ((of.0, tie_self x), both xs of.1 up.0) some in
           subst (λ z. top_cmp ranking z x ≢ Less) (same_sums z y is_z is_y name) above
         where
-          both : (xs : List NameSums) → AllByRecursion IsOf xs → AllByRecursion (λ y. top_cmp ranking y x ≢ Less) xs → AllByRecursion (λ z. IsOf z × (top_cmp ranking z x ≢ Less)) xs
+          both : (xs : List FrameTotal) → AllByRecursion IsOf xs → AllByRecursion (λ y. top_cmp ranking y x ≢ Less) xs → AllByRecursion (λ z. IsOf z × (top_cmp ranking z x ≢ Less)) xs
           both [] a b = tt
           both (z ∷ xs) a b = ((a.0, b.0), both xs a.1 b.1)
 
   -- two rising lists of the rows' weights in which each name stands as often are one
-  same_rising : (xs ys : List NameSums) → Rises xs → Rises ys → AllByRecursion IsOf xs → AllByRecursion IsOf ys → ((name : List ℕ) → occurrences name xs ≡ occurrences name ys) → xs ≡ ys
+  same_rising : (xs ys : List FrameTotal) → Rises xs → Rises ys → AllByRecursion IsOf xs → AllByRecursion IsOf ys → ((name : List ℕ) → occurrences name xs ≡ occurrences name ys) → xs ≡ ys
   same_rising [] [] up_x up_y of_x of_y same = refl
   same_rising [] (y ∷ ys) up_x up_y of_x of_y same =
       let cons = occurrences-cons y.name y ys in let here = mark-self y in let none = same y.name in absurd (omega arith)
@@ -131,7 +132,7 @@ module _ (rows : List Row) (ranking : Ranking) where
 
   -- ---- a list put in order
 
-  all-with_member : (P : NameSums → Type 0) (x : NameSums) (xs : List NameSums) → P x → AllByRecursion P xs → AllByRecursion P (with_member (top_cmp ranking) x xs)
+  all-with_member : (P : FrameTotal → Type 0) (x : FrameTotal) (xs : List FrameTotal) → P x → AllByRecursion P xs → AllByRecursion P (with_member (top_cmp ranking) x xs)
   all-with_member P x [] here all = (here, tt)
   all-with_member P x (y ∷ ys) here all =
       let rest = all-with_member P x ys here all.1 in
@@ -141,19 +142,19 @@ module _ (rows : List Row) (ranking : Ranking) where
         | Greater ↦ (all.0, rest)
       ]
 
-  all-in_order : (P : NameSums → Type 0) (xs : List NameSums) → AllByRecursion P xs → AllByRecursion P (in_order (top_cmp ranking) xs)
+  all-in_order : (P : FrameTotal → Type 0) (xs : List FrameTotal) → AllByRecursion P xs → AllByRecursion P (in_order (top_cmp ranking) xs)
   all-in_order P [] all = tt
   all-in_order P (x ∷ xs) all = all-with_member P x (in_order (top_cmp ranking) xs) all.0 (all-in_order P xs all.1)
 
   -- what is below the first of a rising list is below all of it
-  below_all : (x y : NameSums) (ys : List NameSums) → top_cmp ranking x y ≡ Less → AllByRecursion (λ z. top_cmp ranking z y ≢ Less) ys → AllByRecursion (λ z. top_cmp ranking z x ≢ Less) ys
+  below_all : (x y : FrameTotal) (ys : List FrameTotal) → top_cmp ranking x y ≡ Less → AllByRecursion (λ z. top_cmp ranking z y ≢ Less) ys → AllByRecursion (λ z. top_cmp ranking z x ≢ Less) ys
   below_all x y [] less all = tt
   below_all x y (z ∷ ys) less all = (λ e. all.0 ((top_cmp-total ranking).trans z x y e less), below_all x y ys less all.1)
 
-  turn : (x y : NameSums) (o : Ordering) → top_cmp ranking x y ≡ o → top_cmp ranking y x ≡ ordering_reverse o
+  turn : (x y : FrameTotal) (o : Ordering) → top_cmp ranking x y ≡ o → top_cmp ranking y x ≡ ordering_reverse o
   turn x y o e = (top_cmp-total ranking).antisymm y x ∙ ap ordering_reverse e
 
-  with_member-Rises : (x : NameSums) (xs : List NameSums) → Rises xs → Rises (with_member (top_cmp ranking) x xs)
+  with_member-Rises : (x : FrameTotal) (xs : List FrameTotal) → Rises xs → Rises (with_member (top_cmp ranking) x xs)
   with_member-Rises x [] up = (tt, tt)
   with_member-Rises x (y ∷ ys) up =
       let rest = with_member-Rises x ys up.1 in
@@ -168,12 +169,12 @@ module _ (rows : List Row) (ranking : Ranking) where
             (all-with_member (λ z. top_cmp ranking z y ≢ Less) x ys above up.0, rest)
       ] refl
 
-  in_order-Rises : (xs : List NameSums) → Rises (in_order (top_cmp ranking) xs)
+  in_order-Rises : (xs : List FrameTotal) → Rises (in_order (top_cmp ranking) xs)
   in_order-Rises [] = tt
   in_order-Rises (x ∷ xs) = with_member-Rises x (in_order (top_cmp ranking) xs) (in_order-Rises xs)
 
   -- two elements with one name tie
-  tie_from_name : (x y : NameSums) → IsOf x → IsOf y → x.name ≡ y.name → top_cmp ranking x y ≡ Equal
+  tie_from_name : (x y : FrameTotal) → IsOf x → IsOf y → x.name ≡ y.name → top_cmp ranking x y ≡ Equal
   tie_from_name x y of_x of_y e =
       let same : x ≡ y = same_sums x y of_x of_y e in
       subst (λ z. top_cmp ranking x z ≡ Equal) same (itself (top_cmp ranking x x) ((top_cmp-total ranking).antisymm x x))
@@ -184,7 +185,7 @@ module _ (rows : List Row) (ranking : Ranking) where
       itself Greater e = cc
 
   -- a name below a rising list doesn't stand in it
-  absent_below : (x y : NameSums) (ys : List NameSums) → IsOf x → AllByRecursion IsOf (y ∷ ys) → Rises (y ∷ ys) → top_cmp ranking x y ≡ Less → occurrences x.name (y ∷ ys) ≡ 0
+  absent_below : (x y : FrameTotal) (ys : List FrameTotal) → IsOf x → AllByRecursion IsOf (y ∷ ys) → Rises (y ∷ ys) → top_cmp ranking x y ≡ Less → occurrences x.name (y ∷ ys) ≡ 0
   absent_below x y ys of_x of up less =
       elim (occurrences x.name (y ∷ ys)) as (λ n. occurrences x.name (y ∷ ys) ≡ n → n ≡ 0) [
         | zero ↦ λ e. refl
@@ -195,12 +196,12 @@ module _ (rows : List Row) (ranking : Ranking) where
             absurd (above (ap (λ w. top_cmp ranking w y) same ∙ less))
       ] refl
     where
-      both : (xs : List NameSums) → AllByRecursion IsOf xs → AllByRecursion (λ z. top_cmp ranking z y ≢ Less) xs → AllByRecursion (λ z. IsOf z × (top_cmp ranking z y ≢ Less)) xs
+      both : (xs : List FrameTotal) → AllByRecursion IsOf xs → AllByRecursion (λ z. top_cmp ranking z y ≢ Less) xs → AllByRecursion (λ z. IsOf z × (top_cmp ranking z y ≢ Less)) xs
       both [] a b = tt
       both (z ∷ xs) a b = ((a.0, b.0), both xs a.1 b.1)
 
   -- another name stands as often as before
-  with_member-other : (name : List ℕ) (x : NameSums) (xs : List NameSums) → AllByRecursion IsOf (x ∷ xs) → is_same_name name x.name ≡ false
+  with_member-other : (name : List ℕ) (x : FrameTotal) (xs : List FrameTotal) → AllByRecursion IsOf (x ∷ xs) → is_same_name name x.name ≡ false
       → occurrences name (with_member (top_cmp ranking) x xs) ≡ occurrences name xs
   with_member-other name x [] of other = let cons = occurrences-cons name x [] in let none = mark-no name x other in omega arith
   with_member-other name x (y ∷ ys) of other =
@@ -215,7 +216,7 @@ module _ (rows : List Row) (ranking : Ranking) where
       ] refl
 
   -- its own name stands once, or as often as before
-  with_member-own : (x : NameSums) (xs : List NameSums) → AllByRecursion IsOf (x ∷ xs) → Rises xs
+  with_member-own : (x : FrameTotal) (xs : List FrameTotal) → AllByRecursion IsOf (x ∷ xs) → Rises xs
       → occurrences x.name (with_member (top_cmp ranking) x xs) ≡ max 1 (occurrences x.name xs)
   with_member-own x [] of up = let cons = occurrences-cons x.name x [] in let here = mark-self x in omega arith
   with_member-own x (y ∷ ys) of up =
@@ -240,7 +241,7 @@ module _ (rows : List Row) (ranking : Ranking) where
       ] refl
 
   -- in order each name stands once, where it stands at all
-  in_order-occurrences : (name : List ℕ) (xs : List NameSums) → AllByRecursion IsOf xs → occurrences name (in_order (top_cmp ranking) xs) ≡ cond (ltb 0 (occurrences name xs)) 1 0
+  in_order-occurrences : (name : List ℕ) (xs : List FrameTotal) → AllByRecursion IsOf xs → occurrences name (in_order (top_cmp ranking) xs) ≡ cond (ltb 0 (occurrences name xs)) 1 0
   in_order-occurrences name [] of = refl
   in_order-occurrences name (x ∷ xs) of =
       let rest = in_order-occurrences name xs of.1 in
@@ -270,27 +271,27 @@ module _ (rows : List Row) (ranking : Ranking) where
 
   -- ---- the weights of the names in the rows
 
-  weights_of : (names : List (List ℕ)) → List NameSums
-  weights_of names = filter (λ sums. nat_lt 0 sums.cumulative) (map (sums_at rows) names)
+  weights_of : (names : List (List ℕ)) → List FrameTotal
+  weights_of names = filter (λ sums. nat_lt 0 sums.cum) (map (sums_at rows) names)
 
-  weights_of-IsOf : (names : List (List ℕ)) → AllByRecursion IsOf (filter (λ sums. nat_lt 0 sums.cumulative) (map (sums_at rows) names))
+  weights_of-IsOf : (names : List (List ℕ)) → AllByRecursion IsOf (filter (λ sums. nat_lt 0 sums.cum) (map (sums_at rows) names))
   weights_of-IsOf [] = tt
   weights_of-IsOf (name ∷ names) =
       let rest = weights_of-IsOf names in
-      elim (nat_lt 0 (cumulative_weight_of rows name)) as (λ b. AllByRecursion IsOf (cond b (sums_at rows name ∷ filter (λ sums. nat_lt 0 sums.cumulative) (map (sums_at rows) names)) (filter (λ sums. nat_lt 0 sums.cumulative) (map (sums_at rows) names)))) [
+      elim (nat_lt 0 (cumulative_weight_of rows name)) as (λ b. AllByRecursion IsOf (cond b (sums_at rows name ∷ filter (λ sums. nat_lt 0 sums.cum) (map (sums_at rows) names)) (filter (λ sums. nat_lt 0 sums.cum) (map (sums_at rows) names)))) [
         | true ↦ (refl, rest)
         | false ↦ rest
       ]
 
   -- a name of weight 0 isn't among them
-  weights_of-none : (name : List ℕ) (names : List (List ℕ)) → nat_lt 0 (cumulative_weight_of rows name) ≡ false → occurrences name (filter (λ sums. nat_lt 0 sums.cumulative) (map (sums_at rows) names)) ≡ 0
+  weights_of-none : (name : List ℕ) (names : List (List ℕ)) → nat_lt 0 (cumulative_weight_of rows name) ≡ false → occurrences name (filter (λ sums. nat_lt 0 sums.cum) (map (sums_at rows) names)) ≡ 0
   weights_of-none name [] zero_weight = refl
   weights_of-none name (other ∷ names) zero_weight =
       let rest = weights_of-none name names zero_weight in
       elim (nat_lt 0 (cumulative_weight_of rows other)) as (λ b. nat_lt 0 (cumulative_weight_of rows other) ≡ b
-      → occurrences name (cond b (sums_at rows other ∷ filter (λ sums. nat_lt 0 sums.cumulative) (map (sums_at rows) names)) (filter (λ sums. nat_lt 0 sums.cumulative) (map (sums_at rows) names))) ≡ 0) [
+      → occurrences name (cond b (sums_at rows other ∷ filter (λ sums. nat_lt 0 sums.cum) (map (sums_at rows) names)) (filter (λ sums. nat_lt 0 sums.cum) (map (sums_at rows) names))) ≡ 0) [
         | true ↦ λ e.
-            let cons = occurrences-cons name (sums_at rows other) (filter (λ sums. nat_lt 0 sums.cumulative) (map (sums_at rows) names)) in
+            let cons = occurrences-cons name (sums_at rows other) (filter (λ sums. nat_lt 0 sums.cum) (map (sums_at rows) names)) in
             let apart : name ≡ other → ⊥ = λ t. let clash : true ≡ false = sym e ∙ ap (λ n. nat_lt 0 (cumulative_weight_of rows n)) (sym t) ∙ zero_weight in cc in
             let none = mark-apart name (sums_at rows other) apart in
             omega arith
@@ -299,23 +300,23 @@ module _ (rows : List Row) (ranking : Ranking) where
 
   -- a name of weight above 0 that is among the names is among them
   weights_of-some : (name : List ℕ) (names : List (List ℕ)) → nat_lt 0 (cumulative_weight_of rows name) ≡ true → list_any (is_same_name name) names ≡ true
-      → 0 < occurrences name (filter (λ sums. nat_lt 0 sums.cumulative) (map (sums_at rows) names))
+      → 0 < occurrences name (filter (λ sums. nat_lt 0 sums.cum) (map (sums_at rows) names))
   weights_of-some name [] weight any = cc
   weights_of-some name (other ∷ names) weight any =
       elim (is_same_name name other) as (λ b. is_same_name name other ≡ b → (b || list_any (is_same_name name) names) ≡ true
-      → 0 < occurrences name (filter (λ sums. nat_lt 0 sums.cumulative) (map (sums_at rows) (other ∷ names)))) [
+      → 0 < occurrences name (filter (λ sums. nat_lt 0 sums.cum) (map (sums_at rows) (other ∷ names)))) [
         | true ↦ λ t one.
             let kept : nat_lt 0 (cumulative_weight_of rows other) ≡ true = ap (λ n. nat_lt 0 (cumulative_weight_of rows n)) (sym (same_from_is_same_name name other t)) ∙ weight in
-            let list : filter (λ sums. nat_lt 0 sums.cumulative) (map (sums_at rows) (other ∷ names)) ≡ sums_at rows other ∷ filter (λ sums. nat_lt 0 sums.cumulative) (map (sums_at rows) names) =
-            ap (λ b. cond b (sums_at rows other ∷ filter (λ sums. nat_lt 0 sums.cumulative) (map (sums_at rows) names)) (filter (λ sums. nat_lt 0 sums.cumulative) (map (sums_at rows) names))) kept in
-            let cons = occurrences-cons name (sums_at rows other) (filter (λ sums. nat_lt 0 sums.cumulative) (map (sums_at rows) names)) in
+            let list : filter (λ sums. nat_lt 0 sums.cum) (map (sums_at rows) (other ∷ names)) ≡ sums_at rows other ∷ filter (λ sums. nat_lt 0 sums.cum) (map (sums_at rows) names) =
+            ap (λ b. cond b (sums_at rows other ∷ filter (λ sums. nat_lt 0 sums.cum) (map (sums_at rows) names)) (filter (λ sums. nat_lt 0 sums.cum) (map (sums_at rows) names))) kept in
+            let cons = occurrences-cons name (sums_at rows other) (filter (λ sums. nat_lt 0 sums.cum) (map (sums_at rows) names)) in
             let here = mark-yes name (sums_at rows other) t in
             let all = ap (occurrences name) list in
             omega arith
         | false ↦ λ t one.
             let rest = weights_of-some name names weight one in
-            elim (nat_lt 0 (cumulative_weight_of rows other)) as (λ b. 0 < occurrences name (cond b (sums_at rows other ∷ filter (λ sums. nat_lt 0 sums.cumulative) (map (sums_at rows) names)) (filter (λ sums. nat_lt 0 sums.cumulative) (map (sums_at rows) names)))) [
-              | true ↦ let cons = occurrences-cons name (sums_at rows other) (filter (λ sums. nat_lt 0 sums.cumulative) (map (sums_at rows) names)) in omega arith
+            elim (nat_lt 0 (cumulative_weight_of rows other)) as (λ b. 0 < occurrences name (cond b (sums_at rows other ∷ filter (λ sums. nat_lt 0 sums.cum) (map (sums_at rows) names)) (filter (λ sums. nat_lt 0 sums.cum) (map (sums_at rows) names)))) [
+              | true ↦ let cons = occurrences-cons name (sums_at rows other) (filter (λ sums. nat_lt 0 sums.cum) (map (sums_at rows) names)) in omega arith
               | false ↦ rest
             ]
       ] refl any
@@ -345,8 +346,8 @@ sums_of-occurrences rows name =
 
 -- ---- a sorted list
 
-rises_from : (rows : List Row) (ranking : Ranking) (xs : List NameSums)
-    → ((i j : ℕ) (d : NameSums) → i ≤ j → j < length xs → is_lt (top_cmp ranking (get_or xs j d) (get_or xs i d)) ≡ false) → Rises rows ranking xs
+rises_from : (rows : List Row) (ranking : Ranking) (xs : List FrameTotal)
+    → ((i j : ℕ) (d : FrameTotal) → i ≤ j → j < length xs → is_lt (top_cmp ranking (get_or xs j d) (get_or xs i d)) ≡ false) → Rises rows ranking xs
 rises_from rows ranking [] far = tt
 rises_from rows ranking (x ∷ xs) far = (
   recursion_from_All (λ y. top_cmp ranking y x ≢ Less) xs (λ k d lt less. let clash : true ≡ false = ap is_lt (sym less) ∙ far 0 (suc k) d (omega arith) (omega arith) in cc),
@@ -354,11 +355,11 @@ rises_from rows ranking (x ∷ xs) far = (
 )
 
 -- However the weights of the names were sorted, their front is the top list.
-pub top_list_of-ranked : (ranking : Ranking) (count : ℕ) (rows : List Row) (sums ranked : List NameSums)
+pub top_list_of-ranked : (ranking : Ranking) (count : ℕ) (rows : List Row) (sums ranked : List FrameTotal)
     → AreSumsOf rows sums → IsPermutation sums ranked → IsSorted (top_cmp ranking) ranked → take count ranked ≡ top_list_of ranking count rows
 top_list_of-ranked ranking count rows sums ranked are moved sorted =
     let of : AllByRecursion (IsOf rows ranking) ranked = recursion_from_All (IsOf rows ranking) ranked (All-permutation (IsOf rows ranking) sums ranked moved are.weights) in
-    let far = sorted_far (λ (x y : NameSums). is_lt (top_cmp ranking x y)) (ranks_by (top_cmp-total ranking) (λ (x : NameSums). x)) ranked sorted in
+    let far = sorted_far (λ (x y : FrameTotal). is_lt (top_cmp ranking x y)) (ranks_by (top_cmp-total ranking) (λ (x : FrameTotal). x)) ranked sorted in
     let listed = weights_of-IsOf rows ranking (flat_map (λ row. row.stack) rows) in
     ap (take count) (same_rising rows ranking ranked (in_order (top_cmp ranking) (sums_of rows))
     (rises_from rows ranking ranked far) (in_order-Rises rows ranking (sums_of rows)) of (all-in_order rows ranking (IsOf rows ranking) (sums_of rows) listed)
@@ -372,8 +373,8 @@ top_list_of-ranked ranking count rows sums ranked are moved sorted =
 
 sums_at-same : (rows others : List Row) → ((test : List (List ℕ) → Bool) → weight_where test rows ≡ weight_where test others) → (name : List ℕ) → sums_at rows name ≡ sums_at others name
 sums_at-same rows others same name =
-    ap (λ n. let sums : NameSums = record { name = name; flat = n; cumulative = cumulative_weight_of rows name } in sums) (same (ends_with_name name))
-    ∙ ap (λ n. let sums : NameSums = record { name = name; flat = flat_weight_of others name; cumulative = n } in sums) (same (has_name name))
+    ap (λ n. let sums : FrameTotal = record { name = name; flat = n; cum = cumulative_weight_of rows name } in sums) (same (ends_with_name name))
+    ∙ ap (λ n. let sums : FrameTotal = record { name = name; flat = flat_weight_of others name; cum = n } in sums) (same (has_name name))
 
 -- have one top list
 pub top_list_of-same : (ranking : Ranking) (count : ℕ) (rows others : List Row) → ((test : List (List ℕ) → Bool) → weight_where test rows ≡ weight_where test others)
@@ -389,6 +390,6 @@ top_list_of-same ranking count rows others same =
     ∙ ap (λ b. cond b 1 0) (sums_of-occurrences rows name ∙ ap (nat_lt 0) (same (has_name name)) ∙ sym (sums_of-occurrences others name))
     ∙ sym (in_order-occurrences rows ranking name (sums_of others) theirs)))
   where
-    of_these : (xs : List NameSums) → AllByRecursion (IsOf others ranking) xs → AllByRecursion (IsOf rows ranking) xs
+    of_these : (xs : List FrameTotal) → AllByRecursion (IsOf others ranking) xs → AllByRecursion (IsOf rows ranking) xs
     of_these [] all = tt
     of_these (x ∷ xs) all = (all.0 ∙ sym (sums_at-same rows others same x.name), of_these xs all.1)

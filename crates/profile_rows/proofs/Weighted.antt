@@ -3,7 +3,7 @@ use Rattle.std.proofs.Common.{◌≡◌, ℕ, ◌+◌, ◌<◌, Bool, true, fals
 use Rattle.std.specs.Prelude.{filter, map, nat_lt, unwrap_or}
 use Rattle.std.specs.Cmp.{IsEquivalence, on_equiv}
 use Rattle.std.proofs.lemmas.Cmp.{nat_list_eq_equiv}
-use Rattle.profile_rows.specs.TopList.{NameSums}
+use Rattle.profile_rows.specs.declared.frame_totals.FrameTotal.{FrameTotal}
 use Rattle.profile_rows.specs.Names.{IsName, is_same_name}
 use Rattle.profile_rows.specs.TopList.{occurrences, AreSumsOf, sums_at}
 use Rattle.profile_rows.specs.declared.batch.Row.{Row}
@@ -23,12 +23,12 @@ use Rattle.profile_rows.proofs.TallyLaws.{zero_tally}
 abbrev pub Entry : Type 0
 Entry = Bor (List ℕ) × Tally
 
-abbrev entry_shown : Entry → NameSums
-entry_shown entry = record { name = entry.0.now; flat = entry.1.flat; cumulative = entry.1.cumulative }
+abbrev entry_shown : Entry → FrameTotal
+entry_shown entry = record { name = entry.0.now; flat = entry.1.flat; cum = entry.1.cumulative }
 
 -- the names of cumulative weight above 0
-abbrev pub weighted_in : List Entry → List NameSums
-weighted_in entries = filter (λ sums. nat_lt 0 sums.cumulative) (map entry_shown entries)
+abbrev pub weighted_in : List Entry → List FrameTotal
+weighted_in entries = filter (λ sums. nat_lt 0 sums.cum) (map entry_shown entries)
 
 abbrev is_key : List ℕ → Bor (List ℕ) → Bool
 is_key name key = is_same_name name key.now
@@ -36,7 +36,7 @@ is_key name key = is_same_name name key.now
 abbrev keys_eq : Bor (List ℕ) → Bor (List ℕ) → Bool
 keys_eq a b = is_same_name a.now b.now
 
-abbrev mark : List ℕ → NameSums → ℕ
+abbrev mark : List ℕ → FrameTotal → ℕ
 mark name sums = cond (is_same_name name sums.name) 1 0
 
 -- what a list of entries has at a name
@@ -99,8 +99,8 @@ each_found entries distinct k d lt =
 -- what is shown of an entry with the rows' tally is the name's weights in the rows
 sums_from : (rows : List Row) (last : ℕ) (entry : Entry) → IsTallyOf rows last entry.0.now entry.1 → entry_shown entry ≡ sums_at rows entry.0.now
 sums_from rows last entry is =
-    ap (λ n. let sums : NameSums = record { name = entry.0.now; flat = n; cumulative = entry.1.cumulative } in sums) is.flat
-    ∙ ap (λ n. let sums : NameSums = record { name = entry.0.now; flat = flat_weight_of rows entry.0.now; cumulative = n } in sums) is.cumulative
+    ap (λ n. let sums : FrameTotal = record { name = entry.0.now; flat = n; cum = entry.1.cumulative } in sums) is.flat
+    ∙ ap (λ n. let sums : FrameTotal = record { name = entry.0.now; flat = flat_weight_of rows entry.0.now; cum = n } in sums) is.cumulative
 
 shown_weights : (rows : List Row) (last : ℕ) (all entries : List Entry) → ((name : List ℕ) → IsTallyOf rows last name (found_in all name)) → AllByRecursion (λ (e : Entry). e.1 ≡ found_in all e.0.now) entries
     → AllByRecursion (λ sums. sums ≡ sums_at rows sums.name) (weighted_in entries)

@@ -11,63 +11,53 @@ use Rattle.profile_rows.specs.Names.{name_cmp, is_same_name}
 use Rattle.profile_rows.specs.Order.{in_order}
 use Rattle.profile_rows.specs.Rows.{total_of, flat_weight_of, cumulative_weight_of}
 
--- a name with its two weights
-pub record NameSums : Type 0 where
-  pub name : List ℕ
-  pub flat : ℕ
-  pub cumulative : ℕ
-
 -- which weight decides the order
 pub data Ranking : Type 0 where
   by_flat : Ranking
   by_cumulative : Ranking
 
-abbrev pub chosen_weight : Ranking → NameSums → ℕ
+abbrev pub chosen_weight : Ranking → FrameTotal → ℕ
 chosen_weight by_flat sums = sums.flat
-chosen_weight by_cumulative sums = sums.cumulative
+chosen_weight by_cumulative sums = sums.cum
 
 -- by falling chosen weight, and names of one weight by their bytes
-abbrev pub top_cmp : Ranking → NameSums → NameSums → Ordering
+abbrev pub top_cmp : Ranking → FrameTotal → FrameTotal → Ordering
 top_cmp ranking a b =
     ordering_then (nat_cmp (chosen_weight ranking b) (chosen_weight ranking a)) (name_cmp a.name b.name)
 
 -- the weights of a name among these rows
-abbrev pub sums_at : List Row → List ℕ → NameSums
-sums_at rows name = record { name = name; flat = flat_weight_of rows name; cumulative = cumulative_weight_of rows name }
+abbrev pub sums_at : List Row → List ℕ → FrameTotal
+sums_at rows name = record { name = name; flat = flat_weight_of rows name; cum = cumulative_weight_of rows name }
 
 -- the names in the rows, with their weights: those of cumulative weight above 0
-abbrev pub sums_of : List Row → List NameSums
-sums_of rows = filter (λ sums. nat_lt 0 sums.cumulative) (map (sums_at rows) (flat_map (λ row. row.stack) rows))
+abbrev pub sums_of : List Row → List FrameTotal
+sums_of rows = filter (λ sums. nat_lt 0 sums.cum) (map (sums_at rows) (flat_map (λ row. row.stack) rows))
 
 -- the first `count` names by the chosen weight, each once
-abbrev pub top_list_of : Ranking → ℕ → List Row → List NameSums
+abbrev pub top_list_of : Ranking → ℕ → List Row → List FrameTotal
 top_list_of ranking count rows = take count (in_order (top_cmp ranking) (sums_of rows))
 
 -- how often a name stands in a list of names with their weights
-abbrev pub occurrences : List ℕ → List NameSums → ℕ
-occurrences name list = sum_by (λ (sums : NameSums). if is_same_name name sums.name then 1 else 0) list
+abbrev pub occurrences : List ℕ → List FrameTotal → ℕ
+occurrences name list = sum_by (λ (sums : FrameTotal). if is_same_name name sums.name then 1 else 0) list
 
 -- the list has each name of cumulative weight above 0 once, with its weights among the rows, and no other name, in any
 -- order
-pub record AreSumsOf (rows : List Row) (list : List NameSums) : Type 0 where
+pub record AreSumsOf (rows : List Row) (list : List FrameTotal) : Type 0 where
   pub weights : All (λ sums. sums ≡ sums_at rows sums.name) list
   pub once : (name : List ℕ) → occurrences name list ≡ (if nat_lt 0 (cumulative_weight_of rows name) then 1 else 0)
 
--- a frame total as a name with its weights
-abbrev pub shown : FrameTotal → NameSums
-shown total = record { name = total.name; flat = total.flat; cumulative = total.cum }
-
 -- what the names of rows weigh, and what the rows weigh together
 pub record AreTotalsOf (rows : List Row) (totals : FrameTotals) : Type 0 where
-  pub sums : AreSumsOf rows (map shown totals.frames.items)
+  pub sums : AreSumsOf rows totals.frames.items
   pub total : totals.total ≡ total_of rows
 
 -- one line: the flat weight, the cumulative weight and the name
-abbrev pub top_line : NameSums → List ℕ
-top_line sums = decimal sums.flat ++ 32 ∷ decimal sums.cumulative ++ 32 ∷ sums.name ++ 10 ∷ []
+abbrev pub top_line : FrameTotal → List ℕ
+top_line sums = decimal sums.flat ++ 32 ∷ decimal sums.cum ++ 32 ∷ sums.name ++ 10 ∷ []
 
 -- a top list as text: the total, then a line for each name
-abbrev pub top_text_of : ℕ → List NameSums → List ℕ
+abbrev pub top_text_of : ℕ → List FrameTotal → List ℕ
 top_text_of total list = codes "total " ++ decimal total ++ 10 ∷ flat_map top_line list
 
 -- the text of the top list of these rows

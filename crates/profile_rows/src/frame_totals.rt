@@ -17,7 +17,7 @@ use std::alloc::{AllocError, Global};
 use std::collections::HashMap;
 
 /// What a name weighs in rows, as pprof has it.
-#[derive(Drop)]
+#[derive(Drop, PartialEq, Eq)]
 pub struct FrameTotal {
     pub name: Name,
     /// The weight of the rows whose leaf has the name.
@@ -106,7 +106,7 @@ fn replace_by_names<'a>(frames: &mut Vec<&'a str>, names: &'a [Name]) -> Result<
 }
 
 /// Counts a row, whose frames take the place of others in the buffer.
-fn count_row<'a>(
+fn count_batch_row<'a>(
     rows: &mut CountedRows<'a>,
     frames: &mut Vec<&'a str>,
     row: &'a Row,
@@ -139,7 +139,7 @@ pub fn kept_totals(
     let mut frames = Vec::new(alloc);
     for row in batch.rows() {
         if keeps(row, focus, ignored) {
-            count_row(&mut rows, &mut frames, row)?;
+            count_batch_row(&mut rows, &mut frames, row)?;
         }
     }
     Ok(rows.totals(alloc)?)

@@ -3,14 +3,15 @@
 
 ghost use Rattle.std.specs.Prelude.{ℕ, ◌≡◌, ◌++◌, ◌<◌, ◌^◌, All, Bool, List, Option, IsPermutation, IsSorted, take};
 ghost use Rattle.profile_rows.specs.declared.batch.Row.{Row};
+ghost use Rattle.profile_rows.specs.declared.frame_totals.FrameTotal.{FrameTotal};
 ghost use Rattle.profile_rows.specs.Rows.{kept_rows, total_of, weight_of, weight_where};
 ghost use Rattle.profile_rows.specs.Aggregate.{aggregate_of, rows_of, weight_in, with_rows};
 ghost use Rattle.profile_rows.specs.Layout.{rectangles_of};
-ghost use Rattle.profile_rows.specs.TopList.{AreSumsOf, NameSums, Ranking, top_cmp, top_list_of};
+ghost use Rattle.profile_rows.specs.TopList.{AreSumsOf, Ranking, top_cmp, top_list_of};
 
 /// However the weights of the names were sorted by a top list's order, the front of what came out is the top list.
 pub fn top_list_is_front_of_sorted()
-    ensures { (ranking : Ranking) (count : ℕ) (rows : List Row) (sums ranked : List NameSums)
+    ensures { (ranking : Ranking) (count : ℕ) (rows : List Row) (sums ranked : List FrameTotal)
         → AreSumsOf rows sums → IsPermutation sums ranked → IsSorted (top_cmp ranking) ranked
         → take count ranked ≡ top_list_of ranking count rows }
 {}

@@ -4,7 +4,7 @@ ghost use Rattle.std.specs.Prelude.{ℕ, ◌≡◌, ◌≢◌, ◌+◌, ◌^◌,
 ghost use Rattle.profile_rows.specs.declared.batch.Row.{Row};
 ghost use Rattle.profile_rows.specs.Names.{IsName, is_same_name};
 ghost use Rattle.profile_rows.specs.Tallies.{AreTalliesOf, callers_counted, frame_counted, row_counted, tally_at};
-ghost use Rattle.profile_rows.specs.TopList.{AreSumsOf, shown};
+ghost use Rattle.profile_rows.specs.TopList.{AreSumsOf};
 
 use crate::frame_totals::FrameTotal;
 use crate::name::Name;
@@ -129,7 +129,7 @@ pub(crate) fn weighted(
 ) -> Result<Vec<FrameTotal>, AllocError>
     requires { (rows : List Row) × (held : ℕ) × AreTalliesOf rows held tallies.now }
     ensures { (rows : List Row) (held : ℕ) → AreTalliesOf rows held tallies.now
-        → IfOk result (λ list. AreSumsOf rows (map shown list.items)) }
+        → IfOk result (λ list. AreSumsOf rows list.items) }
 {
     let mut list = Vec::new(alloc);
     for (name, tally) in tallies.iter() {

@@ -1,7 +1,6 @@
 -- The list is that of the rows whose sums were counted.
 use Rattle.std.proofs.Common.{map, sym, subst, ap, ◌∙◌}
 use Rattle.profile_rows.specs.TopList.{top_text_of}
-use Rattle.flame_report.specs.Answers.{sums_in}
 use Rattle.flame_report.specs.declared.answer.Top.{Top}
 use Rattle.flame_answers.specs.Answers.{IsRefusedIn}
 use Rattle.flame_answers.specs.declared.outcomes.ToolFault.{ToolFault}
@@ -17,5 +16,5 @@ pub returns : goal.returns
 returns c = λ value. (
   c.in-Ok.ensures.counted.rows,
   c.in-Ok.ensures.counted.folded,
-  c.in_ok-top_text.ensures ∙ ap (λ (top : Top). top_text_of top.total (map sums_in top.rows)) (c.in_ok-top.ensures c.in-Ok.ensures.counted.rows c.in-Ok.ensures.counted.totals_rows),
+  c.in_ok-top_text.ensures ∙ ap (λ (top : Top). top_text_of top.total top.rows) (c.in_ok-top.ensures c.in-Ok.ensures.counted.rows c.in-Ok.ensures.counted.totals_rows),
 )

@@ -1,4 +1,3 @@
--- The list is sorted by what it shows.
 use Rattle.std.proofs.Common.{rules, ◌≡◌, ap}
 use Rattle.std.specs.Ordering.{is_lt}
 use Rattle.std.proofs.lemmas.List.Sorted.{ranks_by, answers_always}
@@ -6,12 +5,10 @@ use Rattle.profile_rows.specs.TopList.{top_cmp}
 use Rattle.flame_report.specs.Answers.{ranking_of}
 use Rattle.flame_report.specs.declared.query.Rank.TheVariants.{Flat}
 use Rattle.profile_rows.specs.declared.frame_totals.FrameTotal.{FrameTotal}
-use Rattle.profile_rows.specs.TopList.{shown}
-use Rattle.flame_report.proofs.Ranked.{top_cmp-total, sorted_shown}
+use Rattle.flame_report.proofs.Ranked.{top_cmp-total}
 use Rattle.flame_report.proofs.top.sort_by_flat.Goals as goal
 
 pub returns-clause-sorted : goal.returns-clause-sorted
 returns-clause-sorted c =
-    sorted_shown (ranking_of Flat) c.sort_by.new.self.items
-    (c.in_ok-sort_by.ensures.sorted (λ (a : FrameTotal) (b : FrameTotal). is_lt (top_cmp (ranking_of Flat) (shown a) (shown b))) (ranks_by (top_cmp-total (ranking_of Flat)) shown)
-    (answers_always _ _ _ (λ f a r q k. let e : r ≡ top_cmp (ranking_of Flat) (shown a.0.now) (shown a.1.0.now) = search rules in ap is_lt e)))
+    c.in_ok-sort_by.ensures.sorted (λ (a b : FrameTotal). is_lt (top_cmp (ranking_of Flat) a b)) (ranks_by (top_cmp-total (ranking_of Flat)) (λ (total : FrameTotal). total))
+    (answers_always _ _ _ (λ f a r q k. let e : r ≡ top_cmp (ranking_of Flat) a.0.now a.1.0.now = search rules in ap is_lt e))

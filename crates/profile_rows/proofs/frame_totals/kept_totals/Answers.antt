@@ -6,10 +6,10 @@ use Rattle.profile_rows.specs.declared.batch.Row.{Row}
 use Rattle.profile_rows.specs.Rows.{total_of}
 use Rattle.profile_rows.proofs.Kept.{kept_rows-left, kept_rows-more, weight_where-kept-le}
 use Rattle.profile_rows.proofs.frame_totals.kept_totals.Goals as goal
-use Rattle.profile_rows.proofs.frame_totals.kept_totals.Goals.{then-keeps+in_ok-count_row, else-keeps}
+use Rattle.profile_rows.proofs.frame_totals.kept_totals.Goals.{then-keeps+in_ok-count_batch_row, else-keeps}
 
-pub count_row-requires-clause-fits : goal.count_row-requires-clause-fits
-count_row-requires-clause-fits c =
+pub count_batch_row-requires-clause-fits : goal.count_batch_row-requires-clause-fits
+count_batch_row-requires-clause-fits c =
     let rows = c.rows-row-items.result.now in
     let before = weight_where-kept-le (option_copied c.args.focus) (option_copied c.args.ignored) (λ stack. true) (take c.loop-row.row-index rows) in
     let all = sum_by_more_le (λ (row : Row). row.weight) rows c.loop-row.row-index c.row-item.result c.loop-row-test.true in
@@ -23,9 +23,9 @@ pub loop-row-preserved : goal.loop-row-preserved
 loop-row-preserved c =
     let rows = c.rows-row-items.result.now in
     elim c.if-keeps.branch [
-      | then-keeps+in_ok-count_row w ↦
+      | then-keeps+in_ok-count_batch_row w ↦
           let more = kept_rows-more (option_copied c.args.focus) (option_copied c.args.ignored) rows c.loop-row.row-index c.row-item.result c.loop-row-test.true c.row-item.is (sym c.keeps.ensures ∙ w.if-keeps.true) in
-          rw (w.rows-is, more) (w.in_ok-count_row.ensures _ c.loop-row.invariant)
+          rw (w.rows-is, more) (w.in_ok-count_batch_row.ensures _ c.loop-row.invariant)
       | else-keeps w ↦
           let same = kept_rows-left (option_copied c.args.focus) (option_copied c.args.ignored) rows c.loop-row.row-index c.row-item.result c.loop-row-test.true c.row-item.is (sym c.keeps.ensures ∙ w.if-keeps.false) in
           rw (w.rows-is, same) c.loop-row.invariant

@@ -1,7 +1,7 @@
 -- At the end the list is that of all entries.
-use Rattle.std.proofs.Common.{◌≡◌, ◌++◌, map, subst, sym, ap, ◌∙◌}
+use Rattle.std.proofs.Common.{◌≡◌, ◌++◌, subst, sym, ap, ◌∙◌}
 use Rattle.std.proofs.lemmas.List.{append-nil}
-use Rattle.profile_rows.specs.TopList.{AreSumsOf, shown}
+use Rattle.profile_rows.specs.TopList.{AreSumsOf}
 use Rattle.std.specs.List.{AllByRecursion}
 use Rattle.profile_rows.proofs.Weighted.{IsNamed, weighted_in, entries-IsNamed, shown-AreSumsOf}
 use Rattle.profile_rows.proofs.tallies.weighted.Goals as goal
@@ -11,12 +11,12 @@ loop-name-init c =
     let entries : c.into_iter-name-iterator.result ≡ c.args.tallies.now.entries = c.into_iter-name-iterator.ensures.into_iter_gives ∙ c.iter-name-items.ensures.rest in
     let (rows, held, are) = c.requires in
     record {
-      whole = ap (λ items. map shown items ++ weighted_in c.into_iter-name-iterator.result) c.new-list.ensures.items ∙ ap weighted_in entries;
+      whole = ap (λ items. items ++ weighted_in c.into_iter-name-iterator.result) c.new-list.ensures.items ∙ ap weighted_in entries;
       names = subst (AllByRecursion IsNamed) (sym entries) (entries-IsNamed rows held c.args.tallies.now are c.iter-name-items.ensures.unique);
     }
 
 pub returns : goal.returns
 returns c = λ rows held are.
-    let whole : map shown c.loop-name.list.items ≡ weighted_in c.args.tallies.now.entries =
-    sym (append-nil (map shown c.loop-name.list.items)) ∙ ap (λ es. map shown c.loop-name.list.items ++ weighted_in es) (sym c.in-None.ensures.steps.0) ∙ c.loop-name.invariant.whole in
+    let whole : c.loop-name.list.items ≡ weighted_in c.args.tallies.now.entries =
+    sym (append-nil c.loop-name.list.items) ∙ ap (λ es. c.loop-name.list.items ++ weighted_in es) (sym c.in-None.ensures.steps.0) ∙ c.loop-name.invariant.whole in
     subst (AreSumsOf rows) (sym whole) (shown-AreSumsOf rows held c.args.tallies.now are c.iter-name-items.ensures.unique)

@@ -1,19 +1,18 @@
-use Rattle.std.proofs.Common.{rules, ◌≡◌, map, ap}
+use Rattle.std.proofs.Common.{rules, ◌≡◌, ap}
 use Rattle.std.specs.Ordering.{is_lt}
 use Rattle.std.proofs.lemmas.Cmp.{nat_list_cmp_total}
-use Rattle.std.proofs.lemmas.List.Sorted.{IsPermutation-map, ranks_by, answers_always}
+use Rattle.std.proofs.lemmas.List.Sorted.{ranks_by, answers_always}
 use Rattle.profile_rows.specs.Aggregate.{rows_of}
 use Rattle.profile_rows.specs.declared.frame_totals.FrameTotal.{FrameTotal}
 use Rattle.call_tree.specs.State.{weights_of}
-use Rattle.profile_rows.specs.TopList.{shown}
 use Rattle.call_tree.specs.Totals.{name_order}
 use Rattle.call_tree.proofs.Frames.{AreSumsOf-permutation}
 use Rattle.call_tree.proofs.tree.CallTree.frame_totals.Goals as goal
 
 pub returns-clause-sums : goal.returns-clause-sums
 returns-clause-sums c =
-    AreSumsOf-permutation (rows_of (weights_of c.args.self.now)) (map shown c.in_ok-totals.totals.items) (map shown c.sort_by.new.self.items)
-    (IsPermutation-map shown c.in_ok-totals.totals.items c.sort_by.new.self.items c.sort_by.ensures.permutation) c.in_ok-totals.ensures
+    AreSumsOf-permutation (rows_of (weights_of c.args.self.now)) c.in_ok-totals.totals.items c.sort_by.new.self.items
+    c.sort_by.ensures.permutation c.in_ok-totals.ensures
 
 pub returns-clause-sorted : goal.returns-clause-sorted
 returns-clause-sorted c =

@@ -1,8 +1,7 @@
-use Rattle.std.proofs.Common.{◌≡◌, ◌<◌, [], length, map, take, arith, sym, ap, ◌∙◌, subst}
+use Rattle.std.proofs.Common.{◌≡◌, ◌<◌, [], length, take, arith, sym, ap, ◌∙◌, subst}
 use Rattle.std.proofs.lemmas.List.{get_or_read, take_all}
 use Rattle.profile_rows.specs.TopList.{AreSumsOf}
 use Rattle.call_tree.specs.State.{TreeState, name_at}
-use Rattle.profile_rows.specs.TopList.{shown}
 use Rattle.call_tree.specs.Totals.{names_of_weight, no_sums, sums_at}
 use Rattle.call_tree.proofs.Frames.{named, unnamed, AreSumsOf-tree, AreSumsOf-aggregate}
 use Rattle.call_tree.proofs.tree.CallTree.named_sums.Goals as goal
@@ -34,6 +33,6 @@ returns c =
     let names = c.args.self.now.names in
     let rows = c.args.self.now.nodes in
     let all : take c.loop-number.number names ≡ names = take_all c.loop-number.number names (omega (arith, c.in_ok-sums.ensures.size)) in
-    let whole : map shown c.loop-number.totals.items ≡ names_of_weight rows names = c.loop-number.invariant ∙ ap (names_of_weight rows) all in
+    let whole : c.loop-number.totals.items ≡ names_of_weight rows names = c.loop-number.invariant ∙ ap (names_of_weight rows) all in
     let are = subst (λ (t : TreeState). AreSumsOf t.nodes (names_of_weight t.nodes t.names)) c.self.view_is (AreSumsOf-tree c.self.inside.names c.self.inside.nodes c.self.invariant) in
-    AreSumsOf-aggregate rows (map shown c.loop-number.totals.items) (subst (AreSumsOf rows) (sym whole) are)
+    AreSumsOf-aggregate rows c.loop-number.totals.items (subst (AreSumsOf rows) (sym whole) are)

@@ -1,8 +1,7 @@
-use Rattle.std.proofs.Common.{◌≡◌, map, take}
-use Rattle.profile_rows.specs.TopList.{shown}
+use Rattle.std.proofs.Common.{◌≡◌, take}
 use Rattle.call_tree.specs.Totals.{names_of_weight}
 use Rattle.call_tree.proofs.tree.CallTree.named_sums.Given as goal
 
 -- the names with the numbers so far
 abbrev pub invariant-loop-number : goal.invariant-loop-number
-invariant-loop-number l = map shown l.totals.items ≡ names_of_weight l.self.nodes (take l.number l.self.names)
+invariant-loop-number l = l.totals.items ≡ names_of_weight l.self.nodes (take l.number l.self.names)

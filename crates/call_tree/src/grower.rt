@@ -233,8 +233,8 @@ impl Grower {
         ensures nodes { self.new.nodes ≡ self.old.nodes }
     {
         let number = number_of(self.numbers.len())?;
-        let listed = share_of(name)?;
-        let key = share_of(name)?;
+        let listed = name.share()?;
+        let key = name.share()?;
         self.numbers.reserve(1)?;
         self.tree.known();
         self.tree.append_name(listed)?;
@@ -273,16 +273,6 @@ impl Grower {
         self.tree.append_node(parent, name, counts)?;
         let _ = self.index.insert((parent, name), number);
         Ok(number)
-    }
-}
-
-/// A second owner of a name.
-fn share_of(name: &Name) -> Result<Name, NoMemory>
-    ensures { IfOk result (λ shared. shared ≡ name.now) }
-{
-    match name.share() {
-        Ok(shared) => Ok(shared),
-        Err(_) => Err(NoMemory),
     }
 }
 

@@ -198,7 +198,7 @@ impl CallTree {
     }
 
     /// The names of cumulative weight above 0 with their weights, by their numbers.
-    fn named_sums(&self, alloc: Global) -> Result<Vec<FrameTotal>, AllocError>
+    fn named_sums(&self, alloc: Global) -> Result<Vec<FrameTotal>, NoMemory>
         ensures { IfOk result (λ totals. AreSumsOf (rows_of (weights_of self.now)) totals.items) }
     {
         let sums = self.sums(alloc)?;

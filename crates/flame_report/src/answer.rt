@@ -4,8 +4,7 @@ ghost use Rattle.std.specs.Prelude.{◌≡◌, ◌↔◌, [], IfOk, IsTrue};
 
 use crate::items::Items;
 use crate::query::Columns;
-use profile_rows::{FrameTotal, Name};
-use std::alloc::AllocError;
+use profile_rows::{FrameTotal, Name, NoMemory};
 use std::marker::Model;
 
 /// The names that weigh most, and what all rows weigh together.
@@ -38,8 +37,12 @@ impl Label {
         Label { name: None }
     }
 
-    /// The name as a label. An error is the limit of owners of its text (2^63).
-    pub fn of(name: &Name) -> Result<Label, AllocError>
+    /// The name as a label.
+    ///
+    /// # Errors
+    ///
+    /// `NoMemory`, at the limit of owners of its text (2^63).
+    pub fn of(name: &Name) -> Result<Label, NoMemory>
         ensures { IfOk result (λ label. label ≡ name.now) }
     {
         let name = name.share()?;

@@ -13,7 +13,7 @@ ghost use Rattle.flame_report.specs.Sharing.{AreHeld, AreKnownPaths, AreWeighty,
 
 use crate::answer::{Label, Rect};
 use crate::query::Columns;
-use profile_rows::{Name, Row};
+use profile_rows::{Name, NoMemory, Row};
 use std::alloc::{AllocError, Global};
 
 /// Weights in columns: the total of all rows fills them.
@@ -123,7 +123,7 @@ fn span_at(
 }
 
 /// The rectangle of a path, which is the first names of a stack.
-fn rect_at(names: &[Name], depth: usize, span: Span) -> Result<Rect, AllocError>
+fn rect_at(names: &[Name], depth: usize, span: Span) -> Result<Rect, NoMemory>
     requires within { depth ≤ length names.now }
     requires deep { depth ≤ 65535 }
     ensures { IfOk result
@@ -153,7 +153,7 @@ fn layout_row(
     at: usize,
     start: u64,
     scale: &Scale,
-) -> Result<(), AllocError>
+) -> Result<(), NoMemory>
     requires ascending { IsAscending rows.now }
     requires known { AreKnownPaths known.now rows.now }
     requires at { at < length rows.now }
@@ -210,7 +210,7 @@ fn hold(
 }
 
 /// The layout of rows in order, whose total is above 0.
-fn layout(alloc: Global, rows: &[Row], scale: &Scale) -> Result<Vec<Rect>, AllocError>
+fn layout(alloc: Global, rows: &[Row], scale: &Scale) -> Result<Vec<Rect>, NoMemory>
     requires ascending { IsAscending rows.now }
     requires weighty { AreWeighty rows.now }
     requires total { scale.now.total ≡ total_of rows.now }
@@ -239,7 +239,7 @@ fn layout(alloc: Global, rows: &[Row], scale: &Scale) -> Result<Vec<Rect>, Alloc
 }
 
 /// The layout of rows in order; without rows there are no rectangles.
-pub(crate) fn rects_of(alloc: Global, rows: &[Row], scale: &Scale) -> Result<Vec<Rect>, AllocError>
+pub(crate) fn rects_of(alloc: Global, rows: &[Row], scale: &Scale) -> Result<Vec<Rect>, NoMemory>
     requires ascending { IsAscending rows.now }
     requires weighty { AreWeighty rows.now }
     requires total { scale.now.total ≡ total_of rows.now }

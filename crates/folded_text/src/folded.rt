@@ -125,7 +125,7 @@ pub(crate) fn names_from<'a>(
     names: &mut KnownNames<'a>,
     text: &'a str,
     depth: usize,
-) -> Result<Vec<Name>, AllocError>
+) -> Result<Vec<Name>, NoMemory>
     requires one_line { All (λ byte. byte ≢ 10) text.now }
     requires depth { depth ≡ length (frames_of text.now) }
     ensures { IfOk result (λ frames. frames.items ≡ frames_of text.now) }

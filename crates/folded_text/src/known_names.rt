@@ -3,8 +3,9 @@
 ghost use Rattle.std.specs.Prelude.{◌≡◌, IfOk};
 ghost use Rattle.profile_rows.specs.Names.{IsName};
 
+use no_memory::NoMemory;
 use profile_rows::Name;
-use std::alloc::{AllocError, Global};
+use std::alloc::Global;
 use std::collections::HashMap;
 use std::marker::Model;
 
@@ -33,7 +34,7 @@ impl<'a> KnownNames<'a> {
     }
 
     /// The name of a text, kept now or before.
-    pub fn name_of(&mut self, alloc: Global, text: &'a str) -> Result<Name, AllocError>
+    pub fn name_of(&mut self, alloc: Global, text: &'a str) -> Result<Name, NoMemory>
         requires { IsName text.now }
         ensures { IfOk result (λ name. name ≡ text.now) }
     {

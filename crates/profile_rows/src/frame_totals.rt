@@ -59,8 +59,8 @@ impl<'a> CountedRows<'a> {
     ///
     /// # Errors
     ///
-    /// Where memory runs out; the rows are then of no use.
-    pub fn count(&mut self, frames: &[&'a str], weight: u64) -> Result<(), AllocError>
+    /// `NoMemory`; the rows are then of no use.
+    pub fn count(&mut self, frames: &[&'a str], weight: u64) -> Result<(), NoMemory>
         requires fits { self.old.total + weight < 2 ^ 63 }
         requires names { All IsName (map (λ frame. frame.now) frames.now) }
         requires counted { (rows : List Row) × AreTalliesOf rows self.old.total self.old.tallies }
@@ -79,8 +79,8 @@ impl<'a> CountedRows<'a> {
     ///
     /// # Errors
     ///
-    /// Where memory runs out.
-    pub fn totals(&self, alloc: Global) -> Result<FrameTotals, AllocError>
+    /// `NoMemory`.
+    pub fn totals(&self, alloc: Global) -> Result<FrameTotals, NoMemory>
         requires { (rows : List Row) × AreTalliesOf rows self.now.total self.now.tallies }
         ensures { (rows : List Row) → AreTalliesOf rows self.now.total self.now.tallies
             → IfOk result (AreTotalsOf rows) }
@@ -110,7 +110,7 @@ fn count_batch_row<'a>(
     rows: &mut CountedRows<'a>,
     frames: &mut Vec<&'a str>,
     row: &'a Row,
-) -> Result<(), AllocError>
+) -> Result<(), NoMemory>
     requires fits { rows.old.total + row.now.weight < 2 ^ 63 }
     requires counted { (before : List Row) × AreTalliesOf before rows.old.total rows.old.tallies }
     ensures { (before : List Row) → AreTalliesOf before rows.old.total rows.old.tallies
@@ -142,5 +142,5 @@ pub fn kept_totals(
             count_batch_row(&mut rows, &mut frames, row)?;
         }
     }
-    Ok(rows.totals(alloc)?)
+    rows.totals(alloc)
 }

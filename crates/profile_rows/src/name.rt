@@ -10,7 +10,7 @@ ghost use Rattle.std.specs.Prelude.{map, string_bytes};
 ghost use Rattle.profile_rows.specs.Names.{IsName, cleaned_byte, cleaned_name_of};
 
 use no_memory::NoMemory;
-use std::alloc::{AllocError, Global};
+use std::alloc::Global;
 use std::cmp::Ordering;
 use std::marker::Model;
 use std::sync::ArcStr;
@@ -95,8 +95,8 @@ impl Name {
     ///
     /// # Errors
     ///
-    /// Where memory runs out.
-    pub fn keep(alloc: Global, text: &str) -> Result<Name, AllocError>
+    /// `NoMemory`.
+    pub fn keep(alloc: Global, text: &str) -> Result<Name, NoMemory>
         requires { IsName text.now }
         ensures { IfOk result (λ name. name ≡ text.now) }
     {
@@ -122,8 +122,12 @@ impl Name {
         Ok(Some(Name::keep(alloc, cleaned.as_str())?))
     }
 
-    /// A second owner of the same text, which isn't copied. An error is the limit of owners (2^63).
-    pub fn share(&self) -> Result<Name, AllocError>
+    /// A second owner of the same text, which isn't copied.
+    ///
+    /// # Errors
+    ///
+    /// `NoMemory`, at the limit of owners (2^63).
+    pub fn share(&self) -> Result<Name, NoMemory>
         ensures { IfOk result (λ name. name ≡ self.now) }
     {
         let text = self.text.clone()?;

@@ -8,6 +8,7 @@ ghost use Rattle.profile_rows.specs.TopList.{AreSumsOf};
 
 use crate::frame_totals::FrameTotal;
 use crate::name::Name;
+use no_memory::NoMemory;
 use std::alloc::{AllocError, Global};
 use std::collections::HashMap;
 
@@ -126,7 +127,7 @@ pub(crate) fn count_stack<'a>(
 pub(crate) fn weighted(
     alloc: Global,
     tallies: &HashMap<&str, Tally>,
-) -> Result<Vec<FrameTotal>, AllocError>
+) -> Result<Vec<FrameTotal>, NoMemory>
     requires { (rows : List Row) × (held : ℕ) × AreTalliesOf rows held tallies.now }
     ensures { (rows : List Row) (held : ℕ) → AreTalliesOf rows held tallies.now
         → IfOk result (λ list. AreSumsOf rows list.items) }

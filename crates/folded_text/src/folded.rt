@@ -138,7 +138,7 @@ pub(crate) fn names_from<'a>(
 }
 
 /// The stack text and the weight of a line.
-pub(crate) fn counted<'a>(line: &'a [u8], number: u64) -> Result<(&'a str, u64), FoldedFault>
+pub(crate) fn stack_and_weight<'a>(line: &'a [u8], number: u64) -> Result<(&'a str, u64), FoldedFault>
     ensures counted { IfOk result (λ found. IsUtf8 line.now × (found.1 < 2 ^ 63)
         × (digits : List ℕ) × HasCount line.now found.0.now digits × (found.1 ≡ digits_value 10 digits)) }
     ensures fault { IfErr result (IsCountFault number line.now) }
@@ -201,7 +201,7 @@ pub fn read_line<'a>(line: &'a [u8], held: u64, number: u64) -> Result<Spelled<'
         × (found.depth ≡ length (frames_of found.stack.now)) × (found.depth ≤ MAX_DEPTH)) }
     ensures fault { IfErr result (IsLineFault held number line.now) }
 {
-    let (stack, weight) = counted(line, number)?;
+    let (stack, weight) = stack_and_weight(line, number)?;
     let depth = fitting_depth(stack, weight, held, number)?;
     Ok(Spelled {
         stack,

@@ -8,7 +8,7 @@ ghost use Rattle.folded_text.specs.FoldedText.{IsFirstFault, IsFoldedText, IsLin
 ghost use Rattle.profile_rows.specs.Sums.{AddsRow, ArePlacedBy, with_added_at};
 ghost use Rattle.folded_text.specs.TextSums.{IsSumOfText};
 
-use crate::folded::{FoldedFault, Spelled, counted, fitting_depth, push_spelled};
+use crate::folded::{FoldedFault, Spelled, fitting_depth, push_spelled, stack_and_weight};
 use crate::known_names::KnownNames;
 use bstr::ByteSlice;
 use no_memory::NoMemory;
@@ -67,7 +67,7 @@ fn sum_line<'a>(
     ensures placed { OnOk result (ArePlacedBy frames_of known.new sums.new) }
     ensures fault { IfErr result (IsLineFault (total_of sums.old) number line.now) }
 {
-    let (stack, weight) = counted(line, number)?;
+    let (stack, weight) = stack_and_weight(line, number)?;
     match known.get(stack).copied() {
         Some(at) => add_to_row(sums, at, weight, number),
         None => {

@@ -9,7 +9,7 @@ ghost use Rattle.profile_rows.specs.TopList.{AreTotalsOf};
 ghost use Rattle.folded_text.specs.FoldedText.{IsFoldedText, IsLineFault, IsRowLine, IsWorkFault, frames_of};
 ghost use Rattle.folded_text.specs.TextSums.{AreTotalsOfText};
 
-use crate::folded::{FoldedFault, counted, fitting, fitting_depth};
+use crate::folded::{FoldedFault, fitting, fitting_depth, stack_and_weight};
 use bstr::ByteSlice;
 use profile_rows::{CountedRows, FrameTotals};
 use std::alloc::{AllocError, Global};
@@ -43,7 +43,7 @@ fn count_line<'a>(
         × AreTalliesOf (before ++ row ∷ []) rows.new.total rows.new.tallies) }
     ensures fault { IfErr result (IsLineFault rows.old.total number line.now) }
 {
-    let (stack, weight) = counted(line, number)?;
+    let (stack, weight) = stack_and_weight(line, number)?;
     let Ok(()) = replace_by_text(frames, stack) else {
         // a line's own fault comes before want of memory at it
         fitting_depth(stack, weight, rows.total, number)?;

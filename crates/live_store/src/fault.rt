@@ -1,6 +1,5 @@
-//! Why a store isn't made, gives no session, or refuses an operation.
+//! Why a store isn't made, or gives no session.
 
-use op_book::BookFault;
 use thiserror::Error;
 
 /// Why no store is made.
@@ -23,11 +22,4 @@ pub enum SessionFault {
     /// Memory ran out.
     #[error("N3 NoMemory")]
     NoMemory,
-}
-
-/// A fault, and the value that was refused.
-#[derive(Drop)]
-pub struct Refused<T> {
-    pub fault: BookFault,
-    pub back: T,
 }

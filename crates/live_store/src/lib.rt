@@ -9,7 +9,7 @@ mod session;
 mod store;
 
 pub use blank::{Blank, MAX_SESSIONS};
-pub use fault::{MakeFault, Refused, SessionFault};
-pub use op_book::BookFault;
+pub use fault::{MakeFault, SessionFault};
+pub use op_book::{BookFault, Refused};
 pub use session::{Placed, Session};
 pub use store::{Store, StoreName};

@@ -7,10 +7,9 @@ ghost use Rattle.op_book.specs.Operations.{PlainOp, PlainReceipt, add, answered,
 ghost use Rattle.flame_report.specs.declared.answer.Answer.{Answer};
 ghost use Rattle.live_store.specs.Stores.{ShowsCause};
 
-use crate::fault::Refused;
 use crate::store::{Store, StoreName};
 use flame_report::{Answer, Items, Query};
-use op_book::{BookFault, Receipt, Reply, SessionLog};
+use op_book::{BookFault, Receipt, Refused, Reply, SessionLog};
 use profile_rows::Batch;
 use std::alloc::Global;
 use std::marker::Model;
@@ -134,16 +133,10 @@ impl<'a, N: StoreName> Session<'a, N> {
         match added {
             Ok(receipt) => {
                 let place = place_in(&receipt.reply);
-                match self.log.push(receipt) {
-                    Ok(()) => Ok(Placed { place }),
-                    // there is room for it
-                    Err(_) => unreachable!(),
-                }
+                self.log.push_reserved(receipt);
+                Ok(Placed { place })
             }
-            Err(refused) => Err(Refused {
-                fault: refused.fault,
-                back: refused.back,
-            }),
+            Err(refused) => Err(refused),
         }
     }
 
@@ -201,11 +194,10 @@ impl<'a, N: StoreName> Session<'a, N> {
             .lock(rt)
             .ask(alloc, self.number, turn, shared);
         match asked {
-            Ok(receipt) => match self.log.push(receipt) {
-                Ok(()) => Ok(()),
-                // there is room for it
-                Err(_) => unreachable!(),
-            },
+            Ok(receipt) => {
+                self.log.push_reserved(receipt);
+                Ok(())
+            }
             Err(refused) => Err(refused.fault),
         }
     }

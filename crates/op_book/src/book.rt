@@ -4,7 +4,7 @@ ghost use Rattle.std.specs.Prelude.{◌≡◌, ◌≢◌, ◌≤◌, ◌<◌, �
 ghost use Rattle.std.specs.Arc.{arc_value};
 ghost use Rattle.call_tree.specs.State.{total_in, weights_of};
 ghost use Rattle.op_book.specs.Books.{IsAppended, IsFirstBookFault, IsOrderly, IsReplay, IsSameBook, IsTaken, receipt_after, weight_held};
-ghost use Rattle.op_book.specs.Operations.{add, answered, ask, operations_of, placed, plain_answer};
+ghost use Rattle.op_book.specs.Operations.{add, ask, operations_of, plain_answer, plain_reply};
 
 use crate::entry::{Entry, Receipt};
 use crate::fault::{BookFault, Refused};
@@ -12,7 +12,7 @@ use crate::journal::Journal;
 use crate::ledger::Ledger;
 use crate::operation::{Op, Reply};
 use call_tree::{CallTree, Grower};
-use flame_report::{Answer, NoMemory, Query, report};
+use flame_report::{NoMemory, Query, report};
 use profile_rows::laws::{aggregate_of_more_rows, sums_are_those_of_the_aggregate};
 use profile_rows::{Batch, MAX_TOTAL};
 use std::alloc::Global;
@@ -42,18 +42,10 @@ impl Model for Book {
     ghost invariant = { λ b. weights_of b.grower ≡ aggregate_of (profile_after (operations_of b.ledger.entries)) };
 }
 
-/// Where an addition was placed.
-struct Placing {
-    /// How many additions stand before it.
-    place: u64,
-    /// The place of its entry.
-    at: u64,
-}
-
-/// An answer, and the place of its entry.
+/// What an operation is told, and the place of its entry.
 #[derive(Drop)]
-struct Report {
-    answer: Arc<Answer>,
+struct Told {
+    reply: Reply,
     at: u64,
 }
 
@@ -103,9 +95,9 @@ impl Book {
         let appended = self.append_addition(alloc, session, turn, &batch);
         self.known();
         match appended {
-            Ok(Placing { place, at }) => Ok(Receipt {
+            Ok(Told { reply, at }) => Ok(Receipt {
                 op: Op::Add(batch),
-                reply: Reply::Placed(place),
+                reply,
                 at,
             }),
             Err(fault) => Err(Refused { fault, back: batch }),
@@ -140,9 +132,9 @@ impl Book {
         let appended = self.append_report(alloc, session, turn, &query);
         self.known();
         match appended {
-            Ok(Report { answer, at }) => Ok(Receipt {
+            Ok(Told { reply, at }) => Ok(Receipt {
                 op: Op::Ask(query),
-                reply: Reply::Answered(answer),
+                reply,
                 at,
             }),
             Err(fault) => Err(Refused { fault, back: query }),
@@ -156,12 +148,10 @@ impl Book {
         session: u32,
         turn: u64,
         batch: &Arc<Batch>,
-    ) -> Result<Placing, BookFault>
+    ) -> Result<Told, BookFault>
         ensures appended { OnOk result (IsAppended self.old session turn (add (arc_value batch.now)) self.new) }
-        ensures placing { IfOk result
-            (λ placing. (placed placing.place
-            ≡ plain_answer (operations_of self.old.entries) (add (arc_value batch.now)))
-            × (placing.at ≡ length self.old.entries)) }
+        ensures told { IfOk result (λ told. (told.at ≡ length self.old.entries)
+            × (plain_reply told.reply ≡ plain_answer (operations_of self.old.entries) (add (arc_value batch.now)))) }
         ensures taken { OnOk result (IsTaken self.old session turn (add (arc_value batch.now))) }
         ensures unchanged { OnErr result (IsSameBook self.old self.new) }
         ensures first_fault { IfErr result
@@ -183,7 +173,10 @@ impl Book {
         let at = self.ledger.append(entry)?;
         aggregate_of_more_rows();
         self.grower.credit(plan);
-        Ok(Placing { place, at })
+        Ok(Told {
+            reply: Reply::Placed(place),
+            at,
+        })
     }
 
     /// Answers a query, and adds its entry.
@@ -193,12 +186,10 @@ impl Book {
         session: u32,
         turn: u64,
         query: &Arc<Query>,
-    ) -> Result<Report, BookFault>
+    ) -> Result<Told, BookFault>
         ensures appended { OnOk result (IsAppended self.old session turn (ask (arc_value query.now)) self.new) }
-        ensures answer { IfOk result
-            (λ report. (answered (arc_value report.answer)
-            ≡ plain_answer (operations_of self.old.entries) (ask (arc_value query.now)))
-            × (report.at ≡ length self.old.entries)) }
+        ensures told { IfOk result (λ told. (told.at ≡ length self.old.entries)
+            × (plain_reply told.reply ≡ plain_answer (operations_of self.old.entries) (ask (arc_value query.now)))) }
         ensures taken { OnOk result (IsTaken self.old session turn (ask (arc_value query.now))) }
         ensures unchanged { OnErr result (IsSameBook self.old self.new) }
         ensures first_fault { IfErr result
@@ -215,7 +206,10 @@ impl Book {
             reply: Reply::Answered(Arc::try_clone(&answer)?),
         };
         let at = self.ledger.append(entry)?;
-        Ok(Report { answer, at })
+        Ok(Told {
+            reply: Reply::Answered(answer),
+            at,
+        })
     }
 
     /// What every book keeps.

@@ -46,9 +46,9 @@ returns-in_err-take_line-clause-fault g c =
     let (rows, so_far, taken) = c.loop-index.invariant in
     let p = err_from_is_err_and c.from_residual.result c.from_residual.ensures.1 in
     let there = subst (λ n. IsLineFault (total_of rows) (n + 1) c.in-Some.line.now c.in_err-take_line.field-0.0)
-        c.in-Some.ensures.steps.1 (c.in_err-take_line.ensures.fault rows taken so_far.fits) in
+    c.in-Some.ensures.steps.1 (c.in_err-take_line.ensures.fault rows taken so_far.fits) in
     rw (p.1, p.2) (IsReadTo-fault c.args.text.now _ _ rows c.in-Some.line.now _ c.in_err-take_line.field-0.0 so_far
-        c.in-Some.ensures.steps.0 (filled c.in-Some.line.now (sym c.is_empty.ensures ∙ c.if-not-is_empty.true)) there)
+    c.in-Some.ensures.steps.0 (filled c.in-Some.line.now (sym c.is_empty.ensures ∙ c.if-not-is_empty.true)) there)
 
 pub returns-clause-taken : goal.returns-clause-taken
 returns-clause-taken g c =

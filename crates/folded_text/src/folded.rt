@@ -10,7 +10,7 @@ ghost use Rattle.profile_rows.specs.Names.{IsName};
 ghost use Rattle.profile_rows.specs.Rows.{total_of};
 
 use crate::known_names::KnownNames;
-use bstr::ByteSlice;
+use crate::taking::{LineTaker, take_lines};
 use no_memory::NoMemory;
 use profile_rows::{Batch, MAX_DEPTH, MAX_TOTAL, Name, Stack};
 use std::alloc::{AllocError, AllocFailed, Global};
@@ -138,7 +138,10 @@ pub(crate) fn names_from<'a>(
 }
 
 /// The stack text and the weight of a line.
-pub(crate) fn stack_and_weight<'a>(line: &'a [u8], number: u64) -> Result<(&'a str, u64), FoldedFault>
+pub(crate) fn stack_and_weight<'a>(
+    line: &'a [u8],
+    number: u64,
+) -> Result<(&'a str, u64), FoldedFault>
     ensures counted { IfOk result (λ found. IsUtf8 line.now × (found.1 < 2 ^ 63)
         × (digits : List ℕ) × HasCount line.now found.0.now digits × (found.1 ≡ digits_value 10 digits)) }
     ensures fault { IfErr result (IsCountFault number line.now) }
@@ -231,21 +234,21 @@ pub(crate) fn push_spelled<'a>(
     batch.push(stack, spelled.weight).map_err(|_| NoMemory)
 }
 
-/// Adds the row that a line spells, where it spells one that can follow the rows of the batch.
-fn add_line<'a>(
+/// A text that is read into rows.
+#[derive(Drop)]
+struct Reading<'a> {
     alloc: Global,
-    names: &mut KnownNames<'a>,
-    batch: &mut Batch,
-    line: &'a [u8],
-    number: u64,
-) -> Result<(), FoldedFault>
-    requires { All (λ byte. byte ≢ 10) line.now }
-    ensures added { OnOk result ((row : Row) × IsRowLine line.now row × (total_of batch.old + row.weight < 2 ^ 63)
-        × (batch.new ≡ batch.old ++ row ∷ [])) }
-    ensures fault { IfErr result (IsLineFault (total_of batch.old) number line.now) }
-{
-    let spelled = read_line(line, batch.total(), number)?;
-    Ok(push_spelled(alloc, names, batch, spelled)?)
+    names: KnownNames<'a>,
+    batch: Batch,
+}
+
+impl<'a> LineTaker<'a> for Reading<'a> {
+    ghost is_of = { λ reading rows. reading.batch ≡ rows };
+
+    fn take_line(&mut self, line: &'a [u8], number: u64) -> Result<(), FoldedFault> {
+        let spelled = read_line(line, self.batch.total(), number)?;
+        Ok(push_spelled(self.alloc, &mut self.names, &mut self.batch, spelled)?)
+    }
 }
 
 /// Reads folded stacks: a line for each row, its frames from root to leaf separated by semicolons, then a space and a
@@ -262,12 +265,11 @@ pub fn read_folded(alloc: Global, text: &[u8]) -> Result<Batch, FoldedFault>
     ensures every_fault { (first : FoldedFault) → first ≢ FoldedFault.NoMemory → IsFirstFault text.now first
         → MatchResult result (λ batch. ⊥) (λ fault. (fault ≡ FoldedFault.NoMemory) ⊎ (fault ≡ first)) }
 {
-    let mut names = KnownNames::new(alloc);
-    let mut batch = Batch::new(alloc);
-    for (index, line) in text.lines().enumerate() {
-        if !line.is_empty() {
-            add_line(alloc, &mut names, &mut batch, line, index as u64 + 1)?;
-        }
-    }
-    Ok(batch)
+    let mut reading = Reading {
+        alloc,
+        names: KnownNames::new(alloc),
+        batch: Batch::new(alloc),
+    };
+    take_lines(text, &mut reading)?;
+    Ok(reading.batch)
 }

@@ -5,12 +5,12 @@ ghost use Rattle.profile_rows.specs.declared.batch.Row.{Row};
 ghost use Rattle.profile_rows.specs.Aggregate.{aggregate_of};
 ghost use Rattle.profile_rows.specs.Rows.{total_of};
 ghost use Rattle.folded_text.specs.FoldedText.{IsFirstFault, IsFoldedText, IsLineFault, IsRowLine, frames_of};
-ghost use Rattle.profile_rows.specs.Sums.{AddsRow, ArePlacedBy, with_added_at};
+ghost use Rattle.profile_rows.specs.Sums.{AddsRow, ArePlacedBy, AreSumsSoFar, with_added_at};
 ghost use Rattle.folded_text.specs.TextSums.{IsSumOfText};
 
 use crate::folded::{FoldedFault, Spelled, fitting_depth, push_spelled, stack_and_weight};
 use crate::known_names::KnownNames;
-use bstr::ByteSlice;
+use crate::taking::{LineTaker, take_lines};
 use no_memory::NoMemory;
 use profile_rows::Batch;
 use std::alloc::Global;
@@ -49,6 +49,32 @@ fn add_to_row(sums: &mut Batch, at: usize, weight: u64, number: u64) -> Result<(
     match sums.add_weight(at, weight) {
         Ok(()) => Ok(()),
         Err(_) => Err(FoldedFault::Heavy { line: number }),
+    }
+}
+
+/// A text that is read into one row for each stack text.
+#[derive(Drop)]
+struct Summing<'a> {
+    alloc: Global,
+    names: KnownNames<'a>,
+    /// The place of each stack text's row.
+    known: HashMap<&'a str, usize>,
+    sums: Batch,
+}
+
+impl<'a> LineTaker<'a> for Summing<'a> {
+    ghost is_of = { λ summing rows. AreSumsSoFar rows summing.sums × ArePlacedBy frames_of summing.known summing.sums };
+
+    /// Adds the row to that of the same stack text, where there is one.
+    fn take_line(&mut self, line: &'a [u8], number: u64) -> Result<(), FoldedFault> {
+        sum_line(
+            self.alloc,
+            &mut self.names,
+            &mut self.known,
+            &mut self.sums,
+            line,
+            number,
+        )
     }
 }
 
@@ -93,20 +119,12 @@ pub fn sum_folded(alloc: Global, text: &[u8]) -> Result<Batch, FoldedFault>
     ensures accepted { (rows : List Row) → IsFoldedText text.now rows
         → MatchResult result (λ sums. aggregate_of sums ≡ aggregate_of rows) (λ fault. fault ≡ FoldedFault.NoMemory) }
 {
-    let mut names = KnownNames::new(alloc);
-    let mut known = HashMap::new(alloc);
-    let mut sums = Batch::new(alloc);
-    for (index, line) in text.lines().enumerate() {
-        if !line.is_empty() {
-            sum_line(
-                alloc,
-                &mut names,
-                &mut known,
-                &mut sums,
-                line,
-                index as u64 + 1,
-            )?;
-        }
-    }
-    Ok(sums)
+    let mut summing = Summing {
+        alloc,
+        names: KnownNames::new(alloc),
+        known: HashMap::new(alloc),
+        sums: Batch::new(alloc),
+    };
+    take_lines(text, &mut summing)?;
+    Ok(summing.sums)
 }

@@ -10,7 +10,7 @@ ghost use Rattle.folded_text.specs.FoldedText.{IsFoldedText, IsLineFault, IsRowL
 ghost use Rattle.folded_text.specs.TextSums.{AreTotalsOfText};
 
 use crate::folded::{FoldedFault, fitting, fitting_depth, stack_and_weight};
-use bstr::ByteSlice;
+use crate::taking::{LineTaker, take_lines};
 use profile_rows::{CountedRows, FrameTotals};
 use std::alloc::{AllocError, Global};
 
@@ -53,6 +53,21 @@ fn count_line<'a>(
     Ok(rows.count(frames.as_slice(), weight)?)
 }
 
+/// A text whose rows are counted. The frames of a row take the place of others in the buffer.
+#[derive(Drop)]
+struct Counting<'a> {
+    rows: CountedRows<'a>,
+    frames: Vec<&'a str>,
+}
+
+impl<'a> LineTaker<'a> for Counting<'a> {
+    ghost is_of = { λ counting rows. AreTalliesOf rows counting.rows.total counting.rows.tallies };
+
+    fn take_line(&mut self, line: &'a [u8], number: u64) -> Result<(), FoldedFault> {
+        count_line(&mut self.rows, &mut self.frames, line, number)
+    }
+}
+
 /// What the names weigh in the rows that [`read_folded`](crate::read_folded) reads. The rows are counted while they are
 /// read, and not kept: memory is for the names.
 ///
@@ -64,12 +79,10 @@ pub fn folded_totals(alloc: Global, text: &[u8]) -> Result<FrameTotals, FoldedFa
     ensures accepted { (rows : List Row) → IsFoldedText text.now rows
         → MatchResult result (AreTotalsOf rows) (λ fault. fault ≡ FoldedFault.NoMemory) }
 {
-    let mut rows = CountedRows::new(alloc);
-    let mut frames = Vec::new(alloc);
-    for (index, line) in text.lines().enumerate() {
-        if !line.is_empty() {
-            count_line(&mut rows, &mut frames, line, index as u64 + 1)?;
-        }
-    }
-    Ok(rows.totals(alloc)?)
+    let mut counting = Counting {
+        rows: CountedRows::new(alloc),
+        frames: Vec::new(alloc),
+    };
+    take_lines(text, &mut counting)?;
+    Ok(counting.rows.totals(alloc)?)
 }

@@ -11,7 +11,7 @@ use Rattle.std.proofs.lemmas.Map.Text.{hash_map_updates_str}
 use Rattle.profile_rows.specs.declared.batch.Row.{Row}
 use Rattle.profile_rows.specs.Aggregate.{aggregate_of}
 use Rattle.profile_rows.specs.Rows.{is_same_stack, total_of, weight_if, weight_of}
-use Rattle.profile_rows.specs.Sums.{AddsRow, ArePlacedBy, RowsBySpelling, row_at, row_spelled, with_added_at}
+use Rattle.profile_rows.specs.Sums.{AddsRow, ArePlacedBy, AreSumsSoFar, RowsBySpelling, row_at, row_spelled, with_added_at}
 use Rattle.profile_rows.proofs.SameNames.{same_from_is_same_name}
 use Rattle.profile_rows.proofs.RowLaws.{aggregate_of-same, weight_where-set, weight_where-push}
 use Rattle.std.proofs.lemmas.List.Sums.{sum_by-set, sum_by_push}
@@ -102,11 +102,6 @@ ArePlacedBy-push stack_of known after rows all spelling weight place end updates
     ] refl)
 
 -- ---- a loop that puts rows together
-
--- rows that weigh as much, and as much together
-pub record AreSumsSoFar (rows sums : List Row) : Type 0 where
-  pub weights : (stack : List (List ℕ)) → weight_of sums stack ≡ weight_of rows stack
-  pub total : total_of sums ≡ total_of rows
 
 pub AreSumsSoFar-none : (sums : List Row) → sums ≡ [] → AreSumsSoFar [] sums
 AreSumsSoFar-none sums is = record { weights = λ stack. ap (λ rs. weight_of rs stack) is; total = ap total_of is }

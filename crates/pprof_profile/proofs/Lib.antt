@@ -4,6 +4,7 @@ pub mod Once
 pub mod MessagesOnce
 pub mod ProfileOnce
 pub mod Appending
+pub mod ByFields
 pub mod ReadBack
 pub mod MessagesBack
 pub mod Plain

@@ -210,8 +210,10 @@ pub(crate) fn write_around_samples(
     samples: &[u8],
     out: &mut Vec<u8>,
 ) -> Result<(), NoMemory>
-    ensures { (items : List Sample) → samples.now ≡ samples_bytes items
+    ensures written { (items : List Sample) → samples.now ≡ samples_bytes items
         → OnOk result (out.new.items ≡ out.old.items ++ canonical_bytes_of (record item.now { samples = items })) }
+    ensures fits { (items : List Sample) → FitsEach FitsSample sample_bytes items
+        → OnOk result (FitsDraft (record item.now { samples = items })) }
 {
     let mut spare = Vec::new(alloc);
     write_messages(alloc, out, 1, &item.sample_types, &mut spare)?;

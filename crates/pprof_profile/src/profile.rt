@@ -1,9 +1,9 @@
-ghost use Rattle.std.specs.Prelude.{◌≡◌, ◌≢◌, ◌⊎◌, Some, IfOk, IfErr, MatchResult};
+ghost use Rattle.std.specs.Prelude.{◌≡◌, ◌≢◌, ◌⊎◌, Some, IfOk, IfErr, OnOk, MatchResult};
 ghost use Rattle.std.specs.Bool.{OnTrue, OnFalse};
 ghost use Rattle.pprof_profile.specs.declared.messages.Draft.{Draft};
 ghost use Rattle.pprof_profile.specs.declared.faults.ProfileFault.{ProfileFault};
 ghost use Rattle.pprof_profile.specs.Valid.{IsValidDraft, validity_fault};
-ghost use Rattle.pprof_profile.specs.Canonical.{canonical_bytes_of};
+ghost use Rattle.pprof_profile.specs.Canonical.{canonical_bytes_of, FitsDraft};
 ghost use Rattle.pprof_profile.specs.Profiles.{BeginsAsGzip, IsProfile, IsProfileFault};
 
 use crate::faults::{ProfileFault, Refused};
@@ -91,6 +91,7 @@ pub fn decode(alloc: Global, bytes: &[u8]) -> Result<Profile, ProfileFault>
 pub fn encode(alloc: Global, profile: &Profile) -> Result<Vec<u8>, NoMemory>
     ensures canonical { IfOk result (λ bytes. bytes.items ≡ canonical_bytes_of profile.now) }
     ensures spelled { IfOk result (λ bytes. IsProfile bytes.items profile.now) }
+    ensures fits { OnOk result (FitsDraft profile.now) }
 {
     let mut bytes = Vec::new(alloc);
     let mut spare = Vec::new(alloc);

@@ -1,7 +1,9 @@
 ghost use Rattle.std.specs.Prelude.{◌≡◌, ◌++◌, ◌∷◌, [], List, IfOk, OnErr, OnOk};
 ghost use Rattle.pprof_profile.specs.declared.messages.Draft.{Draft};
 ghost use Rattle.pprof_profile.specs.declared.messages.Sample.{Sample};
-ghost use Rattle.pprof_profile.specs.Canonical.{canonical_bytes_of, samples_bytes};
+ghost use Rattle.pprof_profile.specs.Canonical.{canonical_bytes_of, sample_bytes, samples_bytes, FitsEach, FitsSample};
+ghost use Rattle.pprof_profile.specs.Profiles.{SpellsDraft, IsProfile};
+ghost use Rattle.pprof_profile.specs.Valid.{IsValidDraft};
 
 use crate::encoding::write_around_samples;
 use crate::messages::Draft;
@@ -47,6 +49,7 @@ impl WrittenSamples {
     pub fn push(&mut self, location_ids: &[u64], values: &[i64]) -> Result<(), NoMemory>
         ensures pushed { (samples : List Sample) → self.old ≡ samples_bytes samples
             → OnOk result (self.new ≡ samples_bytes (samples ++ (record { location_ids = location_ids.now; values = values.now; labels = [] }) ∷ [])) }
+        ensures fits { OnOk result (FitsEach FitsSample sample_bytes ((record { location_ids = location_ids.now; values = values.now; labels = [] }) ∷ [])) }
         ensures kept { OnErr result (self.new ≡ self.old) }
     {
         self.content.clear();
@@ -66,8 +69,13 @@ pub fn encode_around(
     draft: &Draft,
     samples: &WrittenSamples,
 ) -> Result<Vec<u8>, NoMemory>
-    ensures { (items : List Sample) → samples.now ≡ samples_bytes items
+    ensures canonical { (items : List Sample) → samples.now ≡ samples_bytes items
         → IfOk result (λ bytes. bytes.items ≡ canonical_bytes_of (record draft.now { samples = items })) }
+    ensures spelled { (items : List Sample) → samples.now ≡ samples_bytes items → FitsEach FitsSample sample_bytes items
+        → IfOk result (λ bytes. SpellsDraft bytes.items (record draft.now { samples = items })) }
+    ensures profile { (items : List Sample) → samples.now ≡ samples_bytes items → FitsEach FitsSample sample_bytes items
+        → IsValidDraft (record draft.now { samples = items })
+        → IfOk result (λ bytes. IsProfile bytes.items (record draft.now { samples = items })) }
 {
     let mut bytes = Vec::new(alloc);
     write_around_samples(alloc, draft, samples.bytes.as_slice(), &mut bytes)?;

@@ -1,0 +1,5 @@
+use Rattle.pprof_profile.proofs.ByFields.{spelled_by_fields}
+use Rattle.pprof_profile.proofs.laws.draft_by_its_fields.Goals as goal
+
+pub returns : goal.returns
+returns c = spelled_by_fields

@@ -22,7 +22,7 @@ use Rattle.pprof_profile.specs.Profiles.{SpellsDraft}
 use Rattle.pprof_profile.proofs.Gathering.{gathers_joined, map_joined}
 
 -- the values, one after the other, make the new part of the old one
-abbrev Takes : {A : Type 0} → Rule A → A → List FieldValue → A → Type 0
+abbrev pub Takes : {A : Type 0} → Rule A → A → List FieldValue → A → Type 0
 Takes rule old [] new = new ≡ old
 Takes {A = A} rule old (value ∷ values) new = (next : A) × rule old value (Ok next) × Takes rule next values new
 
@@ -142,9 +142,9 @@ takes_else rule old new number at value fields other taken =
 -- ---- message ValueType
 
 -- what the values of each number make of the old message
-record ValueTypeTakes (old : ValueType) (fields : List PlainField) (new : ValueType) : Type 0 where
-  taken-1 : Takes (SetsNumber signed_of) old.kind (values_at 1 fields) new.kind
-  taken-2 : Takes (SetsNumber signed_of) old.unit (values_at 2 fields) new.unit
+pub record ValueTypeTakes (old : ValueType) (fields : List PlainField) (new : ValueType) : Type 0 where
+  pub taken-1 : Takes (SetsNumber signed_of) old.kind (values_at 1 fields) new.kind
+  pub taken-2 : Takes (SetsNumber signed_of) old.unit (values_at 2 fields) new.unit
 
 value_type_skips : (old next new : ValueType) (number : ℕ) (value : FieldValue) (fields : List PlainField) → 2 < number
     → value_type_table old number value (Ok next) → ValueTypeTakes next fields new
@@ -192,9 +192,9 @@ value_type_by_fields fields item gathered =
 -- ---- message Line
 
 -- what the values of each number make of the old message
-record LineTakes (old : Line) (fields : List PlainField) (new : Line) : Type 0 where
-  taken-1 : Takes (SetsNumber unsigned_of) old.function_id (values_at 1 fields) new.function_id
-  taken-2 : Takes (SetsNumber signed_of) old.line (values_at 2 fields) new.line
+pub record LineTakes (old : Line) (fields : List PlainField) (new : Line) : Type 0 where
+  pub taken-1 : Takes (SetsNumber unsigned_of) old.function_id (values_at 1 fields) new.function_id
+  pub taken-2 : Takes (SetsNumber signed_of) old.line (values_at 2 fields) new.line
 
 line_skips : (old next new : Line) (number : ℕ) (value : FieldValue) (fields : List PlainField) → 2 < number
     → line_table old number value (Ok next) → LineTakes next fields new
@@ -242,11 +242,11 @@ line_by_fields fields item gathered =
 -- ---- message Label
 
 -- what the values of each number make of the old message
-record LabelTakes (old : Label) (fields : List PlainField) (new : Label) : Type 0 where
-  taken-1 : Takes (SetsNumber signed_of) old.key (values_at 1 fields) new.key
-  taken-2 : Takes (SetsNumber signed_of) old.text (values_at 2 fields) new.text
-  taken-3 : Takes (SetsNumber signed_of) old.num (values_at 3 fields) new.num
-  taken-4 : Takes (SetsNumber signed_of) old.num_unit (values_at 4 fields) new.num_unit
+pub record LabelTakes (old : Label) (fields : List PlainField) (new : Label) : Type 0 where
+  pub taken-1 : Takes (SetsNumber signed_of) old.key (values_at 1 fields) new.key
+  pub taken-2 : Takes (SetsNumber signed_of) old.text (values_at 2 fields) new.text
+  pub taken-3 : Takes (SetsNumber signed_of) old.num (values_at 3 fields) new.num
+  pub taken-4 : Takes (SetsNumber signed_of) old.num_unit (values_at 4 fields) new.num_unit
 
 label_skips : (old next new : Label) (number : ℕ) (value : FieldValue) (fields : List PlainField) → 4 < number
     → label_table old number value (Ok next) → LabelTakes next fields new
@@ -308,17 +308,17 @@ label_by_fields fields item gathered =
 -- ---- message Mapping
 
 -- what the values of each number make of the old message
-record MappingTakes (old : Mapping) (fields : List PlainField) (new : Mapping) : Type 0 where
-  taken-1 : Takes (SetsNumber unsigned_of) old.id (values_at 1 fields) new.id
-  taken-2 : Takes (SetsNumber unsigned_of) old.memory_start (values_at 2 fields) new.memory_start
-  taken-3 : Takes (SetsNumber unsigned_of) old.memory_limit (values_at 3 fields) new.memory_limit
-  taken-4 : Takes (SetsNumber unsigned_of) old.file_offset (values_at 4 fields) new.file_offset
-  taken-5 : Takes (SetsNumber signed_of) old.filename (values_at 5 fields) new.filename
-  taken-6 : Takes (SetsNumber signed_of) old.build_id (values_at 6 fields) new.build_id
-  taken-7 : Takes (SetsNumber flag_of) old.has_functions (values_at 7 fields) new.has_functions
-  taken-8 : Takes (SetsNumber flag_of) old.has_filenames (values_at 8 fields) new.has_filenames
-  taken-9 : Takes (SetsNumber flag_of) old.has_line_numbers (values_at 9 fields) new.has_line_numbers
-  taken-10 : Takes (SetsNumber flag_of) old.has_inline_frames (values_at 10 fields) new.has_inline_frames
+pub record MappingTakes (old : Mapping) (fields : List PlainField) (new : Mapping) : Type 0 where
+  pub taken-1 : Takes (SetsNumber unsigned_of) old.id (values_at 1 fields) new.id
+  pub taken-2 : Takes (SetsNumber unsigned_of) old.memory_start (values_at 2 fields) new.memory_start
+  pub taken-3 : Takes (SetsNumber unsigned_of) old.memory_limit (values_at 3 fields) new.memory_limit
+  pub taken-4 : Takes (SetsNumber unsigned_of) old.file_offset (values_at 4 fields) new.file_offset
+  pub taken-5 : Takes (SetsNumber signed_of) old.filename (values_at 5 fields) new.filename
+  pub taken-6 : Takes (SetsNumber signed_of) old.build_id (values_at 6 fields) new.build_id
+  pub taken-7 : Takes (SetsNumber flag_of) old.has_functions (values_at 7 fields) new.has_functions
+  pub taken-8 : Takes (SetsNumber flag_of) old.has_filenames (values_at 8 fields) new.has_filenames
+  pub taken-9 : Takes (SetsNumber flag_of) old.has_line_numbers (values_at 9 fields) new.has_line_numbers
+  pub taken-10 : Takes (SetsNumber flag_of) old.has_inline_frames (values_at 10 fields) new.has_inline_frames
 
 mapping_skips : (old next new : Mapping) (number : ℕ) (value : FieldValue) (fields : List PlainField) → 10 < number
     → mapping_table old number value (Ok next) → MappingTakes next fields new
@@ -422,12 +422,12 @@ mapping_by_fields fields item gathered =
 -- ---- message Function
 
 -- what the values of each number make of the old message
-record FunctionTakes (old : Function) (fields : List PlainField) (new : Function) : Type 0 where
-  taken-1 : Takes (SetsNumber unsigned_of) old.id (values_at 1 fields) new.id
-  taken-2 : Takes (SetsNumber signed_of) old.name (values_at 2 fields) new.name
-  taken-3 : Takes (SetsNumber signed_of) old.system_name (values_at 3 fields) new.system_name
-  taken-4 : Takes (SetsNumber signed_of) old.filename (values_at 4 fields) new.filename
-  taken-5 : Takes (SetsNumber signed_of) old.start_line (values_at 5 fields) new.start_line
+pub record FunctionTakes (old : Function) (fields : List PlainField) (new : Function) : Type 0 where
+  pub taken-1 : Takes (SetsNumber unsigned_of) old.id (values_at 1 fields) new.id
+  pub taken-2 : Takes (SetsNumber signed_of) old.name (values_at 2 fields) new.name
+  pub taken-3 : Takes (SetsNumber signed_of) old.system_name (values_at 3 fields) new.system_name
+  pub taken-4 : Takes (SetsNumber signed_of) old.filename (values_at 4 fields) new.filename
+  pub taken-5 : Takes (SetsNumber signed_of) old.start_line (values_at 5 fields) new.start_line
 
 function_skips : (old next new : Function) (number : ℕ) (value : FieldValue) (fields : List PlainField) → 5 < number
     → function_table old number value (Ok next) → FunctionTakes next fields new
@@ -496,12 +496,12 @@ function_by_fields fields item gathered =
 -- ---- message Location
 
 -- what the values of each number make of the old message
-record LocationTakes (old : Location) (fields : List PlainField) (new : Location) : Type 0 where
-  taken-1 : Takes (SetsNumber unsigned_of) old.id (values_at 1 fields) new.id
-  taken-2 : Takes (SetsNumber unsigned_of) old.mapping_id (values_at 2 fields) new.mapping_id
-  taken-3 : Takes (SetsNumber unsigned_of) old.address (values_at 3 fields) new.address
-  taken-4 : Takes (AddsMessage line_table no_line) old.lines (values_at 4 fields) new.lines
-  taken-5 : Takes (SetsNumber flag_of) old.is_folded (values_at 5 fields) new.is_folded
+pub record LocationTakes (old : Location) (fields : List PlainField) (new : Location) : Type 0 where
+  pub taken-1 : Takes (SetsNumber unsigned_of) old.id (values_at 1 fields) new.id
+  pub taken-2 : Takes (SetsNumber unsigned_of) old.mapping_id (values_at 2 fields) new.mapping_id
+  pub taken-3 : Takes (SetsNumber unsigned_of) old.address (values_at 3 fields) new.address
+  pub taken-4 : Takes (AddsMessage line_table no_line) old.lines (values_at 4 fields) new.lines
+  pub taken-5 : Takes (SetsNumber flag_of) old.is_folded (values_at 5 fields) new.is_folded
 
 location_skips : (old next new : Location) (number : ℕ) (value : FieldValue) (fields : List PlainField) → 5 < number
     → location_table old number value (Ok next) → LocationTakes next fields new
@@ -570,10 +570,10 @@ location_by_fields fields item gathered =
 -- ---- message Sample
 
 -- what the values of each number make of the old message
-record SampleTakes (old : Sample) (fields : List PlainField) (new : Sample) : Type 0 where
-  taken-1 : Takes (AddsNumbers unsigned_of) old.location_ids (values_at 1 fields) new.location_ids
-  taken-2 : Takes (AddsNumbers signed_of) old.values (values_at 2 fields) new.values
-  taken-3 : Takes (AddsMessage label_table no_label) old.labels (values_at 3 fields) new.labels
+pub record SampleTakes (old : Sample) (fields : List PlainField) (new : Sample) : Type 0 where
+  pub taken-1 : Takes (AddsNumbers unsigned_of) old.location_ids (values_at 1 fields) new.location_ids
+  pub taken-2 : Takes (AddsNumbers signed_of) old.values (values_at 2 fields) new.values
+  pub taken-3 : Takes (AddsMessage label_table no_label) old.labels (values_at 3 fields) new.labels
 
 sample_skips : (old next new : Sample) (number : ℕ) (value : FieldValue) (fields : List PlainField) → 3 < number
     → sample_table old number value (Ok next) → SampleTakes next fields new
@@ -628,21 +628,21 @@ sample_by_fields fields item gathered =
 -- ---- message Draft
 
 -- what the values of each number make of the old message
-record DraftTakes (old : Draft) (fields : List PlainField) (new : Draft) : Type 0 where
-  taken-1 : Takes (AddsMessage value_type_table no_value_type) old.sample_types (values_at 1 fields) new.sample_types
-  taken-2 : Takes (AddsMessage sample_table no_sample) old.samples (values_at 2 fields) new.samples
-  taken-3 : Takes (AddsMessage mapping_table no_mapping) old.mappings (values_at 3 fields) new.mappings
-  taken-4 : Takes (AddsMessage location_table no_location) old.locations (values_at 4 fields) new.locations
-  taken-5 : Takes (AddsMessage function_table no_function) old.functions (values_at 5 fields) new.functions
-  taken-6 : Takes (AddsText) old.strings (values_at 6 fields) new.strings
-  taken-7 : Takes (SetsNumber signed_of) old.drop_frames (values_at 7 fields) new.drop_frames
-  taken-8 : Takes (SetsNumber signed_of) old.keep_frames (values_at 8 fields) new.keep_frames
-  taken-9 : Takes (SetsNumber signed_of) old.time_nanos (values_at 9 fields) new.time_nanos
-  taken-10 : Takes (SetsNumber signed_of) old.duration_nanos (values_at 10 fields) new.duration_nanos
-  taken-11 : Takes (MergesMessage value_type_table) old.period_type (values_at 11 fields) new.period_type
-  taken-12 : Takes (SetsNumber signed_of) old.period (values_at 12 fields) new.period
-  taken-13 : Takes (AddsNumbers signed_of) old.comments (values_at 13 fields) new.comments
-  taken-14 : Takes (SetsNumber signed_of) old.default_sample_type (values_at 14 fields) new.default_sample_type
+pub record DraftTakes (old : Draft) (fields : List PlainField) (new : Draft) : Type 0 where
+  pub taken-1 : Takes (AddsMessage value_type_table no_value_type) old.sample_types (values_at 1 fields) new.sample_types
+  pub taken-2 : Takes (AddsMessage sample_table no_sample) old.samples (values_at 2 fields) new.samples
+  pub taken-3 : Takes (AddsMessage mapping_table no_mapping) old.mappings (values_at 3 fields) new.mappings
+  pub taken-4 : Takes (AddsMessage location_table no_location) old.locations (values_at 4 fields) new.locations
+  pub taken-5 : Takes (AddsMessage function_table no_function) old.functions (values_at 5 fields) new.functions
+  pub taken-6 : Takes (AddsText) old.strings (values_at 6 fields) new.strings
+  pub taken-7 : Takes (SetsNumber signed_of) old.drop_frames (values_at 7 fields) new.drop_frames
+  pub taken-8 : Takes (SetsNumber signed_of) old.keep_frames (values_at 8 fields) new.keep_frames
+  pub taken-9 : Takes (SetsNumber signed_of) old.time_nanos (values_at 9 fields) new.time_nanos
+  pub taken-10 : Takes (SetsNumber signed_of) old.duration_nanos (values_at 10 fields) new.duration_nanos
+  pub taken-11 : Takes (MergesMessage value_type_table) old.period_type (values_at 11 fields) new.period_type
+  pub taken-12 : Takes (SetsNumber signed_of) old.period (values_at 12 fields) new.period
+  pub taken-13 : Takes (AddsNumbers signed_of) old.comments (values_at 13 fields) new.comments
+  pub taken-14 : Takes (SetsNumber signed_of) old.default_sample_type (values_at 14 fields) new.default_sample_type
 
 draft_skips : (old next new : Draft) (number : ℕ) (value : FieldValue) (fields : List PlainField) → 14 < number
     → draft_table old number value (Ok next) → DraftTakes next fields new

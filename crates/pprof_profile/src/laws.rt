@@ -1,5 +1,5 @@
 //! Laws of profiles. Each function does nothing: what it ensures is the law.
-ghost use Rattle.std.specs.Prelude.{◌≡◌, ℕ, List};
+ghost use Rattle.std.specs.Prelude.{◌≡◌, ◌↔◌, ℕ, List};
 ghost use Rattle.pprof_profile.specs.declared.messages.Draft.{Draft};
 ghost use Rattle.pprof_profile.specs.declared.faults.ProfileFault.{ProfileFault};
 ghost use Rattle.pprof_profile.specs.Valid.{IsValidDraft};
@@ -37,5 +37,5 @@ pub fn canonical_bytes_spell_the_draft()
 /// of its number, or of 0 where there is none; repeated numbers, texts and messages are those of all the fields of their number,
 /// in order; `period_type` is the message of all the fields that its occurrences have, one behind the other.
 pub fn draft_by_its_fields()
-    ensures { (bytes : List ℕ) → (draft : Draft) → SpellsDraft bytes draft → HasFieldsOf bytes draft }
+    ensures { (bytes : List ℕ) → (draft : Draft) → SpellsDraft bytes draft ↔ HasFieldsOf bytes draft }
 {}

@@ -8,7 +8,7 @@ use Rattle.pprof_profile.specs.declared.messages.Function.{Function}
 use Rattle.pprof_profile.specs.declared.messages.ValueType.{ValueType}
 use Rattle.pprof_profile.specs.Messages.{no_draft, no_function, no_line, no_location}
 use Rattle.profile_rows.specs.declared.batch.Row.{Row}
-use Rattle.pprof_profile.specs.Canonical.{canonical_bytes_of, samples_bytes}
+use Rattle.pprof_profile.specs.Canonical.{canonical_bytes_of, sample_bytes, samples_bytes, FitsEach, FitsSample}
 use Rattle.folded_text.specs.FoldedText.{IsFoldedText}
 use Rattle.profile_rows.specs.Rows.{total_of}
 use Rattle.profile_samples.specs.TextTables.{place_in, with_texts}
@@ -62,10 +62,11 @@ exported_profile_of rows kind unit = profile_with (names_of rows) (strings_of ki
 
 -- ---- rows that are written as samples when they come
 
--- the names, the samples' bytes and the weight of the rows
+-- the names, the samples' bytes and the weight of the rows; and the samples are of numbers and lengths that bytes can tell
 pub record AreSamplesOf (rows : List Row) (names : List (List ℕ)) (samples : List ℕ) (total : ℕ) : Type 0 where
   pub names_rows : names ≡ names_of rows
   pub samples_rows : samples ≡ samples_bytes (map (exported_sample names) rows)
+  pub fits_rows : FitsEach FitsSample sample_bytes (map (exported_sample names) rows)
   pub total_rows : total ≡ total_of rows
 
 -- the bytes are the profile of the rows that the text is folded text of

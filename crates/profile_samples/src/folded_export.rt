@@ -1,5 +1,6 @@
 ghost use Rattle.std.specs.Prelude.{◌≡◌, ◌+◌, ◌^◌, ◌<◌, ◌∷◌, ◌++◌, [], IfErr, IfOk, List, MatchResult, OnOk, map, reverse};
 ghost use Rattle.pprof_profile.specs.Canonical.{canonical_bytes_of};
+ghost use Rattle.pprof_profile.specs.Profiles.{IsProfile};
 ghost use Rattle.profile_rows.specs.declared.batch.Row.{Row};
 ghost use Rattle.profile_samples.specs.Export.{AreSamplesOf, IsExportOfText, exported_profile_of, id_in};
 ghost use Rattle.folded_text.specs.FoldedText.{IsFoldedText, IsLineFault, IsRowLine, IsWorkFault, frames_of};
@@ -72,8 +73,10 @@ fn profile_bytes(
     kind: &str,
     unit: &str,
 ) -> Result<Vec<u8>, NoMemory>
-    ensures { (all : List Row) → AreSamplesOf all rows.now.names rows.now.samples rows.now.total
+    ensures canonical { (all : List Row) → AreSamplesOf all rows.now.names rows.now.samples rows.now.total
         → IfOk result (λ bytes. bytes.items ≡ canonical_bytes_of (exported_profile_of all kind.now unit.now)) }
+    ensures profile { (all : List Row) → AreSamplesOf all rows.now.names rows.now.samples rows.now.total
+        → IfOk result (λ bytes. IsProfile bytes.items (exported_profile_of all kind.now unit.now)) }
 {
     let draft = exported_draft(alloc, Items::empty(alloc), &rows.names, kind, unit)?;
     encode_around(alloc, &draft, &rows.samples)
@@ -94,6 +97,8 @@ pub fn export_folded(
     ensures exported { MatchResult result (λ bytes. IsExportOfText text.now kind.now unit.now bytes.items) (λ fault. IsWorkFault text.now fault) }
     ensures accepted { (rows : List Row) → IsFoldedText text.now rows
         → MatchResult result (λ bytes. bytes.items ≡ canonical_bytes_of (exported_profile_of rows kind.now unit.now)) (λ fault. fault ≡ FoldedFault.NoMemory) }
+    ensures profile { (rows : List Row) → IsFoldedText text.now rows
+        → IfOk result (λ bytes. IsProfile bytes.items (exported_profile_of rows kind.now unit.now)) }
 {
     let mut rows = SampledRows {
         names: TextTable::new(alloc),

@@ -4,7 +4,7 @@
 mod exporting;
 mod folded_export;
 pub mod laws;
-mod places;
+mod id_places;
 mod sample_sums;
 mod sampling;
 mod text_table;

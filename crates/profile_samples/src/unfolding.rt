@@ -3,7 +3,7 @@ ghost use Rattle.pprof_profile.specs.Valid.{IsValidDraft};
 ghost use Rattle.profile_samples.specs.Samples.{address_name, frames_at, frames_of_id, frames_of_ids, function_name, item_with, line_name, location_frames, named_by, string_at};
 ghost use Rattle.std.specs.Option.{option_map};
 
-use crate::places::Places;
+use crate::id_places::IdPlaces;
 use no_memory::NoMemory;
 use pprof_profile::{Draft, Function, Items, Line, Location, Profile, Text};
 use profile_rows::{MAX_DEPTH, Name};
@@ -75,7 +75,7 @@ fn function_names(
 #[derive(Drop)]
 struct FunctionNames<'a> {
     draft: &'a Draft,
-    places: Places,
+    places: IdPlaces,
     names: Vec<Option<Name>>,
 }
 
@@ -96,7 +96,7 @@ impl<'a> FunctionNames<'a> {
         ensures { IfOk result (λ functions. functions ≡ draft.now) }
     {
         let functions = draft.functions.as_slice();
-        let places = Places::new(alloc, function_ids(alloc, functions)?)?;
+        let places = IdPlaces::new(alloc, function_ids(alloc, functions)?)?;
         let names = function_names(alloc, draft.strings.as_slice(), functions)?;
         Ok(FunctionNames {
             draft,
@@ -184,7 +184,7 @@ impl<'a> FunctionNames<'a> {
 #[derive(Drop)]
 pub(crate) struct LocationFrames<'a> {
     draft: &'a Draft,
-    places: Places,
+    places: IdPlaces,
     frames: Vec<Items<Name>>,
 }
 
@@ -210,7 +210,7 @@ impl<'a> LocationFrames<'a> {
     {
         let draft = profile.draft();
         let functions = FunctionNames::new(alloc, draft)?;
-        let places = Places::new(alloc, location_ids(alloc, draft.locations.as_slice())?)?;
+        let places = IdPlaces::new(alloc, location_ids(alloc, draft.locations.as_slice())?)?;
         let frames = functions.all_frames(alloc, draft.locations.as_slice())?;
         Ok(LocationFrames {
             draft,

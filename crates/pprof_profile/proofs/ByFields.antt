@@ -49,18 +49,22 @@ all_numbers : {A : Type 0} (from : ℕ → A) (old : List A) (values : List Fiel
 all_numbers from old [] new same = ([], refl, same ∙ sym (append-nil old))
 all_numbers {A = A} from old (varint number ∷ values) new (next, step, more) =
     let here : next ≡ old ++ from number ∷ [] = cc step in
-    let rest = all_numbers from next values new more in
-    ((number ∷ []) ∷ rest.0, (refl, rest.1),
-    rest.2 ∙ ap (λ (xs : List A). xs ++ map from (flat_map (λ part. part) rest.0)) here
-    ∙ append_assoc old (from number ∷ []) (map from (flat_map (λ part. part) rest.0)))
+    let rest = all_numbers from next values new more in (
+      (number ∷ []) ∷ rest.0,
+      (refl, rest.1),
+      rest.2 ∙ ap (λ (xs : List A). xs ++ map from (flat_map (λ part. part) rest.0)) here
+          ∙ append_assoc old (from number ∷ []) (map from (flat_map (λ part. part) rest.0)),
+    )
 all_numbers from old (fixed64 number ∷ values) new (next, step, more) = absurd cc
 all_numbers from old (fixed32 number ∷ values) new (next, step, more) = absurd cc
 all_numbers {A = A} from old (content bytes ∷ values) new (next, step, more) =
     let rest = all_numbers from next values new more in
-    let behind = flat_map (λ part. part) rest.0 in
-    (step.numbers ∷ rest.0, (step.listed, rest.1),
-    rest.2 ∙ ap (λ (xs : List A). xs ++ map from behind) step.appended ∙ append_assoc old (map from step.numbers) (map from behind)
-    ∙ ap (λ (xs : List A). old ++ xs) (sym (map_joined from step.numbers behind)))
+    let behind = flat_map (λ part. part) rest.0 in (
+      step.numbers ∷ rest.0,
+      (step.listed, rest.1),
+      rest.2 ∙ ap (λ (xs : List A). xs ++ map from behind) step.appended ∙ append_assoc old (map from step.numbers) (map from behind)
+          ∙ ap (λ (xs : List A). old ++ xs) (sym (map_joined from step.numbers behind)),
+    )
 
 are_all_numbers : {A : Type 0} (from : ℕ → A) (values : List FieldValue) (new : List A) → Takes (AddsNumbers from) [] values new → AreAllNumbers from values new
 are_all_numbers from values new taken =
@@ -74,9 +78,12 @@ all_texts old (varint number ∷ values) new (next, step, more) = absurd cc
 all_texts old (fixed64 number ∷ values) new (next, step, more) = absurd cc
 all_texts old (fixed32 number ∷ values) new (next, step, more) = absurd cc
 all_texts old (content bytes ∷ values) new (next, step, more) =
-    let rest = all_texts next values new more in
-    (bytes ∷ rest.0, ap (λ (vs : List FieldValue). content bytes ∷ vs) rest.1, (step.0, rest.2),
-    rest.3 ∙ ap (λ (xs : List (List ℕ)). xs ++ rest.0) step.1 ∙ append_assoc old (bytes ∷ []) rest.0)
+    let rest = all_texts next values new more in (
+      bytes ∷ rest.0,
+      ap (λ (vs : List FieldValue). content bytes ∷ vs) rest.1,
+      (step.0, rest.2),
+      rest.3 ∙ ap (λ (xs : List (List ℕ)). xs ++ rest.0) step.1 ∙ append_assoc old (bytes ∷ []) rest.0,
+    )
 
 are_all_texts : (values : List FieldValue) (new : List (List ℕ)) → Takes AddsText [] values new → AreAllTexts values new
 are_all_texts values new taken =
@@ -95,10 +102,13 @@ all_messages table empty Is by old (varint number ∷ values) new (next, step, m
 all_messages table empty Is by old (fixed64 number ∷ values) new (next, step, more) = absurd cc
 all_messages table empty Is by old (fixed32 number ∷ values) new (next, step, more) = absurd cc
 all_messages {M = M} table empty Is by old (content bytes ∷ values) new (next, step, more) =
-    let (lists, items, listed, each, behind) = all_messages table empty Is by next values new more in
-    (step.spelled.fields ∷ lists, step.item ∷ items, (step.spelled.listed, listed),
-    (by step.spelled.fields step.item step.spelled.gathered, each),
-    behind ∙ ap (λ (xs : List M). xs ++ items) step.appended ∙ append_assoc old (step.item ∷ []) items)
+    let (lists, items, listed, each, behind) = all_messages table empty Is by next values new more in (
+      step.spelled.fields ∷ lists,
+      step.item ∷ items,
+      (step.spelled.listed, listed),
+      (by step.spelled.fields step.item step.spelled.gathered, each),
+      behind ∙ ap (λ (xs : List M). xs ++ items) step.appended ∙ append_assoc old (step.item ∷ []) items,
+    )
 
 are_all_messages : {M : Type 0} (table : Table M) (empty : M) (Is : List PlainField → M → Type 0)
     → ((fields : List PlainField) (item : M) → Gathers table empty fields item → Is fields item)
@@ -114,9 +124,11 @@ all_together table old (varint number ∷ values) new (next, step, more) = absur
 all_together table old (fixed64 number ∷ values) new (next, step, more) = absurd cc
 all_together table old (fixed32 number ∷ values) new (next, step, more) = absurd cc
 all_together table old (content bytes ∷ values) new (next, step, more) =
-    let rest = all_together table next values new more in
-    (step.fields ∷ rest.0, (step.listed, rest.1),
-    gathers_joined table old next new step.fields (flat_map (λ part. part) rest.0) step.gathered rest.2)
+    let rest = all_together table next values new more in (
+      step.fields ∷ rest.0,
+      (step.listed, rest.1),
+      gathers_joined table old next new step.fields (flat_map (λ part. part) rest.0) step.gathered rest.2,
+    )
 
 is_one_message : {M : Type 0} (table : Table M) (empty : M) (Is : List PlainField → M → Type 0)
     → ((fields : List PlainField) (item : M) → Gathers table empty fields item → Is fields item)

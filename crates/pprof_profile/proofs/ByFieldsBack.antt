@@ -43,16 +43,20 @@ numbers_back_from {A = A} from old [] numbers new paired same =
 numbers_back_from from old (value ∷ values) [] new paired same = absurd paired
 numbers_back_from {A = A} from old (varint number ∷ values) (part ∷ numbers) new (here, others) same =
     let rest = flat_map (λ part. part) numbers in
-    let joined : new ≡ old ++ map from ((number ∷ []) ++ rest) = same ∙ ap (λ (xs : List ℕ). old ++ map from (xs ++ rest)) here in
-    (old ++ from number ∷ [], refl,
-    numbers_back_from from (old ++ from number ∷ []) values numbers new others (behind old (from number ∷ []) (map from rest) new joined))
+    let joined : new ≡ old ++ map from ((number ∷ []) ++ rest) = same ∙ ap (λ (xs : List ℕ). old ++ map from (xs ++ rest)) here in (
+      old ++ from number ∷ [],
+      refl,
+      numbers_back_from from (old ++ from number ∷ []) values numbers new others (behind old (from number ∷ []) (map from rest) new joined),
+    )
 numbers_back_from from old (fixed64 number ∷ values) (part ∷ numbers) new paired same = absurd paired.0
 numbers_back_from from old (fixed32 number ∷ values) (part ∷ numbers) new paired same = absurd paired.0
 numbers_back_from {A = A} from old (content bytes ∷ values) (part ∷ numbers) new (here, others) same =
     let rest = flat_map (λ part. part) numbers in
-    let joined : new ≡ old ++ (map from part ++ map from rest) = same ∙ ap (λ (xs : List A). old ++ xs) (map_joined from part rest) in
-    (old ++ map from part, record { numbers = part; listed = here; appended = refl },
-    numbers_back_from from (old ++ map from part) values numbers new others (behind old (map from part) (map from rest) new joined))
+    let joined : new ≡ old ++ (map from part ++ map from rest) = same ∙ ap (λ (xs : List A). old ++ xs) (map_joined from part rest) in (
+      old ++ map from part,
+      record { numbers = part; listed = here; appended = refl },
+      numbers_back_from from (old ++ map from part) values numbers new others (behind old (map from part) (map from rest) new joined),
+    )
 
 all_numbers_back : {A : Type 0} (from : ℕ → A) (values : List FieldValue) (items : List A) → AreAllNumbers from values items
     → Takes (AddsNumbers from) [] values items
@@ -79,10 +83,11 @@ messages_back_from table empty Is back old (value ∷ values) (list ∷ lists) [
 messages_back_from table empty Is back old (varint number ∷ values) (list ∷ lists) (item ∷ items) new listed each same = absurd listed.0
 messages_back_from table empty Is back old (fixed64 number ∷ values) (list ∷ lists) (item ∷ items) new listed each same = absurd listed.0
 messages_back_from table empty Is back old (fixed32 number ∷ values) (list ∷ lists) (item ∷ items) new listed each same = absurd listed.0
-messages_back_from table empty Is back old (content bytes ∷ values) (list ∷ lists) (item ∷ items) new listed each same =
-    (old ++ item ∷ [],
-    record { item = item; spelled = record { fields = list; listed = listed.0; gathered = back list item each.0 }; appended = refl },
-    messages_back_from table empty Is back (old ++ item ∷ []) values lists items new listed.1 each.1 (behind old (item ∷ []) items new same))
+messages_back_from table empty Is back old (content bytes ∷ values) (list ∷ lists) (item ∷ items) new listed each same = (
+  old ++ item ∷ [],
+  record { item = item; spelled = record { fields = list; listed = listed.0; gathered = back list item each.0 }; appended = refl },
+  messages_back_from table empty Is back (old ++ item ∷ []) values lists items new listed.1 each.1 (behind old (item ∷ []) items new same),
+)
 
 all_messages_back : {M : Type 0} (table : Table M) (empty : M) (Is : List PlainField → M → Type 0)
     → ((fields : List PlainField) (item : M) → Is fields item → Gathers table empty fields item)
@@ -134,7 +139,6 @@ value_type_same old new takes = λ i. record { kind = takes.taken-1 i; unit = ta
 value_type_gathers_more : (number : ℕ) (value : FieldValue) (fields : List PlainField) (old new : ValueType)
     → ValueTypeTakes old ((record { number = number; value = value }) ∷ fields) new
     → (next : ValueType) × value_type_table old number value (Ok next) × ValueTypeTakes next fields new
-
 value_type_gathers_more zero value fields old new takes =
     (old, refl, record { taken-1 = takes.taken-1; taken-2 = takes.taken-2 })
 value_type_gathers_more (suc zero) value fields old new takes =
@@ -143,13 +147,14 @@ value_type_gathers_more (suc (suc zero)) value fields old new takes =
     (record old { unit = takes.taken-2.0 }, (takes.taken-2.1, refl), record { taken-1 = takes.taken-1; taken-2 = takes.taken-2.2 })
 value_type_gathers_more (suc (suc (suc number))) value fields old new takes =
     let no-1 : (((suc (suc (suc number)))) == 1) ≡ false = ne_eqb (suc (suc (suc number))) 1 (λ e. absurd (omega (arith, e))) in
-    let no-2 : (((suc (suc (suc number)))) == 2) ≡ false = ne_eqb (suc (suc (suc number))) 2 (λ e. absurd (omega (arith, e))) in
-    (old,
-    (where_more ((suc (suc (suc number))) == 1) _ _ (Ok old) no-1 (where_more ((suc (suc (suc number))) == 2) _ _ (Ok old) no-2 refl)),
-    record {
-      taken-1 = takes_more (SetsNumber signed_of) old.kind new.kind (suc (suc (suc number))) 1 value fields no-1 takes.taken-1;
-      taken-2 = takes_more (SetsNumber signed_of) old.unit new.unit (suc (suc (suc number))) 2 value fields no-2 takes.taken-2;
-    })
+    let no-2 : (((suc (suc (suc number)))) == 2) ≡ false = ne_eqb (suc (suc (suc number))) 2 (λ e. absurd (omega (arith, e))) in (
+      old,
+      (where_more ((suc (suc (suc number))) == 1) _ _ (Ok old) no-1 (where_more ((suc (suc (suc number))) == 2) _ _ (Ok old) no-2 refl)),
+      record {
+        taken-1 = takes_more (SetsNumber signed_of) old.kind new.kind (suc (suc (suc number))) 1 value fields no-1 takes.taken-1;
+        taken-2 = takes_more (SetsNumber signed_of) old.unit new.unit (suc (suc (suc number))) 2 value fields no-2 takes.taken-2;
+      },
+    )
 
 value_type_gathers : (fields : List PlainField) (old new : ValueType) → ValueTypeTakes old fields new → Gathers value_type_table old fields new
 value_type_gathers [] old new takes =
@@ -173,7 +178,6 @@ line_same old new takes = λ i. record { function_id = takes.taken-1 i; line = t
 line_gathers_more : (number : ℕ) (value : FieldValue) (fields : List PlainField) (old new : Line)
     → LineTakes old ((record { number = number; value = value }) ∷ fields) new
     → (next : Line) × line_table old number value (Ok next) × LineTakes next fields new
-
 line_gathers_more zero value fields old new takes =
     (old, refl, record { taken-1 = takes.taken-1; taken-2 = takes.taken-2 })
 line_gathers_more (suc zero) value fields old new takes =
@@ -182,13 +186,14 @@ line_gathers_more (suc (suc zero)) value fields old new takes =
     (record old { line = takes.taken-2.0 }, (takes.taken-2.1, refl), record { taken-1 = takes.taken-1; taken-2 = takes.taken-2.2 })
 line_gathers_more (suc (suc (suc number))) value fields old new takes =
     let no-1 : (((suc (suc (suc number)))) == 1) ≡ false = ne_eqb (suc (suc (suc number))) 1 (λ e. absurd (omega (arith, e))) in
-    let no-2 : (((suc (suc (suc number)))) == 2) ≡ false = ne_eqb (suc (suc (suc number))) 2 (λ e. absurd (omega (arith, e))) in
-    (old,
-    (where_more ((suc (suc (suc number))) == 1) _ _ (Ok old) no-1 (where_more ((suc (suc (suc number))) == 2) _ _ (Ok old) no-2 refl)),
-    record {
-      taken-1 = takes_more (SetsNumber unsigned_of) old.function_id new.function_id (suc (suc (suc number))) 1 value fields no-1 takes.taken-1;
-      taken-2 = takes_more (SetsNumber signed_of) old.line new.line (suc (suc (suc number))) 2 value fields no-2 takes.taken-2;
-    })
+    let no-2 : (((suc (suc (suc number)))) == 2) ≡ false = ne_eqb (suc (suc (suc number))) 2 (λ e. absurd (omega (arith, e))) in (
+      old,
+      (where_more ((suc (suc (suc number))) == 1) _ _ (Ok old) no-1 (where_more ((suc (suc (suc number))) == 2) _ _ (Ok old) no-2 refl)),
+      record {
+        taken-1 = takes_more (SetsNumber unsigned_of) old.function_id new.function_id (suc (suc (suc number))) 1 value fields no-1 takes.taken-1;
+        taken-2 = takes_more (SetsNumber signed_of) old.line new.line (suc (suc (suc number))) 2 value fields no-2 takes.taken-2;
+      },
+    )
 
 line_gathers : (fields : List PlainField) (old new : Line) → LineTakes old fields new → Gathers line_table old fields new
 line_gathers [] old new takes =
@@ -212,7 +217,6 @@ label_same old new takes = λ i. record { key = takes.taken-1 i; text = takes.ta
 label_gathers_more : (number : ℕ) (value : FieldValue) (fields : List PlainField) (old new : Label)
     → LabelTakes old ((record { number = number; value = value }) ∷ fields) new
     → (next : Label) × label_table old number value (Ok next) × LabelTakes next fields new
-
 label_gathers_more zero value fields old new takes =
     (old, refl, record { taken-1 = takes.taken-1; taken-2 = takes.taken-2; taken-3 = takes.taken-3; taken-4 = takes.taken-4 })
 label_gathers_more (suc zero) value fields old new takes =
@@ -227,15 +231,16 @@ label_gathers_more (suc (suc (suc (suc (suc number))))) value fields old new tak
     let no-1 : (((suc (suc (suc (suc (suc number)))))) == 1) ≡ false = ne_eqb (suc (suc (suc (suc (suc number))))) 1 (λ e. absurd (omega (arith, e))) in
     let no-2 : (((suc (suc (suc (suc (suc number)))))) == 2) ≡ false = ne_eqb (suc (suc (suc (suc (suc number))))) 2 (λ e. absurd (omega (arith, e))) in
     let no-3 : (((suc (suc (suc (suc (suc number)))))) == 3) ≡ false = ne_eqb (suc (suc (suc (suc (suc number))))) 3 (λ e. absurd (omega (arith, e))) in
-    let no-4 : (((suc (suc (suc (suc (suc number)))))) == 4) ≡ false = ne_eqb (suc (suc (suc (suc (suc number))))) 4 (λ e. absurd (omega (arith, e))) in
-    (old,
-    (where_more ((suc (suc (suc (suc (suc number))))) == 1) _ _ (Ok old) no-1 (where_more ((suc (suc (suc (suc (suc number))))) == 2) _ _ (Ok old) no-2 (where_more ((suc (suc (suc (suc (suc number))))) == 3) _ _ (Ok old) no-3 (where_more ((suc (suc (suc (suc (suc number))))) == 4) _ _ (Ok old) no-4 refl)))),
-    record {
-      taken-1 = takes_more (SetsNumber signed_of) old.key new.key (suc (suc (suc (suc (suc number))))) 1 value fields no-1 takes.taken-1;
-      taken-2 = takes_more (SetsNumber signed_of) old.text new.text (suc (suc (suc (suc (suc number))))) 2 value fields no-2 takes.taken-2;
-      taken-3 = takes_more (SetsNumber signed_of) old.num new.num (suc (suc (suc (suc (suc number))))) 3 value fields no-3 takes.taken-3;
-      taken-4 = takes_more (SetsNumber signed_of) old.num_unit new.num_unit (suc (suc (suc (suc (suc number))))) 4 value fields no-4 takes.taken-4;
-    })
+    let no-4 : (((suc (suc (suc (suc (suc number)))))) == 4) ≡ false = ne_eqb (suc (suc (suc (suc (suc number))))) 4 (λ e. absurd (omega (arith, e))) in (
+      old,
+      (where_more ((suc (suc (suc (suc (suc number))))) == 1) _ _ (Ok old) no-1 (where_more ((suc (suc (suc (suc (suc number))))) == 2) _ _ (Ok old) no-2 (where_more ((suc (suc (suc (suc (suc number))))) == 3) _ _ (Ok old) no-3 (where_more ((suc (suc (suc (suc (suc number))))) == 4) _ _ (Ok old) no-4 refl)))),
+      record {
+        taken-1 = takes_more (SetsNumber signed_of) old.key new.key (suc (suc (suc (suc (suc number))))) 1 value fields no-1 takes.taken-1;
+        taken-2 = takes_more (SetsNumber signed_of) old.text new.text (suc (suc (suc (suc (suc number))))) 2 value fields no-2 takes.taken-2;
+        taken-3 = takes_more (SetsNumber signed_of) old.num new.num (suc (suc (suc (suc (suc number))))) 3 value fields no-3 takes.taken-3;
+        taken-4 = takes_more (SetsNumber signed_of) old.num_unit new.num_unit (suc (suc (suc (suc (suc number))))) 4 value fields no-4 takes.taken-4;
+      },
+    )
 
 label_gathers : (fields : List PlainField) (old new : Label) → LabelTakes old fields new → Gathers label_table old fields new
 label_gathers [] old new takes =
@@ -261,7 +266,6 @@ mapping_same old new takes = λ i. record { id = takes.taken-1 i; memory_start =
 mapping_gathers_more : (number : ℕ) (value : FieldValue) (fields : List PlainField) (old new : Mapping)
     → MappingTakes old ((record { number = number; value = value }) ∷ fields) new
     → (next : Mapping) × mapping_table old number value (Ok next) × MappingTakes next fields new
-
 mapping_gathers_more zero value fields old new takes =
     (old, refl, record { taken-1 = takes.taken-1; taken-2 = takes.taken-2; taken-3 = takes.taken-3; taken-4 = takes.taken-4; taken-5 = takes.taken-5; taken-6 = takes.taken-6; taken-7 = takes.taken-7; taken-8 = takes.taken-8; taken-9 = takes.taken-9; taken-10 = takes.taken-10 })
 mapping_gathers_more (suc zero) value fields old new takes =
@@ -294,21 +298,22 @@ mapping_gathers_more (suc (suc (suc (suc (suc (suc (suc (suc (suc (suc (suc numb
     let no-7 : (((suc (suc (suc (suc (suc (suc (suc (suc (suc (suc (suc number)))))))))))) == 7) ≡ false = ne_eqb (suc (suc (suc (suc (suc (suc (suc (suc (suc (suc (suc number))))))))))) 7 (λ e. absurd (omega (arith, e))) in
     let no-8 : (((suc (suc (suc (suc (suc (suc (suc (suc (suc (suc (suc number)))))))))))) == 8) ≡ false = ne_eqb (suc (suc (suc (suc (suc (suc (suc (suc (suc (suc (suc number))))))))))) 8 (λ e. absurd (omega (arith, e))) in
     let no-9 : (((suc (suc (suc (suc (suc (suc (suc (suc (suc (suc (suc number)))))))))))) == 9) ≡ false = ne_eqb (suc (suc (suc (suc (suc (suc (suc (suc (suc (suc (suc number))))))))))) 9 (λ e. absurd (omega (arith, e))) in
-    let no-10 : (((suc (suc (suc (suc (suc (suc (suc (suc (suc (suc (suc number)))))))))))) == 10) ≡ false = ne_eqb (suc (suc (suc (suc (suc (suc (suc (suc (suc (suc (suc number))))))))))) 10 (λ e. absurd (omega (arith, e))) in
-    (old,
-    (where_more ((suc (suc (suc (suc (suc (suc (suc (suc (suc (suc (suc number))))))))))) == 1) _ _ (Ok old) no-1 (where_more ((suc (suc (suc (suc (suc (suc (suc (suc (suc (suc (suc number))))))))))) == 2) _ _ (Ok old) no-2 (where_more ((suc (suc (suc (suc (suc (suc (suc (suc (suc (suc (suc number))))))))))) == 3) _ _ (Ok old) no-3 (where_more ((suc (suc (suc (suc (suc (suc (suc (suc (suc (suc (suc number))))))))))) == 4) _ _ (Ok old) no-4 (where_more ((suc (suc (suc (suc (suc (suc (suc (suc (suc (suc (suc number))))))))))) == 5) _ _ (Ok old) no-5 (where_more ((suc (suc (suc (suc (suc (suc (suc (suc (suc (suc (suc number))))))))))) == 6) _ _ (Ok old) no-6 (where_more ((suc (suc (suc (suc (suc (suc (suc (suc (suc (suc (suc number))))))))))) == 7) _ _ (Ok old) no-7 (where_more ((suc (suc (suc (suc (suc (suc (suc (suc (suc (suc (suc number))))))))))) == 8) _ _ (Ok old) no-8 (where_more ((suc (suc (suc (suc (suc (suc (suc (suc (suc (suc (suc number))))))))))) == 9) _ _ (Ok old) no-9 (where_more ((suc (suc (suc (suc (suc (suc (suc (suc (suc (suc (suc number))))))))))) == 10) _ _ (Ok old) no-10 refl)))))))))),
-    record {
-      taken-1 = takes_more (SetsNumber unsigned_of) old.id new.id (suc (suc (suc (suc (suc (suc (suc (suc (suc (suc (suc number))))))))))) 1 value fields no-1 takes.taken-1;
-      taken-2 = takes_more (SetsNumber unsigned_of) old.memory_start new.memory_start (suc (suc (suc (suc (suc (suc (suc (suc (suc (suc (suc number))))))))))) 2 value fields no-2 takes.taken-2;
-      taken-3 = takes_more (SetsNumber unsigned_of) old.memory_limit new.memory_limit (suc (suc (suc (suc (suc (suc (suc (suc (suc (suc (suc number))))))))))) 3 value fields no-3 takes.taken-3;
-      taken-4 = takes_more (SetsNumber unsigned_of) old.file_offset new.file_offset (suc (suc (suc (suc (suc (suc (suc (suc (suc (suc (suc number))))))))))) 4 value fields no-4 takes.taken-4;
-      taken-5 = takes_more (SetsNumber signed_of) old.filename new.filename (suc (suc (suc (suc (suc (suc (suc (suc (suc (suc (suc number))))))))))) 5 value fields no-5 takes.taken-5;
-      taken-6 = takes_more (SetsNumber signed_of) old.build_id new.build_id (suc (suc (suc (suc (suc (suc (suc (suc (suc (suc (suc number))))))))))) 6 value fields no-6 takes.taken-6;
-      taken-7 = takes_more (SetsNumber flag_of) old.has_functions new.has_functions (suc (suc (suc (suc (suc (suc (suc (suc (suc (suc (suc number))))))))))) 7 value fields no-7 takes.taken-7;
-      taken-8 = takes_more (SetsNumber flag_of) old.has_filenames new.has_filenames (suc (suc (suc (suc (suc (suc (suc (suc (suc (suc (suc number))))))))))) 8 value fields no-8 takes.taken-8;
-      taken-9 = takes_more (SetsNumber flag_of) old.has_line_numbers new.has_line_numbers (suc (suc (suc (suc (suc (suc (suc (suc (suc (suc (suc number))))))))))) 9 value fields no-9 takes.taken-9;
-      taken-10 = takes_more (SetsNumber flag_of) old.has_inline_frames new.has_inline_frames (suc (suc (suc (suc (suc (suc (suc (suc (suc (suc (suc number))))))))))) 10 value fields no-10 takes.taken-10;
-    })
+    let no-10 : (((suc (suc (suc (suc (suc (suc (suc (suc (suc (suc (suc number)))))))))))) == 10) ≡ false = ne_eqb (suc (suc (suc (suc (suc (suc (suc (suc (suc (suc (suc number))))))))))) 10 (λ e. absurd (omega (arith, e))) in (
+      old,
+      (where_more ((suc (suc (suc (suc (suc (suc (suc (suc (suc (suc (suc number))))))))))) == 1) _ _ (Ok old) no-1 (where_more ((suc (suc (suc (suc (suc (suc (suc (suc (suc (suc (suc number))))))))))) == 2) _ _ (Ok old) no-2 (where_more ((suc (suc (suc (suc (suc (suc (suc (suc (suc (suc (suc number))))))))))) == 3) _ _ (Ok old) no-3 (where_more ((suc (suc (suc (suc (suc (suc (suc (suc (suc (suc (suc number))))))))))) == 4) _ _ (Ok old) no-4 (where_more ((suc (suc (suc (suc (suc (suc (suc (suc (suc (suc (suc number))))))))))) == 5) _ _ (Ok old) no-5 (where_more ((suc (suc (suc (suc (suc (suc (suc (suc (suc (suc (suc number))))))))))) == 6) _ _ (Ok old) no-6 (where_more ((suc (suc (suc (suc (suc (suc (suc (suc (suc (suc (suc number))))))))))) == 7) _ _ (Ok old) no-7 (where_more ((suc (suc (suc (suc (suc (suc (suc (suc (suc (suc (suc number))))))))))) == 8) _ _ (Ok old) no-8 (where_more ((suc (suc (suc (suc (suc (suc (suc (suc (suc (suc (suc number))))))))))) == 9) _ _ (Ok old) no-9 (where_more ((suc (suc (suc (suc (suc (suc (suc (suc (suc (suc (suc number))))))))))) == 10) _ _ (Ok old) no-10 refl)))))))))),
+      record {
+        taken-1 = takes_more (SetsNumber unsigned_of) old.id new.id (suc (suc (suc (suc (suc (suc (suc (suc (suc (suc (suc number))))))))))) 1 value fields no-1 takes.taken-1;
+        taken-2 = takes_more (SetsNumber unsigned_of) old.memory_start new.memory_start (suc (suc (suc (suc (suc (suc (suc (suc (suc (suc (suc number))))))))))) 2 value fields no-2 takes.taken-2;
+        taken-3 = takes_more (SetsNumber unsigned_of) old.memory_limit new.memory_limit (suc (suc (suc (suc (suc (suc (suc (suc (suc (suc (suc number))))))))))) 3 value fields no-3 takes.taken-3;
+        taken-4 = takes_more (SetsNumber unsigned_of) old.file_offset new.file_offset (suc (suc (suc (suc (suc (suc (suc (suc (suc (suc (suc number))))))))))) 4 value fields no-4 takes.taken-4;
+        taken-5 = takes_more (SetsNumber signed_of) old.filename new.filename (suc (suc (suc (suc (suc (suc (suc (suc (suc (suc (suc number))))))))))) 5 value fields no-5 takes.taken-5;
+        taken-6 = takes_more (SetsNumber signed_of) old.build_id new.build_id (suc (suc (suc (suc (suc (suc (suc (suc (suc (suc (suc number))))))))))) 6 value fields no-6 takes.taken-6;
+        taken-7 = takes_more (SetsNumber flag_of) old.has_functions new.has_functions (suc (suc (suc (suc (suc (suc (suc (suc (suc (suc (suc number))))))))))) 7 value fields no-7 takes.taken-7;
+        taken-8 = takes_more (SetsNumber flag_of) old.has_filenames new.has_filenames (suc (suc (suc (suc (suc (suc (suc (suc (suc (suc (suc number))))))))))) 8 value fields no-8 takes.taken-8;
+        taken-9 = takes_more (SetsNumber flag_of) old.has_line_numbers new.has_line_numbers (suc (suc (suc (suc (suc (suc (suc (suc (suc (suc (suc number))))))))))) 9 value fields no-9 takes.taken-9;
+        taken-10 = takes_more (SetsNumber flag_of) old.has_inline_frames new.has_inline_frames (suc (suc (suc (suc (suc (suc (suc (suc (suc (suc (suc number))))))))))) 10 value fields no-10 takes.taken-10;
+      },
+    )
 
 mapping_gathers : (fields : List PlainField) (old new : Mapping) → MappingTakes old fields new → Gathers mapping_table old fields new
 mapping_gathers [] old new takes =
@@ -340,7 +345,6 @@ function_same old new takes = λ i. record { id = takes.taken-1 i; name = takes.
 function_gathers_more : (number : ℕ) (value : FieldValue) (fields : List PlainField) (old new : Function)
     → FunctionTakes old ((record { number = number; value = value }) ∷ fields) new
     → (next : Function) × function_table old number value (Ok next) × FunctionTakes next fields new
-
 function_gathers_more zero value fields old new takes =
     (old, refl, record { taken-1 = takes.taken-1; taken-2 = takes.taken-2; taken-3 = takes.taken-3; taken-4 = takes.taken-4; taken-5 = takes.taken-5 })
 function_gathers_more (suc zero) value fields old new takes =
@@ -358,16 +362,17 @@ function_gathers_more (suc (suc (suc (suc (suc (suc number)))))) value fields ol
     let no-2 : (((suc (suc (suc (suc (suc (suc number))))))) == 2) ≡ false = ne_eqb (suc (suc (suc (suc (suc (suc number)))))) 2 (λ e. absurd (omega (arith, e))) in
     let no-3 : (((suc (suc (suc (suc (suc (suc number))))))) == 3) ≡ false = ne_eqb (suc (suc (suc (suc (suc (suc number)))))) 3 (λ e. absurd (omega (arith, e))) in
     let no-4 : (((suc (suc (suc (suc (suc (suc number))))))) == 4) ≡ false = ne_eqb (suc (suc (suc (suc (suc (suc number)))))) 4 (λ e. absurd (omega (arith, e))) in
-    let no-5 : (((suc (suc (suc (suc (suc (suc number))))))) == 5) ≡ false = ne_eqb (suc (suc (suc (suc (suc (suc number)))))) 5 (λ e. absurd (omega (arith, e))) in
-    (old,
-    (where_more ((suc (suc (suc (suc (suc (suc number)))))) == 1) _ _ (Ok old) no-1 (where_more ((suc (suc (suc (suc (suc (suc number)))))) == 2) _ _ (Ok old) no-2 (where_more ((suc (suc (suc (suc (suc (suc number)))))) == 3) _ _ (Ok old) no-3 (where_more ((suc (suc (suc (suc (suc (suc number)))))) == 4) _ _ (Ok old) no-4 (where_more ((suc (suc (suc (suc (suc (suc number)))))) == 5) _ _ (Ok old) no-5 refl))))),
-    record {
-      taken-1 = takes_more (SetsNumber unsigned_of) old.id new.id (suc (suc (suc (suc (suc (suc number)))))) 1 value fields no-1 takes.taken-1;
-      taken-2 = takes_more (SetsNumber signed_of) old.name new.name (suc (suc (suc (suc (suc (suc number)))))) 2 value fields no-2 takes.taken-2;
-      taken-3 = takes_more (SetsNumber signed_of) old.system_name new.system_name (suc (suc (suc (suc (suc (suc number)))))) 3 value fields no-3 takes.taken-3;
-      taken-4 = takes_more (SetsNumber signed_of) old.filename new.filename (suc (suc (suc (suc (suc (suc number)))))) 4 value fields no-4 takes.taken-4;
-      taken-5 = takes_more (SetsNumber signed_of) old.start_line new.start_line (suc (suc (suc (suc (suc (suc number)))))) 5 value fields no-5 takes.taken-5;
-    })
+    let no-5 : (((suc (suc (suc (suc (suc (suc number))))))) == 5) ≡ false = ne_eqb (suc (suc (suc (suc (suc (suc number)))))) 5 (λ e. absurd (omega (arith, e))) in (
+      old,
+      (where_more ((suc (suc (suc (suc (suc (suc number)))))) == 1) _ _ (Ok old) no-1 (where_more ((suc (suc (suc (suc (suc (suc number)))))) == 2) _ _ (Ok old) no-2 (where_more ((suc (suc (suc (suc (suc (suc number)))))) == 3) _ _ (Ok old) no-3 (where_more ((suc (suc (suc (suc (suc (suc number)))))) == 4) _ _ (Ok old) no-4 (where_more ((suc (suc (suc (suc (suc (suc number)))))) == 5) _ _ (Ok old) no-5 refl))))),
+      record {
+        taken-1 = takes_more (SetsNumber unsigned_of) old.id new.id (suc (suc (suc (suc (suc (suc number)))))) 1 value fields no-1 takes.taken-1;
+        taken-2 = takes_more (SetsNumber signed_of) old.name new.name (suc (suc (suc (suc (suc (suc number)))))) 2 value fields no-2 takes.taken-2;
+        taken-3 = takes_more (SetsNumber signed_of) old.system_name new.system_name (suc (suc (suc (suc (suc (suc number)))))) 3 value fields no-3 takes.taken-3;
+        taken-4 = takes_more (SetsNumber signed_of) old.filename new.filename (suc (suc (suc (suc (suc (suc number)))))) 4 value fields no-4 takes.taken-4;
+        taken-5 = takes_more (SetsNumber signed_of) old.start_line new.start_line (suc (suc (suc (suc (suc (suc number)))))) 5 value fields no-5 takes.taken-5;
+      },
+    )
 
 function_gathers : (fields : List PlainField) (old new : Function) → FunctionTakes old fields new → Gathers function_table old fields new
 function_gathers [] old new takes =
@@ -394,7 +399,6 @@ location_same old new takes = λ i. record { id = takes.taken-1 i; mapping_id = 
 location_gathers_more : (number : ℕ) (value : FieldValue) (fields : List PlainField) (old new : Location)
     → LocationTakes old ((record { number = number; value = value }) ∷ fields) new
     → (next : Location) × location_table old number value (Ok next) × LocationTakes next fields new
-
 location_gathers_more zero value fields old new takes =
     (old, refl, record { taken-1 = takes.taken-1; taken-2 = takes.taken-2; taken-3 = takes.taken-3; taken-4 = takes.taken-4; taken-5 = takes.taken-5 })
 location_gathers_more (suc zero) value fields old new takes =
@@ -412,16 +416,17 @@ location_gathers_more (suc (suc (suc (suc (suc (suc number)))))) value fields ol
     let no-2 : (((suc (suc (suc (suc (suc (suc number))))))) == 2) ≡ false = ne_eqb (suc (suc (suc (suc (suc (suc number)))))) 2 (λ e. absurd (omega (arith, e))) in
     let no-3 : (((suc (suc (suc (suc (suc (suc number))))))) == 3) ≡ false = ne_eqb (suc (suc (suc (suc (suc (suc number)))))) 3 (λ e. absurd (omega (arith, e))) in
     let no-4 : (((suc (suc (suc (suc (suc (suc number))))))) == 4) ≡ false = ne_eqb (suc (suc (suc (suc (suc (suc number)))))) 4 (λ e. absurd (omega (arith, e))) in
-    let no-5 : (((suc (suc (suc (suc (suc (suc number))))))) == 5) ≡ false = ne_eqb (suc (suc (suc (suc (suc (suc number)))))) 5 (λ e. absurd (omega (arith, e))) in
-    (old,
-    (where_more ((suc (suc (suc (suc (suc (suc number)))))) == 1) _ _ (Ok old) no-1 (where_more ((suc (suc (suc (suc (suc (suc number)))))) == 2) _ _ (Ok old) no-2 (where_more ((suc (suc (suc (suc (suc (suc number)))))) == 3) _ _ (Ok old) no-3 (where_more ((suc (suc (suc (suc (suc (suc number)))))) == 4) _ _ (Ok old) no-4 (where_more ((suc (suc (suc (suc (suc (suc number)))))) == 5) _ _ (Ok old) no-5 refl))))),
-    record {
-      taken-1 = takes_more (SetsNumber unsigned_of) old.id new.id (suc (suc (suc (suc (suc (suc number)))))) 1 value fields no-1 takes.taken-1;
-      taken-2 = takes_more (SetsNumber unsigned_of) old.mapping_id new.mapping_id (suc (suc (suc (suc (suc (suc number)))))) 2 value fields no-2 takes.taken-2;
-      taken-3 = takes_more (SetsNumber unsigned_of) old.address new.address (suc (suc (suc (suc (suc (suc number)))))) 3 value fields no-3 takes.taken-3;
-      taken-4 = takes_more (AddsMessage line_table no_line) old.lines new.lines (suc (suc (suc (suc (suc (suc number)))))) 4 value fields no-4 takes.taken-4;
-      taken-5 = takes_more (SetsNumber flag_of) old.is_folded new.is_folded (suc (suc (suc (suc (suc (suc number)))))) 5 value fields no-5 takes.taken-5;
-    })
+    let no-5 : (((suc (suc (suc (suc (suc (suc number))))))) == 5) ≡ false = ne_eqb (suc (suc (suc (suc (suc (suc number)))))) 5 (λ e. absurd (omega (arith, e))) in (
+      old,
+      (where_more ((suc (suc (suc (suc (suc (suc number)))))) == 1) _ _ (Ok old) no-1 (where_more ((suc (suc (suc (suc (suc (suc number)))))) == 2) _ _ (Ok old) no-2 (where_more ((suc (suc (suc (suc (suc (suc number)))))) == 3) _ _ (Ok old) no-3 (where_more ((suc (suc (suc (suc (suc (suc number)))))) == 4) _ _ (Ok old) no-4 (where_more ((suc (suc (suc (suc (suc (suc number)))))) == 5) _ _ (Ok old) no-5 refl))))),
+      record {
+        taken-1 = takes_more (SetsNumber unsigned_of) old.id new.id (suc (suc (suc (suc (suc (suc number)))))) 1 value fields no-1 takes.taken-1;
+        taken-2 = takes_more (SetsNumber unsigned_of) old.mapping_id new.mapping_id (suc (suc (suc (suc (suc (suc number)))))) 2 value fields no-2 takes.taken-2;
+        taken-3 = takes_more (SetsNumber unsigned_of) old.address new.address (suc (suc (suc (suc (suc (suc number)))))) 3 value fields no-3 takes.taken-3;
+        taken-4 = takes_more (AddsMessage line_table no_line) old.lines new.lines (suc (suc (suc (suc (suc (suc number)))))) 4 value fields no-4 takes.taken-4;
+        taken-5 = takes_more (SetsNumber flag_of) old.is_folded new.is_folded (suc (suc (suc (suc (suc (suc number)))))) 5 value fields no-5 takes.taken-5;
+      },
+    )
 
 location_gathers : (fields : List PlainField) (old new : Location) → LocationTakes old fields new → Gathers location_table old fields new
 location_gathers [] old new takes =
@@ -448,7 +453,6 @@ sample_same old new takes = λ i. record { location_ids = takes.taken-1 i; value
 sample_gathers_more : (number : ℕ) (value : FieldValue) (fields : List PlainField) (old new : Sample)
     → SampleTakes old ((record { number = number; value = value }) ∷ fields) new
     → (next : Sample) × sample_table old number value (Ok next) × SampleTakes next fields new
-
 sample_gathers_more zero value fields old new takes =
     (old, refl, record { taken-1 = takes.taken-1; taken-2 = takes.taken-2; taken-3 = takes.taken-3 })
 sample_gathers_more (suc zero) value fields old new takes =
@@ -460,14 +464,15 @@ sample_gathers_more (suc (suc (suc zero))) value fields old new takes =
 sample_gathers_more (suc (suc (suc (suc number)))) value fields old new takes =
     let no-1 : (((suc (suc (suc (suc number))))) == 1) ≡ false = ne_eqb (suc (suc (suc (suc number)))) 1 (λ e. absurd (omega (arith, e))) in
     let no-2 : (((suc (suc (suc (suc number))))) == 2) ≡ false = ne_eqb (suc (suc (suc (suc number)))) 2 (λ e. absurd (omega (arith, e))) in
-    let no-3 : (((suc (suc (suc (suc number))))) == 3) ≡ false = ne_eqb (suc (suc (suc (suc number)))) 3 (λ e. absurd (omega (arith, e))) in
-    (old,
-    (where_more ((suc (suc (suc (suc number)))) == 1) _ _ (Ok old) no-1 (where_more ((suc (suc (suc (suc number)))) == 2) _ _ (Ok old) no-2 (where_more ((suc (suc (suc (suc number)))) == 3) _ _ (Ok old) no-3 refl))),
-    record {
-      taken-1 = takes_more (AddsNumbers unsigned_of) old.location_ids new.location_ids (suc (suc (suc (suc number)))) 1 value fields no-1 takes.taken-1;
-      taken-2 = takes_more (AddsNumbers signed_of) old.values new.values (suc (suc (suc (suc number)))) 2 value fields no-2 takes.taken-2;
-      taken-3 = takes_more (AddsMessage label_table no_label) old.labels new.labels (suc (suc (suc (suc number)))) 3 value fields no-3 takes.taken-3;
-    })
+    let no-3 : (((suc (suc (suc (suc number))))) == 3) ≡ false = ne_eqb (suc (suc (suc (suc number)))) 3 (λ e. absurd (omega (arith, e))) in (
+      old,
+      (where_more ((suc (suc (suc (suc number)))) == 1) _ _ (Ok old) no-1 (where_more ((suc (suc (suc (suc number)))) == 2) _ _ (Ok old) no-2 (where_more ((suc (suc (suc (suc number)))) == 3) _ _ (Ok old) no-3 refl))),
+      record {
+        taken-1 = takes_more (AddsNumbers unsigned_of) old.location_ids new.location_ids (suc (suc (suc (suc number)))) 1 value fields no-1 takes.taken-1;
+        taken-2 = takes_more (AddsNumbers signed_of) old.values new.values (suc (suc (suc (suc number)))) 2 value fields no-2 takes.taken-2;
+        taken-3 = takes_more (AddsMessage label_table no_label) old.labels new.labels (suc (suc (suc (suc number)))) 3 value fields no-3 takes.taken-3;
+      },
+    )
 
 sample_gathers : (fields : List PlainField) (old new : Sample) → SampleTakes old fields new → Gathers sample_table old fields new
 sample_gathers [] old new takes =
@@ -492,7 +497,6 @@ draft_same old new takes = λ i. record { sample_types = takes.taken-1 i; sample
 draft_gathers_more : (number : ℕ) (value : FieldValue) (fields : List PlainField) (old new : Draft)
     → DraftTakes old ((record { number = number; value = value }) ∷ fields) new
     → (next : Draft) × draft_table old number value (Ok next) × DraftTakes next fields new
-
 draft_gathers_more zero value fields old new takes =
     (old, refl, record { taken-1 = takes.taken-1; taken-2 = takes.taken-2; taken-3 = takes.taken-3; taken-4 = takes.taken-4; taken-5 = takes.taken-5; taken-6 = takes.taken-6; taken-7 = takes.taken-7; taken-8 = takes.taken-8; taken-9 = takes.taken-9; taken-10 = takes.taken-10; taken-11 = takes.taken-11; taken-12 = takes.taken-12; taken-13 = takes.taken-13; taken-14 = takes.taken-14 })
 draft_gathers_more (suc zero) value fields old new takes =
@@ -537,25 +541,26 @@ draft_gathers_more (suc (suc (suc (suc (suc (suc (suc (suc (suc (suc (suc (suc (
     let no-11 : (((suc (suc (suc (suc (suc (suc (suc (suc (suc (suc (suc (suc (suc (suc (suc number)))))))))))))))) == 11) ≡ false = ne_eqb (suc (suc (suc (suc (suc (suc (suc (suc (suc (suc (suc (suc (suc (suc (suc number))))))))))))))) 11 (λ e. absurd (omega (arith, e))) in
     let no-12 : (((suc (suc (suc (suc (suc (suc (suc (suc (suc (suc (suc (suc (suc (suc (suc number)))))))))))))))) == 12) ≡ false = ne_eqb (suc (suc (suc (suc (suc (suc (suc (suc (suc (suc (suc (suc (suc (suc (suc number))))))))))))))) 12 (λ e. absurd (omega (arith, e))) in
     let no-13 : (((suc (suc (suc (suc (suc (suc (suc (suc (suc (suc (suc (suc (suc (suc (suc number)))))))))))))))) == 13) ≡ false = ne_eqb (suc (suc (suc (suc (suc (suc (suc (suc (suc (suc (suc (suc (suc (suc (suc number))))))))))))))) 13 (λ e. absurd (omega (arith, e))) in
-    let no-14 : (((suc (suc (suc (suc (suc (suc (suc (suc (suc (suc (suc (suc (suc (suc (suc number)))))))))))))))) == 14) ≡ false = ne_eqb (suc (suc (suc (suc (suc (suc (suc (suc (suc (suc (suc (suc (suc (suc (suc number))))))))))))))) 14 (λ e. absurd (omega (arith, e))) in
-    (old,
-    (where_more ((suc (suc (suc (suc (suc (suc (suc (suc (suc (suc (suc (suc (suc (suc (suc number))))))))))))))) == 1) _ _ (Ok old) no-1 (where_more ((suc (suc (suc (suc (suc (suc (suc (suc (suc (suc (suc (suc (suc (suc (suc number))))))))))))))) == 2) _ _ (Ok old) no-2 (where_more ((suc (suc (suc (suc (suc (suc (suc (suc (suc (suc (suc (suc (suc (suc (suc number))))))))))))))) == 3) _ _ (Ok old) no-3 (where_more ((suc (suc (suc (suc (suc (suc (suc (suc (suc (suc (suc (suc (suc (suc (suc number))))))))))))))) == 4) _ _ (Ok old) no-4 (where_more ((suc (suc (suc (suc (suc (suc (suc (suc (suc (suc (suc (suc (suc (suc (suc number))))))))))))))) == 5) _ _ (Ok old) no-5 (where_more ((suc (suc (suc (suc (suc (suc (suc (suc (suc (suc (suc (suc (suc (suc (suc number))))))))))))))) == 6) _ _ (Ok old) no-6 (where_more ((suc (suc (suc (suc (suc (suc (suc (suc (suc (suc (suc (suc (suc (suc (suc number))))))))))))))) == 7) _ _ (Ok old) no-7 (where_more ((suc (suc (suc (suc (suc (suc (suc (suc (suc (suc (suc (suc (suc (suc (suc number))))))))))))))) == 8) _ _ (Ok old) no-8 (where_more ((suc (suc (suc (suc (suc (suc (suc (suc (suc (suc (suc (suc (suc (suc (suc number))))))))))))))) == 9) _ _ (Ok old) no-9 (where_more ((suc (suc (suc (suc (suc (suc (suc (suc (suc (suc (suc (suc (suc (suc (suc number))))))))))))))) == 10) _ _ (Ok old) no-10 (where_more ((suc (suc (suc (suc (suc (suc (suc (suc (suc (suc (suc (suc (suc (suc (suc number))))))))))))))) == 11) _ _ (Ok old) no-11 (where_more ((suc (suc (suc (suc (suc (suc (suc (suc (suc (suc (suc (suc (suc (suc (suc number))))))))))))))) == 12) _ _ (Ok old) no-12 (where_more ((suc (suc (suc (suc (suc (suc (suc (suc (suc (suc (suc (suc (suc (suc (suc number))))))))))))))) == 13) _ _ (Ok old) no-13 (where_more ((suc (suc (suc (suc (suc (suc (suc (suc (suc (suc (suc (suc (suc (suc (suc number))))))))))))))) == 14) _ _ (Ok old) no-14 refl)))))))))))))),
-    record {
-      taken-1 = takes_more (AddsMessage value_type_table no_value_type) old.sample_types new.sample_types (suc (suc (suc (suc (suc (suc (suc (suc (suc (suc (suc (suc (suc (suc (suc number))))))))))))))) 1 value fields no-1 takes.taken-1;
-      taken-2 = takes_more (AddsMessage sample_table no_sample) old.samples new.samples (suc (suc (suc (suc (suc (suc (suc (suc (suc (suc (suc (suc (suc (suc (suc number))))))))))))))) 2 value fields no-2 takes.taken-2;
-      taken-3 = takes_more (AddsMessage mapping_table no_mapping) old.mappings new.mappings (suc (suc (suc (suc (suc (suc (suc (suc (suc (suc (suc (suc (suc (suc (suc number))))))))))))))) 3 value fields no-3 takes.taken-3;
-      taken-4 = takes_more (AddsMessage location_table no_location) old.locations new.locations (suc (suc (suc (suc (suc (suc (suc (suc (suc (suc (suc (suc (suc (suc (suc number))))))))))))))) 4 value fields no-4 takes.taken-4;
-      taken-5 = takes_more (AddsMessage function_table no_function) old.functions new.functions (suc (suc (suc (suc (suc (suc (suc (suc (suc (suc (suc (suc (suc (suc (suc number))))))))))))))) 5 value fields no-5 takes.taken-5;
-      taken-6 = takes_more (AddsText) old.strings new.strings (suc (suc (suc (suc (suc (suc (suc (suc (suc (suc (suc (suc (suc (suc (suc number))))))))))))))) 6 value fields no-6 takes.taken-6;
-      taken-7 = takes_more (SetsNumber signed_of) old.drop_frames new.drop_frames (suc (suc (suc (suc (suc (suc (suc (suc (suc (suc (suc (suc (suc (suc (suc number))))))))))))))) 7 value fields no-7 takes.taken-7;
-      taken-8 = takes_more (SetsNumber signed_of) old.keep_frames new.keep_frames (suc (suc (suc (suc (suc (suc (suc (suc (suc (suc (suc (suc (suc (suc (suc number))))))))))))))) 8 value fields no-8 takes.taken-8;
-      taken-9 = takes_more (SetsNumber signed_of) old.time_nanos new.time_nanos (suc (suc (suc (suc (suc (suc (suc (suc (suc (suc (suc (suc (suc (suc (suc number))))))))))))))) 9 value fields no-9 takes.taken-9;
-      taken-10 = takes_more (SetsNumber signed_of) old.duration_nanos new.duration_nanos (suc (suc (suc (suc (suc (suc (suc (suc (suc (suc (suc (suc (suc (suc (suc number))))))))))))))) 10 value fields no-10 takes.taken-10;
-      taken-11 = takes_more (MergesMessage value_type_table) old.period_type new.period_type (suc (suc (suc (suc (suc (suc (suc (suc (suc (suc (suc (suc (suc (suc (suc number))))))))))))))) 11 value fields no-11 takes.taken-11;
-      taken-12 = takes_more (SetsNumber signed_of) old.period new.period (suc (suc (suc (suc (suc (suc (suc (suc (suc (suc (suc (suc (suc (suc (suc number))))))))))))))) 12 value fields no-12 takes.taken-12;
-      taken-13 = takes_more (AddsNumbers signed_of) old.comments new.comments (suc (suc (suc (suc (suc (suc (suc (suc (suc (suc (suc (suc (suc (suc (suc number))))))))))))))) 13 value fields no-13 takes.taken-13;
-      taken-14 = takes_more (SetsNumber signed_of) old.default_sample_type new.default_sample_type (suc (suc (suc (suc (suc (suc (suc (suc (suc (suc (suc (suc (suc (suc (suc number))))))))))))))) 14 value fields no-14 takes.taken-14;
-    })
+    let no-14 : (((suc (suc (suc (suc (suc (suc (suc (suc (suc (suc (suc (suc (suc (suc (suc number)))))))))))))))) == 14) ≡ false = ne_eqb (suc (suc (suc (suc (suc (suc (suc (suc (suc (suc (suc (suc (suc (suc (suc number))))))))))))))) 14 (λ e. absurd (omega (arith, e))) in (
+      old,
+      (where_more ((suc (suc (suc (suc (suc (suc (suc (suc (suc (suc (suc (suc (suc (suc (suc number))))))))))))))) == 1) _ _ (Ok old) no-1 (where_more ((suc (suc (suc (suc (suc (suc (suc (suc (suc (suc (suc (suc (suc (suc (suc number))))))))))))))) == 2) _ _ (Ok old) no-2 (where_more ((suc (suc (suc (suc (suc (suc (suc (suc (suc (suc (suc (suc (suc (suc (suc number))))))))))))))) == 3) _ _ (Ok old) no-3 (where_more ((suc (suc (suc (suc (suc (suc (suc (suc (suc (suc (suc (suc (suc (suc (suc number))))))))))))))) == 4) _ _ (Ok old) no-4 (where_more ((suc (suc (suc (suc (suc (suc (suc (suc (suc (suc (suc (suc (suc (suc (suc number))))))))))))))) == 5) _ _ (Ok old) no-5 (where_more ((suc (suc (suc (suc (suc (suc (suc (suc (suc (suc (suc (suc (suc (suc (suc number))))))))))))))) == 6) _ _ (Ok old) no-6 (where_more ((suc (suc (suc (suc (suc (suc (suc (suc (suc (suc (suc (suc (suc (suc (suc number))))))))))))))) == 7) _ _ (Ok old) no-7 (where_more ((suc (suc (suc (suc (suc (suc (suc (suc (suc (suc (suc (suc (suc (suc (suc number))))))))))))))) == 8) _ _ (Ok old) no-8 (where_more ((suc (suc (suc (suc (suc (suc (suc (suc (suc (suc (suc (suc (suc (suc (suc number))))))))))))))) == 9) _ _ (Ok old) no-9 (where_more ((suc (suc (suc (suc (suc (suc (suc (suc (suc (suc (suc (suc (suc (suc (suc number))))))))))))))) == 10) _ _ (Ok old) no-10 (where_more ((suc (suc (suc (suc (suc (suc (suc (suc (suc (suc (suc (suc (suc (suc (suc number))))))))))))))) == 11) _ _ (Ok old) no-11 (where_more ((suc (suc (suc (suc (suc (suc (suc (suc (suc (suc (suc (suc (suc (suc (suc number))))))))))))))) == 12) _ _ (Ok old) no-12 (where_more ((suc (suc (suc (suc (suc (suc (suc (suc (suc (suc (suc (suc (suc (suc (suc number))))))))))))))) == 13) _ _ (Ok old) no-13 (where_more ((suc (suc (suc (suc (suc (suc (suc (suc (suc (suc (suc (suc (suc (suc (suc number))))))))))))))) == 14) _ _ (Ok old) no-14 refl)))))))))))))),
+      record {
+        taken-1 = takes_more (AddsMessage value_type_table no_value_type) old.sample_types new.sample_types (suc (suc (suc (suc (suc (suc (suc (suc (suc (suc (suc (suc (suc (suc (suc number))))))))))))))) 1 value fields no-1 takes.taken-1;
+        taken-2 = takes_more (AddsMessage sample_table no_sample) old.samples new.samples (suc (suc (suc (suc (suc (suc (suc (suc (suc (suc (suc (suc (suc (suc (suc number))))))))))))))) 2 value fields no-2 takes.taken-2;
+        taken-3 = takes_more (AddsMessage mapping_table no_mapping) old.mappings new.mappings (suc (suc (suc (suc (suc (suc (suc (suc (suc (suc (suc (suc (suc (suc (suc number))))))))))))))) 3 value fields no-3 takes.taken-3;
+        taken-4 = takes_more (AddsMessage location_table no_location) old.locations new.locations (suc (suc (suc (suc (suc (suc (suc (suc (suc (suc (suc (suc (suc (suc (suc number))))))))))))))) 4 value fields no-4 takes.taken-4;
+        taken-5 = takes_more (AddsMessage function_table no_function) old.functions new.functions (suc (suc (suc (suc (suc (suc (suc (suc (suc (suc (suc (suc (suc (suc (suc number))))))))))))))) 5 value fields no-5 takes.taken-5;
+        taken-6 = takes_more (AddsText) old.strings new.strings (suc (suc (suc (suc (suc (suc (suc (suc (suc (suc (suc (suc (suc (suc (suc number))))))))))))))) 6 value fields no-6 takes.taken-6;
+        taken-7 = takes_more (SetsNumber signed_of) old.drop_frames new.drop_frames (suc (suc (suc (suc (suc (suc (suc (suc (suc (suc (suc (suc (suc (suc (suc number))))))))))))))) 7 value fields no-7 takes.taken-7;
+        taken-8 = takes_more (SetsNumber signed_of) old.keep_frames new.keep_frames (suc (suc (suc (suc (suc (suc (suc (suc (suc (suc (suc (suc (suc (suc (suc number))))))))))))))) 8 value fields no-8 takes.taken-8;
+        taken-9 = takes_more (SetsNumber signed_of) old.time_nanos new.time_nanos (suc (suc (suc (suc (suc (suc (suc (suc (suc (suc (suc (suc (suc (suc (suc number))))))))))))))) 9 value fields no-9 takes.taken-9;
+        taken-10 = takes_more (SetsNumber signed_of) old.duration_nanos new.duration_nanos (suc (suc (suc (suc (suc (suc (suc (suc (suc (suc (suc (suc (suc (suc (suc number))))))))))))))) 10 value fields no-10 takes.taken-10;
+        taken-11 = takes_more (MergesMessage value_type_table) old.period_type new.period_type (suc (suc (suc (suc (suc (suc (suc (suc (suc (suc (suc (suc (suc (suc (suc number))))))))))))))) 11 value fields no-11 takes.taken-11;
+        taken-12 = takes_more (SetsNumber signed_of) old.period new.period (suc (suc (suc (suc (suc (suc (suc (suc (suc (suc (suc (suc (suc (suc (suc number))))))))))))))) 12 value fields no-12 takes.taken-12;
+        taken-13 = takes_more (AddsNumbers signed_of) old.comments new.comments (suc (suc (suc (suc (suc (suc (suc (suc (suc (suc (suc (suc (suc (suc (suc number))))))))))))))) 13 value fields no-13 takes.taken-13;
+        taken-14 = takes_more (SetsNumber signed_of) old.default_sample_type new.default_sample_type (suc (suc (suc (suc (suc (suc (suc (suc (suc (suc (suc (suc (suc (suc (suc number))))))))))))))) 14 value fields no-14 takes.taken-14;
+      },
+    )
 
 draft_gathers : (fields : List PlainField) (old new : Draft) → DraftTakes old fields new → Gathers draft_table old fields new
 draft_gathers [] old new takes =

@@ -32,10 +32,15 @@ no_period : signed_of (last_or 0 []) ≡ pos 0
 no_period = refl
 
 last_period_wins : Gathers draft_table no_draft two_periods (record no_draft { time_nanos = pos 1; period = pos 7 })
-last_period_wins =
-    (record no_draft { period = pos 5 }, (refl, refl),
-    (record no_draft { time_nanos = pos 1; period = pos 5 }, (refl, refl),
-    (record no_draft { time_nanos = pos 1; period = pos 7 }, (refl, refl), refl)))
+last_period_wins = (
+  record no_draft { period = pos 5 },
+  (refl, refl),
+  (
+    record no_draft { time_nanos = pos 1; period = pos 5 },
+    (refl, refl),
+    (record no_draft { time_nanos = pos 1; period = pos 7 }, (refl, refl), refl),
+  ),
+)
 
 -- ---- a period type in two pieces, the kind in one and the unit in the other: both are there
 
@@ -71,9 +76,11 @@ unit_spelled_behind : Spells value_type_table kind_alone (16 ∷ 2 ∷ []) kind_
 unit_spelled_behind = record { fields = unit_piece; listed = unit_listed; gathered = (kind_and_unit, (refl, refl), refl) }
 
 pieces_are_taken_together : Gathers draft_table no_draft two_pieces (record no_draft { period_type = kind_and_unit })
-pieces_are_taken_together =
-    (record no_draft { period_type = kind_alone }, (kind_spelled, refl),
-    (record no_draft { period_type = kind_and_unit }, (unit_spelled_behind, refl), refl))
+pieces_are_taken_together = (
+  record no_draft { period_type = kind_alone },
+  (kind_spelled, refl),
+  (record no_draft { period_type = kind_and_unit }, (unit_spelled_behind, refl), refl),
+)
 
 -- the same, by the whole list
 type_of_both_pieces : IsOneMessage IsValueTypeOf (values_at 11 two_pieces) kind_and_unit
@@ -131,11 +138,19 @@ three_spelled : Spells sample_table no_sample (16 ∷ 3 ∷ []) three
 three_spelled = record { fields = single_value; listed = single_listed; gathered = (three, (refl, refl), refl) }
 
 samples_in_order : Gathers draft_table no_draft two_samples (record no_draft { samples = seven ∷ three ∷ []; period = pos 5 })
-samples_in_order =
-    (record no_draft { samples = seven ∷ [] }, (record { item = seven; spelled = seven_spelled; appended = refl }, refl),
-    (record no_draft { samples = seven ∷ []; period = pos 5 }, (refl, refl),
-    (record no_draft { samples = seven ∷ three ∷ []; period = pos 5 },
-    (record { item = three; spelled = three_spelled; appended = refl }, refl), refl)))
+samples_in_order = (
+  record no_draft { samples = seven ∷ [] },
+  (record { item = seven; spelled = seven_spelled; appended = refl }, refl),
+  (
+    record no_draft { samples = seven ∷ []; period = pos 5 },
+    (refl, refl),
+    (
+      record no_draft { samples = seven ∷ three ∷ []; period = pos 5 },
+      (record { item = three; spelled = three_spelled; appended = refl }, refl),
+      refl,
+    ),
+  ),
+)
 
 -- the same, by the whole list
 samples_of_both_fields : AreAllMessages IsSampleOf (values_at 2 two_samples) (seven ∷ three ∷ [])
@@ -149,10 +164,13 @@ samples_of_both_fields =
           values_fields = record { numbers = (7 ∷ []) ∷ []; numbered = (seven_listed, refl); all = refl };
           labels_fields = record { lists = []; listed = refl; each = refl };
         },
-        (record {
-          location_ids_fields = record { numbers = []; numbered = refl; all = refl };
-          values_fields = record { numbers = (3 ∷ []) ∷ []; numbered = (refl, refl); all = refl };
-          labels_fields = record { lists = []; listed = refl; each = refl };
-        }, refl),
+        (
+          record {
+            location_ids_fields = record { numbers = []; numbered = refl; all = refl };
+            values_fields = record { numbers = (3 ∷ []) ∷ []; numbered = (refl, refl); all = refl };
+            labels_fields = record { lists = []; listed = refl; each = refl };
+          },
+          refl,
+        ),
       );
     }

@@ -1,5 +1,5 @@
--- The messages by the whole lists of their fields: what each part of a message is, out of all the fields of its number, wherever
--- they stand (Protocol Buffers encoding page, "Last One Wins", "Packed Repeated Fields" and "Field Order").
+-- The messages by the whole lists of their fields: what each part of a message is, out of all the fields of its number,
+-- wherever they stand (Protocol Buffers encoding page, "Last One Wins", "Packed Repeated Fields" and "Field Order").
 use Rattle.std.specs.Prelude.{◌≡◌, ℕ, Bool, ◌==◌, cond, List, [], ◌∷◌, ◌++◌, map}
 use Rattle.std.specs.List.{AllByRecursion, flat_map}
 use Rattle.std.specs.Str.{IsUtf8}
@@ -66,13 +66,15 @@ AreFieldsOf (fixed32 number) fields = ⊥
 AreFieldsOf (content bytes) fields = IsFieldList bytes fields
 
 -- A repeated message: one by the fields of each value, in order.
-pub record AreAllMessages {M : Type 0} (Is : List PlainField → M → Type 0) (values : List FieldValue) (items : List M) : Type 0 where
+pub record AreAllMessages {M : Type 0} (Is : List PlainField → M → Type 0) (values : List FieldValue)
+    (items : List M) : Type 0 where
   pub lists : List (List PlainField)
   pub listed : ArePaired AreFieldsOf values lists
   pub each : ArePaired Is lists items
 
 -- A single message: that of the fields of all the values together, one value's behind the other's.
-pub record IsOneMessage {M : Type 0} (Is : List PlainField → M → Type 0) (values : List FieldValue) (item : M) : Type 0 where
+pub record IsOneMessage {M : Type 0} (Is : List PlainField → M → Type 0) (values : List FieldValue)
+    (item : M) : Type 0 where
   pub lists : List (List PlainField)
   pub listed : ArePaired AreFieldsOf values lists
   pub together : Is (flat_map (λ part. part) lists) item

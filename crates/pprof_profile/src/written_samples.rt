@@ -1,3 +1,4 @@
+//! Samples that are kept as the bytes of a profile, and the profile written around them.
 ghost use Rattle.std.specs.Prelude.{◌≡◌, ◌++◌, ◌∷◌, [], List, IfOk, OnErr, OnOk};
 ghost use Rattle.pprof_profile.specs.declared.messages.Draft.{Draft};
 ghost use Rattle.pprof_profile.specs.declared.messages.Sample.{Sample};
@@ -12,8 +13,8 @@ use pprof_wire::{NoMemory, Value, write_field};
 use std::alloc::Global;
 use std::marker::Model;
 
-/// Samples as they stand in a profile's bytes, so that each can be written when it comes and none is kept as a message. A contract
-/// sees the bytes.
+/// Samples as they stand in a profile's bytes, so that each can be written when it comes and none is kept as a message.
+/// A contract sees the bytes.
 #[derive(Drop)]
 pub struct WrittenSamples {
     bytes: Vec<u8>,
@@ -48,8 +49,10 @@ impl WrittenSamples {
     /// `NoMemory`; the samples are then as they were.
     pub fn push(&mut self, location_ids: &[u64], values: &[i64]) -> Result<(), NoMemory>
         ensures pushed { (samples : List Sample) → self.old ≡ samples_bytes samples
-            → OnOk result (self.new ≡ samples_bytes (samples ++ (record { location_ids = location_ids.now; values = values.now; labels = [] }) ∷ [])) }
-        ensures fits { OnOk result (FitsEach FitsSample sample_bytes ((record { location_ids = location_ids.now; values = values.now; labels = [] }) ∷ [])) }
+            → OnOk result (self.new ≡ samples_bytes
+            (samples ++ (record { location_ids = location_ids.now; values = values.now; labels = [] }) ∷ [])) }
+        ensures fits { OnOk result (FitsEach FitsSample sample_bytes
+            ((record { location_ids = location_ids.now; values = values.now; labels = [] }) ∷ [])) }
         ensures kept { OnErr result (self.new ≡ self.old) }
     {
         self.content.clear();
@@ -59,7 +62,9 @@ impl WrittenSamples {
     }
 }
 
-/// The canonical bytes of the draft with these samples for its own: what [`encode`](crate::encode) gives where that is a profile.
+/// The canonical bytes of the draft with these samples for its own: what [`encode`](crate::encode) gives where that is
+/// a profile. They spell that draft where the samples are as [`WrittenSamples::push`] says of each, and are a profile
+/// where it is valid.
 ///
 /// # Errors
 ///

@@ -1,3 +1,4 @@
+//! Where ids stand among the ids of items.
 ghost use Rattle.std.specs.Prelude.{ℕ, ◌≡◌, ◌≢◌, ◌↔◌, IfOk, IsTrue, MatchOption, Some, slice_get};
 
 use no_memory::NoMemory;
@@ -5,8 +6,8 @@ use std::alloc::Global;
 use std::collections::BTreeMap;
 use std::marker::Model;
 
-/// Where each id stands among the ids of items. An id that is one more than its place, as writers mostly give them, needs no entry.
-/// A contract sees the ids.
+/// Where each id stands among the ids of items. An id that is one more than its place, as writers mostly give them,
+/// needs no entry. A contract sees the ids.
 #[derive(Drop)]
 pub(crate) struct IdPlaces {
     ids: Vec<u64>,
@@ -44,7 +45,8 @@ impl IdPlaces {
 
     /// A place at which the id stands.
     pub fn find(&self, id: u64) -> Option<usize>
-        ensures { MatchOption result ((at : ℕ) → slice_get self.now at ≢ Some id) (λ at. slice_get self.now at ≡ Some id) }
+        ensures { MatchOption result ((at : ℕ) → slice_get self.now at ≢ Some id)
+            (λ at. slice_get self.now at ≡ Some id) }
     {
         let guess = id.saturating_sub(1) as usize;
         if self.stands_at(guess, id) {

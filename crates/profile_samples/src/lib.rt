@@ -3,8 +3,8 @@
 
 mod exporting;
 mod folded_export;
-pub mod laws;
 mod id_places;
+pub mod laws;
 mod sample_sums;
 mod sampling;
 mod text_table;

@@ -1,3 +1,4 @@
+//! The rows of a profile's samples, those of the same locations merged into one.
 ghost use Rattle.std.specs.Prelude.{[], ◌≡◌, ◌+◌, ◌^◌, ◌<◌, ◌≤◌, IfErr, List, MatchResult, OnErr, OnOk, length, pos, slice_get, Some};
 ghost use Rattle.profile_rows.specs.declared.batch.Row.{Row};
 ghost use Rattle.profile_samples.specs.declared.sampling.ValueChoice.{ValueChoice};
@@ -27,7 +28,8 @@ fn push_merged<'a>(
     requires depth { length (sample_stack_of frames.now ids.now) ≤ 65535 }
     requires fits { total_of merged.old + weight < 2 ^ 63 }
     requires placed { ArePlacedBy (sample_stack_of frames.now) known.old merged.old }
-    ensures added { OnOk result (AddsRow merged.old merged.new (record { stack = sample_stack_of frames.now ids.now; weight = weight })) }
+    ensures added { OnOk result
+        (AddsRow merged.old merged.new (record { stack = sample_stack_of frames.now ids.now; weight = weight })) }
     ensures placed { OnOk result (ArePlacedBy (sample_stack_of frames.now) known.new merged.new) }
 {
     let at = merged.rows().len();
@@ -41,7 +43,8 @@ fn add_to_row(merged: &mut Batch, at: usize, weight: u64, number: u64) -> Result
     requires { at < length merged.old }
     ensures added { OnOk result (merged.new ≡ with_added_at merged.old at weight) }
     ensures fits { OnOk result (total_of merged.old + weight < 2 ^ 63) }
-    ensures fault { IfErr result (λ fault. (fault ≡ BatchFault.Heavy number) × (2 ^ 63 ≤ total_of merged.old + weight)) }
+    ensures fault { IfErr result
+        (λ fault. (fault ≡ BatchFault.Heavy number) × (2 ^ 63 ≤ total_of merged.old + weight)) }
 {
     match merged.add_weight(at, weight) {
         Ok(()) => Ok(()),
@@ -61,7 +64,8 @@ fn merge_sample<'a>(
 ) -> Result<(), BatchFault>
     requires values { chosen < length sample.now.values }
     requires placed { ArePlacedBy (sample_stack_of frames.now) known.old merged.old }
-    ensures added { OnOk result ((row : Row) × IsSampleRow frames.now chosen sample.now row × AddsRow merged.old merged.new row) }
+    ensures added { OnOk result
+        ((row : Row) × IsSampleRow frames.now chosen sample.now row × AddsRow merged.old merged.new row) }
     ensures placed { OnOk result (ArePlacedBy (sample_stack_of frames.now) known.new merged.new) }
     ensures fault { IfErr result (IsSampleFault frames.now chosen (total_of merged.old) number sample.now) }
 {
@@ -76,8 +80,8 @@ fn merge_sample<'a>(
     }
 }
 
-/// The rows of a profile's samples by the values at an index, those of the same locations merged by a map that is empty yet.
-/// Where memory runs out, the samples before have no fault, nor has the one at hand.
+/// The rows of a profile's samples by the values at an index, those of the same locations merged by a map that is empty
+/// yet. Where memory runs out, the samples before have no fault, nor has the one at hand.
 fn merged_by<'a>(
     alloc: Global,
     profile: &'a Profile,
@@ -89,7 +93,8 @@ fn merged_by<'a>(
     requires typed { chosen < length profile.now.sample_types }
     requires placed { ArePlacedBy (sample_stack_of profile.now) known [] }
     ensures { (choice : ValueChoice) → chosen_type_of profile.now choice ≡ Some chosen
-        → MatchResult result (λ sums. IsSumOfBatch profile.now choice sums) (λ fault. StandsAtSample profile.now choice fault) }
+        → MatchResult result (λ sums. IsSumOfBatch profile.now choice sums)
+        (λ fault. StandsAtSample profile.now choice fault) }
 {
     let mut merged = Batch::new(alloc);
     for (index, sample) in profile.draft().samples.as_slice().iter().enumerate() {
@@ -106,8 +111,8 @@ fn merged_by<'a>(
     Ok(merged)
 }
 
-/// The rows of a profile's samples, those of the same locations merged and their weights summed: as [`batch_of`](crate::batch_of), and every report on
-/// them is the same, in fewer rows.
+/// The rows of a profile's samples, those of the same locations merged and their weights summed: as
+/// [`batch_of`](crate::batch_of), and every report on them is the same, in fewer rows.
 ///
 /// # Errors
 ///
@@ -117,7 +122,8 @@ pub fn sum_samples(
     profile: &Profile,
     choice: ValueChoice,
 ) -> Result<Batch, BatchFault>
-    ensures read { MatchResult result (λ sums. IsSumOfBatch profile.now choice.entry sums) (λ fault. IsFirstBatchFault profile.now choice.entry fault) }
+    ensures read { MatchResult result (λ sums. IsSumOfBatch profile.now choice.entry sums)
+        (λ fault. IsFirstBatchFault profile.now choice.entry fault) }
     ensures accepted { (rows : List Row) → IsBatchOf profile.now choice.entry rows
         → MatchResult result (λ sums. aggregate_of sums ≡ aggregate_of rows) (λ fault. fault ≡ BatchFault.NoMemory) }
 {

@@ -1,3 +1,4 @@
+//! The frames of locations, and the names of functions and lines.
 ghost use Rattle.std.specs.Prelude.{◌≡◌, ◌≤◌, ◌++◌, ◌↔◌, IfOk, IsTrue, OnOk, length, map, slice_get};
 ghost use Rattle.pprof_profile.specs.Valid.{IsValidDraft};
 ghost use Rattle.profile_samples.specs.Samples.{address_name, frames_at, frames_of_id, frames_of_ids, function_name, item_with, line_name, location_frames, named_by, string_at};
@@ -107,7 +108,8 @@ impl<'a> FunctionNames<'a> {
 
     /// The name of the function that an id names, where it has one.
     fn named(&self, id: u64) -> Option<&Name>
-        ensures { option_map (λ name. name.now) result ≡ named_by self.now.strings (item_with (λ function. function.id) id self.now.functions) }
+        ensures { option_map (λ name. name.now) result
+            ≡ named_by self.now.strings (item_with (λ function. function.id) id self.now.functions) }
     {
         match self.places.find(id) {
             Some(at) => self.name_at(at),
@@ -179,8 +181,8 @@ impl<'a> FunctionNames<'a> {
     }
 }
 
-/// The frames of a profile's locations, so that a sample costs a look-up for each location and a share for each frame. A contract
-/// sees the profile.
+/// The frames of a profile's locations, so that a sample costs a look-up for each location and a share for each frame.
+/// A contract sees the profile.
 #[derive(Drop)]
 pub(crate) struct LocationFrames<'a> {
     draft: &'a Draft,

@@ -12,3 +12,5 @@ mod reports;
 mod stacks;
 #[cfg(test)]
 mod trees;
+#[cfg(test)]
+mod wire;

@@ -4,7 +4,10 @@ pub mod Once
 pub mod MessagesOnce
 pub mod ProfileOnce
 pub mod Appending
+pub mod ByFields
+pub mod ByFieldsBack
 pub mod ReadBack
 pub mod MessagesBack
 pub mod Plain
+pub mod WorkedFields
 pub mod WorkedProfiles

@@ -1,4 +1,5 @@
--- The canonical bytes of a profile: what `encode` writes. Fields stand by rising number, and varints are as short as can be.
+-- The canonical bytes of a profile: what `encode` writes. Fields stand by rising number, and varints are as short as
+-- can be.
 use Rattle.std.specs.Prelude.{ℕ, zero, suc, ℤ, Bool, true, false, ◌<◌, ◌^◌, ◌++◌, List, [], ◌∷◌, length, map}
 use Rattle.std.specs.List.{flat_map, AllByRecursion}
 use Rattle.std.specs.Str.{IsUtf8}
@@ -190,8 +191,10 @@ abbrev pub sample_bytes : Sample → List ℕ
 sample_bytes item = bytes_of_fields (sample_fields item)
 
 pub record FitsSample (item : Sample) : Type 0 where
-  pub location_ids_fits : FitsNumbers FitsUnsigned item.location_ids × (length (packed_bytes (map number_of_unsigned item.location_ids)) < 2 ^ 64)
-  pub values_fits : FitsNumbers (FitsSigned w64) item.values × (length (packed_bytes (map number_of_signed item.values)) < 2 ^ 64)
+  pub location_ids_fits : FitsNumbers FitsUnsigned item.location_ids
+      × (length (packed_bytes (map number_of_unsigned item.location_ids)) < 2 ^ 64)
+  pub values_fits : FitsNumbers (FitsSigned w64) item.values
+      × (length (packed_bytes (map number_of_signed item.values)) < 2 ^ 64)
   pub labels_fits : FitsEach FitsLabel label_bytes item.labels
 
 -- ---- message Profile
@@ -243,7 +246,8 @@ pub record FitsDraft (item : Draft) : Type 0 where
   pub duration_nanos_fits : FitsSigned w64 item.duration_nanos
   pub period_type_fits : FitsValueType item.period_type × (length (value_type_bytes item.period_type) < 2 ^ 64)
   pub period_fits : FitsSigned w64 item.period
-  pub comments_fits : FitsNumbers (FitsSigned w64) item.comments × (length (packed_bytes (map number_of_signed item.comments)) < 2 ^ 64)
+  pub comments_fits : FitsNumbers (FitsSigned w64) item.comments
+      × (length (packed_bytes (map number_of_signed item.comments)) < 2 ^ 64)
   pub default_sample_type_fits : FitsSigned w64 item.default_sample_type
 
 abbrev pub canonical_bytes_of : Draft → List ℕ

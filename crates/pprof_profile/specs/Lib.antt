@@ -1,3 +1,4 @@
+pub mod ByFields
 pub mod Canonical
 pub mod KnownIds
 pub mod Messages

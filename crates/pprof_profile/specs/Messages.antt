@@ -11,8 +11,8 @@ use Rattle.pprof_profile.specs.declared.messages.Sample.{Sample}
 use Rattle.pprof_profile.specs.declared.messages.Draft.{Draft}
 use Rattle.pprof_profile.specs.Reading.{Table, SetsNumber, AddsNumbers, AddsText, AddsMessage, MergesMessage, At, Where, IsSkipped}
 
--- Of the number of a varint: an `uint64` is the number itself, an `int64` its two's complement, and a `bool` is true where the
--- number is not 0.
+-- Of the number of a varint: an `uint64` is the number itself, an `int64` its two's complement, and a `bool` is true
+-- where the number is not 0.
 abbrev pub unsigned_of : ℕ → ℕ
 unsigned_of number = number
 
@@ -46,8 +46,10 @@ no_line = record {
 
 abbrev pub line_table : Table Line
 line_table old number value =
-    Where (number == 1) (At (SetsNumber unsigned_of) (λ m. m.function_id) (λ m x. record m { function_id = x }) old value)
-    (Where (number == 2) (At (SetsNumber signed_of) (λ m. m.line) (λ m x. record m { line = x }) old value)
+    Where (number == 1)
+    (At (SetsNumber unsigned_of) (λ m. m.function_id) (λ m x. record m { function_id = x }) old value)
+    (Where (number == 2)
+    (At (SetsNumber signed_of) (λ m. m.line) (λ m x. record m { line = x }) old value)
     (IsSkipped old))
 
 -- ---- message Label
@@ -86,16 +88,26 @@ no_mapping = record {
 
 abbrev pub mapping_table : Table Mapping
 mapping_table old number value =
-    Where (number == 1) (At (SetsNumber unsigned_of) (λ m. m.id) (λ m x. record m { id = x }) old value)
-    (Where (number == 2) (At (SetsNumber unsigned_of) (λ m. m.memory_start) (λ m x. record m { memory_start = x }) old value)
-    (Where (number == 3) (At (SetsNumber unsigned_of) (λ m. m.memory_limit) (λ m x. record m { memory_limit = x }) old value)
-    (Where (number == 4) (At (SetsNumber unsigned_of) (λ m. m.file_offset) (λ m x. record m { file_offset = x }) old value)
-    (Where (number == 5) (At (SetsNumber signed_of) (λ m. m.filename) (λ m x. record m { filename = x }) old value)
-    (Where (number == 6) (At (SetsNumber signed_of) (λ m. m.build_id) (λ m x. record m { build_id = x }) old value)
-    (Where (number == 7) (At (SetsNumber flag_of) (λ m. m.has_functions) (λ m x. record m { has_functions = x }) old value)
-    (Where (number == 8) (At (SetsNumber flag_of) (λ m. m.has_filenames) (λ m x. record m { has_filenames = x }) old value)
-    (Where (number == 9) (At (SetsNumber flag_of) (λ m. m.has_line_numbers) (λ m x. record m { has_line_numbers = x }) old value)
-    (Where (number == 10) (At (SetsNumber flag_of) (λ m. m.has_inline_frames) (λ m x. record m { has_inline_frames = x }) old value)
+    Where (number == 1)
+    (At (SetsNumber unsigned_of) (λ m. m.id) (λ m x. record m { id = x }) old value)
+    (Where (number == 2)
+    (At (SetsNumber unsigned_of) (λ m. m.memory_start) (λ m x. record m { memory_start = x }) old value)
+    (Where (number == 3)
+    (At (SetsNumber unsigned_of) (λ m. m.memory_limit) (λ m x. record m { memory_limit = x }) old value)
+    (Where (number == 4)
+    (At (SetsNumber unsigned_of) (λ m. m.file_offset) (λ m x. record m { file_offset = x }) old value)
+    (Where (number == 5)
+    (At (SetsNumber signed_of) (λ m. m.filename) (λ m x. record m { filename = x }) old value)
+    (Where (number == 6)
+    (At (SetsNumber signed_of) (λ m. m.build_id) (λ m x. record m { build_id = x }) old value)
+    (Where (number == 7)
+    (At (SetsNumber flag_of) (λ m. m.has_functions) (λ m x. record m { has_functions = x }) old value)
+    (Where (number == 8)
+    (At (SetsNumber flag_of) (λ m. m.has_filenames) (λ m x. record m { has_filenames = x }) old value)
+    (Where (number == 9)
+    (At (SetsNumber flag_of) (λ m. m.has_line_numbers) (λ m x. record m { has_line_numbers = x }) old value)
+    (Where (number == 10)
+    (At (SetsNumber flag_of) (λ m. m.has_inline_frames) (λ m x. record m { has_inline_frames = x }) old value)
     (IsSkipped old))))))))))
 
 -- ---- message Function
@@ -111,11 +123,16 @@ no_function = record {
 
 abbrev pub function_table : Table Function
 function_table old number value =
-    Where (number == 1) (At (SetsNumber unsigned_of) (λ m. m.id) (λ m x. record m { id = x }) old value)
-    (Where (number == 2) (At (SetsNumber signed_of) (λ m. m.name) (λ m x. record m { name = x }) old value)
-    (Where (number == 3) (At (SetsNumber signed_of) (λ m. m.system_name) (λ m x. record m { system_name = x }) old value)
-    (Where (number == 4) (At (SetsNumber signed_of) (λ m. m.filename) (λ m x. record m { filename = x }) old value)
-    (Where (number == 5) (At (SetsNumber signed_of) (λ m. m.start_line) (λ m x. record m { start_line = x }) old value)
+    Where (number == 1)
+    (At (SetsNumber unsigned_of) (λ m. m.id) (λ m x. record m { id = x }) old value)
+    (Where (number == 2)
+    (At (SetsNumber signed_of) (λ m. m.name) (λ m x. record m { name = x }) old value)
+    (Where (number == 3)
+    (At (SetsNumber signed_of) (λ m. m.system_name) (λ m x. record m { system_name = x }) old value)
+    (Where (number == 4)
+    (At (SetsNumber signed_of) (λ m. m.filename) (λ m x. record m { filename = x }) old value)
+    (Where (number == 5)
+    (At (SetsNumber signed_of) (λ m. m.start_line) (λ m x. record m { start_line = x }) old value)
     (IsSkipped old)))))
 
 -- ---- message Location
@@ -131,11 +148,16 @@ no_location = record {
 
 abbrev pub location_table : Table Location
 location_table old number value =
-    Where (number == 1) (At (SetsNumber unsigned_of) (λ m. m.id) (λ m x. record m { id = x }) old value)
-    (Where (number == 2) (At (SetsNumber unsigned_of) (λ m. m.mapping_id) (λ m x. record m { mapping_id = x }) old value)
-    (Where (number == 3) (At (SetsNumber unsigned_of) (λ m. m.address) (λ m x. record m { address = x }) old value)
-    (Where (number == 4) (At (AddsMessage line_table no_line) (λ m. m.lines) (λ m x. record m { lines = x }) old value)
-    (Where (number == 5) (At (SetsNumber flag_of) (λ m. m.is_folded) (λ m x. record m { is_folded = x }) old value)
+    Where (number == 1)
+    (At (SetsNumber unsigned_of) (λ m. m.id) (λ m x. record m { id = x }) old value)
+    (Where (number == 2)
+    (At (SetsNumber unsigned_of) (λ m. m.mapping_id) (λ m x. record m { mapping_id = x }) old value)
+    (Where (number == 3)
+    (At (SetsNumber unsigned_of) (λ m. m.address) (λ m x. record m { address = x }) old value)
+    (Where (number == 4)
+    (At (AddsMessage line_table no_line) (λ m. m.lines) (λ m x. record m { lines = x }) old value)
+    (Where (number == 5)
+    (At (SetsNumber flag_of) (λ m. m.is_folded) (λ m x. record m { is_folded = x }) old value)
     (IsSkipped old)))))
 
 -- ---- message Sample
@@ -149,9 +171,12 @@ no_sample = record {
 
 abbrev pub sample_table : Table Sample
 sample_table old number value =
-    Where (number == 1) (At (AddsNumbers unsigned_of) (λ m. m.location_ids) (λ m x. record m { location_ids = x }) old value)
-    (Where (number == 2) (At (AddsNumbers signed_of) (λ m. m.values) (λ m x. record m { values = x }) old value)
-    (Where (number == 3) (At (AddsMessage label_table no_label) (λ m. m.labels) (λ m x. record m { labels = x }) old value)
+    Where (number == 1)
+    (At (AddsNumbers unsigned_of) (λ m. m.location_ids) (λ m x. record m { location_ids = x }) old value)
+    (Where (number == 2)
+    (At (AddsNumbers signed_of) (λ m. m.values) (λ m x. record m { values = x }) old value)
+    (Where (number == 3)
+    (At (AddsMessage label_table no_label) (λ m. m.labels) (λ m x. record m { labels = x }) old value)
     (IsSkipped old)))
 
 -- ---- message Profile
@@ -176,18 +201,33 @@ no_draft = record {
 
 abbrev pub draft_table : Table Draft
 draft_table old number value =
-    Where (number == 1) (At (AddsMessage value_type_table no_value_type) (λ m. m.sample_types) (λ m x. record m { sample_types = x }) old value)
-    (Where (number == 2) (At (AddsMessage sample_table no_sample) (λ m. m.samples) (λ m x. record m { samples = x }) old value)
-    (Where (number == 3) (At (AddsMessage mapping_table no_mapping) (λ m. m.mappings) (λ m x. record m { mappings = x }) old value)
-    (Where (number == 4) (At (AddsMessage location_table no_location) (λ m. m.locations) (λ m x. record m { locations = x }) old value)
-    (Where (number == 5) (At (AddsMessage function_table no_function) (λ m. m.functions) (λ m x. record m { functions = x }) old value)
-    (Where (number == 6) (At (AddsText) (λ m. m.strings) (λ m x. record m { strings = x }) old value)
-    (Where (number == 7) (At (SetsNumber signed_of) (λ m. m.drop_frames) (λ m x. record m { drop_frames = x }) old value)
-    (Where (number == 8) (At (SetsNumber signed_of) (λ m. m.keep_frames) (λ m x. record m { keep_frames = x }) old value)
-    (Where (number == 9) (At (SetsNumber signed_of) (λ m. m.time_nanos) (λ m x. record m { time_nanos = x }) old value)
-    (Where (number == 10) (At (SetsNumber signed_of) (λ m. m.duration_nanos) (λ m x. record m { duration_nanos = x }) old value)
-    (Where (number == 11) (At (MergesMessage value_type_table) (λ m. m.period_type) (λ m x. record m { period_type = x }) old value)
-    (Where (number == 12) (At (SetsNumber signed_of) (λ m. m.period) (λ m x. record m { period = x }) old value)
-    (Where (number == 13) (At (AddsNumbers signed_of) (λ m. m.comments) (λ m x. record m { comments = x }) old value)
-    (Where (number == 14) (At (SetsNumber signed_of) (λ m. m.default_sample_type) (λ m x. record m { default_sample_type = x }) old value)
+    Where (number == 1)
+    (At (AddsMessage value_type_table no_value_type)
+    (λ m. m.sample_types) (λ m x. record m { sample_types = x }) old value)
+    (Where (number == 2)
+    (At (AddsMessage sample_table no_sample) (λ m. m.samples) (λ m x. record m { samples = x }) old value)
+    (Where (number == 3)
+    (At (AddsMessage mapping_table no_mapping) (λ m. m.mappings) (λ m x. record m { mappings = x }) old value)
+    (Where (number == 4)
+    (At (AddsMessage location_table no_location) (λ m. m.locations) (λ m x. record m { locations = x }) old value)
+    (Where (number == 5)
+    (At (AddsMessage function_table no_function) (λ m. m.functions) (λ m x. record m { functions = x }) old value)
+    (Where (number == 6)
+    (At (AddsText) (λ m. m.strings) (λ m x. record m { strings = x }) old value)
+    (Where (number == 7)
+    (At (SetsNumber signed_of) (λ m. m.drop_frames) (λ m x. record m { drop_frames = x }) old value)
+    (Where (number == 8)
+    (At (SetsNumber signed_of) (λ m. m.keep_frames) (λ m x. record m { keep_frames = x }) old value)
+    (Where (number == 9)
+    (At (SetsNumber signed_of) (λ m. m.time_nanos) (λ m x. record m { time_nanos = x }) old value)
+    (Where (number == 10)
+    (At (SetsNumber signed_of) (λ m. m.duration_nanos) (λ m x. record m { duration_nanos = x }) old value)
+    (Where (number == 11)
+    (At (MergesMessage value_type_table) (λ m. m.period_type) (λ m x. record m { period_type = x }) old value)
+    (Where (number == 12)
+    (At (SetsNumber signed_of) (λ m. m.period) (λ m x. record m { period = x }) old value)
+    (Where (number == 13)
+    (At (AddsNumbers signed_of) (λ m. m.comments) (λ m x. record m { comments = x }) old value)
+    (Where (number == 14)
+    (At (SetsNumber signed_of) (λ m. m.default_sample_type) (λ m x. record m { default_sample_type = x }) old value)
     (IsSkipped old))))))))))))))

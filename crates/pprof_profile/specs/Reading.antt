@@ -9,12 +9,13 @@ use Rattle.pprof_wire.specs.Fields.{FieldValue, varint, fixed64, fixed32, conten
 use Rattle.pprof_profile.specs.declared.faults.ProfileFault.{ProfileFault}
 use Rattle.pprof_profile.specs.declared.faults.ProfileFault.TheVariants.{Wire, NotUtf8}
 
--- What a field's value does to what stands in its place: what stood there before, the value, and what stands there after it,
--- or a fault.
+-- What a field's value does to what stands in its place: what stood there before, the value, and what stands there
+-- after it, or a fault.
 abbrev pub Rule : Type 0 → Type 1
 Rule A = A → FieldValue → Result A ProfileFault → Type 0
 
--- What a field does to a message: the message before, the field's number and its value, and the message after it, or a fault.
+-- What a field does to a message: the message before, the field's number and its value, and the message after it, or a
+-- fault.
 abbrev pub Table : Type 0 → Type 1
 Table M = M → ℕ → FieldValue → Result M ProfileFault → Type 0
 
@@ -33,7 +34,8 @@ pub record Spells {M : Type 0} (table : Table M) (old : M) (bytes : List ℕ) (n
   pub gathered : Gathers table old fields new
 
 -- The bytes before the rest are fields, which make the new message of the old one.
-pub record IsReadSoFar {M : Type 0} (table : Table M) (old : M) (bytes : List ℕ) (new : M) (rest : List ℕ) : Type 0 where
+pub record IsReadSoFar {M : Type 0} (table : Table M) (old : M) (bytes : List ℕ) (new : M)
+    (rest : List ℕ) : Type 0 where
   pub front : List ℕ
   pub parts : bytes ≡ front ++ rest
   pub spelled : Spells table old front new
@@ -119,7 +121,8 @@ AddsText old (fixed32 number) outcome = IsOfOtherType outcome
 AddsText old (content bytes) outcome = AddsUtf8 old bytes outcome
 
 -- The bytes spell one more item, out of the empty message.
-pub record IsAppended {M : Type 0} (table : Table M) (empty : M) (old : List M) (bytes : List ℕ) (new : List M) : Type 0 where
+pub record IsAppended {M : Type 0} (table : Table M) (empty : M) (old : List M) (bytes : List ℕ)
+    (new : List M) : Type 0 where
   pub item : M
   pub spelled : Spells table empty bytes item
   pub appended : new ≡ old ++ item ∷ []

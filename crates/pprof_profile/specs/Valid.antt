@@ -40,7 +40,8 @@ abbrev pub mapping_indexes : ℕ → Mapping → Bool
 mapping_indexes count item = is_index count item.filename && is_index count item.build_id
 
 abbrev pub function_indexes : ℕ → Function → Bool
-function_indexes count item = is_index count item.name && is_index count item.system_name && is_index count item.filename
+function_indexes count item =
+    is_index count item.name && is_index count item.system_name && is_index count item.filename
 
 -- the indices of the messages that are repeated
 abbrev pub items_index : ℕ → Draft → Bool
@@ -81,7 +82,9 @@ no_zero_id draft =
     && not (list_any (λ item. item.id == 0) draft.functions)
 
 abbrev pub no_double_id : Draft → Bool
-no_double_id draft = not (has_double (mapping_ids draft)) && not (has_double (location_ids draft)) && not (has_double (function_ids draft))
+no_double_id draft =
+    not (has_double (mapping_ids draft)) && not (has_double (location_ids draft))
+    && not (has_double (function_ids draft))
 
 -- ---- what names an id
 

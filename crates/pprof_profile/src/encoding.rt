@@ -1,3 +1,4 @@
+//! The messages as the fields that are written of them.
 ghost use Rattle.std.specs.Prelude.{◌≡◌, ◌++◌, ◌<◌, ◌^◌, List, length, map, OnOk};
 ghost use Rattle.std.specs.Int.{w64};
 ghost use Rattle.std.specs.Int.RustNames.{FitsSigned};
@@ -80,7 +81,10 @@ impl Written for Mapping {
 
 fn write_mapping_place_fields(item: &Mapping, out: &mut Vec<u8>) -> Result<(), NoMemory>
     ensures written { OnOk result (out.new.items ≡ out.old.items ++ bytes_of_fields (mapping_place_fields item.now)) }
-    ensures fits { OnOk result ((FitsUnsigned item.now.id) × (FitsUnsigned item.now.memory_start) × (FitsUnsigned item.now.memory_limit) × (FitsUnsigned item.now.file_offset) × (FitsSigned w64 item.now.filename) × (FitsSigned w64 item.now.build_id)) }
+    ensures fits { OnOk result
+        ((FitsUnsigned item.now.id) × (FitsUnsigned item.now.memory_start) × (FitsUnsigned item.now.memory_limit)
+        × (FitsUnsigned item.now.file_offset) × (FitsSigned w64 item.now.filename)
+        × (FitsSigned w64 item.now.build_id)) }
 {
     write_number(out, 1, &item.id)?;
     write_number(out, 2, &item.memory_start)?;
@@ -162,7 +166,11 @@ fn write_draft_item_fields(
     spare: &mut Vec<u8>,
 ) -> Result<(), NoMemory>
     ensures written { OnOk result (out.new.items ≡ out.old.items ++ bytes_of_fields (draft_item_fields item.now)) }
-    ensures fits { OnOk result ((FitsEach FitsValueType value_type_bytes item.now.sample_types) × (FitsEach FitsSample sample_bytes item.now.samples) × (FitsEach FitsMapping mapping_bytes item.now.mappings) × (FitsEach FitsLocation location_bytes item.now.locations) × (FitsEach FitsFunction function_bytes item.now.functions) × (FitsTexts item.now.strings)) }
+    ensures fits { OnOk result
+        ((FitsEach FitsValueType value_type_bytes item.now.sample_types)
+        × (FitsEach FitsSample sample_bytes item.now.samples) × (FitsEach FitsMapping mapping_bytes item.now.mappings)
+        × (FitsEach FitsLocation location_bytes item.now.locations)
+        × (FitsEach FitsFunction function_bytes item.now.functions) × (FitsTexts item.now.strings)) }
 {
     write_messages(alloc, out, 1, &item.sample_types, spare)?;
     write_messages(alloc, out, 2, &item.samples, spare)?;
@@ -176,7 +184,10 @@ fn write_draft_table_fields(
     spare: &mut Vec<u8>,
 ) -> Result<(), NoMemory>
     ensures written { OnOk result (out.new.items ≡ out.old.items ++ bytes_of_fields (draft_table_fields item.now)) }
-    ensures fits { OnOk result ((FitsEach FitsMapping mapping_bytes item.now.mappings) × (FitsEach FitsLocation location_bytes item.now.locations) × (FitsEach FitsFunction function_bytes item.now.functions) × (FitsTexts item.now.strings)) }
+    ensures fits { OnOk result
+        ((FitsEach FitsMapping mapping_bytes item.now.mappings)
+        × (FitsEach FitsLocation location_bytes item.now.locations)
+        × (FitsEach FitsFunction function_bytes item.now.functions) × (FitsTexts item.now.strings)) }
 {
     write_messages(alloc, out, 3, &item.mappings, spare)?;
     write_messages(alloc, out, 4, &item.locations, spare)?;
@@ -191,7 +202,14 @@ fn write_draft_setting_fields(
     spare: &mut Vec<u8>,
 ) -> Result<(), NoMemory>
     ensures written { OnOk result (out.new.items ≡ out.old.items ++ bytes_of_fields (draft_setting_fields item.now)) }
-    ensures fits { OnOk result ((FitsSigned w64 item.now.drop_frames) × (FitsSigned w64 item.now.keep_frames) × (FitsSigned w64 item.now.time_nanos) × (FitsSigned w64 item.now.duration_nanos) × (FitsValueType item.now.period_type × (length (value_type_bytes item.now.period_type) < 2 ^ 64)) × (FitsSigned w64 item.now.period) × (FitsNumbers (FitsSigned w64) item.now.comments × (length (packed_bytes (map number_of_signed item.now.comments)) < 2 ^ 64)) × (FitsSigned w64 item.now.default_sample_type)) }
+    ensures fits { OnOk result
+        ((FitsSigned w64 item.now.drop_frames) × (FitsSigned w64 item.now.keep_frames)
+        × (FitsSigned w64 item.now.time_nanos) × (FitsSigned w64 item.now.duration_nanos)
+        × (FitsValueType item.now.period_type × (length (value_type_bytes item.now.period_type) < 2 ^ 64))
+        × (FitsSigned w64 item.now.period)
+        × (FitsNumbers (FitsSigned w64) item.now.comments
+        × (length (packed_bytes (map number_of_signed item.now.comments)) < 2 ^ 64))
+        × (FitsSigned w64 item.now.default_sample_type)) }
 {
     write_number(out, 7, &item.drop_frames)?;
     write_number(out, 8, &item.keep_frames)?;
@@ -210,8 +228,10 @@ pub(crate) fn write_around_samples(
     samples: &[u8],
     out: &mut Vec<u8>,
 ) -> Result<(), NoMemory>
-    ensures { (items : List Sample) → samples.now ≡ samples_bytes items
+    ensures written { (items : List Sample) → samples.now ≡ samples_bytes items
         → OnOk result (out.new.items ≡ out.old.items ++ canonical_bytes_of (record item.now { samples = items })) }
+    ensures fits { (items : List Sample) → FitsEach FitsSample sample_bytes items
+        → OnOk result (FitsDraft (record item.now { samples = items })) }
 {
     let mut spare = Vec::new(alloc);
     write_messages(alloc, out, 1, &item.sample_types, &mut spare)?;

@@ -1,7 +1,8 @@
+//! Why bytes are no profile, and what is handed back with the fault.
 ghost use Rattle.std.specs.Prelude.{◌≡◌};
 ghost use Rattle.pprof_profile.specs.declared.faults.ProfileFault.TheVariants.{NoMemory, Wire};
 
-use pprof_wire::WireFault;
+use pprof_wire::{NoMemory, WireFault};
 use std::alloc::{AllocError, AllocFailed};
 use thiserror::Error;
 
@@ -54,6 +55,14 @@ impl From<WireFault> for ProfileFault {
 
     fn from(fault: WireFault) -> ProfileFault {
         ProfileFault::Wire(fault)
+    }
+}
+
+impl From<NoMemory> for ProfileFault {
+    ghost from_gives = { λ _ outcome. outcome ≡ NoMemory };
+
+    fn from(_refused: NoMemory) -> ProfileFault {
+        ProfileFault::NoMemory
     }
 }
 

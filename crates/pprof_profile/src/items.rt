@@ -1,7 +1,9 @@
-ghost use Rattle.std.specs.Prelude.{◌≡◌, ◌++◌, ◌∷◌, [], length, not, OnOk, OnErr, IfOk, string_bytes};
+//! The lists and the texts of messages.
+ghost use Rattle.std.specs.Prelude.{◌≡◌, ◌++◌, ◌∷◌, [], length, not, OnOk, OnErr, IfErr, IfOk, string_bytes};
 ghost use Rattle.std.specs.Str.{IsUtf8};
 ghost use Rattle.pprof_profile.specs.Valid.{is_nonempty};
 
+use pprof_wire::NoMemory;
 use std::alloc::{AllocError, AllocFailed, Global};
 use std::marker::Model;
 
@@ -65,17 +67,18 @@ impl<T> Items<T> {
         self.items
     }
 
-    /// Takes memory for so many more items, or leaves them as they were.
-    pub fn reserve(&mut self, more: usize) -> Result<(), AllocError>
+    /// Takes memory for so many more items. `NoMemory` where there is none; the items stay as they were.
+    pub fn reserve(&mut self, more: usize) -> Result<(), NoMemory>
         ensures { self.new ≡ self.old }
     {
-        self.items.reserve(more)
+        Ok(self.items.reserve(more)?)
     }
 
     /// Adds an item at the end. Where memory runs out the items are as they were, and the new one is handed back.
     pub fn push(&mut self, item: T) -> Result<(), AllocFailed<T>>
         ensures pushed { OnOk result (self.new ≡ self.old ++ item ∷ []) }
         ensures unchanged { OnErr result (self.new ≡ self.old) }
+        ensures back { IfErr result (λ failed. failed.value ≡ item) }
     {
         self.items.push(item)
     }

@@ -1,9 +1,10 @@
 //! Laws of profiles. Each function does nothing: what it ensures is the law.
-ghost use Rattle.std.specs.Prelude.{◌≡◌, ℕ, List};
+ghost use Rattle.std.specs.Prelude.{◌≡◌, ◌↔◌, ℕ, List};
 ghost use Rattle.pprof_profile.specs.declared.messages.Draft.{Draft};
 ghost use Rattle.pprof_profile.specs.declared.faults.ProfileFault.{ProfileFault};
 ghost use Rattle.pprof_profile.specs.Valid.{IsValidDraft};
 ghost use Rattle.pprof_profile.specs.Profiles.{BeginsAsGzip, SpellsDraft, IsProfile, IsProfileFault};
+ghost use Rattle.pprof_profile.specs.ByFields.{HasFieldsOf};
 ghost use Rattle.pprof_profile.specs.Canonical.{canonical_bytes_of, FitsDraft};
 
 /// Bytes are at most one profile.
@@ -30,4 +31,12 @@ pub fn canonical_bytes_spell_the_draft()
     ensures draft { (draft : Draft) → FitsDraft draft → SpellsDraft (canonical_bytes_of draft) draft }
     ensures profile { (draft : Draft) → FitsDraft draft → IsValidDraft draft
         → IsProfile (canonical_bytes_of draft) draft }
+{}
+
+/// What a spelled draft is, said of the whole list of its fields and not field by field: a single number is that of the
+/// last field of its number, or of 0 where there is none; repeated numbers, texts and messages are those of all the
+/// fields of their number, in order; `period_type` is the message of all the fields that its occurrences have, one
+/// behind the other.
+pub fn draft_by_its_fields()
+    ensures { (bytes : List ℕ) → (draft : Draft) → SpellsDraft bytes draft ↔ HasFieldsOf bytes draft }
 {}

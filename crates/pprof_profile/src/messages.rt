@@ -1,5 +1,5 @@
-//! The messages of profile.proto, with its fields' names but for these: `kind` is its `type`, `text` its `str`, and fields
-//! that hold several items have names in the plural.
+//! The messages of profile.proto, with its fields' names but for these: `kind` is its `type`, `text` its `str`, and
+//! fields that hold several items have names in the plural.
 
 use crate::items::{Items, Text};
 

@@ -1,9 +1,10 @@
-ghost use Rattle.std.specs.Prelude.{◌≡◌, ◌≢◌, ◌⊎◌, Some, IfOk, IfErr, MatchResult};
+//! Profiles: drafts that are valid, read from bytes and written.
+ghost use Rattle.std.specs.Prelude.{◌≡◌, ◌≢◌, ◌⊎◌, Some, IfOk, IfErr, OnOk, MatchResult};
 ghost use Rattle.std.specs.Bool.{OnTrue, OnFalse};
 ghost use Rattle.pprof_profile.specs.declared.messages.Draft.{Draft};
 ghost use Rattle.pprof_profile.specs.declared.faults.ProfileFault.{ProfileFault};
 ghost use Rattle.pprof_profile.specs.Valid.{IsValidDraft, validity_fault};
-ghost use Rattle.pprof_profile.specs.Canonical.{canonical_bytes_of};
+ghost use Rattle.pprof_profile.specs.Canonical.{canonical_bytes_of, FitsDraft};
 ghost use Rattle.pprof_profile.specs.Profiles.{BeginsAsGzip, IsProfile, IsProfileFault};
 
 use crate::faults::{ProfileFault, Refused};
@@ -55,8 +56,8 @@ impl Profile {
 ///
 /// # Errors
 ///
-/// `NoStrings`, `FirstString`, `StringIndex`, `ZeroId`, `DoubleId`, `NoLocation`, `NoMapping`, `NoFunction` and `ValueCount`,
-/// each asked of the whole draft before the next; `NoMemory`.
+/// `NoStrings`, `FirstString`, `StringIndex`, `ZeroId`, `DoubleId`, `NoLocation`, `NoMapping`, `NoFunction` and
+/// `ValueCount`, each asked of the whole draft before the next; `NoMemory`.
 pub fn check(alloc: Global, draft: Draft) -> Result<Profile, Refused<Draft>>
     ensures valid { IfOk result (λ profile. (profile ≡ draft) × IsValidDraft draft) }
     ensures back { IfErr result (λ refused. refused.back ≡ draft) }
@@ -73,8 +74,8 @@ pub fn check(alloc: Global, draft: Draft) -> Result<Profile, Refused<Draft>>
 ///
 /// # Errors
 ///
-/// `Gzip` where the bytes begin as those of gzip. Else the first fault in reading order, `Wire` or `NotUtf8`: a nested message
-/// is read where it stands. Else what [`check`] answers. `NoMemory` may come in place of any of them.
+/// `Gzip` where the bytes begin as those of gzip. Else the first fault in reading order, `Wire` or `NotUtf8`: a nested
+/// message is read where it stands. Else what [`check`] answers. `NoMemory` may come in place of any of them.
 pub fn decode(alloc: Global, bytes: &[u8]) -> Result<Profile, ProfileFault>
     ensures read { IfOk result (λ profile. IsProfile bytes.now profile) }
     ensures fault { IfErr result (λ fault. fault ≢ ProfileFault.NoMemory → IsProfileFault bytes.now fault) }
@@ -86,11 +87,13 @@ pub fn decode(alloc: Global, bytes: &[u8]) -> Result<Profile, ProfileFault>
     read_profile(alloc, bytes)
 }
 
-/// The canonical bytes of the profile: fields by rising number, varints as short as can be, packed numbers. A single number that
-/// is 0 and an empty field of packed numbers are left out, and so is `period_type` where it is empty.
+/// The canonical bytes of the profile: fields by rising number, varints as short as can be, packed numbers. A single
+/// number that is 0 and an empty field of packed numbers are left out, and so is `period_type` where it is empty. They
+/// spell the profile, whose numbers, texts and lengths fit (see [`laws`](crate::laws)).
 pub fn encode(alloc: Global, profile: &Profile) -> Result<Vec<u8>, NoMemory>
     ensures canonical { IfOk result (λ bytes. bytes.items ≡ canonical_bytes_of profile.now) }
     ensures spelled { IfOk result (λ bytes. IsProfile bytes.items profile.now) }
+    ensures fits { OnOk result (FitsDraft profile.now) }
 {
     let mut bytes = Vec::new(alloc);
     let mut spare = Vec::new(alloc);

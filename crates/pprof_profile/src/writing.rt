@@ -1,3 +1,4 @@
+//! Fields appended to bytes: numbers, texts and messages.
 ghost use Rattle.std.specs.Prelude.{◌≡◌, ◌++◌, ◌<◌, ◌^◌, List, length, map, IfOk, OnOk};
 ghost use Rattle.pprof_wire.specs.Fields.{PlainField, IsFieldNumber};
 ghost use Rattle.pprof_profile.specs.Canonical.{bytes_of_fields, number_fields, content_fields, each_field, packed_bytes, FitsNumbers, FitsTexts, FitsEach};
@@ -28,7 +29,8 @@ pub(crate) fn write_number<N: Number>(
     value: &N,
 ) -> Result<(), NoMemory>
     requires { IsFieldNumber number }
-    ensures written { OnOk result (out.new.items ≡ out.old.items ++ bytes_of_fields (number_fields number (N.to value.now))) }
+    ensures written { OnOk result
+        (out.new.items ≡ out.old.items ++ bytes_of_fields (number_fields number (N.to value.now))) }
     ensures fits { N.fits value.now }
 {
     match value.to_varint() {

@@ -1,3 +1,4 @@
+//! Why bytes are not in the wire format.
 use thiserror::Error;
 
 /// Why bytes are not in the wire format of Protocol Buffers.

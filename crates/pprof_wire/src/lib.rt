@@ -9,8 +9,6 @@ pub mod laws;
 mod numbers;
 mod packing;
 mod parts;
-#[cfg(test)]
-mod tests;
 mod values;
 mod varints;
 mod writing;

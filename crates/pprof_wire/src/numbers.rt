@@ -1,3 +1,4 @@
+//! The numbers of a packed field.
 ghost use Rattle.std.specs.Prelude.{◌≡◌};
 
 use crate::packing::Packed;

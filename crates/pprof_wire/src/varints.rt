@@ -1,3 +1,4 @@
+//! Varints that are read.
 ghost use Rattle.std.specs.Prelude.{◌≡◌, ℕ, List, ◌+◌, ◌<◌, ◌≤◌, ◌++◌, take, drop, length, slice_range, IfOk, IfErr};
 ghost use Rattle.pprof_wire.specs.Varints.{IsVarint, IsVarintFault};
 

@@ -7,7 +7,7 @@ use Rattle.std.proofs.lemmas.List.Concat.{flat_map-cons}
 use Rattle.std.proofs.lemmas.List.Sums.{sum_by_push}
 use Rattle.std.proofs.lemmas.Grind.{flat_map-append}
 use Rattle.pprof_profile.specs.declared.messages.Sample.{Sample}
-use Rattle.pprof_profile.specs.Canonical.{canonical_bytes_of, samples_bytes}
+use Rattle.pprof_profile.specs.Canonical.{canonical_bytes_of, sample_bytes, samples_bytes, FitsEach, FitsSample}
 use Rattle.profile_rows.specs.declared.batch.Row.{Row}
 use Rattle.folded_text.specs.declared.folded.FoldedFault.{FoldedFault}
 use Rattle.folded_text.specs.declared.folded.FoldedFault.TheVariants.{NoMemory}
@@ -70,22 +70,32 @@ names_push rows row =
 
 -- no rows yet
 pub AreSamplesOf-none : (names : List (List ℕ)) (samples : List ℕ) → names ≡ [] → samples ≡ samples_bytes [] → AreSamplesOf [] names samples 0
-AreSamplesOf-none names samples none empty = record { names_rows = none; samples_rows = empty; total_rows = refl }
+AreSamplesOf-none names samples none empty = record { names_rows = none; samples_rows = empty; fits_rows = tt; total_rows = refl }
+
+fits_joined : (samples more : List Sample) → FitsEach FitsSample sample_bytes samples → FitsEach FitsSample sample_bytes more
+    → FitsEach FitsSample sample_bytes (samples ++ more)
+fits_joined [] more fits other = other
+fits_joined (sample ∷ samples) more fits other = (fits.0, fits_joined samples more fits.1 other)
 
 -- a row more
 pub AreSamplesOf-push : (rows : List Row) (row : Row) (names next : List (List ℕ)) (samples after ids : List ℕ) (total sum : ℕ) → AreSamplesOf rows names samples total
     → next ≡ with_texts names row.stack → ids ≡ reverse (map (id_in next) row.stack) → sum ≡ total + row.weight
     → after ≡ samples_bytes (map (exported_sample names) rows ++ (record { location_ids = ids; values = pos row.weight ∷ []; labels = [] }) ∷ [])
+    → FitsEach FitsSample sample_bytes ((record { location_ids = ids; values = pos row.weight ∷ []; labels = [] }) ∷ [])
     → AreSamplesOf (rows ++ row ∷ []) next after sum
-AreSamplesOf-push rows row names next samples after ids total sum so_far added numbered more written =
+AreSamplesOf-push rows row names next samples after ids total sum so_far added numbered more written fits =
     let all : RowsStand names rows = subst (λ texts. RowsStand texts rows) (sym so_far.names_rows) (rows_stand (names_of rows) rows (λ q e. with_texts-own [] (flat_map (λ (r : Row). r.stack) rows) q e)) in
     let kept : map (exported_sample names) rows ≡ map (exported_sample next) rows = sym (samples_kept names row.stack rows all) ∙ ap (λ texts. map (exported_sample texts) rows) (sym added) in
+    let sample : Sample = record { location_ids = ids; values = pos row.weight ∷ []; labels = [] } in
+    let listed : map (exported_sample names) rows ++ sample ∷ [] ≡ map (exported_sample next) (rows ++ row ∷ []) =
+    ap (λ is. let one : Sample = record { location_ids = is; values = pos row.weight ∷ []; labels = [] } in map (exported_sample names) rows ++ one ∷ []) numbered
+    ∙ ap (λ before. before ++ exported_sample next row ∷ []) kept
+    ∙ sym (map-append (exported_sample next) rows (row ∷ [])) in
     record {
       names_rows = added ∙ ap (λ texts. with_texts texts row.stack) so_far.names_rows ∙ sym (names_push rows row);
-      samples_rows = written
-          ∙ ap (λ is. let sample : Sample = record { location_ids = is; values = pos row.weight ∷ []; labels = [] } in samples_bytes (map (exported_sample names) rows ++ sample ∷ [])) numbered
-          ∙ ap (λ before. samples_bytes (before ++ exported_sample next row ∷ [])) kept
-          ∙ ap samples_bytes (sym (map-append (exported_sample next) rows (row ∷ [])));
+      samples_rows = written ∙ ap samples_bytes listed;
+      fits_rows = subst (λ all. FitsEach FitsSample sample_bytes all) listed
+          (fits_joined (map (exported_sample names) rows) (sample ∷ []) so_far.fits_rows fits);
       total_rows = more ∙ ap (λ held. held + row.weight) so_far.total_rows ∙ sym (sum_by_push (λ (r : Row). r.weight) rows row);
     }
 

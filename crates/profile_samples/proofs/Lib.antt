@@ -1,7 +1,7 @@
 pub mod ExportLaws
 pub mod ExportedRows
 pub mod ItemsById
-pub mod Placing
+pub mod IdPlaces
 pub mod SampleRows
 pub mod SampleSums
 pub mod TextPlaces

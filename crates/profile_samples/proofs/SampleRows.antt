@@ -45,8 +45,8 @@ chosen_within draft Default chosen e =
 chosen_within draft (Named text) chosen e = named_within draft text.now chosen e
 
 -- each sample of a valid profile has as many values as there are sample types
-values_counted : (draft : Draft) → IsValidDraft draft → each_has_values (length draft.sample_types) draft.samples ≡ true
-values_counted draft valid =
+values_match : (draft : Draft) → IsValidDraft draft → each_has_values (length draft.sample_types) draft.samples ≡ true
+values_match draft valid =
     let after_strings = (rule_holds (is_nonempty draft.strings) NoStrings _ valid).1 in
     let after_first = (rule_holds (begins_with_empty draft.strings) FirstString _ after_strings).1 in
     let after_indices = (rule_holds (all_index draft) StringIndex _ after_first).1 in
@@ -57,16 +57,16 @@ values_counted draft valid =
     let after_functions = (rule_holds (names_functions (is_known (function_ids draft)) draft.locations) NoFunction _ after_mappings).1 in
     (rule_holds (each_has_values (length draft.sample_types) draft.samples) ValueCount _ after_functions).0
 
-counted_each : (count : ℕ) (samples : List Sample) (k : ℕ) (d : Sample) → each_has_values count samples ≡ true → k < length samples → length (get_or samples k d).values ≡ count
-counted_each count [] k d all lt = absurd (omega (arith, lt))
-counted_each count (sample ∷ samples) zero d all lt = eqb-true (length sample.values) count (and_parts (length sample.values == count) (each_has_values count samples) all).0
-counted_each count (sample ∷ samples) (suc k) d all lt = counted_each count samples k d (and_parts (length sample.values == count) (each_has_values count samples) all).1 (omega (arith, lt))
+each_matches : (count : ℕ) (samples : List Sample) (k : ℕ) (d : Sample) → each_has_values count samples ≡ true → k < length samples → length (get_or samples k d).values ≡ count
+each_matches count [] k d all lt = absurd (omega (arith, lt))
+each_matches count (sample ∷ samples) zero d all lt = eqb-true (length sample.values) count (and_parts (length sample.values == count) (each_has_values count samples) all).0
+each_matches count (sample ∷ samples) (suc k) d all lt = each_matches count samples k d (and_parts (length sample.values == count) (each_has_values count samples) all).1 (omega (arith, lt))
 
 -- so each has the one at an index of a sample type
 pub has_value : (draft : Draft) (chosen count : ℕ) (sample : Sample) → IsValidDraft draft → chosen < length draft.sample_types → count < length draft.samples → sample ≡ get_or draft.samples count sample
     → chosen < length sample.values
 has_value draft chosen count sample valid within lt item =
-    let values = counted_each (length draft.sample_types) draft.samples count sample (values_counted draft valid) lt in
+    let values = each_matches (length draft.sample_types) draft.samples count sample (values_match draft valid) lt in
     let same = ap (λ (s : Sample). length s.values) item in
     omega (arith, within, values, same)
 

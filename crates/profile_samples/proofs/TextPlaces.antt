@@ -11,7 +11,7 @@ use Rattle.std.proofs.lemmas.Bool.{false≢true}
 use Rattle.std.proofs.lemmas.List.{take_more, length-map, map-append}
 use Rattle.std.proofs.lemmas.Map.Text.{hash_map_updates_str}
 use denote.Ref.{Bor}
-use Rattle.profile_samples.specs.TextTables.{ArePlacesOf, place_in, with_text, with_texts}
+use Rattle.profile_samples.specs.TextTables.{AreTextPlaces, place_in, with_text, with_texts}
 use Rattle.profile_rows.proofs.SameNames.{same_from_is_same_name, is_same_name-self}
 
 -- what a map that has the places answers
@@ -85,20 +85,20 @@ other_place texts text q apart =
     ] refl
 
 -- a text that is new, put into the map
-pub ArePlacesOf-push : (texts : List (List ℕ)) (known after : HashMap (Bor (List ℕ)) ℕ (BuildHasherDefault FoldHasher)) (text : List ℕ) (at : ℕ) → at ≡ length texts → list_any (bytes_eq text) texts ≡ false
-    → hash.UpdatesBy (λ x y. bytes_eq x.now y.now) (λ k. bytes_eq text k.now) known after (Some at) → ArePlacesOf texts known → ArePlacesOf (texts ++ text ∷ []) after
-ArePlacesOf-push texts known after text at end none updates places = λ q.
+pub AreTextPlaces-push : (texts : List (List ℕ)) (known after : HashMap (Bor (List ℕ)) ℕ (BuildHasherDefault FoldHasher)) (text : List ℕ) (at : ℕ) → at ≡ length texts → list_any (bytes_eq text) texts ≡ false
+    → hash.UpdatesBy (λ x y. bytes_eq x.now y.now) (λ k. bytes_eq text k.now) known after (Some at) → AreTextPlaces texts known → AreTextPlaces (texts ++ text ∷ []) after
+AreTextPlaces-push texts known after text at end none updates places = λ q.
     hash_map_updates_str text known after (Some at) updates q
     ∙ elim (bytes_eq text q) as (λ b. bytes_eq text q ≡ b → cond b (Some at) (hash.get_by (λ (key : Bor (List ℕ)). bytes_eq q key.now) known) ≡ place_if_there (texts ++ text ∷ []) q) [
       | true ↦ λ e. ap Some end ∙ sym (own_place texts text none) ∙ ap (place_if_there (texts ++ text ∷ [])) (same_from_is_same_name text q e)
       | false ↦ λ e. places q ∙ sym (other_place texts text q (turned text q e))
     ] refl
 
-pub is_there : (texts : List (List ℕ)) (known : HashMap (Bor (List ℕ)) ℕ (BuildHasherDefault FoldHasher)) (text : List ℕ) → ArePlacesOf texts known
+pub is_there : (texts : List (List ℕ)) (known : HashMap (Bor (List ℕ)) ℕ (BuildHasherDefault FoldHasher)) (text : List ℕ) → AreTextPlaces texts known
     → is_some (hash.get_by (λ (key : Bor (List ℕ)). bytes_eq text key.now) known) ≡ list_any (bytes_eq text) texts
 is_there texts known text places = ap is_some (places text) ∙ elim (list_any (bytes_eq text) texts) as (λ b. is_some (cond b (Some (place_in texts text)) None) ≡ b) [ true ↦ refl | false ↦ refl ]
 
-pub place_answered : (texts : List (List ℕ)) (known : HashMap (Bor (List ℕ)) ℕ (BuildHasherDefault FoldHasher)) (text : List ℕ) (missing : ℕ) → missing ≡ length texts → ArePlacesOf texts known
+pub place_answered : (texts : List (List ℕ)) (known : HashMap (Bor (List ℕ)) ℕ (BuildHasherDefault FoldHasher)) (text : List ℕ) (missing : ℕ) → missing ≡ length texts → AreTextPlaces texts known
     → unwrap_or (hash.get_by (λ (key : Bor (List ℕ)). bytes_eq text key.now) known) missing ≡ place_in texts text
 place_answered texts known text missing is places =
     ap (λ o. unwrap_or o missing) (places text)

@@ -1,5 +1,5 @@
 pub mod Export
-pub mod Places
+pub mod IdPlaces
 pub mod SampleSums
 pub mod Samples
 pub mod TextTables

@@ -1,4 +1,5 @@
--- What the samples of a profile are as rows (profile.proto, the comments of messages Sample, Location, Line and Function).
+-- What the samples of a profile are as rows (profile.proto, the comments of messages Sample, Location, Line and
+-- Function).
 use Rattle.std.specs.Prelude.{Bool, false, ℕ, ℤ, pos, negsuc, ◌≡◌, ◌+◌, ◌^◌, ◌<◌, ◌≤◌, ◌==◌, Option, Some, None, List, [], ◌∷◌, ◌++◌, length, map, reverse, slice_get, slice_index_or, unwrap_or, codes, if◌then◌else◌}
 use Rattle.std.specs.List.{flat_map, position}
 use Rattle.std.specs.Fmt.{digits}
@@ -41,7 +42,8 @@ first_name None other = other
 -- a function's name is its `name`, or its `system_name` where that is empty; where both are, it has none
 abbrev pub function_name : List (List ℕ) → Function → Option (List ℕ)
 function_name strings function =
-    first_name (cleaned_name_of (string_at strings function.name)) (cleaned_name_of (string_at strings function.system_name))
+    first_name (cleaned_name_of (string_at strings function.name))
+    (cleaned_name_of (string_at strings function.system_name))
 
 -- the name of the function that an id names, where there is one and it has a name
 abbrev pub named_by : List (List ℕ) → Option Function → Option (List ℕ)
@@ -53,8 +55,8 @@ abbrev pub line_name : List (List ℕ) → List Function → ℕ → Line → Li
 line_name strings functions address line =
     unwrap_or (named_by strings (item_with (λ function. function.id) line.function_id functions)) (address_name address)
 
--- The frames of a location, leaf first: one for each line, of which the last is the caller into which the others were inlined. A
--- location without lines is one frame.
+-- The frames of a location, leaf first: one for each line, of which the last is the caller into which the others were
+-- inlined. A location without lines is one frame.
 abbrev pub frames_from : List (List ℕ) → List Function → ℕ → List Line → List (List ℕ)
 frames_from strings functions address [] = address_name address ∷ []
 frames_from strings functions address (line ∷ lines) = map (line_name strings functions address) (line ∷ lines)
@@ -90,7 +92,8 @@ frames_of_sample draft number = frames_of_maybe draft (slice_get draft.samples n
 
 -- the first sample type of this name
 abbrev pub type_named : Draft → List ℕ → Option ℕ
-type_named draft text = position (λ (kind : ValueType). bytes_eq (string_at draft.strings kind.kind) text) draft.sample_types
+type_named draft text =
+    position (λ (kind : ValueType). bytes_eq (string_at draft.strings kind.kind) text) draft.sample_types
 
 abbrev pub last_index : List ValueType → Option ℕ
 last_index [] = None
@@ -127,7 +130,8 @@ pub record IsSampleRow (draft : Draft) (chosen : ℕ) (sample : Sample) (row : R
 abbrev pub AreSampleRows : Draft → ℕ → List Sample → List Row → Type 0
 AreSampleRows draft chosen [] rows = rows ≡ []
 AreSampleRows draft chosen (sample ∷ samples) [] = ⊥
-AreSampleRows draft chosen (sample ∷ samples) (row ∷ rows) = IsSampleRow draft chosen sample row × AreSampleRows draft chosen samples rows
+AreSampleRows draft chosen (sample ∷ samples) (row ∷ rows) = IsSampleRow draft chosen sample row
+    × AreSampleRows draft chosen samples rows
 
 -- the rows of a profile, by the choice of a value
 pub record IsBatchOf (draft : Draft) (choice : ValueChoice) (rows : List Row) : Type 0 where
@@ -139,7 +143,8 @@ pub record IsBatchOf (draft : Draft) (choice : ValueChoice) (rows : List Row) : 
 -- what keeps a sample's value from being a weight
 abbrev pub IsValueFault : ℕ → ℕ → List ℤ → BatchFault → Type 0
 IsValueFault chosen number values NoValue = ⊥
-IsValueFault chosen number values (Negative at) = (at ≡ number) × (below : ℕ) × (slice_get values chosen ≡ Some (negsuc below))
+IsValueFault chosen number values (Negative at) = (at ≡ number) × (below : ℕ)
+    × (slice_get values chosen ≡ Some (negsuc below))
 IsValueFault chosen number values (Depth at) = ⊥
 IsValueFault chosen number values (Heavy at) = ⊥
 IsValueFault chosen number values NoMemory = ⊥
@@ -149,28 +154,34 @@ abbrev pub IsFitFault : Draft → ℕ → ℕ → List ℕ → ℕ → BatchFaul
 IsFitFault draft held number ids weight NoValue = ⊥
 IsFitFault draft held number ids weight (Negative at) = ⊥
 IsFitFault draft held number ids weight (Depth at) = (at ≡ number) × (65535 < length (sample_stack_of draft ids))
-IsFitFault draft held number ids weight (Heavy at) = (at ≡ number) × (length (sample_stack_of draft ids) ≤ 65535) × (2 ^ 63 ≤ held + weight)
+IsFitFault draft held number ids weight (Heavy at) = (at ≡ number) × (length (sample_stack_of draft ids) ≤ 65535)
+    × (2 ^ 63 ≤ held + weight)
 IsFitFault draft held number ids weight NoMemory = ⊥
 
--- Why a sample gives no row that can follow rows of the weight `held`. Each case says that the ones before it don't stand, and
--- memory runs out only at a sample without a fault: one that gives a row which can follow.
+-- Why a sample gives no row that can follow rows of the weight `held`. Each case says that the ones before it don't
+-- stand, and memory runs out only at a sample without a fault: one that gives a row which can follow.
 abbrev pub IsSampleFault : Draft → ℕ → ℕ → ℕ → Sample → BatchFault → Type 0
 IsSampleFault draft chosen held number sample NoValue = ⊥
 IsSampleFault draft chosen held number sample (Negative at) = (at ≡ number)
     × (below : ℕ) × (slice_get sample.values chosen ≡ Some (negsuc below))
 IsSampleFault draft chosen held number sample (Depth at) = (at ≡ number)
-    × (weight : ℕ) × (slice_get sample.values chosen ≡ Some (pos weight)) × (65535 < length (sample_stack_of draft sample.location_ids))
+    × (weight : ℕ) × (slice_get sample.values chosen ≡ Some (pos weight))
+    × (65535 < length (sample_stack_of draft sample.location_ids))
 IsSampleFault draft chosen held number sample (Heavy at) = (at ≡ number)
     × (row : Row) × IsSampleRow draft chosen sample row × (2 ^ 63 ≤ held + row.weight)
-IsSampleFault draft chosen held number sample NoMemory = (row : Row) × IsSampleRow draft chosen sample row × (held + row.weight < 2 ^ 63)
+IsSampleFault draft chosen held number sample NoMemory = (row : Row) × IsSampleRow draft chosen sample row
+    × (held + row.weight < 2 ^ 63)
 
 -- the fault stands at a sample, and the samples before it give rows within the limit
 abbrev pub StandsAtSample : Draft → ValueChoice → BatchFault → Type 0
-StandsAtSample draft choice fault = (chosen : ℕ) × (before : List Sample) × (sample : Sample) × (after : List Sample) × (rows : List Row)
+StandsAtSample draft choice fault = (chosen : ℕ) × (before : List Sample) × (sample : Sample) × (after : List Sample)
+    × (rows : List Row)
     × (chosen_type_of draft choice ≡ Some chosen) × (draft.samples ≡ before ++ sample ∷ after)
-    × AreSampleRows draft chosen before rows × (total_of rows < 2 ^ 63) × IsSampleFault draft chosen (total_of rows) (length before) sample fault
+    × AreSampleRows draft chosen before rows × (total_of rows < 2 ^ 63)
+    × IsSampleFault draft chosen (total_of rows) (length before) sample fault
 
--- Why a profile gives no rows: no such value, or the first sample with a fault. Memory runs out only where there is such a value.
+-- Why a profile gives no rows: no such value, or the first sample with a fault. Memory runs out only where there is
+-- such a value.
 abbrev pub IsFirstBatchFault : Draft → ValueChoice → BatchFault → Type 0
 IsFirstBatchFault draft choice NoValue = chosen_type_of draft choice ≡ None
 IsFirstBatchFault draft choice (Negative at) = StandsAtSample draft choice (Negative at)

@@ -23,6 +23,7 @@ with_texts texts [] = texts
 with_texts texts (text ∷ more) = with_texts (with_text texts text) more
 
 -- the map has the place of each text, and nothing else
-abbrev pub ArePlacesOf : List (List ℕ) → HashMap (Bor (List ℕ)) ℕ (BuildHasherDefault FoldHasher) → Type 0
-ArePlacesOf texts places = (text : List ℕ)
-    → hash.get_by (λ (key : Bor (List ℕ)). bytes_eq text key.now) places ≡ (if list_any (bytes_eq text) texts then Some (place_in texts text) else None)
+abbrev pub AreTextPlaces : List (List ℕ) → HashMap (Bor (List ℕ)) ℕ (BuildHasherDefault FoldHasher) → Type 0
+AreTextPlaces texts places = (text : List ℕ)
+    → hash.get_by (λ (key : Bor (List ℕ)). bytes_eq text key.now) places
+    ≡ (if list_any (bytes_eq text) texts then Some (place_in texts text) else None)

@@ -1,3 +1,4 @@
+//! Rows as the profile that they are exported as.
 ghost use Rattle.std.specs.Prelude.{◌≡◌, ◌<◌, ◌≤◌, ◌^◌, All, IfOk, OnOk, length, map, reverse};
 ghost use Rattle.profile_samples.specs.Export.{draft_with, exported_draft, exported_function, exported_location, exported_profile_of, exported_sample, id_in, names_of, strings_of};
 ghost use Rattle.profile_rows.specs.Names.{IsName};
@@ -194,8 +195,9 @@ pub(crate) fn exported_draft(
     draft_of(alloc, samples, names, &strings, sample_type)
 }
 
-/// The batch as a profile of one sample type, whose kind and unit these are: a sample for each row in order, and a function and a
-/// location for each name, numbered from 1 as the names first stand. Its samples give the rows of the batch back, in order.
+/// The batch as a profile of one sample type, whose kind and unit these are: a sample for each row in order, and a
+/// function and a location for each name, numbered from 1 as the names first stand. Its samples give the rows of the
+/// batch back, in order.
 ///
 /// # Errors
 ///

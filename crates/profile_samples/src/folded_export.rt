@@ -1,5 +1,7 @@
+//! Folded text as the bytes of a profile, with no row and no sample kept.
 ghost use Rattle.std.specs.Prelude.{◌≡◌, ◌+◌, ◌^◌, ◌<◌, ◌∷◌, ◌++◌, [], IfErr, IfOk, List, MatchResult, OnOk, map, reverse};
 ghost use Rattle.pprof_profile.specs.Canonical.{canonical_bytes_of};
+ghost use Rattle.pprof_profile.specs.Profiles.{IsProfile};
 ghost use Rattle.profile_rows.specs.declared.batch.Row.{Row};
 ghost use Rattle.profile_samples.specs.Export.{AreSamplesOf, IsExportOfText, exported_profile_of, id_in};
 ghost use Rattle.folded_text.specs.FoldedText.{IsFoldedText, IsLineFault, IsRowLine, IsWorkFault, frames_of};
@@ -14,7 +16,8 @@ use no_memory::NoMemory;
 use pprof_profile::{Items, WrittenSamples, encode_around};
 use std::alloc::Global;
 
-/// Rows as the samples of the profile that they are exported as: written when they come, their names numbered as they first stand.
+/// Rows as the samples of the profile that they are exported as: written when they come, their names numbered as they
+/// first stand.
 #[derive(Drop)]
 struct SampledRows<'a> {
     names: TextTable<'a>,
@@ -44,7 +47,9 @@ fn replace_ids<'a>(
 fn push_row<'a>(rows: &mut SampledRows<'a>, spelled: Spelled<'a>) -> Result<(), NoMemory>
     requires fits { rows.old.total + spelled.weight < 2 ^ 63 }
     ensures { (before : List Row) → AreSamplesOf before rows.old.names rows.old.samples rows.old.total
-        → OnOk result (AreSamplesOf (before ++ (record { stack = frames_of spelled.entry.stack.now; weight = spelled.entry.weight }) ∷ []) rows.new.names rows.new.samples rows.new.total) }
+        → OnOk result (AreSamplesOf
+        (before ++ (record { stack = frames_of spelled.entry.stack.now; weight = spelled.entry.weight }) ∷ [])
+        rows.new.names rows.new.samples rows.new.total) }
 {
     replace_ids(&mut rows.names, &mut rows.ids, spelled.stack)?;
     rows.samples
@@ -72,15 +77,19 @@ fn profile_bytes(
     kind: &str,
     unit: &str,
 ) -> Result<Vec<u8>, NoMemory>
-    ensures { (all : List Row) → AreSamplesOf all rows.now.names rows.now.samples rows.now.total
+    ensures canonical { (all : List Row) → AreSamplesOf all rows.now.names rows.now.samples rows.now.total
         → IfOk result (λ bytes. bytes.items ≡ canonical_bytes_of (exported_profile_of all kind.now unit.now)) }
+    ensures profile { (all : List Row) → AreSamplesOf all rows.now.names rows.now.samples rows.now.total
+        → IfOk result (λ bytes. IsProfile bytes.items (exported_profile_of all kind.now unit.now)) }
 {
     let draft = exported_draft(alloc, Items::empty(alloc), &rows.names, kind, unit)?;
     encode_around(alloc, &draft, &rows.samples)
 }
 
-/// Folded text as a profile's bytes: those that [`encode`](pprof_profile::encode) gives of [`profile_of`](crate::profile_of) the rows
-/// that [`read_folded`](crate::read_folded) reads. Neither rows nor samples are kept: memory is for the bytes and the names.
+/// Folded text as a profile's bytes: those that [`encode`](pprof_profile::encode) gives of
+/// [`profile_of`](crate::profile_of) the rows that [`read_folded`](crate::read_folded) reads. Neither rows nor samples
+/// are kept: memory is for the bytes and the names. The bytes are a profile, which [`decode`](pprof_profile::decode)
+/// reads.
 ///
 /// # Errors
 ///
@@ -91,9 +100,13 @@ pub fn export_folded(
     kind: &str,
     unit: &str,
 ) -> Result<Vec<u8>, FoldedFault>
-    ensures exported { MatchResult result (λ bytes. IsExportOfText text.now kind.now unit.now bytes.items) (λ fault. IsWorkFault text.now fault) }
+    ensures exported { MatchResult result (λ bytes. IsExportOfText text.now kind.now unit.now bytes.items)
+        (λ fault. IsWorkFault text.now fault) }
     ensures accepted { (rows : List Row) → IsFoldedText text.now rows
-        → MatchResult result (λ bytes. bytes.items ≡ canonical_bytes_of (exported_profile_of rows kind.now unit.now)) (λ fault. fault ≡ FoldedFault.NoMemory) }
+        → MatchResult result (λ bytes. bytes.items ≡ canonical_bytes_of (exported_profile_of rows kind.now unit.now))
+        (λ fault. fault ≡ FoldedFault.NoMemory) }
+    ensures profile { (rows : List Row) → IsFoldedText text.now rows
+        → IfOk result (λ bytes. IsProfile bytes.items (exported_profile_of rows kind.now unit.now)) }
 {
     let mut rows = SampledRows {
         names: TextTable::new(alloc),

@@ -1,4 +1,5 @@
-//! Laws of the definitions in `specs/`, each the contract of a function that does nothing. A caller calls one to use its law.
+//! Laws of the definitions in `specs/`, each the contract of a function that does nothing. A caller calls one to use
+//! its law.
 
 ghost use Rattle.std.specs.Prelude.{ℕ, ◌<◌, ◌^◌, All, List};
 ghost use Rattle.pprof_profile.specs.Valid.{IsValidDraft};

@@ -3,8 +3,8 @@
 
 mod exporting;
 mod folded_export;
+mod id_places;
 pub mod laws;
-mod places;
 mod sample_sums;
 mod sampling;
 mod text_table;

@@ -1,3 +1,4 @@
+//! The rows of a profile's samples, those of the same locations merged into one.
 ghost use Rattle.std.specs.Prelude.{[], ◌≡◌, ◌+◌, ◌^◌, ◌<◌, ◌≤◌, IfErr, List, MatchResult, OnErr, OnOk, length, pos, slice_get, Some};
 ghost use Rattle.profile_rows.specs.declared.batch.Row.{Row};
 ghost use Rattle.profile_samples.specs.declared.sampling.ValueChoice.{ValueChoice};
@@ -15,70 +16,73 @@ use profile_rows::Batch;
 use std::alloc::Global;
 use std::collections::HashMap;
 
-/// Adds the row of locations that no row has yet.
-fn push_sum<'a>(
+/// Adds the row of locations that no sample had yet.
+fn push_merged<'a>(
     alloc: Global,
     frames: &LocationFrames,
     known: &mut HashMap<&'a [u64], usize>,
-    sums: &mut Batch,
+    merged: &mut Batch,
     ids: &'a [u64],
     weight: u64,
 ) -> Result<(), NoMemory>
     requires depth { length (sample_stack_of frames.now ids.now) ≤ 65535 }
-    requires fits { total_of sums.old + weight < 2 ^ 63 }
-    requires placed { ArePlacedBy (sample_stack_of frames.now) known.old sums.old }
-    ensures added { OnOk result (AddsRow sums.old sums.new (record { stack = sample_stack_of frames.now ids.now; weight = weight })) }
-    ensures placed { OnOk result (ArePlacedBy (sample_stack_of frames.now) known.new sums.new) }
+    requires fits { total_of merged.old + weight < 2 ^ 63 }
+    requires placed { ArePlacedBy (sample_stack_of frames.now) known.old merged.old }
+    ensures added { OnOk result
+        (AddsRow merged.old merged.new (record { stack = sample_stack_of frames.now ids.now; weight = weight })) }
+    ensures placed { OnOk result (ArePlacedBy (sample_stack_of frames.now) known.new merged.new) }
 {
-    let at = sums.rows().len();
-    push_row(alloc, frames, sums, ids, weight)?;
+    let at = merged.rows().len();
+    push_row(alloc, frames, merged, ids, weight)?;
     known.insert(ids, at)?;
     Ok(())
 }
 
-/// Adds to the weight of a row.
-fn add_to_row(sums: &mut Batch, at: usize, weight: u64, number: u64) -> Result<(), BatchFault>
-    requires { at < length sums.old }
-    ensures added { OnOk result (sums.new ≡ with_added_at sums.old at weight) }
-    ensures fits { OnOk result (total_of sums.old + weight < 2 ^ 63) }
-    ensures fault { IfErr result (λ fault. (fault ≡ BatchFault.Heavy number) × (2 ^ 63 ≤ total_of sums.old + weight)) }
+/// Sums a weight with that of a row.
+fn add_to_row(merged: &mut Batch, at: usize, weight: u64, number: u64) -> Result<(), BatchFault>
+    requires { at < length merged.old }
+    ensures added { OnOk result (merged.new ≡ with_added_at merged.old at weight) }
+    ensures fits { OnOk result (total_of merged.old + weight < 2 ^ 63) }
+    ensures fault { IfErr result
+        (λ fault. (fault ≡ BatchFault.Heavy number) × (2 ^ 63 ≤ total_of merged.old + weight)) }
 {
-    match sums.add_weight(at, weight) {
+    match merged.add_weight(at, weight) {
         Ok(()) => Ok(()),
         Err(_) => Err(BatchFault::Heavy { sample: number }),
     }
 }
 
-/// Adds the row of a sample, to the row of the same locations where there is one.
-fn sum_sample<'a>(
+/// Merges the row of a sample into the row of the same locations, or adds it where there is none.
+fn merge_sample<'a>(
     alloc: Global,
     frames: &LocationFrames,
     known: &mut HashMap<&'a [u64], usize>,
-    sums: &mut Batch,
+    merged: &mut Batch,
     chosen: usize,
     sample: &'a Sample,
     number: u64,
 ) -> Result<(), BatchFault>
     requires values { chosen < length sample.now.values }
-    requires placed { ArePlacedBy (sample_stack_of frames.now) known.old sums.old }
-    ensures added { OnOk result ((row : Row) × IsSampleRow frames.now chosen sample.now row × AddsRow sums.old sums.new row) }
-    ensures placed { OnOk result (ArePlacedBy (sample_stack_of frames.now) known.new sums.new) }
-    ensures fault { IfErr result (IsSampleFault frames.now chosen (total_of sums.old) number sample.now) }
+    requires placed { ArePlacedBy (sample_stack_of frames.now) known.old merged.old }
+    ensures added { OnOk result
+        ((row : Row) × IsSampleRow frames.now chosen sample.now row × AddsRow merged.old merged.new row) }
+    ensures placed { OnOk result (ArePlacedBy (sample_stack_of frames.now) known.new merged.new) }
+    ensures fault { IfErr result (IsSampleFault frames.now chosen (total_of merged.old) number sample.now) }
 {
     let ids = sample.location_ids.as_slice();
     let weight = weight_of(sample.values.as_slice(), chosen, number)?;
     match known.get(ids).copied() {
-        Some(at) => add_to_row(sums, at, weight, number),
+        Some(at) => add_to_row(merged, at, weight, number),
         None => {
-            check_fit(frames, ids, weight, sums.total(), number)?;
-            Ok(push_sum(alloc, frames, known, sums, ids, weight)?)
+            check_fit(frames, ids, weight, merged.total(), number)?;
+            Ok(push_merged(alloc, frames, known, merged, ids, weight)?)
         }
     }
 }
 
-/// The rows of a profile's samples by the values at an index, those of the same locations put together by a map that is empty yet.
-/// Where memory runs out, the samples before have no fault, nor has the one at hand.
-fn sums_by<'a>(
+/// The rows of a profile's samples by the values at an index, those of the same locations merged by a map that is empty
+/// yet. Where memory runs out, the samples before have no fault, nor has the one at hand.
+fn merged_by<'a>(
     alloc: Global,
     profile: &'a Profile,
     frames: &LocationFrames,
@@ -89,25 +93,26 @@ fn sums_by<'a>(
     requires typed { chosen < length profile.now.sample_types }
     requires placed { ArePlacedBy (sample_stack_of profile.now) known [] }
     ensures { (choice : ValueChoice) → chosen_type_of profile.now choice ≡ Some chosen
-        → MatchResult result (λ sums. IsSumOfBatch profile.now choice sums) (λ fault. StandsAtSample profile.now choice fault) }
+        → MatchResult result (λ sums. IsSumOfBatch profile.now choice sums)
+        (λ fault. StandsAtSample profile.now choice fault) }
 {
-    let mut sums = Batch::new(alloc);
+    let mut merged = Batch::new(alloc);
     for (index, sample) in profile.draft().samples.as_slice().iter().enumerate() {
-        sum_sample(
+        merge_sample(
             alloc,
             frames,
             &mut known,
-            &mut sums,
+            &mut merged,
             chosen,
             sample,
             index as u64,
         )?;
     }
-    Ok(sums)
+    Ok(merged)
 }
 
-/// The rows of a profile's samples, those of the same locations put together: as [`batch_of`](crate::batch_of), and every report on
-/// them is the same, in fewer rows.
+/// The rows of a profile's samples, those of the same locations merged and their weights summed: as
+/// [`batch_of`](crate::batch_of), and every report on them is the same, in fewer rows.
 ///
 /// # Errors
 ///
@@ -117,7 +122,8 @@ pub fn sum_samples(
     profile: &Profile,
     choice: ValueChoice,
 ) -> Result<Batch, BatchFault>
-    ensures read { MatchResult result (λ sums. IsSumOfBatch profile.now choice.entry sums) (λ fault. IsFirstBatchFault profile.now choice.entry fault) }
+    ensures read { MatchResult result (λ sums. IsSumOfBatch profile.now choice.entry sums)
+        (λ fault. IsFirstBatchFault profile.now choice.entry fault) }
     ensures accepted { (rows : List Row) → IsBatchOf profile.now choice.entry rows
         → MatchResult result (λ sums. aggregate_of sums ≡ aggregate_of rows) (λ fault. fault ≡ BatchFault.NoMemory) }
 {
@@ -126,5 +132,5 @@ pub fn sum_samples(
     };
     let frames = LocationFrames::new(alloc, profile)?;
     let known = HashMap::with_capacity(alloc, profile.draft().samples.len())?;
-    sums_by(alloc, profile, &frames, known, chosen)
+    merged_by(alloc, profile, &frames, known, chosen)
 }

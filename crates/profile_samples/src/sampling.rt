@@ -1,3 +1,4 @@
+//! A profile's samples as rows: the value that is chosen, a row for each sample, and why there is none.
 ghost use Rattle.std.specs.Prelude.{◌≡◌, ◌+◌, ◌^◌, ◌<◌, ◌∷◌, ◌++◌, [], ◌≤◌, IfErr, IfOk, List, MatchResult, OnOk, Some, ℕ, pos, length, slice_get};
 ghost use Rattle.pprof_profile.specs.declared.messages.ValueType.{ValueType};
 ghost use Rattle.profile_rows.specs.declared.batch.Row.{Row};
@@ -15,7 +16,8 @@ use thiserror::Error;
 /// Which value of each sample is its weight.
 #[derive(Clone, Copy, Debug)]
 pub enum ValueChoice<'a> {
-    /// That of the profile's `default_sample_type`: the first sample type of that name. Where it is 0 or names none, the last.
+    /// That of the profile's `default_sample_type`: the first sample type of that name. Where it is 0 or names none,
+    /// the last.
     Default,
     /// The first sample type of this name.
     Named(&'a str),
@@ -139,7 +141,8 @@ pub(crate) fn push_row(
 ) -> Result<(), NoMemory>
     requires depth { length (sample_stack_of frames.now ids.now) ≤ MAX_DEPTH }
     requires fits { total_of batch.old + weight < 2 ^ 63 }
-    ensures { OnOk result (batch.new ≡ batch.old ++ (record { stack = sample_stack_of frames.now ids.now; weight = weight }) ∷ []) }
+    ensures { OnOk result
+        (batch.new ≡ batch.old ++ (record { stack = sample_stack_of frames.now ids.now; weight = weight }) ∷ []) }
 {
     let mut names = frames.leaf_first(alloc, ids)?;
     names.reverse();
@@ -149,8 +152,8 @@ pub(crate) fn push_row(
     batch.push(stack, weight).map_err(|_| NoMemory)
 }
 
-/// Adds the row of a sample, where it gives one that can follow the rows of the batch. A fault of the sample is found before memory
-/// can run out at it.
+/// Adds the row of a sample, where it gives one that can follow the rows of the batch. A fault of the sample is found
+/// before memory can run out at it.
 fn add_sample(
     alloc: Global,
     frames: &LocationFrames,
@@ -160,7 +163,8 @@ fn add_sample(
     number: u64,
 ) -> Result<(), BatchFault>
     requires { chosen < length sample.now.values }
-    ensures added { OnOk result ((row : Row) × IsSampleRow frames.now chosen sample.now row × (total_of batch.old + row.weight < 2 ^ 63)
+    ensures added { OnOk result
+        ((row : Row) × IsSampleRow frames.now chosen sample.now row × (total_of batch.old + row.weight < 2 ^ 63)
         × (batch.new ≡ batch.old ++ row ∷ [])) }
     ensures fault { IfErr result (IsSampleFault frames.now chosen (total_of batch.old) number sample.now) }
 {
@@ -170,8 +174,8 @@ fn add_sample(
     Ok(push_row(alloc, frames, batch, ids, weight)?)
 }
 
-/// The rows of a profile's samples by the values at an index. Where memory runs out, the samples before have no fault, nor has the
-/// one at hand.
+/// The rows of a profile's samples by the values at an index. Where memory runs out, the samples before have no fault,
+/// nor has the one at hand.
 fn rows_by(
     alloc: Global,
     profile: &Profile,
@@ -181,7 +185,8 @@ fn rows_by(
     requires framed { frames.now ≡ profile.now }
     requires typed { chosen < length profile.now.sample_types }
     ensures { (choice : ValueChoice) → chosen_type_of profile.now choice ≡ Some chosen
-        → MatchResult result (λ batch. IsBatchOf profile.now choice batch) (λ fault. StandsAtSample profile.now choice fault) }
+        → MatchResult result (λ batch. IsBatchOf profile.now choice batch)
+        (λ fault. StandsAtSample profile.now choice fault) }
 {
     let mut batch = Batch::new(alloc);
     for (index, sample) in profile.draft().samples.as_slice().iter().enumerate() {
@@ -190,15 +195,16 @@ fn rows_by(
     Ok(batch)
 }
 
-/// The rows of a profile's samples: a row for each, in order. Its stack has the frames of the sample's locations, root first; its
-/// weight is the chosen value.
+/// The rows of a profile's samples: a row for each, in order. Its stack has the frames of the sample's locations, root
+/// first; its weight is the chosen value.
 ///
 /// # Errors
 ///
-/// `NoValue` where there is no such sample type. Else the fault of the first sample that has one, in the order of [`BatchFault`]'s
-/// variants; `NoMemory`.
+/// `NoValue` where there is no such sample type. Else the fault of the first sample that has one, in the order of
+/// [`BatchFault`]'s variants; `NoMemory`.
 pub fn batch_of(alloc: Global, profile: &Profile, choice: ValueChoice) -> Result<Batch, BatchFault>
-    ensures read { MatchResult result (λ batch. IsBatchOf profile.now choice.entry batch) (λ fault. IsFirstBatchFault profile.now choice.entry fault) }
+    ensures read { MatchResult result (λ batch. IsBatchOf profile.now choice.entry batch)
+        (λ fault. IsFirstBatchFault profile.now choice.entry fault) }
     ensures accepted { (rows : List Row) → IsBatchOf profile.now choice.entry rows
         → MatchResult result (λ batch. batch ≡ rows) (λ fault. fault ≡ BatchFault.NoMemory) }
 {

@@ -1,3 +1,4 @@
+//! Texts that are numbered as they come.
 ghost use Rattle.std.specs.Prelude.{◌≡◌, ◌<◌, ◌^◌, [], IfOk, OnOk, map};
 ghost use Rattle.profile_samples.specs.TextTables.{place_in, with_text, with_texts};
 
@@ -15,13 +16,13 @@ pub(crate) struct TextTable<'a> {
 
 impl<'a> Model for TextTable<'a> {
     ghost use Rattle.std.specs.Prelude.{List, ℕ, map};
-    ghost use Rattle.profile_samples.specs.TextTables.{ArePlacesOf};
+    ghost use Rattle.profile_samples.specs.TextTables.{AreTextPlaces};
 
     ghost Value = { List (List ℕ) };
 
     ghost view = { λ table. map (λ text. text.now) table.texts.items };
 
-    ghost invariant = { λ table. ArePlacesOf (map (λ text. text.now) table.texts.items) table.places };
+    ghost invariant = { λ table. AreTextPlaces (map (λ text. text.now) table.texts.items) table.places };
 }
 
 impl<'a> TextTable<'a> {

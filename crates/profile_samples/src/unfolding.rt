@@ -1,9 +1,10 @@
+//! The frames of locations, and the names of functions and lines.
 ghost use Rattle.std.specs.Prelude.{◌≡◌, ◌≤◌, ◌++◌, ◌↔◌, IfOk, IsTrue, OnOk, length, map, slice_get};
 ghost use Rattle.pprof_profile.specs.Valid.{IsValidDraft};
 ghost use Rattle.profile_samples.specs.Samples.{address_name, frames_at, frames_of_id, frames_of_ids, function_name, item_with, line_name, location_frames, named_by, string_at};
 ghost use Rattle.std.specs.Option.{option_map};
 
-use crate::places::Places;
+use crate::id_places::IdPlaces;
 use no_memory::NoMemory;
 use pprof_profile::{Draft, Function, Items, Line, Location, Profile, Text};
 use profile_rows::{MAX_DEPTH, Name};
@@ -75,7 +76,7 @@ fn function_names(
 #[derive(Drop)]
 struct FunctionNames<'a> {
     draft: &'a Draft,
-    places: Places,
+    places: IdPlaces,
     names: Vec<Option<Name>>,
 }
 
@@ -96,7 +97,7 @@ impl<'a> FunctionNames<'a> {
         ensures { IfOk result (λ functions. functions ≡ draft.now) }
     {
         let functions = draft.functions.as_slice();
-        let places = Places::new(alloc, function_ids(alloc, functions)?)?;
+        let places = IdPlaces::new(alloc, function_ids(alloc, functions)?)?;
         let names = function_names(alloc, draft.strings.as_slice(), functions)?;
         Ok(FunctionNames {
             draft,
@@ -107,7 +108,8 @@ impl<'a> FunctionNames<'a> {
 
     /// The name of the function that an id names, where it has one.
     fn named(&self, id: u64) -> Option<&Name>
-        ensures { option_map (λ name. name.now) result ≡ named_by self.now.strings (item_with (λ function. function.id) id self.now.functions) }
+        ensures { option_map (λ name. name.now) result
+            ≡ named_by self.now.strings (item_with (λ function. function.id) id self.now.functions) }
     {
         match self.places.find(id) {
             Some(at) => self.name_at(at),
@@ -179,12 +181,12 @@ impl<'a> FunctionNames<'a> {
     }
 }
 
-/// The frames of a profile's locations, so that a sample costs a look-up for each location and a share for each frame. A contract
-/// sees the profile.
+/// The frames of a profile's locations, so that a sample costs a look-up for each location and a share for each frame.
+/// A contract sees the profile.
 #[derive(Drop)]
 pub(crate) struct LocationFrames<'a> {
     draft: &'a Draft,
-    places: Places,
+    places: IdPlaces,
     frames: Vec<Items<Name>>,
 }
 
@@ -210,7 +212,7 @@ impl<'a> LocationFrames<'a> {
     {
         let draft = profile.draft();
         let functions = FunctionNames::new(alloc, draft)?;
-        let places = Places::new(alloc, location_ids(alloc, draft.locations.as_slice())?)?;
+        let places = IdPlaces::new(alloc, location_ids(alloc, draft.locations.as_slice())?)?;
         let frames = functions.all_frames(alloc, draft.locations.as_slice())?;
         Ok(LocationFrames {
             draft,

@@ -4,6 +4,7 @@ use Rattle.std.proofs.lemmas.Bool.{eqb-true}
 use Rattle.std.proofs.lemmas.Result.{err_from_is_err_and}
 use Rattle.std.specs.declared.vec.Vec.{Vec}
 use Rattle.pprof_profile.specs.Canonical.{canonical_bytes_of}
+use Rattle.pprof_profile.specs.Profiles.{IsProfile}
 use Rattle.profile_samples.specs.Export.{exported_profile_of}
 use Rattle.folded_text.specs.FoldedText.{IsLineFault}
 use Rattle.profile_samples.proofs.ExportedRows.{AreSamplesOf-none, only_export}
@@ -50,4 +51,10 @@ pub returns-clause-accepted : goal.returns-clause-accepted
 returns-clause-accepted c = λ all folded.
     let (rows, so_far, samples) = c.loop-index.invariant in
     let same : rows ≡ all = IsFoldedText-same c.args.text.now rows all (IsReadTo-end c.args.text.now _ _ rows so_far c.in-None.ensures.steps.0.0) folded in
-    c.in_ok-profile_bytes.ensures rows samples ∙ ap (λ some. canonical_bytes_of (exported_profile_of some c.args.kind.now c.args.unit.now)) same
+    c.in_ok-profile_bytes.ensures.canonical rows samples ∙ ap (λ some. canonical_bytes_of (exported_profile_of some c.args.kind.now c.args.unit.now)) same
+
+pub returns-clause-profile : goal.returns-clause-profile
+returns-clause-profile c = λ all folded.
+    let (rows, so_far, samples) = c.loop-index.invariant in
+    let same : rows ≡ all = IsFoldedText-same c.args.text.now rows all (IsReadTo-end c.args.text.now _ _ rows so_far c.in-None.ensures.steps.0.0) folded in
+    subst (λ some. IsProfile c.in_ok-profile_bytes.field-0.items (exported_profile_of some c.args.kind.now c.args.unit.now)) same (c.in_ok-profile_bytes.ensures.profile rows samples)

@@ -1,9 +1,9 @@
 -- The row's sample has the ids of its names, and its weight for its value.
-use Rattle.std.proofs.Common.{◌<◌, ◌^◌, ℕ, ℤ, List, [], ◌∷◌, ◌++◌, arith, map, pos, refl, ap, ◌∙◌}
+use Rattle.std.proofs.Common.{◌<◌, ◌^◌, ℕ, ℤ, List, [], ◌∷◌, ◌++◌, arith, map, pos, refl, ap, ◌∙◌, subst}
 use Rattle.std.specs.Int.{w64}
 use Rattle.std.proofs.lemmas.Int.{to_z_pos}
 use Rattle.pprof_profile.specs.declared.messages.Sample.{Sample}
-use Rattle.pprof_profile.specs.Canonical.{samples_bytes}
+use Rattle.pprof_profile.specs.Canonical.{sample_bytes, samples_bytes, FitsEach, FitsSample}
 use Rattle.profile_samples.specs.Export.{exported_sample}
 use Rattle.folded_text.specs.FoldedText.{frames_of}
 use Rattle.profile_samples.proofs.ExportedRows.{AreSamplesOf-push}
@@ -11,6 +11,9 @@ use Rattle.profile_samples.proofs.folded_export.push_row.Goals as goal
 
 abbrev with_sample : List Sample → List ℕ → ℤ → List ℕ
 with_sample samples ids value = samples_bytes (samples ++ (record { location_ids = ids; values = value ∷ []; labels = [] }) ∷ [])
+
+abbrev FitsOne : List ℕ → ℤ → Type 0
+FitsOne ids value = FitsEach FitsSample sample_bytes ((record { location_ids = ids; values = value ∷ []; labels = [] }) ∷ [])
 
 pub returns : goal.returns
 returns c = λ before so_far.
@@ -22,3 +25,5 @@ returns c = λ before so_far.
     (c.in_ok-push.ensures.pushed samples so_far.samples_rows
     ∙ ap (λ value. with_sample samples c.as_slice.result.now value) (to_z_pos w64 c.args.spelled.weight small)
     ∙ ap (λ ids. with_sample samples ids (pos c.args.spelled.weight)) c.as_slice.ensures.value)
+    (subst (λ ids. FitsOne ids (pos c.args.spelled.weight)) c.as_slice.ensures.value
+    (subst (λ value. FitsOne c.as_slice.result.now value) (to_z_pos w64 c.args.spelled.weight small) c.in_ok-push.ensures.fits))

@@ -6,15 +6,15 @@ use Rattle.profile_samples.proofs.SampleSums.{only_batch_sums}
 use Rattle.profile_samples.proofs.SampleRows.{chosen_within, first_of_standing}
 use Rattle.profile_samples.proofs.sample_sums.sum_samples.Goals as goal
 
-pub sums_by-requires-clause-typed : goal.sums_by-requires-clause-typed
-sums_by-requires-clause-typed c =
+pub merged_by-requires-clause-typed : goal.merged_by-requires-clause-typed
+merged_by-requires-clause-typed c =
     let chosen : chosen_type_of c.args.profile.now c.args.choice ≡ Some c.in-Some.chosen = search rules in
     chosen_within c.args.profile.now c.args.choice c.in-Some.chosen chosen
 
 pub returns-clause-read : goal.returns-clause-read
 returns-clause-read c =
     let chosen : chosen_type_of c.args.profile.now c.args.choice ≡ Some c.in-Some.chosen = search rules in
-    first_of_standing (λ sums. IsSumOfBatch c.args.profile.now c.args.choice sums) c.args.profile.now c.args.choice c.sums_by.result (c.sums_by.ensures c.args.choice chosen)
+    first_of_standing (λ sums. IsSumOfBatch c.args.profile.now c.args.choice sums) c.args.profile.now c.args.choice c.merged_by.result (c.merged_by.ensures c.args.choice chosen)
 
 pub returns-clause-accepted : goal.returns-clause-accepted
-returns-clause-accepted c = only_batch_sums c.args.profile.now c.args.choice c.sums_by.result (returns-clause-read c)
+returns-clause-accepted c = only_batch_sums c.args.profile.now c.args.choice c.merged_by.result (returns-clause-read c)

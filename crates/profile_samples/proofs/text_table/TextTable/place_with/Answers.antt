@@ -4,8 +4,8 @@ use Rattle.std.specs.List.{list_any}
 use Rattle.std.specs.Str.{bytes_eq}
 use Rattle.std.proofs.lemmas.List.{length-map, map-append}
 use denote.Ref.{Bor}
-use Rattle.profile_samples.specs.TextTables.{ArePlacesOf, place_in}
-use Rattle.profile_samples.proofs.TextPlaces.{ArePlacesOf-push, none_at_end, place_in-le, place_in-with, with_text-new, with_text-there}
+use Rattle.profile_samples.specs.TextTables.{AreTextPlaces, place_in}
+use Rattle.profile_samples.proofs.TextPlaces.{AreTextPlaces-push, none_at_end, place_in-le, place_in-with, with_text-new, with_text-there}
 use Rattle.profile_samples.proofs.text_table.TextTable.place_with.Goals as goal
 
 long : (texts : List (List ℕ)) (lent : List (Bor (List ℕ))) → map (λ (text : Bor (List ℕ)). text.now) lent ≡ texts → length texts ≡ length lent
@@ -33,9 +33,9 @@ invariant_of-self-in-Ok c =
     let place = c.place_of-place.ensures.place in
     let most = place_in-le c.args.self.now c.args.text.now in
     let at_end : c.place_of-place.result ≡ length c.args.self.now = omega (arith, end, all, place, most) in
-    subst (λ texts. ArePlacesOf texts c.insert.new.self)
+    subst (λ texts. AreTextPlaces texts c.insert.new.self)
     (sym (ap (map (λ (text : Bor (List ℕ)). text.now)) c.in_ok-push.ensures.items ∙ map-append (λ (text : Bor (List ℕ)). text.now) c.self.inside.texts.items (c.args.text ∷ [])))
-    (ArePlacesOf-push (map (λ (text : Bor (List ℕ)). text.now) c.self.inside.texts.items) c.self.inside.places c.insert.new.self c.args.text.now c.place_of-place.result
+    (AreTextPlaces-push (map (λ (text : Bor (List ℕ)). text.now) c.self.inside.texts.items) c.self.inside.places c.insert.new.self c.args.text.now c.place_of-place.result
     (at_end ∙ ap length (sym c.self.view_is)) (ap (list_any (bytes_eq c.args.text.now)) c.self.view_is ∙ none c.args.self.now c.texts.result.now c.args.text.now c.place_of-place.result c.texts.ensures c.place_of-place.ensures.place end) c.in-Ok.ensures.updates c.self.invariant)
 
 pub returns-in-Ok-clause-texts : goal.returns-in-Ok-clause-texts

@@ -4,9 +4,9 @@ use Rattle.profile_samples.specs.Samples.{sample_stack_of}
 use Rattle.profile_rows.specs.Sums.{ArePlacedBy}
 use Rattle.profile_rows.proofs.PutTogether.{AreSumsSoFar}
 use Rattle.profile_samples.proofs.SampleRows.{AreRowsSoFar}
-use Rattle.profile_samples.proofs.sample_sums.sums_by.Given as goal
+use Rattle.profile_samples.proofs.sample_sums.merged_by.Given as goal
 
 -- the samples so far give rows that add up to the sums so far
 abbrev pub invariant-loop-index : goal.invariant-loop-index
-invariant-loop-index l = ((rows : List Row) × AreRowsSoFar l.fn.profile l.chosen l.index rows × AreSumsSoFar rows l.sums)
-    × ArePlacedBy (sample_stack_of l.fn.profile) l.known l.sums
+invariant-loop-index l = ((rows : List Row) × AreRowsSoFar l.fn.profile l.chosen l.index rows × AreSumsSoFar rows l.merged)
+    × ArePlacedBy (sample_stack_of l.fn.profile) l.known l.merged

@@ -2,7 +2,7 @@ use Rattle.std.proofs.Common.{ℕ, ◌≡◌, ◌+◌, ◌<◌, ◌⊎◌, Some}
 use Rattle.std.specs.Prelude.{IfSome, IsSome, slice_get}
 use Rattle.std.specs.Ordering.{nat_cmp}
 use Rattle.std.specs.BTreeMap as tree
-use Rattle.profile_samples.proofs.places.Places.new.Given as goal
+use Rattle.profile_samples.proofs.id_places.IdPlaces.new.Given as goal
 
 -- the entries of the ids so far
 abbrev pub invariant-loop-at : goal.invariant-loop-at

@@ -1,3 +1,4 @@
+//! Where ids stand among the ids of items.
 ghost use Rattle.std.specs.Prelude.{ℕ, ◌≡◌, ◌≢◌, ◌↔◌, IfOk, IsTrue, MatchOption, Some, slice_get};
 
 use no_memory::NoMemory;
@@ -5,32 +6,32 @@ use std::alloc::Global;
 use std::collections::BTreeMap;
 use std::marker::Model;
 
-/// Where each id stands among the ids of items. An id that is one more than its place, as writers mostly give them, needs no entry.
-/// A contract sees the ids.
+/// Where each id stands among the ids of items. An id that is one more than its place, as writers mostly give them,
+/// needs no entry. A contract sees the ids.
 #[derive(Drop)]
-pub(crate) struct Places {
+pub(crate) struct IdPlaces {
     ids: Vec<u64>,
     others: BTreeMap<u64, usize>,
 }
 
-impl Model for Places {
+impl Model for IdPlaces {
     ghost use Rattle.std.specs.Prelude.{List, ℕ};
-    ghost use Rattle.profile_samples.specs.Places.{ArePlaces};
+    ghost use Rattle.profile_samples.specs.IdPlaces.{AreIdPlaces};
 
     ghost Value = { List ℕ };
 
     ghost view = { λ places. places.ids.items };
 
-    ghost invariant = { λ places. ArePlaces places.ids.items places.others };
+    ghost invariant = { λ places. AreIdPlaces places.ids.items places.others };
 }
 
-impl Places {
+impl IdPlaces {
     /// The places of these ids.
     ///
     /// # Errors
     ///
     /// `NoMemory`.
-    pub fn new(alloc: Global, ids: Vec<u64>) -> Result<Places, NoMemory>
+    pub fn new(alloc: Global, ids: Vec<u64>) -> Result<IdPlaces, NoMemory>
         ensures { IfOk result (λ places. places ≡ ids.items) }
     {
         let mut others = BTreeMap::new(alloc);
@@ -39,12 +40,13 @@ impl Places {
                 others.insert(*id, at)?;
             }
         }
-        Ok(Places { ids, others })
+        Ok(IdPlaces { ids, others })
     }
 
     /// A place at which the id stands.
     pub fn find(&self, id: u64) -> Option<usize>
-        ensures { MatchOption result ((at : ℕ) → slice_get self.now at ≢ Some id) (λ at. slice_get self.now at ≡ Some id) }
+        ensures { MatchOption result ((at : ℕ) → slice_get self.now at ≢ Some id)
+            (λ at. slice_get self.now at ≡ Some id) }
     {
         let guess = id.saturating_sub(1) as usize;
         if self.stands_at(guess, id) {

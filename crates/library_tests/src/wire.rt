@@ -1,7 +1,8 @@
+//! Varints, fields and packed numbers, by the Protocol Buffers encoding page, read and written.
 ghost use Rattle.std.specs.Prelude.{◌≡◌, ℕ, List, [], length, MatchOption};
 ghost use Rattle.pprof_wire.specs.Fields.{PlainField, SplitsIntoFields, IsRestFault};
 
-use crate::{
+use pprof_wire::{
     Field, Fields, NoMemory, Value, WireFault, packed, read_varint, write_field, write_varint,
 };
 use std::test::Fail;

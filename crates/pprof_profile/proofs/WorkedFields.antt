@@ -1,0 +1,176 @@
+-- Worked examples of fields that stand several times, computed by the definitions. Each is checked by evaluating it.
+use Rattle.std.proofs.Common.{◌≡◌, ℕ, ◌<◌, ◌^◌, pos, List, [], ◌∷◌, refl, arith}
+use Rattle.pprof_wire.specs.Varints.{IsNumberList, varint_of}
+use Rattle.pprof_wire.specs.Fields.{FieldValue, varint, content, PlainField, IsFieldNumber, FitsValue, IsFieldList}
+use Rattle.pprof_wire.proofs.ListLaws.{written_back}
+use Rattle.pprof_wire.proofs.ShortestVarints.{varint_of-spells}
+use Rattle.pprof_profile.specs.declared.messages.ValueType.{ValueType}
+use Rattle.pprof_profile.specs.declared.messages.Sample.{Sample}
+use Rattle.pprof_profile.specs.declared.messages.Draft.{Draft}
+use Rattle.pprof_profile.specs.Reading.{Gathers, Spells}
+use Rattle.pprof_profile.specs.Messages.{signed_of, no_value_type, value_type_table, no_sample, sample_table, no_draft, draft_table}
+use Rattle.pprof_profile.specs.ByFields.{values_at, last_or, IsOneMessage, AreAllMessages, IsValueTypeOf, IsSampleOf}
+
+abbrev number_field : ℕ → ℕ → PlainField
+number_field number value = record { number = number; value = varint value }
+
+abbrev content_field : ℕ → List ℕ → PlainField
+content_field number bytes = record { number = number; value = content bytes }
+
+-- ---- a period of 5, a time, and then a period of 7: the last one counts
+
+abbrev two_periods : List PlainField
+two_periods = number_field 12 5 ∷ number_field 9 1 ∷ number_field 12 7 ∷ []
+
+periods_in_order : values_at 12 two_periods ≡ varint 5 ∷ varint 7 ∷ []
+periods_in_order = refl
+
+last_period : signed_of (last_or 0 (5 ∷ 7 ∷ [])) ≡ pos 7
+last_period = refl
+
+no_period : signed_of (last_or 0 []) ≡ pos 0
+no_period = refl
+
+last_period_wins : Gathers draft_table no_draft two_periods (record no_draft { time_nanos = pos 1; period = pos 7 })
+last_period_wins = (
+  record no_draft { period = pos 5 },
+  (refl, refl),
+  (
+    record no_draft { time_nanos = pos 1; period = pos 5 },
+    (refl, refl),
+    (record no_draft { time_nanos = pos 1; period = pos 7 }, (refl, refl), refl),
+  ),
+)
+
+-- ---- a period type in two pieces, the kind in one and the unit in the other: both are there
+
+abbrev kind_piece : List PlainField
+kind_piece = number_field 1 1 ∷ []
+
+abbrev unit_piece : List PlainField
+unit_piece = number_field 2 2 ∷ []
+
+abbrev two_pieces : List PlainField
+two_pieces = content_field 11 (8 ∷ 1 ∷ []) ∷ content_field 11 (16 ∷ 2 ∷ []) ∷ []
+
+abbrev kind_alone : ValueType
+kind_alone = record { kind = pos 1; unit = pos 0 }
+
+abbrev kind_and_unit : ValueType
+kind_and_unit = record { kind = pos 1; unit = pos 2 }
+
+kind_listed : IsFieldList (8 ∷ 1 ∷ []) kind_piece
+unfolding varint_of
+kind_listed =
+    (8 ∷ 1 ∷ [], [], refl, written_back (number_field 1 1) (record { least = omega arith; most = omega arith }) (omega arith), refl)
+
+unit_listed : IsFieldList (16 ∷ 2 ∷ []) unit_piece
+unfolding varint_of
+unit_listed =
+    (16 ∷ 2 ∷ [], [], refl, written_back (number_field 2 2) (record { least = omega arith; most = omega arith }) (omega arith), refl)
+
+kind_spelled : Spells value_type_table no_value_type (8 ∷ 1 ∷ []) kind_alone
+kind_spelled = record { fields = kind_piece; listed = kind_listed; gathered = (kind_alone, (refl, refl), refl) }
+
+unit_spelled_behind : Spells value_type_table kind_alone (16 ∷ 2 ∷ []) kind_and_unit
+unit_spelled_behind = record { fields = unit_piece; listed = unit_listed; gathered = (kind_and_unit, (refl, refl), refl) }
+
+pieces_are_taken_together : Gathers draft_table no_draft two_pieces (record no_draft { period_type = kind_and_unit })
+pieces_are_taken_together = (
+  record no_draft { period_type = kind_alone },
+  (kind_spelled, refl),
+  (record no_draft { period_type = kind_and_unit }, (unit_spelled_behind, refl), refl),
+)
+
+-- the same, by the whole list
+type_of_both_pieces : IsOneMessage IsValueTypeOf (values_at 11 two_pieces) kind_and_unit
+type_of_both_pieces =
+    record {
+      lists = kind_piece ∷ unit_piece ∷ [];
+      listed = (kind_listed, (unit_listed, refl));
+      together = record {
+        kind_fields = record { numbers = 1 ∷ []; varints = refl; last = refl };
+        unit_fields = record { numbers = 2 ∷ []; varints = refl; last = refl };
+      };
+    }
+
+-- ---- two samples, of the value 7 and of the value 3, with the period between them: both are there, in order
+
+abbrev two_samples : List PlainField
+two_samples = content_field 2 (18 ∷ 1 ∷ 7 ∷ []) ∷ number_field 12 5 ∷ content_field 2 (16 ∷ 3 ∷ []) ∷ []
+
+-- the one has its value packed, the other alone
+abbrev packed_value : List PlainField
+packed_value = content_field 2 (7 ∷ []) ∷ []
+
+abbrev single_value : List PlainField
+single_value = number_field 2 3 ∷ []
+
+abbrev seven : Sample
+seven = record no_sample { values = pos 7 ∷ [] }
+
+abbrev three : Sample
+three = record no_sample { values = pos 3 ∷ [] }
+
+packed_listed : IsFieldList (18 ∷ 1 ∷ 7 ∷ []) packed_value
+unfolding varint_of
+packed_listed =
+    (18 ∷ 1 ∷ 7 ∷ [], [], refl, written_back (content_field 2 (7 ∷ [])) (record { least = omega arith; most = omega arith }) (omega arith), refl)
+
+single_listed : IsFieldList (16 ∷ 3 ∷ []) single_value
+unfolding varint_of
+single_listed =
+    (16 ∷ 3 ∷ [], [], refl, written_back (number_field 2 3) (record { least = omega arith; most = omega arith }) (omega arith), refl)
+
+seven_listed : IsNumberList (7 ∷ []) (7 ∷ [])
+unfolding varint_of
+seven_listed = (7 ∷ [], [], refl, varint_of-spells 7 (omega arith), refl)
+
+seven_spelled : Spells sample_table no_sample (18 ∷ 1 ∷ 7 ∷ []) seven
+seven_spelled =
+    record {
+      fields = packed_value;
+      listed = packed_listed;
+      gathered = (seven, (record { numbers = 7 ∷ []; listed = seven_listed; appended = refl }, refl), refl);
+    }
+
+three_spelled : Spells sample_table no_sample (16 ∷ 3 ∷ []) three
+three_spelled = record { fields = single_value; listed = single_listed; gathered = (three, (refl, refl), refl) }
+
+samples_in_order : Gathers draft_table no_draft two_samples (record no_draft { samples = seven ∷ three ∷ []; period = pos 5 })
+samples_in_order = (
+  record no_draft { samples = seven ∷ [] },
+  (record { item = seven; spelled = seven_spelled; appended = refl }, refl),
+  (
+    record no_draft { samples = seven ∷ []; period = pos 5 },
+    (refl, refl),
+    (
+      record no_draft { samples = seven ∷ three ∷ []; period = pos 5 },
+      (record { item = three; spelled = three_spelled; appended = refl }, refl),
+      refl,
+    ),
+  ),
+)
+
+-- the same, by the whole list
+samples_of_both_fields : AreAllMessages IsSampleOf (values_at 2 two_samples) (seven ∷ three ∷ [])
+samples_of_both_fields =
+    record {
+      lists = packed_value ∷ single_value ∷ [];
+      listed = (packed_listed, (single_listed, refl));
+      each = (
+        record {
+          location_ids_fields = record { numbers = []; numbered = refl; all = refl };
+          values_fields = record { numbers = (7 ∷ []) ∷ []; numbered = (seven_listed, refl); all = refl };
+          labels_fields = record { lists = []; listed = refl; each = refl };
+        },
+        (
+          record {
+            location_ids_fields = record { numbers = []; numbered = refl; all = refl };
+            values_fields = record { numbers = (3 ∷ []) ∷ []; numbered = (refl, refl); all = refl };
+            labels_fields = record { lists = []; listed = refl; each = refl };
+          },
+          refl,
+        ),
+      );
+    }

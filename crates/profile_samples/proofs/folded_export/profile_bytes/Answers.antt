@@ -1,0 +1,22 @@
+-- The draft around the samples is the rows' export, which is valid.
+use Rattle.std.proofs.Common.{◌≡◌, List, ap, ◌∙◌, sym, subst, map}
+use Rattle.std.specs.Prelude.{Ok, Err, Result, IfOk}
+use Rattle.pprof_profile.specs.declared.messages.Draft.{Draft}
+use Rattle.pprof_profile.specs.declared.messages.Sample.{Sample}
+use Rattle.pprof_profile.specs.Profiles.{IsProfile}
+use Rattle.pprof_profile.specs.Valid.{IsValidDraft}
+use Rattle.profile_samples.specs.Export.{exported_draft, exported_profile_of, exported_sample, names_of, profile_with, strings_of}
+use Rattle.profile_samples.proofs.ExportLaws.{export_valid}
+use Rattle.profile_samples.proofs.folded_export.profile_bytes.Goals as goal
+
+pub returns-clause-profile : goal.returns-clause-profile
+returns-clause-profile c = λ all so_far.
+    let names = c.args.rows.now.names in
+    let kind = c.args.kind.now in
+    let unit = c.args.unit.now in
+    let samples = map (exported_sample names) all in
+    let made : (record c.in_ok-draft.draft { samples = samples }) ≡ exported_profile_of all kind unit =
+    ap (λ (d : Draft). let filled : Draft = record d { samples = samples } in filled) c.in_ok-draft.ensures
+    ∙ ap (λ texts. profile_with texts (strings_of kind unit texts) all kind unit) so_far.names_rows in
+    rw (sym made) (c.encode_around.ensures.profile samples so_far.samples_rows so_far.fits_rows
+    (subst (λ (d : Draft). IsValidDraft d) (sym made) (export_valid all kind unit)))

@@ -10,8 +10,7 @@ ghost use Rattle.profile_samples.specs.TextTables.{with_texts};
 
 use crate::exporting::exported_draft;
 use crate::text_table::TextTable;
-use bstr::ByteSlice;
-use folded_text::{FoldedFault, Spelled, read_line};
+use folded_text::{FoldedFault, LineTaker, Spelled, read_line, take_lines};
 use no_memory::NoMemory;
 use pprof_profile::{Items, WrittenSamples, encode_around};
 use std::alloc::Global;
@@ -58,16 +57,13 @@ fn push_row<'a>(rows: &mut SampledRows<'a>, spelled: Spelled<'a>) -> Result<(), 
     Ok(())
 }
 
-/// Adds the row that a line spells, where it spells one that can follow the others.
-fn add_line<'a>(rows: &mut SampledRows<'a>, line: &'a [u8], number: u64) -> Result<(), FoldedFault>
-    requires { rows.old.total < 2 ^ 63 }
-    ensures added { (before : List Row) → AreSamplesOf before rows.old.names rows.old.samples rows.old.total
-        → OnOk result ((row : Row) × IsRowLine line.now row × (total_of before + row.weight < 2 ^ 63)
-        × AreSamplesOf (before ++ row ∷ []) rows.new.names rows.new.samples rows.new.total) }
-    ensures fault { IfErr result (IsLineFault rows.old.total number line.now) }
-{
-    let spelled = read_line(line, rows.total, number)?;
-    Ok(push_row(rows, spelled)?)
+impl<'a> LineTaker<'a> for SampledRows<'a> {
+    ghost is_of = { λ sampled rows. AreSamplesOf rows sampled.names sampled.samples sampled.total };
+
+    fn take_line(&mut self, line: &'a [u8], number: u64) -> Result<(), FoldedFault> {
+        let spelled = read_line(line, self.total, number)?;
+        Ok(push_row(self, spelled)?)
+    }
 }
 
 /// The bytes of the profile of the rows.
@@ -114,10 +110,6 @@ pub fn export_folded(
         ids: Vec::new(alloc),
         total: 0,
     };
-    for (index, line) in text.lines().enumerate() {
-        if !line.is_empty() {
-            add_line(&mut rows, line, index as u64 + 1)?;
-        }
-    }
+    take_lines(text, &mut rows)?;
     Ok(profile_bytes(alloc, &rows, kind, unit)?)
 }

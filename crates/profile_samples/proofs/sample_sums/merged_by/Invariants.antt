@@ -2,7 +2,7 @@ use Rattle.std.proofs.Common.{List}
 use Rattle.profile_rows.specs.declared.batch.Row.{Row}
 use Rattle.profile_samples.specs.Samples.{sample_stack_of}
 use Rattle.profile_rows.specs.Sums.{ArePlacedBy}
-use Rattle.profile_rows.proofs.PutTogether.{AreSumsSoFar}
+use Rattle.profile_rows.specs.Sums.{AreSumsSoFar}
 use Rattle.profile_samples.proofs.SampleRows.{AreRowsSoFar}
 use Rattle.profile_samples.proofs.sample_sums.merged_by.Given as goal
 

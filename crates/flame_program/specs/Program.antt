@@ -1,5 +1,5 @@
 -- How a run of the program ends, over what its reader had left and what its writer holds, before and after.
-use Rattle.std.specs.Prelude.{ℕ, ◌≡◌, ◌+◌, ◌≤◌, List, length, Option, Some}
+use Rattle.std.specs.Prelude.{ℕ, ◌≡◌, ◌≢◌, ◌+◌, ◌≤◌, ◌↔◌, List, length, Option, Some, IfSome}
 use Rattle.std.specs.Io.KnownBytes.{Appends, Keeps}
 use Rattle.profile_rows.specs.declared.batch.Row.{Row}
 use Rattle.flame_answers.specs.Answers.{AreRowsIn, IsAnswer, IsInputFault, format_for, value_for}
@@ -69,6 +69,12 @@ pub record IsEnd (words : List (List ℕ)) (limit : ℕ) (unread left before aft
 -- an input that a request is answered on: within the limit, and with rows for it
 abbrev pub IsAccepted : Request → ℕ → List ℕ → Type 0
 IsAccepted request limit input = (length input ≤ limit) × ((rows : List Row) × AreRowsIn (format_for request) (value_for request) input rows)
+
+-- where the words ask for something, the input alone decides between 0 and 1, but where the streams or memory failed
+abbrev pub InputDecides : List (List ℕ) → ℕ → Option (List ℕ) → ℕ → Type 0
+InputDecides words limit unread code = IfSome unread (λ input. (request : Request) → request_of words ≡ Some request
+    → code ≢ 3 → code ≢ 4
+    → ((code ≡ 0) ↔ IsAccepted request limit input) × ((code ≡ 1) ↔ ¬ IsAccepted request limit input))
 
 -- a fault of reading is one of the program
 abbrev pub read_fault_of : ReadFault → ToolFault

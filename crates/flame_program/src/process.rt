@@ -1,12 +1,11 @@
 //! The program in a process: its words and its three streams, its exit status, and what it says of its end.
-ghost use Rattle.std.specs.Prelude.{◌≡◌, ◌≢◌, ◌↔◌, Some, IfOk, IfErr, IfSome, map, string_bytes};
+ghost use Rattle.std.specs.Prelude.{◌≡◌, IfOk, IfErr, map, string_bytes};
 ghost use Rattle.std.specs.IoError.{error_kind};
 ghost use Rattle.std.specs.Process.{exit_status};
 ghost use Rattle.flame_answers.specs.Outcomes.{code_of};
-ghost use Rattle.flame_answers.specs.declared.request.Request.{Request};
 ghost use Rattle.flame_program.specs.Process.{IsSaid, IsUnreadCause, IsUnreadEnd};
-ghost use Rattle.flame_program.specs.Program.{IsAccepted, IsDone, IsEnd};
-ghost use Rattle.flame_program.specs.Words.{request_of, texts_of};
+ghost use Rattle.flame_program.specs.Program.{InputDecides, IsDone, IsEnd};
+ghost use Rattle.flame_program.specs.Words.{texts_of};
 
 use crate::program::run;
 use flame_answers::{MAX_INPUT, Outcome, Status, ToolFault};
@@ -43,20 +42,14 @@ pub fn run_process<R: Read, W: Write, E: Write>(
     ensures done { exit_status result.code ≡ 0 → IfOk words (λ words. IsDone (map string_bytes words.items) 268435456
         (R.remaining reader.old) (R.remaining reader.new) (W.contents writer.old) (W.contents writer.new)) }
     // Where the words ask for something, the input alone decides, but where the streams or memory failed.
-    ensures decided { IfOk words (λ words. IfSome (R.remaining reader.old) (λ input. (request : Request)
-        → request_of (map string_bytes words.items) ≡ Some request
-        → exit_status result.code ≢ 3 → exit_status result.code ≢ 4
-        → ((exit_status result.code ≡ 0) ↔ IsAccepted request 268435456 input)
-        × ((exit_status result.code ≡ 1) ↔ ¬ IsAccepted request 268435456 input))) }
+    ensures decided { IfOk words (λ words. InputDecides (map string_bytes words.items) 268435456 (R.remaining reader.old)
+        (exit_status result.code)) }
     // Where the words can't be had, nothing is read or written, and it ends with 2 and a text that says so, or with 4.
     ensures unread { IfErr words (λ error. (cause : Outcome) × IsUnreadEnd (error_kind error)
         (R.remaining reader.old) (R.remaining reader.new) (W.contents writer.old) (W.contents writer.new)
         (exit_status result.code) cause × IsSaid (E.contents errors.old) (E.contents errors.new) cause result.said) }
 {
-    let status = match words {
-        Ok(words) => run_texts(alloc, words.as_slice(), reader, writer),
-        Err(error) => unread_words(alloc, &error),
-    };
+    let status = run_words(alloc, words, reader, writer);
     End {
         code: exit_code(&status),
         said: say(errors, &status.cause),
@@ -77,6 +70,30 @@ fn say<E: Write>(errors: &mut E, cause: &Outcome) -> io::Result<()>
     write!(errors, "{cause}")
 }
 
+// Runs on the words, where they can be had.
+fn run_words<R: Read, W: Write>(
+    alloc: Global,
+    words: io::Result<Vec<String>>,
+    reader: &mut R,
+    writer: &mut W,
+) -> Status
+    ensures ends { IfOk words (λ words. IsEnd (map string_bytes words.items) 268435456
+        (R.remaining reader.old) (R.remaining reader.new) (W.contents writer.old) (W.contents writer.new)
+        result.code result.cause) }
+    ensures done { result.code ≡ 0 → IfOk words (λ words. IsDone (map string_bytes words.items) 268435456
+        (R.remaining reader.old) (R.remaining reader.new) (W.contents writer.old) (W.contents writer.new)) }
+    ensures decided { IfOk words (λ words. InputDecides (map string_bytes words.items) 268435456 (R.remaining reader.old)
+        result.code) }
+    ensures unread { IfErr words (λ error. IsUnreadEnd (error_kind error)
+        (R.remaining reader.old) (R.remaining reader.new) (W.contents writer.old) (W.contents writer.new)
+        result.code result.cause) }
+{
+    match words {
+        Ok(words) => run_texts(alloc, words.as_slice(), reader, writer),
+        Err(error) => unread_words(alloc, &error),
+    }
+}
+
 // Runs on all of the words.
 fn run_texts<R: Read, W: Write>(
     alloc: Global,
@@ -89,10 +106,7 @@ fn run_texts<R: Read, W: Write>(
         result.code result.cause }
     ensures done { result.code ≡ 0 → IsDone (map string_bytes words.now) 268435456
         (R.remaining reader.old) (R.remaining reader.new) (W.contents writer.old) (W.contents writer.new) }
-    ensures decided { IfSome (R.remaining reader.old) (λ input. (request : Request)
-        → request_of (map string_bytes words.now) ≡ Some request → result.code ≢ 3 → result.code ≢ 4
-        → ((result.code ≡ 0) ↔ IsAccepted request 268435456 input)
-        × ((result.code ≡ 1) ↔ ¬ IsAccepted request 268435456 input)) }
+    ensures decided { InputDecides (map string_bytes words.now) 268435456 (R.remaining reader.old) result.code }
 {
     match texts_in(alloc, words) {
         Ok(texts) => run(alloc, texts.as_slice(), reader, writer, MAX_INPUT),

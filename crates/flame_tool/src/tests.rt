@@ -3,6 +3,8 @@
 mod fakes;
 mod faults;
 mod options;
+mod large;
 mod parts;
+mod process;
 mod profiles;
 mod reports;

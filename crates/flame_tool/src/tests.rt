@@ -2,8 +2,8 @@
 
 mod fakes;
 mod faults;
-mod options;
 mod large;
+mod options;
 mod parts;
 mod process;
 mod profiles;

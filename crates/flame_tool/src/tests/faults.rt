@@ -213,4 +213,3 @@ fn failing_flush(rt: HostRuntime) {
     assert_eq!(rt; status.code, 3);
     assert_eq!(rt; writer.taken.as_slice(), b"total 12\n12 12 a\n".as_slice());
 }
-

@@ -41,7 +41,12 @@ fn reports_of_a_process(rt: HostRuntime) -> Result<(), Fail> {
             b"",
             b"flame: P2 Wire W5 WireType\n",
         ),
-        (&["flame", "fold", "--focus", ""], 2, b"", b"flame: C1 Name\n"),
+        (
+            &["flame", "fold", "--focus", ""],
+            2,
+            b"",
+            b"flame: C1 Name\n",
+        ),
     ];
     for (words, code, report, line) in cases {
         let words = owned(rt.alloc(), words)?;

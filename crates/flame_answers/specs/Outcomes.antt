@@ -38,8 +38,8 @@ abbrev pub line_of : Option (List ℕ) → Option (List ℕ)
 line_of None = None
 line_of (Some text) = Some (codes "flame: " ++ text ++ 10 ∷ [])
 
--- what the program says of its end, where the text is its own: nothing where it is done, and the text for the user where words are
--- refused
+-- what the program says of its end, where the text is its own: nothing where it is done, and the text for the user
+-- where words are refused
 abbrev pub said_of : Outcome → Option (List ℕ)
 said_of Done = Some []
 said_of (Words text) = Some (string_bytes text)

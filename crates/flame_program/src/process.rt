@@ -25,8 +25,8 @@ pub struct End {
 
 /// The whole program, over the words and the three streams of a process.
 ///
-/// The first word is the program's name. At most 268,435,456 bytes of input are taken. The writer gets the report alone, and
-/// the error writer what there is to say of another end.
+/// The first word is the program's name. At most 268,435,456 bytes of input are taken. The writer gets the report
+/// alone, and the error writer what there is to say of another end.
 pub fn run_process<R: Read, W: Write, E: Write>(
     alloc: Global,
     words: io::Result<Vec<String>>,
@@ -42,8 +42,8 @@ pub fn run_process<R: Read, W: Write, E: Write>(
     ensures done { exit_status result.code ≡ 0 → IfOk words (λ words. IsDone (map string_bytes words.items) 268435456
         (R.remaining reader.old) (R.remaining reader.new) (W.contents writer.old) (W.contents writer.new)) }
     // Where the words ask for something, the input alone decides, but where the streams or memory failed.
-    ensures decided { IfOk words (λ words. InputDecides (map string_bytes words.items) 268435456 (R.remaining reader.old)
-        (exit_status result.code)) }
+    ensures decided { IfOk words (λ words. InputDecides (map string_bytes words.items) 268435456
+        (R.remaining reader.old) (exit_status result.code)) }
     // Where the words can't be had, nothing is read or written, and it ends with 2 and a text that says so, or with 4.
     ensures unread { IfErr words (λ error. (cause : Outcome) × IsUnreadEnd (error_kind error)
         (R.remaining reader.old) (R.remaining reader.new) (W.contents writer.old) (W.contents writer.new)
@@ -82,8 +82,8 @@ fn run_words<R: Read, W: Write>(
         result.code result.cause) }
     ensures done { result.code ≡ 0 → IfOk words (λ words. IsDone (map string_bytes words.items) 268435456
         (R.remaining reader.old) (R.remaining reader.new) (W.contents writer.old) (W.contents writer.new)) }
-    ensures decided { IfOk words (λ words. InputDecides (map string_bytes words.items) 268435456 (R.remaining reader.old)
-        result.code) }
+    ensures decided { IfOk words (λ words. InputDecides (map string_bytes words.items) 268435456
+        (R.remaining reader.old) result.code) }
     ensures unread { IfErr words (λ error. IsUnreadEnd (error_kind error)
         (R.remaining reader.old) (R.remaining reader.new) (W.contents writer.old) (W.contents writer.new)
         result.code result.cause) }

@@ -1,6 +1,7 @@
 //! The program `flame`: reads stacks from the standard input, and writes the report that its words ask for.
 //!
-//! `flame_program::run_process` is the whole of it, over any words and streams. What stands here only gives it the process's own.
+//! `flame_program::run_process` is the whole of it, over any words and streams. What stands here only gives it the
+//! process's own.
 #![tactic(auto)]
 
 #[cfg(test)]

@@ -59,7 +59,7 @@ flame_of None = None
 abbrev pub top_kind : List Row → Option Kind
 top_kind rows =
     top_of (rank_named (text_or (codes "flat") (codes "by") rows))
-        (number_named (text_or (codes "20") (codes "count") rows))
+    (number_named (text_or (codes "20") (codes "count") rows))
 
 abbrev pub flame_kind : List Row → Option Kind
 flame_kind rows = flame_of (columns_of (number_named (text_or (codes "100") (codes "columns") rows)))

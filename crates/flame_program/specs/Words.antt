@@ -34,8 +34,8 @@ with_filters app = with_rule (with_rule app (option_rule (codes "focus"))) (opti
 abbrev pub top_app : App
 top_app =
     with_rule
-        (with_rule (with_filters (with_source (new_app (codes "top")))) (default_rule (codes "by") (codes "flat")))
-        (default_rule (codes "count") (codes "20"))
+    (with_rule (with_filters (with_source (new_app (codes "top")))) (default_rule (codes "by") (codes "flat")))
+    (default_rule (codes "count") (codes "20"))
 
 abbrev pub flame_graph_app : App
 flame_graph_app =
@@ -47,7 +47,7 @@ fold_app = with_filters (with_source (new_app (codes "fold")))
 abbrev pub proto_app : App
 proto_app =
     with_rule (with_rule (new_app (codes "proto")) (default_rule (codes "kind") (codes "samples")))
-        (default_rule (codes "unit") (codes "count"))
+    (default_rule (codes "unit") (codes "count"))
 
 -- `flame`, which wants one of its subcommands
 abbrev pub flame_app : App
@@ -56,8 +56,8 @@ flame_app = record { top = record (new_app (codes "flame")).top { subcommand_req
 abbrev pub program_app : App
 program_app =
     with_subcommand
-        (with_subcommand (with_subcommand (with_subcommand flame_app top_app.top) flame_graph_app.top) fold_app.top)
-        proto_app.top
+    (with_subcommand (with_subcommand (with_subcommand flame_app top_app.top) flame_graph_app.top) fold_app.top)
+    proto_app.top
 
 -- ---- what words ask for
 
@@ -76,7 +76,7 @@ abbrev pub named_report : Kind → Format → Option Text → Option Text → Op
 named_report kind format value focus ignore =
     if is_name_if_given focus && is_name_if_given ignore
     then asked (Report (record { format = format; value = value })
-        (record { focus = focus; ignore = ignore; kind = kind }))
+    (record { focus = focus; ignore = ignore; kind = kind }))
     else misnamed
 
 -- a report of a kind on an input of a format
@@ -85,7 +85,7 @@ report_of None format rows = refused
 report_of (Some kind) None rows = refused
 report_of (Some kind) (Some format) rows =
     named_report kind format (first_of (codes "value") rows) (first_of (codes "focus") rows)
-        (first_of (codes "ignore") rows)
+    (first_of (codes "ignore") rows)
 
 abbrev pub report_in : Option Kind → List Row → Reading
 report_in kind rows = report_of kind (format_named (text_or (codes "folded") (codes "format") rows)) rows

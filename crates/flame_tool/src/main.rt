@@ -8,23 +8,17 @@
 mod tests;
 
 use flame_program::run_process;
+use std::env;
 use std::process::ExitCode;
-use std::{env, io};
 
 fn main(rt: HostRuntime) -> ExitCode {
-    // Nothing is left to do where the standard error can't be written.
-    run_process(
+    let end = run_process(
         rt.alloc(),
-        own_words(&rt),
+        env::args(&rt),
         &mut rt.stdin(),
         &mut rt.stdout(),
         &mut rt.stderr(),
-    )
-    .code
-}
-
-// The process's words, the program's name first.
-fn own_words(rt: &HostRuntime) -> io::Result<Vec<String>> {
-    let words = env::args(rt)?.collect(rt.alloc())?;
-    Ok(words)
+    );
+    // Nothing is left to do where the standard error couldn't be written.
+    end.code
 }

@@ -2,6 +2,7 @@
 use super::fakes::Narrow;
 use flame_program::{End, run_process};
 use std::alloc::{AllocError, Global};
+use std::env::Args;
 use std::io;
 use std::io::ErrorKind;
 use std::process::ExitCode;
@@ -9,16 +10,16 @@ use std::test::Fail;
 
 const STORED: &[u8] = b"main;a;b 3\nmain;a 2\nmain;c 5\n";
 
-fn owned(alloc: Global, words: &[&str]) -> Result<Vec<String>, AllocError> {
+fn owned(alloc: Global, words: &[&str]) -> Result<Args, AllocError> {
     let mut all = Vec::new(alloc);
     for word in words {
         all.push(String::from_str(alloc, word)?)?;
     }
-    Ok(all)
+    Ok(all.into_iter())
 }
 
 // How a process with these words ends on the stored input, what it wrote, and what it said.
-fn process_on(alloc: Global, words: io::Result<Vec<String>>) -> (End, Vec<u8>, Vec<u8>) {
+fn process_on(alloc: Global, words: io::Result<Args>) -> (End, Vec<u8>, Vec<u8>) {
     let mut reader = STORED;
     let mut written = Vec::new(alloc);
     let mut said = Vec::new(alloc);

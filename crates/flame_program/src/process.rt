@@ -41,7 +41,8 @@ pub fn run_process<R: Read, W: Write, E: Write>(
         (R.remaining reader.old) (R.remaining reader.new) (W.contents writer.old) (W.contents writer.new)
         (exit_status result.code) cause × IsSaid (E.contents errors.old) (E.contents errors.new) cause result.said) }
     // At 0 the input was read to its end, and exactly the report on the rows that it spells was written.
-    ensures done { exit_status result.code ≡ 0 → IfOk words (λ words. IsDone (map string_bytes (into_iter_items words)) 268435456
+    ensures done { exit_status result.code ≡ 0 → IfOk words (λ words.
+        IsDone (map string_bytes (into_iter_items words)) 268435456
         (R.remaining reader.old) (R.remaining reader.new) (W.contents writer.old) (W.contents writer.new)) }
     // Where the words ask for something, the input alone decides, but where the streams or memory failed.
     ensures decided { IfOk words (λ words. InputDecides (map string_bytes (into_iter_items words)) 268435456

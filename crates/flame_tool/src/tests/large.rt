@@ -43,7 +43,12 @@ fn folded(alloc: Global) -> Result<Vec<u8>, AllocError> {
 }
 
 // The report that these words ask for, of an input of this format.
-fn report_on(alloc: Global, words: &[&str], format: &str, input: &[u8]) -> Result<Vec<u8>, Fail> {
+fn report_on<'a>(
+    alloc: Global,
+    words: &'a [&'a str],
+    format: &'a str,
+    input: &[u8],
+) -> Result<Vec<u8>, Fail> {
     let mut all = Vec::from_slice(alloc, words)?;
     all.push("--format")?;
     all.push(format)?;

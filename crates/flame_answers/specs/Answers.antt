@@ -82,7 +82,8 @@ pub record IsAnswer (request : Request) (input text : List ℕ) : Type 0 where
 
 -- the text is what all rows of folded text answer to a question
 abbrev pub IsAnswerOfText : List ℕ → Kind → List ℕ → Type 0
-IsAnswerOfText input kind text = (rows : List Row) × IsFoldedText input rows × (text ≡ answer_text (answer_by kind rows))
+IsAnswerOfText input kind text =
+    (rows : List Row) × IsFoldedText input rows × (text ≡ answer_text (answer_by kind rows))
 
 -- ---- inputs without rows
 
@@ -114,9 +115,12 @@ HasNoRows format value input = (rows : List Row) → AreRowsIn format value inpu
 
 -- what keeps an input of a format from having rows: its first fault, or want of memory, which claims nothing
 abbrev pub IsRefusedIn : Format → Option (List ℕ) → List ℕ → ToolFault → Type 0
-IsRefusedIn format value input (tool.Folded fault) = IsFaultIn format value input (tool.Folded fault) × HasNoRows format value input
-IsRefusedIn format value input (tool.Profile fault) = IsFaultIn format value input (tool.Profile fault) × HasNoRows format value input
-IsRefusedIn format value input (tool.Batch fault) = IsFaultIn format value input (tool.Batch fault) × HasNoRows format value input
+IsRefusedIn format value input (tool.Folded fault) =
+    IsFaultIn format value input (tool.Folded fault) × HasNoRows format value input
+IsRefusedIn format value input (tool.Profile fault) =
+    IsFaultIn format value input (tool.Profile fault) × HasNoRows format value input
+IsRefusedIn format value input (tool.Batch fault) =
+    IsFaultIn format value input (tool.Batch fault) × HasNoRows format value input
 IsRefusedIn format value input tool.Name = ⊥
 IsRefusedIn format value input tool.Read = ⊥
 IsRefusedIn format value input tool.Write = ⊥

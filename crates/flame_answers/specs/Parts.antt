@@ -25,7 +25,8 @@ TakesAtMost most unread left = (bytes : List ℕ) × (length bytes ≤ most) × 
 abbrev pub TakesExactly : ℕ → Option (List ℕ) → Option (List ℕ) → Type 0
 TakesExactly count unread left = (bytes : List ℕ) × (length bytes ≡ count) × Consumes unread left bytes
 
--- What a fault leaves of the reader. An input is too long where one byte more than the limit was there, and that byte is the last taken.
+-- What a fault leaves of the reader. An input is too long where one byte more than the limit was there, and that byte
+-- is the last taken.
 abbrev pub LeavesAfterFault : ℕ → Option (List ℕ) → Option (List ℕ) → ReadFault → Type 0
 LeavesAfterFault limit unread left Read = TakesAtMost limit unread left
 LeavesAfterFault limit unread left TooLong = TakesExactly (limit + 1) unread left

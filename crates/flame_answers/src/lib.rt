@@ -1,4 +1,5 @@
-//! What the program does once its words are read: a request, an input within a limit, the text that answers it, and how a run ends.
+//! What the program does once its words are read: a request, an input within a limit, the text that answers it, and how
+//! a run ends.
 #![tactic(auto)]
 
 mod answers;

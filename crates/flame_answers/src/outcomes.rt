@@ -1,41 +1,52 @@
 //! How a run ends, and why.
 ghost use Rattle.std.specs.Prelude.{◌≡◌};
-ghost use Rattle.flame_answers.specs.Outcomes.{code_of};
+ghost use Rattle.flame_answers.specs.Outcomes.{code_of, fault_text_of, said_of};
 
 use folded_text::FoldedFault;
 use pprof_profile::ProfileFault;
 use profile_rows::NoMemory;
 use profile_samples::BatchFault;
+use std::error::Error;
 use std::fmt;
-use thiserror::Error;
 
 /// A fault that ends the program. Its `Display` is what the program says of it.
-#[derive(Clone, Copy, Debug, PartialEq, Eq, Error)]
+#[derive(Clone, Copy, Debug, PartialEq, Eq)]
 pub enum ToolFault {
     /// The input isn't folded text.
-    #[error("{0}")]
     Folded(FoldedFault),
     /// The input is no profile.
-    #[error("{0}")]
     Profile(ProfileFault),
     /// The profile's samples give no rows.
-    #[error("{0}")]
     Batch(BatchFault),
     /// A focus or an ignored name can't be a name.
-    #[error("C1 Name")]
     Name,
     /// A read failed.
-    #[error("E1 Read")]
     Read,
     /// A write or a flush failed, or a write took no byte.
-    #[error("E2 Write")]
     Write,
     /// The input has more bytes than the limit.
-    #[error("E3 TooLong")]
     TooLong,
     /// Memory ran out.
-    #[error("E4 NoMemory")]
     NoMemory,
+}
+
+impl Error for ToolFault {}
+
+impl fmt::Display for ToolFault {
+    ghost output = { fault_text_of };
+
+    fn fmt<W: fmt::Write>(&self, f: &mut fmt::Formatter<W>) -> fmt::Result {
+        match self {
+            ToolFault::Folded(fault) => write!(f, "{fault}"),
+            ToolFault::Profile(fault) => write!(f, "{fault}"),
+            ToolFault::Batch(fault) => write!(f, "{fault}"),
+            ToolFault::Name => f.write_str("C1 Name"),
+            ToolFault::Read => f.write_str("E1 Read"),
+            ToolFault::Write => f.write_str("E2 Write"),
+            ToolFault::TooLong => f.write_str("E3 TooLong"),
+            ToolFault::NoMemory => f.write_str("E4 NoMemory"),
+        }
+    }
 }
 
 impl From<NoMemory> for ToolFault {
@@ -69,6 +80,8 @@ pub struct Status {
 
 /// What the program says of its end on the standard error: nothing where it is done.
 impl fmt::Display for Outcome {
+    ghost output = { said_of };
+
     fn fmt<W: fmt::Write>(&self, f: &mut fmt::Formatter<W>) -> fmt::Result {
         match self {
             Outcome::Done => Ok(()),

@@ -16,7 +16,8 @@ pub enum Format {
 #[derive(Drop)]
 pub struct Source {
     pub format: Format,
-    /// The sample type whose values are the weights, in a profile; where there is none, the one that the profile chooses.
+    /// The sample type whose values are the weights, in a profile; where there is none, the one that the profile
+    /// chooses.
     pub value: Option<Text>,
 }
 

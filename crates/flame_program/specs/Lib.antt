@@ -1,3 +1,4 @@
 pub mod Options
+pub mod Process
 pub mod Program
 pub mod Words

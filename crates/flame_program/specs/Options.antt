@@ -16,10 +16,16 @@ abbrev pub text_or : Text → Text → List Row → Text
 text_or default id rows = unwrap_or (first_of id rows) default
 
 abbrev pub format_named : Text → Option Format
-format_named text = if bytes_eq text (codes "folded") then Some Folded else if bytes_eq text (codes "pprof") then Some Pprof else None
+format_named text =
+    if bytes_eq text (codes "folded") then Some Folded
+    else if bytes_eq text (codes "pprof") then Some Pprof
+    else None
 
 abbrev pub rank_named : Text → Option Rank
-rank_named text = if bytes_eq text (codes "flat") then Some Flat else if bytes_eq text (codes "cum") then Some Cum else None
+rank_named text =
+    if bytes_eq text (codes "flat") then Some Flat
+    else if bytes_eq text (codes "cum") then Some Cum
+    else None
 
 abbrev pub is_digit : ℕ → Bool
 is_digit byte = nat_le 48 byte && nat_le byte 57
@@ -30,7 +36,10 @@ is_number text = not (length text == 0) && list_all is_digit text
 
 -- the number that decimal digits write, where 32 bits hold it
 abbrev pub number_named : Text → Option ℕ
-number_named text = if is_number text then (if nat_lt (digits_value 10 text) (2 ^ 32) then Some (digits_value 10 text) else None) else None
+number_named text =
+    if is_number text
+    then (if nat_lt (digits_value 10 text) (2 ^ 32) then Some (digits_value 10 text) else None)
+    else None
 
 -- a number of columns: 1 to 65,535
 abbrev pub columns_of : Option ℕ → Option ℕ
@@ -48,7 +57,9 @@ flame_of None = None
 
 -- what a report of a subcommand is
 abbrev pub top_kind : List Row → Option Kind
-top_kind rows = top_of (rank_named (text_or (codes "flat") (codes "by") rows)) (number_named (text_or (codes "20") (codes "count") rows))
+top_kind rows =
+    top_of (rank_named (text_or (codes "flat") (codes "by") rows))
+    (number_named (text_or (codes "20") (codes "count") rows))
 
 abbrev pub flame_kind : List Row → Option Kind
 flame_kind rows = flame_of (columns_of (number_named (text_or (codes "100") (codes "columns") rows)))

@@ -1,5 +1,5 @@
 -- How a run of the program ends, over what its reader had left and what its writer holds, before and after.
-use Rattle.std.specs.Prelude.{ℕ, ◌≡◌, ◌+◌, ◌≤◌, List, length, Option, Some}
+use Rattle.std.specs.Prelude.{ℕ, ◌≡◌, ◌≢◌, ◌+◌, ◌≤◌, ◌↔◌, List, length, Option, Some, IfSome}
 use Rattle.std.specs.Io.KnownBytes.{Appends, Keeps}
 use Rattle.profile_rows.specs.declared.batch.Row.{Row}
 use Rattle.flame_answers.specs.Answers.{AreRowsIn, IsAnswer, IsInputFault, format_for, value_for}
@@ -30,14 +30,17 @@ pub record IsAnswered (words : List (List ℕ)) (limit : ℕ) (unread left : Opt
 
 -- the report was written whole
 abbrev pub IsDone : List (List ℕ) → ℕ → Option (List ℕ) → Option (List ℕ) → Option (List ℕ) → Option (List ℕ) → Type 0
-IsDone words limit unread left before after = (text : List ℕ) × IsAnswered words limit unread left text × Appends before after text
+IsDone words limit unread left before after =
+    (text : List ℕ) × IsAnswered words limit unread left text × Appends before after text
 
 -- a beginning of the report was written
 abbrev pub IsCut : List (List ℕ) → ℕ → Option (List ℕ) → Option (List ℕ) → Option (List ℕ) → Option (List ℕ) → Type 0
-IsCut words limit unread left before after = (text : List ℕ) × IsAnswered words limit unread left text × AppendsBeginning before after text
+IsCut words limit unread left before after =
+    (text : List ℕ) × IsAnswered words limit unread left text × AppendsBeginning before after text
 
 -- the words ask for something of an input that has no rows for it, and this is its first fault
-pub record IsRefusedInput (words : List (List ℕ)) (limit : ℕ) (unread left : Option (List ℕ)) (fault : ToolFault) : Type 0 where
+pub record IsRefusedInput (words : List (List ℕ)) (limit : ℕ) (unread left : Option (List ℕ))
+    (fault : ToolFault) : Type 0 where
   pub request : Request
   pub asked : request_of words ≡ Some request
   pub input : List ℕ
@@ -45,30 +48,45 @@ pub record IsRefusedInput (words : List (List ℕ)) (limit : ℕ) (unread left :
   pub first : IsInputFault request input fault
 
 -- what a fault says of the reader. Nothing was written, but at a fault of writing.
-abbrev pub EndsByFault : List (List ℕ) → ℕ → Option (List ℕ) → Option (List ℕ) → Option (List ℕ) → Option (List ℕ) → ToolFault → Type 0
-EndsByFault words limit unread left before after (Folded fault) = IsRefusedInput words limit unread left (Folded fault) × Keeps before after
-EndsByFault words limit unread left before after (Profile fault) = IsRefusedInput words limit unread left (Profile fault) × Keeps before after
-EndsByFault words limit unread left before after (Batch fault) = IsRefusedInput words limit unread left (Batch fault) × Keeps before after
+abbrev pub EndsByFault : List (List ℕ) → ℕ → Option (List ℕ) → Option (List ℕ) → Option (List ℕ) → Option (List ℕ)
+    → ToolFault → Type 0
+EndsByFault words limit unread left before after (Folded fault) =
+    IsRefusedInput words limit unread left (Folded fault) × Keeps before after
+EndsByFault words limit unread left before after (Profile fault) =
+    IsRefusedInput words limit unread left (Profile fault) × Keeps before after
+EndsByFault words limit unread left before after (Batch fault) =
+    IsRefusedInput words limit unread left (Batch fault) × Keeps before after
 EndsByFault words limit unread left before after Name = IsMisnamed words × Keeps unread left × Keeps before after
-EndsByFault words limit unread left before after Read = IsAsked words × TakesAtMost limit unread left × Keeps before after
+EndsByFault words limit unread left before after Read =
+    IsAsked words × TakesAtMost limit unread left × Keeps before after
 EndsByFault words limit unread left before after Write = IsCut words limit unread left before after
-EndsByFault words limit unread left before after TooLong = IsAsked words × TakesExactly (limit + 1) unread left × Keeps before after
+EndsByFault words limit unread left before after TooLong =
+    IsAsked words × TakesExactly (limit + 1) unread left × Keeps before after
 EndsByFault words limit unread left before after NoMemory = TakesAtMost limit unread left × Keeps before after
 
 -- what the cause of a run's end says. Words that are refused leave the reader and the writer alone.
-abbrev pub EndsBy : List (List ℕ) → ℕ → Option (List ℕ) → Option (List ℕ) → Option (List ℕ) → Option (List ℕ) → Outcome → Type 0
+abbrev pub EndsBy : List (List ℕ) → ℕ → Option (List ℕ) → Option (List ℕ) → Option (List ℕ) → Option (List ℕ)
+    → Outcome → Type 0
 EndsBy words limit unread left before after Done = IsDone words limit unread left before after
 EndsBy words limit unread left before after (Words text) = IsRefused words × Keeps unread left × Keeps before after
 EndsBy words limit unread left before after (Fault fault) = EndsByFault words limit unread left before after fault
 
 -- a run that ended with this code, by this cause
-pub record IsEnd (words : List (List ℕ)) (limit : ℕ) (unread left before after : Option (List ℕ)) (code : ℕ) (cause : Outcome) : Type 0 where
+pub record IsEnd (words : List (List ℕ)) (limit : ℕ) (unread left before after : Option (List ℕ)) (code : ℕ)
+    (cause : Outcome) : Type 0 where
   pub code_is : code ≡ code_of cause
   pub story : EndsBy words limit unread left before after cause
 
 -- an input that a request is answered on: within the limit, and with rows for it
 abbrev pub IsAccepted : Request → ℕ → List ℕ → Type 0
-IsAccepted request limit input = (length input ≤ limit) × ((rows : List Row) × AreRowsIn (format_for request) (value_for request) input rows)
+IsAccepted request limit input =
+    (length input ≤ limit) × ((rows : List Row) × AreRowsIn (format_for request) (value_for request) input rows)
+
+-- where the words ask for something, the input alone decides between 0 and 1, but where the streams or memory failed
+abbrev pub InputDecides : List (List ℕ) → ℕ → Option (List ℕ) → ℕ → Type 0
+InputDecides words limit unread code = IfSome unread (λ input. (request : Request) → request_of words ≡ Some request
+    → code ≢ 3 → code ≢ 4
+    → ((code ≡ 0) ↔ IsAccepted request limit input) × ((code ≡ 1) ↔ ¬ IsAccepted request limit input))
 
 -- a fault of reading is one of the program
 abbrev pub read_fault_of : ReadFault → ToolFault

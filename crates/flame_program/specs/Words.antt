@@ -24,31 +24,40 @@ default_rule id default = record (option_rule id) { defaults = default ∷ [] }
 
 -- how the input is read
 abbrev pub with_source : App → App
-with_source app = with_rule (with_rule app (default_rule (codes "format") (codes "folded"))) (option_rule (codes "value"))
+with_source app =
+    with_rule (with_rule app (default_rule (codes "format") (codes "folded"))) (option_rule (codes "value"))
 
 -- which rows are kept
 abbrev pub with_filters : App → App
 with_filters app = with_rule (with_rule app (option_rule (codes "focus"))) (option_rule (codes "ignore"))
 
 abbrev pub top_app : App
-top_app = with_rule (with_rule (with_filters (with_source (new_app (codes "top")))) (default_rule (codes "by") (codes "flat")))
+top_app =
+    with_rule
+    (with_rule (with_filters (with_source (new_app (codes "top")))) (default_rule (codes "by") (codes "flat")))
     (default_rule (codes "count") (codes "20"))
 
 abbrev pub flame_graph_app : App
-flame_graph_app = with_rule (with_filters (with_source (new_app (codes "flame")))) (default_rule (codes "columns") (codes "100"))
+flame_graph_app =
+    with_rule (with_filters (with_source (new_app (codes "flame")))) (default_rule (codes "columns") (codes "100"))
 
 abbrev pub fold_app : App
 fold_app = with_filters (with_source (new_app (codes "fold")))
 
 abbrev pub proto_app : App
-proto_app = with_rule (with_rule (new_app (codes "proto")) (default_rule (codes "kind") (codes "samples"))) (default_rule (codes "unit") (codes "count"))
+proto_app =
+    with_rule (with_rule (new_app (codes "proto")) (default_rule (codes "kind") (codes "samples")))
+    (default_rule (codes "unit") (codes "count"))
 
 -- `flame`, which wants one of its subcommands
 abbrev pub flame_app : App
 flame_app = record { top = record (new_app (codes "flame")).top { subcommand_required = true }; subs = [] }
 
 abbrev pub program_app : App
-program_app = with_subcommand (with_subcommand (with_subcommand (with_subcommand flame_app top_app.top) flame_graph_app.top) fold_app.top) proto_app.top
+program_app =
+    with_subcommand
+    (with_subcommand (with_subcommand (with_subcommand flame_app top_app.top) flame_graph_app.top) fold_app.top)
+    proto_app.top
 
 -- ---- what words ask for
 
@@ -66,7 +75,8 @@ pub data Reading : Type 0 where
 abbrev pub named_report : Kind → Format → Option Text → Option Text → Option Text → Reading
 named_report kind format value focus ignore =
     if is_name_if_given focus && is_name_if_given ignore
-    then asked (Report (record { format = format; value = value }) (record { focus = focus; ignore = ignore; kind = kind }))
+    then asked (Report (record { format = format; value = value })
+    (record { focus = focus; ignore = ignore; kind = kind }))
     else misnamed
 
 -- a report of a kind on an input of a format
@@ -74,13 +84,15 @@ abbrev pub report_of : Option Kind → Option Format → List Row → Reading
 report_of None format rows = refused
 report_of (Some kind) None rows = refused
 report_of (Some kind) (Some format) rows =
-    named_report kind format (first_of (codes "value") rows) (first_of (codes "focus") rows) (first_of (codes "ignore") rows)
+    named_report kind format (first_of (codes "value") rows) (first_of (codes "focus") rows)
+    (first_of (codes "ignore") rows)
 
 abbrev pub report_in : Option Kind → List Row → Reading
 report_in kind rows = report_of kind (format_named (text_or (codes "folded") (codes "format") rows)) rows
 
 abbrev pub export_in : List Row → Reading
-export_in rows = asked (Export (text_or (codes "samples") (codes "kind") rows) (text_or (codes "count") (codes "unit") rows))
+export_in rows =
+    asked (Export (text_or (codes "samples") (codes "kind") rows) (text_or (codes "count") (codes "unit") rows))
 
 -- what a subcommand asks for, by its name and its options
 abbrev pub asked_by : Option (Text × List Row) → Reading

@@ -111,7 +111,7 @@ fn proto_command<'a>(alloc: Global) -> Result<Command<'a>, AllocError>
 }
 
 /// The command `flame`, with its subcommands and their texts.
-pub fn command<'a>(alloc: Global) -> Result<Command<'a>, AllocError>
+pub(crate) fn command<'a>(alloc: Global) -> Result<Command<'a>, AllocError>
     ensures { IfOk result (λ command. app_of command ≡ program_app) }
 {
     Command::new(alloc, "flame")

@@ -11,18 +11,21 @@ pub const ABOUT_FOLD: &str = "Adds up equal stacks";
 
 pub const ABOUT_PROTO: &str = "Writes folded stacks as a pprof profile";
 
-pub const FORMAT: &str =
-    "How the input is written: folded (stacks, as collapse scripts write them) or pprof (profile.proto, unpacked: gunzip -c cpu.pb.gz | flame top --format pprof)";
+pub const FORMAT: &str = "\
+    How the input is written: folded (stacks, as collapse scripts write them) or pprof (profile.proto, \
+    unpacked: gunzip -c cpu.pb.gz | flame top --format pprof)";
 
-pub const VALUE: &str =
-    "The sample type of a pprof profile whose values are the weights, by its name, such as cpu or alloc_space; without it the profile's own choice";
+pub const VALUE: &str = "\
+    The sample type of a pprof profile whose values are the weights, by its name, such as cpu or alloc_space; \
+    without it the profile's own choice";
 
 pub const FOCUS: &str = "Keep only stacks that have a frame of exactly this name";
 
 pub const IGNORE: &str = "Leave out stacks that have a frame of exactly this name";
 
-pub const BY: &str =
-    "What the names are ordered by: flat (the weight of stacks that end with the name) or cum (of stacks that contain it)";
+pub const BY: &str = "\
+    What the names are ordered by: flat (the weight of stacks that end with the name) or cum (of stacks that \
+    contain it)";
 
 pub const COUNT: &str = "How many names are listed at most";
 

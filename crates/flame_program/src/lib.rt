@@ -4,8 +4,10 @@
 mod command;
 mod help;
 mod options;
+mod process;
 mod program;
 mod words;
 
+pub use process::{End, run_process};
 pub use program::run;
 pub use words::{WordsFault, read_words};

@@ -1,10 +1,9 @@
 //! The whole program over any reader and writer.
-ghost use Rattle.std.specs.Prelude.{◌≡◌, ◌≢◌, ◌+◌, ◌≤◌, ◌↔◌, ◌⊎◌, List, ℕ, Some, None, IfSome};
+ghost use Rattle.std.specs.Prelude.{◌≡◌, ◌≢◌, ◌+◌, ◌≤◌, ◌⊎◌, List, ℕ, Some, None};
 ghost use Rattle.std.specs.Io.KnownBytes.{Keeps};
 ghost use Rattle.flame_answers.specs.Parts.{TakesAtMost};
-ghost use Rattle.flame_program.specs.Program.{EndsBy, IsAccepted, IsCut, IsDone, IsEnd, read_fault_of, unasked_outcome_of};
+ghost use Rattle.flame_program.specs.Program.{EndsBy, InputDecides, IsCut, IsDone, IsEnd, read_fault_of, unasked_outcome_of};
 ghost use Rattle.flame_program.specs.Words.{IsMisnamed, IsRefused, request_of, texts_of};
-ghost use Rattle.flame_answers.specs.declared.request.Request.{Request};
 
 use crate::words::{WordsFault, read_words};
 use flame_answers::{
@@ -15,8 +14,8 @@ use std::io::{Read, Write};
 
 /// Reads the words, then the whole input, and writes the whole report on it.
 ///
-/// The first word is the program's name. At most `limit` bytes of input are taken, and one more shows that it is too long.
-/// Nothing is written before the whole text is made.
+/// The first word is the program's name. At most `limit` bytes of input are taken, and one more shows that it is too
+/// long. Nothing is written before the whole text is made.
 pub fn run<'a, R: Read, W: Write>(
     alloc: Global,
     words: &'a [&'a str],
@@ -29,12 +28,10 @@ pub fn run<'a, R: Read, W: Write>(
     ensures ends { IsEnd (texts_of words.entry.now) limit (R.remaining reader.old) (R.remaining reader.new)
         (W.contents writer.old) (W.contents writer.new) result.code result.cause }
     // At 0 the input was read to its end, and exactly the report on the rows that it spells was appended.
-    ensures done { result.code ≡ 0 → IsDone (texts_of words.entry.now) limit (R.remaining reader.old) (R.remaining reader.new)
-        (W.contents writer.old) (W.contents writer.new) }
+    ensures done { result.code ≡ 0 → IsDone (texts_of words.entry.now) limit
+        (R.remaining reader.old) (R.remaining reader.new) (W.contents writer.old) (W.contents writer.new) }
     // Where the words ask for something, the input alone decides, but where the streams or memory failed.
-    ensures decided { IfSome (R.remaining reader.old) (λ input. (request : Request) → request_of (texts_of words.entry.now) ≡ Some request
-        → result.code ≢ 3 → result.code ≢ 4
-        → ((result.code ≡ 0) ↔ IsAccepted request limit input) × ((result.code ≡ 1) ↔ ¬ IsAccepted request limit input)) }
+    ensures decided { InputDecides (texts_of words.entry.now) limit (R.remaining reader.old) result.code }
     // Words that ask for nothing end with 2, want of memory aside, and no others do.
     ensures refused { result.code ≡ 2 → IsRefused (texts_of words.entry.now) ⊎ IsMisnamed (texts_of words.entry.now) }
     ensures unasked { request_of (texts_of words.entry.now) ≡ None → result.code ≢ 4 → result.code ≡ 2 }

@@ -41,8 +41,8 @@ impl From<AllocError> for WordsFault {
 ///
 /// # Errors
 ///
-/// `Refused` exactly where the command refuses the words, an option has a value that it can't have, or the words ask for help;
-/// `BadName` where only a focus or an ignored name is wrong; `NoMemory`.
+/// `Refused` exactly where the command refuses the words, an option has a value that it can't have, or the words ask
+/// for help; `BadName` where only a focus or an ignored name is wrong; `NoMemory`.
 pub fn read_words<'a>(alloc: Global, words: &'a [&'a str]) -> Result<Request, WordsFault>
     ensures { IsReadAs (reading_of (texts_of words.entry.now)) result }
 {
@@ -101,7 +101,8 @@ fn named_report(
     options: &ArgMatches<'_>,
 ) -> Result<Request, WordsFault>
     ensures { IsReadAs (named_report kind format (first_of (codes "value") (rows_of (found_of options.now)))
-        (first_of (codes "focus") (rows_of (found_of options.now))) (first_of (codes "ignore") (rows_of (found_of options.now)))) result }
+        (first_of (codes "focus") (rows_of (found_of options.now)))
+        (first_of (codes "ignore") (rows_of (found_of options.now)))) result }
 {
     let focus = name_from(alloc, given(options, "focus"))?;
     let ignore = name_from(alloc, given(options, "ignore"))?;
@@ -119,7 +120,8 @@ fn named_report(
 // The name that a text is, where it is given.
 fn name_from(alloc: Global, text: Option<&str>) -> Result<Option<Name>, WordsFault>
     ensures { MatchResult result
-        (λ name. (name ≡ option_map (λ t. t.now) text.entry) × (is_name_if_given (option_map (λ t. t.now) text.entry) ≡ true))
+        (λ name. (name ≡ option_map (λ t. t.now) text.entry)
+        × (is_name_if_given (option_map (λ t. t.now) text.entry) ≡ true))
         (IsNameFault (option_map (λ t. t.now) text.entry)) }
 {
     let Some(text) = text else {
@@ -163,7 +165,8 @@ fn value_refusal(alloc: Global, options: &ArgMatches<'_>) -> WordsFault
 
 // What is said of an error of the command.
 fn error_refusal(alloc: Global, error: &Error) -> WordsFault
-    ensures { (reading : Reading) → (kind_of error.now ≡ ErrorKind.OutOfMemory) ⊎ (reading ≡ refused) → IsUnread reading result }
+    ensures { (reading : Reading) → (kind_of error.now ≡ ErrorKind.OutOfMemory) ⊎ (reading ≡ refused)
+        → IsUnread reading result }
 {
     match error.kind() {
         ErrorKind::OutOfMemory => WordsFault::NoMemory,

@@ -2,7 +2,9 @@
 
 mod fakes;
 mod faults;
+mod large;
 mod options;
 mod parts;
+mod process;
 mod profiles;
 mod reports;

@@ -1,4 +1,4 @@
-//! A reader and a writer that move few bytes at a time and then fail, and a run on given bytes.
+//! A reader and a writer that move few bytes at a time and fail once, and a run on given bytes.
 use flame_answers::{MAX_INPUT, Status};
 use flame_program::run;
 use std::alloc::{AllocError, Global};
@@ -11,19 +11,24 @@ pub static TOP: [&str; 2] = ["flame", "top"];
 /// The words that ask for equal stacks added up.
 pub static FOLD: [&str; 2] = ["flame", "fold"];
 
-/// Gives one byte at each read, and fails at the read after so many.
+/// Gives one byte at each read, but fails once, at the read after so many.
 #[derive(Drop)]
 pub struct Dripping<'a> {
     pub rest: &'a [u8],
-    pub reads_left: usize,
+    pub reads_to_fault: Option<usize>,
+    pub fault: ErrorKind,
 }
 
 impl Read for Dripping<'_> {
     fn read(&mut self, buf: &mut [u8]) -> io::Result<usize> {
-        if self.reads_left == 0 {
-            return Err(io::Error::from(ErrorKind::Interrupted));
+        match self.reads_to_fault {
+            Some(0) => {
+                self.reads_to_fault = None;
+                return Err(io::Error::from(self.fault));
+            }
+            Some(reads) => self.reads_to_fault = Some(reads - 1),
+            None => {}
         }
-        self.reads_left -= 1;
         if buf.is_empty() {
             return Ok(0);
         }
@@ -38,14 +43,15 @@ impl Read for Dripping<'_> {
     }
 }
 
-/// Takes at most `each` bytes at a write, and fails once it has taken so many as there was room for.
+/// Takes at most `each` bytes at a write, but fails once, where it has taken so many as there was room for.
 #[derive(Drop)]
 pub struct Narrow {
     pub taken: Vec<u8>,
-    pub room: usize,
+    pub room: Option<usize>,
     pub each: usize,
-    pub is_flushed: bool,
+    pub fault: ErrorKind,
     pub fails_at_flush: bool,
+    pub is_flushed: bool,
 }
 
 impl Narrow {
@@ -53,28 +59,34 @@ impl Narrow {
     pub fn new(alloc: Global, room: usize, each: usize) -> Narrow {
         Narrow {
             taken: Vec::new(alloc),
-            room,
+            room: Some(room),
             each,
-            is_flushed: false,
+            fault: ErrorKind::Interrupted,
             fails_at_flush: false,
+            is_flushed: false,
         }
     }
 }
 
 impl Write for Narrow {
     fn write(&mut self, buf: &[u8]) -> io::Result<usize> {
-        if self.room == 0 {
-            return Err(io::Error::from(ErrorKind::Interrupted));
+        let room = self.room.unwrap_or(buf.len());
+        if room == 0 && self.room.is_some() {
+            self.room = None;
+            return Err(io::Error::from(self.fault));
         }
-        let count = buf.len().min(self.each).min(self.room);
+        let count = buf.len().min(self.each).min(room);
         self.taken.extend_from_slice(&buf[..count])?;
-        self.room -= count;
+        if self.room.is_some() {
+            self.room = Some(room - count);
+        }
         Ok(count)
     }
 
     fn flush(&mut self) -> io::Result<()> {
         if self.fails_at_flush {
-            return Err(io::Error::from(ErrorKind::Other));
+            self.fails_at_flush = false;
+            return Err(io::Error::from(self.fault));
         }
         self.is_flushed = true;
         Ok(())

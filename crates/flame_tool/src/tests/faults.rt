@@ -1,7 +1,8 @@
 //! The statuses other than 0, and what the program says of them.
-use super::fakes::{Dripping, Narrow, TOP, repeated, run_on};
-use flame_answers::{MAX_INPUT, Outcome};
+use super::fakes::{Dripping, FOLD, Narrow, TOP, repeated, run_on};
+use flame_answers::MAX_INPUT;
 use flame_program::run;
+use std::io::ErrorKind;
 use std::test::Fail;
 
 const STORED: &[u8] = b"main;a;b 3\nmain;a 2\nmain;c 5\n";
@@ -38,22 +39,26 @@ fn deepest_stack(rt: HostRuntime) -> Result<(), Fail> {
     let alloc = rt.alloc();
     let mut deepest = repeated(alloc, b"a;", 65_534)?;
     deepest.extend_from_slice(b"a 1\n")?;
-    let (status, _written) = run_on(alloc, TOP.as_slice(), deepest.as_slice(), MAX_INPUT);
-    assert_eq!(rt; status.code, 0);
+    for words in [TOP, FOLD] {
+        let (status, _) = run_on(alloc, words.as_slice(), deepest.as_slice(), MAX_INPUT);
+        assert_eq!(rt; status.code, 0);
+    }
     let mut deeper = repeated(alloc, b"a;", 65_535)?;
     deeper.extend_from_slice(b"a 1\n")?;
-    let (status, _written) = run_on(alloc, TOP.as_slice(), deeper.as_slice(), MAX_INPUT);
-    assert_eq!(rt;
-        status.cause.to_string(alloc)?.as_str(),
-        "flame: F4 Depth line 1\n"
-    );
-    assert_eq!(rt; status.code, 1);
+    for words in [TOP, FOLD] {
+        let (status, _) = run_on(alloc, words.as_slice(), deeper.as_slice(), MAX_INPUT);
+        assert_eq!(rt;
+            status.cause.to_string(alloc)?.as_str(),
+            "flame: F4 Depth line 1\n"
+        );
+        assert_eq!(rt; status.code, 1);
+    }
     Ok(())
 }
 
 #[test]
 fn refused_words(rt: HostRuntime) -> Result<(), Fail> {
-    let cases: [(&[&str], &str); 11] = [
+    let cases: [(&[&str], &str); 13] = [
         (&[], "Usage: "),
         (&["flame"], "Usage: flame"),
         (&["flame", "nope"], "unrecognized subcommand 'nope'"),
@@ -67,6 +72,14 @@ fn refused_words(rt: HostRuntime) -> Result<(), Fail> {
         (
             &["flame", "top", "--by", "size"],
             "invalid value 'size' for '--by': flat or cum",
+        ),
+        (
+            &["flame", "top", "--count", "x"],
+            "error: invalid value 'x' for '--count': a number from 0 to 4294967295\n",
+        ),
+        (
+            &["flame", "fold", "--format", "x"],
+            "error: invalid value 'x' for '--format': folded or pprof\n",
         ),
         (
             &["flame", "top", "--count", "-1"],
@@ -103,9 +116,13 @@ fn input_limit(rt: HostRuntime) -> Result<(), Fail> {
     let (status, written) = run_on(rt.alloc(), TOP.as_slice(), b"a 12", 4);
     assert_eq!(rt; status.code, 0);
     assert_eq!(rt; written.as_slice(), b"total 12\n12 12 a\n".as_slice());
+    let (status, written) = run_on(rt.alloc(), FOLD.as_slice(), b"a 12", 4);
+    assert_eq!(rt; status.code, 0);
+    assert_eq!(rt; written.as_slice(), b"a 12\n".as_slice());
     let mut reader = Dripping {
         rest: STORED,
-        reads_left: 4,
+        reads_to_fault: Some(4),
+        fault: ErrorKind::Interrupted,
     };
     let mut writer = Narrow::new(rt.alloc(), 100, 100);
     let status = run(rt.alloc(), TOP.as_slice(), &mut reader, &mut writer, 3);
@@ -119,10 +136,16 @@ fn input_limit(rt: HostRuntime) -> Result<(), Fail> {
 
 #[test]
 fn each_read_failing_in_turn(rt: HostRuntime) -> Result<(), Fail> {
-    for reads_left in 0..STORED.len() + 2 {
+    for reads in 0..STORED.len() + 2 {
+        let fault = if reads % 2 == 0 {
+            ErrorKind::Interrupted
+        } else {
+            ErrorKind::WouldBlock
+        };
         let mut reader = Dripping {
             rest: STORED,
-            reads_left,
+            reads_to_fault: Some(reads),
+            fault,
         };
         let mut writer = Narrow::new(rt.alloc(), 100, 100);
         let status = run(
@@ -132,15 +155,15 @@ fn each_read_failing_in_turn(rt: HostRuntime) -> Result<(), Fail> {
             &mut writer,
             MAX_INPUT,
         );
-        if reads_left <= STORED.len() {
-            assert_eq!(rt; status.code, 3, "{reads_left}");
+        if reads <= STORED.len() {
+            assert_eq!(rt; status.code, 3, "{reads}");
             assert_eq!(rt;
                 status.cause.to_string(rt.alloc())?.as_str(),
                 "flame: E1 Read\n"
             );
-            assert!(rt; writer.taken.is_empty(), "{reads_left}");
+            assert!(rt; writer.taken.is_empty(), "{reads}");
         } else {
-            assert_eq!(rt; status.code, 0, "{reads_left}");
+            assert_eq!(rt; status.code, 0, "{reads}");
         }
     }
     Ok(())
@@ -148,10 +171,16 @@ fn each_read_failing_in_turn(rt: HostRuntime) -> Result<(), Fail> {
 
 #[test]
 fn failing_writers(rt: HostRuntime) -> Result<(), Fail> {
-    let cases: [(usize, usize, &[u8]); 3] = [(5, 5, b"total"), (5, 2, b"total"), (5, 0, b"")];
-    for (room, each, part) in cases {
+    let cases: [(usize, usize, ErrorKind, &[u8]); 4] = [
+        (5, 5, ErrorKind::Interrupted, b"total"),
+        (5, 2, ErrorKind::WouldBlock, b"total"),
+        (0, 5, ErrorKind::Other, b""),
+        (5, 0, ErrorKind::Interrupted, b""),
+    ];
+    for (room, each, fault, part) in cases {
         let mut reader = STORED;
         let mut writer = Narrow::new(rt.alloc(), room, each);
+        writer.fault = fault;
         let status = run(
             rt.alloc(),
             TOP.as_slice(),
@@ -183,10 +212,4 @@ fn failing_flush(rt: HostRuntime) {
     );
     assert_eq!(rt; status.code, 3);
     assert_eq!(rt; writer.taken.as_slice(), b"total 12\n12 12 a\n".as_slice());
-}
-
-#[test]
-fn nothing_said_when_done(rt: HostRuntime) -> Result<(), Fail> {
-    assert!(rt; Outcome::Done.to_string(rt.alloc())?.is_empty());
-    Ok(())
 }

@@ -37,7 +37,11 @@ fn reports_with_options(rt: HostRuntime) {
         ),
         (
             &["flame", "flame", "--columns", "1"],
-            b"{\"columns\":1,\"rects\":[{\"depth\":0,\"left\":0,\"name\":\"\",\"right\":1,\"weight\":10,\"x\":0},{\"depth\":1,\"left\":0,\"name\":\"main\",\"right\":1,\"weight\":10,\"x\":0},{\"depth\":2,\"left\":0,\"name\":\"c\",\"right\":1,\"weight\":5,\"x\":5}],\"total\":10}\n",
+            b"{\"columns\":1,\"rects\":[\
+              {\"depth\":0,\"left\":0,\"name\":\"\",\"right\":1,\"weight\":10,\"x\":0},\
+              {\"depth\":1,\"left\":0,\"name\":\"main\",\"right\":1,\"weight\":10,\"x\":0},\
+              {\"depth\":2,\"left\":0,\"name\":\"c\",\"right\":1,\"weight\":5,\"x\":5}\
+              ],\"total\":10}\n",
         ),
     ];
     for (place, (words, report)) in cases.iter().enumerate() {

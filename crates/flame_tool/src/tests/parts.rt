@@ -1,6 +1,7 @@
 //! Reading and writing in parts.
 use super::fakes::{Dripping, Narrow, repeated};
 use flame_answers::{MAX_INPUT, ReadFault, read_input, write_text};
+use std::io::ErrorKind;
 use std::test::Fail;
 
 // More than one read asks for.
@@ -35,7 +36,8 @@ fn stops_at_one_byte_past_the_limit(rt: HostRuntime) -> Result<(), Fail> {
 fn an_interrupted_read_is_a_fault(rt: HostRuntime) {
     let mut reader = Dripping {
         rest: b"abc",
-        reads_left: 2,
+        reads_to_fault: Some(2),
+        fault: ErrorKind::Interrupted,
     };
     let fault = read_input(rt.alloc(), &mut reader, 10).err();
     assert_eq!(rt; fault, Some(ReadFault::Read));

@@ -2,6 +2,7 @@
 use super::fakes::{Dripping, FOLD, Narrow, TOP, run_on};
 use flame_answers::MAX_INPUT;
 use flame_program::run;
+use std::io::ErrorKind;
 use std::test::Fail;
 
 const STORED: &[u8] = b"main;a;b 3\nmain;a 2\nmain;c 5\n";
@@ -37,8 +38,9 @@ fn top_reports(rt: HostRuntime) {
 
 #[test]
 fn fold_reports(rt: HostRuntime) {
-    let cases: [(&str, &[u8], &[u8]); 8] = [
+    let cases: [(&str, &[u8], &[u8]); 9] = [
         ("fold_of_empty_input", b"", b""),
+        ("line_ends", b"a 1\r\n\na 2", b"a 3\n"),
         (
             "fold_adds_equal_stacks",
             b"a;b 2\na 1\na;b 3\n",
@@ -74,7 +76,8 @@ fn fold_reports(rt: HostRuntime) {
 fn streams_of_one_byte_change_nothing(rt: HostRuntime) {
     let mut reader = Dripping {
         rest: STORED,
-        reads_left: 100,
+        reads_to_fault: None,
+        fault: ErrorKind::Interrupted,
     };
     let mut writer = Narrow::new(rt.alloc(), 100, 1);
     let status = run(

@@ -1,0 +1,170 @@
+//! The program in a process: its words and its three streams, its exit status, and what it says of its end.
+ghost use Rattle.std.specs.Prelude.{◌≡◌, IfOk, IfErr, map, string_bytes};
+ghost use Rattle.std.specs.IoError.{error_kind};
+ghost use Rattle.std.specs.Process.{exit_status};
+ghost use Rattle.std.specs.Vec.Iter.{into_iter_items};
+ghost use Rattle.flame_answers.specs.Outcomes.{code_of};
+ghost use Rattle.flame_program.specs.Process.{IsSaid, IsUnreadCause, IsUnreadEnd};
+ghost use Rattle.flame_program.specs.Program.{InputDecides, IsDone, IsEnd};
+ghost use Rattle.flame_program.specs.Words.{texts_of};
+
+use crate::program::run;
+use flame_answers::{MAX_INPUT, Outcome, Status, ToolFault};
+use std::alloc::{AllocError, Global};
+use std::env::Args;
+use std::io;
+use std::io::{ErrorKind, Read, Write};
+use std::process::ExitCode;
+
+/// How a process ends.
+#[derive(Drop)]
+pub struct End {
+    /// The exit status.
+    pub code: ExitCode,
+    /// Whether the error writer took what there is to say.
+    pub said: io::Result<()>,
+}
+
+/// The whole program, over the words and the three streams of a process.
+///
+/// The first word is the program's name. At most 268,435,456 bytes of input are taken. The writer gets the report
+/// alone, and the error writer what there is to say of another end.
+pub fn run_process<R: Read, W: Write, E: Write>(
+    alloc: Global,
+    words: io::Result<Args>,
+    reader: &mut R,
+    writer: &mut W,
+    errors: &mut E,
+) -> End
+    // The exit status is the cause's, the cause says what was read and what was written, and it is said.
+    ensures ends { IfOk words (λ words. (cause : Outcome) × IsEnd (map string_bytes (into_iter_items words)) 268435456
+        (R.remaining reader.old) (R.remaining reader.new) (W.contents writer.old) (W.contents writer.new)
+        (exit_status result.code) cause × IsSaid (E.contents errors.old) (E.contents errors.new) cause result.said) }
+    // At 0 the input was read to its end, and exactly the report on the rows that it spells was written.
+    ensures done { exit_status result.code ≡ 0 → IfOk words (λ words.
+        IsDone (map string_bytes (into_iter_items words)) 268435456
+        (R.remaining reader.old) (R.remaining reader.new) (W.contents writer.old) (W.contents writer.new)) }
+    // Where the words ask for something, the input alone decides, but where the streams or memory failed.
+    ensures decided { IfOk words (λ words. InputDecides (map string_bytes (into_iter_items words)) 268435456
+        (R.remaining reader.old) (exit_status result.code)) }
+    // Where the words can't be had, nothing is read or written, and it ends with 2 and a text that says so, or with 4.
+    ensures unread { IfErr words (λ error. (cause : Outcome) × IsUnreadEnd (error_kind error)
+        (R.remaining reader.old) (R.remaining reader.new) (W.contents writer.old) (W.contents writer.new)
+        (exit_status result.code) cause × IsSaid (E.contents errors.old) (E.contents errors.new) cause result.said) }
+{
+    let status = run_words(alloc, words, reader, writer);
+    End {
+        code: exit_code(&status),
+        said: say(errors, &status.cause),
+    }
+}
+
+// The exit status of a process that ends so.
+fn exit_code(status: &Status) -> ExitCode
+    ensures { exit_status result ≡ status.now.code }
+{
+    ExitCode::from(status.code)
+}
+
+// Says the cause on the error writer: nothing where the report was written.
+fn say<E: Write>(errors: &mut E, cause: &Outcome) -> io::Result<()>
+    ensures { IsSaid (E.contents errors.old) (E.contents errors.new) cause.now result }
+{
+    write!(errors, "{cause}")
+}
+
+// Runs on the words, where they can be had.
+fn run_words<R: Read, W: Write>(
+    alloc: Global,
+    words: io::Result<Args>,
+    reader: &mut R,
+    writer: &mut W,
+) -> Status
+    ensures ends { IfOk words (λ words. IsEnd (map string_bytes (into_iter_items words)) 268435456
+        (R.remaining reader.old) (R.remaining reader.new) (W.contents writer.old) (W.contents writer.new)
+        result.code result.cause) }
+    ensures done { result.code ≡ 0 → IfOk words (λ words. IsDone (map string_bytes (into_iter_items words)) 268435456
+        (R.remaining reader.old) (R.remaining reader.new) (W.contents writer.old) (W.contents writer.new)) }
+    ensures decided { IfOk words (λ words. InputDecides (map string_bytes (into_iter_items words)) 268435456
+        (R.remaining reader.old) result.code) }
+    ensures unread { IfErr words (λ error. IsUnreadEnd (error_kind error)
+        (R.remaining reader.old) (R.remaining reader.new) (W.contents writer.old) (W.contents writer.new)
+        result.code result.cause) }
+{
+    match words {
+        Ok(words) => run_args(alloc, words, reader, writer),
+        Err(error) => unread_words(alloc, &error),
+    }
+}
+
+// Runs on all of the words.
+fn run_args<R: Read, W: Write>(alloc: Global, words: Args, reader: &mut R, writer: &mut W) -> Status
+    ensures ends { IsEnd (map string_bytes (into_iter_items words)) 268435456
+        (R.remaining reader.old) (R.remaining reader.new) (W.contents writer.old) (W.contents writer.new)
+        result.code result.cause }
+    ensures done { result.code ≡ 0 → IsDone (map string_bytes (into_iter_items words)) 268435456
+        (R.remaining reader.old) (R.remaining reader.new) (W.contents writer.old) (W.contents writer.new) }
+    ensures decided { InputDecides (map string_bytes (into_iter_items words)) 268435456 (R.remaining reader.old)
+        result.code }
+{
+    match owned_words(alloc, words) {
+        Ok(words) => run_texts(alloc, words.as_slice(), reader, writer),
+        Err(_) => no_memory(),
+    }
+}
+
+// The words that are left.
+fn owned_words(alloc: Global, words: Args) -> Result<Vec<String>, AllocError>
+    ensures { IfOk result (λ owned. owned.items ≡ into_iter_items words) }
+{
+    words.collect(alloc)
+}
+
+// Runs on the texts of the words.
+fn run_texts<R: Read, W: Write>(
+    alloc: Global,
+    words: &[String],
+    reader: &mut R,
+    writer: &mut W,
+) -> Status
+    ensures ends { IsEnd (map string_bytes words.now) 268435456
+        (R.remaining reader.old) (R.remaining reader.new) (W.contents writer.old) (W.contents writer.new)
+        result.code result.cause }
+    ensures done { result.code ≡ 0 → IsDone (map string_bytes words.now) 268435456
+        (R.remaining reader.old) (R.remaining reader.new) (W.contents writer.old) (W.contents writer.new) }
+    ensures decided { InputDecides (map string_bytes words.now) 268435456 (R.remaining reader.old) result.code }
+{
+    match texts_in(alloc, words) {
+        Ok(texts) => run(alloc, texts.as_slice(), reader, writer, MAX_INPUT),
+        Err(_) => no_memory(),
+    }
+}
+
+// The texts of words.
+fn texts_in<'a>(alloc: Global, words: &'a [String]) -> Result<Vec<&'a str>, AllocError>
+    ensures { IfOk result (λ texts. texts_of texts.items ≡ map string_bytes words.entry.now) }
+{
+    words.iter().map(|word| word.as_str()).collect(alloc)
+}
+
+// The end of a run for which memory ran out.
+fn no_memory() -> Status
+    ensures cause { result.cause ≡ Outcome.Fault ToolFault.NoMemory }
+    ensures code { result.code ≡ 4 }
+{
+    Status::of(Outcome::Fault(ToolFault::NoMemory))
+}
+
+// The end of a run whose words can't be had: some word isn't text, or memory ran out.
+fn unread_words(alloc: Global, error: &io::Error) -> Status
+    ensures code { result.code ≡ code_of result.cause }
+    ensures cause { IsUnreadCause (error_kind error.now) result.cause }
+{
+    if error.kind() == ErrorKind::OutOfMemory {
+        return no_memory();
+    }
+    match format!(in alloc; "error: the words aren't text: {error}\n") {
+        Ok(text) => Status::of(Outcome::Words(text)),
+        Err(_) => no_memory(),
+    }
+}

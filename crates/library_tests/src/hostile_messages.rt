@@ -35,18 +35,24 @@ fn place_of(fault: ProfileFault) -> usize {
     }
 }
 
+/// Reads the bytes of a profile, which are written as a profile that is written the same again.
+fn write_twice(alloc: Global, bytes: &[u8]) -> Result<(), Fail> {
+    let written = encoded_again(alloc, bytes)?;
+    let again = encoded_again(alloc, written.as_slice())?;
+    if again.as_slice() != written.as_slice() {
+        return Err(Fail::from("not the same again"));
+    }
+    Ok(())
+}
+
 /// Counts what the bytes answer. What is written of a profile is that profile again.
 fn count(alloc: Global, bytes: &[u8], tally: &mut Tally) -> Result<(), Fail> {
-    let place = match decode(alloc, bytes) {
-        Ok(_) => {
-            let written = encoded_again(alloc, bytes)?;
-            let again = encoded_again(alloc, written.as_slice())?;
-            if again.as_slice() != written.as_slice() {
-                return Err(Fail::from("not the same again"));
-            }
+    let place = match decode(alloc, bytes).err() {
+        None => {
+            write_twice(alloc, bytes)?;
             0
         }
-        Err(fault) => place_of(fault),
+        Some(fault) => place_of(fault),
     };
     let times = tally.get_mut(place).ok_or("a fault that never comes")?;
     *times = times.wrapping_add(1);
@@ -265,13 +271,18 @@ fn many_empty_messages(rt: HostRuntime) -> Result<(), Fail> {
     Ok(())
 }
 
+/// The canonical bytes of the profile with others behind it.
+fn followed_again(alloc: Global, more: &[u8], times: usize) -> Result<Vec<u8>, Fail> {
+    let bytes = followed(alloc, more, times)?;
+    encoded_again(alloc, bytes.as_slice())
+}
+
 #[test]
 fn a_million_period_types(rt: HostRuntime) -> Result<(), Fail> {
     let empty: &[u8] = &[0x5a, 0x00];
     let zero: &[u8] = &[0x5a, 0x02, 0x08, 0x00];
     for more in [empty, zero] {
-        let bytes = followed(rt.alloc(), more, 1_000_000)?;
-        let written = encoded_again(rt.alloc(), bytes.as_slice())?;
+        let written = followed_again(rt.alloc(), more, 1_000_000)?;
         assert_eq!(rt; written.as_slice(), ONE_SAMPLE);
     }
     Ok(())

@@ -1,13 +1,17 @@
-//! Tests of the libraries: what no clause says, worked rows, vectors and strangers' bytes. They stand together in a crate of their
-//! own, since proving a crate's tests proves the crate once more.
+//! Tests of the libraries: what no clause says, worked rows, vectors and strangers' bytes. They stand together in a
+//! crate of their own, since proving a crate's tests proves the crate once more.
 #![tactic(auto)]
 
+#[cfg(test)]
+mod helpers;
 #[cfg(test)]
 mod hostile_messages;
 #[cfg(test)]
 mod messages;
 #[cfg(test)]
 mod reports;
+#[cfg(test)]
+mod samples;
 #[cfg(test)]
 mod stacks;
 #[cfg(test)]

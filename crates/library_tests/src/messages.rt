@@ -1,6 +1,9 @@
+//! What no clause says of profiles: vectors and their variants read and written, the faults, and each field in its
+//! place.
+
 use pprof_profile::{
-    Draft, Function, Items, Label, Line, Location, Mapping, Profile, ProfileFault, Sample, Text,
-    ValueType, WireFault, WrittenSamples, check, decode, encode, encode_around,
+    Draft, Function, Items, Label, Line, Location, Mapping, Profile, ProfileFault, Refused, Sample,
+    Text, ValueType, WireFault, WrittenSamples, check, decode, encode, encode_around,
 };
 use std::alloc::Global;
 use std::test::Fail;
@@ -52,10 +55,14 @@ pub(crate) const SEMICOLON_IN_NAME: &[u8] = &[
     0x63, 0x70, 0x75, 0x32, 0x02, 0x6e, 0x73, 0x32, 0x03, 0x4c, 0x78, 0x3b,
 ];
 
+fn written(alloc: Global, profile: &Profile) -> Result<Vec<u8>, Fail> {
+    Ok(encode(alloc, profile)?)
+}
+
 /// The canonical bytes of the profile that the bytes spell.
 pub(crate) fn encoded_again(alloc: Global, bytes: &[u8]) -> Result<Vec<u8>, Fail> {
     let profile = decode(alloc, bytes)?;
-    Ok(encode(alloc, &profile)?)
+    written(alloc, &profile)
 }
 
 #[test]
@@ -610,9 +617,9 @@ fn cut_profiles(rt: HostRuntime) {
     }
 }
 
-/// A profile with another number in each field, and its bytes, written by a small encoder outside this repository.
-fn each_field(alloc: Global) -> Result<Draft, Fail> {
-    let mut draft = Draft {
+/// A draft without messages and strings, with another number in each field.
+fn numbers_alone(alloc: Global) -> Draft {
+    Draft {
         sample_types: Items::empty(alloc),
         samples: Items::empty(alloc),
         mappings: Items::empty(alloc),
@@ -627,14 +634,10 @@ fn each_field(alloc: Global) -> Result<Draft, Fail> {
         period: 7,
         comments: Items::empty(alloc),
         default_sample_type: 8,
-    };
-    draft.sample_types.push(ValueType { kind: 1, unit: 2 })?;
-    draft.comments.push(9)?;
-    let mut sample = Sample {
-        location_ids: Items::empty(alloc),
-        values: Items::empty(alloc),
-        labels: Items::empty(alloc),
-    };
+    }
+}
+
+fn fill_sample(sample: &mut Sample) -> Result<(), Fail> {
     sample.location_ids.push(300)?;
     sample.values.push(-1)?;
     sample.labels.push(Label {
@@ -643,7 +646,21 @@ fn each_field(alloc: Global) -> Result<Draft, Fail> {
         num: 3,
         num_unit: 4,
     })?;
-    draft.samples.push(sample)?;
+    Ok(())
+}
+
+fn add_sample(alloc: Global, draft: &mut Draft) -> Result<(), Fail> {
+    let mut sample = Sample {
+        location_ids: Items::empty(alloc),
+        values: Items::empty(alloc),
+        labels: Items::empty(alloc),
+    };
+    fill_sample(&mut sample)?;
+    draft.samples.push(sample).ok().ok_or("no memory")?;
+    Ok(())
+}
+
+fn add_mapping(draft: &mut Draft) -> Result<(), Fail> {
     draft.mappings.push(Mapping {
         id: 11,
         memory_start: 12,
@@ -656,6 +673,10 @@ fn each_field(alloc: Global) -> Result<Draft, Fail> {
         has_line_numbers: true,
         has_inline_frames: true,
     })?;
+    Ok(())
+}
+
+fn add_location(alloc: Global, draft: &mut Draft) -> Result<(), Fail> {
     let mut location = Location {
         id: 300,
         mapping_id: 11,
@@ -667,7 +688,11 @@ fn each_field(alloc: Global) -> Result<Draft, Fail> {
         function_id: 21,
         line: 22,
     })?;
-    draft.locations.push(location)?;
+    draft.locations.push(location).ok().ok_or("no memory")?;
+    Ok(())
+}
+
+fn add_function(draft: &mut Draft) -> Result<(), Fail> {
     draft.functions.push(Function {
         id: 21,
         name: 1,
@@ -675,10 +700,33 @@ fn each_field(alloc: Global) -> Result<Draft, Fail> {
         filename: 3,
         start_line: 4,
     })?;
-    draft.strings.push(Text::copied(alloc, "")?)?;
+    Ok(())
+}
+
+fn add_string(alloc: Global, draft: &mut Draft, text: &str) -> Result<(), Fail> {
+    let text = Text::copied(alloc, text)?;
+    draft.strings.push(text).ok().ok_or("no memory")?;
+    Ok(())
+}
+
+fn fill(alloc: Global, draft: &mut Draft) -> Result<(), Fail> {
+    draft.sample_types.push(ValueType { kind: 1, unit: 2 })?;
+    draft.comments.push(9)?;
+    add_sample(alloc, draft)?;
+    add_mapping(draft)?;
+    add_location(alloc, draft)?;
+    add_function(draft)?;
+    add_string(alloc, draft, "")?;
     for _ in 0..9 {
-        draft.strings.push(Text::copied(alloc, "é")?)?;
+        add_string(alloc, draft, "é")?;
     }
+    Ok(())
+}
+
+/// A profile with another number in each field, whose bytes were written by a small encoder outside this repository.
+fn each_field(alloc: Global) -> Result<Draft, Fail> {
+    let mut draft = numbers_alone(alloc);
+    fill(alloc, &mut draft)?;
     Ok(draft)
 }
 
@@ -695,69 +743,110 @@ pub(crate) const EACH_FIELD: &[u8] = &[
     0x6a, 0x01, 0x09, 0x70, 0x08,
 ];
 
-/// The profile of that draft.
-fn profile_of_each_field(alloc: Global) -> Result<Profile, Fail> {
-    match check(alloc, each_field(alloc)?) {
-        Ok(profile) => Ok(profile),
-        Err(_) => Err("the draft is valid".into()),
-    }
+fn checked(alloc: Global, draft: Draft) -> Result<Profile, Fail> {
+    Ok(check(alloc, draft).ok().ok_or("the draft is valid")?)
+}
+
+/// The canonical bytes of a valid draft.
+fn encoded(alloc: Global, draft: Draft) -> Result<Vec<u8>, Fail> {
+    let profile = checked(alloc, draft)?;
+    written(alloc, &profile)
+}
+
+/// All fields of a profile, as `{:?}` prints them.
+fn printed(alloc: Global, profile: &Profile) -> Result<String, Fail> {
+    Ok(format!(in alloc; "{profile:?}")?)
+}
+
+fn printed_each_field(alloc: Global) -> Result<String, Fail> {
+    let profile = checked(alloc, each_field(alloc)?)?;
+    printed(alloc, &profile)
+}
+
+fn printed_of(alloc: Global, bytes: &[u8]) -> Result<String, Fail> {
+    let profile = decode(alloc, bytes)?;
+    printed(alloc, &profile)
 }
 
 #[test]
 fn each_field_is_written_in_its_place(rt: HostRuntime) -> Result<(), Fail> {
-    let profile = profile_of_each_field(rt.alloc())?;
-    let written = encode(rt.alloc(), &profile)?;
+    let written = encoded(rt.alloc(), each_field(rt.alloc())?)?;
     assert_eq!(rt; written.as_slice(), EACH_FIELD);
     Ok(())
 }
 
 #[test]
 fn each_field_is_read_from_its_place(rt: HostRuntime) -> Result<(), Fail> {
-    let want = format!(in rt.alloc(); "{:?}", profile_of_each_field(rt.alloc())?)?;
-    let read = format!(in rt.alloc(); "{:?}", decode(rt.alloc(), EACH_FIELD)?)?;
+    let want = printed_each_field(rt.alloc())?;
+    let read = printed_of(rt.alloc(), EACH_FIELD)?;
     assert_eq!(rt; read.as_str(), want.as_str());
     Ok(())
 }
 
+/// A draft with an index that names no string, as it is handed back.
+fn handed_back(alloc: Global) -> Result<Refused<Draft>, Fail> {
+    let mut draft = decode(alloc, ONE_SAMPLE)?.into_draft();
+    draft.default_sample_type = 4;
+    Ok(check(alloc, draft).err().ok_or("an index is too large")?)
+}
+
 #[test]
 fn drafts_are_handed_back(rt: HostRuntime) -> Result<(), Fail> {
-    let mut draft = decode(rt.alloc(), ONE_SAMPLE)?.into_draft();
-    draft.default_sample_type = 4;
-    let Err(refused) = check(rt.alloc(), draft) else {
-        return Err("an index is too large".into());
-    };
+    let refused = handed_back(rt.alloc())?;
     assert_eq!(rt; refused.fault, ProfileFault::StringIndex);
-    let mut back = refused.back;
-    assert_eq!(rt; back.default_sample_type, 4);
-    back.default_sample_type = 0;
-    let Ok(profile) = check(rt.alloc(), back) else {
-        return Err("the draft is valid".into());
-    };
-    assert_eq!(rt; profile.draft().samples.len(), 1);
-    assert_eq!(rt; encode(rt.alloc(), &profile)?.as_slice(), ONE_SAMPLE);
+    assert_eq!(rt; refused.back.default_sample_type, 4);
     Ok(())
 }
 
 #[test]
-fn samples_are_written_when_they_come(rt: HostRuntime) -> Result<(), Fail> {
-    let profile = decode(rt.alloc(), ONE_SAMPLE)?;
-    let mut samples = WrittenSamples::new(rt.alloc());
+fn drafts_that_were_handed_back_can_be_mended(rt: HostRuntime) -> Result<(), Fail> {
+    let mut draft = handed_back(rt.alloc())?.back;
+    draft.default_sample_type = 0;
+    let written = encoded(rt.alloc(), draft)?;
+    assert_eq!(rt; written.as_slice(), ONE_SAMPLE);
+    Ok(())
+}
+
+/// A profile with a sample of location 1 and of value 7 in the place of its own samples.
+fn encoded_around(alloc: Global, profile: &Profile) -> Result<Vec<u8>, Fail> {
+    let mut samples = WrittenSamples::new(alloc);
     samples.push(&[1], &[7])?;
-    let written = encode_around(rt.alloc(), profile.draft(), &samples)?;
+    Ok(encode_around(alloc, profile.draft(), &samples)?)
+}
+
+fn encoded_around_of(alloc: Global, bytes: &[u8]) -> Result<Vec<u8>, Fail> {
+    let profile = decode(alloc, bytes)?;
+    encoded_around(alloc, &profile)
+}
+
+#[test]
+fn samples_are_written_when_they_come(rt: HostRuntime) -> Result<(), Fail> {
+    let written = encoded_around_of(rt.alloc(), ONE_SAMPLE)?;
     assert_eq!(rt; written.as_slice(), ONE_SAMPLE);
     Ok(())
 }
 
 #[test]
-fn items_and_texts_give_back_what_they_are_made_of(rt: HostRuntime) -> Result<(), Fail> {
-    let mut numbers = Vec::new(rt.alloc());
-    numbers.push(7u64)?;
-    let mut items = Items::new(numbers);
+fn items_give_back_what_they_are_made_of(rt: HostRuntime) -> Result<(), Fail> {
+    let mut items = Items::new(Vec::from_slice(rt.alloc(), &[7u64])?);
     assert!(rt; !items.is_empty());
     items.push(8)?;
     assert_eq!(rt; items.len(), 2);
     assert_eq!(rt; items.as_slice(), [7, 8].as_slice());
     assert_eq!(rt; items.into_vec().as_slice(), [7, 8].as_slice());
+    Ok(())
+}
+
+#[test]
+fn items_stay_where_room_is_made(rt: HostRuntime) -> Result<(), Fail> {
+    let mut items = Items::new(Vec::from_slice(rt.alloc(), &[7u64])?);
+    items.reserve(100)?;
+    assert_eq!(rt; items.as_slice(), [7].as_slice());
+    Ok(())
+}
+
+#[test]
+fn texts_give_back_what_they_are_made_of(rt: HostRuntime) -> Result<(), Fail> {
     let text = Text::new(String::from_str(rt.alloc(), "cpu")?);
     assert_eq!(rt; text.as_str(), "cpu");
     assert_eq!(rt; text.into_string().as_str(), "cpu");

@@ -1,21 +1,24 @@
-//! What no clause says: that calls succeed with ample memory, and what they answer on worked rows.
+//! What no clause says of reports: that calls succeed with ample memory, and what they answer on worked rows.
 
-use call_tree::Grower;
+use crate::helpers::{plan, rows_of};
+use call_tree::{CallTree, Grower};
 use flame_report::{
-    Answer, Columns, Flame, Kind, MAX_COLUMNS, Query, Rank, flame_json, report, report_of, top_text,
+    Answer, Columns, Flame, Kind, Label, MAX_COLUMNS, Query, Rank, flame_json, report, report_of,
+    top_list, top_text,
 };
-use stack_text::{Batch, MAX_TOTAL, Name, read_folded};
+use stack_text::{Batch, Name, folded_totals};
 use std::alloc::Global;
 use std::test::Fail;
 
 const THREE: &str = "main;a;b 3\nmain;a 2\nmain;c 5\n";
 
-fn all(kind: Kind) -> Query {
-    Query {
-        focus: None,
-        ignore: None,
-        kind,
-    }
+fn top(rank: Rank, count: u32) -> Kind {
+    Kind::Top { rank, count }
+}
+
+fn flame(columns: u32) -> Result<Kind, Fail> {
+    let columns = Columns::new(columns).ok_or("no such columns")?;
+    Ok(Kind::Flame { columns })
 }
 
 fn some_name(alloc: Global, text: &str) -> Result<Option<Name>, Fail> {
@@ -23,24 +26,6 @@ fn some_name(alloc: Global, text: &str) -> Result<Option<Name>, Fail> {
         return Ok(None);
     }
     Ok(Some(Name::make(alloc, text)?))
-}
-
-// What rows with the focus and without the ignored name answer; an empty text is none.
-fn kept(alloc: Global, focus: &str, ignore: &str, kind: Kind) -> Result<Query, Fail> {
-    Ok(Query {
-        focus: some_name(alloc, focus)?,
-        ignore: some_name(alloc, ignore)?,
-        kind,
-    })
-}
-
-fn top(rank: Rank, count: u32) -> Query {
-    all(Kind::Top { rank, count })
-}
-
-fn flame(columns: u32) -> Result<Query, Fail> {
-    let columns = Columns::new(columns).ok_or("no such columns")?;
-    Ok(all(Kind::Flame { columns }))
 }
 
 fn layout_text(alloc: Global, flame: &Flame) -> Result<String, Fail> {
@@ -76,46 +61,75 @@ fn answer_text(alloc: Global, answer: &Answer) -> Result<String, Fail> {
     }
 }
 
-fn batch_of(alloc: Global, input: &str) -> Result<Batch, Fail> {
-    Ok(read_folded(alloc, input.as_bytes())?)
+fn answer_of_rows(alloc: Global, rows: &Batch, query: &Query) -> Result<String, Fail> {
+    answer_text(alloc, &report_of(alloc, rows, query)?)
 }
 
-fn add(alloc: Global, grower: &mut Grower, batch: &Batch) -> Result<(), Fail> {
-    if grower.tree().total() > MAX_TOTAL - batch.total() {
-        return Err("too heavy".into());
-    }
-    let plan = grower.plan(alloc, batch)?;
-    grower.credit(plan);
-    Ok(())
+fn answer_of_tree(alloc: Global, tree: &CallTree, query: &Query) -> Result<String, Fail> {
+    answer_text(alloc, &report(alloc, tree, query)?)
 }
 
-fn grown(alloc: Global, batch: &Batch) -> Result<Grower, Fail> {
+fn grown(alloc: Global, rows: &Batch) -> Result<Grower, Fail> {
     let mut grower = Grower::new(alloc)?;
-    add(alloc, &mut grower, batch)?;
+    plan(alloc, &mut grower, rows, true)?;
     Ok(grower)
 }
 
-// The answer over the batch of a folded text, which its tree must give too.
-fn answered(alloc: Global, input: &str, query: &Query) -> Result<String, Fail> {
-    let batch = batch_of(alloc, input)?;
-    let by_rows = answer_text(alloc, &report_of(alloc, &batch, query)?)?;
-    let grower = grown(alloc, &batch)?;
-    let by_tree = answer_text(alloc, &report(alloc, grower.tree(), query)?)?;
-    if by_rows != by_tree {
+fn answer_by_tree(alloc: Global, rows: &Batch, query: &Query) -> Result<String, Fail> {
+    let grower = grown(alloc, rows)?;
+    answer_of_tree(alloc, grower.tree(), query)
+}
+
+// The answer over rows, which their tree must give too.
+fn answer_by_both(alloc: Global, rows: &Batch, query: &Query) -> Result<String, Fail> {
+    let by_rows = answer_of_rows(alloc, rows, query)?;
+    if by_rows != answer_by_tree(alloc, rows, query)? {
         return Err("the tree answers otherwise".into());
     }
     Ok(by_rows)
 }
 
+fn query_answered(alloc: Global, input: &str, query: &Query) -> Result<String, Fail> {
+    let rows = rows_of(alloc, input)?;
+    answer_by_both(alloc, &rows, query)
+}
+
+// The answer over the rows of folded text with the focus and without the ignored name; an empty text is none.
+fn kept_answered(
+    alloc: Global,
+    input: &str,
+    focus: &str,
+    ignore: &str,
+    kind: Kind,
+) -> Result<String, Fail> {
+    let query = Query {
+        focus: some_name(alloc, focus)?,
+        ignore: some_name(alloc, ignore)?,
+        kind,
+    };
+    query_answered(alloc, input, &query)
+}
+
+// The answer over all rows of folded text.
+fn answered(alloc: Global, input: &str, kind: Kind) -> Result<String, Fail> {
+    kept_answered(alloc, input, "", "", kind)
+}
+
 #[test]
 fn top_by_cumulative_weight(rt: HostRuntime) -> Result<(), Fail> {
-    let alloc = rt.alloc();
+    let by_cum = answered(rt.alloc(), THREE, top(Rank::Cum, 20))?;
     assert_eq!(rt;
-        answered(alloc, THREE, &top(Rank::Cum, 20))?.as_str(),
+        by_cum.as_str(),
         "total 10\n0 10 main\n2 5 a\n5 5 c\n3 3 b\n"
     );
+    Ok(())
+}
+
+#[test]
+fn top_by_flat_weight(rt: HostRuntime) -> Result<(), Fail> {
+    let by_flat = answered(rt.alloc(), THREE, top(Rank::Flat, 20))?;
     assert_eq!(rt;
-        answered(alloc, THREE, &top(Rank::Flat, 20))?.as_str(),
+        by_flat.as_str(),
         "total 10\n5 5 c\n3 3 b\n2 5 a\n0 10 main\n"
     );
     Ok(())
@@ -123,142 +137,144 @@ fn top_by_cumulative_weight(rt: HostRuntime) -> Result<(), Fail> {
 
 #[test]
 fn top_count_one_and_zero(rt: HostRuntime) -> Result<(), Fail> {
-    let alloc = rt.alloc();
-    assert_eq!(rt;
-        answered(alloc, THREE, &top(Rank::Cum, 1))?.as_str(),
-        "total 10\n0 10 main\n"
-    );
-    assert_eq!(rt;
-        answered(alloc, THREE, &top(Rank::Cum, 0))?.as_str(),
-        "total 10\n"
-    );
+    for (count, want) in [(1, "total 10\n0 10 main\n"), (0, "total 10\n")] {
+        let answer = answered(rt.alloc(), THREE, top(Rank::Cum, count))?;
+        assert_eq!(rt; answer.as_str(), want);
+    }
     Ok(())
+}
+
+// The rectangles of a layout over all rows of folded text.
+fn rectangles(alloc: Global, rows: &Batch, kind: Kind) -> Result<String, Fail> {
+    let query = Query {
+        focus: None,
+        ignore: None,
+        kind,
+    };
+    match &report_of(alloc, rows, &query)? {
+        Answer::Flame(flame) => layout_text(alloc, flame),
+        _ => Err("no layout".into()),
+    }
 }
 
 #[test]
 fn layout_in_five_columns(rt: HostRuntime) -> Result<(), Fail> {
-    let alloc = rt.alloc();
-    let batch = batch_of(alloc, THREE)?;
-    let answer = report_of(alloc, &batch, &flame(5)?)?;
-    match &answer {
-        Answer::Flame(flame) => {
-            assert_eq!(rt;
-                layout_text(alloc, flame)?.as_str(),
-                "0  0 10 0 5,1 main 0 10 0 5,2 a 0 5 0 2,3 b 0 3 0 1,2 c 5 5 2 5,"
-            );
-        }
-        _ => return Err("no layout".into()),
-    }
+    let rows = rows_of(rt.alloc(), THREE)?;
+    assert_eq!(rt;
+        rectangles(rt.alloc(), &rows, flame(5)?)?.as_str(),
+        "0  0 10 0 5,1 main 0 10 0 5,2 a 0 5 0 2,3 b 0 3 0 1,2 c 5 5 2 5,"
+    );
     Ok(())
 }
 
 #[test]
 fn layout_json_in_one_column(rt: HostRuntime) -> Result<(), Fail> {
-    let alloc = rt.alloc();
+    let answer = answered(rt.alloc(), THREE, flame(1)?)?;
     assert_eq!(rt;
-        answered(alloc, THREE, &flame(1)?)?.as_str(),
-        "{\"columns\":1,\"rects\":[{\"depth\":0,\"left\":0,\"name\":\"\",\"right\":1,\"weight\":10,\"x\":0},{\"depth\":1,\"left\":0,\"name\":\"main\",\"right\":1,\"weight\":10,\"x\":0},{\"depth\":2,\"left\":0,\"name\":\"c\",\"right\":1,\"weight\":5,\"x\":5}],\"total\":10}"
+        answer.as_str(),
+        "{\"columns\":1,\"rects\":[\
+         {\"depth\":0,\"left\":0,\"name\":\"\",\"right\":1,\"weight\":10,\"x\":0},\
+         {\"depth\":1,\"left\":0,\"name\":\"main\",\"right\":1,\"weight\":10,\"x\":0},\
+         {\"depth\":2,\"left\":0,\"name\":\"c\",\"right\":1,\"weight\":5,\"x\":5}],\"total\":10}"
     );
     Ok(())
 }
 
 #[test]
 fn weightless_rows(rt: HostRuntime) -> Result<(), Fail> {
-    let alloc = rt.alloc();
-    assert_eq!(rt; answered(alloc, "x 0\n", &all(Kind::Folded))?.as_str(), "");
-    assert_eq!(rt;
-        answered(alloc, "x 0\n", &top(Rank::Flat, 20))?.as_str(),
-        "total 0\n"
-    );
-    assert_eq!(rt; answered(alloc, "x 0\n", &all(Kind::Total))?.as_str(), "0");
-    assert_eq!(rt;
-        answered(alloc, "x 0\n", &flame(5)?)?.as_str(),
-        "{\"columns\":5,\"rects\":[],\"total\":0}"
-    );
+    for (kind, want) in [
+        (Kind::Folded, ""),
+        (top(Rank::Flat, 20), "total 0\n"),
+        (Kind::Total, "0"),
+        (flame(5)?, "{\"columns\":5,\"rects\":[],\"total\":0}"),
+    ] {
+        let answer = answered(rt.alloc(), "x 0\n", kind)?;
+        assert_eq!(rt; answer.as_str(), want);
+    }
     Ok(())
 }
 
 #[test]
 fn spaces_and_empty_stacks(rt: HostRuntime) -> Result<(), Fail> {
-    let alloc = rt.alloc();
-    assert_eq!(rt;
-        answered(alloc, "a b;c d 7\n 5\na;;b 1\n", &all(Kind::Folded))?.as_str(),
-        " 5\na;b 1\na b;c d 7\n"
-    );
-    assert_eq!(rt;
-        answered(alloc, " 5\n", &top(Rank::Flat, 20))?.as_str(),
-        "total 5\n"
-    );
-    assert_eq!(rt;
-        answered(alloc, " 5\n", &flame(5)?)?.as_str(),
-        "{\"columns\":5,\"rects\":[{\"depth\":0,\"left\":0,\"name\":\"\",\"right\":5,\"weight\":5,\"x\":0}],\"total\":5}"
-    );
+    for (input, kind, want) in [
+        (
+            "a b;c d 7\n 5\na;;b 1\n",
+            Kind::Folded,
+            " 5\na;b 1\na b;c d 7\n",
+        ),
+        (" 5\n", top(Rank::Flat, 20), "total 5\n"),
+        (
+            " 5\n",
+            flame(5)?,
+            "{\"columns\":5,\"rects\":[\
+             {\"depth\":0,\"left\":0,\"name\":\"\",\"right\":5,\"weight\":5,\"x\":0}],\"total\":5}",
+        ),
+    ] {
+        let answer = answered(rt.alloc(), input, kind)?;
+        assert_eq!(rt; answer.as_str(), want);
+    }
     Ok(())
 }
 
 #[test]
 fn focus_and_ignore(rt: HostRuntime) -> Result<(), Fail> {
-    let alloc = rt.alloc();
-    let by_flat = Kind::Top {
-        rank: Rank::Flat,
-        count: 20,
-    };
-    for (focus, ignore, text) in [
+    for (focus, ignore, want) in [
         ("a", "", "total 5\n3 3 b\n2 5 a\n0 5 main\n"),
         ("", "b", "total 7\n5 5 c\n2 2 a\n0 7 main\n"),
         ("a", "b", "total 2\n2 2 a\n0 2 main\n"),
         ("z", "", "total 0\n"),
     ] {
-        let query = kept(alloc, focus, ignore, by_flat)?;
-        assert_eq!(rt; answered(alloc, THREE, &query)?.as_str(), text);
+        let answer = kept_answered(rt.alloc(), THREE, focus, ignore, top(Rank::Flat, 20))?;
+        assert_eq!(rt; answer.as_str(), want);
     }
-    assert_eq!(rt;
-        answered(alloc, THREE, &kept(alloc, "a", "b", Kind::Total)?)?.as_str(),
-        "2"
-    );
-    assert_eq!(rt;
-        answered(alloc, THREE, &kept(alloc, "a", "", Kind::Folded)?)?.as_str(),
-        "main;a 2\nmain;a;b 3\n"
-    );
+    Ok(())
+}
+
+#[test]
+fn focus_and_ignore_for_totals_and_folded_text(rt: HostRuntime) -> Result<(), Fail> {
+    let total = kept_answered(rt.alloc(), THREE, "a", "b", Kind::Total)?;
+    assert_eq!(rt; total.as_str(), "2");
+    let folded = kept_answered(rt.alloc(), THREE, "a", "", Kind::Folded)?;
+    assert_eq!(rt; folded.as_str(), "main;a 2\nmain;a;b 3\n");
     Ok(())
 }
 
 #[test]
 fn recursion_counts_once(rt: HostRuntime) -> Result<(), Fail> {
-    let alloc = rt.alloc();
-    assert_eq!(rt;
-        answered(alloc, "main;f;g;f 4\n", &top(Rank::Flat, 20))?.as_str(),
-        "total 4\n4 4 f\n0 4 g\n0 4 main\n"
-    );
+    let answer = answered(rt.alloc(), "main;f;g;f 4\n", top(Rank::Flat, 20))?;
+    assert_eq!(rt; answer.as_str(), "total 4\n4 4 f\n0 4 g\n0 4 main\n");
     Ok(())
 }
 
 #[test]
 fn layout_of_the_greatest_weight(rt: HostRuntime) -> Result<(), Fail> {
-    let alloc = rt.alloc();
+    let answer = answered(rt.alloc(), "a 9223372036854775807\n", flame(MAX_COLUMNS)?)?;
     assert_eq!(rt;
-        answered(alloc, "a 9223372036854775807\n", &flame(MAX_COLUMNS)?)?.as_str(),
-        "{\"columns\":65535,\"rects\":[{\"depth\":0,\"left\":0,\"name\":\"\",\"right\":65535,\"weight\":9223372036854775807,\"x\":0},{\"depth\":1,\"left\":0,\"name\":\"a\",\"right\":65535,\"weight\":9223372036854775807,\"x\":0}],\"total\":9223372036854775807}"
+        answer.as_str(),
+        "{\"columns\":65535,\"rects\":[\
+         {\"depth\":0,\"left\":0,\"name\":\"\",\"right\":65535,\"weight\":9223372036854775807,\"x\":0},\
+         {\"depth\":1,\"left\":0,\"name\":\"a\",\"right\":65535,\"weight\":9223372036854775807,\"x\":0}],\
+         \"total\":9223372036854775807}"
     );
     Ok(())
 }
 
 #[test]
 fn stack_order_is_by_names(rt: HostRuntime) -> Result<(), Fail> {
-    let alloc = rt.alloc();
-    assert_eq!(rt;
-        answered(alloc, "a!;x 1\na;b 1\n", &all(Kind::Folded))?.as_str(),
-        "a;b 1\na!;x 1\n"
-    );
+    let answer = answered(rt.alloc(), "a!;x 1\na;b 1\n", Kind::Folded)?;
+    assert_eq!(rt; answer.as_str(), "a;b 1\na!;x 1\n");
     Ok(())
 }
 
 #[test]
 fn names_are_escaped_in_json(rt: HostRuntime) -> Result<(), Fail> {
-    let alloc = rt.alloc();
+    let answer = answered(rt.alloc(), "a\"\\\u{1}\u{e9} 1\n", flame(1)?)?;
     assert_eq!(rt;
-        answered(alloc, "a\"\\\u{1}\u{e9} 1\n", &flame(1)?)?.as_str(),
-        "{\"columns\":1,\"rects\":[{\"depth\":0,\"left\":0,\"name\":\"\",\"right\":1,\"weight\":1,\"x\":0},{\"depth\":1,\"left\":0,\"name\":\"a\\\"\\\\\\u0001\u{e9}\",\"right\":1,\"weight\":1,\"x\":0}],\"total\":1}"
+        answer.as_str(),
+        "{\"columns\":1,\"rects\":[\
+         {\"depth\":0,\"left\":0,\"name\":\"\",\"right\":1,\"weight\":1,\"x\":0},\
+         {\"depth\":1,\"left\":0,\"name\":\"a\\\"\\\\\\u0001\u{e9}\",\"right\":1,\"weight\":1,\"x\":0}],\
+         \"total\":1}"
     );
     Ok(())
 }
@@ -273,5 +289,24 @@ fn columns_have_limits(rt: HostRuntime) -> Result<(), Fail> {
     ] {
         assert_eq!(rt; Columns::new(count).is_some(), stands);
     }
+    Ok(())
+}
+
+#[test]
+fn a_top_list_is_made_from_what_names_weigh(rt: HostRuntime) -> Result<(), Fail> {
+    let totals = folded_totals(rt.alloc(), THREE.as_bytes())?;
+    let list = Answer::Top(top_list(rt.alloc(), totals, Rank::Cum, 2)?);
+    assert_eq!(rt;
+        answer_text(rt.alloc(), &list)?.as_str(),
+        "total 10\n0 10 main\n2 5 a\n"
+    );
+    Ok(())
+}
+
+#[test]
+fn a_label_has_the_text_of_its_name(rt: HostRuntime) -> Result<(), Fail> {
+    let name = Name::make(rt.alloc(), "a b")?;
+    let label = Label::of(&name)?;
+    assert_eq!(rt; label.text(), "a b");
     Ok(())
 }

@@ -1,85 +1,52 @@
-//! What no clause says: that calls succeed with ample memory, and what they answer on worked rows.
+//! What no clause says of trees: that calls succeed with ample memory, and what they answer on worked rows.
 
+use crate::helpers::{plan, rows_of, stack_of, text_of};
 use call_tree::{CallTree, Grower};
-use stack_text::{Batch, MAX_DEPTH, MAX_TOTAL, Name, Stack};
+use stack_text::{Batch, MAX_DEPTH};
 use std::alloc::{AllocError, Global};
 use std::test::Fail;
 
-// A stack by its frames, joined by semicolons. No text is the empty stack.
-fn stack_of(alloc: Global, frames: &str) -> Result<Stack, Fail> {
-    let mut names = Vec::new(alloc);
-    for frame in frames.split(';') {
-        if !frame.is_empty() {
-            names.push(Name::make(alloc, frame)?)?;
-        }
-    }
-    Ok(Stack::make(names).ok().ok_or("too deep")?)
-}
-
-fn batch_of(alloc: Global, rows: &[(&str, u64)]) -> Result<Batch, Fail> {
-    let mut batch = Batch::new(alloc);
-    for &(frames, weight) in rows {
-        batch
-            .push(stack_of(alloc, frames)?, weight)
-            .ok()
-            .ok_or("too heavy")?;
-    }
-    Ok(batch)
-}
-
-// Plans a batch, and credits it where `kept`.
-fn plan(alloc: Global, grower: &mut Grower, batch: &Batch, kept: bool) -> Result<(), Fail> {
-    if grower.tree().total() > MAX_TOTAL - batch.total() {
-        return Err("too heavy".into());
-    }
-    let plan = grower.plan(alloc, batch)?;
-    if kept {
-        grower.credit(plan);
+// Plans the rows of each folded text, and credits them where the text stands beside `true`.
+fn grow(alloc: Global, grower: &mut Grower, steps: &[(&str, bool)]) -> Result<(), Fail> {
+    for (text, kept) in steps {
+        plan(alloc, grower, &rows_of(alloc, text)?, *kept)?;
     }
     Ok(())
 }
 
-fn grown(alloc: Global, rows: &[(&str, u64)]) -> Result<Grower, Fail> {
+fn grown(alloc: Global, steps: &[(&str, bool)]) -> Result<Grower, Fail> {
     let mut grower = Grower::new(alloc)?;
-    plan(alloc, &mut grower, &batch_of(alloc, rows)?, true)?;
+    grow(alloc, &mut grower, steps)?;
     Ok(grower)
 }
 
 // The rows of a tree as folded text.
 fn rows_text(alloc: Global, tree: &CallTree) -> Result<String, Fail> {
-    let mut text = String::new(alloc);
-    for row in tree.rows(alloc)?.rows() {
-        for (depth, name) in row.stack.names().iter().enumerate() {
-            if depth > 0 {
-                text.push(';')?;
-            }
-            text.push_str(name.text())?;
-        }
-        write!(text, " {},", row.weight)?;
-    }
-    Ok(text)
+    text_of(alloc, &tree.rows(alloc)?)
 }
 
 // The names of a tree, each with its flat and its cumulative weight.
 fn totals_text(alloc: Global, tree: &CallTree) -> Result<String, Fail> {
     let mut text = String::new(alloc);
     for total in &tree.frame_totals(alloc)? {
-        write!(text, "{} {}/{},", total.name.text(), total.flat, total.cum)?;
+        writeln!(text, "{} {}/{}", total.name.text(), total.flat, total.cum)?;
     }
     Ok(text)
 }
 
 // All that a tree answers: its total, its rows, and its names.
 fn answers(alloc: Global, tree: &CallTree) -> Result<String, Fail> {
-    let mut text = String::new(alloc);
-    write!(text, "{} | ", tree.total())?;
-    text.push_str(rows_text(alloc, tree)?.as_str())?;
-    text.push_str(" | ")?;
-    text.push_str(totals_text(alloc, tree)?.as_str())?;
-    Ok(text)
+    let rows = rows_text(alloc, tree)?;
+    let totals = totals_text(alloc, tree)?;
+    Ok(format!(in alloc; "total {}\n{rows}\n{totals}", tree.total())?)
 }
 
-// The weights of stacks, as their frames spell them.
+// All that the tree of some steps answers.
+fn told(alloc: Global, steps: &[(&str, bool)]) -> Result<String, Fail> {
+    let grower = grown(alloc, steps)?;
+    answers(alloc, grower.tree())
+}
+
 fn self_weights(alloc: Global, tree: &CallTree, stacks: &[&str]) -> Result<Vec<u64>, Fail> {
     let mut weights = Vec::new(alloc);
     for frames in stacks {
@@ -88,175 +55,150 @@ fn self_weights(alloc: Global, tree: &CallTree, stacks: &[&str]) -> Result<Vec<u
     Ok(weights)
 }
 
-const WORKED: [(&str, u64); 3] = [("main;a;b", 3), ("main;a", 2), ("main;c", 5)];
+// What the stacks weigh in the tree of some steps.
+fn weighed(alloc: Global, steps: &[(&str, bool)], stacks: &[&str]) -> Result<Vec<u64>, Fail> {
+    let grower = grown(alloc, steps)?;
+    self_weights(alloc, grower.tree(), stacks)
+}
+
+const WORKED: &str = "main;a;b 3\nmain;a 2\nmain;c 5\n";
+
+const WORKED_ANSWERS: &str =
+    "total 10\nmain;a 2\nmain;a;b 3\nmain;c 5\n\na 2/5\nb 3/3\nc 5/5\nmain 0/10\n";
 
 #[test]
 fn a_grown_tree_answers_for_its_rows(rt: HostRuntime) -> Result<(), Fail> {
-    let alloc = rt.alloc();
-    let grower = grown(alloc, &WORKED)?;
-    let text = answers(alloc, grower.tree())?;
-    assert_eq!(rt;
-        text.as_str(),
-        "10 | main;a 2,main;a;b 3,main;c 5, | a 2/5,b 3/3,c 5/5,main 0/10,"
-    );
+    let told = told(rt.alloc(), &[(WORKED, true)])?;
+    assert_eq!(rt; told.as_str(), WORKED_ANSWERS);
     Ok(())
 }
 
 #[test]
 fn a_grown_tree_weighs_stacks(rt: HostRuntime) -> Result<(), Fail> {
-    let alloc = rt.alloc();
-    let grower = grown(alloc, &WORKED)?;
-    let weights = self_weights(alloc, grower.tree(), &["main;a", "main;a;b", "main", "a"])?;
+    let stacks = ["main;a", "main;a;b", "main", "a"];
+    let weights = weighed(rt.alloc(), &[(WORKED, true)], &stacks)?;
     assert_eq!(rt; weights.as_slice(), [2, 3, 0, 0].as_slice());
     Ok(())
 }
 
 #[test]
 fn a_dropped_plan_shows_in_no_call(rt: HostRuntime) -> Result<(), Fail> {
-    let alloc = rt.alloc();
-    let mut grower = grown(alloc, &WORKED)?;
-    let other = batch_of(alloc, &[("main;d", 4), ("e", 1), ("main;a", 7)])?;
-    plan(alloc, &mut grower, &other, false)?;
-    let text = answers(alloc, grower.tree())?;
-    assert_eq!(rt;
-        text.as_str(),
-        "10 | main;a 2,main;a;b 3,main;c 5, | a 2/5,b 3/3,c 5/5,main 0/10,"
-    );
+    let steps = [(WORKED, true), ("main;d 4\ne 1\nmain;a 7\n", false)];
+    let told = told(rt.alloc(), &steps)?;
+    assert_eq!(rt; told.as_str(), WORKED_ANSWERS);
     Ok(())
 }
 
-// A tree of a row, with a dropped plan below it and one that is kept.
-fn grown_beside_a_dropped_plan(alloc: Global) -> Result<Grower, Fail> {
-    let mut grower = grown(alloc, &[("a", 1)])?;
-    plan(alloc, &mut grower, &batch_of(alloc, &[("a;b", 2)])?, false)?;
-    plan(alloc, &mut grower, &batch_of(alloc, &[("a;c", 3)])?, true)?;
-    Ok(grower)
-}
+// A row, a plan below it that is dropped, and one beside that which is kept.
+const BESIDE_A_DROPPED_PLAN: [(&str, bool); 3] = [
+    ("a 1\n", true),
+    ("a;b 2\n", false),
+    ("a;c 3\n", true),
+];
 
 #[test]
 fn what_a_dropped_plan_left_can_be_credited_beside(rt: HostRuntime) -> Result<(), Fail> {
-    let alloc = rt.alloc();
-    let grower = grown_beside_a_dropped_plan(alloc)?;
-    let text = answers(alloc, grower.tree())?;
-    assert_eq!(rt; text.as_str(), "4 | a 1,a;c 3, | a 1/4,c 3/3,");
+    let told = told(rt.alloc(), &BESIDE_A_DROPPED_PLAN)?;
+    assert_eq!(rt; told.as_str(), "total 4\na 1\na;c 3\n\na 1/4\nc 3/3\n");
     Ok(())
 }
 
 #[test]
 fn what_a_dropped_plan_left_weighs_nothing(rt: HostRuntime) -> Result<(), Fail> {
-    let alloc = rt.alloc();
-    let grower = grown_beside_a_dropped_plan(alloc)?;
-    let weights = self_weights(alloc, grower.tree(), &["a;b"])?;
+    let weights = weighed(rt.alloc(), &BESIDE_A_DROPPED_PLAN, &["a;b"])?;
     assert_eq!(rt; weights.as_slice(), [0].as_slice());
     Ok(())
 }
 
 #[test]
 fn recursion_counts_once(rt: HostRuntime) -> Result<(), Fail> {
-    let alloc = rt.alloc();
-    let grower = grown(alloc, &[("main;f;g;f", 4)])?;
-    let text = totals_text(alloc, grower.tree())?;
-    assert_eq!(rt; text.as_str(), "f 4/4,g 0/4,main 0/4,");
+    let told = told(rt.alloc(), &[("main;f;g;f 4\n", true)])?;
+    assert_eq!(rt;
+        told.as_str(),
+        "total 4\nmain;f;g;f 4\n\nf 4/4\ng 0/4\nmain 0/4\n"
+    );
     Ok(())
 }
 
 #[test]
 fn stack_order_is_by_names(rt: HostRuntime) -> Result<(), Fail> {
-    let alloc = rt.alloc();
-    let rows = [("a!;x", 1), ("a;b", 1), ("", 6), ("a;b", 2), ("z", 0)];
-    let grower = grown(alloc, &rows)?;
-    let text = rows_text(alloc, grower.tree())?;
-    assert_eq!(rt; text.as_str(), " 6,a;b 3,a!;x 1,");
+    let told = told(rt.alloc(), &[("a!;x 1\na;b 1\n 6\na;b 2\nz 0\n", true)])?;
+    assert_eq!(rt;
+        told.as_str(),
+        "total 10\n 6\na;b 3\na!;x 1\n\na 0/3\na! 0/1\nb 3/3\nx 1/1\n"
+    );
     Ok(())
 }
 
 #[test]
 fn the_empty_stack_has_a_weight(rt: HostRuntime) -> Result<(), Fail> {
-    let alloc = rt.alloc();
-    let grower = grown(alloc, &[("a", 1), ("", 6)])?;
-    let weights = self_weights(alloc, grower.tree(), &[""])?;
+    let weights = weighed(rt.alloc(), &[("a 1\n 6\n", true)], &[""])?;
     assert_eq!(rt; weights.as_slice(), [6].as_slice());
     Ok(())
 }
 
 #[test]
 fn an_empty_tree_has_no_rows(rt: HostRuntime) -> Result<(), Fail> {
-    let alloc = rt.alloc();
-    let grower = Grower::new(alloc)?;
-    let text = answers(alloc, grower.tree())?;
-    assert_eq!(rt; text.as_str(), "0 |  | ");
+    let told = told(rt.alloc(), &[])?;
+    assert_eq!(rt; told.as_str(), "total 0\n\n");
     Ok(())
 }
 
 #[test]
 fn the_greatest_total_is_held(rt: HostRuntime) -> Result<(), Fail> {
-    let alloc = rt.alloc();
-    let mut grower = grown(alloc, &[("a;b", MAX_TOTAL - 1)])?;
-    plan(alloc, &mut grower, &batch_of(alloc, &[("a", 1)])?, true)?;
-    let text = totals_text(alloc, grower.tree())?;
-    assert_eq!(rt; grower.tree().total(), MAX_TOTAL);
+    let steps = [("a;b 9223372036854775806\n", true), ("a 1\n", true)];
+    let told = told(rt.alloc(), &steps)?;
     assert_eq!(rt;
-        text.as_str(),
-        "a 1/9223372036854775807,b 9223372036854775806/9223372036854775806,"
+        told.as_str(),
+        "total 9223372036854775807\na 1\na;b 9223372036854775806\n\n\
+         a 1/9223372036854775807\nb 9223372036854775806/9223372036854775806\n"
     );
     Ok(())
 }
 
-// A stack of the greatest depth, of two names in turn.
-fn deepest(alloc: Global, even: &str, odd: &str) -> Result<Stack, Fail> {
-    let mut names = Vec::new(alloc);
+// The line of a stack of the greatest depth, of two names in turn.
+fn push_deepest(text: &mut String, even: &str, odd: &str, weight: u64) -> Result<(), AllocError> {
     for depth in 0..MAX_DEPTH {
-        let text = if depth % 2 == 0 { even } else { odd };
-        names.push(Name::make(alloc, text)?)?;
+        if depth > 0 {
+            text.push(';')?;
+        }
+        text.push_str(if depth % 2 == 0 { even } else { odd })?;
     }
-    Ok(Stack::make(names).ok().ok_or("too deep")?)
+    writeln!(text, " {weight}")
 }
 
-// A tree of the two deepest stacks.
-fn grown_deepest(alloc: Global) -> Result<Grower, Fail> {
-    let mut batch = Batch::new(alloc);
-    batch
-        .push(deepest(alloc, "f", "f")?, 2)
-        .ok()
-        .ok_or("too heavy")?;
-    batch
-        .push(deepest(alloc, "f", "g")?, 3)
-        .ok()
-        .ok_or("too heavy")?;
-    let mut grower = Grower::new(alloc)?;
-    plan(alloc, &mut grower, &batch, true)?;
-    Ok(grower)
-}
-
-#[test]
-fn the_deepest_recursion_is_counted_once(rt: HostRuntime) -> Result<(), Fail> {
-    let alloc = rt.alloc();
-    let grower = grown_deepest(alloc)?;
-    let text = totals_text(alloc, grower.tree())?;
-    assert_eq!(rt; text.as_str(), "f 5/5,g 0/3,");
-    Ok(())
+// The lines of the two deepest stacks, in their order.
+fn deepest(alloc: Global) -> Result<String, AllocError> {
+    let mut text = String::new(alloc);
+    push_deepest(&mut text, "f", "f", 2)?;
+    push_deepest(&mut text, "f", "g", 3)?;
+    Ok(text)
 }
 
 #[test]
 fn the_deepest_stacks_have_rows(rt: HostRuntime) -> Result<(), Fail> {
-    let alloc = rt.alloc();
-    let grower = grown_deepest(alloc)?;
-    let other = deepest(alloc, "f", "g")?;
-    assert_eq!(rt; grower.tree().self_weight(&other), 3);
-    let rows = grower.tree().rows(alloc)?;
-    let stacks = rows.rows();
-    assert!(rt; stacks.len() == 2 && stacks[1].stack == other);
+    let text = deepest(rt.alloc())?;
+    let want = format!(in rt.alloc(); "total 5\n{text}\nf 5/5\ng 0/3\n")?;
+    assert!(rt; told(rt.alloc(), &[(text.as_str(), true)])? == want);
     Ok(())
 }
 
+// Whether each row's stack has its weight in the tree of the rows.
+fn has_each(tree: &CallTree, rows: &Batch) -> bool {
+    rows.rows()
+        .iter()
+        .all(|row| tree.self_weight(&row.stack) == row.weight)
+}
+
+fn has_each_of(alloc: Global, text: &str) -> Result<bool, Fail> {
+    let grower = grown(alloc, &[(text, true)])?;
+    Ok(has_each(grower.tree(), &rows_of(alloc, text)?))
+}
+
 #[test]
-fn the_deepest_recursion_has_the_first_row(rt: HostRuntime) -> Result<(), Fail> {
-    let alloc = rt.alloc();
-    let grower = grown_deepest(alloc)?;
-    let first = deepest(alloc, "f", "f")?;
-    let rows = grower.tree().rows(alloc)?;
-    let stacks = rows.rows();
-    assert!(rt; stacks.len() == 2 && stacks[0].stack == first);
+fn the_deepest_stacks_have_weights(rt: HostRuntime) -> Result<(), Fail> {
+    let text = deepest(rt.alloc())?;
+    assert!(rt; has_each_of(rt.alloc(), text.as_str())?);
     Ok(())
 }
 
@@ -288,8 +230,8 @@ fn some_frames(alloc: Global, numbers: &mut Numbers) -> Result<String, AllocErro
     Ok(text)
 }
 
-// The rows as a slow program has them: each name is one letter, so the texts' order is that of the stacks.
-fn slow_rows_text(alloc: Global, rows: &[(String, u64)]) -> Result<String, AllocError> {
+// The stacks of the rows that have a weight, once each. Each name is one letter, so their order is that of the texts.
+fn slow_stacks(alloc: Global, rows: &[(String, u64)]) -> Result<Vec<&str>, AllocError> {
     let mut stacks: Vec<&str> = Vec::new(alloc);
     for (frames, weight) in rows {
         if *weight > 0 && !stacks.contains(&frames.as_str()) {
@@ -297,35 +239,51 @@ fn slow_rows_text(alloc: Global, rows: &[(String, u64)]) -> Result<String, Alloc
         }
     }
     stacks.sort()?;
-    let mut text = String::new(alloc);
-    for stack in &stacks {
-        let mut all = 0u64;
-        for (frames, weight) in rows {
-            if frames.as_str() == *stack {
-                all = all.wrapping_add(*weight);
-            }
+    Ok(stacks)
+}
+
+// What the rows of a stack weigh together.
+fn slow_weight(rows: &[(String, u64)], stack: &str) -> u64 {
+    let mut all = 0u64;
+    for (frames, weight) in rows {
+        if frames.as_str() == stack {
+            all = all.wrapping_add(*weight);
         }
-        write!(text, "{stack} {all},")?;
+    }
+    all
+}
+
+// The rows as a slow program has them.
+fn slow_rows_text(alloc: Global, rows: &[(String, u64)]) -> Result<String, AllocError> {
+    let mut text = String::new(alloc);
+    for stack in &slow_stacks(alloc, rows)? {
+        writeln!(text, "{stack} {}", slow_weight(rows, stack))?;
     }
     Ok(text)
 }
 
-// The names' weights as a slow program has them: a row counts once, whatever stands in it twice.
+// A name's weights as a slow program has them: a row counts once, whatever stands in it twice.
+fn slow_totals(rows: &[(String, u64)], name: &str) -> (u64, u64) {
+    let mut flat = 0u64;
+    let mut cum = 0u64;
+    for (frames, weight) in rows {
+        if frames.ends_with(name) {
+            flat = flat.wrapping_add(*weight);
+        }
+        if frames.contains(name) {
+            cum = cum.wrapping_add(*weight);
+        }
+    }
+    (flat, cum)
+}
+
+// The names' weights as a slow program has them.
 fn slow_totals_text(alloc: Global, rows: &[(String, u64)]) -> Result<String, AllocError> {
     let mut text = String::new(alloc);
     for name in ["a", "b", "c", "d"] {
-        let mut flat = 0u64;
-        let mut cum = 0u64;
-        for (frames, weight) in rows {
-            if frames.ends_with(name) {
-                flat = flat.wrapping_add(*weight);
-            }
-            if frames.contains(name) {
-                cum = cum.wrapping_add(*weight);
-            }
-        }
+        let (flat, cum) = slow_totals(rows, name);
         if cum > 0 {
-            write!(text, "{name} {flat}/{cum},")?;
+            writeln!(text, "{name} {flat}/{cum}")?;
         }
     }
     Ok(text)
@@ -341,12 +299,12 @@ fn some_rows(alloc: Global, numbers: &mut Numbers) -> Result<Vec<(String, u64)>,
     Ok(rows)
 }
 
-fn batch_of_texts(alloc: Global, rows: &[(String, u64)]) -> Result<Batch, Fail> {
-    let mut lent = Vec::new(alloc);
+fn lines_of(alloc: Global, rows: &[(String, u64)]) -> Result<String, AllocError> {
+    let mut text = String::new(alloc);
     for (frames, weight) in rows {
-        lent.push((frames.as_str(), *weight))?;
+        writeln!(text, "{frames} {weight}")?;
     }
-    batch_of(alloc, &lent)
+    Ok(text)
 }
 
 // Plans the rows, and where `kept` credits them and adds them to those before.
@@ -357,7 +315,7 @@ fn grow_by(
     rows: Vec<(String, u64)>,
     kept: bool,
 ) -> Result<(), Fail> {
-    plan(alloc, grower, &batch_of_texts(alloc, &rows)?, kept)?;
+    grow(alloc, grower, &[(lines_of(alloc, &rows)?.as_str(), kept)])?;
     if kept {
         for row in rows {
             before.push(row)?;

@@ -1,8 +1,8 @@
 //! A book driven by hand: what its sessions are told in turn, what its journal has, and how its faults are printed.
 
-use flame_report::{Answer, Kind, Query};
-use op_book::{Book, BookFault, Journal, Op, Receipt, Reply};
-use stack_text::{Batch, read_folded};
+use crate::helpers::{KEPT_REPORTS, ROWS, answer_text, batch_of, kept_query, kinds, query_of};
+use flame_report::{Answer, Kind};
+use op_book::{Book, BookFault, Entry, Journal, Op, Receipt, Reply};
 use std::alloc::Global;
 use std::sync::Arc;
 use std::test::Fail;
@@ -29,22 +29,6 @@ fn ask(session: u32, turn: u64) -> Step<'static> {
         turn,
         added: None,
     }
-}
-
-fn batch_of(alloc: Global, text: &str) -> Result<Arc<Batch>, Fail> {
-    let batch = read_folded(alloc, text.as_bytes())
-        .ok()
-        .ok_or("no folded text")?;
-    Ok(Arc::new(alloc, batch).ok().ok_or("no memory")?)
-}
-
-fn query_of(alloc: Global, kind: Kind) -> Result<Arc<Query>, Fail> {
-    let query = Query {
-        focus: None,
-        ignore: None,
-        kind,
-    };
-    Ok(Arc::new(alloc, query).ok().ok_or("no memory")?)
 }
 
 // What a receipt tells.
@@ -127,7 +111,25 @@ fn places_count_additions_and_entries_count_all(rt: HostRuntime) -> Result<(), F
     let told = told_in_turn(alloc, book_of(alloc, 3)?, &steps)?;
     assert_eq!(rt;
         told.as_str(),
-        "placed 0 at 0; total 1 at 1; placed 1 at 2; K3 Full held 3; K2 Turn held 1; K1 Session; 3 entries, 3"
+        "placed 0 at 0; total 1 at 1; placed 1 at 2; \
+         K3 Full held 3; K2 Turn held 1; K1 Session; 3 entries, 3"
+    );
+    Ok(())
+}
+
+#[test]
+fn a_full_book_takes_no_more(rt: HostRuntime) -> Result<(), Fail> {
+    let alloc = rt.alloc();
+    let steps = [
+        add(0, 0, "a 1\n"),
+        add(1, 0, "b 1\n"),
+        add(0, 1, "c 1\n"),
+        ask(1, 1),
+    ];
+    let told = told_in_turn(alloc, book_of(alloc, 2)?, &steps)?;
+    assert_eq!(rt;
+        told.as_str(),
+        "placed 0 at 0; placed 1 at 1; K3 Full held 2; K3 Full held 2; 2 entries, 2"
     );
     Ok(())
 }
@@ -156,7 +158,8 @@ fn the_limit_of_weights(rt: HostRuntime) -> Result<(), Fail> {
     let told = told_in_turn(alloc, book_of(alloc, 10)?, &steps)?;
     assert_eq!(rt;
         told.as_str(),
-        "placed 0 at 0; K4 Heavy held 9223372036854775806; placed 1 at 1; total 9223372036854775807 at 2; 3 entries, 9223372036854775807"
+        "placed 0 at 0; K4 Heavy held 9223372036854775806; placed 1 at 1; \
+         total 9223372036854775807 at 2; 3 entries, 9223372036854775807"
     );
     Ok(())
 }
@@ -170,36 +173,130 @@ fn want_of_memory_is_printed(rt: HostRuntime) -> Result<(), Fail> {
     Ok(())
 }
 
-// The journal of one addition and one question for folded text, with the receipts of both.
-fn two_entries(alloc: Global) -> Result<(Journal, Receipt, Receipt), Fail> {
+fn answer_in(alloc: Global, reply: &Reply) -> Result<String, Fail> {
+    match reply {
+        Reply::Answered(answer) => answer_text(alloc, answer),
+        Reply::Placed(_) => Err("no answer".into()),
+    }
+}
+
+fn report_on(alloc: Global, book: &mut Book, kind: Kind) -> Result<String, Fail> {
+    let asked = book.ask(alloc, 0, 1, kept_query(alloc, kind)?);
+    let receipt = asked.ok().ok_or("refused")?;
+    answer_in(alloc, &receipt.reply)
+}
+
+fn add_rows(alloc: Global, book: &mut Book) -> Result<(), Fail> {
+    book.add(alloc, 0, 0, batch_of(alloc, ROWS)?)
+        .ok()
+        .ok_or("refused")?;
+    Ok(())
+}
+
+fn book_of_rows(alloc: Global) -> Result<Book, Fail> {
     let mut book = book_of(alloc, 2)?;
-    let added = book.add(alloc, 0, 0, batch_of(alloc, "main;a 2\n")?);
-    let added = added.ok().ok_or("refused")?;
-    let asked = book.ask(alloc, 0, 1, query_of(alloc, Kind::Folded)?);
-    let asked = asked.ok().ok_or("refused")?;
-    Ok((book.into_journal(), added, asked))
+    add_rows(alloc, &mut book)?;
+    Ok(book)
+}
+
+// What a book answers a query of some kind behind an addition.
+fn report_of_rows(alloc: Global, kind: Kind) -> Result<String, Fail> {
+    let mut book = book_of_rows(alloc)?;
+    report_on(alloc, &mut book, kind)
+}
+
+fn reports_of_rows(alloc: Global) -> Result<String, Fail> {
+    let mut text = String::new(alloc);
+    for kind in kinds()? {
+        text.push_str(report_of_rows(alloc, kind)?.as_str())?;
+        text.push('|')?;
+    }
+    Ok(text)
 }
 
 #[test]
-fn a_journal_has_what_was_asked_and_told(rt: HostRuntime) -> Result<(), Fail> {
-    let (journal, added, asked) = two_entries(rt.alloc())?;
-    let first = journal.entries().get(0).ok_or("no entry")?;
-    let second = journal.entries().get(1).ok_or("one entry")?;
-    assert!(rt; first.op == added.op && first.reply == added.reply);
-    assert!(rt; second.op == asked.op && second.reply == asked.reply);
-    assert!(rt; first.op != second.op && first.reply != second.reply);
-    assert!(rt; second.turn == 1 && second.session == 0 && asked.at == 1);
+fn a_book_answers_each_kind_of_query(rt: HostRuntime) -> Result<(), Fail> {
+    let reports = reports_of_rows(rt.alloc())?;
+    assert_eq!(rt; reports.as_str(), KEPT_REPORTS);
+    Ok(())
+}
+
+// An addition and a question for its folded text.
+fn ask_for_text(alloc: Global, book: &mut Book) -> Result<(), Fail> {
+    book.add(alloc, 1, 0, batch_of(alloc, "main;a 2\n")?)
+        .ok()
+        .ok_or("refused")?;
+    book.ask(alloc, 0, 0, query_of(alloc, Kind::Folded)?)
+        .ok()
+        .ok_or("refused")?;
+    Ok(())
+}
+
+fn two_entries(alloc: Global) -> Result<Journal, Fail> {
+    let mut book = book_of(alloc, 2)?;
+    ask_for_text(alloc, &mut book)?;
+    Ok(book.into_journal())
+}
+
+fn has_addition(alloc: Global, entry: &Entry) -> Result<bool, Fail> {
+    let op = Op::Add(batch_of(alloc, "main;a 2\n")?);
+    Ok((entry.session, entry.turn) == (1, 0) && entry.op == op && entry.reply == Reply::Placed(0))
+}
+
+fn has_question(alloc: Global, entry: &Entry) -> Result<bool, Fail> {
+    let op = Op::Ask(query_of(alloc, Kind::Folded)?);
+    Ok((entry.session, entry.turn) == (0, 0) && entry.op == op)
+}
+
+fn check_entries(alloc: Global, entries: &[Entry]) -> Result<(), Fail> {
+    let [first, second] = entries else {
+        return Err("two entries".into());
+    };
+    if !has_addition(alloc, first)? || !has_question(alloc, second)? {
+        return Err("other entries".into());
+    }
+    if answer_in(alloc, &second.reply)?.as_str() != "main;a 2\n" {
+        return Err("another answer".into());
+    }
     Ok(())
 }
 
 #[test]
-fn operations_are_compared_by_what_they_hold(rt: HostRuntime) -> Result<(), Fail> {
-    let alloc = rt.alloc();
-    let added = Op::Add(batch_of(alloc, "a 1\n")?);
-    assert!(rt; added == Op::Add(batch_of(alloc, "a 1\n")?));
-    assert!(rt; added != Op::Add(batch_of(alloc, "a 2\n")?));
-    let asked = Op::Ask(query_of(alloc, Kind::Total)?);
-    assert!(rt; asked == Op::Ask(query_of(alloc, Kind::Total)?));
-    assert!(rt; asked != Op::Ask(query_of(alloc, Kind::Folded)?) && asked != added);
+fn a_journal_has_what_was_asked_and_told(rt: HostRuntime) -> Result<(), Fail> {
+    let journal = two_entries(rt.alloc())?;
+    check_entries(rt.alloc(), journal.entries())
+}
+
+#[test]
+fn additions_are_compared_by_their_rows(rt: HostRuntime) -> Result<(), Fail> {
+    let added = Op::Add(batch_of(rt.alloc(), "a 1\n")?);
+    assert!(rt; added == Op::Add(batch_of(rt.alloc(), "a 1\n")?));
+    assert!(rt; added != Op::Add(batch_of(rt.alloc(), "a 2\n")?));
+    assert!(rt; added != Op::Ask(query_of(rt.alloc(), Kind::Total)?));
+    Ok(())
+}
+
+#[test]
+fn questions_are_compared_by_their_queries(rt: HostRuntime) -> Result<(), Fail> {
+    let asked = Op::Ask(query_of(rt.alloc(), Kind::Total)?);
+    assert!(rt; asked == Op::Ask(query_of(rt.alloc(), Kind::Total)?));
+    assert!(rt; asked != Op::Ask(query_of(rt.alloc(), Kind::Folded)?));
+    assert!(rt; asked != Op::Ask(kept_query(rt.alloc(), Kind::Total)?));
+    Ok(())
+}
+
+#[test]
+fn places_are_compared_by_their_numbers(rt: HostRuntime) -> Result<(), Fail> {
+    let total = Reply::Answered(Arc::new(rt.alloc(), Answer::Total(1))?);
+    assert!(rt; Reply::Placed(1) == Reply::Placed(1));
+    assert!(rt; Reply::Placed(1) != Reply::Placed(2) && Reply::Placed(1) != total);
+    Ok(())
+}
+
+#[test]
+fn answers_are_compared_by_what_they_say(rt: HostRuntime) -> Result<(), Fail> {
+    let total = Reply::Answered(Arc::new(rt.alloc(), Answer::Total(1))?);
+    assert!(rt; total == Reply::Answered(Arc::new(rt.alloc(), Answer::Total(1))?));
+    assert!(rt; total != Reply::Answered(Arc::new(rt.alloc(), Answer::Total(2))?));
     Ok(())
 }

@@ -4,4 +4,6 @@
 #[cfg(test)]
 mod books;
 #[cfg(test)]
+mod helpers;
+#[cfg(test)]
 mod stores;

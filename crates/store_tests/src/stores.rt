@@ -1,22 +1,19 @@
-//! What no clause says: that calls succeed with ample memory, what they answer on worked rows, that a closed store gives its own
-//! journal, and that sessions may be used by threads.
+//! What no clause says of stores: that calls succeed with ample memory, what they answer on worked rows, that a closed
+//! store gives its own journal, and that sessions may be used by threads.
 
 ghost use Rattle.std.specs.Prelude.{◌≡◌};
 
-use flame_report::{Answer, Kind, Query};
+use crate::helpers::{KEPT_REPORTS, ROWS, answer_text, batch_of, kept_query, kinds, query_of};
+use flame_report::{Answer, Kind};
 use live_store::{Blank, BookFault, Session, Store, StoreName};
 use op_book::Journal;
-use stack_text::{Batch, read_folded};
+use stack_text::Batch;
 use std::alloc::Global;
 use std::marker::Brand;
 use std::sync::{Arc, Wait};
 use std::test::Fail;
 use std::thread;
 use std::thread::Threads;
-
-fn batch_of(alloc: Global, text: &str) -> Result<Arc<Batch>, Fail> {
-    Ok(Arc::new(alloc, read_folded(alloc, text.as_bytes())?)?)
-}
 
 // The place that a batch is given, or why it is refused.
 fn add<N: StoreName, R: Wait>(
@@ -38,12 +35,7 @@ fn total<N: StoreName, R: Wait>(
     alloc: Global,
     session: &mut Session<'_, N>,
 ) -> Result<Result<u64, BookFault>, Fail> {
-    let query = Query {
-        focus: None,
-        ignore: None,
-        kind: Kind::Total,
-    };
-    let query = Arc::new(alloc, query)?;
+    let query = query_of(alloc, Kind::Total)?;
     match session.ask(rt, alloc, &query) {
         Ok(Answer::Total(total)) => Ok(Ok(*total)),
         Ok(_) => Err("another answer".into()),
@@ -60,7 +52,43 @@ fn sessions_of(alloc: Global, journal: &Journal) -> Result<String, Fail> {
     Ok(text)
 }
 
-// Two sessions of one store, in turn: what they are told.
+// What two sessions are told in their first turns.
+fn first_turns<N: StoreName, R: Wait>(
+    rt: &R,
+    alloc: Global,
+    first: &mut Session<'_, N>,
+    second: &mut Session<'_, N>,
+) -> Result<String, Fail> {
+    let a = add(rt, alloc, first, "a 1\n")?;
+    let b = add(rt, alloc, second, "b 2\n")?;
+    let three = total(rt, alloc, first)?;
+    Ok(format!(in alloc; "{a:?} {b:?} {three:?}")?)
+}
+
+// What one of them is told after that.
+fn later_turns<N: StoreName, R: Wait>(
+    rt: &R,
+    alloc: Global,
+    session: &mut Session<'_, N>,
+) -> Result<String, Fail> {
+    let c = add(rt, alloc, session, "c 4\n")?;
+    let seven = total(rt, alloc, session)?;
+    Ok(format!(in alloc; "{c:?} {seven:?}")?)
+}
+
+// Two sessions in turn: what they are told.
+fn take_turns<N: StoreName, R: Wait>(
+    rt: &R,
+    alloc: Global,
+    first: &mut Session<'_, N>,
+    second: &mut Session<'_, N>,
+) -> Result<String, Fail> {
+    let early = first_turns(rt, alloc, first, second)?;
+    let later = later_turns(rt, alloc, second)?;
+    Ok(format!(in alloc; "{early} {later}")?)
+}
+
+// What two sessions of one store are told, what a third is, and how many receipts the two have.
 fn two_sessions<N: StoreName, R: Wait>(
     rt: &R,
     alloc: Global,
@@ -68,18 +96,11 @@ fn two_sessions<N: StoreName, R: Wait>(
 ) -> Result<String, Fail> {
     let mut first = store.session(rt, alloc)?;
     let mut second = store.session(rt, alloc)?;
-    let a = add(rt, alloc, &mut first, "a 1\n")?;
-    let b = add(rt, alloc, &mut second, "b 2\n")?;
-    let three = total(rt, alloc, &mut first)?;
-    let c = add(rt, alloc, &mut second, "c 4\n")?;
-    let seven = total(rt, alloc, &mut second)?;
+    let told = take_turns(rt, alloc, &mut first, &mut second);
     let third = store.session(rt, alloc).err();
-    let logs = (first.close(), second.close());
-    Ok(format!(in alloc;
-        "{a:?} {b:?} {three:?} {c:?} {seven:?} {third:?} {} {}",
-        logs.0.receipts.as_slice().len(),
-        logs.1.receipts.as_slice().len()
-    )?)
+    let receipts = first.close().receipts.as_slice().len();
+    let others = second.close().receipts.as_slice().len();
+    Ok(format!(in alloc; "{} {third:?} {receipts} {others}", told?)?)
 }
 
 // What two sessions are told, and what the closed store leaves.
@@ -109,23 +130,30 @@ fn closed_store_gives_its_journal(rt: HostRuntime) -> Result<(), Fail> {
     Ok(())
 }
 
-// One session that is refused for want of room and goes on: what it is told.
+// A session that is refused for want of room and goes on: what it is told.
+fn go_on<N: StoreName, R: Wait>(
+    rt: &R,
+    alloc: Global,
+    session: &mut Session<'_, N>,
+) -> Result<String, Fail> {
+    let most = add(rt, alloc, session, "a 9223372036854775806\n")?;
+    let heavy = add(rt, alloc, session, "b 2\n")?;
+    let last = add(rt, alloc, session, "b 1\n")?;
+    let all = total(rt, alloc, session)?;
+    let full = total(rt, alloc, session)?;
+    Ok(format!(in alloc; "{most:?} {heavy:?} {last:?} {all:?} {full:?}")?)
+}
+
+// What such a session is told, and how many receipts it has.
 fn refused_session<N: StoreName, R: Wait>(
     rt: &R,
     alloc: Global,
     store: &Store<N>,
 ) -> Result<String, Fail> {
     let mut session = store.session(rt, alloc)?;
-    let most = add(rt, alloc, &mut session, "a 9223372036854775806\n")?;
-    let heavy = add(rt, alloc, &mut session, "b 2\n")?;
-    let last = add(rt, alloc, &mut session, "b 1\n")?;
-    let all = total(rt, alloc, &mut session)?;
-    let full = total(rt, alloc, &mut session)?;
-    let log = session.close();
-    Ok(format!(in alloc;
-        "{most:?} {heavy:?} {last:?} {all:?} {full:?} {}",
-        log.receipts.as_slice().len()
-    )?)
+    let told = go_on(rt, alloc, &mut session);
+    let receipts = session.close().receipts.as_slice().len();
+    Ok(format!(in alloc; "{} {receipts}", told?)?)
 }
 
 // What a session of a store of three entries is told.
@@ -145,8 +173,132 @@ fn store_limits(rt: HostRuntime) -> Result<(), Fail> {
     let told = refused::<Brand, HostRuntime>(&rt, alloc, Blank::make(alloc, 3, 1)?)?;
     assert_eq!(rt;
         told.as_str(),
-        "Ok(0) Err(Heavy { held: 9223372036854775806 }) Ok(1) Ok(9223372036854775807) Err(Full { held: 3 }) 3; 3"
+        "Ok(0) Err(Heavy { held: 9223372036854775806 }) Ok(1) Ok(9223372036854775807) \
+         Err(Full { held: 3 }) 3; 3"
     );
+    Ok(())
+}
+
+// A session beside one that leaves room for a weight of 1: what it is told, and how many receipts it has.
+fn smaller_batch<N: StoreName, R: Wait>(
+    rt: &R,
+    alloc: Global,
+    heavy: &mut Session<'_, N>,
+    session: &mut Session<'_, N>,
+) -> Result<String, Fail> {
+    let most = add(rt, alloc, heavy, "a 9223372036854775806\n")?;
+    let refused = add(rt, alloc, session, "b 2\n")?;
+    let smaller = add(rt, alloc, session, "b 1\n")?;
+    let receipts = session.log().len();
+    Ok(format!(in alloc; "{most:?} {refused:?} {smaller:?} {receipts}")?)
+}
+
+// A session that adds a row and asks for the total, and another that then asks for it: what they are told.
+fn other_asks<N: StoreName, R: Wait>(
+    rt: &R,
+    alloc: Global,
+    first: &mut Session<'_, N>,
+    second: &mut Session<'_, N>,
+) -> Result<String, Fail> {
+    let place = add(rt, alloc, first, "a 1\n")?;
+    let own = total(rt, alloc, first)?;
+    let other = total(rt, alloc, second)?;
+    Ok(format!(in alloc; "{place:?} {own:?} {other:?}")?)
+}
+
+// What a session answers a query of some kind.
+fn report_on<N: StoreName, R: Wait>(
+    rt: &R,
+    alloc: Global,
+    session: &mut Session<'_, N>,
+    kind: Kind,
+) -> Result<String, Fail> {
+    let query = kept_query(alloc, kind)?;
+    match session.ask(rt, alloc, &query) {
+        Ok(answer) => answer_text(alloc, answer),
+        Err(_) => Err("refused".into()),
+    }
+}
+
+// What a session answers to queries of each kind behind an addition.
+fn each_kind<N: StoreName, R: Wait>(
+    rt: &R,
+    alloc: Global,
+    session: &mut Session<'_, N>,
+) -> Result<String, Fail> {
+    add(rt, alloc, session, ROWS)?.ok().ok_or("refused")?;
+    let mut text = String::new(alloc);
+    for kind in kinds()? {
+        text.push_str(report_on(rt, alloc, session, kind)?.as_str())?;
+        text.push('|')?;
+    }
+    Ok(text)
+}
+
+// What two sessions do, or one of them.
+#[derive(Clone, Copy)]
+enum Story {
+    SmallerBatch,
+    OtherAsks,
+    EachKind,
+}
+
+fn told_in<N: StoreName, R: Wait>(
+    rt: &R,
+    alloc: Global,
+    store: &Store<N>,
+    story: Story,
+) -> Result<String, Fail> {
+    let mut first = store.session(rt, alloc)?;
+    let mut second = store.session(rt, alloc)?;
+    match story {
+        Story::SmallerBatch => smaller_batch(rt, alloc, &mut first, &mut second),
+        Story::OtherAsks => other_asks(rt, alloc, &mut first, &mut second),
+        Story::EachKind => each_kind(rt, alloc, &mut first),
+    }
+}
+
+fn told<N: StoreName, R: Wait>(
+    rt: &R,
+    alloc: Global,
+    blank: Blank,
+    story: Story,
+) -> Result<String, Fail>
+    requires { blank ≡ record { limit = N.limit; sessions = N.sessions } }
+{
+    let store = Store::<N>::start(blank);
+    let told = told_in(rt, alloc, &store, story);
+    let _journal = store.close(rt);
+    told
+}
+
+#[test]
+fn a_session_that_was_refused_adds_a_smaller_batch(rt: HostRuntime) -> Result<(), Fail> {
+    let alloc = rt.alloc();
+    let blank = Blank::make(alloc, 10, 2)?;
+    let told = told::<Brand, HostRuntime>(&rt, alloc, blank, Story::SmallerBatch)?;
+    assert_eq!(rt;
+        told.as_str(),
+        "Ok(0) Err(Heavy { held: 9223372036854775806 }) Ok(1) 1"
+    );
+    Ok(())
+}
+
+#[test]
+fn an_addition_is_seen_by_the_other_session(rt: HostRuntime) -> Result<(), Fail> {
+    let alloc = rt.alloc();
+    let blank = Blank::make(alloc, 10, 2)?;
+    let told = told::<Brand, HostRuntime>(&rt, alloc, blank, Story::OtherAsks)?;
+    assert_eq!(rt; told.as_str(), "Ok(0) Ok(1) Ok(1)");
+    Ok(())
+}
+
+#[test]
+fn a_session_answers_each_kind_of_query(rt: HostRuntime) -> Result<(), Fail> {
+    let alloc = rt.alloc();
+    let blank = Blank::make(alloc, 10, 2)?;
+    let told = told::<Brand, HostRuntime>(&rt, alloc, blank, Story::EachKind)?;
+    assert_eq!(rt; told.as_str(), KEPT_REPORTS);
     Ok(())
 }
 
@@ -174,14 +326,14 @@ fn two_threads<N: StoreName, R: Threads + Wait + Sync>(
     rt: &R,
     alloc: Global,
     store: &Store<N>,
+    batch: &Arc<Batch>,
 ) -> Result<(usize, usize), Fail> {
-    let batch = batch_of(alloc, "main;a 1\n")?;
     let first = store.session(rt, alloc)?;
     let second = store.session(rt, alloc)?;
     Ok(thread::join(
         rt,
-        || add_often(rt, alloc, first, &batch),
-        || add_often(rt, alloc, second, &batch),
+        || add_often(rt, alloc, first, batch),
+        || add_often(rt, alloc, second, batch),
     ))
 }
 
@@ -190,11 +342,12 @@ fn threaded<N: StoreName, R: Threads + Wait + Sync>(
     rt: &R,
     alloc: Global,
     blank: Blank,
+    batch: &Arc<Batch>,
 ) -> Result<String, Fail>
     requires { blank ≡ record { limit = N.limit; sessions = N.sessions } }
 {
     let store = Store::<N>::start(blank);
-    let counts = two_threads(rt, alloc, &store);
+    let counts = two_threads(rt, alloc, &store, batch);
     let journal = store.close(rt);
     let (a, b) = counts?;
     Ok(format!(in alloc;
@@ -207,7 +360,9 @@ fn threaded<N: StoreName, R: Threads + Wait + Sync>(
 #[test]
 fn two_threads_add_at_once(rt: HostRuntime) -> Result<(), Fail> {
     let alloc = rt.alloc();
-    let told = threaded::<Brand, HostRuntime>(&rt, alloc, Blank::make(alloc, 200, 2)?)?;
+    let batch = batch_of(alloc, "main;a 1\n")?;
+    let blank = Blank::make(alloc, 200, 2)?;
+    let told = threaded::<Brand, HostRuntime>(&rt, alloc, blank, &batch)?;
     assert_eq!(rt; told.as_str(), "100 100; 200 200");
     Ok(())
 }

@@ -1,0 +1,186 @@
+//! What no clause says of a profile's samples: that calls succeed with ample memory, and what they answer on values
+//! from the format's description.
+
+use crate::helpers::{rows_of, text_of};
+use crate::messages::{INLINED_AND_BARE_LOCATIONS, NEGATIVE_VALUE, ONE_SAMPLE, TWO_SAMPLE_TYPES};
+use pprof_profile::{Profile, decode, encode};
+use stack_text::{
+    Batch, BatchFault, Name, NoMemory, ValueChoice, batch_of, export_folded, profile_of,
+    sum_samples, unfold,
+};
+use std::alloc::Global;
+use std::test::Fail;
+
+// One sample of the frame f and of weight 7, of the type cpu in ns.
+#[test]
+fn folded_text_is_exported_as_a_profile(rt: HostRuntime) -> Result<(), Fail> {
+    let bytes = export_folded(rt.alloc(), b"f 7\n", "cpu", "ns")?;
+    assert!(rt; bytes.as_slice() == ONE_SAMPLE);
+    Ok(())
+}
+
+// The bytes of the profile of rows.
+fn exported(alloc: Global, rows: &Batch) -> Result<Vec<u8>, NoMemory> {
+    let profile = profile_of(alloc, rows, "cpu", "ns")?;
+    encode(alloc, &profile)
+}
+
+// The same sample, from a batch.
+#[test]
+fn a_batch_is_exported_as_a_profile(rt: HostRuntime) -> Result<(), Fail> {
+    let rows = rows_of(rt.alloc(), "f 7\n")?;
+    assert!(rt; exported(rt.alloc(), &rows)?.as_slice() == ONE_SAMPLE);
+    Ok(())
+}
+
+fn rows_text(alloc: Global, profile: &Profile, choice: ValueChoice) -> Result<String, Fail> {
+    text_of(alloc, &batch_of(alloc, profile, choice)?)
+}
+
+// The rows of a profile's samples, as folded text.
+fn read(alloc: Global, bytes: &[u8], choice: ValueChoice) -> Result<String, Fail> {
+    let profile = decode(alloc, bytes)?;
+    rows_text(alloc, &profile, choice)
+}
+
+#[test]
+fn the_value_of_a_sample_is_that_of_the_type_asked_for(rt: HostRuntime) -> Result<(), Fail> {
+    for (choice, want) in [
+        (ValueChoice::Default, "f 30\n"),
+        (ValueChoice::Named("samples"), "f 3\n"),
+        (ValueChoice::Named("cpu"), "f 30\n"),
+    ] {
+        let rows = read(rt.alloc(), TWO_SAMPLE_TYPES, choice)?;
+        assert_eq!(rt; rows.as_str(), want);
+    }
+    Ok(())
+}
+
+// Why the samples of a profile are no batch.
+fn fault_of(alloc: Global, bytes: &[u8], choice: ValueChoice) -> Result<Option<BatchFault>, Fail> {
+    let profile = decode(alloc, bytes)?;
+    Ok(batch_of(alloc, &profile, choice).err())
+}
+
+#[test]
+fn a_type_that_is_not_there_has_no_value(rt: HostRuntime) -> Result<(), Fail> {
+    let fault = fault_of(rt.alloc(), TWO_SAMPLE_TYPES, ValueChoice::Named("wall"))?;
+    assert_eq!(rt; fault, Some(BatchFault::NoValue));
+    Ok(())
+}
+
+#[test]
+fn a_value_below_0_is_refused(rt: HostRuntime) -> Result<(), Fail> {
+    let fault = fault_of(rt.alloc(), NEGATIVE_VALUE, ValueChoice::Default)?;
+    assert_eq!(rt; fault, Some(BatchFault::Negative { sample: 0 }));
+    Ok(())
+}
+
+// Two samples, of the values 2^63 - 1 and 1.
+const TWO_HEAVY_SAMPLES: &[u8] = &[
+    0x0a, 0x04, 0x08, 0x01, 0x10, 0x02, 0x12, 0x0e, 0x0a, 0x01, 0x01, 0x12, 0x09, 0xff, 0xff, 0xff,
+    0xff, 0xff, 0xff, 0xff, 0xff, 0x7f, 0x12, 0x06, 0x0a, 0x01, 0x01, 0x12, 0x01, 0x01, 0x22, 0x06,
+    0x08, 0x01, 0x22, 0x02, 0x08, 0x01, 0x2a, 0x04, 0x08, 0x01, 0x10, 0x03, 0x32, 0x00, 0x32, 0x03,
+    0x63, 0x70, 0x75, 0x32, 0x02, 0x6e, 0x73, 0x32, 0x01, 0x66,
+];
+
+#[test]
+fn values_above_the_greatest_total_are_refused(rt: HostRuntime) -> Result<(), Fail> {
+    let fault = fault_of(rt.alloc(), TWO_HEAVY_SAMPLES, ValueChoice::Default)?;
+    assert_eq!(rt; fault, Some(BatchFault::Heavy { sample: 1 }));
+    Ok(())
+}
+
+// A profile of one sample, which names one location without lines again and again. The lengths of the sample and of its
+// ids are given.
+fn deep(alloc: Global, sample: &[u8], ids: &[u8], depth: usize) -> Result<Vec<u8>, Fail> {
+    let mut bytes = Vec::from_slice(alloc, &[0x0a, 0x04, 0x08, 0x01, 0x10, 0x02, 0x12])?;
+    bytes.extend_from_slice(sample)?;
+    bytes.push(0x0a)?;
+    bytes.extend_from_slice(ids)?;
+    for _ in 0..depth {
+        bytes.push(0x01)?;
+    }
+    bytes.extend_from_slice(&[0x12, 0x01, 0x07, 0x22, 0x02, 0x08, 0x01])?;
+    bytes.extend_from_slice(&[
+        0x32, 0x00, 0x32, 0x03, 0x63, 0x70, 0x75, 0x32, 0x02, 0x6e, 0x73,
+    ])?;
+    Ok(bytes)
+}
+
+#[test]
+fn a_sample_of_65536_frames_is_refused(rt: HostRuntime) -> Result<(), Fail> {
+    let bytes = deep(rt.alloc(), &[0x87, 0x80, 0x04], &[0x80, 0x80, 0x04], 65_536)?;
+    let fault = fault_of(rt.alloc(), bytes.as_slice(), ValueChoice::Default)?;
+    assert_eq!(rt; fault, Some(BatchFault::Depth { sample: 0 }));
+    Ok(())
+}
+
+#[test]
+fn a_sample_of_65535_frames_is_read(rt: HostRuntime) -> Result<(), Fail> {
+    let bytes = deep(rt.alloc(), &[0x86, 0x80, 0x04], &[0xff, 0xff, 0x03], 65_535)?;
+    let rows = read(rt.alloc(), bytes.as_slice(), ValueChoice::Default)?;
+    assert!(rt; rows.len() == 65_535 * 4 + 2 && rows.ends_with("0x0;0x0 7\n"));
+    Ok(())
+}
+
+fn sums_text(alloc: Global, profile: &Profile) -> Result<String, Fail> {
+    text_of(alloc, &sum_samples(alloc, profile, ValueChoice::Default)?)
+}
+
+// The rows of a profile's samples where equal ones are put together, as folded text.
+fn read_sums(alloc: Global, bytes: &[u8]) -> Result<String, Fail> {
+    let profile = decode(alloc, bytes)?;
+    sums_text(alloc, &profile)
+}
+
+// Two samples of the frame f, of the values 7 and 5.
+const TWO_EQUAL_SAMPLES: &[u8] = &[
+    0x0a, 0x04, 0x08, 0x01, 0x10, 0x02, 0x12, 0x06, 0x0a, 0x01, 0x01, 0x12, 0x01, 0x07, 0x12, 0x06,
+    0x0a, 0x01, 0x01, 0x12, 0x01, 0x05, 0x22, 0x06, 0x08, 0x01, 0x22, 0x02, 0x08, 0x01, 0x2a, 0x04,
+    0x08, 0x01, 0x10, 0x03, 0x32, 0x00, 0x32, 0x03, 0x63, 0x70, 0x75, 0x32, 0x02, 0x6e, 0x73, 0x32,
+    0x01, 0x66,
+];
+
+#[test]
+fn samples_are_merged_to_rows(rt: HostRuntime) -> Result<(), Fail> {
+    for (bytes, want) in [
+        (INLINED_AND_BARE_LOCATIONS, "0xff;c;b;a 2\n"),
+        (TWO_EQUAL_SAMPLES, "f 12\n"),
+    ] {
+        let rows = read_sums(rt.alloc(), bytes)?;
+        assert_eq!(rt; rows.as_str(), want);
+    }
+    Ok(())
+}
+
+// a, inlined into b, inlined into c, under a location without lines at 0xff; the value is 2.
+#[test]
+fn inlined_lines_and_bare_locations(rt: HostRuntime) -> Result<(), Fail> {
+    let rows = read(rt.alloc(), INLINED_AND_BARE_LOCATIONS, ValueChoice::Default)?;
+    assert_eq!(rt; rows.as_str(), "0xff;c;b;a 2\n");
+    Ok(())
+}
+
+// The frames of a profile's first sample, leaf first.
+fn first_unfolded(alloc: Global, profile: &Profile) -> Result<Vec<Name>, Fail> {
+    if profile.draft().samples.is_empty() {
+        return Err("no sample".into());
+    }
+    Ok(unfold(alloc, profile, 0)?)
+}
+
+fn unfolded(alloc: Global, bytes: &[u8]) -> Result<Vec<Name>, Fail> {
+    let profile = decode(alloc, bytes)?;
+    first_unfolded(alloc, &profile)
+}
+
+#[test]
+fn the_leaf_is_unfolded_first(rt: HostRuntime) -> Result<(), Fail> {
+    let names = unfolded(rt.alloc(), INLINED_AND_BARE_LOCATIONS)?;
+    assert_eq!(rt; names.len(), 4);
+    for (name, want) in names.iter().zip(["a", "b", "c", "0xff"]) {
+        assert_eq!(rt; name.text(), want);
+    }
+    Ok(())
+}

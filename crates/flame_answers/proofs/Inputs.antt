@@ -14,8 +14,8 @@ use Rattle.profile_samples.specs.declared.sampling.ValueChoice.{ValueChoice}
 use Rattle.profile_samples.specs.declared.sampling.ValueChoice.TheVariants.{Default, Named}
 use Rattle.folded_text.specs.FoldedText.{IsFirstFault, IsFoldedText, IsWorkFault}
 use Rattle.profile_samples.specs.Samples.{IsBatchOf, IsFirstBatchFault, chosen_type_of, type_named}
-use Rattle.profile_samples.specs.SampleSums.{IsSumOfBatch}
-use Rattle.folded_text.specs.TextSums.{IsSumOfText}
+use Rattle.profile_samples.specs.MergedSamples.{IsMergedBatch}
+use Rattle.folded_text.specs.TextSums.{IsMergedText}
 use Rattle.flame_report.specs.Answers.{answer_by, kept_by}
 use Rattle.flame_report.specs.declared.query.Kind.{Kind}
 use Rattle.flame_report.specs.declared.query.Query.{Query}
@@ -24,7 +24,7 @@ use Rattle.flame_answers.specs.declared.request.Source.{Source}
 use Rattle.flame_answers.specs.declared.outcomes.ToolFault.{ToolFault}
 use Rattle.flame_answers.specs.declared.outcomes.ToolFault.TheVariants as tool
 use Rattle.flame_answers.specs.declared.request.Format.TheVariants.{Folded, Pprof}
-use Rattle.flame_answers.specs.Answers.{AreRowsIn, AreSumsIn, HasNoRows, IsAnswer, IsAnswerOfText, IsChoice, IsFaultIn, IsInputFault, IsRefusedIn, answer_text, batch_fault_of, folded_fault_of, profile_fault_of}
+use Rattle.flame_answers.specs.Answers.{AreRowsIn, AreMergedIn, HasNoRows, IsAnswer, IsAnswerOfText, IsChoice, IsFaultIn, IsInputFault, IsRefusedIn, answer_text, batch_fault_of, folded_fault_of, profile_fault_of}
 
 -- ---- folded text
 
@@ -117,10 +117,10 @@ batch_refused value input draft choice (batch.Heavy at) is only chosen first row
 batch_refused value input draft choice batch.NoMemory is only chosen first rows = tt
 
 -- the sums of a batch are sums of the input
-pub AreSumsIn-batch : (value : Option (List ℕ)) (input : List ℕ) (draft : Draft) (choice : ValueChoice) (sums : List Row) → IsProfile input draft → IsChoice value choice → IsSumOfBatch draft choice sums
-    → AreSumsIn Pprof value input sums
-AreSumsIn-batch value input draft choice sums is chosen this =
+pub AreMergedIn-batch : (value : Option (List ℕ)) (input : List ℕ) (draft : Draft) (choice : ValueChoice) (sums : List Row) → IsProfile input draft → IsChoice value choice → IsMergedBatch draft choice sums
+    → AreMergedIn Pprof value input sums
+AreMergedIn-batch value input draft choice sums is chosen this =
     record { rows = this.rows; spelled = record { draft = draft; profile = is; choice = choice; chosen = chosen; sampled = this.sampled }; same = this.same }
 
-pub AreSumsIn-text : (value : Option (List ℕ)) (input : List ℕ) (sums : List Row) → IsSumOfText input sums → AreSumsIn Folded value input sums
-AreSumsIn-text value input sums this = record { rows = this.rows; spelled = this.folded; same = this.same }
+pub AreMergedIn-text : (value : Option (List ℕ)) (input : List ℕ) (sums : List Row) → IsMergedText input sums → AreMergedIn Folded value input sums
+AreMergedIn-text value input sums this = record { rows = this.rows; spelled = this.folded; same = this.same }

@@ -1,9 +1,10 @@
 //! What an input answers to a request.
+
 ghost use Rattle.std.specs.Prelude.{ℕ, ◌≡◌, ◌∷◌, ◌++◌, [], List, MatchResult, IfOk, Option};
 ghost use Rattle.profile_rows.specs.declared.batch.Row.{Row};
 ghost use Rattle.flame_report.specs.Answers.{answer_of};
 ghost use Rattle.flame_report.specs.declared.query.Kind.TheVariants.{Top};
-ghost use Rattle.flame_answers.specs.Answers.{AreSumsIn, IsAnswer, IsAnswerOfText, IsChoice, IsInputFault, IsRefusedIn, answer_text, batch_fault_of, folded_fault_of, profile_fault_of};
+ghost use Rattle.flame_answers.specs.Answers.{AreMergedIn, IsAnswer, IsAnswerOfText, IsChoice, IsInputFault, IsRefusedIn, answer_text, batch_fault_of, folded_fault_of, profile_fault_of};
 ghost use Rattle.flame_answers.specs.declared.request.Format.TheVariants.{Folded, Pprof};
 ghost use Rattle.flame_answers.specs.declared.request.Request.TheVariants.{Report, Export};
 
@@ -11,10 +12,10 @@ use crate::outcomes::ToolFault;
 use crate::request::{Format, Request, Source};
 use flame_report::laws::answers_are_by_the_aggregate;
 use flame_report::{Answer, Kind, Query, Rank, flame_json, report_of, top_list, top_text};
-use folded_text::{FoldedFault, folded_totals, sum_folded};
+use folded_text::{FoldedFault, folded_totals, merge_folded};
 use pprof_profile::{ProfileFault, Text, decode};
 use profile_rows::{Batch, NoMemory};
-use profile_samples::{BatchFault, ValueChoice, export_folded, sum_samples};
+use profile_samples::{BatchFault, ValueChoice, export_folded, merge_samples};
 use std::alloc::Global;
 
 /// The whole text that is written for an input.
@@ -49,9 +50,9 @@ fn report_on(
             folded_top(alloc, rank, count, input)
         }
         _ => {
-            let sums = sums_in(alloc, source, input)?;
+            let merged = merged_rows(alloc, source, input)?;
             answers_are_by_the_aggregate();
-            Ok(report_text(alloc, &sums, query)?)
+            Ok(report_text(alloc, &merged, query)?)
         }
     }
 }
@@ -83,41 +84,41 @@ fn export(alloc: Global, kind: &Text, unit: &Text, input: &[u8]) -> Result<Vec<u
 }
 
 /// Rows that add up to those of the input.
-fn sums_in(alloc: Global, source: &Source, input: &[u8]) -> Result<Batch, ToolFault>
+fn merged_rows(alloc: Global, source: &Source, input: &[u8]) -> Result<Batch, ToolFault>
     ensures { MatchResult result
-        (λ sums. AreSumsIn source.now.format source.now.value input.now sums)
+        (λ merged. AreMergedIn source.now.format source.now.value input.now merged)
         (λ fault. IsRefusedIn source.now.format source.now.value input.now fault) }
 {
     match source.format {
-        Format::Folded => folded_sums(alloc, input),
-        Format::Pprof => profile_sums(alloc, &source.value, input),
+        Format::Folded => merged_lines(alloc, input),
+        Format::Pprof => merged_samples(alloc, &source.value, input),
     }
 }
 
 /// Rows that add up to those of folded text.
-fn folded_sums(alloc: Global, input: &[u8]) -> Result<Batch, ToolFault>
+fn merged_lines(alloc: Global, input: &[u8]) -> Result<Batch, ToolFault>
     ensures { (value : Option (List ℕ)) → MatchResult result
-        (λ sums. AreSumsIn Folded value input.now sums)
+        (λ merged. AreMergedIn Folded value input.now merged)
         (λ fault. IsRefusedIn Folded value input.now fault) }
 {
-    match sum_folded(alloc, input) {
-        Ok(sums) => Ok(sums),
+    match merge_folded(alloc, input) {
+        Ok(merged) => Ok(merged),
         Err(fault) => Err(folded_fault(fault)),
     }
 }
 
 /// Rows that add up to those of a profile's samples.
-fn profile_sums(alloc: Global, value: &Option<Text>, input: &[u8]) -> Result<Batch, ToolFault>
+fn merged_samples(alloc: Global, value: &Option<Text>, input: &[u8]) -> Result<Batch, ToolFault>
     ensures { MatchResult result
-        (λ sums. AreSumsIn Pprof value.now input.now sums)
+        (λ merged. AreMergedIn Pprof value.now input.now merged)
         (λ fault. IsRefusedIn Pprof value.now input.now fault) }
 {
     let profile = match decode(alloc, input) {
         Ok(profile) => profile,
         Err(fault) => return Err(profile_fault(fault)),
     };
-    match sum_samples(alloc, &profile, choice_of(value)) {
-        Ok(sums) => Ok(sums),
+    match merge_samples(alloc, &profile, choice_of(value)) {
+        Ok(merged) => Ok(merged),
         Err(fault) => Err(batch_fault(fault)),
     }
 }

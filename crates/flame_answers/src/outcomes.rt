@@ -1,4 +1,5 @@
 //! How a run ends, and why.
+
 ghost use Rattle.std.specs.Prelude.{◌≡◌};
 ghost use Rattle.flame_answers.specs.Outcomes.{code_of, fault_text_of, said_of};
 

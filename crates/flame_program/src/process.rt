@@ -1,4 +1,5 @@
 //! The program in a process: its words and its three streams, its exit status, and what it says of its end.
+
 ghost use Rattle.std.specs.Prelude.{◌≡◌, IfOk, IfErr, map, string_bytes};
 ghost use Rattle.std.specs.IoError.{error_kind};
 ghost use Rattle.std.specs.Process.{exit_status};

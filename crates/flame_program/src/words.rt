@@ -1,4 +1,5 @@
 //! Reading the words of the command line.
+
 ghost use Rattle.std.specs.Prelude.{◌≡◌, ◌⊎◌, List, MatchResult, Some, Option, true, ⊤, codes, option_map};
 ghost use Rattle.clap.specs.Words.{Text, first_of, found_of, kind_of, rows_of, subcommand_rows_of};
 ghost use Rattle.flame_program.specs.Options.{is_name_if_given};

@@ -61,14 +61,14 @@ some_weight [] path some = cc
 some_weight (row ∷ rows) path some =
     let cons = weight_where-cons (begins_with name_cmp path) row rows in
     elim (nat_lt 0 row.weight) as (λ b. nat_lt 0 row.weight ≡ b
-        → list_any (begins_row path) (cond b (row ∷ filter (λ row. nat_lt 0 row.weight) rows) (filter (λ row. nat_lt 0 row.weight) rows)) ≡ true → 0 < path_weight (row ∷ rows) path) [
+    → list_any (begins_row path) (cond b (row ∷ filter (λ row. nat_lt 0 row.weight) rows) (filter (λ row. nat_lt 0 row.weight) rows)) ≡ true → 0 < path_weight (row ∷ rows) path) [
       | true ↦ λ e. elim (begins_with name_cmp path row.stack) as (λ b. begins_with name_cmp path row.stack ≡ b
           → (b || list_any (begins_row path) (filter (λ row. nat_lt 0 row.weight) rows)) ≡ true → 0 < path_weight (row ∷ rows) path) [
-        | true ↦ λ f found.
-            let own : cond (begins_with name_cmp path row.stack) row.weight 0 ≡ row.weight = ap (λ b. cond b row.weight 0) f in
-            let weighs = ltb-true 0 row.weight e in omega arith
-        | false ↦ λ f found. let rest = some_weight rows path found in omega arith
-      ] refl
+            | true ↦ λ f found.
+                let own : cond (begins_with name_cmp path row.stack) row.weight 0 ≡ row.weight = ap (λ b. cond b row.weight 0) f in
+                let weighs = ltb-true 0 row.weight e in omega arith
+            | false ↦ λ f found. let rest = some_weight rows path found in omega arith
+          ] refl
       | false ↦ λ e found. let rest = some_weight rows path found in omega arith
     ] refl some
 

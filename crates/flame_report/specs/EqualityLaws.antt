@@ -52,7 +52,7 @@ kind_eq-decides kind.Total kind.Folded = (λ e. cc, λ e. cc)
 kind_eq-decides (kind.Top rank count) kind.Total = (λ e. cc, λ e. cc)
 kind_eq-decides (kind.Top rank count) (kind.Top other more) =
     let parts = both_decide (rank_eq rank other) (count == more) (rank_eq-decides rank other)
-        (unsigned_Decides count more) in
+    (unsigned_Decides count more) in
     (λ e. let same = parts.0 e in λ i. kind.Top (same.0 i) (same.1 i), λ e. parts.1 (ap rank_in e, ap number_in e))
 kind_eq-decides (kind.Top rank count) (kind.Flame columns) = (λ e. cc, λ e. cc)
 kind_eq-decides (kind.Top rank count) kind.Folded = (λ e. cc, λ e. cc)
@@ -70,7 +70,7 @@ pub query_eq-decides : (a b : Query) → Decides (query_eq a b) (a ≡ b)
 query_eq-decides a b =
     let names = option_eq-decides is_same_name-decides in
     let parts = both_decide _ _ (both_decide _ _ (names a.focus b.focus) (names a.ignore b.ignore))
-        (kind_eq-decides a.kind b.kind) in (
+    (kind_eq-decides a.kind b.kind) in (
       λ e. let same = parts.0 e in λ i. record { focus = same.0.0 i; ignore = same.0.1 i; kind = same.1 i },
       λ e. parts.1 ((ap (λ (q : Query). q.focus) e, ap (λ (q : Query). q.ignore) e), ap (λ (q : Query). q.kind) e),
     )
@@ -83,39 +83,56 @@ query_eq-laws = decided-IsEquivalence query_eq-decides
 frame_total_eq-decides : (a b : FrameTotal) → Decides (frame_total_eq a b) (a ≡ b)
 frame_total_eq-decides a b =
     let parts = both_decide _ _ (both_decide _ _ (is_same_name-decides a.name b.name) (unsigned_Decides a.flat b.flat))
-        (unsigned_Decides a.cum b.cum) in (
+    (unsigned_Decides a.cum b.cum) in (
       λ e. let same = parts.0 e in λ i. record { name = same.0.0 i; flat = same.0.1 i; cum = same.1 i },
-      λ e. parts.1 ((ap (λ (row : FrameTotal). row.name) e, ap (λ (row : FrameTotal). row.flat) e),
-          ap (λ (row : FrameTotal). row.cum) e),
+      λ e. parts.1 (
+        (ap (λ (row : FrameTotal). row.name) e, ap (λ (row : FrameTotal). row.flat) e),
+        ap (λ (row : FrameTotal). row.cum) e,
+      ),
     )
 
 top_eq-decides : (a b : Top) → Decides (top_eq a b) (a ≡ b)
 top_eq-decides a b =
     let parts = both_decide _ _ (unsigned_Decides a.total b.total)
-        (pointwise_decides frame_total_eq-decides a.rows b.rows) in
-    (λ e. let same = parts.0 e in
-    λ i. record { total = same.0 i; rows = same.1 i },
-    λ e. parts.1 (ap (λ (top : Top). top.total) e, ap (λ (top : Top). top.rows) e))
+    (pointwise_decides frame_total_eq-decides a.rows b.rows) in (
+      λ e. let same = parts.0 e in
+          λ i. record { total = same.0 i; rows = same.1 i },
+      λ e. parts.1 (ap (λ (top : Top). top.total) e, ap (λ (top : Top). top.rows) e),
+    )
 
 rect_eq-decides : (a b : Rect) → Decides (rect_eq a b) (a ≡ b)
 rect_eq-decides a b =
     let span = both_decide _ _
-        (both_decide _ _ (both_decide _ _ (unsigned_Decides a.depth b.depth) (is_same_name-decides a.name b.name))
-        (unsigned_Decides a.x b.x)) (unsigned_Decides a.weight b.weight) in
+    (both_decide _ _ (both_decide _ _ (unsigned_Decides a.depth b.depth) (is_same_name-decides a.name b.name))
+    (unsigned_Decides a.x b.x)) (unsigned_Decides a.weight b.weight) in
     let parts = both_decide _ _ (both_decide _ _ span (unsigned_Decides a.left b.left))
-        (unsigned_Decides a.right b.right) in (
+    (unsigned_Decides a.right b.right) in (
       λ e. let same = parts.0 e in
-          λ i. record { depth = same.0.0.0.0.0 i; name = same.0.0.0.0.1 i; x = same.0.0.0.1 i; weight = same.0.0.1 i;
-          left = same.0.1 i; right = same.1 i },
-      λ e. parts.1 (((((ap (λ (r : Rect). r.depth) e, ap (λ (r : Rect). r.name) e), ap (λ (r : Rect). r.x) e),
-          ap (λ (r : Rect). r.weight) e), ap (λ (r : Rect). r.left) e), ap (λ (r : Rect). r.right) e),
+          λ i. record {
+            depth = same.0.0.0.0.0 i;
+            name = same.0.0.0.0.1 i;
+            x = same.0.0.0.1 i;
+            weight = same.0.0.1 i;
+            left = same.0.1 i;
+            right = same.1 i;
+          },
+      λ e. parts.1 (
+        (
+          (
+            ((ap (λ (r : Rect). r.depth) e, ap (λ (r : Rect). r.name) e), ap (λ (r : Rect). r.x) e),
+            ap (λ (r : Rect). r.weight) e,
+          ),
+          ap (λ (r : Rect). r.left) e,
+        ),
+        ap (λ (r : Rect). r.right) e,
+      ),
     )
 
 flame_eq-decides : (a b : Flame) → Decides (flame_eq a b) (a ≡ b)
 flame_eq-decides a b =
     let parts = both_decide _ _
-        (both_decide _ _ (unsigned_Decides a.total b.total) (unsigned_Decides a.columns b.columns))
-        (pointwise_decides rect_eq-decides a.rects b.rects) in (
+    (both_decide _ _ (unsigned_Decides a.total b.total) (unsigned_Decides a.columns b.columns))
+    (pointwise_decides rect_eq-decides a.rects b.rects) in (
       λ e. let same = parts.0 e in λ i. record { total = same.0.0 i; columns = same.0.1 i; rects = same.1 i },
       λ e. parts.1 ((ap (λ (f : Flame). f.total) e, ap (λ (f : Flame). f.columns) e), ap (λ (f : Flame). f.rects) e),
     )
@@ -151,14 +168,14 @@ answer_eq-decides (answer.Flame flame) (answer.Total total) = (λ e. cc, λ e. c
 answer_eq-decides (answer.Flame flame) (answer.Top top) = (λ e. cc, λ e. cc)
 answer_eq-decides (answer.Flame flame) (answer.Flame other) =
     let flames = flame_eq-decides flame other in
-        (λ e. ap answer.Flame (flames.0 e), λ e. flames.1 (ap (flame_in flame) e))
+    (λ e. ap answer.Flame (flames.0 e), λ e. flames.1 (ap (flame_in flame) e))
 answer_eq-decides (answer.Flame flame) (answer.Folded text) = (λ e. cc, λ e. cc)
 answer_eq-decides (answer.Folded text) (answer.Total total) = (λ e. cc, λ e. cc)
 answer_eq-decides (answer.Folded text) (answer.Top top) = (λ e. cc, λ e. cc)
 answer_eq-decides (answer.Folded text) (answer.Flame flame) = (λ e. cc, λ e. cc)
 answer_eq-decides (answer.Folded text) (answer.Folded other) =
     let texts = pointwise_decides unsigned_Decides text other in
-        (λ e. ap answer.Folded (texts.0 e), λ e. texts.1 (ap text_in e))
+    (λ e. ap answer.Folded (texts.0 e), λ e. texts.1 (ap text_in e))
 
 pub answer_eq-laws : IsEquivalence answer_eq
 answer_eq-laws = decided-IsEquivalence answer_eq-decides

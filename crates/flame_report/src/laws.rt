@@ -71,8 +71,8 @@ pub fn parents_are_shown()
         → Contains (rectangles_of columns rows) (rectangle_at columns rows path) }
 {}
 
-/// The paths of rows come in their order, each once: those that weigh something, and no others. The rectangles are those
-/// of the paths that take a column, in the order of the paths.
+/// The paths of rows come in their order, each once: those that weigh something, and no others. The rectangles are
+/// those of the paths that take a column, in the order of the paths.
 pub fn rectangles_come_in_order()
     ensures ascending { (rows : List Row) → AllPairs (λ path after. stack_cmp path after ≡ Less) (paths_of rows) }
     ensures weighty { (rows : List Row) (path : List (List ℕ))

@@ -6,11 +6,11 @@ use Rattle.profile_rows.specs.Aggregate.{aggregate_of}
 use Rattle.folded_text.specs.declared.folded.FoldedFault.{FoldedFault}
 use Rattle.folded_text.specs.declared.folded.FoldedFault.TheVariants as folded
 use Rattle.folded_text.specs.FoldedText.{IsFirstFault, IsFoldedText}
-use Rattle.folded_text.specs.TextSums.{IsSumOfText}
+use Rattle.folded_text.specs.TextSums.{IsMergedText}
 use Rattle.folded_text.proofs.Reading.{IsFirstFault-folded, IsFoldedText-same}
 
 -- what reading a text answers
-pub only_text_sums : (text : List ℕ) (outcome : Result (List Row) FoldedFault) → MatchResult outcome (λ sums. IsSumOfText text sums) (λ fault. IsFirstFault text fault)
+pub only_merged_text : (text : List ℕ) (outcome : Result (List Row) FoldedFault) → MatchResult outcome (λ sums. IsMergedText text sums) (λ fault. IsFirstFault text fault)
     → (rows : List Row) → IsFoldedText text rows → MatchResult outcome (λ sums. aggregate_of sums ≡ aggregate_of rows) (λ fault. fault ≡ folded.NoMemory)
-only_text_sums text (Ok sums) read rows this = read.same ∙ ap aggregate_of (IsFoldedText-same text read.rows rows read.folded this)
-only_text_sums text (Err fault) read rows this = IsFirstFault-folded text rows fault this read
+only_merged_text text (Ok sums) read rows this = read.same ∙ ap aggregate_of (IsFoldedText-same text read.rows rows read.folded this)
+only_merged_text text (Err fault) read rows this = IsFirstFault-folded text rows fault this read

@@ -7,7 +7,7 @@ use Rattle.profile_rows.specs.TopList.{AreTotalsOf}
 use Rattle.folded_text.specs.FoldedText.{IsFoldedText}
 
 -- the rows add up to what the text is folded text of
-pub record IsSumOfText (text : List ℕ) (sums : List Row) : Type 0 where
+pub record IsMergedText (text : List ℕ) (sums : List Row) : Type 0 where
   pub rows : List Row
   pub folded : IsFoldedText text rows
   pub same : aggregate_of sums ≡ aggregate_of rows

@@ -2,15 +2,15 @@
 #![tactic(auto)]
 
 mod folded;
-mod folded_sums;
 mod known_names;
 pub mod laws;
+mod merged_text;
 mod taking;
 mod text_totals;
 mod written;
 
 pub use folded::{FoldedFault, Spelled, read_folded, read_line};
-pub use folded_sums::sum_folded;
+pub use merged_text::merge_folded;
 pub use taking::{LineTaker, take_lines};
 pub use text_totals::folded_totals;
 pub use written::write_folded;

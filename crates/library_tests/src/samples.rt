@@ -5,8 +5,8 @@ use crate::helpers::{rows_of, text_of};
 use crate::messages::{INLINED_AND_BARE_LOCATIONS, NEGATIVE_VALUE, ONE_SAMPLE, TWO_SAMPLE_TYPES};
 use pprof_profile::{Profile, decode, encode};
 use stack_text::{
-    Batch, BatchFault, Name, NoMemory, ValueChoice, batch_of, export_folded, profile_of,
-    sum_samples, unfold,
+    Batch, BatchFault, Name, NoMemory, ValueChoice, batch_of, export_folded, merge_samples,
+    profile_of, unfold,
 };
 use std::alloc::Global;
 use std::test::Fail;
@@ -125,7 +125,7 @@ fn a_sample_of_65535_frames_is_read(rt: HostRuntime) -> Result<(), Fail> {
 }
 
 fn sums_text(alloc: Global, profile: &Profile) -> Result<String, Fail> {
-    text_of(alloc, &sum_samples(alloc, profile, ValueChoice::Default)?)
+    text_of(alloc, &merge_samples(alloc, profile, ValueChoice::Default)?)
 }
 
 // The rows of a profile's samples where equal ones are put together, as folded text.

@@ -5,7 +5,7 @@ use crate::helpers::{rows_of, stack_of, text_of};
 use profile_rows::CountedRows;
 use stack_text::{
     Batch, FoldedFault, FrameTotals, MAX_DEPTH, MAX_TOTAL, Name, NameFault, PushFault, Stack,
-    aggregate, folded_totals, kept_totals, read_folded, sum_folded,
+    aggregate, folded_totals, kept_totals, merge_folded, read_folded,
 };
 use std::alloc::{AllocError, Global};
 use std::test::Fail;
@@ -159,7 +159,7 @@ fn an_aggregate_has_each_stack_once(rt: HostRuntime) -> Result<(), Fail> {
 
 #[test]
 fn lines_of_one_stack_are_merged(rt: HostRuntime) -> Result<(), Fail> {
-    let sums = sum_folded(rt.alloc(), b"a;b 1\nc 2\na;b 3\n")?;
+    let sums = merge_folded(rt.alloc(), b"a;b 1\nc 2\na;b 3\n")?;
     assert_eq!(rt; text_of(rt.alloc(), &sums)?.as_str(), "a;b 4\nc 2\n");
     Ok(())
 }

@@ -1,4 +1,5 @@
 //! Varints, fields and packed numbers, by the Protocol Buffers encoding page, read and written.
+
 ghost use Rattle.std.specs.Prelude.{◌≡◌, ℕ, List, [], length, MatchOption};
 ghost use Rattle.pprof_wire.specs.Fields.{PlainField, SplitsIntoFields, IsRestFault};
 

@@ -1,4 +1,5 @@
 //! Why bytes are no profile, and what is handed back with the fault.
+
 ghost use Rattle.std.specs.Prelude.{◌≡◌};
 ghost use Rattle.pprof_profile.specs.declared.faults.ProfileFault.TheVariants.{NoMemory, Wire};
 

@@ -1,4 +1,5 @@
 //! Whether each index of a draft names one of its strings.
+
 ghost use Rattle.std.specs.Prelude.{◌≡◌};
 ghost use Rattle.std.specs.List.{list_all};
 ghost use Rattle.pprof_profile.specs.Valid.{is_index, value_type_indexes, label_indexes, sample_indexes, mapping_indexes, function_indexes, items_index, profile_indexes, all_index};

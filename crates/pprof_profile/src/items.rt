@@ -1,4 +1,5 @@
 //! The lists and the texts of messages.
+
 ghost use Rattle.std.specs.Prelude.{◌≡◌, ◌++◌, ◌∷◌, [], length, not, OnOk, OnErr, IfErr, IfOk, string_bytes};
 ghost use Rattle.std.specs.Str.{IsUtf8};
 ghost use Rattle.pprof_profile.specs.Valid.{is_nonempty};

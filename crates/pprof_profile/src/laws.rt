@@ -1,4 +1,5 @@
 //! Laws of profiles. Each function does nothing: what it ensures is the law.
+
 ghost use Rattle.std.specs.Prelude.{◌≡◌, ◌↔◌, ℕ, List};
 ghost use Rattle.pprof_profile.specs.declared.messages.Draft.{Draft};
 ghost use Rattle.pprof_profile.specs.declared.faults.ProfileFault.{ProfileFault};

@@ -1,4 +1,5 @@
 //! Profiles: drafts that are valid, read from bytes and written.
+
 ghost use Rattle.std.specs.Prelude.{◌≡◌, ◌≢◌, ◌⊎◌, Some, IfOk, IfErr, OnOk, MatchResult};
 ghost use Rattle.std.specs.Bool.{OnTrue, OnFalse};
 ghost use Rattle.pprof_profile.specs.declared.messages.Draft.{Draft};

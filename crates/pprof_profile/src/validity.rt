@@ -1,4 +1,5 @@
 //! The rules of a valid draft, in the order in which they are asked.
+
 ghost use Rattle.std.specs.Prelude.{◌≡◌, ◌≢◌, Some, None, IfErr, OnOk};
 ghost use Rattle.std.specs.List.{list_all};
 ghost use Rattle.pprof_profile.specs.KnownIds.{knows};

@@ -1,4 +1,5 @@
 //! Fields appended to bytes: numbers, texts and messages.
+
 ghost use Rattle.std.specs.Prelude.{◌≡◌, ◌++◌, ◌<◌, ◌^◌, List, length, map, IfOk, OnOk};
 ghost use Rattle.pprof_wire.specs.Fields.{PlainField, IsFieldNumber};
 ghost use Rattle.pprof_profile.specs.Canonical.{bytes_of_fields, number_fields, content_fields, each_field, packed_bytes, FitsNumbers, FitsTexts, FitsEach};

@@ -1,4 +1,5 @@
 //! Samples that are kept as the bytes of a profile, and the profile written around them.
+
 ghost use Rattle.std.specs.Prelude.{◌≡◌, ◌++◌, ◌∷◌, [], List, IfOk, OnErr, OnOk};
 ghost use Rattle.pprof_profile.specs.declared.messages.Draft.{Draft};
 ghost use Rattle.pprof_profile.specs.declared.messages.Sample.{Sample};

@@ -1,4 +1,5 @@
 //! Why bytes are not in the wire format.
+
 use thiserror::Error;
 
 /// Why bytes are not in the wire format of Protocol Buffers.

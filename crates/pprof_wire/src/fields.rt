@@ -1,4 +1,5 @@
 //! The fields of a message, one after the other.
+
 ghost use Rattle.std.specs.Prelude.{◌≡◌, ℕ, List, [], ◌+◌, ◌/◌, ◌^◌, ◌<◌, ◌≤◌, ◌⊎◌, ◌↔◌, ◌++◌, take, length, IsNone, IfNone, IfSome, IfOk, IfErr, OnOk};
 ghost use Rattle.pprof_wire.specs.Fields.{PlainField, field_of, IsField, IsFieldNumber, IsFieldSpelling, IsFrontFault, IsRestFault, EndsAt, IsNextField};
 

@@ -1,4 +1,5 @@
 //! The numbers of a packed field.
+
 ghost use Rattle.std.specs.Prelude.{◌≡◌};
 
 use crate::packing::Packed;

@@ -1,4 +1,5 @@
 //! Packed numbers, one after the other.
+
 ghost use Rattle.std.specs.Prelude.{◌≡◌, ℕ, List, [], ◌<◌, ◌↔◌, ◌++◌, length, IsNone, IfNone, IfSome, IfOk, IfErr, OnOk};
 ghost use Rattle.pprof_wire.specs.Varints.{IsVarint, IsVarintFault};
 

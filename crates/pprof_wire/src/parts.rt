@@ -1,4 +1,5 @@
 //! Parts of the input, lent from where they lie.
+
 ghost use Rattle.std.specs.Prelude.{◌≡◌, ◌+◌, ◌≤◌, length, take, drop};
 
 /// The bytes from the place `at` on.

@@ -1,4 +1,5 @@
 //! A field and its value, by the wire type.
+
 ghost use Rattle.std.specs.Prelude.{◌≡◌, ℕ, ◌+◌, ◌<◌, ◌≤◌, ◌⊎◌, take, length, IfOk, IfErr};
 ghost use Rattle.std.specs.Int.{w32, w64, from_le_bytes};
 ghost use Rattle.pprof_wire.specs.Varints.{IsVarintFault};

@@ -1,4 +1,5 @@
 //! Varints that are read.
+
 ghost use Rattle.std.specs.Prelude.{◌≡◌, ℕ, List, ◌+◌, ◌<◌, ◌≤◌, ◌++◌, take, drop, length, slice_range, IfOk, IfErr};
 ghost use Rattle.pprof_wire.specs.Varints.{IsVarint, IsVarintFault};
 

@@ -1,4 +1,5 @@
 //! Varints and fields that are written, each as short as can be.
+
 ghost use Rattle.std.specs.Prelude.{◌≡◌, ◌+◌, ◌^◌, ◌<◌, ◌≤◌, ◌++◌, length, vec_len, vec_capacity, OnOk, OnErr};
 ghost use Rattle.pprof_wire.specs.Varints.{varint_of};
 ghost use Rattle.pprof_wire.specs.Fields.{value_of, plain_field, wire_type_of, IsFieldNumber, value_bytes_of, field_bytes_of};

@@ -6,7 +6,7 @@ pub mod EqualRows
 pub mod Kept
 pub mod LentStacks
 pub mod Members
-pub mod PutTogether
+pub mod MergedRows
 pub mod Ranking
 pub mod RowLaws
 pub mod SameNames

@@ -7,6 +7,6 @@ pub mod Order
 pub mod Paths
 pub mod Pushing
 pub mod Rows
-pub mod Sums
+pub mod Merging
 pub mod Tallies
 pub mod TopList

@@ -30,7 +30,7 @@ frame_counted tally row weight own =
 abbrev pub callers_counted : List (List ℕ) → ℕ → ℕ → List ℕ → Tally → Tally
 callers_counted callers number weight name tally =
     if has_name name callers then (record { flat = tally.flat; cumulative = tally.cumulative + weight; row = number })
-        else tally
+    else tally
 
 -- a row more, for the tally of one name
 abbrev pub row_counted : Row → ℕ → List ℕ → Tally → Tally

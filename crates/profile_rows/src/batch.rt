@@ -3,7 +3,7 @@
 ghost use Rattle.std.specs.Prelude.{◌≡◌, ◌≤◌, ◌+◌, ◌^◌, ◌<◌, ◌++◌, ◌∷◌, [], length, IfErr, OnErr, OnOk};
 ghost use Rattle.profile_rows.specs.Rows.{total_of};
 ghost use Rattle.profile_rows.specs.Pushing.{IsPushFault};
-ghost use Rattle.profile_rows.specs.Sums.{with_added_at};
+ghost use Rattle.profile_rows.specs.Merging.{with_added_at};
 
 use crate::stack::Stack;
 use std::alloc::Global;

@@ -3,5 +3,5 @@ pub mod ExportedRows
 pub mod ItemsById
 pub mod IdPlaces
 pub mod SampleRows
-pub mod SampleSums
+pub mod MergedSamples
 pub mod TextPlaces

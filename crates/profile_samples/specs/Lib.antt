@@ -1,6 +1,6 @@
 pub mod Export
 pub mod IdPlaces
-pub mod SampleSums
+pub mod MergedSamples
 pub mod Samples
 pub mod TextTables
 pub mod Unfolding

@@ -1,4 +1,5 @@
 //! Rows as the profile that they are exported as.
+
 ghost use Rattle.std.specs.Prelude.{◌≡◌, ◌<◌, ◌≤◌, ◌^◌, All, IfOk, OnOk, length, map, reverse};
 ghost use Rattle.profile_samples.specs.Export.{draft_with, exported_draft, exported_function, exported_location, exported_profile_of, exported_sample, id_in, names_of, strings_of};
 ghost use Rattle.profile_rows.specs.Names.{IsName};

@@ -1,4 +1,5 @@
 //! Folded text as the bytes of a profile, with no row and no sample kept.
+
 ghost use Rattle.std.specs.Prelude.{◌≡◌, ◌+◌, ◌^◌, ◌<◌, ◌∷◌, ◌++◌, [], IfErr, IfOk, List, MatchResult, OnOk, map, reverse};
 ghost use Rattle.pprof_profile.specs.Canonical.{canonical_bytes_of};
 ghost use Rattle.pprof_profile.specs.Profiles.{IsProfile};

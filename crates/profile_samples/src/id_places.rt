@@ -1,4 +1,5 @@
 //! Where ids stand among the ids of items.
+
 ghost use Rattle.std.specs.Prelude.{ℕ, ◌≡◌, ◌≢◌, ◌↔◌, IfOk, IsTrue, MatchOption, Some, slice_get};
 
 use no_memory::NoMemory;

@@ -5,12 +5,12 @@ mod exporting;
 mod folded_export;
 mod id_places;
 pub mod laws;
-mod sample_sums;
+mod merged_samples;
 mod sampling;
 mod text_table;
 mod unfolding;
 
 pub use exporting::profile_of;
 pub use folded_export::export_folded;
-pub use sample_sums::sum_samples;
+pub use merged_samples::merge_samples;
 pub use sampling::{BatchFault, ValueChoice, batch_of, unfold};

@@ -1,4 +1,5 @@
 //! Texts that are numbered as they come.
+
 ghost use Rattle.std.specs.Prelude.{◌≡◌, ◌<◌, ◌^◌, [], IfOk, OnOk, map};
 ghost use Rattle.profile_samples.specs.TextTables.{place_in, with_text, with_texts};
 

@@ -1,4 +1,5 @@
 //! The frames of locations, and the names of functions and lines.
+
 ghost use Rattle.std.specs.Prelude.{◌≡◌, ◌≤◌, ◌++◌, ◌↔◌, IfOk, IsTrue, OnOk, length, map, slice_get};
 ghost use Rattle.pprof_profile.specs.Valid.{IsValidDraft};
 ghost use Rattle.profile_samples.specs.Samples.{address_name, frames_at, frames_of_id, frames_of_ids, function_name, item_with, line_name, location_frames, named_by, string_at};

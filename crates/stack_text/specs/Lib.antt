@@ -11,4 +11,4 @@ pub use Rattle.profile_rows.specs.Rows
 pub use Rattle.profile_rows.specs.TopList
 pub use Rattle.profile_samples.specs.Export
 pub use Rattle.profile_samples.specs.Samples
-pub use Rattle.profile_samples.specs.SampleSums
+pub use Rattle.profile_samples.specs.MergedSamples

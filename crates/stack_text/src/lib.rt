@@ -5,11 +5,11 @@
 
 pub mod laws;
 
-pub use folded_text::{FoldedFault, folded_totals, read_folded, sum_folded, write_folded};
+pub use folded_text::{FoldedFault, folded_totals, merge_folded, read_folded, write_folded};
 pub use profile_rows::{
     Batch, FrameTotal, FrameTotals, MAX_DEPTH, MAX_TOTAL, Name, NameFault, NoMemory, PushFault,
     Refused, Row, Stack, aggregate, keeps, kept_totals,
 };
 pub use profile_samples::{
-    BatchFault, ValueChoice, batch_of, export_folded, profile_of, sum_samples, unfold,
+    BatchFault, ValueChoice, batch_of, export_folded, merge_samples, profile_of, unfold,
 };

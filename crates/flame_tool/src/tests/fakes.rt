@@ -1,4 +1,5 @@
 //! A reader and a writer that move few bytes at a time and fail once, and a run on given bytes.
+
 use flame_answers::{MAX_INPUT, Status};
 use flame_program::run;
 use std::alloc::{AllocError, Global};

@@ -1,4 +1,5 @@
 //! The statuses other than 0, and what the program says of them.
+
 use super::fakes::{Dripping, FOLD, Narrow, TOP, repeated, run_on};
 use flame_answers::MAX_INPUT;
 use flame_program::run;

@@ -1,4 +1,5 @@
 //! What the options change, worked by hand.
+
 use super::fakes::run_on;
 use flame_answers::MAX_INPUT;
 use std::test::Fail;

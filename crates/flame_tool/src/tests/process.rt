@@ -1,4 +1,5 @@
 //! The exit status of a process, and what it says on the standard error.
+
 use super::fakes::Narrow;
 use flame_program::{End, run_process};
 use std::alloc::{AllocError, Global};

@@ -1,4 +1,5 @@
 //! The reports of `top` and of `fold`, worked by hand.
+
 use super::fakes::{Dripping, FOLD, Narrow, TOP, run_on};
 use flame_answers::MAX_INPUT;
 use flame_program::run;

@@ -1,8 +1,8 @@
 -- The locations lead to the new row.
 use Rattle.std.proofs.Common.{length, ap}
 use Rattle.profile_samples.specs.Samples.{sample_stack_of}
-use Rattle.profile_rows.proofs.PutTogether.{ArePlacedBy-push}
-use Rattle.profile_samples.proofs.sample_sums.push_merged.Goals as goal
+use Rattle.profile_rows.proofs.MergedRows.{ArePlacedBy-push}
+use Rattle.profile_samples.proofs.merged_samples.push_merged.Goals as goal
 
 pub returns-clause-placed : goal.returns-clause-placed
 returns-clause-placed c =

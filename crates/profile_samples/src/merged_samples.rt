@@ -1,12 +1,13 @@
 //! The rows of a profile's samples, those of the same locations merged into one.
+
 ghost use Rattle.std.specs.Prelude.{[], ◌≡◌, ◌+◌, ◌^◌, ◌<◌, ◌≤◌, IfErr, List, MatchResult, OnErr, OnOk, length, pos, slice_get, Some};
 ghost use Rattle.profile_rows.specs.declared.batch.Row.{Row};
 ghost use Rattle.profile_samples.specs.declared.sampling.ValueChoice.{ValueChoice};
 ghost use Rattle.profile_rows.specs.Aggregate.{aggregate_of};
 ghost use Rattle.profile_rows.specs.Rows.{total_of};
 ghost use Rattle.profile_samples.specs.Samples.{IsBatchOf, IsFirstBatchFault, IsSampleFault, IsSampleRow, StandsAtSample, chosen_type_of, sample_stack_of};
-ghost use Rattle.profile_rows.specs.Sums.{AddsRow, ArePlacedBy, with_added_at};
-ghost use Rattle.profile_samples.specs.SampleSums.{IsSumOfBatch};
+ghost use Rattle.profile_rows.specs.Merging.{AddsRow, ArePlacedBy, with_added_at};
+ghost use Rattle.profile_samples.specs.MergedSamples.{IsMergedBatch};
 
 use crate::sampling::{BatchFault, ValueChoice, check_fit, chosen_type, push_row, weight_of};
 use crate::unfolding::LocationFrames;
@@ -93,7 +94,7 @@ fn merged_by<'a>(
     requires typed { chosen < length profile.now.sample_types }
     requires placed { ArePlacedBy (sample_stack_of profile.now) known [] }
     ensures { (choice : ValueChoice) → chosen_type_of profile.now choice ≡ Some chosen
-        → MatchResult result (λ sums. IsSumOfBatch profile.now choice sums)
+        → MatchResult result (λ sums. IsMergedBatch profile.now choice sums)
         (λ fault. StandsAtSample profile.now choice fault) }
 {
     let mut merged = Batch::new(alloc);
@@ -117,12 +118,12 @@ fn merged_by<'a>(
 /// # Errors
 ///
 /// Those of [`batch_of`](crate::batch_of).
-pub fn sum_samples(
+pub fn merge_samples(
     alloc: Global,
     profile: &Profile,
     choice: ValueChoice,
 ) -> Result<Batch, BatchFault>
-    ensures read { MatchResult result (λ sums. IsSumOfBatch profile.now choice.entry sums)
+    ensures read { MatchResult result (λ sums. IsMergedBatch profile.now choice.entry sums)
         (λ fault. IsFirstBatchFault profile.now choice.entry fault) }
     ensures accepted { (rows : List Row) → IsBatchOf profile.now choice.entry rows
         → MatchResult result (λ sums. aggregate_of sums ≡ aggregate_of rows) (λ fault. fault ≡ BatchFault.NoMemory) }

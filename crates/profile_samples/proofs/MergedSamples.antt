@@ -8,11 +8,11 @@ use Rattle.profile_samples.specs.declared.sampling.BatchFault.{BatchFault}
 use Rattle.profile_samples.specs.declared.sampling.BatchFault.TheVariants as batch
 use Rattle.profile_samples.specs.declared.sampling.ValueChoice.{ValueChoice}
 use Rattle.profile_samples.specs.Samples.{IsBatchOf, IsFirstBatchFault}
-use Rattle.profile_samples.specs.SampleSums.{IsSumOfBatch}
+use Rattle.profile_samples.specs.MergedSamples.{IsMergedBatch}
 use Rattle.profile_samples.proofs.SampleRows.{IsBatchOf-same, IsFirstBatchFault-batch}
 
 -- what the samples answer
-pub only_batch_sums : (draft : Draft) (choice : ValueChoice) (outcome : Result (List Row) BatchFault) → MatchResult outcome (λ sums. IsSumOfBatch draft choice sums) (λ fault. IsFirstBatchFault draft choice fault)
+pub only_batch_sums : (draft : Draft) (choice : ValueChoice) (outcome : Result (List Row) BatchFault) → MatchResult outcome (λ sums. IsMergedBatch draft choice sums) (λ fault. IsFirstBatchFault draft choice fault)
     → (rows : List Row) → IsBatchOf draft choice rows → MatchResult outcome (λ sums. aggregate_of sums ≡ aggregate_of rows) (λ fault. fault ≡ batch.NoMemory)
 only_batch_sums draft choice (Ok sums) read rows this = read.same ∙ ap aggregate_of (IsBatchOf-same draft choice read.rows rows read.sampled this)
 only_batch_sums draft choice (Err fault) read rows this = IsFirstBatchFault-batch draft choice rows fault this read

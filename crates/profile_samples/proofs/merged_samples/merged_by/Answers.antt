@@ -4,10 +4,10 @@ use Rattle.std.proofs.lemmas.Result.{err_from_is_err_and}
 use Rattle.pprof_profile.specs.declared.messages.Draft.{Draft}
 use Rattle.profile_samples.specs.Samples.{IsSampleRow, IsSampleFault, sample_stack_of}
 use Rattle.profile_rows.specs.Rows.{total_of}
-use Rattle.profile_rows.specs.Sums.{ArePlacedBy}
-use Rattle.profile_rows.proofs.PutTogether.{AreSumsSoFar-row, AreSumsSoFar-same}
+use Rattle.profile_rows.specs.Merging.{ArePlacedBy}
+use Rattle.profile_rows.proofs.MergedRows.{AreMergedSoFar-row, AreMergedSoFar-same}
 use Rattle.profile_samples.proofs.SampleRows.{AreRowsSoFar-row, AreRowsSoFar-end, AreRowsSoFar-stands, has_value}
-use Rattle.profile_samples.proofs.sample_sums.merged_by.Goals as goal
+use Rattle.profile_samples.proofs.merged_samples.merged_by.Goals as goal
 
 pub merge_sample-requires-clause-values : goal.merge_sample-requires-clause-values
 merge_sample-requires-clause-values c =
@@ -39,7 +39,7 @@ loop-index-preserved c =
       (
         rows ++ row ∷ [],
         AreRowsSoFar-row c.args.profile.now c.args.chosen c.loop-index.index c.sample-item.result rows row (rows ++ row ∷ []) within item so_far own fits refl,
-        AreSumsSoFar-row rows (rows ++ row ∷ []) c.loop-index.merged c.merge_sample.new.merged row sums adds refl,
+        AreMergedSoFar-row rows (rows ++ row ∷ []) c.loop-index.merged c.merge_sample.new.merged row sums adds refl,
       ),
       subst (λ d. ArePlacedBy (sample_stack_of d) c.merge_sample.new.known c.merge_sample.new.merged) c.requires.framed c.in_ok-merge_sample.ensures.placed,
     )
@@ -49,4 +49,4 @@ returns c = λ choice is_chosen.
     let samples : c.as_slice-sample-items.result.now ≡ c.args.profile.now.samples = c.as_slice-sample-items.ensures ∙ ap (λ (d : Draft). d.samples) c.draft.ensures.draft in
     let whole = subst (λ ss. length ss ≤ c.loop-index.index) samples c.loop-index-test.false in
     let (rows, so_far, sums) = c.loop-index.invariant.0 in
-    record { rows = rows; sampled = AreRowsSoFar-end c.args.profile.now choice c.args.chosen c.loop-index.index rows is_chosen whole so_far; same = AreSumsSoFar-same rows c.loop-index.merged sums }
+    record { rows = rows; sampled = AreRowsSoFar-end c.args.profile.now choice c.args.chosen c.loop-index.index rows is_chosen whole so_far; same = AreMergedSoFar-same rows c.loop-index.merged sums }

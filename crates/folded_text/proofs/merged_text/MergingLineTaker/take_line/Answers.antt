@@ -1,9 +1,9 @@
--- A row more of the text is a row more of the sums.
+-- A row more of the text is a row more of the merged.
 use Rattle.std.proofs.Common.{◌+◌, ◌^◌, ◌<◌, ◌++◌, ◌∷◌, [], Result, Ok, Err, refl, subst}
 use Rattle.std.specs.Prelude.{IfErr, OnOk}
-use Rattle.profile_rows.proofs.PutTogether.{AreSumsSoFar-row}
+use Rattle.profile_rows.proofs.MergedRows.{AreMergedSoFar-row}
 use Rattle.folded_text.specs.FoldedText.{IsLineFault}
-use Rattle.folded_text.proofs.folded_sums.SummingLineTaker.take_line.Goals as goal
+use Rattle.folded_text.proofs.merged_text.MergingLineTaker.take_line.Goals as goal
 
 both : {T E A B C : Type 0} (result : Result T E) → OnOk result A → OnOk result B → (A → B → C) → OnOk result C
 both (Ok done) a b join = join a b
@@ -11,14 +11,14 @@ both (Err fault) a b join = tt
 
 pub returns-clause-taken : goal.returns-clause-taken
 returns-clause-taken c = λ rows is fits.
-    both c.sum_line.result c.sum_line.ensures.added c.sum_line.ensures.placed
+    both c.merge_line.result c.merge_line.ensures.added c.merge_line.ensures.placed
     (λ added placed. let (row, this, adds) = added in (
       row,
       this,
       subst (λ held. held + row.weight < 2 ^ 63) is.0.total adds.fits,
-      (AreSumsSoFar-row rows (rows ++ row ∷ []) c.args.self.now.sums c.sum_line.new.sums row is.0 adds refl, placed),
+      (AreMergedSoFar-row rows (rows ++ row ∷ []) c.args.self.now.merged c.merge_line.new.merged row is.0 adds refl, placed),
     ))
 
 pub returns-clause-fault : goal.returns-clause-fault
 returns-clause-fault c = λ rows is fits.
-    subst (λ held. IfErr c.sum_line.result (IsLineFault held c.args.number c.args.line.now)) is.0.total c.sum_line.ensures.fault
+    subst (λ held. IfErr c.merge_line.result (IsLineFault held c.args.number c.args.line.now)) is.0.total c.merge_line.ensures.fault

@@ -5,8 +5,8 @@ ghost use Rattle.profile_rows.specs.declared.batch.Row.{Row};
 ghost use Rattle.profile_rows.specs.Aggregate.{aggregate_of};
 ghost use Rattle.profile_rows.specs.Rows.{total_of};
 ghost use Rattle.folded_text.specs.FoldedText.{IsFirstFault, IsFoldedText, IsLineFault, IsRowLine, frames_of};
-ghost use Rattle.profile_rows.specs.Sums.{AddsRow, ArePlacedBy, AreSumsSoFar, with_added_at};
-ghost use Rattle.folded_text.specs.TextSums.{IsSumOfText};
+ghost use Rattle.profile_rows.specs.Merging.{AddsRow, ArePlacedBy, AreMergedSoFar, with_added_at};
+ghost use Rattle.folded_text.specs.TextSums.{IsMergedText};
 
 use crate::folded::{FoldedFault, Spelled, fitting_depth, push_spelled, stack_and_weight};
 use crate::known_names::KnownNames;
@@ -17,36 +17,37 @@ use std::alloc::Global;
 use std::collections::HashMap;
 
 /// Adds the row of a stack text that no row has yet.
-fn push_sum<'a>(
+fn push_merged<'a>(
     alloc: Global,
     names: &mut KnownNames<'a>,
     known: &mut HashMap<&'a str, usize>,
-    sums: &mut Batch,
+    merged: &mut Batch,
     spelled: Spelled<'a>,
 ) -> Result<(), NoMemory>
     requires one_line { All (λ byte. byte ≢ 10) spelled.stack.now }
     requires depth { (spelled.depth ≡ length (frames_of spelled.stack.now)) × (spelled.depth ≤ 65535) }
-    requires fits { total_of sums.old + spelled.weight < 2 ^ 63 }
-    requires placed { ArePlacedBy frames_of known.old sums.old }
+    requires fits { total_of merged.old + spelled.weight < 2 ^ 63 }
+    requires placed { ArePlacedBy frames_of known.old merged.old }
     ensures added { OnOk result
-        (AddsRow sums.old sums.new
+        (AddsRow merged.old merged.new
         (record { stack = frames_of spelled.entry.stack.now; weight = spelled.entry.weight })) }
-    ensures placed { OnOk result (ArePlacedBy frames_of known.new sums.new) }
+    ensures placed { OnOk result (ArePlacedBy frames_of known.new merged.new) }
 {
-    let at = sums.rows().len();
-    push_spelled(alloc, names, sums, spelled)?;
+    let at = merged.rows().len();
+    push_spelled(alloc, names, merged, spelled)?;
     known.insert(spelled.stack, at)?;
     Ok(())
 }
 
 /// Adds to the weight of a row.
-fn add_to_row(sums: &mut Batch, at: usize, weight: u64, number: u64) -> Result<(), FoldedFault>
-    requires { at < length sums.old }
-    ensures added { OnOk result (sums.new ≡ with_added_at sums.old at weight) }
-    ensures fits { OnOk result (total_of sums.old + weight < 2 ^ 63) }
-    ensures fault { IfErr result (λ fault. (fault ≡ FoldedFault.Heavy number) × (2 ^ 63 ≤ total_of sums.old + weight)) }
+fn add_to_row(merged: &mut Batch, at: usize, weight: u64, number: u64) -> Result<(), FoldedFault>
+    requires { at < length merged.old }
+    ensures added { OnOk result (merged.new ≡ with_added_at merged.old at weight) }
+    ensures fits { OnOk result (total_of merged.old + weight < 2 ^ 63) }
+    ensures fault { IfErr result
+        (λ fault. (fault ≡ FoldedFault.Heavy number) × (2 ^ 63 ≤ total_of merged.old + weight)) }
 {
-    match sums.add_weight(at, weight) {
+    match merged.add_weight(at, weight) {
         Ok(()) => Ok(()),
         Err(_) => Err(FoldedFault::Heavy { line: number }),
     }
@@ -54,24 +55,25 @@ fn add_to_row(sums: &mut Batch, at: usize, weight: u64, number: u64) -> Result<(
 
 /// A text that is read into one row for each stack text.
 #[derive(Drop)]
-struct Summing<'a> {
+struct Merging<'a> {
     alloc: Global,
     names: KnownNames<'a>,
     /// The place of each stack text's row.
     known: HashMap<&'a str, usize>,
-    sums: Batch,
+    merged: Batch,
 }
 
-impl<'a> LineTaker<'a> for Summing<'a> {
-    ghost is_of = { λ summing rows. AreSumsSoFar rows summing.sums × ArePlacedBy frames_of summing.known summing.sums };
+impl<'a> LineTaker<'a> for Merging<'a> {
+    ghost is_of = { λ merging rows. AreMergedSoFar rows merging.merged
+        × ArePlacedBy frames_of merging.known merging.merged };
 
     /// Adds the row to that of the same stack text, where there is one.
     fn take_line(&mut self, line: &'a [u8], number: u64) -> Result<(), FoldedFault> {
-        sum_line(
+        merge_line(
             self.alloc,
             &mut self.names,
             &mut self.known,
-            &mut self.sums,
+            &mut self.merged,
             line,
             number,
         )
@@ -79,31 +81,31 @@ impl<'a> LineTaker<'a> for Summing<'a> {
 }
 
 /// Adds the row that a line spells, to the row of the same stack text where there is one.
-fn sum_line<'a>(
+fn merge_line<'a>(
     alloc: Global,
     names: &mut KnownNames<'a>,
     known: &mut HashMap<&'a str, usize>,
-    sums: &mut Batch,
+    merged: &mut Batch,
     line: &'a [u8],
     number: u64,
 ) -> Result<(), FoldedFault>
     requires one_line { All (λ byte. byte ≢ 10) line.now }
-    requires placed { ArePlacedBy frames_of known.old sums.old }
-    ensures added { OnOk result ((row : Row) × IsRowLine line.now row × AddsRow sums.old sums.new row) }
-    ensures placed { OnOk result (ArePlacedBy frames_of known.new sums.new) }
-    ensures fault { IfErr result (IsLineFault (total_of sums.old) number line.now) }
+    requires placed { ArePlacedBy frames_of known.old merged.old }
+    ensures added { OnOk result ((row : Row) × IsRowLine line.now row × AddsRow merged.old merged.new row) }
+    ensures placed { OnOk result (ArePlacedBy frames_of known.new merged.new) }
+    ensures fault { IfErr result (IsLineFault (total_of merged.old) number line.now) }
 {
     let (stack, weight) = stack_and_weight(line, number)?;
     match known.get(stack).copied() {
-        Some(at) => add_to_row(sums, at, weight, number),
+        Some(at) => add_to_row(merged, at, weight, number),
         None => {
-            let depth = fitting_depth(stack, weight, sums.total(), number)?;
+            let depth = fitting_depth(stack, weight, merged.total(), number)?;
             let spelled = Spelled {
                 stack,
                 depth,
                 weight,
             };
-            Ok(push_sum(alloc, names, known, sums, spelled)?)
+            Ok(push_merged(alloc, names, known, merged, spelled)?)
         }
     }
 }
@@ -114,17 +116,18 @@ fn sum_line<'a>(
 /// # Errors
 ///
 /// Those of [`read_folded`](crate::read_folded).
-pub fn sum_folded(alloc: Global, text: &[u8]) -> Result<Batch, FoldedFault>
-    ensures read { MatchResult result (λ sums. IsSumOfText text.now sums) (λ fault. IsFirstFault text.now fault) }
+pub fn merge_folded(alloc: Global, text: &[u8]) -> Result<Batch, FoldedFault>
+    ensures read { MatchResult result (λ merged. IsMergedText text.now merged) (λ fault. IsFirstFault text.now fault) }
     ensures accepted { (rows : List Row) → IsFoldedText text.now rows
-        → MatchResult result (λ sums. aggregate_of sums ≡ aggregate_of rows) (λ fault. fault ≡ FoldedFault.NoMemory) }
+        → MatchResult result (λ merged. aggregate_of merged ≡ aggregate_of rows)
+        (λ fault. fault ≡ FoldedFault.NoMemory) }
 {
-    let mut summing = Summing {
+    let mut merging = Merging {
         alloc,
         names: KnownNames::new(alloc),
         known: HashMap::new(alloc),
-        sums: Batch::new(alloc),
+        merged: Batch::new(alloc),
     };
-    take_lines(text, &mut summing)?;
-    Ok(summing.sums)
+    take_lines(text, &mut merging)?;
+    Ok(merging.merged)
 }

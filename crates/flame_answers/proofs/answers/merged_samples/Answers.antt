@@ -3,7 +3,7 @@ use Rattle.flame_answers.specs.Answers.{IsRefusedIn}
 use Rattle.flame_answers.specs.declared.outcomes.ToolFault.{ToolFault}
 use Rattle.flame_answers.specs.declared.request.Format.TheVariants.{Pprof}
 use Rattle.flame_answers.proofs.Inputs.{batch_refused, profile_refused}
-use Rattle.flame_answers.proofs.answers.profile_sums.Goals as goal
+use Rattle.flame_answers.proofs.answers.merged_samples.Goals as goal
 
 pub returns-in-Err : goal.returns-in-Err
 returns-in-Err c = subst (λ (fault : ToolFault). IsRefusedIn Pprof c.args.value.now c.args.input.now fault) (sym c.profile_fault.ensures)
@@ -11,5 +11,5 @@ returns-in-Err c = subst (λ (fault : ToolFault). IsRefusedIn Pprof c.args.value
 
 pub returns : goal.returns
 returns c = subst (λ (fault : ToolFault). IsRefusedIn Pprof c.args.value.now c.args.input.now fault) (sym c.batch_fault.ensures)
-    (batch_refused c.args.value.now c.args.input.now c.in-Ok.profile c.choice_of.result c.in-Err-sum_samples.fault c.in-Ok.ensures.read (λ other is. c.in-Ok.ensures.every_profile other is) c.choice_of.ensures
-    c.in-Err-sum_samples.ensures.read c.in-Err-sum_samples.ensures.accepted)
+    (batch_refused c.args.value.now c.args.input.now c.in-Ok.profile c.choice_of.result c.in-Err-merge_samples.fault c.in-Ok.ensures.read (λ other is. c.in-Ok.ensures.every_profile other is) c.choice_of.ensures
+    c.in-Err-merge_samples.ensures.read c.in-Err-merge_samples.ensures.accepted)

@@ -11,7 +11,7 @@ use Rattle.std.proofs.lemmas.Map.Text.{hash_map_updates_str}
 use Rattle.profile_rows.specs.declared.batch.Row.{Row}
 use Rattle.profile_rows.specs.Aggregate.{aggregate_of}
 use Rattle.profile_rows.specs.Rows.{is_same_stack, total_of, weight_if, weight_of}
-use Rattle.profile_rows.specs.Sums.{AddsRow, ArePlacedBy, AreSumsSoFar, RowsBySpelling, row_at, row_spelled, with_added_at}
+use Rattle.profile_rows.specs.Merging.{AddsRow, ArePlacedBy, AreMergedSoFar, RowsBySpelling, row_at, row_spelled, with_added_at}
 use Rattle.profile_rows.proofs.SameNames.{same_from_is_same_name}
 use Rattle.profile_rows.proofs.RowLaws.{aggregate_of-same, weight_where-set, weight_where-push}
 use Rattle.std.proofs.lemmas.List.Sums.{sum_by-set, sum_by_push}
@@ -103,14 +103,14 @@ ArePlacedBy-push stack_of known after rows all spelling weight place end updates
 
 -- ---- a loop that puts rows together
 
-pub AreSumsSoFar-none : (sums : List Row) → sums ≡ [] → AreSumsSoFar [] sums
-AreSumsSoFar-none sums is = record { weights = λ stack. ap (λ rs. weight_of rs stack) is; total = ap total_of is }
+pub AreMergedSoFar-none : (sums : List Row) → sums ≡ [] → AreMergedSoFar [] sums
+AreMergedSoFar-none sums is = record { weights = λ stack. ap (λ rs. weight_of rs stack) is; total = ap total_of is }
 
-pub AreSumsSoFar-row : (rows all sums new : List Row) (row : Row) → AreSumsSoFar rows sums → AddsRow sums new row → all ≡ rows ++ row ∷ [] → AreSumsSoFar all new
-AreSumsSoFar-row rows all sums new row so_far adds is = record {
+pub AreMergedSoFar-row : (rows all sums new : List Row) (row : Row) → AreMergedSoFar rows sums → AddsRow sums new row → all ≡ rows ++ row ∷ [] → AreMergedSoFar all new
+AreMergedSoFar-row rows all sums new row so_far adds is = record {
   weights = λ stack. adds.weights stack ∙ ap (λ w. w + weight_if (is_same_stack stack) row) (so_far.weights stack) ∙ sym (weight_where-push (is_same_stack stack) rows row) ∙ ap (λ rs. weight_of rs stack) (sym is);
   total = adds.total ∙ ap (λ w. w + row.weight) so_far.total ∙ sym (sum_by_push (λ (r : Row). r.weight) rows row) ∙ ap total_of (sym is);
 }
 
-pub AreSumsSoFar-same : (rows sums : List Row) → AreSumsSoFar rows sums → aggregate_of sums ≡ aggregate_of rows
-AreSumsSoFar-same rows sums so_far = aggregate_of-same sums rows so_far.weights
+pub AreMergedSoFar-same : (rows sums : List Row) → AreMergedSoFar rows sums → aggregate_of sums ≡ aggregate_of rows
+AreMergedSoFar-same rows sums so_far = aggregate_of-same sums rows so_far.weights

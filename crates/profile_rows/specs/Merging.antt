@@ -39,6 +39,6 @@ pub record AddsRow (old new : List Row) (row : Row) : Type 0 where
   pub fits : total_of old + row.weight < 2 ^ 63
 
 -- the sums weigh what the rows do: each stack does, and all together
-pub record AreSumsSoFar (rows sums : List Row) : Type 0 where
+pub record AreMergedSoFar (rows sums : List Row) : Type 0 where
   pub weights : (stack : List (List ℕ)) → weight_of sums stack ≡ weight_of rows stack
   pub total : total_of sums ≡ total_of rows

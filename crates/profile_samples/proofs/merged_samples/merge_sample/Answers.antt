@@ -9,10 +9,10 @@ use Rattle.pprof_profile.specs.declared.messages.Draft.{Draft}
 use Rattle.pprof_profile.specs.declared.messages.Sample.{Sample}
 use Rattle.profile_rows.specs.Rows.{total_of}
 use Rattle.profile_samples.specs.Samples.{IsFitFault, IsSampleFault, IsSampleRow, sample_stack_of}
-use Rattle.profile_rows.specs.Sums.{AddsRow, row_at, row_spelled, with_added_at}
-use Rattle.profile_rows.proofs.PutTogether.{AddsRow-added, IsPlacedAt, placed_at}
+use Rattle.profile_rows.specs.Merging.{AddsRow, row_at, row_spelled, with_added_at}
+use Rattle.profile_rows.proofs.MergedRows.{AddsRow-added, IsPlacedAt, placed_at}
 use Rattle.profile_samples.proofs.SampleRows.{IsSampleFault-fit, IsSampleFault-memory, sample_row}
-use Rattle.profile_samples.proofs.sample_sums.merge_sample.Goals as goal
+use Rattle.profile_samples.proofs.merged_samples.merge_sample.Goals as goal
 
 -- a row of the sample's stack, which weighs more now
 added_to : (draft : Draft) (chosen at weight : ℕ) (sample : Sample) (sums new : List Row) (outcome : Result (Unit {0}) BatchFault)

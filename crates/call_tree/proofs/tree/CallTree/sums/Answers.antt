@@ -3,7 +3,7 @@ use Rattle.std.proofs.lemmas.List.{get_or_read}
 use Rattle.call_tree.specs.Shape.{at}
 use Rattle.call_tree.specs.Totals.{AreSums, no_sums, sums_at}
 use Rattle.call_tree.proofs.Raising.{read_is}
-use Rattle.call_tree.proofs.Merging.{AreSums-end, flat_fits, cum_fits}
+use Rattle.call_tree.proofs.Summing.{AreSums-end, flat_fits, cum_fits}
 use Rattle.call_tree.proofs.tree.CallTree.sums.Goals as goal
 
 pub overflow_add-sum : goal.overflow_add-sum

@@ -39,7 +39,7 @@ impl Model for CallTree {
 }
 
 impl CallTree {
-        ghost use Rattle.call_tree.specs.Totals.{AreSums, name_order};
+    ghost use Rattle.call_tree.specs.Totals.{AreSums, name_order};
 
     /// The weight of all stacks together. Takes no time per stack.
     pub fn total(&self) -> u64
@@ -91,8 +91,8 @@ impl CallTree {
         requires { IsFresh self.old parent name counts }
         ensures ok { OnOk result ((self.new.names ≡ self.old.names)
             × (self.new.nodes ≡ self.old.nodes ++ (record {
-                stack = stack_at self.old.nodes parent ++ name_at self.old.names name ∷ [];
-                weight = 0;
+              stack = stack_at self.old.nodes parent ++ name_at self.old.names name ∷ [];
+              weight = 0;
             }) ∷ [])) }
         ensures err { OnErr result (self.new ≡ self.old) }
     {

@@ -1,12 +1,10 @@
 -- The messages by the whole lists of their fields.
-use Rattle.std.proofs.Common.{◌≡◌, ℕ, zero, suc, List, [], ◌∷◌, ◌++◌, map, refl, sym, ap, ◌∙◌, subst, append_assoc, arith, ◌<◌, ◌==◌, Bool, true, false, cond, Result, Ok, Err}
+use Rattle.std.proofs.Common.{◌≡◌, ℕ, zero, suc, List, [], ◌∷◌, ◌++◌, map, refl, sym, ap, ◌∙◌, subst, append_assoc, arith, ◌<◌, ◌==◌, Bool, true, false, cond, Ok}
 use Rattle.std.proofs.lemmas.Bool.{ne_eqb}
 use Rattle.std.proofs.lemmas.List.{append-nil}
 use Rattle.std.specs.List.{AllByRecursion, flat_map}
 use Rattle.std.specs.Str.{IsUtf8}
-use Rattle.pprof_wire.specs.Varints.{IsNumberList}
-use Rattle.pprof_wire.specs.Fields.{FieldValue, varint, fixed64, fixed32, content, PlainField, IsFieldList}
-use Rattle.pprof_profile.specs.declared.faults.ProfileFault.{ProfileFault}
+use Rattle.pprof_wire.specs.Fields.{FieldValue, varint, fixed64, fixed32, content, PlainField}
 use Rattle.pprof_profile.specs.declared.messages.ValueType.{ValueType}
 use Rattle.pprof_profile.specs.declared.messages.Line.{Line}
 use Rattle.pprof_profile.specs.declared.messages.Label.{Label}
@@ -15,7 +13,7 @@ use Rattle.pprof_profile.specs.declared.messages.Function.{Function}
 use Rattle.pprof_profile.specs.declared.messages.Location.{Location}
 use Rattle.pprof_profile.specs.declared.messages.Sample.{Sample}
 use Rattle.pprof_profile.specs.declared.messages.Draft.{Draft}
-use Rattle.pprof_profile.specs.Reading.{Rule, Table, Gathers, Spells, SetsNumber, AddsNumbers, AddsText, AddsMessage, MergesMessage, Where, IsSkipped}
+use Rattle.pprof_profile.specs.Reading.{Rule, Table, Gathers, SetsNumber, AddsNumbers, AddsText, AddsMessage, MergesMessage, Where, IsSkipped}
 use Rattle.pprof_profile.specs.Messages.{unsigned_of, signed_of, flag_of, no_value_type, value_type_table, no_line, line_table, no_label, label_table, no_mapping, mapping_table, no_function, function_table, no_location, location_table, no_sample, sample_table, no_draft, draft_table}
 use Rattle.pprof_profile.specs.ByFields.{values_at, ArePaired, last_or, IsLast, AreNumbersOf, AreAllNumbers, AreAllTexts, AreFieldsOf, AreAllMessages, IsOneMessage, IsValueTypeOf, IsLineOf, IsLabelOf, IsMappingOf, IsFunctionOf, IsLocationOf, IsSampleOf, IsDraftOf, HasFieldsOf}
 use Rattle.pprof_profile.specs.Profiles.{SpellsDraft}

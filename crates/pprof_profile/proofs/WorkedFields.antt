@@ -1,12 +1,11 @@
 -- Worked examples of fields that stand several times, computed by the definitions. Each is checked by evaluating it.
-use Rattle.std.proofs.Common.{◌≡◌, ℕ, ◌<◌, ◌^◌, pos, List, [], ◌∷◌, refl, arith}
+use Rattle.std.proofs.Common.{◌≡◌, ℕ, pos, List, [], ◌∷◌, refl, arith}
 use Rattle.pprof_wire.specs.Varints.{IsNumberList, varint_of}
-use Rattle.pprof_wire.specs.Fields.{FieldValue, varint, content, PlainField, IsFieldNumber, FitsValue, IsFieldList}
+use Rattle.pprof_wire.specs.Fields.{varint, content, PlainField, IsFieldList}
 use Rattle.pprof_wire.proofs.ListLaws.{written_back}
 use Rattle.pprof_wire.proofs.ShortestVarints.{varint_of-spells}
 use Rattle.pprof_profile.specs.declared.messages.ValueType.{ValueType}
 use Rattle.pprof_profile.specs.declared.messages.Sample.{Sample}
-use Rattle.pprof_profile.specs.declared.messages.Draft.{Draft}
 use Rattle.pprof_profile.specs.Reading.{Gathers, Spells}
 use Rattle.pprof_profile.specs.Messages.{signed_of, no_value_type, value_type_table, no_sample, sample_table, no_draft, draft_table}
 use Rattle.pprof_profile.specs.ByFields.{values_at, last_or, IsOneMessage, AreAllMessages, IsValueTypeOf, IsSampleOf}

@@ -1,6 +1,6 @@
 -- The messages by the whole lists of their fields: what each part of a message is, out of all the fields of its number,
 -- wherever they stand (Protocol Buffers encoding page, "Last One Wins", "Packed Repeated Fields" and "Field Order").
-use Rattle.std.specs.Prelude.{◌≡◌, ℕ, Bool, ◌==◌, cond, List, [], ◌∷◌, ◌++◌, map}
+use Rattle.std.specs.Prelude.{◌≡◌, ℕ, ◌==◌, cond, List, [], ◌∷◌, map}
 use Rattle.std.specs.List.{AllByRecursion, flat_map}
 use Rattle.std.specs.Str.{IsUtf8}
 use Rattle.pprof_wire.specs.Varints.{IsNumberList}

@@ -1,11 +1,8 @@
 -- The draft around the samples is the rows' export, which is valid.
-use Rattle.std.proofs.Common.{◌≡◌, List, ap, ◌∙◌, sym, subst, map}
-use Rattle.std.specs.Prelude.{Ok, Err, Result, IfOk}
+use Rattle.std.proofs.Common.{◌≡◌, ap, ◌∙◌, sym, subst, map}
 use Rattle.pprof_profile.specs.declared.messages.Draft.{Draft}
-use Rattle.pprof_profile.specs.declared.messages.Sample.{Sample}
-use Rattle.pprof_profile.specs.Profiles.{IsProfile}
 use Rattle.pprof_profile.specs.Valid.{IsValidDraft}
-use Rattle.profile_samples.specs.Export.{exported_draft, exported_profile_of, exported_sample, names_of, profile_with, strings_of}
+use Rattle.profile_samples.specs.Export.{exported_profile_of, exported_sample, profile_with, strings_of}
 use Rattle.profile_samples.proofs.ExportLaws.{export_valid}
 use Rattle.profile_samples.proofs.folded_export.profile_bytes.Goals as goal
 

@@ -826,11 +826,16 @@ fn samples_are_written_when_they_come(rt: HostRuntime) -> Result<(), Fail> {
     Ok(())
 }
 
+fn seven_and_eight(alloc: Global) -> Result<Items<u64>, Fail> {
+    let mut items = Items::new(Vec::from_slice(alloc, &[7])?);
+    items.push(8)?;
+    Ok(items)
+}
+
 #[test]
 fn items_give_back_what_they_are_made_of(rt: HostRuntime) -> Result<(), Fail> {
-    let mut items = Items::new(Vec::from_slice(rt.alloc(), &[7u64])?);
+    let items = seven_and_eight(rt.alloc())?;
     assert!(rt; !items.is_empty());
-    items.push(8)?;
     assert_eq!(rt; items.len(), 2);
     assert_eq!(rt; items.as_slice(), [7, 8].as_slice());
     assert_eq!(rt; items.into_vec().as_slice(), [7, 8].as_slice());

@@ -2,9 +2,10 @@
 
 ghost use Rattle.std.specs.Prelude.{◌<◌, length};
 
+use crate::drafts::EACH_FIELD;
 use crate::messages::{
-    EACH_FIELD, INLINED_AND_BARE_LOCATIONS, LONG_VARINT_ID, NEGATIVE_VALUE, ONE_SAMPLE,
-    SEMICOLON_IN_NAME, TWO_SAMPLE_TYPES, UNPACKED_NUMBERS, encoded_again,
+    INLINED_AND_BARE_LOCATIONS, LONG_VARINT_ID, NEGATIVE_VALUE, ONE_SAMPLE, SEMICOLON_IN_NAME,
+    TWO_SAMPLE_TYPES, UNPACKED_NUMBERS, encoded_again,
 };
 use pprof_profile::{ProfileFault, WireFault, decode};
 use std::alloc::Global;

@@ -3,6 +3,8 @@
 #![tactic(auto)]
 
 #[cfg(test)]
+mod drafts;
+#[cfg(test)]
 mod helpers;
 #[cfg(test)]
 mod hostile_messages;

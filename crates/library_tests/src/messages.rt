@@ -1,9 +1,7 @@
-//! What no clause says of profiles: vectors and their variants read and written, the faults, and each field in its
-//! place.
+//! What no clause says of profiles: vectors and their variants read and written, and the faults.
 
 use pprof_profile::{
-    Draft, Function, Items, Label, Line, Location, Mapping, Profile, ProfileFault, Refused, Sample,
-    Text, ValueType, WireFault, WrittenSamples, check, decode, encode, encode_around,
+    Items, Profile, ProfileFault, Text, WireFault, WrittenSamples, decode, encode, encode_around,
 };
 use std::alloc::Global;
 use std::test::Fail;
@@ -55,7 +53,8 @@ pub(crate) const SEMICOLON_IN_NAME: &[u8] = &[
     0x63, 0x70, 0x75, 0x32, 0x02, 0x6e, 0x73, 0x32, 0x03, 0x4c, 0x78, 0x3b,
 ];
 
-fn written(alloc: Global, profile: &Profile) -> Result<Vec<u8>, Fail> {
+/// The canonical bytes of a profile.
+pub(crate) fn written(alloc: Global, profile: &Profile) -> Result<Vec<u8>, Fail> {
     Ok(encode(alloc, profile)?)
 }
 
@@ -617,196 +616,6 @@ fn cut_profiles(rt: HostRuntime) {
     }
 }
 
-/// A draft without messages and strings, with another number in each field.
-fn numbers_alone(alloc: Global) -> Draft {
-    Draft {
-        sample_types: Items::empty(alloc),
-        samples: Items::empty(alloc),
-        mappings: Items::empty(alloc),
-        locations: Items::empty(alloc),
-        functions: Items::empty(alloc),
-        strings: Items::empty(alloc),
-        drop_frames: 1,
-        keep_frames: 2,
-        time_nanos: -3,
-        duration_nanos: 4,
-        period_type: ValueType { kind: 5, unit: 6 },
-        period: 7,
-        comments: Items::empty(alloc),
-        default_sample_type: 8,
-    }
-}
-
-fn fill_sample(sample: &mut Sample) -> Result<(), Fail> {
-    sample.location_ids.push(300)?;
-    sample.values.push(-1)?;
-    sample.labels.push(Label {
-        key: 1,
-        text: 2,
-        num: 3,
-        num_unit: 4,
-    })?;
-    Ok(())
-}
-
-fn add_sample(alloc: Global, draft: &mut Draft) -> Result<(), Fail> {
-    let mut sample = Sample {
-        location_ids: Items::empty(alloc),
-        values: Items::empty(alloc),
-        labels: Items::empty(alloc),
-    };
-    fill_sample(&mut sample)?;
-    draft.samples.push(sample).ok().ok_or("no memory")?;
-    Ok(())
-}
-
-fn add_mapping(draft: &mut Draft) -> Result<(), Fail> {
-    draft.mappings.push(Mapping {
-        id: 11,
-        memory_start: 12,
-        memory_limit: 13,
-        file_offset: 14,
-        filename: 5,
-        build_id: 6,
-        has_functions: true,
-        has_filenames: false,
-        has_line_numbers: true,
-        has_inline_frames: true,
-    })?;
-    Ok(())
-}
-
-fn add_location(alloc: Global, draft: &mut Draft) -> Result<(), Fail> {
-    let mut location = Location {
-        id: 300,
-        mapping_id: 11,
-        address: 0,
-        lines: Items::empty(alloc),
-        is_folded: true,
-    };
-    location.lines.push(Line {
-        function_id: 21,
-        line: 22,
-    })?;
-    draft.locations.push(location).ok().ok_or("no memory")?;
-    Ok(())
-}
-
-fn add_function(draft: &mut Draft) -> Result<(), Fail> {
-    draft.functions.push(Function {
-        id: 21,
-        name: 1,
-        system_name: 2,
-        filename: 3,
-        start_line: 4,
-    })?;
-    Ok(())
-}
-
-fn add_string(alloc: Global, draft: &mut Draft, text: &str) -> Result<(), Fail> {
-    let text = Text::copied(alloc, text)?;
-    draft.strings.push(text).ok().ok_or("no memory")?;
-    Ok(())
-}
-
-fn fill(alloc: Global, draft: &mut Draft) -> Result<(), Fail> {
-    draft.sample_types.push(ValueType { kind: 1, unit: 2 })?;
-    draft.comments.push(9)?;
-    add_sample(alloc, draft)?;
-    add_mapping(draft)?;
-    add_location(alloc, draft)?;
-    add_function(draft)?;
-    add_string(alloc, draft, "")?;
-    for _ in 0..9 {
-        add_string(alloc, draft, "é")?;
-    }
-    Ok(())
-}
-
-/// A profile with another number in each field, whose bytes were written by a small encoder outside this repository.
-fn each_field(alloc: Global) -> Result<Draft, Fail> {
-    let mut draft = numbers_alone(alloc);
-    fill(alloc, &mut draft)?;
-    Ok(draft)
-}
-
-pub(crate) const EACH_FIELD: &[u8] = &[
-    0x0a, 0x04, 0x08, 0x01, 0x10, 0x02, 0x12, 0x1a, 0x0a, 0x02, 0xac, 0x02, 0x12, 0x0a, 0xff, 0xff,
-    0xff, 0xff, 0xff, 0xff, 0xff, 0xff, 0xff, 0x01, 0x1a, 0x08, 0x08, 0x01, 0x10, 0x02, 0x18, 0x03,
-    0x20, 0x04, 0x1a, 0x12, 0x08, 0x0b, 0x10, 0x0c, 0x18, 0x0d, 0x20, 0x0e, 0x28, 0x05, 0x30, 0x06,
-    0x38, 0x01, 0x48, 0x01, 0x50, 0x01, 0x22, 0x0d, 0x08, 0xac, 0x02, 0x10, 0x0b, 0x22, 0x04, 0x08,
-    0x15, 0x10, 0x16, 0x28, 0x01, 0x2a, 0x0a, 0x08, 0x15, 0x10, 0x01, 0x18, 0x02, 0x20, 0x03, 0x28,
-    0x04, 0x32, 0x00, 0x32, 0x02, 0xc3, 0xa9, 0x32, 0x02, 0xc3, 0xa9, 0x32, 0x02, 0xc3, 0xa9, 0x32,
-    0x02, 0xc3, 0xa9, 0x32, 0x02, 0xc3, 0xa9, 0x32, 0x02, 0xc3, 0xa9, 0x32, 0x02, 0xc3, 0xa9, 0x32,
-    0x02, 0xc3, 0xa9, 0x32, 0x02, 0xc3, 0xa9, 0x38, 0x01, 0x40, 0x02, 0x48, 0xfd, 0xff, 0xff, 0xff,
-    0xff, 0xff, 0xff, 0xff, 0xff, 0x01, 0x50, 0x04, 0x5a, 0x04, 0x08, 0x05, 0x10, 0x06, 0x60, 0x07,
-    0x6a, 0x01, 0x09, 0x70, 0x08,
-];
-
-fn checked(alloc: Global, draft: Draft) -> Result<Profile, Fail> {
-    Ok(check(alloc, draft).ok().ok_or("the draft is valid")?)
-}
-
-/// The canonical bytes of a valid draft.
-fn encoded(alloc: Global, draft: Draft) -> Result<Vec<u8>, Fail> {
-    let profile = checked(alloc, draft)?;
-    written(alloc, &profile)
-}
-
-/// All fields of a profile, as `{:?}` prints them.
-fn printed(alloc: Global, profile: &Profile) -> Result<String, Fail> {
-    Ok(format!(in alloc; "{profile:?}")?)
-}
-
-fn printed_each_field(alloc: Global) -> Result<String, Fail> {
-    let profile = checked(alloc, each_field(alloc)?)?;
-    printed(alloc, &profile)
-}
-
-fn printed_of(alloc: Global, bytes: &[u8]) -> Result<String, Fail> {
-    let profile = decode(alloc, bytes)?;
-    printed(alloc, &profile)
-}
-
-#[test]
-fn each_field_is_written_in_its_place(rt: HostRuntime) -> Result<(), Fail> {
-    let written = encoded(rt.alloc(), each_field(rt.alloc())?)?;
-    assert_eq!(rt; written.as_slice(), EACH_FIELD);
-    Ok(())
-}
-
-#[test]
-fn each_field_is_read_from_its_place(rt: HostRuntime) -> Result<(), Fail> {
-    let want = printed_each_field(rt.alloc())?;
-    let read = printed_of(rt.alloc(), EACH_FIELD)?;
-    assert_eq!(rt; read.as_str(), want.as_str());
-    Ok(())
-}
-
-/// A draft with an index that names no string, as it is handed back.
-fn handed_back(alloc: Global) -> Result<Refused<Draft>, Fail> {
-    let mut draft = decode(alloc, ONE_SAMPLE)?.into_draft();
-    draft.default_sample_type = 4;
-    Ok(check(alloc, draft).err().ok_or("an index is too large")?)
-}
-
-#[test]
-fn drafts_are_handed_back(rt: HostRuntime) -> Result<(), Fail> {
-    let refused = handed_back(rt.alloc())?;
-    assert_eq!(rt; refused.fault, ProfileFault::StringIndex);
-    assert_eq!(rt; refused.back.default_sample_type, 4);
-    Ok(())
-}
-
-#[test]
-fn drafts_that_were_handed_back_can_be_mended(rt: HostRuntime) -> Result<(), Fail> {
-    let mut draft = handed_back(rt.alloc())?.back;
-    draft.default_sample_type = 0;
-    let written = encoded(rt.alloc(), draft)?;
-    assert_eq!(rt; written.as_slice(), ONE_SAMPLE);
-    Ok(())
-}
-
 /// A profile with a sample of location 1 and of value 7 in the place of its own samples.
 fn encoded_around(alloc: Global, profile: &Profile) -> Result<Vec<u8>, Fail> {
     let mut samples = WrittenSamples::new(alloc);
@@ -826,11 +635,16 @@ fn samples_are_written_when_they_come(rt: HostRuntime) -> Result<(), Fail> {
     Ok(())
 }
 
+fn seven_and_eight(alloc: Global) -> Result<Items<u64>, Fail> {
+    let mut items = Items::new(Vec::from_slice(alloc, &[7])?);
+    items.push(8)?;
+    Ok(items)
+}
+
 #[test]
 fn items_give_back_what_they_are_made_of(rt: HostRuntime) -> Result<(), Fail> {
-    let mut items = Items::new(Vec::from_slice(rt.alloc(), &[7u64])?);
+    let items = seven_and_eight(rt.alloc())?;
     assert!(rt; !items.is_empty());
-    items.push(8)?;
     assert_eq!(rt; items.len(), 2);
     assert_eq!(rt; items.as_slice(), [7, 8].as_slice());
     assert_eq!(rt; items.into_vec().as_slice(), [7, 8].as_slice());

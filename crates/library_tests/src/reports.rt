@@ -295,7 +295,7 @@ fn columns_have_limits(rt: HostRuntime) -> Result<(), Fail> {
 #[test]
 fn a_top_list_is_made_from_what_names_weigh(rt: HostRuntime) -> Result<(), Fail> {
     let totals = folded_totals(rt.alloc(), THREE.as_bytes())?;
-    let list = Answer::Top(top_list(rt.alloc(), totals, Rank::Cum, 2)?);
+    let list = Answer::Top(top_list(totals, Rank::Cum, 2)?);
     assert_eq!(rt;
         answer_text(rt.alloc(), &list)?.as_str(),
         "total 10\n0 10 main\n2 5 a\n"

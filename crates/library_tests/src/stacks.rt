@@ -4,10 +4,10 @@
 use crate::helpers::{rows_of, stack_of, text_of};
 use profile_rows::CountedRows;
 use stack_text::{
-    Batch, FoldedFault, FrameTotals, MAX_DEPTH, MAX_TOTAL, Name, NameFault, PushFault, Stack,
-    aggregate, folded_totals, kept_totals, merge_folded, read_folded,
+    Batch, FoldedFault, FrameTotals, MAX_DEPTH, MAX_TOTAL, Name, NameFault, NoMemory, PushFault,
+    Stack, aggregate, folded_totals, kept_totals, merge_folded, read_folded,
 };
-use std::alloc::{AllocError, Global};
+use std::alloc::Global;
 use std::test::Fail;
 
 #[test]
@@ -68,7 +68,7 @@ fn a_batch_keeps_its_total_within_the_limit(rt: HostRuntime) -> Result<(), Fail>
 }
 
 // A name over and over.
-fn repeated(name: &Name, alloc: Global, times: usize) -> Result<Vec<Name>, AllocError> {
+fn repeated(name: &Name, alloc: Global, times: usize) -> Result<Vec<Name>, NoMemory> {
     let mut names = Vec::new(alloc);
     for _ in 0..times {
         names.push(name.share()?)?;
@@ -217,5 +217,33 @@ fn names_of_kept_rows_are_counted(rt: HostRuntime) -> Result<(), Fail> {
     assert!(rt; focused == (5, Some((0, 5))));
     let others = kept_weights(rt.alloc(), &rows, None, Some(&name))?;
     assert!(rt; others == (5, Some((3, 3))));
+    Ok(())
+}
+
+#[test]
+fn faults_of_folded_text_are_printed(rt: HostRuntime) -> Result<(), Fail> {
+    let rows = [
+        (FoldedFault::NotUtf8 { line: 1 }, "F1 NotUtf8 line 1"),
+        (FoldedFault::NoCount { line: 2 }, "F2 NoCount line 2"),
+        (FoldedFault::Count { line: 3 }, "F3 Count line 3"),
+        (FoldedFault::Depth { line: 4 }, "F4 Depth line 4"),
+        (FoldedFault::Heavy { line: 5 }, "F5 Heavy line 5"),
+        (FoldedFault::NoMemory, "F6 NoMemory"),
+    ];
+    for (fault, want) in rows {
+        assert_eq!(rt; format!(in rt.alloc(); "{fault}")?.as_str(), want);
+    }
+    Ok(())
+}
+
+#[test]
+fn refusals_of_a_row_are_printed(rt: HostRuntime) -> Result<(), Fail> {
+    let rows = [
+        (PushFault::Heavy { held: 3 }, "Q1 Heavy held 3"),
+        (PushFault::NoMemory, "Q2 NoMemory"),
+    ];
+    for (fault, want) in rows {
+        assert_eq!(rt; format!(in rt.alloc(); "{fault}")?.as_str(), want);
+    }
     Ok(())
 }

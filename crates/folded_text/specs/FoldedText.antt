@@ -17,6 +17,10 @@ use Rattle.profile_rows.specs.Aggregate.{aggregate_of, rows_of}
 abbrev pub frames_of : List ℕ → List (List ℕ)
 frames_of text = filter (λ piece. not (length piece == 0)) (slice_split (λ byte. byte == 59) text)
 
+-- a piece between semicolons as frames: one, and none where it is empty
+abbrev pub frame_in : List ℕ → List (List ℕ)
+frame_in piece = filter (λ piece. not (length piece == 0)) (piece ∷ [])
+
 -- The line is a stack text, a space and the digits of a count. Digits hold no space, so it is the line's last one.
 pub record HasCount (line stack digits : List ℕ) : Type 0 where
   pub parts : line ≡ stack ++ 32 ∷ digits

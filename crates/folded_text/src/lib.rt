@@ -2,6 +2,7 @@
 #![tactic(auto)]
 
 mod folded;
+mod stack_frames;
 mod known_names;
 pub mod laws;
 mod merged_text;

@@ -1,0 +1,56 @@
+//! The frames of a stack text, one after the other.
+
+ghost use Rattle.std.specs.Prelude.{◌≡◌, ◌<◌, ◌++◌, ◌∷◌, [], MatchOption, length};
+ghost use Rattle.folded_text.specs.FoldedText.{frame_in, frames_of};
+
+use bstr::ByteSlice;
+use std::marker::Model;
+
+/// The frames of a stack text, root first: the pieces between its semicolons, without the empty ones. They are lent
+/// from the text.
+pub struct Frames<'a> {
+    rest: &'a str,
+}
+
+impl<'a> Model for Frames<'a> {
+    ghost use Rattle.std.specs.Prelude.{List, ℕ};
+    ghost use Rattle.folded_text.specs.FoldedText.{frames_of};
+
+    ghost Value = { List (List ℕ) };
+
+    ghost view = { λ f. frames_of f.rest.now };
+}
+
+/// A text's first piece, and what stands behind its semicolon: nothing where there is none.
+fn split_piece<'a>(text: &'a str) -> (&'a str, &'a str)
+    ensures frames { frames_of text.now ≡ frame_in result.0.now ++ frames_of result.1.now }
+    ensures shorter { 0 < length text.now → length result.1.now < length text.now }
+{
+    match text.as_bytes().find_byte(b';') {
+        Some(at) => (&text[..at], &text[at + 1..]),
+        None => (text, ""),
+    }
+}
+
+impl<'a> Frames<'a> {
+    /// The frames of this text.
+    pub fn of(text: &'a str) -> Frames<'a>
+        ensures { result ≡ frames_of text.now }
+    {
+        Frames { rest: text }
+    }
+
+    /// The next frame, while there is one.
+    pub fn next_frame(&mut self) -> Option<&'a str>
+        ensures { MatchOption result (self.old ≡ []) (λ frame. self.old ≡ frame.now ∷ self.new) }
+    {
+        while !self.rest.is_empty() {
+            let (piece, rest) = split_piece(self.rest);
+            self.rest = rest;
+            if !piece.is_empty() {
+                return Some(piece);
+            }
+        }
+        None
+    }
+}

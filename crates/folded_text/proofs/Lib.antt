@@ -1,7 +1,7 @@
 pub mod Counting
 pub mod Counts
 pub mod FirstFault
-pub mod Frames
+pub mod FrameNames
 pub mod Lines
 pub mod Pieces
 pub mod Reading

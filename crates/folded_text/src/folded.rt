@@ -10,6 +10,7 @@ ghost use Rattle.profile_rows.specs.Names.{IsName};
 ghost use Rattle.profile_rows.specs.Rows.{total_of};
 
 use crate::known_names::KnownNames;
+use crate::stack_frames::Frames;
 use crate::taking::{LineTaker, take_lines};
 use no_memory::NoMemory;
 use profile_rows::{Batch, MAX_DEPTH, MAX_TOTAL, Name, Stack};
@@ -108,7 +109,14 @@ fn weight_from(digits: &str) -> Option<u64>
 fn depth_of(text: &str) -> usize
     ensures { result ≡ length (frames_of text.now) }
 {
-    text.split(';').filter(|frame| !frame.is_empty()).count()
+    let mut rest = Frames::of(text);
+    for depth in 0..text.len() {
+        if rest.next_frame().is_none() {
+            return depth;
+        }
+    }
+    // a frame for each byte
+    text.len()
 }
 
 /// What a line spells: the text of a stack, how many frames that has, and the weight.
@@ -131,7 +139,8 @@ pub(crate) fn names_from<'a>(
     ensures { IfOk result (λ frames. frames.items ≡ frames_of text.now) }
 {
     let mut frames = Vec::with_capacity(alloc, depth)?;
-    for frame in text.split(';').filter(|frame| !frame.is_empty()) {
+    let mut rest = Frames::of(text);
+    while let Some(frame) = rest.next_frame() {
         frames.push(names.name_of(alloc, frame)?)?;
     }
     Ok(frames)

@@ -2,16 +2,17 @@
 #![tactic(auto)]
 
 mod folded;
-mod stack_frames;
 mod known_names;
 pub mod laws;
 mod merged_text;
+mod stack_frames;
 mod taking;
 mod text_totals;
 mod written;
 
 pub use folded::{FoldedFault, Spelled, read_folded, read_line};
 pub use merged_text::merge_folded;
+pub use stack_frames::Frames;
 pub use taking::{LineTaker, take_lines};
 pub use text_totals::folded_totals;
 pub use written::write_folded;

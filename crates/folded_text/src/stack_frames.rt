@@ -8,6 +8,7 @@ use std::marker::Model;
 
 /// The frames of a stack text, root first: the pieces between its semicolons, without the empty ones. They are lent
 /// from the text.
+#[derive(Drop)]
 pub struct Frames<'a> {
     rest: &'a str,
 }

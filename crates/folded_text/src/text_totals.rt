@@ -10,6 +10,7 @@ ghost use Rattle.folded_text.specs.FoldedText.{IsFoldedText, IsLineFault, IsRowL
 ghost use Rattle.folded_text.specs.TextSums.{AreTotalsOfText};
 
 use crate::folded::{FoldedFault, fitting, fitting_depth, stack_and_weight};
+use crate::stack_frames::Frames;
 use crate::taking::{LineTaker, take_lines};
 use profile_rows::{CountedRows, FrameTotals};
 use std::alloc::{AllocError, Global};
@@ -21,7 +22,8 @@ fn replace_by_text<'a>(frames: &mut Vec<&'a str>, text: &'a str) -> Result<(), A
     ensures texts { OnOk result (map (λ frame. frame.now) frames.new.items ≡ frames_of text.now) }
 {
     frames.clear();
-    for frame in text.split(';').filter(|frame| !frame.is_empty()) {
+    let mut rest = Frames::of(text);
+    while let Some(frame) = rest.next_frame() {
         frames.push(frame)?;
     }
     Ok(())

@@ -11,7 +11,7 @@ ghost use Rattle.profile_samples.specs.TextTables.{with_texts};
 
 use crate::exporting::exported_draft;
 use crate::text_table::TextTable;
-use folded_text::{FoldedFault, LineTaker, Spelled, read_line, take_lines};
+use folded_text::{FoldedFault, Frames, LineTaker, Spelled, read_line, take_lines};
 use no_memory::NoMemory;
 use pprof_profile::{Items, WrittenSamples, encode_around};
 use std::alloc::Global;
@@ -36,7 +36,8 @@ fn replace_ids<'a>(
     ensures ids { OnOk result (ids.new.items ≡ reverse (map (id_in names.new) (frames_of text.now))) }
 {
     ids.clear();
-    for frame in text.split(';').filter(|frame| !frame.is_empty()) {
+    let mut rest = Frames::of(text);
+    while let Some(frame) = rest.next_frame() {
         ids.push(names.place_with(frame)? as u64 + 1)?;
     }
     ids.reverse();

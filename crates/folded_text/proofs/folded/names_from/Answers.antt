@@ -1,47 +1,23 @@
--- The pieces that aren't empty are the frames, in order, and each can be a name.
-use Rattle.std.proofs.Common.{rules, [], ◌∷◌, ◌++◌, length, take, lit<, sym, ap, ◌∙◌, subst, arith}
-use Rattle.std.specs.Prelude.{◌==◌, not}
-use Rattle.std.proofs.lemmas.List.{take_all, take_more, length_push}
-use Rattle.std.proofs.lemmas.Iterator.Consumers.{YieldsList-at, YieldsList-from_filter, YieldsList-turn, YieldsList-end}
-use Rattle.std.proofs.lemmas.Iterator.Splits.{YieldsList-from_str_split}
-use Rattle.folded_text.specs.FoldedText.{frames_of}
+-- Each frame can be a name.
+use Rattle.std.proofs.Common.{◌∷◌, ◌++◌, [], suc, All, sym, ap, ◌∙◌, subst, append_assoc, arith}
 use Rattle.profile_rows.specs.Names.{IsName}
-use Rattle.folded_text.proofs.Frames.{frames_of-IsName}
+use Rattle.folded_text.proofs.FrameNames.{frames_of-IsName}
 use Rattle.folded_text.proofs.folded.names_from.Goals as goal
 
-pub name_of-requires : goal.name_of-requires
-name_of-requires c =
-    let turn = YieldsList-turn
-    (YieldsList-at c.into_iter-frame-iterator.ensures.into_iter_gives
-    (YieldsList-from_filter _ (λ piece. not (length piece == 0))
-    (YieldsList-at c.filter-frame-items.ensures.source (YieldsList-from_str_split 59 c.args.text.now (lit< tt) c.split.ensures.text c.split.ensures.has_more c.split.ensures.pattern))
-    c.filter-frame-items.ensures.closure
-    (λ x b q k. search rules)))
-    c.loop-frame.yielded _ c.loop-frame.yielded_by _ _ c.in-Some.frame c.in-Some.is c.next.ensures.steps in
-    subst IsName (sym turn.1) (frames_of-IsName c.args.text.now c.utf8.text c.requires.one_line (length c.loop-frame.yielded) c.in-Some.frame.now turn.0)
+pub loop-frame-init : goal.loop-frame-init
+loop-frame-init c = record {
+  whole = ap (λ items. items ++ c.of-rest.result) c.in_ok-frames.ensures.items ∙ c.of-rest.ensures;
+  names = subst (All IsName) (sym c.of-rest.ensures) (frames_of-IsName c.args.text.now c.utf8.text c.requires.one_line);
+}
 
 pub loop-frame-preserved : goal.loop-frame-preserved
 loop-frame-preserved c =
-    let turn = YieldsList-turn
-    (YieldsList-at c.into_iter-frame-iterator.ensures.into_iter_gives
-    (YieldsList-from_filter _ (λ piece. not (length piece == 0))
-    (YieldsList-at c.filter-frame-items.ensures.source (YieldsList-from_str_split 59 c.args.text.now (lit< tt) c.split.ensures.text c.split.ensures.has_more c.split.ensures.pattern))
-    c.filter-frame-items.ensures.closure
-    (λ x b q k. search rules)))
-    c.loop-frame.yielded _ c.loop-frame.yielded_by _ _ c.in-Some.frame c.in-Some.is c.next.ensures.steps in
-    c.in_ok-push.ensures.items
-    ∙ ap (λ fs. fs ++ c.in_ok-name_of.field-0 ∷ []) c.loop-frame.invariant
-    ∙ ap (λ f. take (length c.loop-frame.yielded) (frames_of c.args.text.now) ++ f ∷ []) (c.in_ok-name_of.ensures ∙ turn.1)
-    ∙ sym (take_more (frames_of c.args.text.now) (length c.loop-frame.yielded) c.in-Some.frame.now turn.0)
-    ∙ ap (λ n. take n (frames_of c.args.text.now)) (sym (length_push c.loop-frame.yielded c.in-Some.frame))
-
-pub returns : goal.returns
-returns c =
-    let whole = YieldsList-end
-    (YieldsList-at c.into_iter-frame-iterator.ensures.into_iter_gives
-    (YieldsList-from_filter _ (λ piece. not (length piece == 0))
-    (YieldsList-at c.filter-frame-items.ensures.source (YieldsList-from_str_split 59 c.args.text.now (lit< tt) c.split.ensures.text c.split.ensures.has_more c.split.ensures.pattern))
-    c.filter-frame-items.ensures.closure
-    (λ x b q k. search rules)))
-    c.loop-frame.yielded _ c.loop-frame.yielded_by _ _ c.in-None.is c.next.ensures.steps in
-    c.loop-frame.invariant ∙ ap (λ n. take n (frames_of c.args.text.now)) whole.1 ∙ take_all _ _ (omega arith)
+    let next = c.in-Some.ensures in
+    let names = subst (All IsName) next c.loop-frame.invariant.names in
+    record {
+      whole = ap (λ items. items ++ c.next_frame.new.self) (c.in_ok-push.ensures.items ∙ ap (λ name. c.loop-frame.frames.items ++ name ∷ []) c.in_ok-name_of.ensures)
+          ∙ append_assoc c.loop-frame.frames.items (c.in-Some.frame.now ∷ []) c.next_frame.new.self
+          ∙ ap (λ rest. c.loop-frame.frames.items ++ rest) (sym next)
+          ∙ c.loop-frame.invariant.whole;
+      names = λ k d below. names (suc k) d (omega arith);
+    }

@@ -57,10 +57,10 @@ returns-in-Some c =
     let short : c.in-Some.at < length c.args.text.now = omega (arith, ap length same) in
     let end : IsEnd (get_or c.args.text.now c.in-Some.at 0) ≡ true = subst (λ text. IsEnd (get_or text c.in-Some.at 0) ≡ true) same found.1 in
     let before : (k : ℕ) → k < c.in-Some.at → IsEnd (get_or c.args.text.now k 0) ≡ true → ⊥ = λ k below is.
-        found.0.before k (omega arith) below (subst (λ text. IsEnd (get_or text k 0) ≡ true) (sym same) is) in
+    found.0.before k (omega arith) below (subst (λ text. IsEnd (get_or text k 0) ≡ true) (sym same) is) in
     let whole : c.in-Some.at ≡ c.in-Some.at - 0 = omega arith in
     let front : take c.in-Some.at c.args.text.now ≡ c.range.result.now =
-        ap (λ n. take n c.args.text.now) whole ∙ sym c.range.ensures.value in
+    ap (λ n. take n c.args.text.now) whole ∙ sym c.range.ensures.value in
     record {
       frames = cut c.args.text.now c.in-Some.at short before end
           ∙ ap (λ piece. frame_in piece ++ frames_of (drop (c.in-Some.at + 1) c.args.text.now)) front
@@ -72,7 +72,7 @@ returns-in-Some c =
 whole_piece : (text : List ℕ) → ((k : ℕ) → k < length text → IsEnd (get_or text k 0) ≡ true → ⊥) → frames_of text ≡ frame_in text ++ frames_of []
 whole_piece text none =
     let all : All (λ byte. IsEnd byte ≡ false) text = λ k d below.
-        ap IsEnd (get_or_default text k d 0 below) ∙ other (get_or text k 0) (none k below) in
+    ap IsEnd (get_or_default text k d 0 below) ∙ other (get_or text k 0) (none k below) in
     ap (filter (λ piece. not (length piece == 0))) (slice_split_none IsEnd text all) ∙ sym (append-nil (frame_in text))
 
 pub returns-in-None-clause-frames : goal.returns-in-None-clause-frames
@@ -80,4 +80,4 @@ returns-in-None-clause-frames c =
     let nowhere = c.in-None.ensures in
     let same = c.as_bytes.ensures.value in
     whole_piece c.args.text.now (λ k below is.
-        nowhere k (omega arith) (omega (arith, ap length same, below)) (subst (λ text. IsEnd (get_or text k 0) ≡ true) (sym same) is))
+    nowhere k (omega arith) (omega (arith, ap length same, below)) (subst (λ text. IsEnd (get_or text k 0) ≡ true) (sym same) is))

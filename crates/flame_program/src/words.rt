@@ -13,7 +13,7 @@ use clap::{ArgMatches, Error};
 use flame_answers::{Format, Request, Source};
 use flame_report::{Kind, Query};
 use pprof_profile::Text;
-use profile_rows::{Name, NameFault};
+use profile_rows::{Name, NameFault, NoMemory};
 use std::alloc::{AllocError, Global};
 
 /// Why the words ask for nothing.
@@ -27,13 +27,13 @@ pub enum WordsFault {
     NoMemory,
 }
 
-impl From<AllocError> for WordsFault {
+impl From<NoMemory> for WordsFault {
     ghost use Rattle.std.specs.Prelude.{◌≡◌};
     ghost use Rattle.flame_program.specs.declared.words.WordsFault.TheVariants.{NoMemory};
 
     ghost from_gives = { λ _ fault. fault ≡ NoMemory };
 
-    fn from(_error: AllocError) -> WordsFault {
+    fn from(_error: NoMemory) -> WordsFault {
         WordsFault::NoMemory
     }
 }
@@ -136,7 +136,7 @@ fn name_from(alloc: Global, text: Option<&str>) -> Result<Option<Name>, WordsFau
 }
 
 // A copy of a text, where it is given.
-fn text_from(alloc: Global, text: Option<&str>) -> Result<Option<Text>, AllocError>
+fn text_from(alloc: Global, text: Option<&str>) -> Result<Option<Text>, NoMemory>
     ensures { MatchResult result (λ copy. copy ≡ option_map (λ t. t.now) text.entry) (λ _. ⊤) }
 {
     match text {

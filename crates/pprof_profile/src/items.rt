@@ -5,7 +5,7 @@ ghost use Rattle.std.specs.Str.{IsUtf8};
 ghost use Rattle.pprof_profile.specs.Valid.{is_nonempty};
 
 use pprof_wire::NoMemory;
-use std::alloc::{AllocError, AllocFailed, Global};
+use std::alloc::{AllocFailed, Global};
 use std::marker::Model;
 
 /// The items of a repeated field, in order. A contract sees the list of them.
@@ -108,7 +108,11 @@ impl Text {
     }
 
     /// A copy of the text.
-    pub fn copied(alloc: Global, text: &str) -> Result<Text, AllocError>
+    ///
+    /// # Errors
+    ///
+    /// `NoMemory`.
+    pub fn copied(alloc: Global, text: &str) -> Result<Text, NoMemory>
         ensures { IfOk result (λ copy. copy ≡ text.now) }
     {
         Ok(Text {

@@ -20,7 +20,8 @@ no_node = record { parent = 0; name = 0; counts = false; own = 0; total = 0 }
 -- the stack of the next node: none for the first, else its parent's and its name
 abbrev pub next_stack : List (List ℕ) → List (List (List ℕ)) → Link → List (List ℕ)
 next_stack names [] link = []
-next_stack names (stack ∷ stacks) link = slice_index_or (stack ∷ stacks) link.parent [] ++ name_at names link.name ∷ []
+next_stack names (stack ∷ stacks) link =
+    slice_index_or (stack ∷ stacks) link.parent [] ++ name_at names link.name ∷ []
 
 abbrev pub stacks_from : List (List ℕ) → List (List (List ℕ)) → List Link → List (List (List ℕ))
 stacks_from names before [] = before
@@ -51,7 +52,8 @@ at nodes k = slice_index_or nodes k no_node
 pub record IsTree (names : List (List ℕ)) (nodes : List Node) : Type 0 where
   pub rooted : 0 < length nodes
   pub root : (at nodes 0).counts ≡ false
-  pub links : (k : ℕ) → 0 < k → k < length nodes → ((at nodes k).parent < k) × ((at nodes k).name < length names)
+  pub links : (k : ℕ) → 0 < k → k < length nodes
+      → ((at nodes k).parent < k) × ((at nodes k).name < length names)
   pub counts : (k : ℕ) → 0 < k → k < length nodes
       → (at nodes k).counts
       ≡ not (has_name (name_at names (at nodes k).name) (stack_at (node_rows names nodes) (at nodes k).parent))

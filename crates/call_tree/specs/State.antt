@@ -51,9 +51,11 @@ pub record HasParent (tree : TreeState) (stack : List (List ℕ)) (name : List �
 pub record IsState (tree : TreeState) : Type 0 where
   pub rooted : 0 < length tree.nodes
   pub root : stack_at tree.nodes 0 ≡ []
-  pub apart : (i j : ℕ) → i < length tree.nodes → j < length tree.nodes → stack_at tree.nodes i ≡ stack_at tree.nodes j
+  pub apart : (i j : ℕ) → i < length tree.nodes → j < length tree.nodes
+      → stack_at tree.nodes i ≡ stack_at tree.nodes j
       → i ≡ j
-  pub unlike : (i j : ℕ) → i < length tree.names → j < length tree.names → name_at tree.names i ≡ name_at tree.names j
+  pub unlike : (i j : ℕ) → i < length tree.names → j < length tree.names
+      → name_at tree.names i ≡ name_at tree.names j
       → i ≡ j
   pub closed : (k : ℕ) (stack : List (List ℕ)) (name : List ℕ) → k < length tree.nodes
       → stack_at tree.nodes k ≡ stack ++ name ∷ [] → HasParent tree stack name

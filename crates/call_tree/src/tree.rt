@@ -74,7 +74,8 @@ impl CallTree {
     /// One more name, with the next number.
     pub(crate) fn append_name(&mut self, name: Name) -> Result<(), AllocError>
         requires { (k : ℕ) → k < length self.old.names → name_at self.old.names k ≡ name → ⊥ }
-        ensures ok { OnOk result ((self.new.names ≡ self.old.names ++ name ∷ []) × (self.new.nodes ≡ self.old.nodes)) }
+        ensures ok { OnOk result
+            ((self.new.names ≡ self.old.names ++ name ∷ []) × (self.new.nodes ≡ self.old.nodes)) }
         ensures err { OnErr result (self.new ≡ self.old) }
     {
         self.names.append(name)?;
@@ -151,7 +152,8 @@ impl CallTree {
 
     /// A tree of the root alone.
     pub(crate) fn new(alloc: Global) -> Result<CallTree, AllocError>
-        ensures { IfOk result (λ tree. (tree.names ≡ []) × (tree.nodes ≡ (record { stack = []; weight = 0 }) ∷ [])) }
+        ensures { IfOk result
+            (λ tree. (tree.names ≡ []) × (tree.nodes ≡ (record { stack = []; weight = 0 }) ∷ [])) }
     {
         let mut nodes = Table::new(alloc);
         nodes.append(Node {

@@ -132,7 +132,8 @@ abbrev pub IsInputFault : Request → List ℕ → ToolFault → Type 0
 IsInputFault request input fault = IsRefusedIn (format_for request) (value_for request) input fault
 
 -- rows that add up to those of an input
-pub record AreMergedIn (format : Format) (value : Option (List ℕ)) (input : List ℕ) (merged : List Row) : Type 0 where
+pub record AreMergedIn (format : Format) (value : Option (List ℕ)) (input : List ℕ)
+    (merged : List Row) : Type 0 where
   pub rows : List Row
   pub spelled : AreRowsIn format value input rows
   pub same : aggregate_of merged ≡ aggregate_of rows

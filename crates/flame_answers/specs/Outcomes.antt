@@ -1,5 +1,5 @@
 -- The exit statuses of the program, and what it says of its end.
-use Rattle.std.specs.Prelude.{ℕ, List, [], ◌∷◌, ◌++◌, Option, Some, None, codes, string_bytes}
+use Rattle.std.specs.Prelude.{ℕ, List, [], ◌∷◌, ◌++◌, Option, Some, None, codes, option_map, string_bytes}
 use Rattle.flame_answers.specs.declared.outcomes.Outcome.{Outcome}
 use Rattle.flame_answers.specs.declared.outcomes.Outcome.TheVariants.{Done, Words, Fault}
 use Rattle.flame_answers.specs.declared.outcomes.ToolFault.{ToolFault}
@@ -33,14 +33,9 @@ fault_text_of Write = Some (codes "E2 Write")
 fault_text_of TooLong = Some (codes "E3 TooLong")
 fault_text_of NoMemory = Some (codes "E4 NoMemory")
 
--- a fault's line
-abbrev pub line_of : Option (List ℕ) → Option (List ℕ)
-line_of None = None
-line_of (Some text) = Some (codes "flame: " ++ text ++ 10 ∷ [])
-
 -- what the program says of its end, where the text is its own: nothing where it is done, and the text for the user
 -- where words are refused
 abbrev pub said_of : Outcome → Option (List ℕ)
 said_of Done = Some []
 said_of (Words text) = Some (string_bytes text)
-said_of (Fault fault) = line_of (fault_text_of fault)
+said_of (Fault fault) = option_map (λ text. codes "flame: " ++ text ++ 10 ∷ []) (fault_text_of fault)

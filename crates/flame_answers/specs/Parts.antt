@@ -11,7 +11,8 @@ pub record IsWholeInput (limit : ℕ) (unread left : Option (List ℕ)) (input :
   pub at_end : IsAtEnd left
 
 -- One more read: what was read since the start is the input so far. It has grown, or the reader is at its end.
-pub record IsReadSoFar (limit : ℕ) (start left : Option (List ℕ)) (old new : List ℕ) (is_more : Bool) : Type 0 where
+pub record IsReadSoFar (limit : ℕ) (start left : Option (List ℕ)) (old new : List ℕ)
+    (is_more : Bool) : Type 0 where
   pub short : length new ≤ limit
   pub taken : Consumes start left new
   pub grown : is_more ≡ true → length old < length new

@@ -79,7 +79,8 @@ fn read_part<R: Read>(
     requires allowed { limit ≤ MAX_INPUT }
     requires short { length input.old.items ≤ limit }
     requires part { 0 < length buffer.old }
-    ensures { (start : Option (List ℕ)) → Consumes start (R.remaining reader.old) input.old.items → MatchResult result
+    ensures { (start : Option (List ℕ)) → Consumes start (R.remaining reader.old) input.old.items
+        → MatchResult result
         (λ is_more. IsReadSoFar limit start (R.remaining reader.new) input.old.items input.new.items is_more)
         (λ fault. LeavesAfterFault limit start (R.remaining reader.new) fault) }
 {

@@ -21,7 +21,8 @@ abbrev pub IsAsked : List (List ℕ) → Type 0
 IsAsked words = (request : Request) × (request_of words ≡ Some request)
 
 -- the words ask for this text of the whole input
-pub record IsAnswered (words : List (List ℕ)) (limit : ℕ) (unread left : Option (List ℕ)) (text : List ℕ) : Type 0 where
+pub record IsAnswered (words : List (List ℕ)) (limit : ℕ) (unread left : Option (List ℕ))
+    (text : List ℕ) : Type 0 where
   pub request : Request
   pub asked : request_of words ≡ Some request
   pub input : List ℕ
@@ -29,12 +30,14 @@ pub record IsAnswered (words : List (List ℕ)) (limit : ℕ) (unread left : Opt
   pub answer : IsAnswer request input text
 
 -- the report was written whole
-abbrev pub IsDone : List (List ℕ) → ℕ → Option (List ℕ) → Option (List ℕ) → Option (List ℕ) → Option (List ℕ) → Type 0
+abbrev pub IsDone : List (List ℕ) → ℕ → Option (List ℕ) → Option (List ℕ) → Option (List ℕ)
+    → Option (List ℕ) → Type 0
 IsDone words limit unread left before after =
     (text : List ℕ) × IsAnswered words limit unread left text × Appends before after text
 
 -- a beginning of the report was written
-abbrev pub IsCut : List (List ℕ) → ℕ → Option (List ℕ) → Option (List ℕ) → Option (List ℕ) → Option (List ℕ) → Type 0
+abbrev pub IsCut : List (List ℕ) → ℕ → Option (List ℕ) → Option (List ℕ) → Option (List ℕ)
+    → Option (List ℕ) → Type 0
 IsCut words limit unread left before after =
     (text : List ℕ) × IsAnswered words limit unread left text × AppendsBeginning before after text
 
@@ -48,8 +51,8 @@ pub record IsRefusedInput (words : List (List ℕ)) (limit : ℕ) (unread left :
   pub first : IsInputFault request input fault
 
 -- what a fault says of the reader. Nothing was written, but at a fault of writing.
-abbrev pub EndsByFault : List (List ℕ) → ℕ → Option (List ℕ) → Option (List ℕ) → Option (List ℕ) → Option (List ℕ)
-    → ToolFault → Type 0
+abbrev pub EndsByFault : List (List ℕ) → ℕ → Option (List ℕ) → Option (List ℕ) → Option (List ℕ)
+    → Option (List ℕ) → ToolFault → Type 0
 EndsByFault words limit unread left before after (Folded fault) =
     IsRefusedInput words limit unread left (Folded fault) × Keeps before after
 EndsByFault words limit unread left before after (Profile fault) =
@@ -65,8 +68,8 @@ EndsByFault words limit unread left before after TooLong =
 EndsByFault words limit unread left before after NoMemory = TakesAtMost limit unread left × Keeps before after
 
 -- what the cause of a run's end says. Words that are refused leave the reader and the writer alone.
-abbrev pub EndsBy : List (List ℕ) → ℕ → Option (List ℕ) → Option (List ℕ) → Option (List ℕ) → Option (List ℕ)
-    → Outcome → Type 0
+abbrev pub EndsBy : List (List ℕ) → ℕ → Option (List ℕ) → Option (List ℕ) → Option (List ℕ)
+    → Option (List ℕ) → Outcome → Type 0
 EndsBy words limit unread left before after Done = IsDone words limit unread left before after
 EndsBy words limit unread left before after (Words text) = IsRefused words × Keeps unread left × Keeps before after
 EndsBy words limit unread left before after (Fault fault) = EndsByFault words limit unread left before after fault
@@ -84,7 +87,8 @@ IsAccepted request limit input =
 
 -- where the words ask for something, the input alone decides between 0 and 1, but where the streams or memory failed
 abbrev pub InputDecides : List (List ℕ) → ℕ → Option (List ℕ) → ℕ → Type 0
-InputDecides words limit unread code = IfSome unread (λ input. (request : Request) → request_of words ≡ Some request
+InputDecides words limit unread code =
+    IfSome unread (λ input. (request : Request) → request_of words ≡ Some request
     → code ≢ 3 → code ≢ 4
     → ((code ≡ 0) ↔ IsAccepted request limit input) × ((code ≡ 1) ↔ ¬ IsAccepted request limit input))
 

@@ -84,7 +84,8 @@ fn run_words<R: Read, W: Write>(
     ensures ends { IfOk words (λ words. IsEnd (map string_bytes (into_iter_items words)) 268435456
         (R.remaining reader.old) (R.remaining reader.new) (W.contents writer.old) (W.contents writer.new)
         result.code result.cause) }
-    ensures done { result.code ≡ 0 → IfOk words (λ words. IsDone (map string_bytes (into_iter_items words)) 268435456
+    ensures done { result.code ≡ 0
+        → IfOk words (λ words. IsDone (map string_bytes (into_iter_items words)) 268435456
         (R.remaining reader.old) (R.remaining reader.new) (W.contents writer.old) (W.contents writer.new)) }
     ensures decided { IfOk words (λ words. InputDecides (map string_bytes (into_iter_items words)) 268435456
         (R.remaining reader.old) result.code) }

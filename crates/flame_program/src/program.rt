@@ -34,7 +34,8 @@ pub fn run<'a, R: Read, W: Write>(
     // Where the words ask for something, the input alone decides, but where the streams or memory failed.
     ensures decided { InputDecides (texts_of words.entry.now) limit (R.remaining reader.old) result.code }
     // Words that ask for nothing end with 2, want of memory aside, and no others do.
-    ensures refused { result.code ≡ 2 → IsRefused (texts_of words.entry.now) ⊎ IsMisnamed (texts_of words.entry.now) }
+    ensures refused { result.code ≡ 2
+        → IsRefused (texts_of words.entry.now) ⊎ IsMisnamed (texts_of words.entry.now) }
     ensures unasked { request_of (texts_of words.entry.now) ≡ None → result.code ≢ 4 → result.code ≡ 2 }
     // Nothing is written, but at 0 and at a fault of writing: then a beginning of the report.
     ensures silent { result.code ≢ 0 → result.cause ≢ Outcome.Fault ToolFault.Write

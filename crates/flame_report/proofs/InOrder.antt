@@ -6,38 +6,23 @@ use Rattle.std.specs.declared.cmp.Ordering.{Ordering}
 use Rattle.std.specs.declared.cmp.Ordering.TheVariants.{Less, Equal, Greater}
 use Rattle.std.specs.Ordering.{is_eq, is_lt, ordering_reverse}
 use Rattle.std.specs.FinMap as finite
-use Rattle.std.specs.FinMap.{put, find, is_sorted, entries-insert, get-entries, entries_sorted, len-entries, len-empty}
+use Rattle.std.specs.FinMap.{put, find, is_sorted, entries-insert, get-entries, entries_sorted}
 use Rattle.std.specs.FinMap.Entries.{by_order, below_all}
 use Rattle.std.proofs.lemmas.Bool.{lt-ltb, ltb-true}
-use Rattle.std.proofs.lemmas.List.{append-nil, append_assoc, nil_from_length}
+use Rattle.std.proofs.lemmas.List.{append-nil, append_assoc}
 use Rattle.std.proofs.lemmas.List.Elements.{recursion_from_All, All-from_recursion, All-filter}
 use Rattle.std.proofs.lemmas.List.Kept.{AllPairs-cons, AllPairs-filter}
 use Rattle.profile_rows.specs.declared.batch.Row.{Row}
 use Rattle.profile_rows.specs.Rows.{stack_cmp, is_kept, kept_rows}
 use Rattle.profile_rows.specs.Aggregate.{Weighted, weight_in, with_row, with_rows, aggregate_of, row_of, rows_of}
+use Rattle.profile_rows.proofs.EntryLaws.{Entry, first, less, no_entries, second}
 use Rattle.profile_rows.proofs.RowLaws.{stack_cmp_total}
 use Rattle.flame_report.specs.Sharing.{IsAscending, AreWeighty}
-
-abbrev Entry : Type 0
-Entry = List (List ℕ) × ℕ
 
 abbrev entry : Row → Entry
 entry row = (row.stack, row.weight)
 
 -- ---- the rows of a map are in order
-
-less : (o : Ordering) → T (is_lt o) → o ≡ Less
-less Less p = refl
-less Equal p = absurd p
-less Greater p = absurd p
-
-first : (a b : Bool) → T (a && b) → T a
-first true b p = tt
-first false b p = p
-
-second : (a b : Bool) → T (a && b) → T b
-second true b p = p
-second false b p = absurd p
 
 abbrev Follows : List (List ℕ) → Row → Type 0
 Follows stack row = stack_cmp stack row.stack ≡ Less
@@ -81,9 +66,6 @@ with_row-weighs m row all =
 with_rows-weighs : (m : Weighted) (rows : List Row) → AllByRecursion Weighs (finite.entries m) → AllByRecursion Weighs (finite.entries (with_rows m rows))
 with_rows-weighs m [] all = all
 with_rows-weighs m (row ∷ rows) all = with_rows-weighs (with_row m row) rows (with_row-weighs m row all)
-
-no_entries : finite.entries (finite.empty {X = ℕ} {R = stack_cmp}) ≡ []
-no_entries = nil_from_length _ (sym (len-entries finite.empty) ∙ len-empty stack_cmp ℕ)
 
 rows-weigh : (es : List Entry) → AllByRecursion Weighs es → AllByRecursion (λ (row : Row). 0 < row.weight) (map row_of es)
 rows-weigh [] all = tt

@@ -2,13 +2,12 @@
 use Rattle.std.proofs.Common.{◌≡◌, ℕ, zero, suc, ◌+◌, ◌<◌, Bool, true, false, cond, ◌||◌, List, [], ◌∷◌, ◌++◌, length, map, filter, refl, sym, ap, subst, ◌∙◌, arith}
 use Rattle.std.specs.Prelude.{nat_lt}
 use Rattle.std.specs.List.{AllByRecursion, AllPairs, Contains, list_any, flat_map}
-use Rattle.std.specs.Ordering.{is_eq}
 use Rattle.std.specs.declared.cmp.Ordering.TheVariants.{Less}
 use Rattle.std.proofs.lemmas.Bool.{ltb-true, ltb-false}
-use Rattle.std.proofs.lemmas.Cmp.{tied_itself}
+use Rattle.std.proofs.lemmas.Cmp.{eq_by_cmp_equiv}
 use Rattle.std.proofs.lemmas.List.Elements.{All-from_recursion}
 use Rattle.std.proofs.lemmas.List.Kept.{AllPairs-cons}
-use Rattle.std.proofs.lemmas.Map.Views.{Contains-from_any}
+use Rattle.std.proofs.lemmas.Map.Views.{Contains-from_any, list_any-from_Contains}
 use Rattle.profile_rows.specs.declared.batch.Row.{Row}
 use Rattle.profile_rows.specs.Layout.{column_at, is_shown, rectangle_at, rectangles_of}
 use Rattle.profile_rows.specs.Names.{name_cmp}
@@ -47,15 +46,6 @@ weighty_path rows path some =
 
 -- ---- and a path that is listed weighs something
 
-listed : (path : List (List ℕ)) (paths : List (List (List ℕ))) → Contains paths path → list_any (is_same_stack path) paths ≡ true
-listed path [] (k, lt, is) = absurd (omega arith)
-listed path (p ∷ paths) (zero, lt, is) =
-    subst (λ q. (is_same_stack path q || list_any (is_same_stack path) paths) ≡ true) (sym is)
-    (ap (λ o. is_eq o || list_any (is_same_stack path) paths) (tied_itself stack_cmp_total path))
-listed path (p ∷ paths) (suc k, lt, is) =
-    let rest = listed path paths (k, (let low : k < length paths = omega arith in low), is) in
-    elim (is_same_stack path p) as (λ b. (b || list_any (is_same_stack path) paths) ≡ true) [ true ↦ refl | false ↦ rest ]
-
 some_weight : (rows : List Row) (path : List (List ℕ)) → list_any (begins_row path) (filter (λ row. nat_lt 0 row.weight) rows) ≡ true → 0 < path_weight rows path
 some_weight [] path some = cc
 some_weight (row ∷ rows) path some =
@@ -77,7 +67,7 @@ listed_weighs rows path found =
     some_weight rows path
     (sym (among-all path (filter (λ row. nat_lt 0 row.weight) rows))
     ∙ sym (member-in_order stack_cmp stack_cmp_total stack_cmp_apart path (flat_map (λ row. prefixes row.stack) (filter (λ row. nat_lt 0 row.weight) rows)))
-    ∙ listed path (paths_of rows) found)
+    ∙ list_any-from_Contains (eq_by_cmp_equiv stack_cmp_total) path (paths_of rows) found)
 
 -- ---- in order
 

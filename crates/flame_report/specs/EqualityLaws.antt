@@ -19,7 +19,8 @@ use Rattle.flame_report.specs.declared.query.Query.{Query}
 use Rattle.flame_report.specs.declared.query.Rank.{Rank}
 use Rattle.flame_report.specs.declared.query.Rank.TheVariants.{Flat, Cum}
 
-option_eq-decides : {T : Type 0} {E : T → T → Bool} → ((x y : T) → Decides (E x y) (x ≡ y)) → (a b : Option T)
+option_eq-decides : {T : Type 0} {E : T → T → Bool} → ((x y : T) → Decides (E x y) (x ≡ y))
+    → (a b : Option T)
     → Decides (option_eq E a b) (a ≡ b)
 option_eq-decides decides None None = (λ e. refl, λ e. refl)
 option_eq-decides decides None (Some y) = (λ e. cc, λ e. cc)
@@ -59,7 +60,8 @@ kind_eq-decides (kind.Top rank count) kind.Folded = (λ e. cc, λ e. cc)
 kind_eq-decides (kind.Flame columns) kind.Total = (λ e. cc, λ e. cc)
 kind_eq-decides (kind.Flame columns) (kind.Top rank count) = (λ e. cc, λ e. cc)
 kind_eq-decides (kind.Flame columns) (kind.Flame others) =
-    let numbers = unsigned_Decides columns others in (λ e. ap kind.Flame (numbers.0 e), λ e. numbers.1 (ap number_in e))
+    let numbers = unsigned_Decides columns others in
+    (λ e. ap kind.Flame (numbers.0 e), λ e. numbers.1 (ap number_in e))
 kind_eq-decides (kind.Flame columns) kind.Folded = (λ e. cc, λ e. cc)
 kind_eq-decides kind.Folded kind.Total = (λ e. cc, λ e. cc)
 kind_eq-decides kind.Folded (kind.Top rank count) = (λ e. cc, λ e. cc)
@@ -134,7 +136,10 @@ flame_eq-decides a b =
     (both_decide _ _ (unsigned_Decides a.total b.total) (unsigned_Decides a.columns b.columns))
     (pointwise_decides rect_eq-decides a.rects b.rects) in (
       λ e. let same = parts.0 e in λ i. record { total = same.0.0 i; columns = same.0.1 i; rects = same.1 i },
-      λ e. parts.1 ((ap (λ (f : Flame). f.total) e, ap (λ (f : Flame). f.columns) e), ap (λ (f : Flame). f.rects) e),
+      λ e. parts.1 (
+        (ap (λ (f : Flame). f.total) e, ap (λ (f : Flame). f.columns) e),
+        ap (λ (f : Flame). f.rects) e,
+      ),
     )
 
 abbrev total_in : Answer → ℕ

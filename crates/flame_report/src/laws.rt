@@ -17,7 +17,8 @@ pub fn siblings_meet()
     ensures first { (rows : List Row) (path : List (List ℕ)) (child : List ℕ)
         → ((name : List ℕ) → name_cmp name child ≡ Less → path_weight rows (path ++ name ∷ []) ≡ 0)
         → path_start rows (path ++ child ∷ []) ≡ path_start rows path }
-    ensures next { (rows : List Row) (path : List (List ℕ)) (child following : List ℕ) → name_cmp child following ≡ Less
+    ensures next { (rows : List Row) (path : List (List ℕ)) (child following : List ℕ)
+        → name_cmp child following ≡ Less
         → ((name : List ℕ) → name_cmp child name ≡ Less → name_cmp name following ≡ Less
         → path_weight rows (path ++ name ∷ []) ≡ 0)
         → path_start rows (path ++ following ∷ [])
@@ -51,7 +52,8 @@ pub fn children_lie_inside()
 
 /// Of two siblings the one of the smaller name ends no later than the other starts, in weight and in columns.
 pub fn columns_keep_order()
-    ensures weights { (rows : List Row) (path : List (List ℕ)) (child later : List ℕ) → name_cmp child later ≡ Less
+    ensures weights { (rows : List Row) (path : List (List ℕ)) (child later : List ℕ)
+        → name_cmp child later ≡ Less
         → path_start rows (path ++ child ∷ []) + path_weight rows (path ++ child ∷ [])
         ≤ path_start rows (path ++ later ∷ []) }
     ensures columns { (columns : ℕ) (rows : List Row) (path : List (List ℕ)) (child later : List ℕ)
@@ -78,7 +80,8 @@ pub fn rectangles_come_in_order()
     ensures weighty { (rows : List Row) (path : List (List ℕ))
         → Contains (paths_of rows) path ↔ (0 < path_weight rows path) }
     ensures drawn { (columns : ℕ) (rows : List Row) → rectangles_of columns rows
-        ≡ map (rectangle_at columns rows) (filter (λ path. is_shown (rectangle_at columns rows path)) (paths_of rows)) }
+        ≡ map (rectangle_at columns rows)
+        (filter (λ path. is_shown (rectangle_at columns rows path)) (paths_of rows)) }
 {}
 
 /// The answer to a query depends on the aggregate of the rows alone.

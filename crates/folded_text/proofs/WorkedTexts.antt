@@ -5,21 +5,8 @@ use Rattle.std.specs.Str.{IsUtf8}
 use Rattle.std.specs.Str.Parse.{IsNumeral, digits_value}
 use Rattle.profile_rows.specs.declared.batch.Row.{Row}
 use Rattle.profile_rows.proofs.WorkedAggregate.{mixed, rows_of-computed}
+use Rattle.profile_rows.proofs.WorkedRows.{a, b, row, text}
 use Rattle.folded_text.specs.FoldedText.{IsFoldedText, IsRowLine, folded_text_of, frames_of, rows_text}
-
-abbrev a : List ℕ
-a = codes "a"
-
-abbrev b : List ℕ
-b = codes "b"
-
-abbrev row : List (List ℕ) → ℕ → Row
-row stack weight = record { stack = stack; weight = weight }
-
--- these lines, each with its line feed
-abbrev text : List (List ℕ) → List ℕ
-text [] = []
-text (line ∷ lines) = line ++ 10 ∷ text lines
 
 -- empty parts of a stack text are no frames, and a name may hold spaces
 empty-parts : frames_of (codes "a;;b") ≡ a ∷ b ∷ []

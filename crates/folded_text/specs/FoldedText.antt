@@ -91,13 +91,15 @@ IsLineFault held number line NoMemory = (row : Row) × IsRowLine line row × (he
 -- The first fault of a text: it stands at a line, and the lines before it spell rows within the limit. Lines count from
 -- 1, empty ones too. Where memory ran out, the lines up to there have no fault.
 abbrev pub IsFirstFault : List ℕ → FoldedFault → Type 0
-IsFirstFault text fault = (before : List (List ℕ)) × (line : List ℕ) × (after : List (List ℕ)) × (rows : List Row)
+IsFirstFault text fault = (before : List (List ℕ)) × (line : List ℕ) × (after : List (List ℕ))
+    × (rows : List Row)
     × (lines text ≡ before ++ line ∷ after) × AreRowLines before rows × (total_of rows < 2 ^ 63)
     × (0 < length line) × IsLineFault (total_of rows) (length before + 1) line fault
 
 -- why work on the rows of a text has no result: the text's first fault, or memory runs out after its last line
 abbrev pub IsWorkFault : List ℕ → FoldedFault → Type 0
-IsWorkFault text fault = IsFirstFault text fault ⊎ ((fault ≡ NoMemory) × (rows : List Row) × IsFoldedText text rows)
+IsWorkFault text fault = IsFirstFault text fault
+    ⊎ ((fault ≡ NoMemory) × (rows : List Row) × IsFoldedText text rows)
 
 -- a row as folded text: its names joined by semicolons, a space, its weight in decimal, a line feed
 abbrev pub row_text : Row → List ℕ

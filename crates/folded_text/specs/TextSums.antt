@@ -7,10 +7,10 @@ use Rattle.profile_rows.specs.TopList.{AreTotalsOf}
 use Rattle.folded_text.specs.FoldedText.{IsFoldedText}
 
 -- the rows add up to what the text is folded text of
-pub record IsMergedText (text : List ℕ) (sums : List Row) : Type 0 where
+pub record IsMergedText (text : List ℕ) (merged : List Row) : Type 0 where
   pub rows : List Row
   pub folded : IsFoldedText text rows
-  pub same : aggregate_of sums ≡ aggregate_of rows
+  pub same : aggregate_of merged ≡ aggregate_of rows
 
 -- what the names weigh in the rows that the text is folded text of
 pub record AreTotalsOfText (text : List ℕ) (totals : FrameTotals) : Type 0 where

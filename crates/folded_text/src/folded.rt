@@ -14,7 +14,7 @@ use crate::stack_frames::Frames;
 use crate::taking::{LineTaker, take_lines};
 use no_memory::NoMemory;
 use profile_rows::{Batch, MAX_DEPTH, MAX_TOTAL, Name, Stack};
-use std::alloc::{AllocError, AllocFailed, Global};
+use std::alloc::Global;
 use thiserror::Error;
 
 /// Why bytes aren't folded text, with the line of the first fault. Lines count from 1, empty ones too.
@@ -40,17 +40,6 @@ pub enum FoldedFault {
     NoMemory,
 }
 
-impl From<AllocError> for FoldedFault {
-    ghost use Rattle.std.specs.Prelude.{◌≡◌};
-    ghost use Rattle.folded_text.specs.declared.folded.FoldedFault.TheVariants.{NoMemory};
-
-    ghost from_gives = { λ _ fault. fault ≡ NoMemory };
-
-    fn from(_error: AllocError) -> FoldedFault {
-        FoldedFault::NoMemory
-    }
-}
-
 impl From<NoMemory> for FoldedFault {
     ghost use Rattle.std.specs.Prelude.{◌≡◌};
     ghost use Rattle.folded_text.specs.declared.folded.FoldedFault.TheVariants.{NoMemory};
@@ -58,17 +47,6 @@ impl From<NoMemory> for FoldedFault {
     ghost from_gives = { λ _ fault. fault ≡ NoMemory };
 
     fn from(_error: NoMemory) -> FoldedFault {
-        FoldedFault::NoMemory
-    }
-}
-
-impl<T: Drop> From<AllocFailed<T>> for FoldedFault {
-    ghost use Rattle.std.specs.Prelude.{◌≡◌};
-    ghost use Rattle.folded_text.specs.declared.folded.FoldedFault.TheVariants.{NoMemory};
-
-    ghost from_gives = { λ _ fault. fault ≡ NoMemory };
-
-    fn from(_error: AllocFailed<T>) -> FoldedFault {
         FoldedFault::NoMemory
     }
 }
@@ -172,7 +150,8 @@ pub(crate) fn fitting(depth: usize, weight: u64, held: u64, number: u64) -> Resu
     requires { held < 2 ^ 63 }
     ensures fits { OnOk result ((depth ≤ MAX_DEPTH) × (held + weight < 2 ^ 63)) }
     ensures fault { IfErr result
-        (λ fault. (text : List ℕ) → depth ≡ length (frames_of text) → IsFittingFault held number text weight fault) }
+        (λ fault. (text : List ℕ) → depth ≡ length (frames_of text)
+        → IsFittingFault held number text weight fault) }
 {
     if depth > MAX_DEPTH {
         return Err(FoldedFault::Depth { line: number });
@@ -209,7 +188,8 @@ pub(crate) fn fitting_depth(
 pub fn read_line<'a>(line: &'a [u8], held: u64, number: u64) -> Result<Spelled<'a>, FoldedFault>
     requires { held < 2 ^ 63 }
     ensures spelled { IfOk result (λ found. IsUtf8 line.now × (held + found.weight < 2 ^ 63)
-        × ((digits : List ℕ) × HasCount line.now found.stack.now digits × (found.weight ≡ digits_value 10 digits))
+        × ((digits : List ℕ) × HasCount line.now found.stack.now digits
+        × (found.weight ≡ digits_value 10 digits))
         × (found.depth ≡ length (frames_of found.stack.now)) × (found.depth ≤ MAX_DEPTH)) }
     ensures fault { IfErr result (IsLineFault held number line.now) }
 {

@@ -7,5 +7,6 @@ ghost use Rattle.folded_text.specs.FoldedText.{IsFoldedText, rows_text};
 
 /// The text of rows that a batch can hold is folded text of exactly these rows, also of those of weight 0.
 pub fn written_rows_read_back()
-    ensures { (rows : List Row) → All IsBatchRow rows → total_of rows < 2 ^ 63 → IsFoldedText (rows_text rows) rows }
+    ensures { (rows : List Row) → All IsBatchRow rows → total_of rows < 2 ^ 63
+        → IsFoldedText (rows_text rows) rows }
 {}

@@ -53,33 +53,6 @@ fn add_to_row(merged: &mut Batch, at: usize, weight: u64, number: u64) -> Result
     }
 }
 
-/// A text that is read into one row for each stack text.
-#[derive(Drop)]
-struct Merging<'a> {
-    alloc: Global,
-    names: KnownNames<'a>,
-    /// The place of each stack text's row.
-    known: HashMap<&'a str, usize>,
-    merged: Batch,
-}
-
-impl<'a> LineTaker<'a> for Merging<'a> {
-    ghost is_of = { λ merging rows. AreMergedSoFar rows merging.merged
-        × ArePlacedBy frames_of merging.known merging.merged };
-
-    /// Adds the row to that of the same stack text, where there is one.
-    fn take_line(&mut self, line: &'a [u8], number: u64) -> Result<(), FoldedFault> {
-        merge_line(
-            self.alloc,
-            &mut self.names,
-            &mut self.known,
-            &mut self.merged,
-            line,
-            number,
-        )
-    }
-}
-
 /// Adds the row that a line spells, to the row of the same stack text where there is one.
 fn merge_line<'a>(
     alloc: Global,
@@ -110,14 +83,42 @@ fn merge_line<'a>(
     }
 }
 
-/// Reads folded stacks and puts the lines of one stack text together: as [`read_folded`](crate::read_folded), and every
+/// A text that is read into one row for each stack text.
+#[derive(Drop)]
+struct Merging<'a> {
+    alloc: Global,
+    names: KnownNames<'a>,
+    /// The place of each stack text's row.
+    known: HashMap<&'a str, usize>,
+    merged: Batch,
+}
+
+impl<'a> LineTaker<'a> for Merging<'a> {
+    ghost is_of = { λ merging rows. AreMergedSoFar rows merging.merged
+        × ArePlacedBy frames_of merging.known merging.merged };
+
+    /// Adds the row to that of the same stack text, where there is one.
+    fn take_line(&mut self, line: &'a [u8], number: u64) -> Result<(), FoldedFault> {
+        merge_line(
+            self.alloc,
+            &mut self.names,
+            &mut self.known,
+            &mut self.merged,
+            line,
+            number,
+        )
+    }
+}
+
+/// Reads folded stacks and merges the lines of one stack text: as [`read_folded`](crate::read_folded), and every
 /// report on the rows is the same, in fewer rows.
 ///
 /// # Errors
 ///
 /// Those of [`read_folded`](crate::read_folded).
 pub fn merge_folded(alloc: Global, text: &[u8]) -> Result<Batch, FoldedFault>
-    ensures read { MatchResult result (λ merged. IsMergedText text.now merged) (λ fault. IsFirstFault text.now fault) }
+    ensures read { MatchResult result (λ merged. IsMergedText text.now merged)
+        (λ fault. IsFirstFault text.now fault) }
     ensures accepted { (rows : List Row) → IsFoldedText text.now rows
         → MatchResult result (λ merged. aggregate_of merged ≡ aggregate_of rows)
         (λ fault. fault ≡ FoldedFault.NoMemory) }

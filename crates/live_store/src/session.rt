@@ -111,7 +111,8 @@ impl<'a, N: StoreName> Session<'a, N> {
         ensures extended { IfOk result
             (λ placing. (at : ℕ)
             × (self.new.log
-            ≡ self.old.log ++ (record { op = add (arc_value batch); reply = placed placing.place; at = at }) ∷ [])) }
+            ≡ self.old.log
+            ++ (record { op = add (arc_value batch); reply = placed placing.place; at = at }) ∷ [])) }
         ensures unchanged { OnErr result (self.new ≡ self.old) }
         ensures number { self.new.number ≡ self.old.number }
         ensures back { IfErr result (λ refused. refused.back ≡ batch) }

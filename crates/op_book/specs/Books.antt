@@ -68,9 +68,11 @@ pub record HasTurn (entries : List PlainEntry) (limit sessions session turn : �
 -- the first cause to refuse a turn: no such session before another turn than the next, and that before a full journal
 abbrev pub IsTurnFault : List PlainEntry → ℕ → ℕ → ℕ → ℕ → BookFault → Type 0
 IsTurnFault entries limit sessions session turn Session = sessions ≤ session
-IsTurnFault entries limit sessions session turn (Turn held) = (session < sessions) × (held ≡ turns_of entries session)
+IsTurnFault entries limit sessions session turn (Turn held) = (session < sessions)
+    × (held ≡ turns_of entries session)
     × (turn ≢ held)
-IsTurnFault entries limit sessions session turn (Full held) = (session < sessions) × (turn ≡ turns_of entries session)
+IsTurnFault entries limit sessions session turn (Full held) = (session < sessions)
+    × (turn ≡ turns_of entries session)
     × (held ≡ length entries) × (limit ≤ held)
 IsTurnFault entries limit sessions session turn (Heavy held) = ⊥
 IsTurnFault entries limit sessions session turn NoMemory = ⊥

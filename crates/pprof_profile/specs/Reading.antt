@@ -41,7 +41,8 @@ pub record IsReadSoFar {M : Type 0} (table : Table M) (old : M) (bytes : List �
   pub spelled : Spells table old front new
 
 -- The first field of the bytes has the fault.
-pub record IsFieldFault {M : Type 0} (table : Table M) (old : M) (bytes : List ℕ) (fault : ProfileFault) : Type 0 where
+pub record IsFieldFault {M : Type 0} (table : Table M) (old : M) (bytes : List ℕ)
+    (fault : ProfileFault) : Type 0 where
   pub spelling : List ℕ
   pub rest : List ℕ
   pub field : PlainField
@@ -56,7 +57,8 @@ pub record IsEndFault (bytes : List ℕ) (fault : ProfileFault) : Type 0 where
   pub faulty : IsRestFault wrong bytes
 
 -- The fields before the rest have no fault, and what begins the rest has this one.
-pub record IsFirstFault {M : Type 0} (table : Table M) (old : M) (bytes : List ℕ) (fault : ProfileFault) : Type 0 where
+pub record IsFirstFault {M : Type 0} (table : Table M) (old : M) (bytes : List ℕ)
+    (fault : ProfileFault) : Type 0 where
   pub so_far : M
   pub rest : List ℕ
   pub read : IsReadSoFar table old bytes so_far rest
@@ -148,7 +150,8 @@ MergesMessage table old (content bytes) outcome = Reads table old bytes outcome
 -- ---- the rows of a table
 
 -- The rule, at the field of the message that `get` reads and `put` changes; the other fields stay.
-abbrev pub At : {M A : Type 0} → Rule A → (M → A) → (M → A → M) → M → FieldValue → Result M ProfileFault → Type 0
+abbrev pub At : {M A : Type 0} → Rule A → (M → A) → (M → A → M) → M → FieldValue
+    → Result M ProfileFault → Type 0
 At rule get put old value (Ok new) = rule (get old) value (Ok (get new)) × (new ≡ put old (get new))
 At rule get put old value (Err fault) = rule (get old) value (Err fault)
 

@@ -15,7 +15,8 @@ use std::alloc::Global;
 /// The first rule that the draft breaks, asked in the order of [`ProfileFault`]'s variants.
 pub(crate) fn validate(alloc: Global, draft: &Draft) -> Result<(), ProfileFault>
     ensures valid { OnOk result (validity_fault draft.now ≡ None) }
-    ensures fault { IfErr result (λ fault. fault ≢ ProfileFault.NoMemory → validity_fault draft.now ≡ Some fault) }
+    ensures fault { IfErr result
+        (λ fault. fault ≢ ProfileFault.NoMemory → validity_fault draft.now ≡ Some fault) }
 {
     if draft.strings.is_empty() {
         return Err(ProfileFault::NoStrings);

@@ -77,9 +77,11 @@ pub fn encode_around(
 ) -> Result<Vec<u8>, NoMemory>
     ensures canonical { (items : List Sample) → samples.now ≡ samples_bytes items
         → IfOk result (λ bytes. bytes.items ≡ canonical_bytes_of (record draft.now { samples = items })) }
-    ensures spelled { (items : List Sample) → samples.now ≡ samples_bytes items → FitsEach FitsSample sample_bytes items
+    ensures spelled { (items : List Sample) → samples.now ≡ samples_bytes items
+        → FitsEach FitsSample sample_bytes items
         → IfOk result (λ bytes. SpellsDraft bytes.items (record draft.now { samples = items })) }
-    ensures profile { (items : List Sample) → samples.now ≡ samples_bytes items → FitsEach FitsSample sample_bytes items
+    ensures profile { (items : List Sample) → samples.now ≡ samples_bytes items
+        → FitsEach FitsSample sample_bytes items
         → IsValidDraft (record draft.now { samples = items })
         → IfOk result (λ bytes. IsProfile bytes.items (record draft.now { samples = items })) }
 {

@@ -18,6 +18,9 @@ use Rattle.profile_rows.proofs.RowLaws.{stack_cmp_total, stack_cmp_apart, no_mor
 abbrev pub Entry : Type 0
 Entry = List (List ℕ) × ℕ
 
+pub no_entries : finite.entries (finite.empty {X = ℕ} {R = stack_cmp}) ≡ []
+no_entries = nil_from_length _ (sym (len-entries finite.empty) ∙ len-empty stack_cmp ℕ)
+
 abbrev pub entry_if : (List (List ℕ) → Bool) → Entry → ℕ
 entry_if test entry = cond (test entry.0) entry.1 0
 
@@ -25,16 +28,16 @@ entry_if test entry = cond (test entry.0) entry.1 0
 abbrev pub entries_where : (List (List ℕ) → Bool) → Weighted → ℕ
 entries_where test weighted = sum_by (entry_if test) (finite.entries weighted)
 
-less : (o : Ordering) → T (is_lt o) → o ≡ Less
+pub less : (o : Ordering) → T (is_lt o) → o ≡ Less
 less Less p = refl
 less Equal p = absurd p
 less Greater p = absurd p
 
-first : (a b : Bool) → T (a && b) → T a
+pub first : (a b : Bool) → T (a && b) → T a
 first true b p = tt
 first false b p = p
 
-second : (a b : Bool) → T (a && b) → T b
+pub second : (a b : Bool) → T (a && b) → T b
 second true b p = p
 second false b p = absurd p
 
@@ -103,7 +106,7 @@ pub entries_where-aggregate_of : (test : List (List ℕ) → Bool) (rows : List 
 entries_where-aggregate_of test rows = let all = entries_where-with_rows test finite.empty rows in let none = nothing_in test in omega (arith, all, none)
   where
     nothing_in : (test : List (List ℕ) → Bool) → entries_where test finite.empty ≡ 0
-    nothing_in test = ap (sum_by (entry_if test)) (nil_from_length (finite.entries finite.empty) (sym (len-entries {R = stack_cmp} finite.empty) ∙ len-empty stack_cmp ℕ))
+    nothing_in test = ap (sum_by (entry_if test)) no_entries
 
 pub weight_where-same : (test : List (List ℕ) → Bool) (rows others : List Row) → aggregate_of rows ≡ aggregate_of others → weight_where test rows ≡ weight_where test others
 weight_where-same test rows others e = sym (entries_where-aggregate_of test rows) ∙ ap (entries_where test) e ∙ entries_where-aggregate_of test others

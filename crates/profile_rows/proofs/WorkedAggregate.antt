@@ -1,15 +1,13 @@
 -- The aggregate, worked: the entries of its map are computed row by row, and compared with what was worked by hand.
-use Rattle.std.proofs.Common.{◌≡◌, ℕ, ◌+◌, true, false, cond, List, [], ◌∷◌, map, refl, ap, ◌∙◌, sym, codes}
+use Rattle.std.proofs.Common.{◌≡◌, ℕ, ◌+◌, true, false, cond, List, [], ◌∷◌, map, refl, ap, ◌∙◌, codes}
 use Rattle.std.specs.Prelude.{nat_lt, unwrap_or}
-use Rattle.std.specs.FinMap.{empty, entries, insert, put, find, entries-insert, get-entries, len-entries, len-empty}
-use Rattle.std.proofs.lemmas.List.{nil_from_length}
+use Rattle.std.specs.FinMap.{empty, entries, insert, put, find, entries-insert, get-entries}
 use Rattle.profile_rows.specs.declared.batch.Row.{Row}
 use Rattle.profile_rows.specs.Aggregate.{Weighted, weight_in, with_row, with_rows, aggregate_of, row_of, rows_of}
 use Rattle.profile_rows.specs.Rows.{stack_cmp}
+use Rattle.profile_rows.proofs.EntryLaws.{Entry, no_entries}
 use Rattle.profile_rows.proofs.RowLaws.{stack_cmp_total}
-
-abbrev Entry : Type 0
-Entry = List (List ℕ) × ℕ
+use Rattle.profile_rows.proofs.WorkedRows.{a, b, c, row}
 
 -- the entries with a row more, computed on the list
 abbrev entered : List Entry → Row → List Entry
@@ -34,26 +32,20 @@ entries-with_rows m [] = refl
 entries-with_rows m (row ∷ rows) =
     entries-with_rows (with_row m row) rows ∙ ap (λ es. all_entered es rows) (entries-with_row m row)
 
-no_entries : entries (empty {X = ℕ} {R = stack_cmp}) ≡ []
-no_entries = nil_from_length _ (sym (len-entries empty) ∙ len-empty stack_cmp ℕ)
-
 -- the rows of the aggregate, computed
 pub rows_of-computed : (rows : List Row) → rows_of (aggregate_of rows) ≡ map row_of (all_entered [] rows)
 rows_of-computed rows =
     ap (map row_of) (entries-with_rows empty rows ∙ ap (λ es. all_entered es rows) no_entries)
 
-abbrev row : List (List ℕ) → ℕ → Row
-row stack weight = record { stack = stack; weight = weight }
-
 -- a!;x 1, a;b 1, c 0, the empty stack 4, a;b 2
 abbrev pub mixed : List Row
-mixed = row (codes "a!" ∷ codes "x" ∷ []) 1 ∷ row (codes "a" ∷ codes "b" ∷ []) 1 ∷ row (codes "c" ∷ []) 0 ∷ row [] 4
-    ∷ row (codes "a" ∷ codes "b" ∷ []) 2 ∷ []
+mixed = row (codes "a!" ∷ codes "x" ∷ []) 1 ∷ row (a ∷ b ∷ []) 1 ∷ row (c ∷ []) 0 ∷ row [] 4
+    ∷ row (a ∷ b ∷ []) 2 ∷ []
 
 -- each stack of some weight once, with the sum of its weights; in the order of lists of names, not of joined text
 mixed-aggregate : rows_of (aggregate_of mixed)
-    ≡ row [] 4 ∷ row (codes "a" ∷ codes "b" ∷ []) 3 ∷ row (codes "a!" ∷ codes "x" ∷ []) 1 ∷ []
+    ≡ row [] 4 ∷ row (a ∷ b ∷ []) 3 ∷ row (codes "a!" ∷ codes "x" ∷ []) 1 ∷ []
 mixed-aggregate = rows_of-computed mixed
 
-weightless-aggregate : rows_of (aggregate_of (row (codes "c" ∷ []) 0 ∷ [])) ≡ []
-weightless-aggregate = rows_of-computed (row (codes "c" ∷ []) 0 ∷ [])
+weightless-aggregate : rows_of (aggregate_of (row (c ∷ []) 0 ∷ [])) ≡ []
+weightless-aggregate = rows_of-computed (row (c ∷ []) 0 ∷ [])

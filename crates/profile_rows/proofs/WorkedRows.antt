@@ -12,13 +12,13 @@ use Rattle.profile_rows.specs.TopList.Ranking.{by_flat, by_cumulative}
 abbrev main : List ℕ
 main = codes "main"
 
-abbrev a : List ℕ
+abbrev pub a : List ℕ
 a = codes "a"
 
-abbrev b : List ℕ
+abbrev pub b : List ℕ
 b = codes "b"
 
-abbrev c : List ℕ
+abbrev pub c : List ℕ
 c = codes "c"
 
 abbrev f : List ℕ
@@ -27,11 +27,11 @@ f = codes "f"
 abbrev g : List ℕ
 g = codes "g"
 
-abbrev row : List (List ℕ) → ℕ → Row
+abbrev pub row : List (List ℕ) → ℕ → Row
 row stack weight = record { stack = stack; weight = weight }
 
 -- these lines, each with its line feed
-abbrev text : List (List ℕ) → List ℕ
+abbrev pub text : List (List ℕ) → List ℕ
 text [] = []
 text (line ∷ lines) = line ++ 10 ∷ text lines
 

@@ -29,7 +29,8 @@ row_spelled known spelling = hash.get_by (λ (key : Bor (List ℕ)). bytes_eq sp
 abbrev pub ArePlacedBy : (List ℕ → List (List ℕ)) → RowsBySpelling → List Row → Type 0
 ArePlacedBy stack_of known rows = (spelling : List ℕ)
     → IfSome (row_spelled known spelling)
-    (λ at. (at < length rows) × ((row_at rows at).stack ≡ stack_of spelling) × (length (stack_of spelling) ≤ 65535))
+    (λ at. (at < length rows) × ((row_at rows at).stack ≡ stack_of spelling)
+    × (length (stack_of spelling) ≤ 65535))
 
 -- the rows weigh a row more: each stack does, and all together
 pub record AddsRow (old new : List Row) (row : Row) : Type 0 where

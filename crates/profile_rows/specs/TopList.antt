@@ -45,7 +45,8 @@ occurrences name list = sum_by (λ (sums : FrameTotal). if is_same_name name sum
 -- order
 pub record AreSumsOf (rows : List Row) (list : List FrameTotal) : Type 0 where
   pub weights : All (λ sums. sums ≡ sums_at rows sums.name) list
-  pub once : (name : List ℕ) → occurrences name list ≡ (if nat_lt 0 (cumulative_weight_of rows name) then 1 else 0)
+  pub once : (name : List ℕ)
+      → occurrences name list ≡ (if nat_lt 0 (cumulative_weight_of rows name) then 1 else 0)
 
 -- what the names of rows weigh, and what the rows weigh together
 pub record AreTotalsOf (rows : List Row) (totals : FrameTotals) : Type 0 where

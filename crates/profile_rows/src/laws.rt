@@ -18,12 +18,14 @@ pub fn top_list_is_front_of_sorted()
 
 /// The aggregate has each stack's weight.
 pub fn aggregate_has_weights()
-    ensures { (rows : List Row) (stack : List (List ℕ)) → weight_in (aggregate_of rows) stack ≡ weight_of rows stack }
+    ensures { (rows : List Row) (stack : List (List ℕ))
+        → weight_in (aggregate_of rows) stack ≡ weight_of rows stack }
 {}
 
 /// Rows in which each stack weighs as much have one aggregate: so it is the same in every order of the rows.
 pub fn aggregate_is_by_weights()
-    ensures { (rows others : List Row) → ((stack : List (List ℕ)) → weight_of rows stack ≡ weight_of others stack)
+    ensures { (rows others : List Row)
+        → ((stack : List (List ℕ)) → weight_of rows stack ≡ weight_of others stack)
         → aggregate_of rows ≡ aggregate_of others }
 {}
 
@@ -37,7 +39,8 @@ pub fn aggregate_of_more_rows()
 pub fn sums_are_those_of_the_aggregate()
     ensures rows { (test : List (List ℕ) → Bool) (rows : List Row)
         → weight_where test (rows_of (aggregate_of rows)) ≡ weight_where test rows }
-    ensures same { (test : List (List ℕ) → Bool) (rows others : List Row) → aggregate_of rows ≡ aggregate_of others
+    ensures same { (test : List (List ℕ) → Bool) (rows others : List Row)
+        → aggregate_of rows ≡ aggregate_of others
         → weight_where test rows ≡ weight_where test others }
 {}
 

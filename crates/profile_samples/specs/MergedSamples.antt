@@ -7,7 +7,7 @@ use Rattle.profile_samples.specs.declared.sampling.ValueChoice.{ValueChoice}
 use Rattle.profile_samples.specs.Samples.{IsBatchOf}
 
 -- the rows add up to those of a profile's samples
-pub record IsMergedBatch (draft : Draft) (choice : ValueChoice) (sums : List Row) : Type 0 where
+pub record IsMergedBatch (draft : Draft) (choice : ValueChoice) (merged : List Row) : Type 0 where
   pub rows : List Row
   pub sampled : IsBatchOf draft choice rows
-  pub same : aggregate_of sums ≡ aggregate_of rows
+  pub same : aggregate_of merged ≡ aggregate_of rows

@@ -53,7 +53,8 @@ named_by strings (Some function) = function_name strings function
 -- a line is called as its function; where that is unknown or has no name, as the location's address
 abbrev pub line_name : List (List ℕ) → List Function → ℕ → Line → List ℕ
 line_name strings functions address line =
-    unwrap_or (named_by strings (item_with (λ function. function.id) line.function_id functions)) (address_name address)
+    unwrap_or (named_by strings (item_with (λ function. function.id) line.function_id functions))
+    (address_name address)
 
 -- The frames of a location, leaf first: one for each line, of which the last is the caller into which the others were
 -- inlined. A location without lines is one frame.
@@ -174,7 +175,8 @@ IsSampleFault draft chosen held number sample NoMemory = (row : Row) × IsSample
 
 -- the fault stands at a sample, and the samples before it give rows within the limit
 abbrev pub StandsAtSample : Draft → ValueChoice → BatchFault → Type 0
-StandsAtSample draft choice fault = (chosen : ℕ) × (before : List Sample) × (sample : Sample) × (after : List Sample)
+StandsAtSample draft choice fault = (chosen : ℕ) × (before : List Sample) × (sample : Sample)
+    × (after : List Sample)
     × (rows : List Row)
     × (chosen_type_of draft choice ≡ Some chosen) × (draft.samples ≡ before ++ sample ∷ after)
     × AreSampleRows draft chosen before rows × (total_of rows < 2 ^ 63)

@@ -101,7 +101,8 @@ pub fn export_folded(
     ensures exported { MatchResult result (λ bytes. IsExportOfText text.now kind.now unit.now bytes.items)
         (λ fault. IsWorkFault text.now fault) }
     ensures accepted { (rows : List Row) → IsFoldedText text.now rows
-        → MatchResult result (λ bytes. bytes.items ≡ canonical_bytes_of (exported_profile_of rows kind.now unit.now))
+        → MatchResult result
+        (λ bytes. bytes.items ≡ canonical_bytes_of (exported_profile_of rows kind.now unit.now))
         (λ fault. fault ≡ FoldedFault.NoMemory) }
     ensures profile { (rows : List Row) → IsFoldedText text.now rows
         → IfOk result (λ bytes. IsProfile bytes.items (exported_profile_of rows kind.now unit.now)) }

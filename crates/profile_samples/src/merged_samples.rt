@@ -94,7 +94,7 @@ fn merged_by<'a>(
     requires typed { chosen < length profile.now.sample_types }
     requires placed { ArePlacedBy (sample_stack_of profile.now) known [] }
     ensures { (choice : ValueChoice) → chosen_type_of profile.now choice ≡ Some chosen
-        → MatchResult result (λ sums. IsMergedBatch profile.now choice sums)
+        → MatchResult result (λ merged. IsMergedBatch profile.now choice merged)
         (λ fault. StandsAtSample profile.now choice fault) }
 {
     let mut merged = Batch::new(alloc);
@@ -123,10 +123,11 @@ pub fn merge_samples(
     profile: &Profile,
     choice: ValueChoice,
 ) -> Result<Batch, BatchFault>
-    ensures read { MatchResult result (λ sums. IsMergedBatch profile.now choice.entry sums)
+    ensures read { MatchResult result (λ merged. IsMergedBatch profile.now choice.entry merged)
         (λ fault. IsFirstBatchFault profile.now choice.entry fault) }
     ensures accepted { (rows : List Row) → IsBatchOf profile.now choice.entry rows
-        → MatchResult result (λ sums. aggregate_of sums ≡ aggregate_of rows) (λ fault. fault ≡ BatchFault.NoMemory) }
+        → MatchResult result (λ merged. aggregate_of merged ≡ aggregate_of rows)
+        (λ fault. fault ≡ BatchFault.NoMemory) }
 {
     let Some(chosen) = chosen_type(profile.draft(), choice) else {
         return Err(BatchFault::NoValue);

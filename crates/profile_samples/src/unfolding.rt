@@ -120,7 +120,8 @@ impl<'a> FunctionNames<'a> {
 
     /// The name of the function at a place, where it has one.
     fn name_at(&self, at: usize) -> Option<&Name>
-        ensures { option_map (λ name. name.now) result ≡ named_by self.now.strings (slice_get self.now.functions at) }
+        ensures { option_map (λ name. name.now) result
+            ≡ named_by self.now.strings (slice_get self.now.functions at) }
     {
         match self.names.get(at) {
             Some(name) => name.as_ref(),
@@ -145,7 +146,8 @@ impl<'a> FunctionNames<'a> {
         address: u64,
         lines: &[Line],
     ) -> Result<Items<Name>, NoMemory>
-        ensures { IfOk result (λ names. names ≡ map (line_name self.now.strings self.now.functions address) lines.now) }
+        ensures { IfOk result
+            (λ names. names ≡ map (line_name self.now.strings self.now.functions address) lines.now) }
     {
         let mut names = Vec::with_capacity(alloc, lines.len())?;
         for line in lines {

@@ -2,7 +2,7 @@
 use Rattle.std.proofs.Common.{◌≡◌, ℕ, ◌+◌, ◌-◌, ◌<◌, suc, Bool, true, false, cond, List, [], ◌∷◌, ◌++◌, length, take, drop, get_or, filter, refl, sym, ap, ◌∙◌, subst, arith}
 use Rattle.std.specs.Prelude.{All, ◌==◌, not}
 use Rattle.std.specs.List.{slice_split}
-use Rattle.std.proofs.lemmas.Bool.{eqb-true}
+use Rattle.std.proofs.lemmas.Bool.{eqb-true, false_from_ne_true}
 use Rattle.std.proofs.lemmas.List.{get_or-take, get_or_default, take-append-drop, length-take-le, append-nil}
 use Rattle.std.proofs.lemmas.List.Elements.{filter-append}
 use Rattle.std.proofs.lemmas.List.Splits.{slice_split_at, slice_split_none}
@@ -20,15 +20,12 @@ around text at lt =
     let next : suc at ≡ at + 1 = omega arith in
     sym (take-append-drop at text) ∙ ap (λ rest. take at text ++ rest) (drop-cons text at 0 lt ∙ ap (λ n. get_or text at 0 ∷ drop n text) next)
 
-other : (byte : ℕ) → (IsEnd byte ≡ true → ⊥) → IsEnd byte ≡ false
-other byte isnt = elim (IsEnd byte) as (λ b. (b ≡ true → ⊥) → b ≡ false) [ true ↦ λ no. absurd (no refl) | false ↦ λ no. refl ] isnt
-
 -- what stands before the first semicolon has none
 plain : (text : List ℕ) (at : ℕ) → at < length text → ((k : ℕ) → k < at → IsEnd (get_or text k 0) ≡ true → ⊥)
     → All (λ byte. IsEnd byte ≡ false) (take at text)
 plain text at lt none k d below =
     let short : k < at = omega (arith, length-take-le at text (omega arith)) in
-    ap IsEnd (get_or-take at text k d short ∙ get_or_default text k d 0 (omega arith)) ∙ other (get_or text k 0) (none k short)
+    ap IsEnd (get_or-take at text k d short ∙ get_or_default text k d 0 (omega arith)) ∙ false_from_ne_true (IsEnd (get_or text k 0)) (none k short)
 
 -- a text cut at its first semicolon
 cut : (text : List ℕ) (at : ℕ) → at < length text → ((k : ℕ) → k < at → IsEnd (get_or text k 0) ≡ true → ⊥) → IsEnd (get_or text at 0) ≡ true
@@ -72,7 +69,7 @@ returns-in-Some c =
 whole_piece : (text : List ℕ) → ((k : ℕ) → k < length text → IsEnd (get_or text k 0) ≡ true → ⊥) → frames_of text ≡ frame_in text ++ frames_of []
 whole_piece text none =
     let all : All (λ byte. IsEnd byte ≡ false) text = λ k d below.
-    ap IsEnd (get_or_default text k d 0 below) ∙ other (get_or text k 0) (none k below) in
+    ap IsEnd (get_or_default text k d 0 below) ∙ false_from_ne_true (IsEnd (get_or text k 0)) (none k below) in
     ap (filter (λ piece. not (length piece == 0))) (slice_split_none IsEnd text all) ∙ sym (append-nil (frame_in text))
 
 pub returns-in-None-clause-frames : goal.returns-in-None-clause-frames

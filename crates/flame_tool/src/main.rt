@@ -4,9 +4,6 @@
 //! process's own.
 #![tactic(auto)]
 
-#[cfg(test)]
-mod tests;
-
 use flame_program::run_process;
 use std::env;
 use std::process::ExitCode;

@@ -1,6 +1,6 @@
 //! The exit status of a process, and what it says on the standard error.
 
-use super::fakes::Narrow;
+use crate::fakes::Narrow;
 use flame_program::{End, run_process};
 use std::alloc::{AllocError, Global};
 use std::env::Args;

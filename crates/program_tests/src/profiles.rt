@@ -1,6 +1,6 @@
 //! Reports on profiles: the vectors of the format, and their faults.
 
-use super::fakes::{repeated, run_on};
+use crate::fakes::{repeated, run_on};
 use flame_answers::MAX_INPUT;
 use std::alloc::{AllocError, Global};
 use std::test::Fail;

@@ -1,6 +1,6 @@
 //! Reading and writing in parts.
 
-use super::fakes::{Dripping, Narrow, repeated};
+use crate::fakes::{Dripping, Narrow, repeated};
 use flame_answers::{MAX_INPUT, ReadFault, read_input, write_text};
 use std::io::ErrorKind;
 use std::test::Fail;

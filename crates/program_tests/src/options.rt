@@ -1,6 +1,6 @@
 //! What the options change, worked by hand.
 
-use super::fakes::run_on;
+use crate::fakes::run_on;
 use flame_answers::MAX_INPUT;
 use std::test::Fail;
 

@@ -6,7 +6,7 @@ use std::alloc::{AllocError, Global};
 use std::io;
 use std::io::{ErrorKind, Read, Write};
 
-/// The words of the stored run.
+/// The words that ask for the top list.
 pub static TOP: [&str; 2] = ["flame", "top"];
 
 /// The words that ask for equal stacks added up.

@@ -1,6 +1,6 @@
 //! Reports on thousands of rows, on long names and on long inputs, by closed formulas.
 
-use super::fakes::{repeated, run_on};
+use crate::fakes::{repeated, run_on};
 use flame_answers::MAX_INPUT;
 use std::alloc::{AllocError, Global};
 use std::test::Fail;

@@ -1,6 +1,6 @@
 //! The statuses other than 0, and what the program says of them.
 
-use super::fakes::{Dripping, FOLD, Narrow, TOP, repeated, run_on};
+use crate::fakes::{Dripping, FOLD, Narrow, TOP, repeated, run_on};
 use flame_answers::MAX_INPUT;
 use flame_program::run;
 use std::io::ErrorKind;

@@ -1,6 +1,6 @@
 //! The reports of `top` and of `fold`, worked by hand.
 
-use super::fakes::{Dripping, FOLD, Narrow, TOP, run_on};
+use crate::fakes::{Dripping, FOLD, Narrow, TOP, run_on};
 use flame_answers::MAX_INPUT;
 use flame_program::run;
 use std::io::ErrorKind;

@@ -7,11 +7,13 @@
 # There are nine quick runs of half a minute to over a minute each. Not part of the gate.
 set -u
 root=$(cd "$(dirname "$0")/.." && pwd)
-stored=$root/crates/flame_tool
 work=$(mktemp -d)
 trap 'rm -rf "$work"' EXIT
 nothing=$work/nothing
 : >"$nothing"
+three_stacks=$root/examples/three_stacks.folded
+top_list=$work/top_list
+printf '%s\n' 'total 10' '5 5 c' '3 3 b' '2 5 a' '0 10 main' >"$top_list"
 failed=0
 
 run() {
@@ -36,14 +38,14 @@ judge() {
 }
 
 # A pipe that is silent for four seconds, longer than rt waits for more.
-slow_at_first() { sleep 4; cat "$stored/stdin"; }
-slow_within() { head -c 12 "$stored/stdin"; sleep 4; tail -c +13 "$stored/stdin"; }
+slow_at_first() { sleep 4; cat "$three_stacks"; }
+slow_within() { head -c 12 "$three_stacks"; sleep 4; tail -c +13 "$three_stacks"; }
 
 try_slow() {
     run top < <(slow_at_first)
-    judge "a pipe that is slow at first" 0 "$stored/stdout" ''
+    judge "a pipe that is slow at first" 0 "$top_list" ''
     run top < <(slow_within)
-    judge "a pipe that is slow within" 0 "$stored/stdout" ''
+    judge "a pipe that is slow within" 0 "$top_list" ''
 }
 
 # 12 bytes a line: more than 64 MiB.
@@ -77,10 +79,10 @@ try_no_input() {
 
 try_no_output() {
     : >"$work/report"
-    "$launcher" top <"$stored/stdin" >/dev/full 2>"$work/said"
+    "$launcher" top <"$three_stacks" >/dev/full 2>"$work/said"
     status=$?
     judge "a full standard output" 3 "$nothing" '^flame: E2 Write$'
-    "$launcher" top <"$stored/stdin" >&- 2>"$work/said"
+    "$launcher" top <"$three_stacks" >&- 2>"$work/said"
     status=$?
     judge "a closed standard output" 3 "$nothing" '^flame: E2 Write$'
 }
@@ -108,7 +110,7 @@ echo 'checked: no-answer: the program did not end within the time limit' >&2
 echo 'run=no-answer proved=no' >&2
 exit 6
 RT
-    PATH=$work/stand_in:$PATH run top <"$stored/stdin"
+    PATH=$work/stand_in:$PATH run top <"$three_stacks"
     judge "a run that takes too long" 5 "$nothing" '^flame: this quick build runs for at most ten minutes.*\./build'
 }
 
@@ -121,7 +123,7 @@ RT
     mkdir "$work/files"
     end_by_signal "$work/silent"
     judge "a signal while it reads" 143 "$nothing" ''
-    end_by_signal "$stored/stdin"
+    end_by_signal "$three_stacks"
     judge "a signal while it runs" 143 "$nothing" ''
 }
 
@@ -174,7 +176,7 @@ is_proved() {
 #!/bin/sh
 exit 1
 RT
-    PATH=$work/stand_in:$PATH "$root/flame" top <"$stored/stdin" >/dev/null 2>&1
+    PATH=$work/stand_in:$PATH "$root/flame" top <"$three_stacks" >/dev/null 2>&1
 }
 
 case ${1-} in

@@ -1,0 +1,21 @@
+//! The program on the process that it is: the process's own words and streams.
+
+use crate::process::run_process;
+use std::env;
+use std::process::ExitCode;
+
+/// The whole of `main`: runs on the process's words and its three streams, and gives the exit status.
+///
+/// It has no clause, since none knows what a process's words and streams are. The stored runs of the programs that call
+/// it show that it takes all of both, and that the status is the cause's.
+pub fn run_on_host(rt: HostRuntime) -> ExitCode {
+    let end = run_process(
+        rt.alloc(),
+        env::args(&rt),
+        &mut rt.stdin(),
+        &mut rt.stdout(),
+        &mut rt.stderr(),
+    );
+    // Nothing is left to do where the standard error couldn't be written.
+    end.code
+}

@@ -3,7 +3,7 @@ use Rattle.std.proofs.Common.{◌≡◌, ℕ, zero, suc, ◌+◌, ◌<◌, ◌�
 use Rattle.std.proofs.lemmas.List.{get_or_append_left, get_or_push, length_push}
 use Rattle.std.proofs.lemmas.List.Sums.{sum_by_push, sum_by-cons}
 use Rattle.std.proofs.lemmas.Bool.{cases_eq}
-use Rattle.profile_rows.specs.declared.batch.Row.{Row}
+use Rattle.profile_rows.specs.declared.weighted_stacks.WeightedStack.{WeightedStack}
 use Rattle.profile_rows.specs.Names.{is_same_name}
 use Rattle.profile_rows.specs.Rows.{has_name, total_of, cumulative_weight_of}
 use Rattle.profile_rows.proofs.RowLaws.{weight_where-push}
@@ -108,7 +108,7 @@ module _ (names : List (List ℕ)) (nodes : List Node) (parent name : ℕ) (coun
   abbrev pub added_node : Node
   added_node = record { parent = parent; name = name; counts = counts; own = 0; total = 0 }
 
-  abbrev pub added_row : Row
+  abbrev pub added_row : WeightedStack
   added_row = record { stack = stack_at (node_rows names nodes) parent ++ name_at names name ∷ []; weight = 0 }
 
   abbrev all : List Node
@@ -145,7 +145,7 @@ module _ (names : List (List ℕ)) (nodes : List Node) (parent name : ℕ) (coun
   zero_if false = refl
 
   total_kept : total_of (node_rows names all) ≡ total_of (node_rows names nodes)
-  total_kept = ap total_of node_rows-added ∙ omega (arith, sum_by_push (λ (row : Row). row.weight) (node_rows names nodes) added_row)
+  total_kept = ap total_of node_rows-added ∙ omega (arith, sum_by_push (λ (row : WeightedStack). row.weight) (node_rows names nodes) added_row)
 
   apart_added : (i j : ℕ) → i < length all → j < length all → stack_at (node_rows names all) i ≡ stack_at (node_rows names all) j → i ≡ j
   apart_added i j hi hj e = ⊎_elim

@@ -3,16 +3,16 @@ use Rattle.std.proofs.Common.{◌≡◌, ℕ, ◌+◌, ◌<◌, Bool, true, fals
 use Rattle.std.proofs.lemmas.List.{get_or-set_same, get_or-set_other, length-set}
 use Rattle.std.proofs.lemmas.List.Sums.{sum_by-set}
 use Rattle.std.proofs.lemmas.Bool.{cases_eq}
-use Rattle.profile_rows.specs.declared.batch.Row.{Row}
+use Rattle.profile_rows.specs.declared.weighted_stacks.WeightedStack.{WeightedStack}
 use Rattle.profile_rows.specs.Rows.{is_same_stack, total_of, weight_of, weight_where}
 use Rattle.profile_rows.specs.Aggregate.{with_row, aggregate_of}
 use Rattle.profile_rows.proofs.RowLaws.{weight_where-set, weight_where-one, aggregate_of-more}
 use Rattle.call_tree.specs.State.{no_row, node_at, stack_at, credited}
 
-pub length-credited : (rows : List Row) (k w : ℕ) → length (credited rows k w) ≡ length rows
+pub length-credited : (rows : List WeightedStack) (k w : ℕ) → length (credited rows k w) ≡ length rows
 length-credited rows k w = length-set rows k _
 
-pub stack_at-credited : (rows : List Row) (k w j : ℕ) → k < length rows → stack_at (credited rows k w) j ≡ stack_at rows j
+pub stack_at-credited : (rows : List WeightedStack) (k w j : ℕ) → k < length rows → stack_at (credited rows k w) j ≡ stack_at rows j
 stack_at-credited rows k w j lt =
     ⊎_elim
     (λ e. subst (λ i. stack_at (credited rows k w) i ≡ stack_at rows i) (sym e) (ap (λ row. row.stack) (get_or-set_same rows k (record { stack = stack_at rows k; weight = (node_at rows k).weight + w }) no_row lt)))
@@ -23,18 +23,18 @@ more_if : (b : Bool) (s a w : ℕ) (t : ℕ) → t + cond b a 0 ≡ s + cond b (
 more_if true s a w t e = omega arith
 more_if false s a w t e = omega arith
 
-pub weight_where-credited : (test : List (List ℕ) → Bool) (rows : List Row) (k w : ℕ) → k < length rows
+pub weight_where-credited : (test : List (List ℕ) → Bool) (rows : List WeightedStack) (k w : ℕ) → k < length rows
     → weight_where test (credited rows k w) ≡ weight_where test rows + cond (test (stack_at rows k)) w 0
 weight_where-credited test rows k w lt =
     more_if (test (stack_at rows k)) _ (node_at rows k).weight w _
     (weight_where-set test rows k (record { stack = stack_at rows k; weight = (node_at rows k).weight + w }) no_row lt)
 
-pub total_of-credited : (rows : List Row) (k w : ℕ) → k < length rows → total_of (credited rows k w) ≡ total_of rows + w
+pub total_of-credited : (rows : List WeightedStack) (k w : ℕ) → k < length rows → total_of (credited rows k w) ≡ total_of rows + w
 total_of-credited rows k w lt =
-    let all = sum_by-set (λ (row : Row). row.weight) rows k (record { stack = stack_at rows k; weight = (node_at rows k).weight + w }) no_row lt in
+    let all = sum_by-set (λ (row : WeightedStack). row.weight) rows k (record { stack = stack_at rows k; weight = (node_at rows k).weight + w }) no_row lt in
     omega (arith, all)
 
-pub aggregate_of-credited : (rows : List Row) (k w : ℕ) → k < length rows
+pub aggregate_of-credited : (rows : List WeightedStack) (k w : ℕ) → k < length rows
     → aggregate_of (credited rows k w) ≡ with_row (aggregate_of rows) (record { stack = stack_at rows k; weight = w })
 aggregate_of-credited rows k w lt =
     aggregate_of-more rows ((record { stack = stack_at rows k; weight = w }) ∷ []) (credited rows k w)

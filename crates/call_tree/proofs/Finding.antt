@@ -4,7 +4,7 @@ use Rattle.std.proofs.Math.Seq.{take-length}
 use Rattle.std.proofs.lemmas.List.{take_more, same_from_push}
 use Rattle.std.proofs.lemmas.List.Sums.{sum_by-cons}
 use Rattle.std.proofs.lemmas.Bool.{cases_eq}
-use Rattle.profile_rows.specs.declared.batch.Row.{Row}
+use Rattle.profile_rows.specs.declared.weighted_stacks.WeightedStack.{WeightedStack}
 use Rattle.profile_rows.specs.Rows.{is_same_stack, weight_of, weight_if}
 use Rattle.profile_rows.proofs.RowLaws.{same_from_is_same_stack, is_same_stack-self}
 use Rattle.call_tree.specs.declared.node.Node.{Node}
@@ -12,21 +12,21 @@ use Rattle.call_tree.specs.State.{name_at, node_at, stack_at}
 use Rattle.call_tree.specs.Shape.{node_rows, at, IsTree}
 use Rattle.call_tree.proofs.Shapes.{node_at-node_rows, stack_at-child, stack_at-root, length-node_rows}
 
-weight_if_other : (stack : List (List ℕ)) (row : Row) → (row.stack ≡ stack → ⊥) → weight_if (is_same_stack stack) row ≡ 0
+weight_if_other : (stack : List (List ℕ)) (row : WeightedStack) → (row.stack ≡ stack → ⊥) → weight_if (is_same_stack stack) row ≡ 0
 weight_if_other stack row ne =
     elim (is_same_stack stack row.stack) as (λ b. is_same_stack stack row.stack ≡ b → cond b row.weight 0 ≡ 0) [
       | true ↦ λ e. absurd (ne (sym (same_from_is_same_stack stack row.stack e)))
       | false ↦ λ e. refl
     ] refl
 
-pub weight_of-none : (rows : List Row) (stack : List (List ℕ)) → ((j : ℕ) → j < length rows → stack_at rows j ≡ stack → ⊥) → weight_of rows stack ≡ 0
+pub weight_of-none : (rows : List WeightedStack) (stack : List (List ℕ)) → ((j : ℕ) → j < length rows → stack_at rows j ≡ stack → ⊥) → weight_of rows stack ≡ 0
 weight_of-none [] stack none = refl
 weight_of-none (row ∷ rows) stack none =
     let rest = weight_of-none rows stack (λ j lt e. none (suc j) (omega arith) e) in
     let here = weight_if_other stack row (none 0 (omega arith)) in
     omega (arith, sum_by-cons (weight_if (is_same_stack stack)) row rows, rest, here)
 
-pub weight_of-at : (rows : List Row) (stack : List (List ℕ)) (k : ℕ) → k < length rows → stack_at rows k ≡ stack
+pub weight_of-at : (rows : List WeightedStack) (stack : List (List ℕ)) (k : ℕ) → k < length rows → stack_at rows k ≡ stack
     → ((j : ℕ) → j < length rows → stack_at rows j ≡ stack → j ≡ k) → weight_of rows stack ≡ (node_at rows k).weight
 weight_of-at [] stack k lt e only = absurd (omega arith)
 weight_of-at (row ∷ rows) stack zero lt e only =

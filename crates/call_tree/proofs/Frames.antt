@@ -6,7 +6,7 @@ use Rattle.std.proofs.lemmas.List.{append-nil, take_more, map_push}
 use Rattle.std.proofs.lemmas.List.Elements.{All-from_recursion}
 use Rattle.std.proofs.lemmas.List.Sorted.{All-permutation, sum_by-IsPermutation}
 use Rattle.std.proofs.lemmas.List.Sums.{sum_by-cons}
-use Rattle.profile_rows.specs.declared.batch.Row.{Row}
+use Rattle.profile_rows.specs.declared.weighted_stacks.WeightedStack.{WeightedStack}
 use Rattle.profile_rows.specs.Names.{is_same_name}
 use Rattle.profile_rows.specs.Rows.{has_name, ends_with_name, flat_weight_of, cumulative_weight_of}
 use Rattle.profile_rows.specs.Aggregate.{aggregate_of, rows_of}
@@ -37,14 +37,14 @@ filter_append (x ∷ xs) ys =
       | false ↦ rest
     ]
 
-pub names_of_weight-more : (rows : List Row) (names : List (List ℕ)) (k : ℕ) → k < length names
+pub names_of_weight-more : (rows : List WeightedStack) (names : List (List ℕ)) (k : ℕ) → k < length names
     → names_of_weight rows (take (k + 1) names) ≡ names_of_weight rows (take k names) ++ filter weighs (sums_at rows (name_at names k) ∷ [])
 names_of_weight-more rows names k lt =
     ap (names_of_weight rows) (take_more names k [] lt) ∙ ap (filter weighs) (map_push (sums_at rows) (take k names) (name_at names k))
     ∙ filter_append (map (sums_at rows) (take k names)) (sums_at rows (name_at names k) ∷ [])
 
 -- the loop's step, as the code reads and writes
-module _ (rows : List Row) (names : List (List ℕ)) (k flat cum : ℕ) (name : List ℕ) (lt : k < length names)
+module _ (rows : List WeightedStack) (names : List (List ℕ)) (k flat cum : ℕ) (name : List ℕ) (lt : k < length names)
     (flat_is : flat ≡ flat_weight_of rows (name_at names k)) (cum_is : cum ≡ cumulative_weight_of rows (name_at names k))
     (totals next : List FrameTotal) (before : totals ≡ names_of_weight rows (take k names)) where
   pub named : 0 < cum → name ≡ name_at names k → next ≡ totals ++ (record { name = name; flat = flat; cum = cum }) ∷ [] → next ≡ names_of_weight rows (take (k + 1) names)
@@ -66,7 +66,7 @@ module _ (rows : List Row) (names : List (List ℕ)) (k flat cum : ℕ) (name : 
 
 -- ---- how often a name stands there
 
-module _ (rows : List Row) where
+module _ (rows : List WeightedStack) where
   abbrev of : List (List ℕ) → List FrameTotal
   of names = names_of_weight rows names
 
@@ -175,13 +175,13 @@ module _ (names : List (List ℕ)) (nodes : List Node) (tree : IsTree names node
 
 -- ---- the same of other rows and of another order
 
-pub AreSumsOf-permutation : (rows : List Row) (xs ys : List FrameTotal) → IsPermutation xs ys → AreSumsOf rows xs → AreSumsOf rows ys
+pub AreSumsOf-permutation : (rows : List WeightedStack) (xs ys : List FrameTotal) → IsPermutation xs ys → AreSumsOf rows xs → AreSumsOf rows ys
 AreSumsOf-permutation rows xs ys moved are = record {
   weights = All-permutation (λ sums. sums ≡ sums_at rows sums.name) xs ys moved are.weights;
   once = λ name. sum_by-IsPermutation (mark name) xs ys moved ∙ are.once name;
 }
 
-pub AreSumsOf-aggregate : (rows : List Row) (xs : List FrameTotal) → AreSumsOf rows xs → AreSumsOf (rows_of (aggregate_of rows)) xs
+pub AreSumsOf-aggregate : (rows : List WeightedStack) (xs : List FrameTotal) → AreSumsOf rows xs → AreSumsOf (rows_of (aggregate_of rows)) xs
 AreSumsOf-aggregate rows xs are =
     let flat : (name : List ℕ) → flat_weight_of (rows_of (aggregate_of rows)) name ≡ flat_weight_of rows name = λ name. weight_where-rows_of (ends_with_name name) rows in
     let cumulative : (name : List ℕ) → cumulative_weight_of (rows_of (aggregate_of rows)) name ≡ cumulative_weight_of rows name = λ name. weight_where-rows_of (has_name name) rows in

@@ -6,26 +6,26 @@ use Rattle.std.proofs.lemmas.Bool.{cases_eq, eqb-true, eq-eqb}
 use Rattle.std.specs.Prelude.{IfOk, IsOk, Ok, Err, Result, position}
 use Rattle.std.specs.List.{list_any}
 use Rattle.std.proofs.lemmas.List.Quantifiers.{position-Some}
-use Rattle.profile_rows.specs.declared.batch.Row.{Row}
+use Rattle.profile_rows.specs.declared.weighted_stacks.WeightedStack.{WeightedStack}
 use Rattle.profile_rows.specs.Names.{is_same_name}
 use Rattle.profile_rows.specs.Rows.{is_same_stack}
 use Rattle.profile_rows.proofs.RowLaws.{weight_where-push, aggregate_of-same}
 use Rattle.profile_rows.proofs.SameNames.{same_from_is_same_name, is_same_name-self}
-use Rattle.call_tree.specs.State.{TreeState, IsState, IsChild, IsIndex, IsGrown, same_key, name_at, no_row, node_at, stack_at}
+use Rattle.call_tree.specs.State.{PlainTree, IsState, IsChild, IsIndex, IsGrown, same_key, name_at, no_row, node_at, stack_at}
 
-pub IsIndex-look : (look other : ℕ × ℕ → Option ℕ) (tree : TreeState) → ((key : ℕ × ℕ) → other key ≡ look key) → IsIndex look tree → IsIndex other tree
+pub IsIndex-look : (look other : ℕ × ℕ → Option ℕ) (tree : PlainTree) → ((key : ℕ × ℕ) → other key ≡ look key) → IsIndex look tree → IsIndex other tree
 IsIndex-look look other tree same index = record {
   right = λ p n k e. index.right p n k (sym (same (p, n)) ∙ e);
   complete = λ p n k child. same (p, n) ∙ index.complete p n k child;
 }
 
-pub IsGrown-refl : (tree : TreeState) → IsGrown tree tree
+pub IsGrown-refl : (tree : PlainTree) → IsGrown tree tree
 IsGrown-refl tree = record { longer = omega arith; kept = λ k lt. refl; weights = refl; total = refl; more_names = omega arith; kept_names = λ k lt. refl }
 
-pub IsGrown-same : (before after : TreeState) → after ≡ before → IsGrown before after
+pub IsGrown-same : (before after : PlainTree) → after ≡ before → IsGrown before after
 IsGrown-same before after e = subst (IsGrown before) (sym e) (IsGrown-refl before)
 
-pub IsGrown-trans : (a b c : TreeState) → IsGrown a b → IsGrown b c → IsGrown a c
+pub IsGrown-trans : (a b c : PlainTree) → IsGrown a b → IsGrown b c → IsGrown a c
 IsGrown-trans a b c g h = record {
   longer = omega (arith, g.longer, h.longer);
   kept = λ k lt. h.kept k (omega (arith, g.longer)) ∙ g.kept k lt;
@@ -37,8 +37,8 @@ IsGrown-trans a b c g h = record {
 
 -- ---- a name more
 
-module _ (tree : TreeState) (added : List ℕ) where
-  abbrev pub named : TreeState
+module _ (tree : PlainTree) (added : List ℕ) where
+  abbrev pub named : PlainTree
   named = record tree { names = tree.names ++ added ∷ [] }
 
   kept_name : (n : ℕ) → n < length tree.names → name_at (tree.names ++ added ∷ []) n ≡ name_at tree.names n
@@ -92,15 +92,15 @@ same_key_self p n = ap (λ b. b && nat_eq n n) (eq-eqb p p refl) ∙ eq-eqb n n 
 longer_apart : (s : List (List ℕ)) (name : List ℕ) → s ≡ s ++ name ∷ [] → ⊥
 longer_apart s name e = let sizes = ap length e in let push = length_push s name in omega (arith, sizes, push)
 
-module _ (tree : TreeState) (parent name : ℕ) (state : IsState tree) (parent_lt : parent < length tree.nodes) (name_lt : name < length tree.names)
+module _ (tree : PlainTree) (parent name : ℕ) (state : IsState tree) (parent_lt : parent < length tree.nodes) (name_lt : name < length tree.names)
     (absent : (k : ℕ) → k < length tree.nodes → stack_at tree.nodes k ≡ stack_at tree.nodes parent ++ name_at tree.names name ∷ [] → ⊥) where
   abbrev pub new_stack : List (List ℕ)
   new_stack = stack_at tree.nodes parent ++ name_at tree.names name ∷ []
 
-  abbrev pub new_row : Row
+  abbrev pub new_row : WeightedStack
   new_row = record { stack = stack_at tree.nodes parent ++ name_at tree.names name ∷ []; weight = 0 }
 
-  abbrev grown : TreeState
+  abbrev grown : PlainTree
   grown = record tree { nodes = tree.nodes ++ new_row ∷ [] }
 
   kept_node : (k : ℕ) → k < length tree.nodes → node_at grown.nodes k ≡ node_at tree.nodes k
@@ -122,7 +122,7 @@ module _ (tree : TreeState) (parent name : ℕ) (state : IsState tree) (parent_l
     kept = kept_node;
     weights = aggregate_of-same grown.nodes tree.nodes (λ s.
         let push = weight_where-push (is_same_stack s) tree.nodes new_row in let none = no_weight (is_same_stack s new_stack) in omega (arith, push, none));
-    total = let push = sum_by_push (λ (row : Row). row.weight) tree.nodes new_row in omega (arith, push);
+    total = let push = sum_by_push (λ (row : WeightedStack). row.weight) tree.nodes new_row in omega (arith, push);
     more_names = omega arith;
     kept_names = λ k lt. refl;
   }

@@ -5,17 +5,17 @@ use Rattle.std.specs.List.{list_any}
 use Rattle.std.proofs.lemmas.List.{take_more, get_or_append_left, get_or_push, length_push}
 use Rattle.std.proofs.lemmas.List.Folds.{list_any-append}
 use Rattle.std.proofs.lemmas.Bool.{cases_eq, eqb-true, eq-eqb}
-use Rattle.profile_rows.specs.declared.batch.Row.{Row}
+use Rattle.profile_rows.specs.declared.weighted_stacks.WeightedStack.{WeightedStack}
 use Rattle.profile_rows.specs.Names.{is_same_name}
 use Rattle.profile_rows.specs.Rows.{has_name}
 use Rattle.profile_rows.proofs.SameNames.{same_from_is_same_name, is_same_name-self}
 use Rattle.call_tree.specs.declared.grower.Credit.{Credit}
-use Rattle.call_tree.specs.State.{TreeState, IsState, IsGrown, name_at, node_at, stack_at}
-use Rattle.call_tree.specs.Plans.{IsCredit, no_credit, credit_at}
+use Rattle.call_tree.specs.State.{PlainTree, IsState, IsGrown, name_at, node_at, stack_at}
+use Rattle.call_tree.specs.Plans.{ArePlanned, IsCredit, no_credit, credit_at}
 use Rattle.call_tree.specs.Walks.{has_number, IsOnPath}
 use Rattle.call_tree.proofs.Raising.{has_name-next}
 
-pub IsOnPath-start : (tree : TreeState) (frames : List (List ℕ)) → IsState tree → IsOnPath tree [] frames 0 0
+pub IsOnPath-start : (tree : PlainTree) (frames : List (List ℕ)) → IsState tree → IsOnPath tree [] frames 0 0
 IsOnPath-start tree frames state = record { place_lt = state.rooted; here = state.root; below = λ j lt. absurd (omega arith); seen_is = λ name. refl }
 
 pub same_bool : (a b : Bool) → (a ≡ true → b ≡ true) → (b ≡ true → a ≡ true) → a ≡ b
@@ -44,7 +44,7 @@ has_number-grown names more name (m ∷ numbers) below kept =
     let rest = has_number-grown names more name numbers (λ j h. below (suc j) (omega arith)) kept in
     λ i. here i || rest i
 
-module _ (tree named : TreeState) (seen : List ℕ) (frames : List (List ℕ)) (i place number : ℕ) (lt : i < length frames)
+module _ (tree named : PlainTree) (seen : List ℕ) (frames : List (List ℕ)) (i place number : ℕ) (lt : i < length frames)
     (path : IsOnPath tree seen frames i place) (interned : IsGrown tree named) (nodes : named.nodes ≡ tree.nodes)
     (number_lt : number < length named.names) (number_is : name_at named.names number ≡ get_or frames i []) (state : IsState named) where
   below_named : (j : ℕ) → j < length seen → get_or seen j 0 < length named.names
@@ -95,7 +95,7 @@ module _ (tree named : TreeState) (seen : List ℕ) (frames : List (List ℕ)) (
       (λ ne. let less : j < length seen = omega (arith, length_push seen number) in let old = get_or_append_left seen (number ∷ []) 0 j less in let b = below_named j less in omega (arith, old, b))
       (cases_eq j (length seen))
 
-  pub IsOnPath-step : (after : TreeState) (there : Bool) (next : List ℕ) (child : ℕ) → there ≡ list_any (nat_eq number) seen → next ≡ (if there then seen else seen ++ number ∷ [])
+  pub IsOnPath-step : (after : PlainTree) (there : Bool) (next : List ℕ) (child : ℕ) → there ≡ list_any (nat_eq number) seen → next ≡ (if there then seen else seen ++ number ∷ [])
       → after.names ≡ named.names → child < length after.nodes → stack_at after.nodes child ≡ stack_at named.nodes place ++ name_at named.names number ∷ []
       → IsOnPath after next frames (i + 1) child
   IsOnPath-step after there next child there_e next_e names child_lt child_stack = record {
@@ -108,21 +108,17 @@ module _ (tree named : TreeState) (seen : List ℕ) (frames : List (List ℕ)) (
 
 -- ---- the credits so far
 
-pub record ArePlanned (tree : TreeState) (rows : List Row) (credits : List Credit) (i : ℕ) : Type 0 where
-  pub size : length credits ≡ i
-  pub each : (k : ℕ) → k < i → IsCredit tree (node_at rows k) (credit_at credits k)
-
-pub ArePlanned-start : (tree : TreeState) (rows : List Row) → ArePlanned tree rows [] 0
+pub ArePlanned-start : (tree : PlainTree) (rows : List WeightedStack) → ArePlanned tree rows [] 0
 ArePlanned-start tree rows = record { size = refl; each = λ k lt. absurd (omega arith) }
 
-IsCredit-grown : (tree after : TreeState) (row : Row) (credit : Credit) → IsGrown tree after → IsCredit tree row credit → IsCredit after row credit
+IsCredit-grown : (tree after : PlainTree) (row : WeightedStack) (credit : Credit) → IsGrown tree after → IsCredit tree row credit → IsCredit after row credit
 IsCredit-grown tree after row credit grown one = record {
   within = omega (arith, one.within, grown.longer);
   stack = ap (λ row. row.stack) (grown.kept credit.node one.within) ∙ one.stack;
   weight = one.weight;
 }
 
-pub ArePlanned-step : (tree after : TreeState) (rows : List Row) (credits next : List Credit) (i node weight : ℕ) → ArePlanned tree rows credits i → IsGrown tree after
+pub ArePlanned-step : (tree after : PlainTree) (rows : List WeightedStack) (credits next : List Credit) (i node weight : ℕ) → ArePlanned tree rows credits i → IsGrown tree after
     → node < length after.nodes → stack_at after.nodes node ≡ stack_at rows i → weight ≡ (node_at rows i).weight
     → next ≡ credits ++ (record { node = node; weight = weight }) ∷ [] → ArePlanned after rows next (i + 1)
 ArePlanned-step tree after rows credits next i node weight planned grown lt stack same next_e = record {

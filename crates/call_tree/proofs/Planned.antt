@@ -2,29 +2,22 @@
 use Rattle.std.proofs.Common.{◌≡◌, ℕ, ◌+◌, ◌<◌, ◌^◌, List, [], ◌∷◌, ◌++◌, length, take, Option, refl, sym, ap, ◌∙◌, arith}
 use Rattle.std.proofs.lemmas.List.{take_more}
 use Rattle.std.proofs.lemmas.List.Sums.{sum_by_more, sum_by_more_le}
-use Rattle.profile_rows.specs.declared.batch.Row.{Row}
+use Rattle.profile_rows.specs.declared.weighted_stacks.WeightedStack.{WeightedStack}
 use Rattle.profile_rows.specs.Rows.{total_of}
 use Rattle.profile_rows.specs.Aggregate.{Weighted, with_row, with_rows, aggregate_of}
 use Rattle.call_tree.specs.declared.grower.Credit.{Credit}
-use Rattle.call_tree.specs.State.{TreeState, weights_of, name_at, no_row, node_at, stack_at, credited, IsIndex}
-use Rattle.call_tree.specs.Plans.{IsCredit, IsPlan, credit_at}
+use Rattle.call_tree.specs.State.{PlainTree, name_at, no_row, node_at, stack_at, credited, IsIndex}
+use Rattle.call_tree.specs.Plans.{IsCredit, IsCredited, IsPlan, credit_at}
 use Rattle.call_tree.proofs.Crediting.{length-credited, stack_at-credited, total_of-credited, aggregate_of-credited}
 
-pub with_rows-push : (m : Weighted) (rows : List Row) (row : Row) → with_rows m (rows ++ row ∷ []) ≡ with_row (with_rows m rows) row
+pub with_rows-push : (m : Weighted) (rows : List WeightedStack) (row : WeightedStack) → with_rows m (rows ++ row ∷ []) ≡ with_row (with_rows m rows) row
 with_rows-push m [] row = refl
 with_rows-push m (first ∷ rows) row = with_rows-push (with_row m first) rows row
 
-pub record IsCredited (before now : TreeState) (rows : List Row) : Type 0 where
-  pub names : now.names ≡ before.names
-  pub size : length now.nodes ≡ length before.nodes
-  pub stacks : (k : ℕ) → stack_at now.nodes k ≡ stack_at before.nodes k
-  pub total : total_of now.nodes ≡ total_of before.nodes + total_of rows
-  pub weights : weights_of now ≡ with_rows (weights_of before) rows
-
-pub IsCredited-start : (tree : TreeState) → IsCredited tree tree []
+pub IsCredited-start : (tree : PlainTree) → IsCredited tree tree []
 IsCredited-start tree = record { names = refl; size = refl; stacks = λ k. refl; total = omega arith; weights = refl }
 
-module _ (before now : TreeState) (rows : List Row) (credits : List Credit) (plan : IsPlan before rows credits) (i : ℕ) (lt : i < length rows)
+module _ (before now : PlainTree) (rows : List WeightedStack) (credits : List Credit) (plan : IsPlan before rows credits) (i : ℕ) (lt : i < length rows)
     (done : IsCredited before now (take i rows)) where
   abbrev credit : Credit
   credit = credit_at credits i
@@ -37,13 +30,13 @@ module _ (before now : TreeState) (rows : List Row) (credits : List Credit) (pla
 
   pub credit_fits : total_of now.nodes + (credit_at credits i).weight < 2 ^ 63
   credit_fits =
-      let part = sum_by_more_le (λ (row : Row). row.weight) rows i no_row lt in
+      let part = sum_by_more_le (λ (row : WeightedStack). row.weight) rows i no_row lt in
       let weight = here.weight in
       let total = done.total in
       let fits = plan.fits in
       omega (arith, part, weight, total, fits)
 
-  pub IsCredited-step : (next : TreeState) → next.names ≡ now.names → next.nodes ≡ credited now.nodes (credit_at credits i).node (credit_at credits i).weight
+  pub IsCredited-step : (next : PlainTree) → next.names ≡ now.names → next.nodes ≡ credited now.nodes (credit_at credits i).node (credit_at credits i).weight
       → IsCredited before next (take (i + 1) rows)
   IsCredited-step next names nodes = record {
     names = names ∙ done.names;
@@ -51,7 +44,7 @@ module _ (before now : TreeState) (rows : List Row) (credits : List Credit) (pla
     stacks = λ k. ap (λ ns. stack_at ns k) nodes ∙ stack_at-credited now.nodes credit.node credit.weight k credit_within ∙ done.stacks k;
     total =
         let new : total_of next.nodes ≡ total_of now.nodes + credit.weight = ap total_of nodes ∙ total_of-credited now.nodes credit.node credit.weight credit_within in
-        let part = sum_by_more (λ (row : Row). row.weight) rows i no_row lt in
+        let part = sum_by_more (λ (row : WeightedStack). row.weight) rows i no_row lt in
         let weight = here.weight in
         let old = done.total in
         omega (arith, new, part, weight, old);
@@ -60,13 +53,13 @@ module _ (before now : TreeState) (rows : List Row) (credits : List Credit) (pla
         λ j. record { stack = (done.stacks credit.node ∙ here.stack) j; weight = here.weight j } in
         ap aggregate_of nodes ∙ aggregate_of-credited now.nodes credit.node credit.weight credit_within
         ∙ ap (λ m. with_row m (record { stack = stack_at now.nodes credit.node; weight = credit.weight })) done.weights
-        ∙ ap (with_row (with_rows (weights_of before) (take i rows))) row_is
-        ∙ sym (with_rows-push (weights_of before) (take i rows) (node_at rows i))
-        ∙ ap (with_rows (weights_of before)) (sym (take_more rows i no_row lt));
+        ∙ ap (with_row (with_rows (aggregate_of before.nodes) (take i rows))) row_is
+        ∙ sym (with_rows-push (aggregate_of before.nodes) (take i rows) (node_at rows i))
+        ∙ ap (with_rows (aggregate_of before.nodes)) (sym (take_more rows i no_row lt));
   }
 
 -- the index speaks of names and stacks alone
-pub IsIndex-credited : (look : ℕ × ℕ → Option ℕ) (before now : TreeState) (rows : List Row) → IsIndex look before → IsCredited before now rows → IsIndex look now
+pub IsIndex-credited : (look : ℕ × ℕ → Option ℕ) (before now : PlainTree) (rows : List WeightedStack) → IsIndex look before → IsCredited before now rows → IsIndex look now
 IsIndex-credited look before now rows index done = record {
   right = λ p n k e. let old = index.right p n k e in record {
     parent_lt = omega (arith, old.parent_lt, done.size);

@@ -8,7 +8,7 @@ use Rattle.std.proofs.lemmas.List.Folds.{list_any-append}
 use Rattle.std.proofs.lemmas.Bool.{cases_eq}
 use Rattle.profile_rows.proofs.SameNames.{same_from_is_same_name}
 use Rattle.call_tree.proofs.Crediting.{stack_at-credited, weight_where-credited, total_of-credited}
-use Rattle.profile_rows.specs.declared.batch.Row.{Row}
+use Rattle.profile_rows.specs.declared.weighted_stacks.WeightedStack.{WeightedStack}
 use Rattle.profile_rows.specs.Names.{is_same_name}
 use Rattle.profile_rows.specs.Rows.{has_name, total_of, cumulative_weight_of}
 use Rattle.call_tree.specs.declared.node.Node.{Node}
@@ -306,9 +306,9 @@ pub read_is : (nodes : List Node) (k : ℕ) (node : Node) → k < length nodes �
 read_is nodes k node lt e = get_or_read nodes k node lt e no_node
 
 pub walked : (names : List (List ℕ)) (old now next : List Node) (start place w : ℕ) (node : Node) → IsTree names old → IsRaised names old now start place w → 0 < place
-    → node ≡ get_or now place node → next ≡ set now place (raised node w) → (node.parent < place) × IsRaised names old next start node.parent w
+    → node ≡ at now place → next ≡ set now place (raised node w) → (node.parent < place) × IsRaised names old next start node.parent w
 walked names old now next start place w node tree r pos read wrote =
-    let is : node ≡ at now place = read_is now place node (omega (arith, r.size, r.within)) read in
+    let is = read in
     let whole : next ≡ set now place (raised (at now place) w) = wrote ∙ ap (λ n. set now place (raised n w)) is in
     let P : List Node → Node → Type 0 = λ ns n. (n.parent < place) × IsRaised names old ns start n.parent w in
     subst (λ ns. P ns node) (sym whole) (subst (λ n. P (set now place (raised (at now place) w)) n) (sym is)
@@ -320,12 +320,12 @@ pub record IsDone (names : List (List ℕ)) (old last : List Node) (start w : �
 
 pub finished : (names : List (List ℕ)) (old now next last : List Node) (start w : ℕ) (root leaf : Node) → IsTree names old → IsRaised names old now start 0 w
     → start < length old → total_of (node_rows names old) + w < 2 ^ 63
-    → root ≡ get_or now 0 root → next ≡ set now 0 (raised root w) → leaf ≡ get_or next start leaf → last ≡ set next start (with_own leaf w)
+    → root ≡ at now 0 → next ≡ set now 0 (raised root w) → leaf ≡ at next start → last ≡ set next start (with_own leaf w)
     → IsDone names old last start w
 finished names old now next last start w root leaf tree r lt fits root_read root_wrote leaf_read leaf_wrote =
-    let root_is : root ≡ at now 0 = read_is now 0 root (omega (arith, r.size, tree.rooted)) root_read in
+    let root_is = root_read in
     let next_is : next ≡ set now 0 (raised (at now 0) w) = root_wrote ∙ ap (λ n. set now 0 (raised n w)) root_is in
-    let leaf_is : leaf ≡ at next start = read_is next start leaf (omega (arith, ap length next_is, length-set now 0 (raised (at now 0) w), r.size, lt)) leaf_read in
+    let leaf_is = leaf_read in
     let last_is : last ≡ done names old now start w tree r lt fits =
     leaf_wrote ∙ ap (λ n. set next start (with_own n w)) leaf_is ∙ ap (λ ns. set ns start (with_own (at ns start) w)) next_is in
     subst (λ ns. IsDone names old ns start w) (sym last_is)
@@ -333,13 +333,13 @@ finished names old now next last start w root leaf tree r lt fits root_read root
 
 pub leaf_fits : (names : List (List ℕ)) (old now next : List Node) (start w : ℕ) (root leaf : Node) → IsTree names old → IsRaised names old now start 0 w
     → start < length old → total_of (node_rows names old) + w < 2 ^ 63
-    → root ≡ get_or now 0 root → next ≡ set now 0 (raised root w) → leaf ≡ get_or next start leaf
+    → root ≡ at now 0 → next ≡ set now 0 (raised root w) → leaf ≡ at next start
     → leaf.own + w < 2 ^ 63
 leaf_fits names old now next start w root leaf tree r lt fits root_read root_wrote leaf_read =
-    let root_is : root ≡ at now 0 = read_is now 0 root (omega (arith, r.size, tree.rooted)) root_read in
+    let root_is = root_read in
     let next_is : next ≡ set now 0 (raised (at now 0) w) = root_wrote ∙ ap (λ n. set now 0 (raised n w)) root_is in
-    let leaf_is : leaf ≡ at next start = read_is next start leaf (omega (arith, ap length next_is, length-set now 0 (raised (at now 0) w), r.size, lt)) leaf_read in
+    let leaf_is = leaf_read in
     let own : leaf.own ≡ (at old start).own = ap (λ n. n.own) leaf_is ∙ ap (λ ns. (at ns start).own) next_is ∙ own_before names old now start w tree r lt fits in
     let row : (node_at (node_rows names old) start).weight ≡ (at old start).own = ap (λ row. row.weight) (node_at-node_rows names old start) in
-    let part = get_or-le-sum_by (λ (row : Row). row.weight) (node_rows names old) start no_row (omega (arith, length-node_rows names old, lt)) in
+    let part = get_or-le-sum_by (λ (row : WeightedStack). row.weight) (node_rows names old) start no_row (omega (arith, length-node_rows names old, lt)) in
     omega (arith, own, row, part, fits)

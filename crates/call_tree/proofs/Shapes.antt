@@ -3,7 +3,7 @@ use Rattle.std.proofs.Common.{◌≡◌, ℕ, zero, suc, ◌+◌, ◌<◌, List,
 use Rattle.std.proofs.Math.ListN.{set}
 use Rattle.std.proofs.Math.Seq.{map-set_same}
 use Rattle.std.proofs.lemmas.List.{get_or_append_left, get_or_push, map_push, same_from_push}
-use Rattle.profile_rows.specs.declared.batch.Row.{Row}
+use Rattle.profile_rows.specs.declared.weighted_stacks.WeightedStack.{WeightedStack}
 use Rattle.call_tree.specs.declared.node.Node.{Node}
 use Rattle.call_tree.specs.State.{name_at, node_at, stack_at, IsState, HasParent}
 use Rattle.call_tree.specs.Shape.{Link, link_of, no_node, next_stack, stacks_from, stacks_of, rows_with, node_rows, at, IsTree}
@@ -49,7 +49,7 @@ stacks_of-set names nodes k node e = ap (stacks_from names []) (map-set_same lin
 
 -- ---- rows
 
-abbrev pub row_with : List (List ℕ) → Node → Row
+abbrev pub row_with : List (List ℕ) → Node → WeightedStack
 row_with stack node = record { stack = stack; weight = node.own }
 
 pub length-rows_with : (stacks : List (List (List ℕ))) (nodes : List Node) → length stacks ≡ length nodes → length (rows_with stacks nodes) ≡ length nodes

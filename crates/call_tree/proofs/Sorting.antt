@@ -14,7 +14,7 @@ use Rattle.std.proofs.lemmas.List.{append-nil, take_more}
 use Rattle.std.proofs.lemmas.List.Elements.{recursion_from_All, All-from_recursion}
 use Rattle.std.proofs.lemmas.List.Sorted.{All-permutation, sum_by-IsPermutation, sorted_far, ranks_by}
 use Rattle.std.proofs.lemmas.List.Sums.{sum_by-cons}
-use Rattle.profile_rows.specs.declared.batch.Row.{Row}
+use Rattle.profile_rows.specs.declared.weighted_stacks.WeightedStack.{WeightedStack}
 use Rattle.profile_rows.specs.Rows.{stack_cmp, is_same_stack, weight_if, weight_of}
 use Rattle.profile_rows.specs.Aggregate.{Weighted, aggregate_of, row_of, rows_of}
 use Rattle.profile_rows.proofs.RowLaws.{stack_cmp_total, stack_cmp_apart, same_from_is_same_stack, is_same_stack-self, IsPositive-aggregate_of, same_weighted, weight_in-aggregate_of}
@@ -22,7 +22,7 @@ use Rattle.call_tree.specs.State.{no_row, node_at, stack_at, has_weight}
 
 -- ---- the loop's step
 
-filter_append : (xs ys : List Row) → filter has_weight (xs ++ ys) ≡ filter has_weight xs ++ filter has_weight ys
+filter_append : (xs ys : List WeightedStack) → filter has_weight (xs ++ ys) ≡ filter has_weight xs ++ filter has_weight ys
 filter_append [] ys = refl
 filter_append (x ∷ xs) ys =
     let rest = filter_append xs ys in
@@ -31,14 +31,14 @@ filter_append (x ∷ xs) ys =
       | false ↦ rest
     ]
 
-module _ (nodes before next : List Row) (k weight : ℕ) (lt : k < length nodes) (weight_is : weight ≡ (node_at nodes k).weight) (done : before ≡ filter has_weight (take k nodes)) where
+module _ (nodes before next : List WeightedStack) (k weight : ℕ) (lt : k < length nodes) (weight_is : weight ≡ (node_at nodes k).weight) (done : before ≡ filter has_weight (take k nodes)) where
   more : filter has_weight (take (k + 1) nodes) ≡ filter has_weight (take k nodes) ++ filter has_weight (node_at nodes k ∷ [])
   more = ap (filter has_weight) (take_more nodes k (record { stack = []; weight = 0 }) lt) ∙ filter_append (take k nodes) (node_at nodes k ∷ [])
 
   pub weighted : 0 < weight → (stack : List (List ℕ)) → stack ≡ stack_at nodes k → next ≡ before ++ (record { stack = stack; weight = weight }) ∷ []
       → next ≡ filter has_weight (take (k + 1) nodes)
   weighted some stack stack_is next_is =
-      let row : Row = record { stack = stack; weight = weight } in
+      let row : WeightedStack = record { stack = stack; weight = weight } in
       let same : row ≡ node_at nodes k = λ i. record { stack = stack_is i; weight = weight_is i } in
       let kept : has_weight (node_at nodes k) ≡ true = ap (ltb 0) (sym weight_is) ∙ lt-ltb 0 weight some in
       next_is ∙ ap (λ rows. rows ++ row ∷ []) done ∙ ap (λ r. filter has_weight (take k nodes) ++ r ∷ []) same
@@ -51,37 +51,37 @@ module _ (nodes before next : List Row) (k weight : ℕ) (lt : k < length nodes)
 
 -- ---- how often a stack stands among rows
 
-abbrev mark : List (List ℕ) → Row → ℕ
+abbrev mark : List (List ℕ) → WeightedStack → ℕ
 mark stack row = cond (is_same_stack stack row.stack) 1 0
 
-abbrev count : List (List ℕ) → List Row → ℕ
+abbrev count : List (List ℕ) → List WeightedStack → ℕ
 count stack rows = sum_by (mark stack) rows
 
-mark-other : (stack : List (List ℕ)) (row : Row) → (row.stack ≡ stack → ⊥) → mark stack row ≡ 0
+mark-other : (stack : List (List ℕ)) (row : WeightedStack) → (row.stack ≡ stack → ⊥) → mark stack row ≡ 0
 mark-other stack row apart = elim (is_same_stack stack row.stack) as (λ b. is_same_stack stack row.stack ≡ b → cond b 1 0 ≡ (let none : ℕ = 0 in none)) [
   | true ↦ λ e. absurd (apart (sym (same_from_is_same_stack stack row.stack e)))
   | false ↦ λ e. refl
 ] refl
 
-mark-own : (stack : List (List ℕ)) (row : Row) → row.stack ≡ stack → mark stack row ≡ 1
+mark-own : (stack : List (List ℕ)) (row : WeightedStack) → row.stack ≡ stack → mark stack row ≡ 1
 mark-own stack row e = ap (λ b. cond b 1 0) (ap (is_same_stack stack) e ∙ is_same_stack-self stack)
 
-mark-most : (stack : List (List ℕ)) (row : Row) → mark stack row ≤ 1
+mark-most : (stack : List (List ℕ)) (row : WeightedStack) → mark stack row ≤ 1
 mark-most stack row = elim (is_same_stack stack row.stack) as (λ b. cond b 1 0 ≤ 1) [ true ↦ omega arith | false ↦ omega arith ]
 
-count-none : (stack : List (List ℕ)) (rows : List Row) → ((k : ℕ) → k < length rows → stack_at rows k ≡ stack → ⊥) → count stack rows ≡ 0
+count-none : (stack : List (List ℕ)) (rows : List WeightedStack) → ((k : ℕ) → k < length rows → stack_at rows k ≡ stack → ⊥) → count stack rows ≡ 0
 count-none stack [] none = refl
 count-none stack (row ∷ rows) none =
     let rest = count-none stack rows (λ k lt e. none (suc k) (omega arith) e) in
     let here = mark-other stack row (none 0 (omega arith)) in
     omega (arith, sum_by-cons (mark stack) row rows, rest, here)
 
-count-some : (stack : List (List ℕ)) (rows : List Row) (k : ℕ) → k < length rows → stack_at rows k ≡ stack → 0 < count stack rows
+count-some : (stack : List (List ℕ)) (rows : List WeightedStack) (k : ℕ) → k < length rows → stack_at rows k ≡ stack → 0 < count stack rows
 count-some stack [] k lt e = absurd (omega arith)
 count-some stack (row ∷ rows) zero lt e = let here = mark-own stack row e in omega (arith, sum_by-cons (mark stack) row rows, here)
 count-some stack (row ∷ rows) (suc k) lt e = let rest = count-some stack rows k (omega arith) e in omega (arith, sum_by-cons (mark stack) row rows, rest)
 
-count-once : (stack : List (List ℕ)) (rows : List Row) → ((i j : ℕ) → i < length rows → j < length rows → stack_at rows i ≡ stack_at rows j → i ≡ j) → count stack rows ≤ 1
+count-once : (stack : List (List ℕ)) (rows : List WeightedStack) → ((i j : ℕ) → i < length rows → j < length rows → stack_at rows i ≡ stack_at rows j → i ≡ j) → count stack rows ≤ 1
 count-once stack [] apart = omega arith
 count-once stack (row ∷ rows) apart =
     let cons = sum_by-cons (mark stack) row rows in
@@ -97,7 +97,7 @@ count-once stack (row ∷ rows) apart =
           omega (arith, cons, here, rest)
     ] refl
 
-count-filter : (stack : List (List ℕ)) (rows : List Row) → count stack (filter has_weight rows) ≤ count stack rows
+count-filter : (stack : List (List ℕ)) (rows : List WeightedStack) → count stack (filter has_weight rows) ≤ count stack rows
 count-filter stack [] = omega arith
 count-filter stack (row ∷ rows) =
     let rest = count-filter stack rows in
@@ -109,7 +109,7 @@ count-filter stack (row ∷ rows) =
 
 -- ---- a filter that keeps what weighs something
 
-weight_of-filter : (stack : List (List ℕ)) (rows : List Row) → weight_of (filter has_weight rows) stack ≡ weight_of rows stack
+weight_of-filter : (stack : List (List ℕ)) (rows : List WeightedStack) → weight_of (filter has_weight rows) stack ≡ weight_of rows stack
 weight_of-filter stack [] = refl
 weight_of-filter stack (row ∷ rows) =
     let rest = weight_of-filter stack rows in
@@ -125,7 +125,7 @@ weight_of-filter stack (row ∷ rows) =
     no_weight true w le = omega arith
     no_weight false w le = refl
 
-filter-weighs : (rows : List Row) → AllByRecursion (λ row. 0 < row.weight) (filter has_weight rows)
+filter-weighs : (rows : List WeightedStack) → AllByRecursion (λ row. 0 < row.weight) (filter has_weight rows)
 filter-weighs [] = tt
 filter-weighs (row ∷ rows) =
     let rest = filter-weighs rows in
@@ -136,14 +136,14 @@ filter-weighs (row ∷ rows) =
 
 -- ---- sorted rows rise
 
-abbrev row_order : Row → Row → Ordering
+abbrev row_order : WeightedStack → WeightedStack → Ordering
 row_order a b = stack_cmp a.stack b.stack
 
-abbrev Rises : List Row → Type 0
+abbrev Rises : List WeightedStack → Type 0
 Rises [] = Unit {0}
 Rises (row ∷ rows) = AllByRecursion (λ next. stack_cmp row.stack next.stack ≡ Less) rows × Rises rows
 
-all_from_places : (P : Row → Type 0) (rows : List Row) → ((k : ℕ) → k < length rows → P (node_at rows k)) → AllByRecursion P rows
+all_from_places : (P : WeightedStack → Type 0) (rows : List WeightedStack) → ((k : ℕ) → k < length rows → P (node_at rows k)) → AllByRecursion P rows
 all_from_places P [] h = tt
 all_from_places P (row ∷ rows) h = (h 0 (omega arith), all_from_places P rows (λ k lt. h (suc k) (omega arith)))
 
@@ -152,12 +152,12 @@ rising Less p e low apart = cc
 rising Equal p e low apart = absurd (apart refl)
 rising Greater p e low apart = e
 
-Rises-sorted : (rows : List Row) → IsSorted row_order rows → ((stack : List (List ℕ)) → count stack rows ≤ 1) → Rises rows
+Rises-sorted : (rows : List WeightedStack) → IsSorted row_order rows → ((stack : List (List ℕ)) → count stack rows ≤ 1) → Rises rows
 Rises-sorted [] sorted once = tt
 Rises-sorted (row ∷ rows) sorted once = (
   all_from_places (λ next. stack_cmp row.stack next.stack ≡ Less) rows (λ k lt.
       rising (stack_cmp (stack_at rows k) row.stack) (stack_cmp row.stack (stack_at rows k)) (stack_cmp_total.antisymm row.stack (stack_at rows k))
-      (sorted_far (λ (a b : Row). is_lt (row_order a b)) (ranks_by stack_cmp_total (λ (row : Row). row.stack)) (row ∷ rows) sorted 0 (suc k) no_row (omega arith) (omega arith))
+      (sorted_far (λ (a b : WeightedStack). is_lt (row_order a b)) (ranks_by stack_cmp_total (λ (row : WeightedStack). row.stack)) (row ∷ rows) sorted 0 (suc k) no_row (omega arith) (omega arith))
       (λ tie.
       let same : stack_at rows k ≡ row.stack = stack_cmp_apart (stack_at rows k) row.stack tie in
       let twice = count-some row.stack rows k lt same in
@@ -172,29 +172,29 @@ Rises-sorted (row ∷ rows) sorted once = (
 
 -- ---- what rises is the list of a map's entries
 
-abbrev entry : Row → List (List ℕ) × ℕ
+abbrev entry : WeightedStack → List (List ℕ) × ℕ
 entry row = (row.stack, row.weight)
 
 both : (a b : Bool) → T a → T b → T (a && b)
 both true b p q = q
 both false b p q = absurd p
 
-below : (stack : List (List ℕ)) (rows : List Row) → AllByRecursion (λ next. stack_cmp stack next.stack ≡ Less) rows → T (below_all stack_cmp stack (map entry rows))
+below : (stack : List (List ℕ)) (rows : List WeightedStack) → AllByRecursion (λ next. stack_cmp stack next.stack ≡ Less) rows → T (below_all stack_cmp stack (map entry rows))
 below stack [] all = tt
 below stack (row ∷ rows) all = both _ _ (subst (λ o. T (is_lt o)) (sym all.0) tt) (below stack rows all.1)
 
-sorted_entries : (rows : List Row) → Rises rows → T (is_sorted stack_cmp (map entry rows))
+sorted_entries : (rows : List WeightedStack) → Rises rows → T (is_sorted stack_cmp (map entry rows))
 sorted_entries [] up = tt
 sorted_entries (row ∷ rows) up = both _ _ (below row.stack rows up.0) (sorted_entries rows up.1)
 
-weight_of-above : (stack : List (List ℕ)) (rows : List Row) → AllByRecursion (λ next. stack_cmp stack next.stack ≡ Less) rows → weight_of rows stack ≡ 0
+weight_of-above : (stack : List (List ℕ)) (rows : List WeightedStack) → AllByRecursion (λ next. stack_cmp stack next.stack ≡ Less) rows → weight_of rows stack ≡ 0
 weight_of-above stack [] all = refl
 weight_of-above stack (row ∷ rows) all =
     let rest = weight_of-above stack rows all.1 in
     let here : weight_if (is_same_stack stack) row ≡ 0 = ap (λ o. cond (is_eq o) row.weight 0) all.0 in
     omega (arith, sum_by-cons (weight_if (is_same_stack stack)) row rows, rest, here)
 
-found : (stack : List (List ℕ)) (rows : List Row) → Rises rows → unwrap_or (find stack_cmp stack (map entry rows)) 0 ≡ weight_of rows stack
+found : (stack : List (List ℕ)) (rows : List WeightedStack) → Rises rows → unwrap_or (find stack_cmp stack (map entry rows)) 0 ≡ weight_of rows stack
 found stack [] up = refl
 found stack (row ∷ rows) up =
     let cons = sum_by-cons (weight_if (is_same_stack stack)) row rows in
@@ -210,7 +210,7 @@ found stack (row ∷ rows) up =
           omega (arith, cons, rest, here)
     ] refl
 
-found_positive : (stack : List (List ℕ)) (rows : List Row) → AllByRecursion (λ row. 0 < row.weight) rows → find stack_cmp stack (map entry rows) ≢ Some 0
+found_positive : (stack : List (List ℕ)) (rows : List WeightedStack) → AllByRecursion (λ row. 0 < row.weight) rows → find stack_cmp stack (map entry rows) ≢ Some 0
 found_positive stack [] all = λ (e : ◌≡◌ {A = Option ℕ} None (Some 0)). cc
 found_positive stack (row ∷ rows) all =
     elim (is_same_stack stack row.stack) as (λ b. cond b (Some row.weight) (find stack_cmp stack (map entry rows)) ≢ Some 0) [
@@ -218,11 +218,11 @@ found_positive stack (row ∷ rows) all =
       | false ↦ found_positive stack rows all.1
     ]
 
-entries_back : (rows : List Row) → map row_of (map entry rows) ≡ rows
+entries_back : (rows : List WeightedStack) → map row_of (map entry rows) ≡ rows
 entries_back [] = refl
 entries_back (row ∷ rows) = ap (λ rest. row ∷ rest) (entries_back rows)
 
-module _ (nodes rows : List Row) (apart : (i j : ℕ) → i < length nodes → j < length nodes → stack_at nodes i ≡ stack_at nodes j → i ≡ j)
+module _ (nodes rows : List WeightedStack) (apart : (i j : ℕ) → i < length nodes → j < length nodes → stack_at nodes i ≡ stack_at nodes j → i ≡ j)
     (moved : IsPermutation (filter has_weight nodes) rows) (sorted : IsSorted row_order rows) where
   once : (stack : List (List ℕ)) → count stack rows ≤ 1
   once stack =

@@ -1,8 +1,54 @@
--- The weight of a map's rows is that of the nodes that it stands for.
-use Rattle.std.proofs.Common.{◌≡◌, true}
-use Rattle.profile_rows.specs.Rows.{total_of}
+-- The weights of a tree's maps are those of the nodes that they stand for.
+use Rattle.std.proofs.Common.{◌≡◌, ℕ, ◌<◌, ◌≤◌, ◌^◌, true, false, ltb, List, length, refl, sym, ap, ◌∙◌, arith}
+use Rattle.std.proofs.lemmas.Bool.{ltb-true, ltb-false}
+use Rattle.profile_rows.specs.Rows.{total_of, weight_of}
+use Rattle.profile_rows.specs.Aggregate.{weight_in}
 use Rattle.profile_rows.proofs.EntryLaws.{weight_where-rows_of}
-use Rattle.call_tree.specs.State.{TreeState, weights_of, total_in}
+use Rattle.profile_rows.proofs.RowLaws.{weight_in-aggregate_of}
+use Rattle.call_tree.specs.State.{TreeState, AreStates, weights_of, total_in, nodes_at, node_at, stack_at}
+use Rattle.call_tree.proofs.Finding.{weight_of-at, weight_of-none}
+use Rattle.call_tree.proofs.Trees.{nodes_at-past}
 
-pub total_in-weights_of : (tree : TreeState) → total_in (weights_of tree) ≡ total_of tree.nodes
-total_in-weights_of tree = weight_where-rows_of (λ stack. true) tree.nodes
+pub total_in-weights_of : (tree : TreeState) (value : ℕ) → total_in (weights_of tree value) ≡ total_of (nodes_at tree value)
+total_in-weights_of tree value = weight_where-rows_of (λ stack. true) (nodes_at tree value)
+
+module _ (tree : TreeState) (states : AreStates tree) where
+  past : (value : ℕ) → tree.width ≤ value → length tree.values ≤ value
+  past value le = let width = states.width in omega (arith, width, le)
+
+  pub total_in-past : (value : ℕ) → tree.width ≤ value → total_in (weights_of tree value) ≡ 0
+  total_in-past value le = total_in-weights_of tree value ∙ ap total_of (nodes_at-past tree value (past value le))
+
+  pub total_in-fits : (value : ℕ) → total_in (weights_of tree value) < 2 ^ 63
+  total_in-fits value =
+      elim (ltb value tree.width) as (λ b. ltb value tree.width ≡ b → total_in (weights_of tree value) < 2 ^ 63) [
+        | true ↦ λ e. let state = states.each value (ltb-true value tree.width e) in
+            let fits = state.fits in let same = total_in-weights_of tree value in omega (arith, fits, same)
+        | false ↦ λ e. let none = total_in-past value (ltb-false value tree.width e) in omega (arith, none)
+      ] refl
+
+  pub weight_in-past : (stack : List (List ℕ)) (value : ℕ) → tree.width ≤ value → weight_in (weights_of tree value) stack ≡ 0
+  weight_in-past stack value le =
+      weight_in-aggregate_of (nodes_at tree value) stack ∙ ap (λ rows. weight_of rows stack) (nodes_at-past tree value (past value le))
+
+  pub weight_in-found : (stack : List (List ℕ)) (value place : ℕ) → value < tree.width → place < length (nodes_at tree 0)
+      → stack_at (nodes_at tree 0) place ≡ stack → weight_in (weights_of tree value) stack ≡ (node_at (nodes_at tree value) place).weight
+  weight_in-found stack value place lt within here =
+      let rows = nodes_at tree value in
+      let size = states.sizes value lt in
+      let is : stack_at rows place ≡ stack = states.stacks value place lt ∙ here in
+      weight_in-aggregate_of rows stack
+      ∙ weight_of-at rows stack place (omega (arith, size, within)) is
+      (λ j j_lt e. (states.each value lt).apart j place j_lt (omega (arith, size, within)) (e ∙ sym is))
+
+  pub weight_in-nowhere : (stack : List (List ℕ)) → ((k : ℕ) → k < length (nodes_at tree 0) → stack_at (nodes_at tree 0) k ≡ stack → ⊥)
+      → (value : ℕ) → weight_in (weights_of tree value) stack ≡ 0
+  weight_in-nowhere stack none value =
+      elim (ltb value tree.width) as (λ b. ltb value tree.width ≡ b → weight_in (weights_of tree value) stack ≡ 0) [
+        | true ↦ λ e.
+            let lt = ltb-true value tree.width e in
+            let size = states.sizes value lt in
+            weight_in-aggregate_of (nodes_at tree value) stack
+            ∙ weight_of-none (nodes_at tree value) stack (λ j j_lt f. none j (omega (arith, size, j_lt)) (sym (states.stacks value j lt) ∙ f))
+        | false ↦ λ e. weight_in-past stack value (ltb-false value tree.width e)
+      ] refl

@@ -1,6 +1,6 @@
 -- The stacks of the nodes, and what a tree keeps true.
 use Rattle.std.specs.Prelude.{ℕ, ◌≡◌, ◌<◌, ◌≤◌, ◌^◌, false, ◌&&◌, not, List, [], ◌∷◌, ◌++◌, length, map, slice_index_or, sum_by, if◌then◌else◌}
-use Rattle.profile_rows.specs.declared.batch.Row.{Row}
+use Rattle.profile_rows.specs.declared.weighted_stacks.WeightedStack.{WeightedStack}
 use Rattle.profile_rows.specs.Names.{is_same_name}
 use Rattle.profile_rows.specs.Rows.{has_name, total_of, cumulative_weight_of}
 use Rattle.call_tree.specs.declared.node.Node.{Node}
@@ -30,13 +30,13 @@ stacks_from names before (link ∷ links) = stacks_from names (before ++ next_st
 abbrev pub stacks_of : List (List ℕ) → List Node → List (List (List ℕ))
 stacks_of names nodes = stacks_from names [] (map link_of nodes)
 
-abbrev pub rows_with : List (List (List ℕ)) → List Node → List Row
+abbrev pub rows_with : List (List (List ℕ)) → List Node → List WeightedStack
 rows_with [] nodes = []
 rows_with (stack ∷ stacks) [] = []
 rows_with (stack ∷ stacks) (node ∷ nodes) = (record { stack = stack; weight = node.own }) ∷ rows_with stacks nodes
 
 -- for each node its stack and its own weight
-abbrev pub node_rows : List (List ℕ) → List Node → List Row
+abbrev pub node_rows : List (List ℕ) → List Node → List WeightedStack
 node_rows names nodes = rows_with (stacks_of names nodes) nodes
 
 abbrev pub counted_if : List (List ℕ) → List ℕ → Node → ℕ

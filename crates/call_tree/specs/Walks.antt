@@ -3,14 +3,14 @@ use Rattle.std.specs.Prelude.{ℕ, ◌≡◌, ◌<◌, Bool, List, length, take,
 use Rattle.std.specs.List.{list_any}
 use Rattle.profile_rows.specs.Names.{is_same_name}
 use Rattle.profile_rows.specs.Rows.{has_name}
-use Rattle.call_tree.specs.State.{TreeState, name_at, stack_at}
+use Rattle.call_tree.specs.State.{PlainTree, name_at, stack_at}
 
 -- of the names with the numbers in a list, one is this
 abbrev pub has_number : List (List ℕ) → List ℕ → List ℕ → Bool
 has_number names name numbers = list_any (λ number. is_same_name name (name_at names number)) numbers
 
 -- after some frames the walk is at the node of just these frames, and knows their names by their numbers
-pub record IsOnPath (tree : TreeState) (seen : List ℕ) (frames : List (List ℕ)) (depth place : ℕ) : Type 0 where
+pub record IsOnPath (tree : PlainTree) (seen : List ℕ) (frames : List (List ℕ)) (depth place : ℕ) : Type 0 where
   pub place_lt : place < length tree.nodes
   pub here : stack_at tree.nodes place ≡ take depth frames
   pub below : (j : ℕ) → j < length seen → slice_index_or seen j 0 < length tree.names

@@ -1,23 +1,26 @@
 //! A call tree that grows: a plan makes room for a batch, a credit adds it.
 
-ghost use Rattle.std.specs.Prelude.{◌≡◌, ◌<◌, ◌+◌, ◌≤◌, ◌^◌, ◌++◌, ◌∷◌, ℕ, [], length, not, IfOk, OnOk, OnErr};
+ghost use Rattle.std.specs.Prelude.{◌≡◌, ◌<◌, ◌+◌, ◌≤◌, ◌^◌, ◌++◌, ◌∷◌, ℕ, [], length, not, slice_index_or, IfOk, OnOk, OnErr};
 ghost use Rattle.std.specs.FinMap as map;
 ghost use Rattle.profile_rows.specs.Rows.{total_of, has_name};
 ghost use Rattle.profile_rows.specs.Aggregate.{with_rows};
-ghost use Rattle.call_tree.specs.State.{TreeState, PlanState, IsFresh, IsGrown, weights_of, total_in, name_at, stack_at};
+ghost use Rattle.profile_rows.specs.Values.{rows_at};
+ghost use Rattle.call_tree.specs.State.{TreeState, PlanState, IsFresh, AreGrown, weights_of, total_in, nodes_at, plain_at, name_at, stack_at};
+ghost use Rattle.call_tree.specs.Plans.{ArePlanned, AreCreditsOf, ArePlans, IsPlan, IsCredited};
 ghost use Rattle.call_tree.specs.Walks.{IsOnPath};
 
+use crate::table::Table;
 use crate::tree::CallTree;
 use crate::walk::Walk;
 use indexmap::IndexSet;
-use profile_rows::{Batch, Name, NoMemory, Stack};
+use profile_rows::{Batch, Name, NoMemory, Stack, WeightedStacks, Width};
 use std::alloc::Global;
 use std::collections::HashMap;
 use std::marker::Model;
 use std::mem;
 use std::snapshot::Snapshot;
 
-/// One row's weight for one node.
+/// One row's weight of one value for one node.
 #[derive(Clone, Copy)]
 struct Credit {
     node: u32,
@@ -28,20 +31,24 @@ struct Credit {
 /// so.
 #[derive(Drop)]
 pub struct Plan {
-    credits: Vec<Credit>,
+    /// The credits of value 0, one for each row.
+    first: Vec<Credit>,
+    /// For each further value the credits for the same nodes.
+    others: Vec<Table<Credit>>,
     before: Snapshot<CallTree>,
     batch: Snapshot<Batch>,
 }
 
 impl Model for Plan {
     ghost use Rattle.call_tree.specs.State.{PlanState};
-    ghost use Rattle.call_tree.specs.Plans.{IsPlan};
+    ghost use Rattle.std.specs.Prelude.{◌∷◌};
+    ghost use Rattle.call_tree.specs.Plans.{ArePlans};
 
     ghost Value = { PlanState };
 
-    ghost view = { λ p. record { before = p.before.value; rows = p.batch.value } };
+    ghost view = { λ p. record { before = p.before.value; rows = p.batch.value.rows } };
 
-    ghost invariant = { λ p. IsPlan p.before.value p.batch.value p.credits.items };
+    ghost invariant = { λ p. ArePlans p.before.value p.batch.value (p.first.items ∷ p.others.items) };
 }
 
 /// A [`CallTree`] that grows by batches: [`plan`](Grower::plan) takes all memory that a batch needs, and
@@ -59,13 +66,14 @@ pub struct Grower {
 impl Model for Grower {
     ghost use Rattle.std.specs.Prelude.{◌≡◌};
     ghost use Rattle.std.specs.HashMap as hash;
-    ghost use Rattle.call_tree.specs.State.{TreeState, IsIndex, same_key};
+    ghost use Rattle.call_tree.specs.State.{TreeState, IsIndex, plain_at, same_key};
 
     ghost Value = { TreeState };
 
     ghost view = { λ g. g.tree };
 
-    ghost invariant = { λ g. (g.numbers.keys ≡ g.tree.names) × IsIndex (hash.get same_key g.index) g.tree };
+    ghost invariant = { λ g. (g.numbers.keys ≡ g.tree.names)
+        × IsIndex (hash.get same_key g.index) (plain_at g.tree 0) };
 }
 
 impl Grower {
@@ -80,27 +88,33 @@ impl Grower {
     /// memory.
     pub fn credit(&mut self, plan: Plan)
         requires { plan.before ≡ self.old }
-        ensures { weights_of self.new ≡ with_rows (weights_of self.old) plan.rows }
+        ensures weights { (value : ℕ)
+            → weights_of self.new value ≡ with_rows (weights_of self.old value) (rows_at value plan.rows) }
+        ensures width { self.new.width ≡ self.old.width }
     {
         let Plan {
-            credits,
+            first,
+            others,
             before: _,
-            batch: _,
+            batch,
         } = plan;
-        for credit in &credits {
-            self.tree.add_weight(credit.node, credit.weight);
+        credit_value(&mut self.tree, 0, first.as_slice(), &batch);
+        for index in 0..others.len() {
+            let credits = &others[index];
+            credit_value(&mut self.tree, index as u32 + 1, credits.as_slice(), &batch);
         }
     }
 
-    /// A grower of an empty tree. It keeps the allocator.
+    /// A grower of an empty tree for so many values. It keeps the allocator.
     ///
     /// # Errors
     ///
     /// `NoMemory`.
-    pub fn new(alloc: Global) -> Result<Grower, NoMemory>
-        ensures { IfOk result (λ grower. weights_of grower ≡ map.empty) }
+    pub fn new(alloc: Global, width: Width) -> Result<Grower, NoMemory>
+        ensures width { IfOk result (λ grower. grower.width ≡ width) }
+        ensures weights { IfOk result (λ grower. (value : ℕ) → weights_of grower value ≡ map.empty) }
     {
-        let tree = CallTree::new(alloc)?;
+        let tree = CallTree::new(alloc, width)?;
         Ok(Grower {
             tree,
             numbers: IndexSet::new(alloc),
@@ -109,17 +123,20 @@ impl Grower {
         })
     }
 
-    /// Makes room for the rows of a batch, whose total and the tree's are together at most [`profile_rows::MAX_TOTAL`].
-    /// Each stack keeps its weight, also where the plan is refused.
+    /// Makes room for the rows of a batch, as wide as the tree. By each value its total and the tree's are together at
+    /// most [`profile_rows::MAX_TOTAL`]. Each stack keeps its weights, also where the plan is refused.
     ///
     /// # Errors
     ///
     /// `NoMemory`.
     pub fn plan(&mut self, alloc: Global, batch: &Batch) -> Result<Plan, NoMemory>
-        requires { total_in (weights_of self.old) + total_of batch.now < 2 ^ 63 }
+        requires width { batch.now.width ≡ self.old.width }
+        requires fits { (value : ℕ)
+            → total_in (weights_of self.old value) + total_of (rows_at value batch.now.rows) < 2 ^ 63 }
         ensures before { IfOk result (λ plan. plan.before ≡ self.new) }
-        ensures rows { IfOk result (λ plan. plan.rows ≡ batch.now) }
-        ensures weights { weights_of self.new ≡ weights_of self.old }
+        ensures rows { IfOk result (λ plan. plan.rows ≡ batch.now.rows) }
+        ensures weights { (value : ℕ) → weights_of self.new value ≡ weights_of self.old value }
+        ensures width { self.new.width ≡ self.old.width }
     {
         let mut walk = mem::replace(&mut self.walk, Walk::new(alloc));
         let planned = self.plan_rows(alloc, batch, &mut walk);
@@ -127,12 +144,36 @@ impl Grower {
         planned
     }
 
-    /// The plan of a batch: one credit for each row.
+    /// The plan of a batch: by each value one credit for each row.
     fn plan_rows(&mut self, alloc: Global, batch: &Batch, walk: &mut Walk) -> Result<Plan, NoMemory>
-        requires { total_of self.old.nodes + total_of batch.now < 2 ^ 63 }
+        requires width { batch.now.width ≡ self.old.width }
+        requires fits { (value : ℕ)
+            → total_of (nodes_at self.old value) + total_of (rows_at value batch.now.rows) < 2 ^ 63 }
         ensures before { IfOk result (λ plan. plan.before ≡ self.new) }
-        ensures rows { IfOk result (λ plan. plan.rows ≡ batch.now) }
-        ensures grown { IsGrown self.old self.new }
+        ensures rows { IfOk result (λ plan. plan.rows ≡ batch.now.rows) }
+        ensures grown { AreGrown self.old self.new }
+    {
+        let first = self.first_credits(alloc, batch.first(), walk)?;
+        let others = further_credits(alloc, batch, first.as_slice())?;
+        self.tree.known();
+        Ok(Plan {
+            first,
+            others,
+            before: Snapshot::of(&self.tree),
+            batch: Snapshot::of(batch),
+        })
+    }
+
+    /// The credits of rows by value 0, with their nodes.
+    fn first_credits(
+        &mut self,
+        alloc: Global,
+        batch: &WeightedStacks,
+        walk: &mut Walk,
+    ) -> Result<Vec<Credit>, NoMemory>
+        ensures planned { IfOk result
+            (λ credits. ArePlanned (plain_at self.new 0) batch.now credits.items (length batch.now)) }
+        ensures grown { AreGrown self.old self.new }
     {
         let rows = batch.rows();
         let mut credits = Vec::with_capacity(alloc, rows.len())?;
@@ -143,18 +184,14 @@ impl Grower {
                 weight: row.weight,
             })?;
         }
-        Ok(Plan {
-            credits,
-            before: Snapshot::of(&self.tree),
-            batch: Snapshot::of(batch),
-        })
+        Ok(credits)
     }
 
     /// The node of a stack, with new nodes of weight 0 where there are none.
     fn grow(&mut self, stack: &Stack, walk: &mut Walk) -> Result<u32, NoMemory>
         ensures node { IfOk result
-            (λ node. (node < length self.new.nodes) × (stack_at self.new.nodes node ≡ stack.now)) }
-        ensures grown { IsGrown self.old self.new }
+            (λ node. (node < length (nodes_at self.new 0)) × (stack_at (nodes_at self.new 0) node ≡ stack.now)) }
+        ensures grown { AreGrown self.old self.new }
     {
         walk.start();
         self.tree.known();
@@ -176,9 +213,9 @@ impl Grower {
     ) -> Result<u32, NoMemory>
         requires within { depth < length frames.now }
         requires deep { length frames.now ≤ 65535 }
-        requires path { IsOnPath self.old walk.old frames.now depth place }
-        ensures path { IfOk result (λ child. IsOnPath self.new walk.new frames.now (depth + 1) child) }
-        ensures grown { IsGrown self.old self.new }
+        requires path { IsOnPath (plain_at self.old 0) walk.old frames.now depth place }
+        ensures path { IfOk result (λ child. IsOnPath (plain_at self.new 0) walk.new frames.now (depth + 1) child) }
+        ensures grown { AreGrown self.old self.new }
     {
         self.tree.known();
         let guess = walk.guess(depth);
@@ -201,9 +238,9 @@ impl Grower {
     ) -> Result<u32, NoMemory>
         requires within { depth < length frames.now }
         requires deep { length frames.now ≤ 65535 }
-        requires path { IsOnPath self.old walk.old frames.now depth place }
-        ensures path { IfOk result (λ child. IsOnPath self.new walk.new frames.now (depth + 1) child) }
-        ensures grown { IsGrown self.old self.new }
+        requires path { IsOnPath (plain_at self.old 0) walk.old frames.now depth place }
+        ensures path { IfOk result (λ child. IsOnPath (plain_at self.new 0) walk.new frames.now (depth + 1) child) }
+        ensures grown { AreGrown self.old self.new }
     {
         let number = self.intern(&frames[depth])?;
         let there = walk.add(number)?;
@@ -215,8 +252,8 @@ impl Grower {
     fn intern(&mut self, name: &Name) -> Result<u32, NoMemory>
         ensures number { IfOk result
             (λ number. (number < length self.new.names) × (name_at self.new.names number ≡ name.now)) }
-        ensures grown { IsGrown self.old self.new }
-        ensures nodes { self.new.nodes ≡ self.old.nodes }
+        ensures grown { AreGrown self.old self.new }
+        ensures values { self.new.values ≡ self.old.values }
     {
         match self.numbers.get_index_of(name) {
             Some(number) => number_of(number),
@@ -229,8 +266,8 @@ impl Grower {
         requires { (k : ℕ) → k < length self.old.names → name_at self.old.names k ≡ name.now → ⊥ }
         ensures number { IfOk result
             (λ number. (number < length self.new.names) × (name_at self.new.names number ≡ name.now)) }
-        ensures grown { IsGrown self.old self.new }
-        ensures nodes { self.new.nodes ≡ self.old.nodes }
+        ensures grown { AreGrown self.old self.new }
+        ensures values { self.new.values ≡ self.old.values }
     {
         let number = number_of(self.numbers.len())?;
         let listed = name.share()?;
@@ -244,13 +281,15 @@ impl Grower {
 
     /// The node of a child, a new one where there is none.
     fn child(&mut self, parent: u32, name: u32, counts: bool) -> Result<u32, NoMemory>
-        requires parent { parent < length self.old.nodes }
+        requires parent { parent < length (nodes_at self.old 0) }
         requires name { name < length self.old.names }
-        requires counts { counts ≡ not (has_name (name_at self.old.names name) (stack_at self.old.nodes parent)) }
-        requires deep { length (stack_at self.old.nodes parent) < 65535 }
-        ensures child { IfOk result (λ k. (k < length self.new.nodes)
-            × (stack_at self.new.nodes k ≡ stack_at self.old.nodes parent ++ name_at self.old.names name ∷ [])) }
-        ensures grown { IsGrown self.old self.new }
+        requires counts { counts
+            ≡ not (has_name (name_at self.old.names name) (stack_at (nodes_at self.old 0) parent)) }
+        requires deep { length (stack_at (nodes_at self.old 0) parent) < 65535 }
+        ensures child { IfOk result (λ k. (k < length (nodes_at self.new 0))
+            × (stack_at (nodes_at self.new 0) k
+            ≡ stack_at (nodes_at self.old 0) parent ++ name_at self.old.names name ∷ [])) }
+        ensures grown { AreGrown self.old self.new }
         ensures names { self.new.names ≡ self.old.names }
     {
         match self.index.get(&(parent, name)) {
@@ -261,10 +300,11 @@ impl Grower {
 
     /// A child that isn't there yet. Nothing is changed where memory runs out.
     fn add_child(&mut self, parent: u32, name: u32, counts: bool) -> Result<u32, NoMemory>
-        requires { IsFresh self.old parent name counts }
-        ensures child { IfOk result (λ k. (k < length self.new.nodes)
-            × (stack_at self.new.nodes k ≡ stack_at self.old.nodes parent ++ name_at self.old.names name ∷ [])) }
-        ensures grown { IsGrown self.old self.new }
+        requires { IsFresh (plain_at self.old 0) parent name counts }
+        ensures child { IfOk result (λ k. (k < length (nodes_at self.new 0))
+            × (stack_at (nodes_at self.new 0) k
+            ≡ stack_at (nodes_at self.old 0) parent ++ name_at self.old.names name ∷ [])) }
+        ensures grown { AreGrown self.old self.new }
         ensures names { self.new.names ≡ self.old.names }
     {
         let number = number_of(self.tree.len())?;
@@ -284,4 +324,60 @@ fn number_of(len: usize) -> Result<u32, NoMemory>
         Ok(number) => Ok(number),
         Err(_) => Err(NoMemory),
     }
+}
+
+/// The weights of one value of a plan's rows, added one after the other.
+fn credit_value(tree: &mut CallTree, value: u32, credits: &[Credit], batch: &Snapshot<Batch>)
+    requires value { value < tree.old.width }
+    requires plan { IsPlan (plain_at tree.old value) (rows_at value batch.now.value.rows) credits.now }
+    ensures width { tree.new.width ≡ tree.old.width }
+    ensures names { tree.new.names ≡ tree.old.names }
+    ensures credited { IsCredited (plain_at tree.old value) (plain_at tree.new value)
+        (rows_at value batch.now.value.rows) }
+    ensures others { (other : ℕ) → (other ≡ value → ⊥) → nodes_at tree.new other ≡ nodes_at tree.old other }
+{
+    let _batch = batch;
+    for credit in credits {
+        tree.add_weight(value, credit.node, credit.weight);
+    }
+}
+
+/// For each value but the first the credits of a batch, for the nodes of those of the first.
+fn further_credits(
+    alloc: Global,
+    batch: &Batch,
+    first: &[Credit],
+) -> Result<Vec<Table<Credit>>, NoMemory>
+    requires { length first.now ≡ length batch.now.rows }
+    ensures count { IfOk result (λ others. length others.items + 1 ≡ batch.now.width) }
+    ensures each { IfOk result (λ others. (k : ℕ) → k < length others.items
+        → AreCreditsOf (k + 1) batch.now.rows first.now (slice_index_or others.items k [])) }
+{
+    let mut others = Vec::new(alloc);
+    for value in 1..batch.width().get() {
+        let credits = value_credits(alloc, batch, value, first)?;
+        others.push(credits)?;
+    }
+    Ok(others)
+}
+
+/// The credits of a batch by one value, for these nodes.
+fn value_credits(
+    alloc: Global,
+    batch: &Batch,
+    value: u32,
+    first: &[Credit],
+) -> Result<Table<Credit>, NoMemory>
+    requires size { length first.now ≡ length batch.now.rows }
+    requires value { value < batch.now.width }
+    ensures { IfOk result (AreCreditsOf value batch.now.rows first.now) }
+{
+    let mut credits = Table::new(alloc);
+    for at in 0..first.len() {
+        credits.append(Credit {
+            node: first[at].node,
+            weight: batch.weight(at, value),
+        })?;
+    }
+    Ok(credits)
 }

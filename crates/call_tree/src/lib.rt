@@ -4,6 +4,7 @@
 
 mod grower;
 mod node;
+mod nodes;
 mod table;
 mod tree;
 mod walk;

@@ -1,14 +1,19 @@
 //! The call tree: nodes with links to their parents, each with its own weight and a running total.
 
-ghost use Rattle.std.specs.Prelude.{◌≡◌, ◌<◌, ◌+◌, ◌++◌, ◌∷◌, ◌^◌, ℕ, [], filter, length, map, IfOk, IfSome, OnOk, OnErr, IsSorted};
+ghost use Rattle.std.specs.Prelude.{◌≡◌, ◌<◌, ◌≤◌, ◌+◌, ◌++◌, ◌∷◌, ◌^◌, ℕ, [], filter, length, map, take, MatchOption, IfOk, IfSome, OnOk, OnErr, IsSorted};
 ghost use Rattle.profile_rows.specs.Rows.{total_of};
-ghost use Rattle.profile_rows.specs.Aggregate.{weight_in, rows_of};
+ghost use Rattle.profile_rows.specs.Aggregate.{AreRowsOf, aggregates_of, weight_in, with_rows, rows_of};
 ghost use Rattle.profile_rows.specs.TopList.{AreSumsOf};
-ghost use Rattle.call_tree.specs.State.{TreeState, weights_of, total_in, name_at, stack_at, credited, has_weight, IsChild, IsFresh, IsState};
+ghost use Rattle.profile_rows.specs.Values.{value_of};
+ghost use Rattle.call_tree.specs.State.{TreeState, weights_of, total_in, nodes_at, plain_at, name_at, node_at, stack_at, credited, has_weight, IsAppended, IsChild, IsFresh, AreStates};
 
 use crate::node::Node;
+use crate::nodes::Nodes;
 use crate::table::Table;
-use profile_rows::{Batch, FrameTotal, MAX_DEPTH, Name, NoMemory, Row, Stack};
+use profile_rows::{
+    Batch, FrameTotal, MAX_DEPTH, Name, NoMemory, Stack, WeightedStack, WeightedStacks, Weights,
+    Width, aggregate,
+};
 use std::alloc::{AllocError, Global};
 use std::marker::Model;
 
@@ -24,79 +29,93 @@ struct Sums {
 #[derive(Drop)]
 pub struct CallTree {
     names: Table<Name>,
-    nodes: Table<Node>,
+    nodes: Nodes,
 }
 
 impl Model for CallTree {
     ghost use Rattle.call_tree.specs.State.{TreeState};
-    ghost use Rattle.call_tree.specs.Shape.{IsTree, node_rows};
+    ghost use Rattle.call_tree.specs.Nodes.{tree_of, AreTrees};
 
     ghost Value = { TreeState };
 
-    ghost view = { λ t. record { names = t.names; nodes = node_rows t.names t.nodes } };
+    ghost view = { λ t. tree_of t.names t.nodes };
 
-    ghost invariant = { λ t. IsTree t.names t.nodes };
+    ghost invariant = { λ t. AreTrees t.names t.nodes };
 }
 
 impl CallTree {
     ghost use Rattle.call_tree.specs.Totals.{AreSums, name_order};
 
-    /// The weight of all stacks together. Takes no time per stack.
-    pub fn total(&self) -> u64
-        ensures total { result ≡ total_in (weights_of self.now) }
-        ensures fits { total_in (weights_of self.now) < 2 ^ 63 }
+    /// How many values a stack has.
+    pub fn width(&self) -> Width
+        ensures { result ≡ self.now.width }
     {
-        self.nodes.read(0).total
+        self.nodes.width()
     }
 
-    /// One more weight at a node: at the node, and in the totals of all above it.
-    pub(crate) fn add_weight(&mut self, at: u32, weight: u64)
-        requires within { at < length self.old.nodes }
-        requires fits { total_of self.old.nodes + weight < 2 ^ 63 }
+    /// The weight of all stacks together by each value. Takes no time per stack.
+    pub fn total(&self) -> Weights
+        ensures totals { (value : ℕ) → value_of value result ≡ total_in (weights_of self.now value) }
+        ensures width { length result ≡ self.now.width }
+        ensures fits { (value : ℕ) → total_in (weights_of self.now value) < 2 ^ 63 }
+    {
+        self.known();
+        let width = self.nodes.width();
+        let mut totals = [0; 4];
+        for value in 0..width.get() {
+            totals[value as usize] = self.nodes.read(value, 0).total;
+        }
+        weights_from(&totals, width)
+    }
+
+    /// One more weight of one value at a node: at the node, and in the totals of all above it.
+    pub(crate) fn add_weight(&mut self, value: u32, at: u32, weight: u64)
+        requires value { value < self.old.width }
+        requires within { at < length (nodes_at self.old value) }
+        requires fits { total_of (nodes_at self.old value) + weight < 2 ^ 63 }
+        ensures width { self.new.width ≡ self.old.width }
         ensures names { self.new.names ≡ self.old.names }
-        ensures nodes { self.new.nodes ≡ credited self.old.nodes at weight }
+        ensures nodes { nodes_at self.new value ≡ credited (nodes_at self.old value) at weight }
+        ensures others { (other : ℕ) → (other ≡ value → ⊥) → nodes_at self.new other ≡ nodes_at self.old other }
     {
         let mut place = at;
         while place != 0 {
-            let mut node = *self.nodes.read(place as usize);
+            let mut node = self.nodes.read(value, place as usize);
             node.total += weight;
-            self.nodes.replace(place as usize, node);
+            self.nodes.replace(value, place as usize, node);
             place = node.parent;
         }
-        let mut root = *self.nodes.read(0);
+        let mut root = self.nodes.read(value, 0);
         root.total += weight;
-        self.nodes.replace(0, root);
-        let mut leaf = *self.nodes.read(at as usize);
+        self.nodes.replace(value, 0, root);
+        let mut leaf = self.nodes.read(value, at as usize);
         leaf.own += weight;
-        self.nodes.replace(at as usize, leaf);
+        self.nodes.replace(value, at as usize, leaf);
     }
 
     /// One more name, with the next number.
     pub(crate) fn append_name(&mut self, name: Name) -> Result<(), AllocError>
         requires { (k : ℕ) → k < length self.old.names → name_at self.old.names k ≡ name → ⊥ }
-        ensures ok { OnOk result
-            ((self.new.names ≡ self.old.names ++ name ∷ []) × (self.new.nodes ≡ self.old.nodes)) }
+        ensures ok { OnOk result ((self.new.width ≡ self.old.width)
+            × (self.new.names ≡ self.old.names ++ name ∷ []) × (self.new.values ≡ self.old.values)) }
         ensures err { OnErr result (self.new ≡ self.old) }
     {
         self.names.append(name)?;
         Ok(())
     }
 
-    /// One more node of weight 0, with the next number.
+    /// One more node of weight 0 by each value, with the next number.
     pub(crate) fn append_node(
         &mut self,
         parent: u32,
         name: u32,
         counts: bool,
     ) -> Result<(), AllocError>
-        requires { IsFresh self.old parent name counts }
-        ensures ok { OnOk result ((self.new.names ≡ self.old.names)
-            × (self.new.nodes ≡ self.old.nodes ++ (record {
-              stack = stack_at self.old.nodes parent ++ name_at self.old.names name ∷ [];
-              weight = 0;
-            }) ∷ [])) }
+        requires { IsFresh (plain_at self.old 0) parent name counts }
+        ensures ok { OnOk result (IsAppended self.old parent name self.new) }
         ensures err { OnErr result (self.new ≡ self.old) }
     {
+        self.nodes.known();
         self.nodes.append(Node {
             parent,
             name,
@@ -110,12 +129,13 @@ impl CallTree {
     /// The number of the name, where the node `child` stands below `parent` by that name.
     pub(crate) fn number_below(&self, parent: u32, child: u32, name: &Name) -> Option<u32>
         ensures { IfSome result
-            (λ number. IsChild self.now parent number child × (name_at self.now.names number ≡ name.now)) }
+            (λ number. IsChild (plain_at self.now 0) parent number child × (name_at self.now.names number ≡ name.now)) }
     {
+        self.nodes.known();
         if child == 0 || child as usize >= self.nodes.len() {
             return None;
         }
-        let node = *self.nodes.read(child as usize);
+        let node = self.nodes.read(0, child as usize);
         if node.parent == parent && *self.names.read(node.name as usize) == *name {
             Some(node.name)
         } else {
@@ -123,11 +143,31 @@ impl CallTree {
         }
     }
 
-    /// The weight of exactly this stack, 0 where it has none. One pass over the nodes, since a node stands after its
-    /// parent.
-    pub fn self_weight(&self, stack: &Stack) -> u64
-        ensures { result ≡ weight_in (weights_of self.now) stack.now }
+    /// The weights of exactly this stack, 0 where it has none.
+    pub fn self_weight(&self, stack: &Stack) -> Weights
+        ensures width { length result ≡ self.now.width }
+        ensures weights { (value : ℕ) → value_of value result ≡ weight_in (weights_of self.now value) stack.now }
     {
+        self.known();
+        let width = self.nodes.width();
+        let count = width.get();
+        let mut weights = [0; 4];
+        if let Some(place) = self.place_of(stack) {
+            for value in 0..count {
+                weights[value as usize] = self.nodes.read(value, place).own;
+            }
+        }
+        weights_from(&weights, width)
+    }
+
+    /// The node of exactly this stack, where there is one. One pass over the nodes, since a node stands after its
+    /// parent.
+    fn place_of(&self, stack: &Stack) -> Option<usize>
+        ensures { MatchOption result
+            ((k : ℕ) → k < length (nodes_at self.now 0) → stack_at (nodes_at self.now 0) k ≡ stack.now → ⊥)
+            (λ place. (place < length (nodes_at self.now 0)) × (stack_at (nodes_at self.now 0) place ≡ stack.now)) }
+    {
+        self.nodes.known();
         let frames = stack.names();
         let mut place = 0usize;
         let mut depth = 0usize;
@@ -135,7 +175,7 @@ impl CallTree {
             if depth == frames.len() {
                 break;
             }
-            let node = *self.nodes.read(index);
+            let node = self.nodes.read(0, index);
             if node.parent as usize == place
                 && *self.names.read(node.name as usize) == frames[depth]
             {
@@ -144,18 +184,18 @@ impl CallTree {
             }
         }
         if depth == frames.len() {
-            self.nodes.read(place).own
+            Some(place)
         } else {
-            0
+            None
         }
     }
 
     /// A tree of the root alone.
-    pub(crate) fn new(alloc: Global) -> Result<CallTree, AllocError>
-        ensures { IfOk result
-            (λ tree. (tree.names ≡ []) × (tree.nodes ≡ (record { stack = []; weight = 0 }) ∷ [])) }
+    pub(crate) fn new(alloc: Global, width: Width) -> Result<CallTree, AllocError>
+        ensures { IfOk result (λ tree. (tree.width ≡ width) × (tree.names ≡ [])
+            × ((value : ℕ) → value < width → nodes_at tree value ≡ (record { stack = []; weight = 0 }) ∷ [])) }
     {
-        let mut nodes = Table::new(alloc);
+        let mut nodes = Nodes::new(alloc, width)?;
         nodes.append(Node {
             parent: 0,
             name: 0,
@@ -171,25 +211,27 @@ impl CallTree {
 
     /// What every tree keeps true, in the words of contracts.
     pub(crate) fn known(&self)
-        ensures { IsState self.now }
+        ensures { AreStates self.now }
     {
-        let _ = &self.nodes;
+        self.nodes.known();
     }
 
     /// How many nodes there are.
     pub(crate) fn len(&self) -> usize
-        ensures { result ≡ length self.now.nodes }
+        ensures { result ≡ length (nodes_at self.now 0) }
     {
         self.nodes.len()
     }
 
     /// The flat and the cumulative weight of each name, by its number: one pass over the nodes.
-    fn sums(&self, alloc: Global) -> Result<Vec<Sums>, AllocError>
-        ensures { IfOk result (λ sums. AreSums self.now sums.items) }
+    fn sums(&self, alloc: Global, value: u32) -> Result<Vec<Sums>, AllocError>
+        requires { value < self.now.width }
+        ensures { IfOk result (λ sums. AreSums (plain_at self.now value) sums.items) }
     {
+        self.nodes.known();
         let mut sums = vec![in alloc; Sums { flat: 0, cum: 0 }; self.names.len()]?;
         for index in 1..self.nodes.len() {
-            let node = *self.nodes.read(index);
+            let node = self.nodes.read(value, index);
             let sum = &mut sums[node.name as usize];
             sum.flat += node.own;
             if node.counts {
@@ -200,10 +242,11 @@ impl CallTree {
     }
 
     /// The names of cumulative weight above 0 with their weights, by their numbers.
-    fn named_sums(&self, alloc: Global) -> Result<Vec<FrameTotal>, NoMemory>
-        ensures { IfOk result (λ totals. AreSumsOf (rows_of (weights_of self.now)) totals.items) }
+    fn named_sums(&self, alloc: Global, value: u32) -> Result<Vec<FrameTotal>, NoMemory>
+        requires { value < self.now.width }
+        ensures { IfOk result (λ totals. AreSumsOf (rows_of (weights_of self.now value)) totals.items) }
     {
-        let sums = self.sums(alloc)?;
+        let sums = self.sums(alloc, value)?;
         let mut totals = Vec::new(alloc);
         for number in 0..sums.len() {
             let sum = sums[number];
@@ -219,29 +262,32 @@ impl CallTree {
         Ok(totals)
     }
 
-    /// Each name of cumulative weight above 0 once, with its flat and its cumulative weight, in the order of names.
+    /// Each name of cumulative weight above 0 by a value once, with its flat and its cumulative weight, in the order of
+    /// names.
     ///
     /// # Errors
     ///
     /// `NoMemory`.
-    pub fn frame_totals(&self, alloc: Global) -> Result<Vec<FrameTotal>, NoMemory>
-        ensures sums { IfOk result (λ totals. AreSumsOf (rows_of (weights_of self.now)) totals.items) }
+    pub fn frame_totals(&self, alloc: Global, value: u32) -> Result<Vec<FrameTotal>, NoMemory>
+        requires { value < self.now.width }
+        ensures sums { IfOk result (λ totals. AreSumsOf (rows_of (weights_of self.now value)) totals.items) }
         ensures sorted { IfOk result (λ totals. IsSorted name_order totals.items) }
     {
-        let mut totals = self.named_sums(alloc)?;
+        let mut totals = self.named_sums(alloc, value)?;
         totals.sort_by(|left, right| left.name.cmp(&right.name))?;
         Ok(totals)
     }
 
     /// The stack of a node: its names on the way to the root, turned round.
     fn stack_of(&self, alloc: Global, at: usize) -> Result<Stack, NoMemory>
-        requires { at < length self.now.nodes }
-        ensures { IfOk result (λ stack. stack ≡ stack_at self.now.nodes at) }
+        requires { at < length (nodes_at self.now 0) }
+        ensures { IfOk result (λ stack. stack ≡ stack_at (nodes_at self.now 0) at) }
     {
+        self.nodes.known();
         let mut names = Vec::new(alloc);
         let mut place = at;
         while place != 0 {
-            let node = *self.nodes.read(place);
+            let node = self.nodes.read(0, place);
             let name = self.names.read(node.name as usize).share()?;
             names.push(name)?;
             place = node.parent as usize;
@@ -255,46 +301,110 @@ impl CallTree {
         }
     }
 
-    /// The stacks of weight above 0, by their nodes.
-    fn weighted_rows(&self, alloc: Global) -> Result<Vec<Row>, NoMemory>
-        ensures { IfOk result (λ rows. rows.items ≡ filter has_weight self.now.nodes) }
+    /// The stacks of weight above 0 by a value, by their nodes.
+    fn weighted_rows(&self, alloc: Global, value: u32) -> Result<Vec<WeightedStack>, NoMemory>
+        requires { value < self.now.width }
+        ensures { IfOk result (λ rows. rows.items ≡ filter has_weight (nodes_at self.now value)) }
     {
+        self.known();
         let mut rows = Vec::new(alloc);
         for index in 0..self.nodes.len() {
-            let weight = self.nodes.read(index).own;
+            let weight = self.nodes.read(value, index).own;
             if weight > 0 {
                 let stack = self.stack_of(alloc, index)?;
-                rows.push(Row { stack, weight })?;
+                rows.push(WeightedStack { stack, weight })?;
             }
         }
         Ok(rows)
     }
 
-    /// Each stack of weight above 0 once, with its weight, in the order of stacks. Stacks are compared name by name.
+    /// Each stack of weight above 0 by a value once, with its weight, in the order of stacks. Stacks are compared name
+    /// by name.
+    ///
+    /// # Errors
+    ///
+    /// `NoMemory`.
+    pub fn weighted_stacks(&self, alloc: Global, value: u32) -> Result<WeightedStacks, NoMemory>
+        requires { value < self.now.width }
+        ensures { IfOk result (λ batch. batch ≡ rows_of (weights_of self.now value)) }
+    {
+        self.known();
+        let mut rows = self.weighted_rows(alloc, value)?;
+        rows.sort_by(|left, right| left.stack.cmp(&right.stack))?;
+        batch_of(alloc, rows)
+    }
+
+    /// Each stack that weighs something by some value once, in the order of stacks, with all its values.
     ///
     /// # Errors
     ///
     /// `NoMemory`.
     pub fn rows(&self, alloc: Global) -> Result<Batch, NoMemory>
-        ensures { IfOk result (λ batch. batch ≡ rows_of (weights_of self.now)) }
+        ensures width { IfOk result (λ batch. batch.width ≡ self.now.width) }
+        ensures rows { IfOk result (λ batch. AreRowsOf (weights_of self.now) batch.rows) }
     {
         self.known();
-        let mut rows = self.weighted_rows(alloc)?;
-        rows.sort_by(|left, right| left.stack.cmp(&right.stack))?;
-        batch_of(alloc, rows)
+        let width = self.nodes.width();
+        let mut batch = Batch::new(alloc, width);
+        for value in 0..width.get() {
+            let rows = self.weighted_stacks(alloc, value)?;
+            push_value(&mut batch, value, rows)?;
+        }
+        aggregate(alloc, &batch)
     }
 }
 
+/// For each of these rows one row more, which has its weight as this value and 0 as each other.
+fn push_value(batch: &mut Batch, value: u32, rows: WeightedStacks) -> Result<(), NoMemory>
+    requires { value < batch.old.width }
+    ensures width { OnOk result (batch.new.width ≡ batch.old.width) }
+    ensures here { OnOk result
+        (aggregates_of batch.new.rows value ≡ with_rows (aggregates_of batch.old.rows value) rows) }
+    ensures others { OnOk result ((other : ℕ) → (other ≡ value → ⊥)
+        → aggregates_of batch.new.rows other ≡ aggregates_of batch.old.rows other) }
+{
+    let width = batch.width();
+    for row in rows.into_rows() {
+        let WeightedStack { stack, weight } = row;
+        let weights = weighing(width, value, weight);
+        if let Err(_) = batch.push(stack, weights) {
+            return Err(NoMemory);
+        }
+    }
+    Ok(())
+}
+
+/// This value, and 0 as each other.
+fn weighing(width: Width, value: u32, weight: u64) -> Weights
+    requires { value < width }
+    ensures here { value_of value result ≡ weight }
+    ensures others { (other : ℕ) → (other ≡ value → ⊥) → value_of other result ≡ 0 }
+{
+    let mut places = [0; 4];
+    places[value as usize] = weight;
+    weights_from(&places, width)
+}
+
 /// A batch of these rows.
-fn batch_of(alloc: Global, rows: Vec<Row>) -> Result<Batch, NoMemory>
+fn batch_of(alloc: Global, rows: Vec<WeightedStack>) -> Result<WeightedStacks, NoMemory>
     ensures { IfOk result (λ batch. batch ≡ rows.items) }
 {
-    let mut batch = Batch::new(alloc);
+    let mut batch = WeightedStacks::new(alloc);
     for row in rows {
-        let Row { stack, weight } = row;
+        let WeightedStack { stack, weight } = row;
         if batch.push(stack, weight).is_err() {
             return Err(NoMemory);
         }
     }
     Ok(batch)
+}
+
+/// The first of four places, as many as the width says.
+fn weights_from(places: &[u64; 4], width: Width) -> Weights
+    ensures { result ≡ take width places.now }
+{
+    match Weights::make(&places[..width.get() as usize]) {
+        Some(weights) => weights,
+        None => unreachable!(),
+    }
 }

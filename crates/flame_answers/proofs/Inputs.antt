@@ -5,7 +5,7 @@ use Rattle.pprof_profile.specs.declared.faults.ProfileFault.{ProfileFault}
 use Rattle.pprof_profile.specs.declared.faults.ProfileFault.TheVariants as profile
 use Rattle.pprof_profile.specs.declared.messages.Draft.{Draft}
 use Rattle.pprof_profile.specs.Profiles.{IsProfile, IsProfileFault}
-use Rattle.profile_rows.specs.declared.batch.Row.{Row}
+use Rattle.profile_rows.specs.declared.weighted_stacks.WeightedStack.{WeightedStack}
 use Rattle.folded_text.specs.declared.folded.FoldedFault.{FoldedFault}
 use Rattle.folded_text.specs.declared.folded.FoldedFault.TheVariants as folded
 use Rattle.profile_samples.specs.declared.sampling.BatchFault.{BatchFault}
@@ -28,11 +28,11 @@ use Rattle.flame_answers.specs.Answers.{AreRowsIn, AreMergedIn, HasNoRows, IsAns
 
 -- ---- folded text
 
-refused_folded : (value : Option (List ℕ)) (input : List ℕ) (fault : FoldedFault) → IsFirstFault input fault → ((rows : List Row) → IsFoldedText input rows → fault ≡ folded.NoMemory)
+refused_folded : (value : Option (List ℕ)) (input : List ℕ) (fault : FoldedFault) → IsFirstFault input fault → ((rows : List WeightedStack) → IsFoldedText input rows → fault ≡ folded.NoMemory)
     → fault ≢ folded.NoMemory → (IsFirstFault input fault × (fault ≢ folded.NoMemory)) × HasNoRows Folded value input
 refused_folded value input fault first rows other = ((first, other), λ found this. other (rows found this))
 
-pub folded_refused : (value : Option (List ℕ)) (input : List ℕ) (fault : FoldedFault) → IsFirstFault input fault → ((rows : List Row) → IsFoldedText input rows → fault ≡ folded.NoMemory)
+pub folded_refused : (value : Option (List ℕ)) (input : List ℕ) (fault : FoldedFault) → IsFirstFault input fault → ((rows : List WeightedStack) → IsFoldedText input rows → fault ≡ folded.NoMemory)
     → IsRefusedIn Folded value input (folded_fault_of fault)
 folded_refused value input (folded.NotUtf8 line) first rows = refused_folded value input (folded.NotUtf8 line) first rows (λ e. cc)
 folded_refused value input (folded.NoCount line) first rows = refused_folded value input (folded.NoCount line) first rows (λ e. cc)
@@ -42,13 +42,13 @@ folded_refused value input (folded.Heavy line) first rows = refused_folded value
 folded_refused value input folded.NoMemory first rows = tt
 
 -- what work on a text's rows ends without a result by
-pub work_refused : (value : Option (List ℕ)) (input : List ℕ) (fault : FoldedFault) → IsWorkFault input fault → ((rows : List Row) → IsFoldedText input rows → fault ≡ folded.NoMemory)
+pub work_refused : (value : Option (List ℕ)) (input : List ℕ) (fault : FoldedFault) → IsWorkFault input fault → ((rows : List WeightedStack) → IsFoldedText input rows → fault ≡ folded.NoMemory)
     → IsRefusedIn Folded value input (folded_fault_of fault)
 work_refused value input fault (inl first) rows = folded_refused value input fault first rows
 work_refused value input fault (inr late) rows = subst (λ (f : FoldedFault). IsRefusedIn Folded value input (folded_fault_of f)) (sym late.0) tt
 
 -- a query that keeps every row of folded text is answered by all of them
-IsAnswer-of_text : (source : Source) (query : Query) (kind : Kind) (input text : List ℕ) → source.format ≡ Folded → query.kind ≡ kind → ((rows : List Row) → kept_by query rows ≡ rows)
+IsAnswer-of_text : (source : Source) (query : Query) (kind : Kind) (input text : List ℕ) → source.format ≡ Folded → query.kind ≡ kind → ((rows : List WeightedStack) → kept_by query rows ≡ rows)
     → IsAnswerOfText input kind text → IsAnswer (Report source query) input text
 IsAnswer-of_text source query kind input text format asked keeps (rows, spelled, whole) = record {
   rows = rows;
@@ -57,7 +57,7 @@ IsAnswer-of_text source query kind input text format asked keeps (rows, spelled,
 }
 
 pub answered-of_text : {T : Type 0} (bytes : T → List ℕ) (source : Source) (query : Query) (kind : Kind) (input : List ℕ) (outcome : Result T ToolFault) → source.format ≡ Folded → query.kind ≡ kind
-    → ((rows : List Row) → kept_by query rows ≡ rows)
+    → ((rows : List WeightedStack) → kept_by query rows ≡ rows)
     → ((value : Option (List ℕ)) → MatchResult outcome (λ text. IsAnswerOfText input kind (bytes text)) (λ fault. IsRefusedIn Folded value input fault))
     → MatchResult outcome (λ text. IsAnswer (Report source query) input (bytes text)) (λ fault. IsInputFault (Report source query) input fault)
 answered-of_text bytes source query kind input (Ok text) format asked keeps answered = IsAnswer-of_text source query kind input (bytes text) format asked keeps (answered source.value)
@@ -96,12 +96,12 @@ same_choice draft (Some value) Default other a b = absurd a
 same_choice draft (Some value) (Named text) Default a b = absurd b
 same_choice draft (Some value) (Named text) (Named also) a b = ap (type_named draft) (a ∙ sym b)
 
-same_rows : (draft : Draft) (value : Option (List ℕ)) (one other : ValueChoice) (rows : List Row) → IsChoice value one → IsChoice value other → IsBatchOf draft one rows → IsBatchOf draft other rows
+same_rows : (draft : Draft) (value : Option (List ℕ)) (one other : ValueChoice) (rows : List WeightedStack) → IsChoice value one → IsChoice value other → IsBatchOf draft one rows → IsBatchOf draft other rows
 same_rows draft value one other rows a b this =
     record { chosen = this.chosen; is_chosen = sym (same_choice draft value one other a b) ∙ this.is_chosen; rows_samples = this.rows_samples; total_fits = this.total_fits }
 
 refused_batch : (value : Option (List ℕ)) (input : List ℕ) (draft : Draft) (choice : ValueChoice) (fault : BatchFault) → IsProfile input draft → ((other : Draft) → IsProfile input other → draft ≡ other)
-    → IsChoice value choice → IsFirstBatchFault draft choice fault → ((rows : List Row) → IsBatchOf draft choice rows → fault ≡ batch.NoMemory) → fault ≢ batch.NoMemory
+    → IsChoice value choice → IsFirstBatchFault draft choice fault → ((rows : List WeightedStack) → IsBatchOf draft choice rows → fault ≡ batch.NoMemory) → fault ≢ batch.NoMemory
     → IsFaultIn Pprof value input (tool.Batch fault) × HasNoRows Pprof value input
 refused_batch value input draft choice fault is only chosen first rows other = (
   (record { draft = draft; profile = is; choice = choice; chosen = chosen; first = first }, other),
@@ -109,7 +109,7 @@ refused_batch value input draft choice fault is only chosen first rows other = (
 )
 
 pub batch_refused : (value : Option (List ℕ)) (input : List ℕ) (draft : Draft) (choice : ValueChoice) (fault : BatchFault) → IsProfile input draft → ((other : Draft) → IsProfile input other → draft ≡ other)
-    → IsChoice value choice → IsFirstBatchFault draft choice fault → ((rows : List Row) → IsBatchOf draft choice rows → fault ≡ batch.NoMemory) → IsRefusedIn Pprof value input (batch_fault_of fault)
+    → IsChoice value choice → IsFirstBatchFault draft choice fault → ((rows : List WeightedStack) → IsBatchOf draft choice rows → fault ≡ batch.NoMemory) → IsRefusedIn Pprof value input (batch_fault_of fault)
 batch_refused value input draft choice batch.NoValue is only chosen first rows = refused_batch value input draft choice batch.NoValue is only chosen first rows (λ e. cc)
 batch_refused value input draft choice (batch.Negative at) is only chosen first rows = refused_batch value input draft choice (batch.Negative at) is only chosen first rows (λ e. cc)
 batch_refused value input draft choice (batch.Depth at) is only chosen first rows = refused_batch value input draft choice (batch.Depth at) is only chosen first rows (λ e. cc)
@@ -117,10 +117,10 @@ batch_refused value input draft choice (batch.Heavy at) is only chosen first row
 batch_refused value input draft choice batch.NoMemory is only chosen first rows = tt
 
 -- the sums of a batch are sums of the input
-pub AreMergedIn-batch : (value : Option (List ℕ)) (input : List ℕ) (draft : Draft) (choice : ValueChoice) (sums : List Row) → IsProfile input draft → IsChoice value choice → IsMergedBatch draft choice sums
+pub AreMergedIn-batch : (value : Option (List ℕ)) (input : List ℕ) (draft : Draft) (choice : ValueChoice) (sums : List WeightedStack) → IsProfile input draft → IsChoice value choice → IsMergedBatch draft choice sums
     → AreMergedIn Pprof value input sums
 AreMergedIn-batch value input draft choice sums is chosen this =
     record { rows = this.rows; spelled = record { draft = draft; profile = is; choice = choice; chosen = chosen; sampled = this.sampled }; same = this.same }
 
-pub AreMergedIn-text : (value : Option (List ℕ)) (input : List ℕ) (sums : List Row) → IsMergedText input sums → AreMergedIn Folded value input sums
+pub AreMergedIn-text : (value : Option (List ℕ)) (input : List ℕ) (sums : List WeightedStack) → IsMergedText input sums → AreMergedIn Folded value input sums
 AreMergedIn-text value input sums this = record { rows = this.rows; spelled = this.folded; same = this.same }

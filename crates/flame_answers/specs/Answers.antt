@@ -5,7 +5,7 @@ use Rattle.pprof_profile.specs.declared.faults.ProfileFault.{ProfileFault}
 use Rattle.pprof_profile.specs.declared.faults.ProfileFault.TheVariants as profile
 use Rattle.pprof_profile.specs.declared.messages.Draft.{Draft}
 use Rattle.pprof_profile.specs.Profiles.{IsProfile, IsProfileFault}
-use Rattle.profile_rows.specs.declared.batch.Row.{Row}
+use Rattle.profile_rows.specs.declared.weighted_stacks.WeightedStack.{WeightedStack}
 use Rattle.folded_text.specs.declared.folded.FoldedFault.{FoldedFault}
 use Rattle.folded_text.specs.declared.folded.FoldedFault.TheVariants as folded
 use Rattle.profile_samples.specs.declared.sampling.BatchFault.{BatchFault}
@@ -14,7 +14,7 @@ use Rattle.profile_samples.specs.declared.sampling.ValueChoice.{ValueChoice}
 use Rattle.profile_samples.specs.declared.sampling.ValueChoice.TheVariants.{Default, Named}
 use Rattle.profile_rows.specs.Aggregate.{aggregate_of}
 use Rattle.pprof_profile.specs.Canonical.{canonical_bytes_of}
-use Rattle.profile_samples.specs.Export.{exported_profile_of}
+use Rattle.profile_samples.specs.Export.{single_profile_of}
 use Rattle.folded_text.specs.FoldedText.{IsFirstFault, IsFoldedText}
 use Rattle.profile_samples.specs.Samples.{IsBatchOf, IsFirstBatchFault}
 use Rattle.profile_rows.specs.TopList.{top_text_of}
@@ -40,7 +40,7 @@ IsChoice (Some value) Default = ⊥
 IsChoice (Some value) (Named text) = text.now ≡ value
 
 -- the rows of the samples of the profile that bytes are
-pub record AreProfileRows (value : Option (List ℕ)) (input : List ℕ) (rows : List Row) : Type 0 where
+pub record AreProfileRows (value : Option (List ℕ)) (input : List ℕ) (rows : List WeightedStack) : Type 0 where
   pub draft : Draft
   pub profile : IsProfile input draft
   pub choice : ValueChoice
@@ -48,7 +48,7 @@ pub record AreProfileRows (value : Option (List ℕ)) (input : List ℕ) (rows :
   pub sampled : IsBatchOf draft choice rows
 
 -- the rows of an input of a format
-abbrev pub AreRowsIn : Format → Option (List ℕ) → List ℕ → List Row → Type 0
+abbrev pub AreRowsIn : Format → Option (List ℕ) → List ℕ → List WeightedStack → Type 0
 AreRowsIn Folded value input rows = IsFoldedText input rows
 AreRowsIn Pprof value input rows = AreProfileRows value input rows
 
@@ -70,20 +70,20 @@ answer_text (answer.Flame flame) = flame_json_of flame ++ 10 ∷ []
 answer_text (answer.Folded text) = text
 
 -- what a request wants of rows
-abbrev pub output_of : Request → List Row → List ℕ
+abbrev pub output_of : Request → List WeightedStack → List ℕ
 output_of (Report source query) rows = answer_text (answer_of rows query)
-output_of (Export kind unit) rows = canonical_bytes_of (exported_profile_of rows kind unit)
+output_of (Export kind unit) rows = canonical_bytes_of (single_profile_of rows kind unit)
 
 -- the text is what the request wants of the rows of the input
 pub record IsAnswer (request : Request) (input text : List ℕ) : Type 0 where
-  pub rows : List Row
+  pub rows : List WeightedStack
   pub spelled : AreRowsIn (format_for request) (value_for request) input rows
   pub whole : text ≡ output_of request rows
 
 -- the text is what all rows of folded text answer to a question
 abbrev pub IsAnswerOfText : List ℕ → Kind → List ℕ → Type 0
 IsAnswerOfText input kind text =
-    (rows : List Row) × IsFoldedText input rows × (text ≡ answer_text (answer_by kind rows))
+    (rows : List WeightedStack) × IsFoldedText input rows × (text ≡ answer_text (answer_by kind rows))
 
 -- ---- inputs without rows
 
@@ -111,7 +111,7 @@ IsFaultIn format value input tool.NoMemory = ⊥
 
 -- an input of a format without rows
 abbrev pub HasNoRows : Format → Option (List ℕ) → List ℕ → Type 0
-HasNoRows format value input = (rows : List Row) → AreRowsIn format value input rows → ⊥
+HasNoRows format value input = (rows : List WeightedStack) → AreRowsIn format value input rows → ⊥
 
 -- what keeps an input of a format from having rows: its first fault, or want of memory, which claims nothing
 abbrev pub IsRefusedIn : Format → Option (List ℕ) → List ℕ → ToolFault → Type 0
@@ -133,8 +133,8 @@ IsInputFault request input fault = IsRefusedIn (format_for request) (value_for r
 
 -- rows that add up to those of an input
 pub record AreMergedIn (format : Format) (value : Option (List ℕ)) (input : List ℕ)
-    (merged : List Row) : Type 0 where
-  pub rows : List Row
+    (merged : List WeightedStack) : Type 0 where
+  pub rows : List WeightedStack
   pub spelled : AreRowsIn format value input rows
   pub same : aggregate_of merged ≡ aggregate_of rows
 

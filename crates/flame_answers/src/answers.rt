@@ -1,7 +1,7 @@
 //! What an input answers to a request.
 
 ghost use Rattle.std.specs.Prelude.{ℕ, ◌≡◌, ◌∷◌, ◌++◌, [], List, MatchResult, IfOk, Option};
-ghost use Rattle.profile_rows.specs.declared.batch.Row.{Row};
+ghost use Rattle.profile_rows.specs.declared.weighted_stacks.WeightedStack.{WeightedStack};
 ghost use Rattle.flame_report.specs.Answers.{answer_of};
 ghost use Rattle.flame_report.specs.declared.query.Kind.TheVariants.{Top};
 ghost use Rattle.flame_answers.specs.Answers.{AreMergedIn, IsAnswer, IsAnswerOfText, IsChoice, IsInputFault, IsRefusedIn, answer_text, batch_fault_of, folded_fault_of, profile_fault_of};
@@ -11,10 +11,10 @@ ghost use Rattle.flame_answers.specs.declared.request.Request.TheVariants.{Repor
 use crate::outcomes::ToolFault;
 use crate::request::{Format, Request, Source};
 use flame_report::laws::answers_are_by_the_aggregate;
-use flame_report::{Answer, Kind, Query, Rank, flame_json, report_of, top_list, top_text};
+use flame_report::{Answer, Kind, Query, Rank, flame_json, report_of_stacks, top_list, top_text};
 use folded_text::{FoldedFault, folded_totals, merge_folded};
 use pprof_profile::{ProfileFault, Text, decode};
-use profile_rows::{Batch, NoMemory};
+use profile_rows::{NoMemory, WeightedStacks};
 use profile_samples::{BatchFault, ValueChoice, export_folded, merge_samples};
 use std::alloc::Global;
 
@@ -52,7 +52,7 @@ fn report_on(
         _ => {
             let merged = merged_rows(alloc, source, input)?;
             answers_are_by_the_aggregate();
-            Ok(report_text(alloc, &merged, query)?)
+            Ok(report_text(alloc, merged, query)?)
         }
     }
 }
@@ -84,7 +84,7 @@ fn export(alloc: Global, kind: &Text, unit: &Text, input: &[u8]) -> Result<Vec<u
 }
 
 /// Rows that add up to those of the input.
-fn merged_rows(alloc: Global, source: &Source, input: &[u8]) -> Result<Batch, ToolFault>
+fn merged_rows(alloc: Global, source: &Source, input: &[u8]) -> Result<WeightedStacks, ToolFault>
     ensures { MatchResult result
         (λ merged. AreMergedIn source.now.format source.now.value input.now merged)
         (λ fault. IsRefusedIn source.now.format source.now.value input.now fault) }
@@ -96,7 +96,7 @@ fn merged_rows(alloc: Global, source: &Source, input: &[u8]) -> Result<Batch, To
 }
 
 /// Rows that add up to those of folded text.
-fn merged_lines(alloc: Global, input: &[u8]) -> Result<Batch, ToolFault>
+fn merged_lines(alloc: Global, input: &[u8]) -> Result<WeightedStacks, ToolFault>
     ensures { (value : Option (List ℕ)) → MatchResult result
         (λ merged. AreMergedIn Folded value input.now merged)
         (λ fault. IsRefusedIn Folded value input.now fault) }
@@ -108,7 +108,11 @@ fn merged_lines(alloc: Global, input: &[u8]) -> Result<Batch, ToolFault>
 }
 
 /// Rows that add up to those of a profile's samples.
-fn merged_samples(alloc: Global, value: &Option<Text>, input: &[u8]) -> Result<Batch, ToolFault>
+fn merged_samples(
+    alloc: Global,
+    value: &Option<Text>,
+    input: &[u8],
+) -> Result<WeightedStacks, ToolFault>
     ensures { MatchResult result
         (λ merged. AreMergedIn Pprof value.now input.now merged)
         (λ fault. IsRefusedIn Pprof value.now input.now fault) }
@@ -134,10 +138,10 @@ fn choice_of<'a>(value: &'a Option<Text>) -> ValueChoice<'a>
 }
 
 /// The text of the answer to a query over the rows.
-fn report_text(alloc: Global, rows: &Batch, query: &Query) -> Result<Vec<u8>, NoMemory>
-    ensures { IfOk result (λ text. text.items ≡ answer_text (answer_of rows.now query.now)) }
+fn report_text(alloc: Global, rows: WeightedStacks, query: &Query) -> Result<Vec<u8>, NoMemory>
+    ensures { IfOk result (λ text. text.items ≡ answer_text (answer_of rows query.now)) }
 {
-    let answer = report_of(alloc, rows, query)?;
+    let answer = report_of_stacks(alloc, rows, query)?;
     text_of(alloc, answer)
 }
 

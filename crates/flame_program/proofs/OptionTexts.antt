@@ -103,5 +103,5 @@ misnamed_ignore kind format value focus ignore BadName named h = rw (named, h) r
 misnamed_ignore kind format value focus ignore NoMemory named h = tt
 
 pub named_asked : (kind : Kind) (format : Format) (value focus ignore : Option (List ℕ)) → is_name_if_given focus ≡ true → is_name_if_given ignore ≡ true
-    → named_report kind format value focus ignore ≡ asked (Report (record { format = format; value = value }) (record { focus = focus; ignore = ignore; kind = kind }))
+    → named_report kind format value focus ignore ≡ asked (Report (record { format = format; value = value }) (record { focus = focus; ignore = ignore; value = 0; kind = kind }))
 named_asked kind format value focus ignore one other = rw (one, other) refl

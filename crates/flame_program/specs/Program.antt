@@ -1,7 +1,7 @@
 -- How a run of the program ends, over what its reader had left and what its writer holds, before and after.
 use Rattle.std.specs.Prelude.{ℕ, ◌≡◌, ◌≢◌, ◌+◌, ◌≤◌, ◌↔◌, List, length, Option, Some, IfSome}
 use Rattle.std.specs.Io.KnownBytes.{Appends, Keeps}
-use Rattle.profile_rows.specs.declared.batch.Row.{Row}
+use Rattle.profile_rows.specs.declared.weighted_stacks.WeightedStack.{WeightedStack}
 use Rattle.flame_answers.specs.Answers.{AreRowsIn, IsAnswer, IsInputFault, format_for, value_for}
 use Rattle.flame_answers.specs.Parts.{AppendsBeginning, IsWholeInput, TakesAtMost, TakesExactly}
 use Rattle.flame_answers.specs.Outcomes.{code_of}
@@ -83,7 +83,7 @@ pub record IsEnd (words : List (List ℕ)) (limit : ℕ) (unread left before aft
 -- an input that a request is answered on: within the limit, and with rows for it
 abbrev pub IsAccepted : Request → ℕ → List ℕ → Type 0
 IsAccepted request limit input =
-    (length input ≤ limit) × ((rows : List Row) × AreRowsIn (format_for request) (value_for request) input rows)
+    (length input ≤ limit) × ((rows : List WeightedStack) × AreRowsIn (format_for request) (value_for request) input rows)
 
 -- where the words ask for something, the input alone decides between 0 and 1, but where the streams or memory failed
 abbrev pub InputDecides : List (List ℕ) → ℕ → Option (List ℕ) → ℕ → Type 0

@@ -76,7 +76,7 @@ abbrev pub named_report : Kind → Format → Option Text → Option Text → Op
 named_report kind format value focus ignore =
     if is_name_if_given focus && is_name_if_given ignore
     then asked (Report (record { format = format; value = value })
-    (record { focus = focus; ignore = ignore; kind = kind }))
+    (record { focus = focus; ignore = ignore; value = 0; kind = kind }))
     else misnamed
 
 -- a report of a kind on an input of a format

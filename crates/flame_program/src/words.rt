@@ -113,6 +113,7 @@ fn named_report(
         query: Query {
             focus,
             ignore,
+            value: 0,
             kind,
         },
     })

@@ -5,7 +5,7 @@ use Rattle.std.proofs.lemmas.List.Sums.{common_prefix_len-le}
 use Rattle.std.proofs.lemmas.Bool.{cases_lt}
 use Rattle.std.specs.List.{common_prefix_len}
 use Rattle.std.specs.Ordering.{eq_by_cmp}
-use Rattle.profile_rows.specs.declared.batch.Row.{Row}
+use Rattle.profile_rows.specs.declared.weighted_stacks.WeightedStack.{WeightedStack}
 use Rattle.profile_rows.specs.Paths.{begins_with}
 use Rattle.profile_rows.specs.Names.{name_cmp}
 use Rattle.profile_rows.specs.Rows.{total_of, weight_where}
@@ -13,16 +13,16 @@ use Rattle.flame_report.specs.Sharing.{known_at, stack_at, held_weight, IsAscend
 use Rattle.flame_report.proofs.PathOrder as order
 use Rattle.flame_report.proofs.RowSums.{names_total, names_same, in_order, held_weight-new, weight_where-more, weight_where-same_more, weight_where-take-le}
 
-pub known-le : (rows : List Row) (n : ℕ) → IsAscending rows → n < length rows → known_at rows n ≤ length (stack_at rows n)
+pub known-le : (rows : List WeightedStack) (n : ℕ) → IsAscending rows → n < length rows → known_at rows n ≤ length (stack_at rows n)
 known-le rows zero up h = omega arith
 known-le rows (suc n) up h = omega (arith, order.common_less names_total names_same (stack_at rows n) (stack_at rows (suc n)) (in_order rows n (suc n) up (omega arith) h))
 
-pub known-le-held : (held : List ℕ) (rows : List Row) (n : ℕ) → AreHeld held rows n → known_at rows n ≤ length held
+pub known-le-held : (held : List ℕ) (rows : List WeightedStack) (n : ℕ) → AreHeld held rows n → known_at rows n ≤ length held
 known-le-held held rows zero h = omega arith
 known-le-held held rows (suc n) h = omega (arith, h.0, (common_prefix_len-le (eq_by_cmp name_cmp) (stack_at rows n) (stack_at rows (suc n))).0)
 
 -- the weight above a row's new paths, where the row isn't the first
-pub held_above : (held : List ℕ) (rows : List Row) (n : ℕ) → IsAscending rows → n < length rows → AreHeld held rows n → 0 < known_at rows n → get_or held (known_at rows n - 1) 0 ≡ held_weight rows n (stack_at rows n)
+pub held_above : (held : List ℕ) (rows : List WeightedStack) (n : ℕ) → IsAscending rows → n < length rows → AreHeld held rows n → 0 < known_at rows n → get_or held (known_at rows n - 1) 0 ≡ held_weight rows n (stack_at rows n)
 held_above held rows zero up h is some = absurd (omega arith)
 held_above held rows (suc n) up h is some =
     let shared = common_prefix_len (eq_by_cmp name_cmp) (stack_at rows n) (stack_at rows (suc n)) in
@@ -32,32 +32,32 @@ held_above held rows (suc n) up h is some =
     ∙ ap (held_weight rows (suc n)) (order.take_common names_total names_same (stack_at rows n) (stack_at rows (suc n)))
     ∙ held_weight-new rows (suc n) (common_prefix_len (eq_by_cmp name_cmp) (stack_at rows n) (stack_at rows (suc n))) up h (omega arith)
 
-pub held_above-first : (rows : List Row) (n : ℕ) → known_at rows n ≡ 0 → held_weight rows n (stack_at rows n) ≡ 0
+pub held_above-first : (rows : List WeightedStack) (n : ℕ) → known_at rows n ≡ 0 → held_weight rows n (stack_at rows n) ≡ 0
 held_above-first rows zero e = refl
 held_above-first rows (suc n) e = absurd (omega arith)
 
 -- what two neighbours share
-pub same_take : (rows : List Row) (n e : ℕ) → e < known_at rows (suc n) → take e (stack_at rows n) ≡ take e (stack_at rows (suc n))
+pub same_take : (rows : List WeightedStack) (n e : ℕ) → e < known_at rows (suc n) → take e (stack_at rows n) ≡ take e (stack_at rows (suc n))
 same_take rows n e h =
     let shared = common_prefix_len (eq_by_cmp name_cmp) (stack_at rows n) (stack_at rows (suc n)) in
     sym (take-take e (common_prefix_len (eq_by_cmp name_cmp) (stack_at rows n) (stack_at rows (suc n))) (stack_at rows n) (omega arith))
     ∙ ap (take e) (order.take_common names_total names_same (stack_at rows n) (stack_at rows (suc n)))
     ∙ take-take e (common_prefix_len (eq_by_cmp name_cmp) (stack_at rows n) (stack_at rows (suc n))) (stack_at rows (suc n)) (omega arith)
 
-pub held-kept : (held : List ℕ) (rows : List Row) (n e : ℕ) → AreHeld held rows n → e < known_at rows n → get_or held e 0 ≡ held_weight rows n (take e (stack_at rows n))
+pub held-kept : (held : List ℕ) (rows : List WeightedStack) (n e : ℕ) → AreHeld held rows n → e < known_at rows n → get_or held e 0 ≡ held_weight rows n (take e (stack_at rows n))
 held-kept held rows zero e is h = absurd (omega arith)
 held-kept held rows (suc n) e is h =
     is.1 e (omega (arith, (common_prefix_len-le (eq_by_cmp name_cmp) (stack_at rows n) (stack_at rows (suc n))).0)) ∙ ap (held_weight rows (suc n)) (same_take rows n e h)
 
 -- one more row that is no part of the path
-held-apart : (rows : List Row) (n e : ℕ) → n < length rows → e < length (stack_at rows n) → held_weight rows (suc n) (take e (stack_at rows n)) ≡ held_weight rows n (take e (stack_at rows n))
+held-apart : (rows : List WeightedStack) (n e : ℕ) → n < length rows → e < length (stack_at rows n) → held_weight rows (suc n) (take e (stack_at rows n)) ≡ held_weight rows n (take e (stack_at rows n))
 held-apart rows n e h less =
     let next : suc n ≡ n + 1 = omega arith in
     ap (λ m. held_weight rows m (take e (stack_at rows n))) next
     ∙ weight_where-same_more (λ stack. begins_with name_cmp stack (take e (stack_at rows n))) rows n h
     (order.not_prefix_longer names_total names_same (stack_at rows n) (take e (stack_at rows n)) (omega (arith, length-take-le e (stack_at rows n) (omega arith))))
 
-pub held_more : (held : List ℕ) (rows : List Row) (n above : ℕ) (d : Row) → IsAscending rows → n < length rows → AreHeld held rows n → above ≡ held_weight rows n (stack_at rows n)
+pub held_more : (held : List ℕ) (rows : List WeightedStack) (n above : ℕ) (d : WeightedStack) → IsAscending rows → n < length rows → AreHeld held rows n → above ≡ held_weight rows n (stack_at rows n)
     → AreHeld (take (known_at rows n) held ++ (replicate (length (stack_at rows n) - known_at rows n) above ++ (above + (get_or rows n d).weight) ∷ [])) rows (suc n)
 held_more held rows n above d up h is a =
     let known = known_at rows n in
@@ -85,9 +85,9 @@ held_more held rows n above d up h is a =
       ],
     )
 
-held_total : (rows : List Row) (n : ℕ) (path : List (List ℕ)) → n ≤ length rows → held_weight rows n path ≤ total_of (take n rows)
+held_total : (rows : List WeightedStack) (n : ℕ) (path : List (List ℕ)) → n ≤ length rows → held_weight rows n path ≤ total_of (take n rows)
 held_total rows n path h = subst (λ xs. weight_where (λ stack. begins_with name_cmp stack path) xs ≤ total_of (take n rows)) (take_all n (take n rows) (omega (arith, length-take-le n rows h)))
     (weight_where-take-le (λ stack. begins_with name_cmp stack path) (take n rows) n)
 
-pub held_weight-le : (rows : List Row) (n : ℕ) → n < length rows → held_weight rows n (stack_at rows n) ≤ total_of (take n rows)
+pub held_weight-le : (rows : List WeightedStack) (n : ℕ) → n < length rows → held_weight rows n (stack_at rows n) ≤ total_of (take n rows)
 held_weight-le rows n h = held_total rows n (stack_at rows n) (omega arith)

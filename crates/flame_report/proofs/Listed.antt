@@ -8,7 +8,7 @@ use Rattle.std.proofs.lemmas.Cmp.{eq_by_cmp_equiv}
 use Rattle.std.proofs.lemmas.List.Elements.{All-from_recursion}
 use Rattle.std.proofs.lemmas.List.Kept.{AllPairs-cons}
 use Rattle.std.proofs.lemmas.Map.Views.{Contains-from_any, list_any-from_Contains}
-use Rattle.profile_rows.specs.declared.batch.Row.{Row}
+use Rattle.profile_rows.specs.declared.weighted_stacks.WeightedStack.{WeightedStack}
 use Rattle.profile_rows.specs.Layout.{column_at, is_shown, rectangle_at, rectangles_of}
 use Rattle.profile_rows.specs.Names.{name_cmp}
 use Rattle.profile_rows.specs.Paths.{begins_with, path_start, path_weight, paths_of, prefixes}
@@ -19,7 +19,7 @@ use Rattle.flame_report.proofs.NewPaths.{among-all, begins_row}
 use Rattle.flame_report.proofs.RowSums.{weight_where-cons}
 use Rattle.flame_report.proofs.Spans.{parents_are_shown}
 
-some_row : (rows : List Row) (path : List (List ℕ)) → 0 < path_weight rows path → list_any (begins_row path) (filter (λ row. nat_lt 0 row.weight) rows) ≡ true
+some_row : (rows : List WeightedStack) (path : List (List ℕ)) → 0 < path_weight rows path → list_any (begins_row path) (filter (λ row. nat_lt 0 row.weight) rows) ≡ true
 some_row [] path some = absurd (omega arith)
 some_row (row ∷ rows) path some =
     let cons = weight_where-cons (begins_with name_cmp path) row rows in
@@ -38,7 +38,7 @@ some_row (row ∷ rows) path some =
     at_most true n none = none
     at_most false n none = refl
 
-pub weighty_path : (rows : List Row) (path : List (List ℕ)) → 0 < path_weight rows path → Contains (paths_of rows) path
+pub weighty_path : (rows : List WeightedStack) (path : List (List ℕ)) → 0 < path_weight rows path → Contains (paths_of rows) path
 weighty_path rows path some =
     Contains-from_any {eq = is_same_stack} (λ x y same. same_from_is_same_stack x y same) path (paths_of rows)
     (member-in_order stack_cmp stack_cmp_total stack_cmp_apart path (flat_map (λ row. prefixes row.stack) (filter (λ row. nat_lt 0 row.weight) rows))
@@ -46,7 +46,7 @@ weighty_path rows path some =
 
 -- ---- and a path that is listed weighs something
 
-some_weight : (rows : List Row) (path : List (List ℕ)) → list_any (begins_row path) (filter (λ row. nat_lt 0 row.weight) rows) ≡ true → 0 < path_weight rows path
+some_weight : (rows : List WeightedStack) (path : List (List ℕ)) → list_any (begins_row path) (filter (λ row. nat_lt 0 row.weight) rows) ≡ true → 0 < path_weight rows path
 some_weight [] path some = cc
 some_weight (row ∷ rows) path some =
     let cons = weight_where-cons (begins_with name_cmp path) row rows in
@@ -62,7 +62,7 @@ some_weight (row ∷ rows) path some =
       | false ↦ λ e found. let rest = some_weight rows path found in omega arith
     ] refl some
 
-pub listed_weighs : (rows : List Row) (path : List (List ℕ)) → Contains (paths_of rows) path → 0 < path_weight rows path
+pub listed_weighs : (rows : List WeightedStack) (path : List (List ℕ)) → Contains (paths_of rows) path → 0 < path_weight rows path
 listed_weighs rows path found =
     some_weight rows path
     (sym (among-all path (filter (λ row. nat_lt 0 row.weight) rows))
@@ -76,7 +76,7 @@ in_pairs [] up = λ i j d lt short. absurd (omega arith)
 in_pairs (path ∷ paths) up =
     AllPairs-cons (λ a b. stack_cmp a b ≡ Less) path paths (All-from_recursion (λ after. stack_cmp path after ≡ Less) paths up.0) (in_pairs paths up.1)
 
-pub paths_ascend : (rows : List Row) → AllPairs (λ a b. stack_cmp a b ≡ Less) (paths_of rows)
+pub paths_ascend : (rows : List WeightedStack) → AllPairs (λ a b. stack_cmp a b ≡ Less) (paths_of rows)
 paths_ascend rows =
     in_pairs (paths_of rows)
     (in_order-Rises stack_cmp stack_cmp_total stack_cmp_apart (flat_map (λ row. prefixes row.stack) (filter (λ row. nat_lt 0 row.weight) rows)))
@@ -89,11 +89,11 @@ filter-map test f (y ∷ ys) =
       | false ↦ filter-map test f ys
     ]
 
-pub drawn_in_order : (columns : ℕ) (rows : List Row)
+pub drawn_in_order : (columns : ℕ) (rows : List WeightedStack)
     → rectangles_of columns rows ≡ map (rectangle_at columns rows) (filter (λ path. is_shown (rectangle_at columns rows path)) (paths_of rows))
 drawn_in_order columns rows = filter-map is_shown (rectangle_at columns rows) (paths_of rows)
 
-wide_weighs : (columns : ℕ) (rows : List Row) (path : List (List ℕ)) → is_shown (rectangle_at columns rows path) ≡ true → 0 < path_weight rows path
+wide_weighs : (columns : ℕ) (rows : List WeightedStack) (path : List (List ℕ)) → is_shown (rectangle_at columns rows path) ≡ true → 0 < path_weight rows path
 wide_weighs columns rows path wide =
     let apart = ltb-true _ _ wide in
     elim (nat_lt 0 (path_weight rows path)) as (λ b. nat_lt 0 (path_weight rows path) ≡ b → 0 < path_weight rows path) [
@@ -134,10 +134,10 @@ passes test (y ∷ xs) x found =
     step e (zero, lt, is) after = ap test (sym is) ∙ e
     step e (suc k, lt, is) after = after (k, (let low : k < length (filter test xs) = omega arith in low), is)
 
-pub shown_listed : (columns : ℕ) (rows : List Row) (path : List (List ℕ)) → is_shown (rectangle_at columns rows path) ≡ true → Contains (rectangles_of columns rows) (rectangle_at columns rows path)
+pub shown_listed : (columns : ℕ) (rows : List WeightedStack) (path : List (List ℕ)) → is_shown (rectangle_at columns rows path) ≡ true → Contains (rectangles_of columns rows) (rectangle_at columns rows path)
 shown_listed columns rows path wide = kept is_shown (rectangle_at columns rows) (paths_of rows) path (weighty_path rows path (wide_weighs columns rows path wide)) wide
 
-pub parents_listed : (columns : ℕ) (rows : List Row) (path rest : List (List ℕ)) → Contains (rectangles_of columns rows) (rectangle_at columns rows (path ++ rest))
+pub parents_listed : (columns : ℕ) (rows : List WeightedStack) (path rest : List (List ℕ)) → Contains (rectangles_of columns rows) (rectangle_at columns rows (path ++ rest))
     → Contains (rectangles_of columns rows) (rectangle_at columns rows path)
 parents_listed columns rows path rest found =
     shown_listed columns rows path (parents_are_shown columns rows path rest (passes is_shown (map (rectangle_at columns rows) (paths_of rows)) (rectangle_at columns rows (path ++ rest)) found))

@@ -3,14 +3,14 @@ use Rattle.std.proofs.Common.{ℕ, ◌≡◌, ◌<◌, ◌≤◌, ◌+◌, List,
 use Rattle.std.proofs.lemmas.Bool.{cases_Bool, both_ways}
 use Rattle.std.proofs.lemmas.List.{take-take, take-append-drop}
 use Rattle.std.proofs.Common.{inl, inr}
-use Rattle.profile_rows.specs.declared.batch.Row.{Row}
+use Rattle.profile_rows.specs.declared.weighted_stacks.WeightedStack.{WeightedStack}
 use Rattle.profile_rows.specs.Layout.{is_shown, last_name, rectangle_at}
 use Rattle.profile_rows.specs.Paths.{prefixes}
 use Rattle.flame_report.specs.Sharing.{shown_of}
 use Rattle.flame_report.proofs.Prefixes.{drop-prefixes_more, drop-prefixes_all, shown_of-no}
 use Rattle.flame_report.proofs.Spans.{parents_are_shown}
 
-longer_hidden : (columns : ℕ) (rows : List Row) (stack : List (List ℕ)) (n k : ℕ) → n ≤ k → is_shown (rectangle_at columns rows (take n stack)) ≡ false
+longer_hidden : (columns : ℕ) (rows : List WeightedStack) (stack : List (List ℕ)) (n k : ℕ) → n ≤ k → is_shown (rectangle_at columns rows (take n stack)) ≡ false
     → is_shown (rectangle_at columns rows (take k stack)) ≡ false
 longer_hidden columns rows stack n k le hidden =
     let front : take n stack ++ drop n (take k stack) ≡ take k stack = ap (λ path. path ++ drop n (take k stack)) (sym (take-take n k stack le)) ∙ take-append-drop n (take k stack) in
@@ -19,7 +19,7 @@ longer_hidden columns rows stack n k le hidden =
       | inr narrow ↦ narrow
     ]
 
-none_from : (columns : ℕ) (rows : List Row) (stack : List (List ℕ)) (n k more : ℕ) → n ≤ k → k + more ≡ length stack + 1 → is_shown (rectangle_at columns rows (take n stack)) ≡ false
+none_from : (columns : ℕ) (rows : List WeightedStack) (stack : List (List ℕ)) (n k more : ℕ) → n ≤ k → k + more ≡ length stack + 1 → is_shown (rectangle_at columns rows (take n stack)) ≡ false
     → shown_of columns rows (drop k (prefixes stack)) ≡ []
 none_from columns rows stack n k zero le end hidden = ap (shown_of columns rows) (drop-prefixes_all stack k (omega arith))
 none_from columns rows stack n k (suc more) le end hidden =
@@ -27,7 +27,7 @@ none_from columns rows stack n k (suc more) le end hidden =
     ∙ shown_of-no columns rows (take k stack) (drop (k + 1) (prefixes stack)) (longer_hidden columns rows stack n k le hidden)
     ∙ none_from columns rows stack n (k + 1) more (omega arith) (omega arith) hidden
 
-pub none_below : (columns : ℕ) (rows : List Row) (stack : List (List ℕ)) (n more : ℕ) → n + more ≡ length stack + 1 → is_shown (rectangle_at columns rows (take n stack)) ≡ false
+pub none_below : (columns : ℕ) (rows : List WeightedStack) (stack : List (List ℕ)) (n more : ℕ) → n + more ≡ length stack + 1 → is_shown (rectangle_at columns rows (take n stack)) ≡ false
     → shown_of columns rows (drop n (prefixes stack)) ≡ []
 none_below columns rows stack n more end hidden = none_from columns rows stack n n more (omega arith) end hidden
 

@@ -13,7 +13,7 @@ use Rattle.std.proofs.lemmas.List.{drop-map, take_all, get_or-take, length-take-
 use Rattle.std.proofs.Math.Seq.{take-suc}
 use Rattle.std.proofs.lemmas.Cmp.{tied_itself}
 use Rattle.flame_report.proofs.Prefixes.{get_or-prefixes, length-prefixes}
-use Rattle.profile_rows.specs.declared.batch.Row.{Row}
+use Rattle.profile_rows.specs.declared.weighted_stacks.WeightedStack.{WeightedStack}
 use Rattle.profile_rows.specs.Paths.{prefixes, begins_with}
 use Rattle.profile_rows.specs.Names.{name_cmp}
 use Rattle.profile_rows.specs.Rows.{stack_cmp}
@@ -78,15 +78,15 @@ among-rest q zero ps a = a
 among-rest q (suc k) [] a = a
 among-rest q (suc k) (p ∷ ps) a = among-rest q k ps (or_parts (eq_by_cmp stack_cmp q p) (is_among q ps) a).1
 
-abbrev pub begins_row : Path → Row → Bool
+abbrev pub begins_row : Path → WeightedStack → Bool
 begins_row q row = begins_with name_cmp q row.stack
 
-any-append : (q : Path) (xs ys : List Row) → list_any (begins_row q) (xs ++ ys) ≡ (list_any (begins_row q) xs || list_any (begins_row q) ys)
+any-append : (q : Path) (xs ys : List WeightedStack) → list_any (begins_row q) (xs ++ ys) ≡ (list_any (begins_row q) xs || list_any (begins_row q) ys)
 any-append q [] ys = refl
 any-append q (x ∷ xs) ys =
     elim (begins_row q x) as (λ b. (b || list_any (begins_row q) (xs ++ ys)) ≡ ((b || list_any (begins_row q) xs) || list_any (begins_row q) ys)) [ true ↦ refl | false ↦ any-append q xs ys ]
 
-any-at : (q : Path) (rows : List Row) (k : ℕ) (d : Row) → k < length rows → begins_row q (get_or rows k d) ≡ true → list_any (begins_row q) rows ≡ true
+any-at : (q : Path) (rows : List WeightedStack) (k : ℕ) (d : WeightedStack) → k < length rows → begins_row q (get_or rows k d) ≡ true → list_any (begins_row q) rows ≡ true
 any-at q [] k d h a = absurd (omega arith)
 any-at q (row ∷ rows) zero d h a = rw a refl
 any-at q (row ∷ rows) (suc k) d h a =
@@ -98,28 +98,28 @@ same_or true d p f g = refl
 same_or false d true f g = elim (g refl) [ inl e ↦ e | inr e ↦ cc ]
 same_or false d false f g = f refl
 
-known_part : (rows : List Row) (n : ℕ) (q : Path) → begins_with name_cmp q (stack_at rows (suc n)) ≡ true → length q < known_at rows (suc n) → begins_with name_cmp q (stack_at rows n) ≡ true
+known_part : (rows : List WeightedStack) (n : ℕ) (q : Path) → begins_with name_cmp q (stack_at rows (suc n)) ≡ true → length q < known_at rows (suc n) → begins_with name_cmp q (stack_at rows n) ≡ true
 known_part rows n q a h =
     subst (λ p. begins_with name_cmp p (stack_at rows n) ≡ true) (same_take rows n (length q) h ∙ order.take_prefix names_total names_same q (stack_at rows (suc n)) a)
     (order.take_begins_with names_total names_same (length q) (stack_at rows n))
 
-new_or_known : (rows : List Row) (n : ℕ) (q : Path) → n < length rows → begins_with name_cmp q (stack_at rows n) ≡ true
+new_or_known : (rows : List WeightedStack) (n : ℕ) (q : Path) → n < length rows → begins_with name_cmp q (stack_at rows n) ≡ true
     → (is_among q (drop (known_at rows n) (prefixes (stack_at rows n))) ≡ true) ⊎ (list_any (begins_row q) (take n rows) ≡ true)
 new_or_known rows zero q h a = inl (among-prefixes q (stack_at rows zero) ∙ a)
 new_or_known rows (suc n) q h a = elim (cases_lt (length q) (known_at rows (suc n))) [
   | inl short ↦
-      let d : Row = record { stack = []; weight = 0 } in
+      let d : WeightedStack = record { stack = []; weight = 0 } in
       let part = known_part rows n q a short in
       let part' : begins_with name_cmp q (get_or rows n d).stack ≡ true = subst (λ t. begins_with name_cmp q t ≡ true) (stack_at-get rows n d (omega arith)) part in
       inr (any-at q (take (suc n) rows) n d (omega (arith, length-take-le (suc n) rows (omega arith)))
-      (subst (λ (r : Row). begins_row q r ≡ true) (sym (get_or-take (suc n) rows n d (omega arith))) part'))
+      (subst (λ (r : WeightedStack). begins_row q r ≡ true) (sym (get_or-take (suc n) rows n d (omega arith))) part'))
   | inr long ↦ inl (among-drop (known_at rows (suc n)) q (stack_at rows (suc n)) a long)
 ]
 
-among-until : (rows : List Row) (n : ℕ) (q : Path) → n ≤ length rows → is_among q (paths_until rows n) ≡ list_any (begins_row q) (take n rows)
+among-until : (rows : List WeightedStack) (n : ℕ) (q : Path) → n ≤ length rows → is_among q (paths_until rows n) ≡ list_any (begins_row q) (take n rows)
 among-until rows zero q h = refl
 among-until rows (suc n) q h =
-    let d : Row = record { stack = []; weight = 0 } in
+    let d : WeightedStack = record { stack = []; weight = 0 } in
     let more : take (suc n) rows ≡ take n rows ++ get_or rows n d ∷ [] = take-suc rows n d (omega arith) in
     let own : stack_at rows n ≡ (get_or rows n d).stack = stack_at-get rows n d (omega arith) in
     let before = among-until rows n q (omega arith) in
@@ -130,7 +130,7 @@ among-until rows (suc n) q h =
     ∙ ap (λ t. list_any (begins_row q) (take n rows) || (begins_with name_cmp q t || false)) own
     ∙ sym (any-append q (take n rows) (get_or rows n d ∷ [])) ∙ ap (list_any (begins_row q)) (sym more)
 
-pub among-all : (q : Path) (rows : List Row) → is_among q (flat_map (λ row. prefixes row.stack) rows) ≡ list_any (begins_row q) rows
+pub among-all : (q : Path) (rows : List WeightedStack) → is_among q (flat_map (λ row. prefixes row.stack) rows) ≡ list_any (begins_row q) rows
 among-all q [] = refl
 among-all q (row ∷ rows) = among-append q (prefixes row.stack) (flat_map (λ r. prefixes r.stack) rows) ∙ (λ i. among-prefixes q row.stack i || among-all q rows i)
 
@@ -181,10 +181,10 @@ Rising-prefixes [] = (tt, tt)
 Rising-prefixes (f ∷ s) = (each-longer f (prefixes s), Rising-map f (prefixes s) (Rising-prefixes s))
 
 -- the paths so far begin earlier rows
-abbrev BeginsEarlier : List Row → ℕ → Path → Type 0
+abbrev BeginsEarlier : List WeightedStack → ℕ → Path → Type 0
 BeginsEarlier rows n p = (j : ℕ) × (j < n) × (begins_with name_cmp p (stack_at rows j) ≡ true)
 
-until-begins : (rows : List Row) (n : ℕ) → AllByRecursion (BeginsEarlier rows n) (paths_until rows n)
+until-begins : (rows : List WeightedStack) (n : ℕ) → AllByRecursion (BeginsEarlier rows n) (paths_until rows n)
 until-begins rows zero = tt
 until-begins rows (suc n) =
     each-append (BeginsEarlier rows (suc n)) (paths_until rows n) (drop (known_at rows n) (prefixes (stack_at rows n)))
@@ -192,7 +192,7 @@ until-begins rows (suc n) =
     (each-drop (BeginsEarlier rows (suc n)) (known_at rows n) (prefixes (stack_at rows n)) (each-at (BeginsEarlier rows (suc n)) (prefixes (stack_at rows n)) (λ k h.
     (n, (let l : n < suc n = omega arith in l), subst (λ p. begins_with name_cmp p (stack_at rows n) ≡ true) (sym (get_or-prefixes (stack_at rows n) k [] (omega (arith, length-prefixes (stack_at rows n))))) (order.take_begins_with names_total names_same k (stack_at rows n))))))
 
-Rising-until : (rows : List Row) (n : ℕ) → IsAscending rows → n ≤ length rows → Rising (paths_until rows n)
+Rising-until : (rows : List WeightedStack) (n : ℕ) → IsAscending rows → n ≤ length rows → Rising (paths_until rows n)
 Rising-until rows zero up h = tt
 Rising-until rows (suc n) up h =
     Rising-append (paths_until rows n) (drop (known_at rows n) (prefixes (stack_at rows n))) (Rising-until rows n up (omega arith)) (Rising-drop (known_at rows n) _ (Rising-prefixes (stack_at rows n)))
@@ -206,14 +206,14 @@ Rising-until rows (suc n) up h =
     (new_path-first rows n (known_at rows n + k) up (omega arith) (omega arith) deep b.0 b.1))))
     (until-begins rows n))
 
-weighty : (rows : List Row) → AreWeighty rows → filter (λ row. nat_lt 0 row.weight) rows ≡ rows
+weighty : (rows : List WeightedStack) → AreWeighty rows → filter (λ row. nat_lt 0 row.weight) rows ≡ rows
 weighty [] all = refl
 weighty (row ∷ rows) all =
     let here : nat_lt 0 row.weight ≡ true = lt-ltb 0 row.weight (all 0 row (omega arith)) in
     let rest : filter (λ row. nat_lt 0 row.weight) rows ≡ rows = weighty rows (λ k d h. all (suc k) d (omega arith)) in
     rw here (ap (λ more. row ∷ more) rest)
 
-pub paths_until-whole : (rows : List Row) → IsAscending rows → AreWeighty rows → paths_until rows (length rows) ≡ paths_of rows
+pub paths_until-whole : (rows : List WeightedStack) → IsAscending rows → AreWeighty rows → paths_until rows (length rows) ≡ paths_of rows
 paths_until-whole rows up all =
     same_members stack_cmp stack_cmp_total stack_cmp_apart (paths_until rows (length rows)) (paths_of rows)
     (Rising-until rows (length rows) up (omega arith))

@@ -5,7 +5,7 @@ use Rattle.flame_report.specs.Sharing.{shown_of}
 use Rattle.std.proofs.lemmas.List.{append_assoc, map-append, length-map, get_or-map, drop_more, drop_all}
 use Rattle.std.proofs.lemmas.List.Sums.{common_prefix_len-le}
 use Rattle.std.specs.Ordering.{eq_by_cmp}
-use Rattle.profile_rows.specs.declared.batch.Row.{Row}
+use Rattle.profile_rows.specs.declared.weighted_stacks.WeightedStack.{WeightedStack}
 use Rattle.profile_rows.specs.Paths.{prefixes}
 use Rattle.profile_rows.specs.Names.{name_cmp}
 use Rattle.flame_report.specs.Sharing.{known_at, stack_at}
@@ -26,14 +26,14 @@ drop-prefixes_more s n h = drop_more (prefixes s) n [] (omega (arith, length-pre
 pub drop-prefixes_all : {K : Type 0} (s : List K) (n : ℕ) → length s < n → drop n (prefixes s) ≡ []
 drop-prefixes_all s n h = drop_all n (prefixes s) (omega (arith, length-prefixes s))
 
-pub known_at-le : (rows : List Row) (i : ℕ) → known_at rows i ≤ length (stack_at rows i) + 1
+pub known_at-le : (rows : List WeightedStack) (i : ℕ) → known_at rows i ≤ length (stack_at rows i) + 1
 known_at-le rows zero = omega arith
 known_at-le rows (suc i) = omega (arith, (common_prefix_len-le (eq_by_cmp name_cmp) (stack_at rows i) (stack_at rows (suc i))).1)
 
-pub shown_of-yes : (columns : ℕ) (rows : List Row) (path : List (List ℕ)) (paths : List (List (List ℕ))) → is_shown (rectangle_at columns rows path) ≡ true → shown_of columns rows (path ∷ paths) ≡ rectangle_at columns rows path ∷ shown_of columns rows paths
+pub shown_of-yes : (columns : ℕ) (rows : List WeightedStack) (path : List (List ℕ)) (paths : List (List (List ℕ))) → is_shown (rectangle_at columns rows path) ≡ true → shown_of columns rows (path ∷ paths) ≡ rectangle_at columns rows path ∷ shown_of columns rows paths
 shown_of-yes columns rows path paths wide = rw wide refl
 
-pub shown_of-no : (columns : ℕ) (rows : List Row) (path : List (List ℕ)) (paths : List (List (List ℕ))) → is_shown (rectangle_at columns rows path) ≡ false → shown_of columns rows (path ∷ paths) ≡ shown_of columns rows paths
+pub shown_of-no : (columns : ℕ) (rows : List WeightedStack) (path : List (List ℕ)) (paths : List (List (List ℕ))) → is_shown (rectangle_at columns rows path) ≡ false → shown_of columns rows (path ∷ paths) ≡ shown_of columns rows paths
 shown_of-no columns rows path paths narrow = rw narrow refl
 
 pub one_put : {X : Type 0} (old S S' R : List X) (r : X) → S ≡ r ∷ S' → old ++ S ≡ R → (old ++ r ∷ []) ++ S' ≡ R
@@ -47,5 +47,5 @@ filter-append p (x ∷ xs) ys =
       | false ↦ filter-append p xs ys
     ]
 
-pub shown_of-append : (columns : ℕ) (rows : List Row) (ps qs : List (List (List ℕ))) → shown_of columns rows (ps ++ qs) ≡ shown_of columns rows ps ++ shown_of columns rows qs
+pub shown_of-append : (columns : ℕ) (rows : List WeightedStack) (ps qs : List (List (List ℕ))) → shown_of columns rows (ps ++ qs) ≡ shown_of columns rows ps ++ shown_of columns rows qs
 shown_of-append columns rows ps qs = ap (filter is_shown) (map-append (rectangle_at columns rows) ps qs) ∙ filter-append is_shown (map (rectangle_at columns rows) ps) (map (rectangle_at columns rows) qs)

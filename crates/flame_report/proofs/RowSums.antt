@@ -9,7 +9,7 @@ use Rattle.std.specs.List.{common_prefix_len}
 use Rattle.std.proofs.lemmas.List.Sums.{sum_by-cons, sum_by-take-drop, sum_by_more, sum_by-take-le}
 use Rattle.std.proofs.lemmas.Bool.{cases_Bool, both_ways, cases_eq}
 use Rattle.std.proofs.lemmas.List.{length-take, get_or-map, get_or_default, get_or-drop, length-drop, get_or-take, length-take-le}
-use Rattle.profile_rows.specs.declared.batch.Row.{Row}
+use Rattle.profile_rows.specs.declared.weighted_stacks.WeightedStack.{WeightedStack}
 use Rattle.profile_rows.specs.Paths.{begins_with, lies_left_of}
 use Rattle.profile_rows.specs.Names.{name_cmp}
 use Rattle.profile_rows.specs.Rows.{stack_cmp, weight_where, total_of}
@@ -27,17 +27,17 @@ names_same = slice_cmp-IsAntisymmetric nat_cmp-IsAntisymmetric
 pub stacks_total : IsTotalOrder stack_cmp
 stacks_total = lists_total names_total
 
-pub weight_where-cons : (test : List (List ℕ) → Bool) (row : Row) (rows : List Row) → weight_where test (row ∷ rows) ≡ cond (test row.stack) row.weight 0 + weight_where test rows
+pub weight_where-cons : (test : List (List ℕ) → Bool) (row : WeightedStack) (rows : List WeightedStack) → weight_where test (row ∷ rows) ≡ cond (test row.stack) row.weight 0 + weight_where test rows
 weight_where-cons test row rows = sum_by-cons (λ r. cond (test r.stack) r.weight 0) row rows
 
-pub weight_where-none : (test : List (List ℕ) → Bool) (rows : List Row) → ((k : ℕ) (d : Row) → k < length rows → test (get_or rows k d).stack ≡ false) → weight_where test rows ≡ 0
+pub weight_where-none : (test : List (List ℕ) → Bool) (rows : List WeightedStack) → ((k : ℕ) (d : WeightedStack) → k < length rows → test (get_or rows k d).stack ≡ false) → weight_where test rows ≡ 0
 weight_where-none test [] none = refl
 weight_where-none test (row ∷ rows) none =
     let here : test row.stack ≡ false = none 0 row (omega arith) in
     let rest : weight_where test rows ≡ 0 = weight_where-none test rows (λ k d h. none (suc k) d (omega arith)) in
     weight_where-cons test row rows ∙ rw (here, rest) refl
 
-pub weight_where-same : (test other : List (List ℕ) → Bool) (rows : List Row) → ((k : ℕ) (d : Row) → k < length rows → test (get_or rows k d).stack ≡ other (get_or rows k d).stack) → weight_where test rows ≡ weight_where other rows
+pub weight_where-same : (test other : List (List ℕ) → Bool) (rows : List WeightedStack) → ((k : ℕ) (d : WeightedStack) → k < length rows → test (get_or rows k d).stack ≡ other (get_or rows k d).stack) → weight_where test rows ≡ weight_where other rows
 weight_where-same test other [] alike = refl
 weight_where-same test other (row ∷ rows) alike =
     let here : test row.stack ≡ other row.stack = alike 0 row (omega arith) in
@@ -48,7 +48,7 @@ split_weight : (b : Bool) (w a c t : ℕ) → a + c ≡ t → (cond (not b) w 0 
 split_weight true w a c t e = omega arith
 split_weight false w a c t e = omega arith
 
-pub weight_where-not : (test : List (List ℕ) → Bool) (rows : List Row) → weight_where (λ s. not (test s)) rows + weight_where test rows ≡ total_of rows
+pub weight_where-not : (test : List (List ℕ) → Bool) (rows : List WeightedStack) → weight_where (λ s. not (test s)) rows + weight_where test rows ≡ total_of rows
 weight_where-not test [] = refl
 weight_where-not test (row ∷ rows) =
     rw (weight_where-cons (λ s. not (test s)) row rows, weight_where-cons test row rows, sum_by-cons (λ r. r.weight) row rows)
@@ -58,22 +58,22 @@ is_false : (b : Bool) → (b ≡ true → ⊥) → b ≡ false
 is_false true h = absurd (h refl)
 is_false false h = refl
 
-abbrev stack_of : List Row → ℕ → Row → List (List ℕ)
+abbrev stack_of : List WeightedStack → ℕ → WeightedStack → List (List ℕ)
 stack_of rows k d = (get_or rows k d).stack
 
 -- of two rows the later one stands after the earlier one, or is it
-in_drop : (rows : List Row) (j k : ℕ) (d e : Row) → k < length (drop j rows) → (j + k < length rows) × ((get_or (drop j rows) k e).stack ≡ stack_of rows (j + k) d)
+in_drop : (rows : List WeightedStack) (j k : ℕ) (d e : WeightedStack) → k < length (drop j rows) → (j + k < length rows) × ((get_or (drop j rows) k e).stack ≡ stack_of rows (j + k) d)
 in_drop rows j k d e l =
     let inside : j + k < length rows = omega (arith, length-drop j rows) in
     (inside, ap (λ r. r.stack) (get_or-drop j rows k e ∙ get_or_default rows (j + k) e d inside))
 
-in_take : (rows : List Row) (i k : ℕ) (d e : Row) → i ≤ length rows → k < length (take i rows) → (k < i) × ((get_or (take i rows) k e).stack ≡ stack_of rows k d)
+in_take : (rows : List WeightedStack) (i k : ℕ) (d e : WeightedStack) → i ≤ length rows → k < length (take i rows) → (k < i) × ((get_or (take i rows) k e).stack ≡ stack_of rows k d)
 in_take rows i k d e fits l =
     let below : k < i = omega (arith, length-take-le i rows fits) in
     (below, ap (λ r. r.stack) (get_or-take i rows k e below ∙ get_or_default rows k e d (omega arith)))
 
 -- after the last row of a path comes no other
-pub no_more_rows : (rows : List Row) (path : List (List ℕ)) (i j : ℕ) (d : Row) → IsAscending rows → i < j → j < length rows → begins_with name_cmp path (stack_of rows i d) ≡ true
+pub no_more_rows : (rows : List WeightedStack) (path : List (List ℕ)) (i j : ℕ) (d : WeightedStack) → IsAscending rows → i < j → j < length rows → begins_with name_cmp path (stack_of rows i d) ≡ true
     → begins_with name_cmp path (stack_of rows j d) ≡ false → weight_where (begins_with name_cmp path) (drop j rows) ≡ 0
 no_more_rows rows path i j d up h inside here gone =
     weight_where-none (begins_with name_cmp path) (drop j rows) (λ k e l.
@@ -86,7 +86,7 @@ no_more_rows rows path i j d up h inside here gone =
     ]))
 
 -- before the first row of a path comes none
-pub no_earlier_rows : (rows : List Row) (path : List (List ℕ)) (i : ℕ) (d : Row) → IsAscending rows → i + 1 < length rows → begins_with name_cmp path (stack_of rows (i + 1) d) ≡ true
+pub no_earlier_rows : (rows : List WeightedStack) (path : List (List ℕ)) (i : ℕ) (d : WeightedStack) → IsAscending rows → i + 1 < length rows → begins_with name_cmp path (stack_of rows (i + 1) d) ≡ true
     → begins_with name_cmp path (stack_of rows i d) ≡ false → (k : ℕ) → k < i + 1 → begins_with name_cmp path (stack_of rows k d) ≡ false
 no_earlier_rows rows path i d up inside here gone k h =
     is_false _ (λ there. elim (cases_eq k i) [
@@ -95,7 +95,7 @@ no_earlier_rows rows path i d up inside here gone k h =
     ])
 
 -- a path begins where the rows before its first one end, but for the rows whose stacks are parts of it
-pub path_start-first : (rows : List Row) (path : List (List ℕ)) (i : ℕ) (d : Row) → IsAscending rows → i < length rows → begins_with name_cmp path (stack_of rows i d) ≡ true
+pub path_start-first : (rows : List WeightedStack) (path : List (List ℕ)) (i : ℕ) (d : WeightedStack) → IsAscending rows → i < length rows → begins_with name_cmp path (stack_of rows i d) ≡ true
     → ((k : ℕ) → k < i → begins_with name_cmp path (stack_of rows k d) ≡ false)
     → path_start rows path + weight_where (λ s. begins_with name_cmp s path) (take i rows) ≡ total_of (take i rows)
 path_start-first rows path i d up inside here none =
@@ -117,31 +117,31 @@ path_start-first rows path i d up inside here none =
     let parts = weight_where-not (λ s. begins_with name_cmp s path) (take i rows) in
     omega (arith, left, right, whole, parts)
 
-pub stack_at-get : (rows : List Row) (k : ℕ) (d : Row) → k < length rows → stack_at rows k ≡ stack_of rows k d
+pub stack_at-get : (rows : List WeightedStack) (k : ℕ) (d : WeightedStack) → k < length rows → stack_at rows k ≡ stack_of rows k d
 stack_at-get rows k d h = get_or-map (λ row. row.stack) rows k d [] h
 
-pub weight_where-take-le : (test : List (List ℕ) → Bool) (rows : List Row) (n : ℕ) → weight_where test (take n rows) ≤ total_of rows
+pub weight_where-take-le : (test : List (List ℕ) → Bool) (rows : List WeightedStack) (n : ℕ) → weight_where test (take n rows) ≤ total_of rows
 weight_where-take-le test rows n =
     let kept = weight_where-le-total test (take n rows) in
-    let front = sum_by-take-le (λ (r : Row). r.weight) rows n in
+    let front = sum_by-take-le (λ (r : WeightedStack). r.weight) rows n in
     omega (arith, kept, front)
 
 -- one more row that passes, and one more that doesn't
-pub weight_where-more : (test : List (List ℕ) → Bool) (rows : List Row) (i : ℕ) (d : Row) → i < length rows → test (stack_at rows i) ≡ true → weight_where test (take (i + 1) rows) ≡ weight_where test (take i rows) + (get_or rows i d).weight
+pub weight_where-more : (test : List (List ℕ) → Bool) (rows : List WeightedStack) (i : ℕ) (d : WeightedStack) → i < length rows → test (stack_at rows i) ≡ true → weight_where test (take (i + 1) rows) ≡ weight_where test (take i rows) + (get_or rows i d).weight
 weight_where-more test rows i d h passes =
     let yes' : test (stack_of rows i d) ≡ true = subst (λ s. test s ≡ true) (stack_at-get rows i d h) passes in
     sum_by_more (λ r. cond (test r.stack) r.weight 0) rows i d h ∙ rw yes' refl
 
-pub weight_where-same_more : (test : List (List ℕ) → Bool) (rows : List Row) (i : ℕ) → i < length rows → test (stack_at rows i) ≡ false → weight_where test (take (i + 1) rows) ≡ weight_where test (take i rows)
+pub weight_where-same_more : (test : List (List ℕ) → Bool) (rows : List WeightedStack) (i : ℕ) → i < length rows → test (stack_at rows i) ≡ false → weight_where test (take (i + 1) rows) ≡ weight_where test (take i rows)
 weight_where-same_more test rows i h fails =
-    let d : Row = record { stack = []; weight = 0 } in
+    let d : WeightedStack = record { stack = []; weight = 0 } in
     let no' : test (stack_of rows i d) ≡ false = subst (λ s. test s ≡ false) (stack_at-get rows i d h) fails in
     let more = sum_by_more (λ r. cond (test r.stack) r.weight 0) rows i d h in
     let none : cond (test (stack_of rows i d)) (get_or rows i d).weight 0 ≡ 0 = rw no' refl in
     omega (arith, more, none)
 
 -- the first row of a group
-pub group_first : (rows : List Row) (path : List (List ℕ)) (i : ℕ) (d : Row) → i < length rows → begins_with name_cmp path (stack_at rows i) ≡ true
+pub group_first : (rows : List WeightedStack) (path : List (List ℕ)) (i : ℕ) (d : WeightedStack) → i < length rows → begins_with name_cmp path (stack_at rows i) ≡ true
     → ((k : ℕ) → k < i → begins_with name_cmp path (stack_at rows k) ≡ false) → weight_where (begins_with name_cmp path) (take (i + 1) rows) ≡ (get_or rows i d).weight
 group_first rows path i d h here none =
     let before : weight_where (begins_with name_cmp path) (take i rows) ≡ 0 =
@@ -152,7 +152,7 @@ group_first rows path i d h here none =
     omega (arith, before, more)
 
 -- the row after one of a group is of the group where it shares enough
-pub group_next : (rows : List Row) (path : List (List ℕ)) (i : ℕ) → begins_with name_cmp path (stack_at rows i) ≡ true → length path < shared_paths (stack_at rows i) (stack_at rows (i + 1))
+pub group_next : (rows : List WeightedStack) (path : List (List ℕ)) (i : ℕ) → begins_with name_cmp path (stack_at rows i) ≡ true → length path < shared_paths (stack_at rows i) (stack_at rows (i + 1))
     → begins_with name_cmp path (stack_at rows (i + 1)) ≡ true
 group_next rows path i here h =
     let e = order.take_prefix names_total names_same path (stack_at rows i) here in
@@ -161,10 +161,10 @@ group_next rows path i here h =
     (order.prefix-take_yes names_total names_same (length path) (stack_at rows i) (stack_at rows (i + 1)) (omega (arith, l, length-take (length path) (stack_at rows i))) (omega (arith, h)))
 
 -- the rows from one on that isn't of the group add nothing
-pub group_whole : (rows : List Row) (path : List (List ℕ)) (i : ℕ) → IsAscending rows → i + 1 < length rows → begins_with name_cmp path (stack_at rows i) ≡ true
+pub group_whole : (rows : List WeightedStack) (path : List (List ℕ)) (i : ℕ) → IsAscending rows → i + 1 < length rows → begins_with name_cmp path (stack_at rows i) ≡ true
     → begins_with name_cmp path (stack_at rows (i + 1)) ≡ false → weight_where (begins_with name_cmp path) (take (i + 1) rows) ≡ path_weight rows path
 group_whole rows path i up h here gone =
-    let d : Row = record { stack = []; weight = 0 } in
+    let d : WeightedStack = record { stack = []; weight = 0 } in
     let here' : begins_with name_cmp path (stack_of rows i d) ≡ true = subst (λ s. begins_with name_cmp path s ≡ true) (stack_at-get rows i d (omega arith)) here in
     let gone' : begins_with name_cmp path (stack_of rows (i + 1) d) ≡ false = subst (λ s. begins_with name_cmp path s ≡ false) (stack_at-get rows (i + 1) d h) gone in
     let rest = no_more_rows rows path i (i + 1) d up (omega arith) h here' gone' in
@@ -173,7 +173,7 @@ group_whole rows path i up h here gone =
     omega (arith, rest, whole)
 
 -- the row after one of a group isn't of the group where it shares too little
-pub group_ends : (rows : List Row) (path : List (List ℕ)) (i : ℕ) → begins_with name_cmp path (stack_at rows i) ≡ true → shared_paths (stack_at rows i) (stack_at rows (i + 1)) ≤ length path
+pub group_ends : (rows : List WeightedStack) (path : List (List ℕ)) (i : ℕ) → begins_with name_cmp path (stack_at rows i) ≡ true → shared_paths (stack_at rows i) (stack_at rows (i + 1)) ≤ length path
     → begins_with name_cmp path (stack_at rows (i + 1)) ≡ false
 group_ends rows path i here h =
     let e = order.take_prefix names_total names_same path (stack_at rows i) here in
@@ -181,26 +181,26 @@ group_ends rows path i here h =
     subst (λ p. begins_with name_cmp p (stack_at rows (i + 1)) ≡ false) e
     (order.prefix-take_no names_total names_same (length path) (stack_at rows i) (stack_at rows (i + 1)) (omega (arith, l, length-take (length path) (stack_at rows i))) (omega (arith, h)))
 
-pub known_at-back : (rows : List Row) (k : ℕ) → 0 < k → shared_paths (stack_at rows (k - 1)) (stack_at rows k) ≡ known_at rows k
+pub known_at-back : (rows : List WeightedStack) (k : ℕ) → 0 < k → shared_paths (stack_at rows (k - 1)) (stack_at rows k) ≡ known_at rows k
 known_at-back rows zero h = absurd (omega arith)
 known_at-back rows (suc k) h = let e : suc k - 1 ≡ k = omega arith in rw e refl
 
-pub known_next : (rows : List Row) (known : List ℕ) (k : ℕ) → ((k : ℕ) → k < length rows → get_or known k 0 ≡ known_at rows k) → k + 1 < length rows → get_or known (k + 1) 0 ≡ shared_paths (stack_at rows k) (stack_at rows (k + 1))
+pub known_next : (rows : List WeightedStack) (known : List ℕ) (k : ℕ) → ((k : ℕ) → k < length rows → get_or known k 0 ≡ known_at rows k) → k + 1 < length rows → get_or known (k + 1) 0 ≡ shared_paths (stack_at rows k) (stack_at rows (k + 1))
 known_next rows known k at h = at (k + 1) h ∙ let e : k + 1 ≡ suc k = omega arith in rw e refl
 
 -- rows in order, by their stacks
-pub in_order : (rows : List Row) (i j : ℕ) → IsAscending rows → i < j → j < length rows → stack_cmp (stack_at rows i) (stack_at rows j) ≡ Less
+pub in_order : (rows : List WeightedStack) (i j : ℕ) → IsAscending rows → i < j → j < length rows → stack_cmp (stack_at rows i) (stack_at rows j) ≡ Less
 in_order rows i j up h inside =
-    let d : Row = record { stack = []; weight = 0 } in
+    let d : WeightedStack = record { stack = []; weight = 0 } in
     subst (λ s. stack_cmp s (stack_at rows j) ≡ Less) (sym (stack_at-get rows i d (omega arith))) (subst (λ s. stack_cmp (stack_of rows i d) s ≡ Less) (sym (stack_at-get rows j d inside)) (up i j d h inside))
 
-taken : (rows : List Row) (i k : ℕ) (e : Row) → i ≤ length rows → k < length (take i rows) → (k < i) × (stack_at rows k ≡ (get_or (take i rows) k e).stack)
+taken : (rows : List WeightedStack) (i k : ℕ) (e : WeightedStack) → i ≤ length rows → k < length (take i rows) → (k < i) × (stack_at rows k ≡ (get_or (take i rows) k e).stack)
 taken rows i k e fits l =
     let at = in_take rows i k e e fits l in
     (at.0, stack_at-get rows k e (omega (arith, at.0)) ∙ sym at.1)
 
 -- a row before that is a part of the stack is a part of what the stack shares with the row before
-pub held_shared : (rows : List Row) (i k : ℕ) → IsAscending rows → i + 1 < length rows → k < i + 1 → begins_with name_cmp (stack_at rows k) (stack_at rows (i + 1)) ≡ true
+pub held_shared : (rows : List WeightedStack) (i k : ℕ) → IsAscending rows → i + 1 < length rows → k < i + 1 → begins_with name_cmp (stack_at rows k) (stack_at rows (i + 1)) ≡ true
     → length (stack_at rows k) ≤ common_prefix_len (eq_by_cmp name_cmp) (stack_at rows i) (stack_at rows (i + 1))
 held_shared rows i k up inside h part =
     let own : begins_with name_cmp (stack_at rows k) (stack_at rows i) ≡ true = elim (cases_eq k i) [
@@ -211,7 +211,7 @@ held_shared rows i k up inside h part =
     order.common-prefix names_total names_same (stack_at rows k) (stack_at rows i) (stack_at rows (i + 1)) own part
 
 -- every new path of a row has the same rows among its parts
-pub held_weight-new : (rows : List Row) (i d : ℕ) → IsAscending rows → i < length rows → known_at rows i ≤ d + 1 → held_weight rows i (take d (stack_at rows i)) ≡ held_weight rows i (stack_at rows i)
+pub held_weight-new : (rows : List WeightedStack) (i d : ℕ) → IsAscending rows → i < length rows → known_at rows i ≤ d + 1 → held_weight rows i (take d (stack_at rows i)) ≡ held_weight rows i (stack_at rows i)
 held_weight-new rows zero d up inside h = refl
 held_weight-new rows (suc i) d up inside h =
     let s = stack_at rows (i + 1) in
@@ -229,11 +229,11 @@ held_weight-new rows (suc i) d up inside h =
     ])))
 
 -- no row before begins with a new path
-pub new_path-first : (rows : List Row) (i d : ℕ) → IsAscending rows → i < length rows → known_at rows i ≤ d → d ≤ length (stack_at rows i)
+pub new_path-first : (rows : List WeightedStack) (i d : ℕ) → IsAscending rows → i < length rows → known_at rows i ≤ d → d ≤ length (stack_at rows i)
     → (k : ℕ) → k < i → begins_with name_cmp (take d (stack_at rows i)) (stack_at rows k) ≡ false
 new_path-first rows zero d up inside h deep k below = absurd (omega arith)
 new_path-first rows (suc i) d up inside h deep k below =
-    let e : Row = record { stack = []; weight = 0 } in
+    let e : WeightedStack = record { stack = []; weight = 0 } in
     let next : i + 1 ≡ suc i = omega arith in
     let turned = order.common_turned names_total names_same (stack_at rows i) (stack_at rows (suc i)) in
     let last : begins_with name_cmp (take d (stack_at rows (suc i))) (stack_at rows i) ≡ false = order.prefix-take_no names_total names_same d (stack_at rows (suc i)) (stack_at rows i) deep (omega (arith, h, turned)) in
@@ -245,10 +245,10 @@ new_path-first rows (suc i) d up inside h deep k below =
     ])
 
 -- where a new path of a row begins
-pub new_path-start : (rows : List Row) (i d : ℕ) → IsAscending rows → i < length rows → known_at rows i ≤ d → d ≤ length (stack_at rows i)
+pub new_path-start : (rows : List WeightedStack) (i d : ℕ) → IsAscending rows → i < length rows → known_at rows i ≤ d → d ≤ length (stack_at rows i)
     → path_start rows (take d (stack_at rows i)) + held_weight rows i (stack_at rows i) ≡ total_of (take i rows)
 new_path-start rows i d up inside h deep =
-    let e : Row = record { stack = []; weight = 0 } in
+    let e : WeightedStack = record { stack = []; weight = 0 } in
     let path = take d (stack_at rows i) in
     let own = subst (λ s. begins_with name_cmp (take d (stack_at rows i)) s ≡ true) (stack_at-get rows i e inside) (order.take_begins_with names_total names_same d (stack_at rows i)) in
     let whole = path_start-first rows (take d (stack_at rows i)) i e up inside own (λ k below. subst (λ s. begins_with name_cmp (take d (stack_at rows i)) s ≡ false) (stack_at-get rows k e (omega arith)) (new_path-first rows i d up inside h deep k below)) in
@@ -261,12 +261,12 @@ span_fits false true w a c t apart h = omega arith
 span_fits false false w a c t apart h = omega arith
 
 -- a span lies inside the total
-pub path_start-path_weight-le : (rows : List Row) (path : List (List ℕ)) → path_start rows path + path_weight rows path ≤ total_of rows
+pub path_start-path_weight-le : (rows : List WeightedStack) (path : List (List ℕ)) → path_start rows path + path_weight rows path ≤ total_of rows
 path_start-path_weight-le [] path = omega arith
 path_start-path_weight-le (row ∷ rows) path =
     rw (weight_where-cons (lies_left_of name_cmp path) row rows, weight_where-cons (begins_with name_cmp path) row rows, sum_by-cons (λ r. r.weight) row rows)
     (span_fits (begins_with name_cmp path row.stack) (lies_left_of name_cmp path row.stack) row.weight (path_start rows path) (path_weight rows path) (total_of rows)
     (order.not_left_under names_total names_same path row.stack) (path_start-path_weight-le rows path))
 
-pub total-next : (rows : List Row) (i : ℕ) (d : Row) → i < length rows → total_of (take (i + 1) rows) ≡ total_of (take i rows) + (get_or rows i d).weight
+pub total-next : (rows : List WeightedStack) (i : ℕ) (d : WeightedStack) → i < length rows → total_of (take (i + 1) rows) ≡ total_of (take i rows) + (get_or rows i d).weight
 total-next rows i d h = sum_by_more (λ r. r.weight) rows i d h

@@ -1,7 +1,7 @@
 -- An answer depends on the aggregate of the rows alone.
 use Rattle.std.proofs.Common.{◌≡◌, ℕ, List, map, true, Result, Ok, Err, sym, ap, ◌∙◌}
 use Rattle.std.specs.Prelude.{IfOk}
-use Rattle.profile_rows.specs.declared.batch.Row.{Row}
+use Rattle.profile_rows.specs.declared.weighted_stacks.WeightedStack.{WeightedStack}
 use Rattle.profile_rows.specs.Aggregate.{aggregate_of, rows_of}
 use Rattle.folded_text.specs.FoldedText.{rows_text}
 use Rattle.profile_rows.specs.Layout.{rectangles_of}
@@ -19,7 +19,7 @@ use Rattle.flame_report.specs.declared.query.Kind.{Kind}
 use Rattle.flame_report.specs.declared.query.Kind.TheVariants as kind
 use Rattle.flame_report.specs.declared.query.Query.{Query}
 
-total_of-same : (rows others : List Row) → aggregate_of rows ≡ aggregate_of others → total_of rows ≡ total_of others
+total_of-same : (rows others : List WeightedStack) → aggregate_of rows ≡ aggregate_of others → total_of rows ≡ total_of others
 total_of-same rows others same = weight_where-same (λ stack. true) rows others same
 
 abbrev top_from : ℕ → List FrameTotal → Top
@@ -28,7 +28,7 @@ top_from total rows = record { total = total; rows = rows }
 abbrev flame_from : ℕ → ℕ → List Rect → Flame
 flame_from total columns rects = record { total = total; columns = columns; rects = rects }
 
-answer_by-same : (asked : Kind) (rows others : List Row) → aggregate_of rows ≡ aggregate_of others → answer_by asked rows ≡ answer_by asked others
+answer_by-same : (asked : Kind) (rows others : List WeightedStack) → aggregate_of rows ≡ aggregate_of others → answer_by asked rows ≡ answer_by asked others
 answer_by-same kind.Total rows others same = ap answer.Total (total_of-same rows others same)
 answer_by-same (kind.Top rank count) rows others same =
     ap (λ total. answer.Top (top_from total (top_list_of (ranking_of rank) count rows))) (total_of-same rows others same)
@@ -38,12 +38,12 @@ answer_by-same (kind.Flame columns) rows others same =
     ∙ ap (λ rectangles. answer.Flame (flame_from (total_of others) columns (map rect_of rectangles))) (rectangles_of-same columns rows others same)
 answer_by-same kind.Folded rows others same = ap (λ weights. answer.Folded (rows_text (rows_of weights))) same
 
-pub answer_of-same : (query : Query) (rows others : List Row) → aggregate_of rows ≡ aggregate_of others → answer_of rows query ≡ answer_of others query
+pub answer_of-same : (query : Query) (rows others : List WeightedStack) → aggregate_of rows ≡ aggregate_of others → answer_of rows query ≡ answer_of others query
 answer_of-same query rows others same =
     answer_by-same query.kind (kept_by query rows) (kept_by query others) (kept_rows-same query.focus query.ignore rows others same)
 
 -- the rows of the aggregate have the answer
-pub answer_of-rows_of : (query : Query) (rows held : List Row) → aggregate_of rows ≡ aggregate_of held → answer_of (rows_of (aggregate_of held)) query ≡ answer_of rows query
+pub answer_of-rows_of : (query : Query) (rows held : List WeightedStack) → aggregate_of rows ≡ aggregate_of held → answer_of (rows_of (aggregate_of held)) query ≡ answer_of rows query
 answer_of-rows_of query rows held same = answer_of-same query (rows_of (aggregate_of held)) rows (aggregate_of-rows_of held ∙ sym same)
 
 pub if_ok_seen : {T E Y : Type 0} (seen : T → Y) (result : Result T E) (a b : Y) → a ≡ b → IfOk result (λ x. seen x ≡ a) → IfOk result (λ x. seen x ≡ b)

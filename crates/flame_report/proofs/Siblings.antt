@@ -3,7 +3,7 @@ use Rattle.std.proofs.Common.{◌≡◌, ℕ, ◌+◌, ◌≤◌, true, false, c
 use Rattle.std.specs.declared.cmp.Ordering.TheVariants.{Less, Equal, Greater}
 use Rattle.std.specs.Ordering.{is_eq, match_ordering, ordering_then}
 use Rattle.std.proofs.lemmas.Cmp.{tied_itself}
-use Rattle.profile_rows.specs.declared.batch.Row.{Row}
+use Rattle.profile_rows.specs.declared.weighted_stacks.WeightedStack.{WeightedStack}
 use Rattle.profile_rows.specs.Names.{name_cmp}
 use Rattle.profile_rows.specs.Paths.{begins_with, lies_left_of, path_start, path_weight}
 use Rattle.profile_rows.specs.Rows.{stack_cmp, is_same_stack, weight_of}
@@ -52,7 +52,7 @@ row_next (n ∷ path) (f ∷ stack) a b weight less none =
       | Greater ↦ λ all. omega arith
     ] none
 
-pub siblings-next : (rows : List Row) (path : Path) (a b : List ℕ) → name_cmp a b ≡ Less
+pub siblings-next : (rows : List WeightedStack) (path : Path) (a b : List ℕ) → name_cmp a b ≡ Less
     → ((n : List ℕ) → name_cmp a n ≡ Less → name_cmp n b ≡ Less → path_weight rows (path ++ n ∷ []) ≡ 0)
     → path_start rows (path ++ b ∷ []) ≡ path_start rows (path ++ a ∷ []) + path_weight rows (path ++ a ∷ [])
 siblings-next [] path a b less none = omega arith
@@ -86,7 +86,7 @@ row_order (n ∷ path) (f ∷ stack) a b weight less =
       | Greater ↦ omega arith
     ]
 
-pub siblings-order : (rows : List Row) (path : Path) (a b : List ℕ) → name_cmp a b ≡ Less
+pub siblings-order : (rows : List WeightedStack) (path : Path) (a b : List ℕ) → name_cmp a b ≡ Less
     → path_start rows (path ++ a ∷ []) + path_weight rows (path ++ a ∷ []) ≤ path_start rows (path ++ b ∷ [])
 siblings-order [] path a b less = omega arith
 siblings-order (row ∷ rows) path a b less =
@@ -121,7 +121,7 @@ row_first (n ∷ path) (f ∷ stack) a weight none =
       | Greater ↦ λ all. refl
     ] none
 
-pub siblings-first : (rows : List Row) (path : Path) (a : List ℕ) → ((n : List ℕ) → name_cmp n a ≡ Less → path_weight rows (path ++ n ∷ []) ≡ 0)
+pub siblings-first : (rows : List WeightedStack) (path : Path) (a : List ℕ) → ((n : List ℕ) → name_cmp n a ≡ Less → path_weight rows (path ++ n ∷ []) ≡ 0)
     → path_start rows (path ++ a ∷ []) ≡ path_start rows path
 siblings-first [] path a none = refl
 siblings-first (row ∷ rows) path a none =
@@ -154,7 +154,7 @@ row_last (n ∷ path) (f ∷ stack) a weight none =
       | Greater ↦ λ e all. let turned : name_cmp n f ≡ Less = order.turned names_total names_same f n Greater e in rw turned (omega arith)
     ] refl none
 
-pub own_weight-last : (rows : List Row) (path : Path) (a : List ℕ) → ((n : List ℕ) → name_cmp a n ≡ Less → path_weight rows (path ++ n ∷ []) ≡ 0)
+pub own_weight-last : (rows : List WeightedStack) (path : Path) (a : List ℕ) → ((n : List ℕ) → name_cmp a n ≡ Less → path_weight rows (path ++ n ∷ []) ≡ 0)
     → path_start rows (path ++ a ∷ []) + path_weight rows (path ++ a ∷ []) + weight_of rows path ≡ path_start rows path + path_weight rows path
 own_weight-last [] path a none = omega arith
 own_weight-last (row ∷ rows) path a none =
@@ -183,7 +183,7 @@ row_alone (n ∷ path) (f ∷ stack) weight none =
       | Greater ↦ λ e all. let turned : name_cmp n f ≡ Less = order.turned names_total names_same f n Greater e in rw turned refl
     ] refl none
 
-pub own_weight-alone : (rows : List Row) (path : Path) → ((n : List ℕ) → path_weight rows (path ++ n ∷ []) ≡ 0) → path_weight rows path ≡ weight_of rows path
+pub own_weight-alone : (rows : List WeightedStack) (path : Path) → ((n : List ℕ) → path_weight rows (path ++ n ∷ []) ≡ 0) → path_weight rows path ≡ weight_of rows path
 own_weight-alone [] path none = refl
 own_weight-alone (row ∷ rows) path none =
     let here = row_alone path row.stack row.weight (λ n. let all = none n in let cons = weight_where-cons (begins_with name_cmp (path ++ n ∷ [])) row rows in omega arith) in

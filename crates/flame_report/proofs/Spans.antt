@@ -3,7 +3,7 @@ use Rattle.std.proofs.Common.{ℕ, ◌≡◌, ◌≤◌, ◌+◌, ◌*◌, List,
 use Rattle.std.proofs.lemmas.Bool.{both_ways, lt-ltb, ltb-true}
 use Rattle.std.proofs.Math.Nat.{div-zero, div-mul-le_self, mul-le-mul_right, le-div_iff_mul-le}
 use Rattle.std.proofs.Common.{zero, suc}
-use Rattle.profile_rows.specs.declared.batch.Row.{Row}
+use Rattle.profile_rows.specs.declared.weighted_stacks.WeightedStack.{WeightedStack}
 use Rattle.profile_rows.specs.Paths.{begins_with, lies_left_of}
 use Rattle.profile_rows.specs.Names.{name_cmp}
 use Rattle.profile_rows.specs.Rows.{weight_where, total_of}
@@ -18,13 +18,13 @@ more true false w x y f h = absurd (both_ways false refl (f refl))
 more false true w x y f h = omega arith
 more false false w x y f h = omega arith
 
-pub weight_where-le : (test other : List (List ℕ) → Bool) (rows : List Row) → ((s : List (List ℕ)) → test s ≡ true → other s ≡ true) → weight_where test rows ≤ weight_where other rows
+pub weight_where-le : (test other : List (List ℕ) → Bool) (rows : List WeightedStack) → ((s : List (List ℕ)) → test s ≡ true → other s ≡ true) → weight_where test rows ≤ weight_where other rows
 weight_where-le test other [] f = omega arith
 weight_where-le test other (row ∷ rows) f =
     rw (weight_where-cons test row rows, weight_where-cons other row rows) (more (test row.stack) (other row.stack) row.weight (weight_where test rows) (weight_where other rows) (f row.stack) (weight_where-le test other rows f))
 
 -- a child begins no earlier than its parent
-pub child_starts_inside : (rows : List Row) (path rest : List (List ℕ)) → path_start rows path ≤ path_start rows (path ++ rest)
+pub child_starts_inside : (rows : List WeightedStack) (path rest : List (List ℕ)) → path_start rows path ≤ path_start rows (path ++ rest)
 child_starts_inside rows path rest = weight_where-le (lies_left_of name_cmp path) (lies_left_of name_cmp (path ++ rest)) rows (λ s. order.left-append names_total names_same path rest s)
 
 inside : (l' u' l u : Bool) (w a' b' a b : ℕ) → (l' ≡ true → (l ≡ true) ⊎ (u ≡ true)) → (u' ≡ true → u ≡ true) → (u' ≡ true → l' ≡ false) → a' + b' ≤ a + b
@@ -39,7 +39,7 @@ inside false true l false w a' b' a b f g apart h = absurd (both_ways false refl
 inside false false l u w a' b' a b f g apart h = omega arith
 
 -- and ends no later
-pub child_ends_inside : (rows : List Row) (path rest : List (List ℕ)) → path_start rows (path ++ rest) + path_weight rows (path ++ rest) ≤ path_start rows path + path_weight rows path
+pub child_ends_inside : (rows : List WeightedStack) (path rest : List (List ℕ)) → path_start rows (path ++ rest) + path_weight rows (path ++ rest) ≤ path_start rows path + path_weight rows path
 child_ends_inside [] path rest = omega arith
 child_ends_inside (row ∷ rows) path rest =
     rw (weight_where-cons (lies_left_of name_cmp (path ++ rest)) row rows, weight_where-cons (begins_with name_cmp (path ++ rest)) row rows, weight_where-cons (lies_left_of name_cmp path) row rows, weight_where-cons (begins_with name_cmp path) row rows)
@@ -55,7 +55,7 @@ columns_keep_order columns (suc total) a b h =
     let grows = mul-le-mul_right columns h in
     (le-div_iff_mul-le (omega arith)).1 (omega (arith, below, grows))
 
-pub parents_are_shown : (columns : ℕ) (rows : List Row) (path rest : List (List ℕ)) → is_shown (rectangle_at columns rows (path ++ rest)) ≡ true → is_shown (rectangle_at columns rows path) ≡ true
+pub parents_are_shown : (columns : ℕ) (rows : List WeightedStack) (path rest : List (List ℕ)) → is_shown (rectangle_at columns rows (path ++ rest)) ≡ true → is_shown (rectangle_at columns rows path) ≡ true
 parents_are_shown columns rows path rest wide =
     let total = total_of rows in
     let left = columns_keep_order columns (total_of rows) (path_start rows path) (path_start rows (path ++ rest)) (child_starts_inside rows path rest) in

@@ -30,7 +30,7 @@ kind_eq a b = false
 
 abbrev pub query_eq : Query → Query → Bool
 query_eq a b = option_eq is_same_name a.focus b.focus && option_eq is_same_name a.ignore b.ignore
-    && kind_eq a.kind b.kind
+    && (a.value == b.value) && kind_eq a.kind b.kind
 
 abbrev pub frame_total_eq : FrameTotal → FrameTotal → Bool
 frame_total_eq a b = is_same_name a.name b.name && (a.flat == b.flat) && (a.cum == b.cum)

@@ -4,7 +4,7 @@ use Prim.Native.Nat.{zero, suc}
 use Rattle.std.specs.Ordering.{eq_by_cmp}
 use Rattle.std.specs.declared.cmp.Ordering.TheVariants.{Less}
 use Rattle.std.specs.List.{AllPairs, common_prefix_len}
-use Rattle.profile_rows.specs.declared.batch.Row.{Row}
+use Rattle.profile_rows.specs.declared.weighted_stacks.WeightedStack.{WeightedStack}
 use Rattle.profile_rows.specs.Layout.{Rectangle, is_shown, rectangle_at}
 use Rattle.profile_rows.specs.Names.{name_cmp}
 use Rattle.profile_rows.specs.Paths.{begins_with, prefixes}
@@ -12,14 +12,14 @@ use Rattle.profile_rows.specs.Rows.{stack_cmp, weight_where}
 use Rattle.flame_report.specs.declared.layout.Span.{Span}
 
 -- each stack comes before those after it: in order, and none twice
-abbrev pub IsAscending : List Row → Type 0
+abbrev pub IsAscending : List WeightedStack → Type 0
 IsAscending rows = AllPairs (λ a b. stack_cmp a.stack b.stack ≡ Less) rows
 
-abbrev pub AreWeighty : List Row → Type 0
-AreWeighty rows = All (λ (row : Row). 0 < row.weight) rows
+abbrev pub AreWeighty : List WeightedStack → Type 0
+AreWeighty rows = All (λ (row : WeightedStack). 0 < row.weight) rows
 
 -- the stack of the row at an index
-abbrev pub stack_at : List Row → ℕ → List (List ℕ)
+abbrev pub stack_at : List WeightedStack → ℕ → List (List ℕ)
 stack_at rows k = slice_index_or (map (λ row. row.stack) rows) k []
 
 -- how many paths two stacks have in common: the empty one, and one for each common name
@@ -27,33 +27,33 @@ abbrev pub shared_paths : List (List ℕ) → List (List ℕ) → ℕ
 shared_paths before stack = common_prefix_len (eq_by_cmp name_cmp) before stack + 1
 
 -- how many of the paths of the row at an index the row before has too
-abbrev pub known_at : List Row → ℕ → ℕ
+abbrev pub known_at : List WeightedStack → ℕ → ℕ
 known_at rows zero = 0
 known_at rows (suc k) = shared_paths (stack_at rows k) (stack_at rows (suc k))
 
 -- of each row, how many of its paths the row before has too
-pub record AreKnownPaths (known : List ℕ) (rows : List Row) : Type 0 where
+pub record AreKnownPaths (known : List ℕ) (rows : List WeightedStack) : Type 0 where
   pub each : length known ≡ length rows
   pub at : (k : ℕ) → k < length rows → slice_index_or known k 0 ≡ known_at rows k
 
 -- the weight of the rows before an index whose stacks are beginnings of the path: their own weight lies right of it
-abbrev pub held_weight : List Row → ℕ → List (List ℕ) → ℕ
+abbrev pub held_weight : List WeightedStack → ℕ → List (List ℕ) → ℕ
 held_weight rows n path = weight_where (λ stack. begins_with name_cmp stack path) (take n rows)
 
 -- for each path of the last row before an index, the weight of the rows before it that are beginnings of it
-abbrev pub AreHeld : List ℕ → List Row → ℕ → Type 0
+abbrev pub AreHeld : List ℕ → List WeightedStack → ℕ → Type 0
 AreHeld held rows zero = ⊤
 AreHeld held rows (suc n) = (length held ≡ length (stack_at rows n) + 1)
     × ((e : ℕ) → e ≤ length (stack_at rows n)
     → slice_index_or held e 0 ≡ held_weight rows (suc n) (take e (stack_at rows n)))
 
 -- the paths of the rows before an index, each where it first comes
-abbrev pub paths_until : List Row → ℕ → List (List (List ℕ))
+abbrev pub paths_until : List WeightedStack → ℕ → List (List (List ℕ))
 paths_until rows zero = []
 paths_until rows (suc n) = paths_until rows n ++ drop (known_at rows n) (prefixes (stack_at rows n))
 
 -- the rectangles of these paths that are wide enough
-abbrev pub shown_of : ℕ → List Row → List (List (List ℕ)) → List Rectangle
+abbrev pub shown_of : ℕ → List WeightedStack → List (List (List ℕ)) → List Rectangle
 shown_of columns rows paths = filter is_shown (map (rectangle_at columns rows) paths)
 
 -- where a rectangle stands

@@ -13,7 +13,7 @@ ghost use Rattle.flame_report.specs.Sharing.{AreHeld, AreKnownPaths, AreWeighty,
 
 use crate::answer::{Label, Rect};
 use crate::query::Columns;
-use profile_rows::{Name, NoMemory, Row};
+use profile_rows::{Name, NoMemory, WeightedStack};
 use std::alloc::{AllocError, Global};
 
 /// Weights in columns: the total of all rows fills them.
@@ -57,7 +57,7 @@ fn shared_names(left: &[Name], right: &[Name]) -> usize
 }
 
 /// Of each row, how many of its paths the row before has too.
-fn known_paths(alloc: Global, rows: &[Row]) -> Result<Vec<usize>, AllocError>
+fn known_paths(alloc: Global, rows: &[WeightedStack]) -> Result<Vec<usize>, AllocError>
     ensures { IfOk result (λ known. AreKnownPaths known.items rows.now) }
 {
     let mut known = Vec::with_capacity(alloc, rows.len())?;
@@ -73,7 +73,7 @@ fn known_paths(alloc: Global, rows: &[Row]) -> Result<Vec<usize>, AllocError>
 }
 
 /// The weight of the rows that begin with the first names of a row that is the first of them.
-fn group_weight(rows: &[Row], known: &[usize], at: usize, depth: usize) -> u64
+fn group_weight(rows: &[WeightedStack], known: &[usize], at: usize, depth: usize) -> u64
     requires ascending { IsAscending rows.now }
     requires known { AreKnownPaths known.now rows.now }
     requires at { at < length rows.now }
@@ -95,7 +95,7 @@ fn group_weight(rows: &[Row], known: &[usize], at: usize, depth: usize) -> u64
 
 /// Where the path of a row's first names stands, which the row before doesn't have.
 fn span_at(
-    rows: &[Row],
+    rows: &[WeightedStack],
     known: &[usize],
     at: usize,
     depth: usize,
@@ -148,7 +148,7 @@ fn rect_at(names: &[Name], depth: usize, span: Span) -> Result<Rect, NoMemory>
 /// Adds the rectangles of the paths that come first with a row. Below one that takes no column there is none.
 fn layout_row(
     rects: &mut Vec<Rect>,
-    rows: &[Row],
+    rows: &[WeightedStack],
     known: &[usize],
     at: usize,
     start: u64,
@@ -177,7 +177,7 @@ fn layout_row(
 }
 
 /// The weight of the rows so far that are beginnings of a row.
-fn held_above(held: &[u64], rows: &[Row], at: usize, known: usize) -> u64
+fn held_above(held: &[u64], rows: &[WeightedStack], at: usize, known: usize) -> u64
     requires ascending { IsAscending rows.now }
     requires at { at < length rows.now }
     requires held { AreHeld held.now rows.now at }
@@ -190,7 +190,7 @@ fn held_above(held: &[u64], rows: &[Row], at: usize, known: usize) -> u64
 /// Keeps, for each path of a row, the weight of the rows so far that are beginnings of it.
 fn hold(
     held: &mut Vec<u64>,
-    rows: &[Row],
+    rows: &[WeightedStack],
     at: usize,
     known: usize,
     above: u64,
@@ -210,7 +210,7 @@ fn hold(
 }
 
 /// The layout of rows in order, whose total is above 0.
-fn layout(alloc: Global, rows: &[Row], scale: &Scale) -> Result<Vec<Rect>, NoMemory>
+fn layout(alloc: Global, rows: &[WeightedStack], scale: &Scale) -> Result<Vec<Rect>, NoMemory>
     requires ascending { IsAscending rows.now }
     requires weighty { AreWeighty rows.now }
     requires total { scale.now.total ≡ total_of rows.now }
@@ -239,7 +239,11 @@ fn layout(alloc: Global, rows: &[Row], scale: &Scale) -> Result<Vec<Rect>, NoMem
 }
 
 /// The layout of rows in order; without rows there are no rectangles.
-pub(crate) fn rects_of(alloc: Global, rows: &[Row], scale: &Scale) -> Result<Vec<Rect>, NoMemory>
+pub(crate) fn rects_of(
+    alloc: Global,
+    rows: &[WeightedStack],
+    scale: &Scale,
+) -> Result<Vec<Rect>, NoMemory>
     requires ascending { IsAscending rows.now }
     requires weighty { AreWeighty rows.now }
     requires total { scale.now.total ≡ total_of rows.now }

@@ -70,13 +70,15 @@ pub enum Kind {
     Folded,
 }
 
-/// A question to a profile. Only the rows that it keeps count, in totals too.
+/// A question to a profile. Only the rows that it keeps count, in totals too, and only one value of each.
 #[derive(Drop)]
 pub struct Query {
     /// Where there is one, only rows whose stack has this name are kept.
     pub focus: Option<Name>,
     /// Where there is one, rows whose stack has this name aren't kept.
     pub ignore: Option<Name>,
+    /// Which value of each row is its weight, counted from 0.
+    pub value: u32,
     pub kind: Kind,
 }
 
@@ -94,7 +96,10 @@ impl PartialEq for Query {
         ensures compared { result ≡ query_eq self.now other.now }
         ensures equal { IsTrue result ↔ (self.now ≡ other.now) }
     {
-        self.focus == other.focus && self.ignore == other.ignore && self.kind == other.kind
+        self.focus == other.focus
+            && self.ignore == other.ignore
+            && self.value == other.value
+            && self.kind == other.kind
     }
 }
 

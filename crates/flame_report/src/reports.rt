@@ -4,9 +4,10 @@ ghost use Rattle.std.specs.Prelude.{◌≡◌, ◌+◌, ◌^◌, ◌<◌, IfOk, 
 ghost use Rattle.profile_rows.specs.Aggregate.{aggregate_of, rows_of};
 ghost use Rattle.folded_text.specs.FoldedText.{folded_text_of};
 ghost use Rattle.profile_rows.specs.Rows.{total_of};
-ghost use Rattle.profile_rows.specs.declared.batch.Row.{Row};
+ghost use Rattle.profile_rows.specs.declared.weighted_stacks.WeightedStack.{WeightedStack};
 ghost use Rattle.call_tree.specs.State.{weights_of};
-ghost use Rattle.flame_report.specs.Answers.{answer_of, flame_of, kept_by, top_of};
+ghost use Rattle.flame_report.specs.Answers.{answer_of, flame_of, kept_by, top_of, value_answer_of};
+ghost use Rattle.profile_rows.specs.Values.{rows_at};
 ghost use Rattle.flame_report.specs.Sharing.{AreWeighty, IsAscending};
 
 use crate::answer::{Answer, Flame, Top};
@@ -15,22 +16,26 @@ use crate::layout::{Scale, rects_of};
 use crate::query::{Columns, Kind, Query, Rank};
 use crate::top::{kept_total, top_list, top_of_rows};
 use call_tree::{CallTree, Grower};
-use folded_text::write_folded;
+use folded_text::write_stacks;
 use profile_rows::laws::sums_are_those_of_the_aggregate;
-use profile_rows::{Batch, FrameTotals, MAX_TOTAL, NoMemory, Row};
+use profile_rows::{Batch, FrameTotals, NoMemory, WeightedStack, WeightedStacks};
 use std::alloc::Global;
 
 /// The rows of a batch that a query keeps.
-fn kept_batch(alloc: Global, batch: Batch, query: &Query) -> Result<Batch, NoMemory>
+fn kept_batch(
+    alloc: Global,
+    batch: WeightedStacks,
+    query: &Query,
+) -> Result<WeightedStacks, NoMemory>
     ensures { IfOk result (λ kept. kept ≡ kept_by query.now batch) }
 {
     if query.keeps_all() {
         return Ok(batch);
     }
-    let mut kept = Batch::new(alloc);
+    let mut kept = WeightedStacks::new(alloc);
     for row in batch.into_rows() {
         if query.keeps(&row) {
-            let Row { stack, weight } = row;
+            let WeightedStack { stack, weight } = row;
             if kept.push(stack, weight).is_err() {
                 return Err(NoMemory);
             }
@@ -40,7 +45,7 @@ fn kept_batch(alloc: Global, batch: Batch, query: &Query) -> Result<Batch, NoMem
 }
 
 /// The flame graph of rows in order.
-fn flame(alloc: Global, rows: &Batch, columns: Columns) -> Result<Flame, NoMemory>
+fn flame(alloc: Global, rows: &WeightedStacks, columns: Columns) -> Result<Flame, NoMemory>
     requires ascending { IsAscending rows.now }
     requires weighty { AreWeighty rows.now }
     ensures { IfOk result (λ flame. flame ≡ flame_of columns rows.now) }
@@ -58,17 +63,17 @@ fn flame(alloc: Global, rows: &Batch, columns: Columns) -> Result<Flame, NoMemor
 }
 
 /// Rows in order as folded text.
-fn folded(alloc: Global, rows: &Batch) -> Result<Items<u8>, NoMemory>
+fn folded(alloc: Global, rows: &WeightedStacks) -> Result<Items<u8>, NoMemory>
     requires ascending { IsAscending rows.now }
     requires weighty { AreWeighty rows.now }
     ensures { IfOk result (λ text. text ≡ folded_text_of rows.now) }
 {
-    let text = write_folded(alloc, rows)?;
+    let text = write_stacks(alloc, rows)?;
     Ok(Items::new(text))
 }
 
 /// The answer over the rows of an aggregate.
-fn answer(alloc: Global, rows: Batch, query: &Query) -> Result<Answer, NoMemory>
+fn answer(alloc: Global, rows: WeightedStacks, query: &Query) -> Result<Answer, NoMemory>
     requires ascending { IsAscending rows }
     requires weighty { AreWeighty rows }
     ensures { IfOk result (λ answer. answer ≡ answer_of rows query.now) }
@@ -90,73 +95,113 @@ fn answer(alloc: Global, rows: Batch, query: &Query) -> Result<Answer, NoMemory>
     }
 }
 
-/// The top list of all that a tree holds.
-fn top_of_tree(alloc: Global, tree: &CallTree, rank: Rank, count: u32) -> Result<Top, NoMemory>
-    ensures { IfOk result (λ top. top ≡ top_of rank count (rows_of (weights_of tree.now))) }
+/// The top list of all that a tree holds, by one value.
+fn top_of_tree(
+    alloc: Global,
+    tree: &CallTree,
+    value: u32,
+    rank: Rank,
+    count: u32,
+) -> Result<Top, NoMemory>
+    requires { value < tree.now.width }
+    ensures { IfOk result (λ top. top ≡ top_of rank count (rows_of (weights_of tree.now value))) }
 {
-    let frames = tree.frame_totals(alloc)?;
-    let total = tree.total();
+    let frames = tree.frame_totals(alloc, value)?;
+    let total = tree.total().value(value);
     top_list(FrameTotals { total, frames }, rank, count)
 }
 
 /// The answer over the rows of a tree. What asks for all of them needs no rows.
 fn held_answer(alloc: Global, tree: &CallTree, query: &Query) -> Result<Answer, NoMemory>
-    ensures { IfOk result (λ answer. answer ≡ answer_of (rows_of (weights_of tree.now)) query.now) }
+    requires { query.now.value < tree.now.width }
+    ensures { IfOk result
+        (λ answer. answer ≡ answer_of (rows_of (weights_of tree.now query.now.value)) query.now) }
 {
     match query.kind {
-        Kind::Total if query.keeps_all() => Ok(Answer::Total(tree.total())),
+        Kind::Total if query.keeps_all() => Ok(Answer::Total(tree.total().value(query.value))),
         Kind::Top { rank, count } if query.keeps_all() => {
-            let top = top_of_tree(alloc, tree, rank, count)?;
+            let top = top_of_tree(alloc, tree, query.value, rank, count)?;
             Ok(Answer::Top(top))
         }
         _ => {
-            let rows = tree.rows(alloc)?;
+            let rows = tree.weighted_stacks(alloc, query.value)?;
             answer(alloc, rows, query)
         }
     }
 }
 
-/// The answer to a query over what a tree holds: the plain answer over every list of rows that adds up to the tree.
+/// The answer to a query over what a tree holds of the query's value: the plain answer over every list of rows that
+/// adds up to the tree.
 ///
 /// # Errors
 ///
 /// `NoMemory`.
 pub fn report(alloc: Global, tree: &CallTree, query: &Query) -> Result<Answer, NoMemory>
-    ensures { (rows : List Row) → aggregate_of rows ≡ weights_of tree.now
+    requires { query.now.value < tree.now.width }
+    ensures { (rows : List WeightedStack) → aggregate_of rows ≡ weights_of tree.now query.now.value
         → IfOk result (λ answer. answer ≡ answer_of rows query.now) }
 {
     held_answer(alloc, tree, query)
 }
 
-/// The rows that a batch adds up to, in order.
-fn summed(alloc: Global, batch: &Batch) -> Result<Batch, NoMemory>
-    ensures { IfOk result (λ rows. rows ≡ rows_of (aggregate_of batch.now)) }
+/// What a batch adds up to by one value, in order.
+fn summed(alloc: Global, batch: &Batch, value: u32) -> Result<WeightedStacks, NoMemory>
+    requires { value < batch.now.width }
+    ensures { IfOk result (λ rows. rows ≡ rows_of (aggregate_of (rows_at value batch.now.rows))) }
 {
-    let mut grower = Grower::new(alloc)?;
-    prove!(batch.total() <= MAX_TOTAL);
+    let mut grower = Grower::new(alloc, batch.width())?;
     sums_are_those_of_the_aggregate();
     let plan = grower.plan(alloc, batch)?;
     grower.credit(plan);
-    grower.tree().rows(alloc)
+    grower.tree().weighted_stacks(alloc, value)
 }
 
-/// The plain answer to a query over the rows of a batch. A total and a top list are made from the rows as they stand,
-/// and no tree for them.
+/// The plain answer to a query over the rows of a batch, by the query's value. A total and a top list of the first
+/// value are made from the rows as they stand, and no tree for them.
 ///
 /// # Errors
 ///
 /// `NoMemory`.
 pub fn report_of(alloc: Global, batch: &Batch, query: &Query) -> Result<Answer, NoMemory>
-    ensures { IfOk result (λ answer. answer ≡ answer_of batch.now query.now) }
+    requires { query.now.value < batch.now.width }
+    ensures { IfOk result (λ answer. answer ≡ value_answer_of batch.now.rows query.now) }
 {
     match query.kind {
-        Kind::Total => Ok(Answer::Total(kept_total(batch.rows(), query))),
-        Kind::Top { rank, count } => {
-            let top = top_of_rows(alloc, batch, query, rank, count)?;
+        Kind::Total if query.value == 0 => {
+            Ok(Answer::Total(kept_total(batch.first().rows(), query)))
+        }
+        Kind::Top { rank, count } if query.value == 0 => {
+            let top = top_of_rows(alloc, batch.first(), query, rank, count)?;
             Ok(Answer::Top(top))
         }
         _ => {
-            let rows = summed(alloc, batch)?;
+            let rows = summed(alloc, batch, query.value)?;
+            answer(alloc, rows, query)
+        }
+    }
+}
+
+/// The plain answer to a query over rows of one value, whichever value the query names. A total and a top list are made
+/// from the rows as they stand, and no tree for them.
+///
+/// # Errors
+///
+/// `NoMemory`.
+pub fn report_of_stacks(
+    alloc: Global,
+    rows: WeightedStacks,
+    query: &Query,
+) -> Result<Answer, NoMemory>
+    ensures { IfOk result (λ answer. answer ≡ answer_of rows query.now) }
+{
+    match query.kind {
+        Kind::Total => Ok(Answer::Total(kept_total(rows.rows(), query))),
+        Kind::Top { rank, count } => {
+            let top = top_of_rows(alloc, &rows, query, rank, count)?;
+            Ok(Answer::Top(top))
+        }
+        _ => {
+            let rows = summed(alloc, &Batch::single(alloc, rows), 0)?;
             answer(alloc, rows, query)
         }
     }

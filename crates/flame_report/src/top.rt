@@ -1,7 +1,7 @@
 //! Top lists: the names that weigh most, and their text.
 
 ghost use Rattle.std.specs.Prelude.{ℕ, ◌≡◌, ◌^◌, ◌<◌, List, IfOk, OnOk, IsSorted, IsPermutation, map, take, string_bytes, ◌++◌};
-ghost use Rattle.profile_rows.specs.declared.batch.Row.{Row};
+ghost use Rattle.profile_rows.specs.declared.weighted_stacks.WeightedStack.{WeightedStack};
 ghost use Rattle.profile_rows.specs.Rows.{total_of};
 ghost use Rattle.profile_rows.specs.TopList.{AreSumsOf, AreTotalsOf, top_cmp, top_line, top_list_of, top_text_of};
 ghost use Rattle.flame_report.specs.Answers.{kept_by, ranking_of, top_of};
@@ -11,7 +11,7 @@ use crate::answer::Top;
 use crate::items::Items;
 use crate::query::{Query, Rank};
 use profile_rows::laws::top_list_is_front_of_sorted;
-use profile_rows::{Batch, FrameTotal, FrameTotals, NoMemory, Row, kept_totals};
+use profile_rows::{FrameTotal, FrameTotals, NoMemory, WeightedStack, WeightedStacks, kept_totals};
 use std::alloc::{AllocError, Global};
 use std::cmp::Ordering;
 
@@ -66,7 +66,7 @@ fn sort_names(list: &mut Vec<FrameTotal>, rank: Rank) -> Result<(), AllocError>
 
 /// Keeps the first `count` names by the weight that `rank` chooses.
 fn rank_names(list: &mut Vec<FrameTotal>, rank: Rank, count: u32) -> Result<(), AllocError>
-    ensures { (rows : List Row) → AreSumsOf rows list.old.items
+    ensures { (rows : List WeightedStack) → AreSumsOf rows list.old.items
         → OnOk result (list.new.items ≡ top_list_of (ranking_of rank) count rows) }
 {
     sort_names(list, rank)?;
@@ -76,7 +76,7 @@ fn rank_names(list: &mut Vec<FrameTotal>, rank: Rank, count: u32) -> Result<(), 
 }
 
 /// The weight of the rows that a query keeps.
-pub(crate) fn kept_total(rows: &[Row], query: &Query) -> u64
+pub(crate) fn kept_total(rows: &[WeightedStack], query: &Query) -> u64
     requires { total_of rows.now < 2 ^ 63 }
     ensures { result ≡ total_of (kept_by query.now rows.now) }
 {
@@ -95,7 +95,7 @@ pub(crate) fn kept_total(rows: &[Row], query: &Query) -> u64
 ///
 /// `NoMemory`.
 pub fn top_list(totals: FrameTotals, rank: Rank, count: u32) -> Result<Top, NoMemory>
-    ensures { (rows : List Row) → AreTotalsOf rows totals → IfOk result (λ top. top ≡ top_of rank count rows) }
+    ensures { (rows : List WeightedStack) → AreTotalsOf rows totals → IfOk result (λ top. top ≡ top_of rank count rows) }
 {
     let FrameTotals { total, mut frames } = totals;
     rank_names(&mut frames, rank, count)?;
@@ -108,7 +108,7 @@ pub fn top_list(totals: FrameTotals, rank: Rank, count: u32) -> Result<Top, NoMe
 /// The top list of the rows that a query keeps.
 pub(crate) fn top_of_rows(
     alloc: Global,
-    batch: &Batch,
+    batch: &WeightedStacks,
     query: &Query,
     rank: Rank,
     count: u32,

@@ -2,7 +2,7 @@
 use Rattle.std.proofs.Common.{◌≡◌, ◌≢◌, ◌⊎◌, ℕ, ◌+◌, List, [], ◌∷◌, ◌++◌, length, refl, sym, ap, ◌∙◌, inl, inr, subst, arith}
 use Rattle.std.specs.Str.Parse.{digits_value}
 use Rattle.std.specs.Prelude.{Result, Ok, Err, MatchResult}
-use Rattle.profile_rows.specs.declared.batch.Row.{Row}
+use Rattle.profile_rows.specs.declared.weighted_stacks.WeightedStack.{WeightedStack}
 use Rattle.folded_text.specs.declared.folded.FoldedFault.{FoldedFault}
 use Rattle.folded_text.specs.declared.folded.FoldedFault.TheVariants.{NotUtf8, NoCount, Count, Depth, Heavy, NoMemory}
 use Rattle.profile_rows.specs.Rows.{total_of}
@@ -120,7 +120,7 @@ IsFirstFault-same text fault other (before, line, after, rows, cut, known, fits,
     ]
 
 -- what reading answers to a text with a first fault
-pub only_fault : (text : List ℕ) (outcome : Result (List Row) FoldedFault) → MatchResult outcome (λ batch. IsFoldedText text batch) (λ fault. IsFirstFault text fault)
+pub only_fault : (text : List ℕ) (outcome : Result (List WeightedStack) FoldedFault) → MatchResult outcome (λ batch. IsFoldedText text batch) (λ fault. IsFirstFault text fault)
     → (first : FoldedFault) → first ≢ NoMemory → IsFirstFault text first → MatchResult outcome (λ batch. ⊥) (λ fault. (fault ≡ NoMemory) ⊎ (fault ≡ first))
 only_fault text (Ok batch) read first some there = some (IsFirstFault-folded text batch first read there)
 only_fault text (Err fault) read first some there =

@@ -11,19 +11,20 @@ use Rattle.std.proofs.lemmas.Fmt.{decimal_is_IsNumeral, IsAscii-decimal}
 use Rattle.std.proofs.lemmas.List.Elements.{All-from_recursion, recursion_from_All}
 use Rattle.std.proofs.lemmas.List.Splits.{slice_split_none, slice_split_at}
 use Rattle.std.proofs.lemmas.Str.{IsUtf8-append, IsUtf8-from_ascii, IsUtf8-nil}
-use Rattle.std.proofs.lemmas.List.{get_or-append_right, append-nil, flat_map_more, length-take-le, take_more}
+use Rattle.std.proofs.lemmas.List.{get_or-append_right, append-nil, flat_map_more, length-map, length-take-le, take_more}
 use Prim.Native.Nat.{zero, suc}
 use borrow.Author.Tests.{ne_eqb}
-use Rattle.profile_rows.specs.declared.batch.Row.{Row}
+use Rattle.profile_rows.specs.declared.weighted_stacks.WeightedStack.{WeightedStack}
 use Rattle.profile_rows.specs.Names.{IsName}
 use Rattle.profile_rows.specs.Rows.{total_of}
+use Rattle.profile_rows.specs.Values.{Row, row_in, rows_at, weighing}
 use Rattle.folded_text.specs.FoldedText.{frames_of, IsRowLine, AreRowLines, IsFoldedText, row_text, rows_text}
 use Rattle.profile_rows.specs.Rows.{IsBatchRow}
 use Rattle.folded_text.proofs.Counts.{AllDigits-each}
 use Rattle.folded_text.proofs.Lines.{IsFeed, more_parts}
 
 -- a row's line, without its line feed
-abbrev line_of : Row → List ℕ
+abbrev line_of : WeightedStack → List ℕ
 line_of row = join_with_byte 59 row.stack ++ 32 ∷ decimal row.weight
 
 all_append : {X : Type 0} (P : X → Type 0) (xs ys : List X) → AllByRecursion P xs → AllByRecursion P ys → AllByRecursion P (xs ++ ys)
@@ -71,20 +72,20 @@ frames_of-joined (name ∷ next ∷ names) all =
 
 -- ---- the line
 
-numeral : (row : Row) → row.weight < 2 ^ 63 → IsNumeral 10 (decimal row.weight) × (digits_value 10 (decimal row.weight) ≡ row.weight)
+numeral : (row : WeightedStack) → row.weight < 2 ^ 63 → IsNumeral 10 (decimal row.weight) × (digits_value 10 (decimal row.weight) ≡ row.weight)
 numeral row fits = decimal_is_IsNumeral row.weight (omega arith)
 
 digit_plain : (digits : List ℕ) → AllByRecursion IsAsciiDigit digits → AllByRecursion (λ byte. IsFeed byte ≡ false) digits
 digit_plain [] all = tt
 digit_plain (byte ∷ digits) all = let digit = all.0 in (ne_eqb byte 10 (λ e. omega arith), digit_plain digits all.1)
 
-line_plain : (row : Row) → IsBatchRow row → AllByRecursion (λ byte. IsFeed byte ≡ false) (line_of row)
+line_plain : (row : WeightedStack) → IsBatchRow row → AllByRecursion (λ byte. IsFeed byte ≡ false) (line_of row)
 line_plain row is =
     all_append (λ byte. IsFeed byte ≡ false) (join_with_byte 59 row.stack) (32 ∷ decimal row.weight)
     (joined_plain row.stack (recursion_from_All IsName row.stack is.names))
     (refl, digit_plain (decimal row.weight) (AllDigits-each (decimal row.weight) (numeral row is.fits).0.1))
 
-line_utf8 : (row : Row) → IsBatchRow row → IsUtf8 (line_of row)
+line_utf8 : (row : WeightedStack) → IsBatchRow row → IsUtf8 (line_of row)
 line_utf8 row is =
     IsUtf8-append (join_with_byte 59 row.stack) (32 ∷ decimal row.weight) (joined_utf8 row.stack (recursion_from_All IsName row.stack is.names))
     (IsUtf8-from_ascii (32 ∷ decimal row.weight) ascii)
@@ -94,7 +95,7 @@ line_utf8 row is =
     ascii (suc i) = IsAscii-decimal row.weight (let fits = is.fits in omega arith) i
 
 -- the line spells the row
-line_spells : (row : Row) → IsBatchRow row → IsRowLine (line_of row) row
+line_spells : (row : WeightedStack) → IsBatchRow row → IsRowLine (line_of row) row
 line_spells row is = record {
   utf8 = line_utf8 row is;
   counted = (
@@ -111,7 +112,7 @@ line_spells row is = record {
 }
 
 -- its last byte is a digit, so nothing is dropped before the line feed
-line_whole : (row : Row) → IsBatchRow row → strip_carriage_return (line_of row) ≡ line_of row
+line_whole : (row : WeightedStack) → IsBatchRow row → strip_carriage_return (line_of row) ≡ line_of row
 line_whole row is =
     let digits = decimal row.weight in
     let some = (numeral row is.fits).0.0 in
@@ -125,7 +126,7 @@ line_whole row is =
 
 -- ---- the text
 
-lines-rows_text : (rows : List Row) → AllByRecursion IsBatchRow rows → lines (rows_text rows) ≡ map line_of rows
+lines-rows_text : (rows : List WeightedStack) → AllByRecursion IsBatchRow rows → lines (rows_text rows) ≡ map line_of rows
 lines-rows_text [] all = refl
 lines-rows_text (row ∷ rows) all =
     let regroup : rows_text (row ∷ rows) ≡ line_of row ++ 10 ∷ rows_text rows = append_assoc (line_of row) (10 ∷ []) (rows_text rows) in
@@ -136,18 +137,18 @@ lines-rows_text (row ∷ rows) all =
     ∙ ap (λ line. line ∷ lines (rows_text rows)) (line_whole row all.0)
     ∙ ap (λ ls. line_of row ∷ ls) (lines-rows_text rows all.1)
 
-AreRowLines-cons : (line : List ℕ) (ls : List (List ℕ)) (row : Row) (rows : List Row) → 0 < length line → IsRowLine line row → AreRowLines ls rows → AreRowLines (line ∷ ls) (row ∷ rows)
+AreRowLines-cons : (line : List ℕ) (ls : List (List ℕ)) (row : WeightedStack) (rows : List WeightedStack) → 0 < length line → IsRowLine line row → AreRowLines ls rows → AreRowLines (line ∷ ls) (row ∷ rows)
 AreRowLines-cons [] ls row rows some this rest = absurd (omega arith)
 AreRowLines-cons (byte ∷ line) ls row rows some this rest = (this, rest)
 
-spell : (rows : List Row) → AllByRecursion IsBatchRow rows → AreRowLines (map line_of rows) rows
+spell : (rows : List WeightedStack) → AllByRecursion IsBatchRow rows → AreRowLines (map line_of rows) rows
 spell [] all = refl
 spell (row ∷ rows) all =
     let long : length (line_of row) ≡ length (join_with_byte 59 row.stack) + length (32 ∷ decimal row.weight) = length-append (join_with_byte 59 row.stack) (32 ∷ decimal row.weight) in
     AreRowLines-cons (line_of row) (map line_of rows) row rows (omega arith) (line_spells row all.0) (spell rows all.1)
 
 -- rows that a batch can hold, written, are folded text of these rows
-pub rows_text-IsFoldedText : (rows : List Row) → All IsBatchRow rows → total_of rows < 2 ^ 63 → IsFoldedText (rows_text rows) rows
+pub rows_text-IsFoldedText : (rows : List WeightedStack) → All IsBatchRow rows → total_of rows < 2 ^ 63 → IsFoldedText (rows_text rows) rows
 rows_text-IsFoldedText rows each fits =
     let all = recursion_from_All IsBatchRow rows each in
     record { rows_lines = subst (λ ls. AreRowLines ls rows) (sym (lines-rows_text rows all)) (spell rows all); total_fits = fits }
@@ -180,8 +181,18 @@ join_more names k d start before after lt so_far (inr (none, same)) =
     ∙ ap (λ l. start ++ join_with_byte 59 l) (sym (take_more names k d lt))
 
 -- one row more
-pub rows_text_more : (rows : List Row) (k : ℕ) (d : Row) (before after : List ℕ) → k < length rows → before ≡ rows_text (take k rows) → after ≡ before ++ row_text (get_or rows k d) → after ≡ rows_text (take (k + 1) rows)
+pub rows_text_more : (rows : List WeightedStack) (k : ℕ) (d : WeightedStack) (before after : List ℕ) → k < length rows → before ≡ rows_text (take k rows) → after ≡ before ++ row_text (get_or rows k d) → after ≡ rows_text (take (k + 1) rows)
 rows_text_more rows k d before after lt so_far more =
     more ∙ ap (λ l. l ++ row_text (get_or rows k d)) so_far
     ∙ flat_map_more row_text [] (take k rows) (get_or rows k d)
     ∙ ap rows_text (sym (take_more rows k d lt))
+
+-- ---- rows of several values
+
+pub length-rows_at : (value : ℕ) (rows : List Row) → length (rows_at value rows) ≡ length rows
+length-rows_at value rows = length-map rows (weighing value)
+
+pub rows_at-row_in : (value : ℕ) (rows : List Row) (at : ℕ) (d : WeightedStack) → at < length rows → get_or (rows_at value rows) at d ≡ weighing value (row_in rows at)
+rows_at-row_in value [] at d lt = absurd (omega arith)
+rows_at-row_in value (row ∷ rows) zero d lt = refl
+rows_at-row_in value (row ∷ rows) (suc at) d lt = rows_at-row_in value rows at d (omega arith)

@@ -7,7 +7,8 @@ use Rattle.std.specs.Fmt.{decimal}
 use Rattle.std.specs.Str.{IsUtf8}
 use Rattle.std.specs.Str.Lines.{lines}
 use Rattle.std.specs.Str.Parse.{IsNumeral, digits_value}
-use Rattle.profile_rows.specs.declared.batch.Row.{Row}
+use Rattle.profile_rows.specs.declared.weighted_stacks.WeightedStack.{WeightedStack}
+use Rattle.profile_rows.specs.Values.{BatchState, single_batch}
 use Rattle.folded_text.specs.declared.folded.FoldedFault.{FoldedFault}
 use Rattle.folded_text.specs.declared.folded.FoldedFault.TheVariants.{NotUtf8, NoCount, Count, Depth, Heavy, NoMemory}
 use Rattle.profile_rows.specs.Rows.{total_of}
@@ -27,20 +28,20 @@ pub record HasCount (line stack digits : List ℕ) : Type 0 where
   pub numeral : IsNumeral 10 digits
 
 -- a stack text whose frames are the row's, and a count that is its weight
-pub record IsCounted (line : List ℕ) (row : Row) (stack digits : List ℕ) : Type 0 where
+pub record IsCounted (line : List ℕ) (row : WeightedStack) (stack digits : List ℕ) : Type 0 where
   pub count : HasCount line stack digits
   pub frames : row.stack ≡ frames_of stack
   pub weight : row.weight ≡ digits_value 10 digits
 
 -- the line spells the row, within the limits of 65,535 frames and of a weight of 2^63 - 1
-pub record IsRowLine (line : List ℕ) (row : Row) : Type 0 where
+pub record IsRowLine (line : List ℕ) (row : WeightedStack) : Type 0 where
   pub utf8 : IsUtf8 line
   pub counted : (stack : List ℕ) × (digits : List ℕ) × IsCounted line row stack digits
   pub depth : length row.stack ≤ 65535
   pub fits : row.weight < 2 ^ 63
 
 -- the lines that aren't empty spell the rows, one each, in order
-abbrev pub AreRowLines : List (List ℕ) → List Row → Type 0
+abbrev pub AreRowLines : List (List ℕ) → List WeightedStack → Type 0
 AreRowLines [] rows = rows ≡ []
 AreRowLines ([] ∷ lines) rows = AreRowLines lines rows
 AreRowLines ((byte ∷ line) ∷ lines) [] = ⊥
@@ -49,7 +50,7 @@ AreRowLines ((byte ∷ line) ∷ lines) (row ∷ rows) = IsRowLine (byte ∷ lin
 -- The text is folded text of these rows: its lines spell them, and they keep the limit of 2^63 - 1 together. `lines`
 -- ends a line at each line feed, drops one carriage return directly before it, and reads a last line that has no line
 -- feed.
-pub record IsFoldedText (text : List ℕ) (rows : List Row) : Type 0 where
+pub record IsFoldedText (text : List ℕ) (rows : List WeightedStack) : Type 0 where
   pub rows_lines : AreRowLines (lines text) rows
   pub total_fits : total_of rows < 2 ^ 63
 
@@ -84,31 +85,35 @@ IsLineFault held number line (Count at) = (at ≡ number) × IsUtf8 line × (sta
     × HasCount line stack digits × (2 ^ 63 ≤ digits_value 10 digits)
 IsLineFault held number line (Depth at) = (at ≡ number) × IsUtf8 line × (stack : List ℕ) × (digits : List ℕ)
     × HasCount line stack digits × (digits_value 10 digits < 2 ^ 63) × (65535 < length (frames_of stack))
-IsLineFault held number line (Heavy at) = (at ≡ number) × (row : Row) × IsRowLine line row
+IsLineFault held number line (Heavy at) = (at ≡ number) × (row : WeightedStack) × IsRowLine line row
     × (2 ^ 63 ≤ held + row.weight)
-IsLineFault held number line NoMemory = (row : Row) × IsRowLine line row × (held + row.weight < 2 ^ 63)
+IsLineFault held number line NoMemory = (row : WeightedStack) × IsRowLine line row × (held + row.weight < 2 ^ 63)
 
 -- The first fault of a text: it stands at a line, and the lines before it spell rows within the limit. Lines count from
 -- 1, empty ones too. Where memory ran out, the lines up to there have no fault.
 abbrev pub IsFirstFault : List ℕ → FoldedFault → Type 0
 IsFirstFault text fault = (before : List (List ℕ)) × (line : List ℕ) × (after : List (List ℕ))
-    × (rows : List Row)
+    × (rows : List WeightedStack)
     × (lines text ≡ before ++ line ∷ after) × AreRowLines before rows × (total_of rows < 2 ^ 63)
     × (0 < length line) × IsLineFault (total_of rows) (length before + 1) line fault
 
 -- why work on the rows of a text has no result: the text's first fault, or memory runs out after its last line
 abbrev pub IsWorkFault : List ℕ → FoldedFault → Type 0
 IsWorkFault text fault = IsFirstFault text fault
-    ⊎ ((fault ≡ NoMemory) × (rows : List Row) × IsFoldedText text rows)
+    ⊎ ((fault ≡ NoMemory) × (rows : List WeightedStack) × IsFoldedText text rows)
 
 -- a row as folded text: its names joined by semicolons, a space, its weight in decimal, a line feed
-abbrev pub row_text : Row → List ℕ
+abbrev pub row_text : WeightedStack → List ℕ
 row_text row = join_with_byte 59 row.stack ++ 32 ∷ decimal row.weight ++ 10 ∷ []
 
 -- rows as folded text, each in its place
-abbrev pub rows_text : List Row → List ℕ
+abbrev pub rows_text : List WeightedStack → List ℕ
 rows_text rows = flat_map row_text rows
 
 -- the folded report: each stack of weight above 0 once, with its weight, in the order of stacks
-abbrev pub folded_text_of : List Row → List ℕ
+abbrev pub folded_text_of : List WeightedStack → List ℕ
 folded_text_of rows = rows_text (rows_of (aggregate_of rows))
+
+-- the text is folded text of the rows of a batch of one value
+abbrev pub IsFoldedBatch : List ℕ → BatchState → Type 0
+IsFoldedBatch text batch = (rows : List WeightedStack) × IsFoldedText text rows × (batch ≡ single_batch rows)

@@ -3,17 +3,18 @@
 ghost use Rattle.std.specs.Prelude.{ℕ, ◌≡◌, ◌≢◌, ◌⊎◌, ◌+◌, ◌^◌, ◌<◌, ◌≤◌, ◌↔◌, ◌∷◌, ◌++◌, [], All, IfErr, IfOk, IsTrue, List, MatchOption, MatchResult, OnOk, length};
 ghost use Rattle.std.specs.Str.{IsUtf8};
 ghost use Rattle.std.specs.Str.Parse.{IsNumeral, digits_value};
-ghost use Rattle.profile_rows.specs.declared.batch.Row.{Row};
+ghost use Rattle.profile_rows.specs.declared.weighted_stacks.WeightedStack.{WeightedStack};
 ghost use Rattle.folded_text.specs.declared.folded.FoldedFault.{FoldedFault};
-ghost use Rattle.folded_text.specs.FoldedText.{HasCount, IsFirstFault, IsFoldedText, IsFittingFault, IsLineFault, IsRowLine, IsCountFault, frames_of};
+ghost use Rattle.folded_text.specs.FoldedText.{HasCount, IsFirstFault, IsFoldedBatch, IsFoldedText, IsFittingFault, IsLineFault, IsRowLine, IsCountFault, frames_of};
 ghost use Rattle.profile_rows.specs.Names.{IsName};
 ghost use Rattle.profile_rows.specs.Rows.{total_of};
+ghost use Rattle.profile_rows.specs.Values.{single_batch};
 
 use crate::known_names::KnownNames;
 use crate::stack_frames::Frames;
 use crate::taking::{LineTaker, take_lines};
 use no_memory::NoMemory;
-use profile_rows::{Batch, MAX_DEPTH, MAX_TOTAL, Name, Stack};
+use profile_rows::{Batch, MAX_DEPTH, MAX_TOTAL, Name, Stack, WeightedStacks};
 use std::alloc::Global;
 use thiserror::Error;
 
@@ -206,7 +207,7 @@ pub fn read_line<'a>(line: &'a [u8], held: u64, number: u64) -> Result<Spelled<'
 pub(crate) fn push_spelled<'a>(
     alloc: Global,
     names: &mut KnownNames<'a>,
-    batch: &mut Batch,
+    batch: &mut WeightedStacks,
     spelled: Spelled<'a>,
 ) -> Result<(), NoMemory>
     requires one_line { All (λ byte. byte ≢ 10) spelled.stack.now }
@@ -228,7 +229,7 @@ pub(crate) fn push_spelled<'a>(
 struct Reading<'a> {
     alloc: Global,
     names: KnownNames<'a>,
-    batch: Batch,
+    batch: WeightedStacks,
 }
 
 impl<'a> LineTaker<'a> for Reading<'a> {
@@ -240,25 +241,40 @@ impl<'a> LineTaker<'a> for Reading<'a> {
     }
 }
 
+/// Reads the rows of folded stacks.
+fn read_stacks(alloc: Global, text: &[u8]) -> Result<WeightedStacks, FoldedFault>
+    ensures read { MatchResult result (λ rows. IsFoldedText text.now rows) (λ fault. IsFirstFault text.now fault) }
+    ensures accepted { (rows : List WeightedStack) → IsFoldedText text.now rows
+        → MatchResult result (λ found. found ≡ rows) (λ fault. fault ≡ FoldedFault.NoMemory) }
+    ensures every_fault { (first : FoldedFault) → first ≢ FoldedFault.NoMemory → IsFirstFault text.now first
+        → MatchResult result (λ rows. ⊥) (λ fault. (fault ≡ FoldedFault.NoMemory) ⊎ (fault ≡ first)) }
+{
+    let mut reading = Reading {
+        alloc,
+        names: KnownNames::new(alloc),
+        batch: WeightedStacks::new(alloc),
+    };
+    take_lines(text, &mut reading)?;
+    Ok(reading.batch)
+}
+
 /// Reads folded stacks: a line for each row, its frames from root to leaf separated by semicolons, then a space and a
 /// count. A line ends at its line feed, and one carriage return directly before that is dropped; the last line may lack
-/// it. Empty lines are skipped, and so are empty parts between semicolons: a stack may be empty.
+/// it. Empty lines are skipped, and so are empty parts between semicolons: a stack may be empty. The batch has one value.
 ///
 /// # Errors
 ///
 /// The fault of the first line that has one, in the order of [`FoldedFault`]'s variants; `NoMemory`.
 pub fn read_folded(alloc: Global, text: &[u8]) -> Result<Batch, FoldedFault>
-    ensures read { MatchResult result (λ batch. IsFoldedText text.now batch) (λ fault. IsFirstFault text.now fault) }
-    ensures accepted { (rows : List Row) → IsFoldedText text.now rows
-        → MatchResult result (λ batch. batch ≡ rows) (λ fault. fault ≡ FoldedFault.NoMemory) }
+    ensures read { MatchResult result (λ batch. IsFoldedBatch text.now batch)
+        (λ fault. IsFirstFault text.now fault) }
+    ensures accepted { (rows : List WeightedStack) → IsFoldedText text.now rows
+        → MatchResult result (λ batch. batch ≡ single_batch rows) (λ fault. fault ≡ FoldedFault.NoMemory) }
     ensures every_fault { (first : FoldedFault) → first ≢ FoldedFault.NoMemory → IsFirstFault text.now first
         → MatchResult result (λ batch. ⊥) (λ fault. (fault ≡ FoldedFault.NoMemory) ⊎ (fault ≡ first)) }
 {
-    let mut reading = Reading {
-        alloc,
-        names: KnownNames::new(alloc),
-        batch: Batch::new(alloc),
-    };
-    take_lines(text, &mut reading)?;
-    Ok(reading.batch)
+    match read_stacks(alloc, text) {
+        Ok(rows) => Ok(Batch::single(alloc, rows)),
+        Err(fault) => Err(fault),
+    }
 }

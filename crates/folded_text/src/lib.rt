@@ -15,4 +15,4 @@ pub use merged_text::merge_folded;
 pub use stack_frames::Frames;
 pub use taking::{LineTaker, take_lines};
 pub use text_totals::folded_totals;
-pub use written::write_folded;
+pub use written::{write_folded, write_stacks};

@@ -1,7 +1,7 @@
 //! Folded text read into one row for each stack text.
 
 ghost use Rattle.std.specs.Prelude.{◌≡◌, ◌≢◌, ◌+◌, ◌^◌, ◌<◌, ◌≤◌, All, IfErr, List, MatchResult, OnOk, length};
-ghost use Rattle.profile_rows.specs.declared.batch.Row.{Row};
+ghost use Rattle.profile_rows.specs.declared.weighted_stacks.WeightedStack.{WeightedStack};
 ghost use Rattle.profile_rows.specs.Aggregate.{aggregate_of};
 ghost use Rattle.profile_rows.specs.Rows.{total_of};
 ghost use Rattle.folded_text.specs.FoldedText.{IsFirstFault, IsFoldedText, IsLineFault, IsRowLine, frames_of};
@@ -12,7 +12,7 @@ use crate::folded::{FoldedFault, Spelled, fitting_depth, push_spelled, stack_and
 use crate::known_names::KnownNames;
 use crate::taking::{LineTaker, take_lines};
 use no_memory::NoMemory;
-use profile_rows::Batch;
+use profile_rows::WeightedStacks;
 use std::alloc::Global;
 use std::collections::HashMap;
 
@@ -21,7 +21,7 @@ fn push_merged<'a>(
     alloc: Global,
     names: &mut KnownNames<'a>,
     known: &mut HashMap<&'a str, usize>,
-    merged: &mut Batch,
+    merged: &mut WeightedStacks,
     spelled: Spelled<'a>,
 ) -> Result<(), NoMemory>
     requires one_line { All (λ byte. byte ≢ 10) spelled.stack.now }
@@ -40,7 +40,12 @@ fn push_merged<'a>(
 }
 
 /// Adds to the weight of a row.
-fn add_to_row(merged: &mut Batch, at: usize, weight: u64, number: u64) -> Result<(), FoldedFault>
+fn add_to_row(
+    merged: &mut WeightedStacks,
+    at: usize,
+    weight: u64,
+    number: u64,
+) -> Result<(), FoldedFault>
     requires { at < length merged.old }
     ensures added { OnOk result (merged.new ≡ with_added_at merged.old at weight) }
     ensures fits { OnOk result (total_of merged.old + weight < 2 ^ 63) }
@@ -58,13 +63,13 @@ fn merge_line<'a>(
     alloc: Global,
     names: &mut KnownNames<'a>,
     known: &mut HashMap<&'a str, usize>,
-    merged: &mut Batch,
+    merged: &mut WeightedStacks,
     line: &'a [u8],
     number: u64,
 ) -> Result<(), FoldedFault>
     requires one_line { All (λ byte. byte ≢ 10) line.now }
     requires placed { ArePlacedBy frames_of known.old merged.old }
-    ensures added { OnOk result ((row : Row) × IsRowLine line.now row × AddsRow merged.old merged.new row) }
+    ensures added { OnOk result ((row : WeightedStack) × IsRowLine line.now row × AddsRow merged.old merged.new row) }
     ensures placed { OnOk result (ArePlacedBy frames_of known.new merged.new) }
     ensures fault { IfErr result (IsLineFault (total_of merged.old) number line.now) }
 {
@@ -90,7 +95,7 @@ struct Merging<'a> {
     names: KnownNames<'a>,
     /// The place of each stack text's row.
     known: HashMap<&'a str, usize>,
-    merged: Batch,
+    merged: WeightedStacks,
 }
 
 impl<'a> LineTaker<'a> for Merging<'a> {
@@ -116,10 +121,10 @@ impl<'a> LineTaker<'a> for Merging<'a> {
 /// # Errors
 ///
 /// Those of [`read_folded`](crate::read_folded).
-pub fn merge_folded(alloc: Global, text: &[u8]) -> Result<Batch, FoldedFault>
+pub fn merge_folded(alloc: Global, text: &[u8]) -> Result<WeightedStacks, FoldedFault>
     ensures read { MatchResult result (λ merged. IsMergedText text.now merged)
         (λ fault. IsFirstFault text.now fault) }
-    ensures accepted { (rows : List Row) → IsFoldedText text.now rows
+    ensures accepted { (rows : List WeightedStack) → IsFoldedText text.now rows
         → MatchResult result (λ merged. aggregate_of merged ≡ aggregate_of rows)
         (λ fault. fault ≡ FoldedFault.NoMemory) }
 {
@@ -127,7 +132,7 @@ pub fn merge_folded(alloc: Global, text: &[u8]) -> Result<Batch, FoldedFault>
         alloc,
         names: KnownNames::new(alloc),
         known: HashMap::new(alloc),
-        merged: Batch::new(alloc),
+        merged: WeightedStacks::new(alloc),
     };
     take_lines(text, &mut merging)?;
     Ok(merging.merged)

@@ -1,7 +1,7 @@
 //! The lines of a folded text, handed out one by one.
 
 ghost use Rattle.std.specs.Prelude.{ℕ, ◌≡◌, ◌≢◌, ◌+◌, ◌^◌, ◌<◌, ◌++◌, ◌∷◌, [], All, IfErr, List, OnOk};
-ghost use Rattle.profile_rows.specs.declared.batch.Row.{Row};
+ghost use Rattle.profile_rows.specs.declared.weighted_stacks.WeightedStack.{WeightedStack};
 ghost use Rattle.profile_rows.specs.Rows.{total_of};
 ghost use Rattle.folded_text.specs.FoldedText.{IsFirstFault, IsFoldedText, IsLineFault, IsRowLine};
 
@@ -11,7 +11,7 @@ use bstr::ByteSlice;
 /// Something that is made of the rows of a folded text: it takes the text's lines in order.
 pub trait LineTaker<'a> {
     /// It is what these rows make.
-    ghost is_of: { Self → List Row → Type 0 };
+    ghost is_of: { Self → List WeightedStack → Type 0 };
 
     /// Takes the row that a line spells, where it spells one that can follow the rows before. The line isn't empty.
     ///
@@ -20,11 +20,11 @@ pub trait LineTaker<'a> {
     /// The line's fault, under this number.
     fn take_line(&mut self, line: &'a [u8], number: u64) -> Result<(), FoldedFault>
         requires one_line { All (λ byte. byte ≢ 10) line.now }
-        requires before { (rows : List Row) × is_of self.old rows × (total_of rows < 2 ^ 63) }
-        ensures taken { (rows : List Row) → is_of self.old rows → total_of rows < 2 ^ 63
-            → OnOk result ((row : Row) × IsRowLine line.now row × (total_of rows + row.weight < 2 ^ 63)
+        requires before { (rows : List WeightedStack) × is_of self.old rows × (total_of rows < 2 ^ 63) }
+        ensures taken { (rows : List WeightedStack) → is_of self.old rows → total_of rows < 2 ^ 63
+            → OnOk result ((row : WeightedStack) × IsRowLine line.now row × (total_of rows + row.weight < 2 ^ 63)
             × is_of self.new (rows ++ row ∷ [])) }
-        ensures fault { (rows : List Row) → is_of self.old rows → total_of rows < 2 ^ 63
+        ensures fault { (rows : List WeightedStack) → is_of self.old rows → total_of rows < 2 ^ 63
             → IfErr result (IsLineFault (total_of rows) number line.now) };
 }
 
@@ -35,7 +35,7 @@ pub trait LineTaker<'a> {
 /// The fault of the first line that has one.
 pub fn take_lines<'a, T: LineTaker<'a>>(text: &'a [u8], taker: &mut T) -> Result<(), FoldedFault>
     requires { T.is_of taker.old [] }
-    ensures taken { OnOk result ((rows : List Row) × IsFoldedText text.now rows × T.is_of taker.new rows) }
+    ensures taken { OnOk result ((rows : List WeightedStack) × IsFoldedText text.now rows × T.is_of taker.new rows) }
     ensures fault { IfErr result (IsFirstFault text.now) }
 {
     for (index, line) in text.lines().enumerate() {

@@ -1,7 +1,7 @@
 //! What the names weigh in the rows of folded text, counted while it is read.
 
 ghost use Rattle.std.specs.Prelude.{ℕ, ◌≡◌, ◌≢◌, ◌+◌, ◌^◌, ◌<◌, ◌++◌, ◌∷◌, [], All, List, MatchResult, IfErr, OnOk, map};
-ghost use Rattle.profile_rows.specs.declared.batch.Row.{Row};
+ghost use Rattle.profile_rows.specs.declared.weighted_stacks.WeightedStack.{WeightedStack};
 ghost use Rattle.profile_rows.specs.Names.{IsName};
 ghost use Rattle.profile_rows.specs.Rows.{total_of};
 ghost use Rattle.profile_rows.specs.Tallies.{AreTalliesOf};
@@ -38,10 +38,10 @@ fn count_line<'a>(
     number: u64,
 ) -> Result<(), FoldedFault>
     requires one_line { All (λ byte. byte ≢ 10) line.now }
-    requires counted { (before : List Row) × AreTalliesOf before rows.old.total rows.old.tallies
+    requires counted { (before : List WeightedStack) × AreTalliesOf before rows.old.total rows.old.tallies
         × (total_of before < 2 ^ 63) }
-    ensures counted { (before : List Row) → AreTalliesOf before rows.old.total rows.old.tallies
-        → OnOk result ((row : Row) × IsRowLine line.now row × (total_of before + row.weight < 2 ^ 63)
+    ensures counted { (before : List WeightedStack) → AreTalliesOf before rows.old.total rows.old.tallies
+        → OnOk result ((row : WeightedStack) × IsRowLine line.now row × (total_of before + row.weight < 2 ^ 63)
         × AreTalliesOf (before ++ row ∷ []) rows.new.total rows.new.tallies) }
     ensures fault { IfErr result (IsLineFault rows.old.total number line.now) }
 {
@@ -78,7 +78,7 @@ impl<'a> LineTaker<'a> for Counting<'a> {
 /// Those of [`read_folded`](crate::read_folded).
 pub fn folded_totals(alloc: Global, text: &[u8]) -> Result<FrameTotals, FoldedFault>
     ensures counted { MatchResult result (AreTotalsOfText text.now) (IsWorkFault text.now) }
-    ensures accepted { (rows : List Row) → IsFoldedText text.now rows
+    ensures accepted { (rows : List WeightedStack) → IsFoldedText text.now rows
         → MatchResult result (AreTotalsOf rows) (λ fault. fault ≡ FoldedFault.NoMemory) }
 {
     let mut counting = Counting {

@@ -4,10 +4,11 @@ ghost use Rattle.std.specs.Prelude.{◌≡◌, ◌++◌, ◌^◌, ◌<◌, ◌�
 ghost use Rattle.std.specs.List.{join_with_byte};
 ghost use Rattle.folded_text.specs.FoldedText.{IsFoldedText, row_text, rows_text};
 ghost use Rattle.profile_rows.specs.Names.{IsName};
+ghost use Rattle.profile_rows.specs.Values.{rows_at};
 
 use itoa::Buffer;
 use no_memory::NoMemory;
-use profile_rows::{Batch, Name, Row};
+use profile_rows::{Batch, Name, Stack, WeightedStacks};
 use std::alloc::Global;
 
 /// Adds the names of a stack, separated by semicolons.
@@ -24,16 +25,17 @@ fn push_stack(text: &mut Vec<u8>, names: &[Name]) -> Result<(), NoMemory>
     Ok(())
 }
 
-/// Adds the line of a row.
-fn push_row(text: &mut Vec<u8>, row: &Row) -> Result<(), NoMemory>
-    ensures line { OnOk result (text.new.items ≡ text.old.items ++ row_text row.now) }
-    ensures names { OnOk result (All IsName row.now.stack) }
-    ensures depth { length row.now.stack ≤ 65535 }
+/// Adds the line of a stack and its weight.
+fn push_row(text: &mut Vec<u8>, stack: &Stack, weight: u64) -> Result<(), NoMemory>
+    ensures line { OnOk result
+        (text.new.items ≡ text.old.items ++ row_text (record { stack = stack.now; weight = weight })) }
+    ensures names { OnOk result (All IsName stack.now) }
+    ensures depth { length stack.now ≤ 65535 }
 {
     let mut buffer = Buffer::new();
-    push_stack(text, row.stack.names())?;
+    push_stack(text, stack.names())?;
     text.push(b' ')?;
-    text.extend_from_slice(buffer.format(row.weight).as_bytes())?;
+    text.extend_from_slice(buffer.format(weight).as_bytes())?;
     text.push(b'\n')?;
     Ok(())
 }
@@ -44,13 +46,30 @@ fn push_row(text: &mut Vec<u8>, row: &Row) -> Result<(), NoMemory>
 /// # Errors
 ///
 /// `NoMemory`.
-pub fn write_folded(alloc: Global, batch: &Batch) -> Result<Vec<u8>, NoMemory>
-    ensures text { IfOk result (λ text. text.items ≡ rows_text batch.now) }
-    ensures reads_back { IfOk result (λ text. IsFoldedText text.items batch.now) }
+pub fn write_stacks(alloc: Global, rows: &WeightedStacks) -> Result<Vec<u8>, NoMemory>
+    ensures text { IfOk result (λ text. text.items ≡ rows_text rows.now) }
+    ensures reads_back { IfOk result (λ text. IsFoldedText text.items rows.now) }
 {
     let mut text = Vec::new(alloc);
-    for row in batch.rows() {
-        push_row(&mut text, row)?;
+    for row in rows.rows() {
+        push_row(&mut text, &row.stack, row.weight)?;
+    }
+    Ok(text)
+}
+
+/// Writes each row of a batch by the value of this number, counted from 0, as [`write_stacks`] does.
+///
+/// # Errors
+///
+/// `NoMemory`.
+pub fn write_folded(alloc: Global, batch: &Batch, value: u32) -> Result<Vec<u8>, NoMemory>
+    requires { value < batch.now.width }
+    ensures text { IfOk result (λ text. text.items ≡ rows_text (rows_at value batch.now.rows)) }
+    ensures reads_back { IfOk result (λ text. IsFoldedText text.items (rows_at value batch.now.rows)) }
+{
+    let mut text = Vec::new(alloc);
+    for at in 0..batch.first().rows().len() {
+        push_row(&mut text, batch.row(at).stack, batch.weight(at, value))?;
     }
     Ok(text)
 }

@@ -4,7 +4,8 @@
 //! the tests make such a value in one function and lend it in that function's last call.
 
 use call_tree::Grower;
-use stack_text::{Batch, MAX_TOTAL, Name, Stack, read_folded, write_folded};
+use profile_rows::first_heavy;
+use stack_text::{Batch, Name, Stack, Weights, read_folded, write_folded};
 use std::alloc::Global;
 use std::test::Fail;
 
@@ -13,10 +14,36 @@ pub(crate) fn rows_of(alloc: Global, text: &str) -> Result<Batch, Fail> {
     Ok(read_folded(alloc, text.as_bytes())?)
 }
 
-/// Rows as folded text.
-pub(crate) fn text_of(alloc: Global, rows: &Batch) -> Result<String, Fail> {
-    let text = String::from_utf8(write_folded(alloc, rows)?);
+/// Rows as folded text, by one value.
+pub(crate) fn value_text(alloc: Global, rows: &Batch, value: u32) -> Result<String, Fail> {
+    if value >= rows.width().get() {
+        return Err("no such value".into());
+    }
+    let text = String::from_utf8(write_folded(alloc, rows, value)?);
     Ok(text.ok().ok_or("no text")?)
+}
+
+/// Rows as folded text, by their first value.
+pub(crate) fn text_of(alloc: Global, rows: &Batch) -> Result<String, Fail> {
+    value_text(alloc, rows, 0)
+}
+
+/// Weights of these values.
+pub(crate) fn weights_of(values: &[u64]) -> Result<Weights, Fail> {
+    Ok(Weights::make(values).ok_or("no weights")?)
+}
+
+/// Adds a row to a batch, which accepts it.
+pub(crate) fn push(
+    alloc: Global,
+    batch: &mut Batch,
+    frames: &str,
+    values: &[u64],
+) -> Result<(), Fail> {
+    let weights = weights_of(values)?;
+    let stack = stack_of(alloc, frames)?;
+    batch.push(stack, weights).ok().ok_or("refused")?;
+    Ok(())
 }
 
 /// A stack by its frames, joined by semicolons. No text is the empty stack.
@@ -37,7 +64,11 @@ pub(crate) fn plan(
     rows: &Batch,
     kept: bool,
 ) -> Result<(), Fail> {
-    if grower.tree().total() > MAX_TOTAL - rows.total() {
+    if grower.tree().width() != rows.width() {
+        return Err("another width".into());
+    }
+    let held = grower.tree().total();
+    if let Some(_) = first_heavy(&held, &rows.total()) {
         return Err("too heavy".into());
     }
     let plan = grower.plan(alloc, rows)?;

@@ -1,12 +1,12 @@
 //! What no clause says of reports: that calls succeed with ample memory, and what they answer on worked rows.
 
-use crate::helpers::{plan, rows_of};
+use crate::helpers::{plan, push, rows_of};
 use call_tree::{CallTree, Grower};
 use flame_report::{
     Answer, Columns, Flame, Kind, Label, MAX_COLUMNS, Query, Rank, flame_json, report, report_of,
     top_list, top_text,
 };
-use stack_text::{Batch, Name, folded_totals};
+use stack_text::{Batch, Name, Width, folded_totals};
 use std::alloc::Global;
 use std::test::Fail;
 
@@ -62,15 +62,21 @@ fn answer_text(alloc: Global, answer: &Answer) -> Result<String, Fail> {
 }
 
 fn answer_of_rows(alloc: Global, rows: &Batch, query: &Query) -> Result<String, Fail> {
+    if query.value >= rows.width().get() {
+        return Err("no such value".into());
+    }
     answer_text(alloc, &report_of(alloc, rows, query)?)
 }
 
 fn answer_of_tree(alloc: Global, tree: &CallTree, query: &Query) -> Result<String, Fail> {
+    if query.value >= tree.width().get() {
+        return Err("no such value".into());
+    }
     answer_text(alloc, &report(alloc, tree, query)?)
 }
 
 fn grown(alloc: Global, rows: &Batch) -> Result<Grower, Fail> {
-    let mut grower = Grower::new(alloc)?;
+    let mut grower = Grower::new(alloc, rows.width())?;
     plan(alloc, &mut grower, rows, true)?;
     Ok(grower)
 }
@@ -105,6 +111,7 @@ fn kept_answered(
     let query = Query {
         focus: some_name(alloc, focus)?,
         ignore: some_name(alloc, ignore)?,
+        value: 0,
         kind,
     };
     query_answered(alloc, input, &query)
@@ -149,8 +156,12 @@ fn rectangles(alloc: Global, rows: &Batch, kind: Kind) -> Result<String, Fail> {
     let query = Query {
         focus: None,
         ignore: None,
+        value: 0,
         kind,
     };
+    if rows.width().get() == 0 {
+        return Err("no value".into());
+    }
     match &report_of(alloc, rows, &query)? {
         Answer::Flame(flame) => layout_text(alloc, flame),
         _ => Err("no layout".into()),
@@ -308,5 +319,42 @@ fn a_label_has_the_text_of_its_name(rt: HostRuntime) -> Result<(), Fail> {
     let name = Name::make(rt.alloc(), "a b")?;
     let label = Label::of(&name)?;
     assert_eq!(rt; label.text(), "a b");
+    Ok(())
+}
+
+// The answer over the rows `a` [1, 0] and `b` [0, 2], by a value.
+fn answered_by_value(alloc: Global, value: u32, kind: Kind) -> Result<String, Fail> {
+    let query = Query {
+        focus: None,
+        ignore: None,
+        value,
+        kind,
+    };
+    let width = Width::new(2).ok_or("no width")?;
+    let mut rows = Batch::new(alloc, width);
+    push(alloc, &mut rows, "a", &[1, 0])?;
+    push(alloc, &mut rows, "b", &[0, 2])?;
+    answer_by_both(alloc, &rows, &query)
+}
+
+#[test]
+fn a_report_is_over_the_value_that_it_names(rt: HostRuntime) -> Result<(), Fail> {
+    for (value, kind, want) in [
+        (0, Kind::Total, "1"),
+        (1, Kind::Total, "2"),
+        (1, top(Rank::Flat, 20), "total 2\n2 2 b\n"),
+        (1, Kind::Folded, "b 2\n"),
+        (0, Kind::Folded, "a 1\n"),
+        (
+            1,
+            flame(4)?,
+            "{\"columns\":4,\"rects\":[\
+             {\"depth\":0,\"left\":0,\"name\":\"\",\"right\":4,\"weight\":2,\"x\":0},\
+             {\"depth\":1,\"left\":0,\"name\":\"b\",\"right\":4,\"weight\":2,\"x\":0}],\"total\":2}",
+        ),
+    ] {
+        let answer = answered_by_value(rt.alloc(), value, kind)?;
+        assert_eq!(rt; answer.as_str(), want);
+    }
     Ok(())
 }

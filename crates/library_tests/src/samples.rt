@@ -1,12 +1,12 @@
 //! What no clause says of a profile's samples: that calls succeed with ample memory, and what they answer on values
 //! from the format's description.
 
-use crate::helpers::{rows_of, text_of};
+use crate::helpers::{push, rows_of, text_of};
 use crate::messages::{INLINED_AND_BARE_LOCATIONS, NEGATIVE_VALUE, ONE_SAMPLE, TWO_SAMPLE_TYPES};
 use pprof_profile::{Profile, decode, encode};
 use stack_text::{
-    Batch, BatchFault, Name, NoMemory, ValueChoice, batch_of, export_folded, merge_samples,
-    profile_of, unfold,
+    Batch, BatchFault, Name, ValueChoice, ValueUnit, Width, batch_of, export_folded, merge_samples,
+    profile_of, unfold, write_stacks,
 };
 use std::alloc::Global;
 use std::test::Fail;
@@ -19,10 +19,17 @@ fn folded_text_is_exported_as_a_profile(rt: HostRuntime) -> Result<(), Fail> {
     Ok(())
 }
 
-// The bytes of the profile of rows.
-fn exported(alloc: Global, rows: &Batch) -> Result<Vec<u8>, NoMemory> {
-    let profile = profile_of(alloc, rows, "cpu", "ns")?;
-    encode(alloc, &profile)
+// The bytes of the profile of rows of one value.
+fn exported(alloc: Global, rows: &Batch) -> Result<Vec<u8>, Fail> {
+    if rows.width().get() != 1 {
+        return Err("another width".into());
+    }
+    let unit = ValueUnit {
+        kind: "cpu",
+        unit: "ns",
+    };
+    let profile = profile_of(alloc, rows, &[unit])?;
+    Ok(encode(alloc, &profile)?)
 }
 
 // The same sample, from a batch.
@@ -125,7 +132,9 @@ fn a_sample_of_65535_frames_is_read(rt: HostRuntime) -> Result<(), Fail> {
 }
 
 fn sums_text(alloc: Global, profile: &Profile) -> Result<String, Fail> {
-    text_of(alloc, &merge_samples(alloc, profile, ValueChoice::Default)?)
+    let merged = merge_samples(alloc, profile, ValueChoice::Default)?;
+    let text = String::from_utf8(write_stacks(alloc, &merged)?);
+    Ok(text.ok().ok_or("no text")?)
 }
 
 // The rows of a profile's samples where equal ones are put together, as folded text.
@@ -182,5 +191,40 @@ fn the_leaf_is_unfolded_first(rt: HostRuntime) -> Result<(), Fail> {
     for (name, want) in names.iter().zip(["a", "b", "c", "0xff"]) {
         assert_eq!(rt; name.text(), want);
     }
+    Ok(())
+}
+
+// The profile of a row of two values by each of them, and its sample types.
+fn two_values(alloc: Global) -> Result<String, Fail> {
+    let mut rows = Batch::new(alloc, Width::new(2).ok_or("no width")?);
+    push(alloc, &mut rows, "f", &[3, 30])?;
+    two_values_of(alloc, &rows)
+}
+
+fn two_values_of(alloc: Global, rows: &Batch) -> Result<String, Fail> {
+    if rows.width().get() != 2 {
+        return Err("another width".into());
+    }
+    let samples = ValueUnit {
+        kind: "samples",
+        unit: "count",
+    };
+    let cpu = ValueUnit {
+        kind: "cpu",
+        unit: "ns",
+    };
+    both_types(alloc, &profile_of(alloc, rows, &[samples, cpu])?)
+}
+
+fn both_types(alloc: Global, profile: &Profile) -> Result<String, Fail> {
+    let first = rows_text(alloc, profile, ValueChoice::Named("samples"))?;
+    let last = rows_text(alloc, profile, ValueChoice::Default)?;
+    let types = profile.draft().sample_types.len();
+    Ok(format!(in alloc; "{first}{last}{types}")?)
+}
+
+#[test]
+fn each_value_is_exported_as_a_sample_type(rt: HostRuntime) -> Result<(), Fail> {
+    assert_eq!(rt; two_values(rt.alloc())?.as_str(), "f 3\nf 30\n2");
     Ok(())
 }

@@ -1,11 +1,12 @@
 //! What no clause says of names, stacks, rows and folded text: that calls succeed with ample memory, and what they
 //! answer.
 
-use crate::helpers::{rows_of, stack_of, text_of};
+use crate::helpers::{push, rows_of, stack_of, text_of, value_text, weights_of};
 use profile_rows::CountedRows;
 use stack_text::{
     Batch, FoldedFault, FrameTotals, MAX_DEPTH, MAX_TOTAL, Name, NameFault, NoMemory, PushFault,
-    Stack, aggregate, folded_totals, kept_totals, merge_folded, read_folded,
+    Stack, WeightedStacks, Weights, Width, aggregate, folded_totals, kept_totals, merge_folded,
+    read_folded, write_stacks,
 };
 use std::alloc::Global;
 use std::test::Fail;
@@ -49,18 +50,24 @@ fn stacks_are_ordered_as_lists_of_names(rt: HostRuntime) -> Result<(), Fail> {
 }
 
 #[test]
-fn a_batch_keeps_its_total_within_the_limit(rt: HostRuntime) -> Result<(), Fail> {
+fn weighted_stacks_keep_their_total_within_the_limit(rt: HostRuntime) -> Result<(), Fail> {
     let alloc = rt.alloc();
-    let mut batch = Batch::new(alloc);
+    let mut batch = WeightedStacks::new(alloc);
     let refused = batch
         .push(stack_of(alloc, "a")?, MAX_TOTAL + 1)
         .err()
         .ok_or("accepted")?;
-    assert!(rt; refused.fault == PushFault::Heavy { held: 0 } && refused.back.names().len() == 1);
+    assert!(rt;
+        refused.fault == PushFault::Heavy { value: 0, held: 0 } && refused.back.names().len() == 1
+    );
     assert!(rt; batch.push(stack_of(alloc, "a")?, MAX_TOTAL).is_ok());
     assert!(rt; batch.push(stack_of(alloc, "a;b")?, 0).is_ok());
     let refused = batch.push(refused.back, 1).err().ok_or("accepted")?;
-    assert!(rt; refused.fault == PushFault::Heavy { held: MAX_TOTAL });
+    let heavy = PushFault::Heavy {
+        value: 0,
+        held: MAX_TOTAL,
+    };
+    assert!(rt; refused.fault == heavy);
     assert_eq!(rt; batch.rows().len(), 2);
     assert_eq!(rt; batch.total(), MAX_TOTAL);
     assert!(rt; batch == batch);
@@ -160,7 +167,10 @@ fn an_aggregate_has_each_stack_once(rt: HostRuntime) -> Result<(), Fail> {
 #[test]
 fn lines_of_one_stack_are_merged(rt: HostRuntime) -> Result<(), Fail> {
     let sums = merge_folded(rt.alloc(), b"a;b 1\nc 2\na;b 3\n")?;
-    assert_eq!(rt; text_of(rt.alloc(), &sums)?.as_str(), "a;b 4\nc 2\n");
+    assert_eq!(rt;
+        write_stacks(rt.alloc(), &sums)?.as_slice(),
+        b"a;b 4\nc 2\n".as_slice()
+    );
     Ok(())
 }
 
@@ -201,7 +211,7 @@ fn a_row_is_counted_by_its_frames(rt: HostRuntime) -> Result<(), Fail> {
 // The weight of all rows that have the focus and not the ignored name, and the weights of b in them.
 fn kept_weights(
     alloc: Global,
-    rows: &Batch,
+    rows: &WeightedStacks,
     focus: Option<&Name>,
     ignore: Option<&Name>,
 ) -> Result<(u64, Option<(u64, u64)>), Fail> {
@@ -213,9 +223,9 @@ fn kept_weights(
 fn names_of_kept_rows_are_counted(rt: HostRuntime) -> Result<(), Fail> {
     let rows = rows_of(rt.alloc(), RECURSIVE)?;
     let name = Name::make(rt.alloc(), "a")?;
-    let focused = kept_weights(rt.alloc(), &rows, Some(&name), None)?;
+    let focused = kept_weights(rt.alloc(), rows.first(), Some(&name), None)?;
     assert!(rt; focused == (5, Some((0, 5))));
-    let others = kept_weights(rt.alloc(), &rows, None, Some(&name))?;
+    let others = kept_weights(rt.alloc(), rows.first(), None, Some(&name))?;
     assert!(rt; others == (5, Some((3, 3))));
     Ok(())
 }
@@ -239,11 +249,110 @@ fn faults_of_folded_text_are_printed(rt: HostRuntime) -> Result<(), Fail> {
 #[test]
 fn refusals_of_a_row_are_printed(rt: HostRuntime) -> Result<(), Fail> {
     let rows = [
-        (PushFault::Heavy { held: 3 }, "Q1 Heavy held 3"),
+        (PushFault::Width { held: 2 }, "Q3 Width held 2"),
+        (
+            PushFault::Heavy { value: 1, held: 3 },
+            "Q1 Heavy value 1 held 3",
+        ),
         (PushFault::NoMemory, "Q2 NoMemory"),
     ];
     for (fault, want) in rows {
         assert_eq!(rt; format!(in rt.alloc(); "{fault}")?.as_str(), want);
+    }
+    Ok(())
+}
+
+#[test]
+fn widths_and_weights_are_one_to_four(rt: HostRuntime) -> Result<(), Fail> {
+    for (count, accepted) in [(0, false), (1, true), (4, true), (5, false)] {
+        assert_eq!(rt; Width::new(count).is_some(), accepted);
+    }
+    let table: [(&[u64], bool); 4] = [
+        (&[], false),
+        (&[u64::MAX], true),
+        (&[1, 2, 3, 4], true),
+        (&[1, 2, 3, 4, 5], false),
+    ];
+    for (values, accepted) in table {
+        assert_eq!(rt; Weights::make(values).is_some(), accepted);
+    }
+    let weights = weights_of(&[5, 0, 7])?;
+    assert!(rt; weights.values() == [5, 0, 7].as_slice() && weights.width().get() == 3);
+    Ok(())
+}
+
+// A batch of two values: a by the first, b by the second.
+fn two_values(alloc: Global) -> Result<Batch, Fail> {
+    let width = Width::new(2).ok_or("no width")?;
+    let mut batch = Batch::new(alloc, width);
+    push(alloc, &mut batch, "b", &[0, 2])?;
+    push(alloc, &mut batch, "a", &[1, 0])?;
+    push(alloc, &mut batch, "c", &[0, 0])?;
+    push(alloc, &mut batch, "b", &[0, 3])?;
+    Ok(batch)
+}
+
+// The batch by each of its two values, and its totals.
+fn both_values(alloc: Global, batch: &Batch) -> Result<String, Fail> {
+    let first = value_text(alloc, batch, 0)?;
+    let second = value_text(alloc, batch, 1)?;
+    Ok(format!(in alloc; "{first}|{second}|{:?}", batch.total().values())?)
+}
+
+#[test]
+fn each_value_of_a_batch_is_written(rt: HostRuntime) -> Result<(), Fail> {
+    let batch = two_values(rt.alloc())?;
+    let written = both_values(rt.alloc(), &batch)?;
+    assert_eq!(rt;
+        written.as_str(),
+        "b 0\na 1\nc 0\nb 0\n|b 2\na 0\nc 0\nb 3\n|[1, 5]"
+    );
+    Ok(())
+}
+
+// The aggregate of the batch of two values.
+fn aggregate_of_two_values(alloc: Global) -> Result<String, Fail> {
+    let batch = two_values(alloc)?;
+    both_values(alloc, &aggregate(alloc, &batch)?)
+}
+
+#[test]
+fn an_aggregate_keeps_what_weighs_by_any_value(rt: HostRuntime) -> Result<(), Fail> {
+    let written = aggregate_of_two_values(rt.alloc())?;
+    assert_eq!(rt; written.as_str(), "a 1\nb 0\n|a 0\nb 5\n|[1, 5]");
+    Ok(())
+}
+
+// Why a batch of two values, which holds the greatest total of the first, refuses a row of these values.
+fn refusal(alloc: Global, values: &[u64]) -> Result<Option<PushFault>, Fail> {
+    let width = Width::new(2).ok_or("no width")?;
+    let weights = weights_of(values)?;
+    let mut batch = Batch::new(alloc, width);
+    push(alloc, &mut batch, "a", &[MAX_TOTAL, 0])?;
+    let refused = batch.push(stack_of(alloc, "b")?, weights).err();
+    Ok(refused.map(|refused| refused.fault))
+}
+
+#[test]
+fn the_width_comes_before_the_limit_of_each_value(rt: HostRuntime) -> Result<(), Fail> {
+    let heavy = PushFault::Heavy {
+        value: 0,
+        held: MAX_TOTAL,
+    };
+    let table: [(&[u64], Option<PushFault>); 7] = [
+        (&[0, 1], None),
+        (&[0, MAX_TOTAL], None),
+        (&[1, 0], Some(heavy)),
+        (&[1, MAX_TOTAL + 1], Some(heavy)),
+        (
+            &[0, MAX_TOTAL + 1],
+            Some(PushFault::Heavy { value: 1, held: 0 }),
+        ),
+        (&[1], Some(PushFault::Width { held: 2 })),
+        (&[0, 0, 0], Some(PushFault::Width { held: 2 })),
+    ];
+    for (values, want) in table {
+        assert!(rt; refusal(rt.alloc(), values)? == want, "{values:?}");
     }
     Ok(())
 }

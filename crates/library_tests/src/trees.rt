@@ -1,8 +1,8 @@
 //! What no clause says of trees: that calls succeed with ample memory, and what they answer on worked rows.
 
-use crate::helpers::{plan, rows_of, stack_of, text_of};
+use crate::helpers::{plan, push, rows_of, stack_of, text_of, value_text};
 use call_tree::{CallTree, Grower};
-use stack_text::{Batch, MAX_DEPTH};
+use stack_text::{Batch, MAX_DEPTH, Width};
 use std::alloc::{AllocError, Global};
 use std::test::Fail;
 
@@ -15,12 +15,12 @@ fn grow(alloc: Global, grower: &mut Grower, steps: &[(&str, bool)]) -> Result<()
 }
 
 fn grown(alloc: Global, steps: &[(&str, bool)]) -> Result<Grower, Fail> {
-    let mut grower = Grower::new(alloc)?;
+    let mut grower = Grower::new(alloc, Width::one())?;
     grow(alloc, &mut grower, steps)?;
     Ok(grower)
 }
 
-// The rows of a tree as folded text.
+// The rows of a tree as folded text, by the first value.
 fn rows_text(alloc: Global, tree: &CallTree) -> Result<String, Fail> {
     text_of(alloc, &tree.rows(alloc)?)
 }
@@ -28,7 +28,10 @@ fn rows_text(alloc: Global, tree: &CallTree) -> Result<String, Fail> {
 // The names of a tree, each with its flat and its cumulative weight.
 fn totals_text(alloc: Global, tree: &CallTree) -> Result<String, Fail> {
     let mut text = String::new(alloc);
-    for total in &tree.frame_totals(alloc)? {
+    if tree.width().get() == 0 {
+        return Err("no value".into());
+    }
+    for total in &tree.frame_totals(alloc, 0)? {
         writeln!(text, "{} {}/{}", total.name.text(), total.flat, total.cum)?;
     }
     Ok(text)
@@ -38,7 +41,7 @@ fn totals_text(alloc: Global, tree: &CallTree) -> Result<String, Fail> {
 fn answers(alloc: Global, tree: &CallTree) -> Result<String, Fail> {
     let rows = rows_text(alloc, tree)?;
     let totals = totals_text(alloc, tree)?;
-    Ok(format!(in alloc; "total {}\n{rows}\n{totals}", tree.total())?)
+    Ok(format!(in alloc; "total {}\n{rows}\n{totals}", tree.total().values()[0])?)
 }
 
 // All that the tree of some steps answers.
@@ -50,7 +53,7 @@ fn told(alloc: Global, steps: &[(&str, bool)]) -> Result<String, Fail> {
 fn self_weights(alloc: Global, tree: &CallTree, stacks: &[&str]) -> Result<Vec<u64>, Fail> {
     let mut weights = Vec::new(alloc);
     for frames in stacks {
-        weights.push(tree.self_weight(&stack_of(alloc, frames)?))?;
+        weights.push(tree.self_weight(&stack_of(alloc, frames)?).values()[0])?;
     }
     Ok(weights)
 }
@@ -185,9 +188,7 @@ fn the_deepest_stacks_have_rows(rt: HostRuntime) -> Result<(), Fail> {
 
 // Whether each row's stack has its weight in the tree of the rows.
 fn has_each(tree: &CallTree, rows: &Batch) -> bool {
-    rows.rows()
-        .iter()
-        .all(|row| tree.self_weight(&row.stack) == row.weight)
+    rows.first().rows().iter().all(|row| tree.self_weight(&row.stack).values()[0] == row.weight)
 }
 
 fn has_each_of(alloc: Global, text: &str) -> Result<bool, Fail> {
@@ -336,12 +337,42 @@ fn a_tree_answers_as_a_slow_program_does(rt: HostRuntime) -> Result<(), Fail> {
     let alloc = rt.alloc();
     let mut numbers = Numbers { state: 7 };
     let mut rows: Vec<(String, u64)> = Vec::new(alloc);
-    let mut grower = Grower::new(alloc)?;
+    let mut grower = Grower::new(alloc, Width::one())?;
     for round in 0..100u64 {
         let kept = numbers.next() % 3 > 0;
         let more = some_rows(alloc, &mut numbers)?;
         grow_by(alloc, &mut grower, &mut rows, more, kept)?;
         assert!(rt; agrees(alloc, grower.tree(), &rows)?, "round {round}");
     }
+    Ok(())
+}
+
+// The tree of a [1, 0], b [0, 2] and c [0, 0], by each of its values.
+fn grown_by_two(alloc: Global) -> Result<Grower, Fail> {
+    let mut rows = Batch::new(alloc, Width::new(2).ok_or("no width")?);
+    push(alloc, &mut rows, "b", &[0, 2])?;
+    push(alloc, &mut rows, "a", &[1, 0])?;
+    push(alloc, &mut rows, "c", &[0, 0])?;
+    let mut grower = Grower::new(alloc, rows.width())?;
+    plan(alloc, &mut grower, &rows, true)?;
+    Ok(grower)
+}
+
+fn both_values(alloc: Global, tree: &CallTree) -> Result<String, Fail> {
+    let rows = tree.rows(alloc)?;
+    let first = value_text(alloc, &rows, 0)?;
+    let second = value_text(alloc, &rows, 1)?;
+    Ok(format!(in alloc; "{first}|{second}|{:?}", tree.total().values())?)
+}
+
+fn told_by_two(alloc: Global) -> Result<String, Fail> {
+    let grower = grown_by_two(alloc)?;
+    both_values(alloc, grower.tree())
+}
+
+#[test]
+fn a_tree_has_what_weighs_by_any_value(rt: HostRuntime) -> Result<(), Fail> {
+    let told = told_by_two(rt.alloc())?;
+    assert_eq!(rt; told.as_str(), "a 1\nb 0\n|a 0\nb 2\n|[1, 2]");
     Ok(())
 }

@@ -5,6 +5,7 @@ ghost use Rattle.live_store.specs.Stores.{IsMakeFault};
 
 use crate::fault::MakeFault;
 use op_book::Book;
+use profile_rows::Width;
 use std::alloc::Global;
 use std::marker::Model;
 
@@ -15,6 +16,7 @@ pub const MAX_SESSIONS: u32 = 64;
 pub struct Blank {
     pub(crate) book: Book,
     pub(crate) sessions: u32,
+    pub(crate) width: Width,
 }
 
 impl Model for Blank {
@@ -23,27 +25,33 @@ impl Model for Blank {
 
     ghost Value = { StoreLimits };
 
-    ghost view = { λ b. record { limit = b.book.limit; sessions = b.sessions } };
+    ghost view = { λ b. record { limit = b.book.limit; sessions = b.sessions; width = b.width } };
 
-    ghost invariant = { λ b. (b.book.entries ≡ []) × (b.book.sessions ≡ b.sessions) × (b.sessions ≤ 64) };
+    ghost invariant = { λ b. (b.book.entries ≡ []) × (b.book.sessions ≡ b.sessions) × (b.sessions ≤ 64)
+        × (b.book.width ≡ b.width) };
 }
 
 impl Blank {
-    /// An empty store of at most `limit` operations, and 1 to [`MAX_SESSIONS`] sessions.
+    /// An empty store of at most `limit` operations, of 1 to [`MAX_SESSIONS`] sessions, and of rows of so many values.
     ///
     /// # Errors
     ///
     /// `Sessions` exactly where it can't have so many sessions; `NoMemory`.
-    pub fn make(alloc: Global, limit: u32, sessions: u32) -> Result<Blank, MakeFault>
-        ensures made { IfOk result (λ blank. blank ≡ record { limit = limit; sessions = sessions }) }
+    pub fn make(alloc: Global, limit: u32, sessions: u32, width: Width) -> Result<Blank, MakeFault>
+        ensures made { IfOk result
+            (λ blank. blank ≡ record { limit = limit; sessions = sessions; width = width }) }
         ensures sessions { MatchResult result (λ _. (0 < sessions) × (sessions ≤ MAX_SESSIONS))
             (λ fault. IsMakeFault sessions fault) }
     {
         if sessions == 0 || sessions > MAX_SESSIONS {
             return Err(MakeFault::Sessions);
         }
-        match Book::new(alloc, limit, sessions) {
-            Ok(book) => Ok(Blank { book, sessions }),
+        match Book::new(alloc, limit, sessions, width) {
+            Ok(book) => Ok(Blank {
+                book,
+                sessions,
+                width,
+            }),
             Err(_) => Err(MakeFault::NoMemory),
         }
     }

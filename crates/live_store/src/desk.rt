@@ -2,7 +2,6 @@
 
 ghost use Rattle.std.specs.Prelude.{◌≡◌, ◌≢◌, ◌<◌, ◌≤◌, ℕ, IfErr, IfOk, IfSome};
 ghost use Rattle.std.specs.Arc.{arc_value};
-ghost use Rattle.profile_rows.specs.Rows.{total_of};
 ghost use Rattle.flame_report.specs.declared.answer.Answer.{Answer};
 ghost use Rattle.op_book.specs.Operations.{add, answered, ask, placed};
 ghost use Rattle.live_store.specs.Stores.{ShowsCause};
@@ -23,6 +22,7 @@ pub(crate) struct Desk<N: StoreName> {
     of: PhantomData<N>,
     ghost limit: { book.limit ≡ N.limit },
     ghost all: { book.sessions ≡ N.sessions },
+    ghost wide: { book.width ≡ N.width },
     ghost many: { sessions ≡ N.sessions },
     ghost few: { given ≤ N.sessions },
 }
@@ -32,6 +32,7 @@ impl<N: StoreName> Desk<N> {
     pub(crate) fn new(book: Book, sessions: u32) -> Desk<N>
         requires limit { book.limit ≡ N.limit }
         requires all { book.sessions ≡ N.sessions }
+        requires wide { book.width ≡ N.width }
         requires many { sessions ≡ N.sessions }
     {
         Desk {
@@ -67,7 +68,8 @@ impl<N: StoreName> Desk<N> {
             (λ receipt. (place at : ℕ)
             × (receipt ≡ record { op = add (arc_value batch); reply = placed place; at = at })) }
         ensures back { IfErr result (λ refused. refused.back ≡ batch) }
-        ensures cause { IfErr result (λ refused. ShowsCause N.limit turn (total_of (arc_value batch)) refused.fault) }
+        ensures cause { IfErr result
+            (λ refused. ShowsCause N.limit N.width turn (add (arc_value batch)) refused.fault) }
     {
         self.book.add(alloc, session, turn, batch)
     }
@@ -85,15 +87,17 @@ impl<N: StoreName> Desk<N> {
             (λ receipt. (answer : Answer) × (at : ℕ)
             × (receipt ≡ record { op = ask (arc_value query); reply = answered answer; at = at })) }
         ensures back { IfErr result (λ refused. refused.back ≡ query) }
-        ensures cause { IfErr result (λ refused. ShowsCause N.limit turn 0 refused.fault) }
-        ensures light { IfErr result (λ refused. (held : ℕ) → refused.fault ≢ BookFault.Heavy held) }
+        ensures cause { IfErr result
+            (λ refused. ShowsCause N.limit N.width turn (ask (arc_value query)) refused.fault) }
+        ensures light { IfErr result (λ refused. (value held : ℕ) → refused.fault ≢ BookFault.Heavy value held) }
     {
         self.book.ask(alloc, session, turn, query)
     }
 
     /// The book closed.
     pub(crate) fn close(self) -> Journal
-        ensures { result.sessions ≡ N.sessions }
+        ensures sessions { result.sessions ≡ N.sessions }
+        ensures width { result.width ≡ N.width }
     {
         let Desk {
             book,

@@ -1,8 +1,7 @@
 //! A session: what one thread asks of a store, and what it was told.
 
-ghost use Rattle.std.specs.Prelude.{◌≡◌, ◌≢◌, ◌<◌, ◌++◌, ◌∷◌, [], ℕ, List, length, IfErr, IfOk, OnErr, OnOk};
+ghost use Rattle.std.specs.Prelude.{◌≡◌, ◌≢◌, ◌<◌, ◌≤◌, ◌++◌, ◌∷◌, [], ℕ, List, length, IfErr, IfOk, MatchResult, OnErr, OnOk};
 ghost use Rattle.std.specs.Arc.{arc_value};
-ghost use Rattle.profile_rows.specs.Rows.{total_of};
 ghost use Rattle.op_book.specs.Operations.{PlainOp, PlainReceipt, add, answered, ask, placed, plain_reply};
 ghost use Rattle.flame_report.specs.declared.answer.Answer.{Answer};
 ghost use Rattle.live_store.specs.Stores.{ShowsCause};
@@ -117,7 +116,7 @@ impl<'a, N: StoreName> Session<'a, N> {
         ensures number { self.new.number ≡ self.old.number }
         ensures back { IfErr result (λ refused. refused.back ≡ batch) }
         ensures cause { IfErr result
-            (λ refused. ShowsCause N.limit (length self.old.log) (total_of (arc_value batch)) refused.fault) }
+            (λ refused. ShowsCause N.limit N.width (length self.old.log) (add (arc_value batch)) refused.fault) }
     {
         if self.log.reserve(1).is_err() {
             return Err(Refused {
@@ -147,15 +146,19 @@ impl<'a, N: StoreName> Session<'a, N> {
     ///
     /// # Errors
     ///
-    /// The book's first [`BookFault`], which is never `Heavy`. The log is then as it was.
+    /// `Width` wherever the query's value is none of the store's, and before anything is taken; else the book's first
+    /// [`BookFault`], which is never `Heavy`. The log is then as it was.
     pub fn ask<R: Wait>(
         &mut self,
         rt: &R,
         alloc: Global,
         query: &Arc<Query>,
     ) -> Result<&Answer, BookFault>
-        ensures cause { IfErr result (λ fault. ShowsCause N.limit (length self.entry.now.log) 0 fault) }
-        ensures light { IfErr result (λ fault. (held : ℕ) → fault ≢ BookFault.Heavy held) }
+        ensures cause { IfErr result
+            (λ fault. ShowsCause N.limit N.width (length self.entry.now.log) (ask (arc_value query.now)) fault) }
+        ensures width { MatchResult result (λ _. (arc_value query.now).value < N.width)
+            (λ fault. N.width ≤ (arc_value query.now).value → fault ≡ BookFault.Width N.width) }
+        ensures light { IfErr result (λ fault. (value held : ℕ) → fault ≢ BookFault.Heavy value held) }
         ensures* ends { sem 𝓛
             (follows_so (the_row (record { mir = named 1; lft = [] }) N.row N.StoreName)
             (the_row (record { mir = named 1; lft = [] }) N.row N.StoreName)
@@ -183,9 +186,16 @@ impl<'a, N: StoreName> Session<'a, N> {
             ≡ self.old.log ++ (record { op = ask (arc_value query.now); reply = answered answer; at = at }) ∷ [])) }
         ensures unchanged { OnErr result (self.new ≡ self.old) }
         ensures number { self.new.number ≡ self.old.number }
-        ensures cause { IfErr result (λ fault. ShowsCause N.limit (length self.old.log) 0 fault) }
-        ensures light { IfErr result (λ fault. (held : ℕ) → fault ≢ BookFault.Heavy held) }
+        ensures cause { IfErr result
+            (λ fault. ShowsCause N.limit N.width (length self.old.log) (ask (arc_value query.now)) fault) }
+        ensures width { MatchResult result (λ _. (arc_value query.now).value < N.width)
+            (λ fault. N.width ≤ (arc_value query.now).value → fault ≡ BookFault.Width N.width) }
+        ensures light { IfErr result (λ fault. (value held : ℕ) → fault ≢ BookFault.Heavy value held) }
     {
+        let held = self.store.width().get();
+        if query.value >= held {
+            return Err(BookFault::Width { held });
+        }
         let shared = Arc::try_clone(query)?;
         self.log.reserve(1)?;
         let turn = self.log.len() as u64;

@@ -6,6 +6,8 @@ use Rattle.std.proofs.lemmas.List.{append-nil, flat_map_more, get_or_push, lengt
 use Rattle.std.proofs.lemmas.List.Sums.{sum_by_push}
 use Rattle.std.specs.Prelude.{◌==◌}
 use Rattle.std.specs.List.{flat_map}
+use Rattle.std.proofs.lemmas.List.{map-append}
+use Rattle.profile_rows.specs.Values.{BatchState, rows_at, weighing}
 use Rattle.op_book.specs.Operations.{PlainEntry, PlainOp, add, ask, addition_of, additions_of, operations_of, profile_after, rows_added}
 use Rattle.op_book.specs.Runs.{EachAfter, turns_of}
 
@@ -32,9 +34,15 @@ additions_of-push operations op = sym (flat_map_more addition_of [] operations o
 
 pub profile_after-push : (operations : List PlainOp) (op : PlainOp) → profile_after (operations ++ op ∷ []) ≡ profile_after operations ++ rows_added op
 profile_after-push operations (add batch) =
-    ap (flat_map (λ rows. rows)) (additions_of-push operations (add batch)) ∙ sym (flat_map_more (λ rows. rows) [] (additions_of operations) batch)
+    ap (flat_map (λ (batch : BatchState). batch.rows)) (additions_of-push operations (add batch)) ∙ sym (flat_map_more (λ (batch : BatchState). batch.rows) [] (additions_of operations) batch)
 profile_after-push operations (ask query) =
-    ap (flat_map (λ rows. rows)) (additions_of-push operations (ask query) ∙ append-nil (additions_of operations)) ∙ sym (append-nil (profile_after operations))
+    ap (flat_map (λ (batch : BatchState). batch.rows)) (additions_of-push operations (ask query) ∙ append-nil (additions_of operations)) ∙ sym (append-nil (profile_after operations))
+
+-- by each value
+pub profile_at-push : (value : ℕ) (operations : List PlainOp) (op : PlainOp)
+    → rows_at value (profile_after (operations ++ op ∷ [])) ≡ rows_at value (profile_after operations) ++ rows_at value (rows_added op)
+profile_at-push value operations op =
+    ap (rows_at value) (profile_after-push operations op) ∙ map-append (weighing value) (profile_after operations) (rows_added op)
 
 pub turns_of-push : (entries : List PlainEntry) (last : PlainEntry) (session : ℕ) → turns_of (entries ++ last ∷ []) session ≡ turns_of entries session + cond (last.session == session) 1 0
 turns_of-push entries last session = sum_by_push (λ (entry : PlainEntry). cond (entry.session == session) 1 0) entries last

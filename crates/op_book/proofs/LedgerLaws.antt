@@ -6,22 +6,22 @@ use Rattle.std.proofs.lemmas.List.{length-append, length-map, length-set, get_or
 use Rattle.std.proofs.lemmas.List.Sums.{count_by-le-length}
 use Rattle.op_book.specs.Books.{HasTurn}
 use Rattle.op_book.specs.Ledgers.{IsLedger}
-use Rattle.op_book.specs.Operations.{PlainEntry, addition_of, additions_of, operations_of, plain_answer}
+use Rattle.op_book.specs.Operations.{FitsWidth, PlainEntry, addition_of, additions_of, operations_of, plain_answer}
 use Rattle.op_book.specs.Runs.{turns_of}
 use Rattle.op_book.proofs.EntryLaws.{EachAfter-push, addition_of-le, additions_of-le, additions_of-push, operations_of-push, turns_of-push}
 
 -- the count that a ledger has of a session's entries
-pub turn_held : (entries : List PlainEntry) (additions limit : ℕ) (turns : List ℕ) (session held : ℕ) → IsLedger entries additions limit turns → session < length turns
+pub turn_held : (entries : List PlainEntry) (additions limit width : ℕ) (turns : List ℕ) (session held : ℕ) → IsLedger entries additions limit width turns → session < length turns
     → held ≡ get_or turns session held → held ≡ turns_of entries session
-turn_held entries additions limit turns session held is known there = there ∙ is.turns_are session held known
+turn_held entries additions limit width turns session held is known there = there ∙ is.turns_are session held known
 
 pub turns_of-le : (entries : List PlainEntry) (session : ℕ) → turns_of entries session ≤ length entries
 turns_of-le entries session = count_by-le-length (λ (entry : PlainEntry). entry.session == session) entries
 
 -- how many additions there are with one operation more
-pub additions-le : (entries : List PlainEntry) (additions limit : ℕ) (turns : List ℕ) (entry : PlainEntry) → IsLedger entries additions limit turns
+pub additions-le : (entries : List PlainEntry) (additions limit width : ℕ) (turns : List ℕ) (entry : PlainEntry) → IsLedger entries additions limit width turns
     → additions + length (addition_of entry.op) ≤ limit + 1
-additions-le entries additions limit turns entry is =
+additions-le entries additions limit width turns entry is =
     let most = additions_of-le (operations_of entries) in
     let one = addition_of-le entry.op in
     let size : length (operations_of entries) ≡ length entries = length-map entries (λ (e : PlainEntry). e.op) in
@@ -50,16 +50,17 @@ next_turns entries turns entry are session otherwise lt =
           omega (arith, none, kept, left)
     ]
 
-pub IsLedger-append : (entries : List PlainEntry) (additions limit : ℕ) (turns : List ℕ) (entry : PlainEntry) → IsLedger entries additions limit turns
-    → HasTurn entries limit (length turns) entry.session entry.turn → entry.reply ≡ plain_answer (operations_of entries) entry.op
-    → IsLedger (entries ++ entry ∷ []) (additions + length (addition_of entry.op)) limit (set turns entry.session (turns_of entries entry.session + 1))
-IsLedger-append entries additions limit turns entry is turn reply =
+pub IsLedger-append : (entries : List PlainEntry) (additions limit width : ℕ) (turns : List ℕ) (entry : PlainEntry) → IsLedger entries additions limit width turns
+    → HasTurn entries limit (length turns) entry.session entry.turn → FitsWidth width entry.op → entry.reply ≡ plain_answer (operations_of entries) entry.op
+    → IsLedger (entries ++ entry ∷ []) (additions + length (addition_of entry.op)) limit width (set turns entry.session (turns_of entries entry.session + 1))
+IsLedger-append entries additions limit width turns entry is turn fits reply =
     let sessions : length (set turns entry.session (turns_of entries entry.session + 1)) ≡ length turns = length-set turns entry.session (turns_of entries entry.session + 1) in
     let size = length-append entries (entry ∷ []) in
     record {
       legal = EachAfter-push (λ before last. last.reply ≡ plain_answer (operations_of before) last.op) entries entry is.legal reply;
       in_turn = EachAfter-push (λ before last. last.turn ≡ turns_of before last.session) entries entry is.in_turn turn.next;
       known = rw sessions (EachAfter-push (λ before last. last.session < length turns) entries entry is.known turn.known);
+      fitted = EachAfter-push (λ before last. FitsWidth width last.op) entries entry is.fitted fits;
       additions_are = counted entries additions entry is.additions_are;
       turns_are = λ session otherwise lt. next_turns entries turns entry is.turns_are session otherwise (subst (λ n. session < n) sessions lt);
       count = omega (arith, size, turn.room);

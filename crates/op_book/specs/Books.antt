@@ -1,38 +1,46 @@
 -- What contracts see of a book and of a journal, and what both keep.
 use Rattle.std.specs.Prelude.{ℕ, ◌≡◌, ◌≢◌, ◌<◌, ◌≤◌, ◌+◌, ◌^◌, List, [], ◌∷◌, ◌++◌, length}
-use Rattle.profile_rows.specs.Aggregate.{aggregate_of}
+use Rattle.profile_rows.specs.Aggregate.{aggregates_of}
 use Rattle.profile_rows.specs.Rows.{total_of}
+use Rattle.profile_rows.specs.Values.{BatchState, rows_at}
 use Rattle.call_tree.specs.State.{TreeState, weights_of}
-use Rattle.op_book.specs.Operations.{PlainOp, PlainEntry, PlainReceipt, operations_of, plain_answer, profile_after, rows_added}
-use Rattle.op_book.specs.Runs.{AreOfSessions, AreTurnsInOrder, IsLegalRun, turns_of}
+use Rattle.op_book.specs.Operations.{FitsWidth, MissesWidth, PlainOp, PlainEntry, PlainReceipt, add, operations_of, plain_answer, profile_after, rows_added}
+use Rattle.op_book.specs.Runs.{AreOfSessions, AreOfWidth, AreTurnsInOrder, IsLegalRun, turns_of}
 use Rattle.op_book.specs.declared.fault.BookFault.{BookFault}
-use Rattle.op_book.specs.declared.fault.BookFault.TheVariants.{Session, Turn, Full, Heavy, NoMemory}
+use Rattle.op_book.specs.declared.fault.BookFault.TheVariants.{Session, Turn, Full, Width, Heavy, NoMemory}
 
--- the entries in order, the tree that they made, and how many entries and sessions there may be
+-- the entries in order, the tree that they made, how many entries and sessions there may be, and how many values a row
+-- has
 pub record BookState : Type 0 where
   pub entries : List PlainEntry
   pub tree : TreeState
   pub limit : ℕ
   pub sessions : ℕ
+  pub width : ℕ
 
--- the entries of a book that was closed, the tree that they made, and the number of sessions
+-- the entries of a book that was closed, the tree that they made, the number of sessions, and that of a row's values
 pub record JournalState : Type 0 where
   pub entries : List PlainEntry
   pub tree : TreeState
   pub sessions : ℕ
+  pub width : ℕ
 
--- the tree is the aggregate of the entries' additions, and each reply is what the plain profile gives after the
--- operations before it
+-- the tree is the aggregate of the entries' additions, by each value, and each reply is what the plain profile gives
+-- after the operations before it
 pub record IsReplay (entries : List PlainEntry) (tree : TreeState) : Type 0 where
-  pub aggregate : weights_of tree ≡ aggregate_of (profile_after (operations_of entries))
+  pub aggregate : (value : ℕ) → weights_of tree value ≡ aggregates_of (profile_after (operations_of entries)) value
   pub legal : IsLegalRun entries
 
--- the entries are of the book's sessions, 1 to 64, whose turns are in order, and keep the limits of weights and of
--- entries
+-- the entries are of the book's sessions, 1 to 64, whose turns are in order, and of its width, 1 to 4, which the tree
+-- has too; they keep the limits of weights and of entries
 pub record IsOrderly (book : BookState) : Type 0 where
   pub turns : AreTurnsInOrder book.entries
   pub known : AreOfSessions book.sessions book.entries
-  pub weight : total_of (profile_after (operations_of book.entries)) < 2 ^ 63
+  pub fitted : AreOfWidth book.width book.entries
+  pub wide : book.tree.width ≡ book.width
+  pub one : 0 < book.width
+  pub four : book.width ≤ 4
+  pub weight : (value : ℕ) → total_of (rows_at value (profile_after (operations_of book.entries))) < 2 ^ 63
   pub count : length book.entries ≤ book.limit
   pub some : 0 < book.sessions
   pub few : book.sessions ≤ 64
@@ -51,13 +59,15 @@ pub record IsAppended (before : BookState) (session turn : ℕ) (op : PlainOp) (
   pub entries : after.entries ≡ before.entries ++ entry_after before.entries session turn op ∷ []
   pub limit : after.limit ≡ before.limit
   pub sessions : after.sessions ≡ before.sessions
+  pub width : after.width ≡ before.width
 
--- the book as it was: its entries, its limits, and the weight of each stack
+-- the book as it was: its entries, its limits, and the weights of each stack
 pub record IsSameBook (before after : BookState) : Type 0 where
   pub entries : after.entries ≡ before.entries
-  pub weights : weights_of after.tree ≡ weights_of before.tree
+  pub weights : (value : ℕ) → weights_of after.tree value ≡ weights_of before.tree value
   pub limit : after.limit ≡ before.limit
   pub sessions : after.sessions ≡ before.sessions
+  pub width : after.width ≡ before.width
 
 -- a session of so many may take its next turn, and there is room for its entry
 pub record HasTurn (entries : List PlainEntry) (limit sessions session turn : ℕ) : Type 0 where
@@ -74,22 +84,44 @@ IsTurnFault entries limit sessions session turn (Turn held) = (session < session
 IsTurnFault entries limit sessions session turn (Full held) = (session < sessions)
     × (turn ≡ turns_of entries session)
     × (held ≡ length entries) × (limit ≤ held)
-IsTurnFault entries limit sessions session turn (Heavy held) = ⊥
+IsTurnFault entries limit sessions session turn (Width held) = ⊥
+IsTurnFault entries limit sessions session turn (Heavy value held) = ⊥
 IsTurnFault entries limit sessions session turn NoMemory = ⊥
 
--- what all rows that were added weigh
-abbrev pub weight_held : BookState → ℕ
-weight_held book = total_of (profile_after (operations_of book.entries))
+-- what all rows that were added weigh, by a value
+abbrev pub weight_held : BookState → ℕ → ℕ
+weight_held book value = total_of (rows_at value (profile_after (operations_of book.entries)))
+
+-- the rows that an operation adds keep the limit of this value
+abbrev pub HasRoomFor : BookState → PlainOp → ℕ → Type 0
+HasRoomFor book op value = weight_held book value + total_of (rows_at value (rows_added op)) < 2 ^ 63
 
 -- nothing but want of memory keeps the book from the operation
 pub record IsTaken (book : BookState) (session turn : ℕ) (op : PlainOp) : Type 0 where
   pub turn_is : HasTurn book.entries book.limit book.sessions session turn
-  pub fits : weight_held book + total_of (rows_added op) < 2 ^ 63
+  pub width : FitsWidth book.width op
+  pub fits : (value : ℕ) → HasRoomFor book op value
 
--- the first cause to refuse an operation: those of its turn, then its weight; memory is wanting only where there is no
--- other
+-- the limit of this value, the lowest such, keeps the book from the operation
+pub record IsHeavyFor (book : BookState) (op : PlainOp) (value held : ℕ) : Type 0 where
+  pub width : FitsWidth book.width op
+  pub within : value < book.width
+  pub held_is : held ≡ weight_held book value
+  pub heavy : 2 ^ 63 ≤ held + total_of (rows_at value (rows_added op))
+  pub lower : (below : ℕ) → below < value → HasRoomFor book op below
+
+-- what keeps a batch from the book, whose turn it is: another width, or the limit of a value, the lowest such
+abbrev pub IsBatchFault : BookState → BatchState → BookFault → Type 0
+IsBatchFault book batch (Width held) = (held ≡ book.width) × MissesWidth book.width (add batch)
+IsBatchFault book batch (Heavy value held) = IsHeavyFor book (add batch) value held
+IsBatchFault book batch fault = ⊥
+
+-- the first cause to refuse an operation: those of its turn, then its width, then its weights; memory is wanting only
+-- where there is no other
 abbrev pub IsFirstBookFault : BookState → ℕ → ℕ → PlainOp → BookFault → Type 0
-IsFirstBookFault book session turn op (Heavy held) = HasTurn book.entries book.limit book.sessions session turn
-    × (held ≡ weight_held book) × (2 ^ 63 ≤ held + total_of (rows_added op))
+IsFirstBookFault book session turn op (Width held) = HasTurn book.entries book.limit book.sessions session turn
+    × (held ≡ book.width) × MissesWidth book.width op
+IsFirstBookFault book session turn op (Heavy value held) = HasTurn book.entries book.limit book.sessions session turn
+    × IsHeavyFor book op value held
 IsFirstBookFault book session turn op NoMemory = IsTaken book session turn op
 IsFirstBookFault book session turn op fault = IsTurnFault book.entries book.limit book.sessions session turn fault

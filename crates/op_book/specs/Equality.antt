@@ -1,12 +1,11 @@
 -- `==` on operations and replies is equality of what they hold.
-use Rattle.std.specs.Prelude.{ℕ, ◌≡◌, Bool, false, List, [], ◌==◌}
+use Rattle.std.specs.Prelude.{ℕ, ◌≡◌, Bool, false, ◌==◌}
 use Rattle.std.specs.Bool.{Decides}
 use Rattle.std.specs.Cmp.{IsEquivalence, on_equiv, unsigned_Decides}
-use Rattle.std.specs.Cmp.Lexicographic.{pointwise}
 use Rattle.std.proofs.Common.{ap}
-use Rattle.profile_rows.specs.declared.batch.Row.{Row}
-use Rattle.profile_rows.specs.Equality.{row_eq}
-use Rattle.profile_rows.proofs.EqualRows.{decided-IsEquivalence, rows_eq-decides}
+use Rattle.profile_rows.specs.Values.{BatchState}
+use Rattle.profile_rows.specs.Equality.{batch_eq}
+use Rattle.profile_rows.proofs.EqualRows.{batch_eq-decides, decided-IsEquivalence}
 use Rattle.flame_report.specs.declared.answer.Answer.{Answer}
 use Rattle.flame_report.specs.declared.query.Query.{Query}
 use Rattle.flame_report.specs.Equality.{answer_eq, query_eq}
@@ -16,7 +15,7 @@ use Rattle.op_book.specs.declared.operation.Op.{Op}
 use Rattle.op_book.specs.declared.operation.Reply.{Reply}
 
 abbrev pub plain_op_eq : PlainOp → PlainOp → Bool
-plain_op_eq (add batch) (add other) = pointwise row_eq batch other
+plain_op_eq (add batch) (add other) = batch_eq batch other
 plain_op_eq (ask query) (ask other) = query_eq query other
 plain_op_eq a b = false
 
@@ -31,17 +30,17 @@ op_eq a b = plain_op_eq (plain_op a) (plain_op b)
 abbrev pub reply_eq : Reply → Reply → Bool
 reply_eq a b = plain_reply_eq (plain_reply a) (plain_reply b)
 
-abbrev batch_in : PlainOp → List Row
-batch_in (add batch) = batch
-batch_in (ask query) = []
+abbrev batch_in : BatchState → PlainOp → BatchState
+batch_in otherwise (add batch) = batch
+batch_in otherwise (ask query) = otherwise
 
 abbrev query_in : Query → PlainOp → Query
 query_in otherwise (add batch) = otherwise
 query_in otherwise (ask query) = query
 
 pub plain_op_eq-decides : (a b : PlainOp) → Decides (plain_op_eq a b) (a ≡ b)
-plain_op_eq-decides (add batch) (add other) = let rows = rows_eq-decides batch other in
-    (λ e. ap add (rows.0 e), λ e. rows.1 (ap batch_in e))
+plain_op_eq-decides (add batch) (add other) = let batches = batch_eq-decides batch other in
+    (λ e. ap add (batches.0 e), λ e. batches.1 (ap (batch_in batch) e))
 plain_op_eq-decides (add batch) (ask query) = (λ e. cc, λ e. cc)
 plain_op_eq-decides (ask query) (add batch) = (λ e. cc, λ e. cc)
 plain_op_eq-decides (ask query) (ask other) = let queries = query_eq-decides query other in

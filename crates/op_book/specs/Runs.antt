@@ -1,6 +1,6 @@
 -- Runs: what makes a list of entries the story of one profile.
 use Rattle.std.specs.Prelude.{ℕ, ◌≡◌, ◌<◌, ◌==◌, List, count_by, get_or, length, take}
-use Rattle.op_book.specs.Operations.{PlainEntry, operations_of, plain_answer}
+use Rattle.op_book.specs.Operations.{FitsWidth, PlainEntry, operations_of, plain_answer}
 
 -- how many entries a session has
 abbrev pub turns_of : List PlainEntry → ℕ → ℕ
@@ -22,3 +22,7 @@ AreTurnsInOrder entries = EachAfter (λ before entry. entry.turn ≡ turns_of be
 -- each entry is of one of so many sessions
 abbrev pub AreOfSessions : ℕ → List PlainEntry → Type 0
 AreOfSessions sessions entries = EachAfter (λ before entry. entry.session < sessions) entries
+
+-- each entry is of a profile whose rows have so many values
+abbrev pub AreOfWidth : ℕ → List PlainEntry → Type 0
+AreOfWidth width entries = EachAfter (λ before entry. FitsWidth width entry.op) entries

@@ -16,9 +16,13 @@ pub enum BookFault {
     /// The journal has as many entries as it may have, `held`.
     #[error("K3 Full held {held}")]
     Full { held: u32 },
-    /// What was added so far weighs `held`, and passes [`profile_rows::MAX_TOTAL`] together with the batch.
-    #[error("K4 Heavy held {held}")]
-    Heavy { held: u64 },
+    /// The batch's rows haven't as many values as the book's, `held`, or the query names none of these.
+    #[error("K6 Width held {held}")]
+    Width { held: u32 },
+    /// What was added so far weighs `held` by the value of this number, and passes [`profile_rows::MAX_TOTAL`]
+    /// together with the batch; by no lower value it does.
+    #[error("K4 Heavy value {value} held {held}")]
+    Heavy { value: u32, held: u64 },
     /// Memory ran out.
     #[error("K5 NoMemory")]
     NoMemory,

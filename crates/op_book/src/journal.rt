@@ -1,14 +1,16 @@
 //! What a closed book leaves.
 
-ghost use Rattle.std.specs.Prelude.{◌≡◌, ◌<◌, ◌≤◌, ◌^◌, length};
+ghost use Rattle.std.specs.Prelude.{ℕ, ◌≡◌, ◌<◌, ◌≤◌, ◌^◌, length};
 ghost use Rattle.profile_rows.specs.Rows.{total_of};
+ghost use Rattle.profile_rows.specs.Values.{rows_at};
 ghost use Rattle.op_book.specs.Operations.{operations_of, profile_after};
 ghost use Rattle.op_book.specs.Books.{IsReplay};
-ghost use Rattle.op_book.specs.Runs.{AreOfSessions, AreTurnsInOrder};
+ghost use Rattle.op_book.specs.Runs.{AreOfSessions, AreOfWidth, AreTurnsInOrder};
 
 use crate::book::Book;
 use crate::entry::Entry;
 use call_tree::CallTree;
+use profile_rows::Width;
 use std::marker::Model;
 
 /// The entries of a closed book, with the tree that they made.
@@ -22,13 +24,15 @@ impl Model for Journal {
 
     ghost Value = { JournalState };
 
-    ghost view = { λ j. record { entries = j.book.entries; tree = j.book.tree; sessions = j.book.sessions } };
+    ghost view = { λ j. record
+        { entries = j.book.entries; tree = j.book.tree; sessions = j.book.sessions; width = j.book.width } };
 }
 
 impl Journal {
     /// The journal of a book.
     pub(crate) fn new(book: Book) -> Journal
-        ensures { result ≡ record { entries = book.entries; tree = book.tree; sessions = book.sessions } }
+        ensures { result ≡ record
+            { entries = book.entries; tree = book.tree; sessions = book.sessions; width = book.width } }
     {
         Journal { book }
     }
@@ -39,8 +43,10 @@ impl Journal {
         ensures replay { IsReplay self.now.entries self.now.tree }
         ensures turns { AreTurnsInOrder self.now.entries }
         ensures known { AreOfSessions self.now.sessions self.now.entries }
+        ensures fitted { AreOfWidth self.now.width self.now.entries }
         ensures count { length self.now.entries < 2 ^ 32 }
-        ensures weight { total_of (profile_after (operations_of self.now.entries)) < 2 ^ 63 }
+        ensures weight { (value : ℕ)
+            → total_of (rows_at value (profile_after (operations_of self.now.entries))) < 2 ^ 63 }
     {
         self.book.entries()
     }
@@ -60,5 +66,14 @@ impl Journal {
         ensures few { result ≤ 64 }
     {
         self.book.sessions()
+    }
+
+    /// How many values each row has.
+    pub fn width(&self) -> Width
+        ensures width { result ≡ self.now.width }
+        ensures some { 0 < result }
+        ensures few { result ≤ 4 }
+    {
+        self.book.width()
     }
 }

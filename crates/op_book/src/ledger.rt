@@ -2,16 +2,17 @@
 
 ghost use Rattle.std.specs.Prelude.{◌≡◌, ◌<◌, ◌≤◌, ◌^◌, ◌++◌, ◌∷◌, [], length, IfOk, MatchResult, OnErr, OnOk};
 ghost use Rattle.op_book.specs.Books.{HasTurn, IsTurnFault};
-ghost use Rattle.op_book.specs.Operations.{additions_of, operations_of, plain_answer};
-ghost use Rattle.op_book.specs.Runs.{AreOfSessions, AreTurnsInOrder, IsLegalRun};
+ghost use Rattle.op_book.specs.Operations.{FitsWidth, additions_of, operations_of, plain_answer};
+ghost use Rattle.op_book.specs.Runs.{AreOfSessions, AreOfWidth, AreTurnsInOrder, IsLegalRun};
 
 use crate::entry::Entry;
 use crate::fault::BookFault;
 use flame_report::NoMemory;
+use profile_rows::Width;
 use std::alloc::{AllocError, Global};
 use std::marker::Model;
 
-/// The entries of a book: of so many sessions, and at most so many.
+/// The entries of a book: of so many sessions, of rows of so many values, and at most so many.
 #[derive(Drop)]
 pub(crate) struct Ledger {
     entries: Vec<Entry>,
@@ -20,6 +21,7 @@ pub(crate) struct Ledger {
     /// How many of the entries each session has.
     turns: Vec<u64>,
     limit: u32,
+    width: Width,
 }
 
 impl Model for Ledger {
@@ -28,17 +30,24 @@ impl Model for Ledger {
 
     ghost Value = { LedgerState };
 
-    ghost view = { λ l. record { entries = l.entries.items; limit = l.limit; sessions = length l.turns.items } };
+    ghost view = { λ l. record
+        { entries = l.entries.items; limit = l.limit; sessions = length l.turns.items; width = l.width } };
 
-    ghost invariant = { λ l. IsLedger l.entries.items l.additions l.limit l.turns.items };
+    ghost invariant = { λ l. IsLedger l.entries.items l.additions l.limit l.width l.turns.items };
 }
 
 impl Ledger {
     /// No entries yet.
-    pub(crate) fn new(alloc: Global, limit: u32, sessions: u32) -> Result<Ledger, AllocError>
+    pub(crate) fn new(
+        alloc: Global,
+        limit: u32,
+        sessions: u32,
+        width: Width,
+    ) -> Result<Ledger, AllocError>
         requires some { 0 < sessions }
         requires few { sessions ≤ 64 }
-        ensures { IfOk result (λ ledger. ledger ≡ record { entries = []; limit = limit; sessions = sessions }) }
+        ensures { IfOk result
+            (λ ledger. ledger ≡ record { entries = []; limit = limit; sessions = sessions; width = width }) }
     {
         let turns = vec![in alloc; 0; sessions as usize]?;
         Ok(Ledger {
@@ -46,6 +55,7 @@ impl Ledger {
             additions: 0,
             turns,
             limit,
+            width,
         })
     }
 
@@ -55,6 +65,7 @@ impl Ledger {
         ensures legal { IsLegalRun self.now.entries }
         ensures turns { AreTurnsInOrder self.now.entries }
         ensures known { AreOfSessions self.now.sessions self.now.entries }
+        ensures fitted { AreOfWidth self.now.width self.now.entries }
         ensures count { length self.now.entries ≤ self.now.limit }
         ensures small { self.now.limit < 2 ^ 32 }
         ensures some { 0 < self.now.sessions }
@@ -69,6 +80,13 @@ impl Ledger {
         ensures { result ≡ self.now.sessions }
     {
         self.turns.len() as u32
+    }
+
+    /// How many values a row has.
+    pub(crate) fn width(&self) -> Width
+        ensures { result ≡ self.now.width }
+    {
+        self.width
     }
 
     /// How many of the entries are additions.
@@ -99,6 +117,7 @@ impl Ledger {
     /// Adds an entry at the end, and gives its place. Nothing is changed where memory runs out.
     pub(crate) fn append(&mut self, entry: Entry) -> Result<u64, NoMemory>
         requires turn { HasTurn self.old.entries self.old.limit self.old.sessions entry.session entry.turn }
+        requires width { FitsWidth self.old.width entry.op }
         requires reply { entry.reply ≡ plain_answer (operations_of self.old.entries) entry.op }
         ensures appended { OnOk result (self.new ≡ record self.old { entries = self.old.entries ++ entry ∷ [] }) }
         ensures at { IfOk result (λ at. at ≡ length self.old.entries) }

@@ -10,7 +10,7 @@ use Rattle.std.proofs.lemmas.List.Sums.{sum_by-cons}
 use Rattle.std.proofs.lemmas.Bool.{ltb-false}
 use Rattle.std.proofs.lemmas.Cmp.{nat_list_cmp_total}
 use borrow.Author.Tests.{lt-ltb, ltb-true}
-use Rattle.profile_rows.specs.declared.batch.Row.{Row}
+use Rattle.profile_rows.specs.declared.weighted_stacks.WeightedStack.{WeightedStack}
 use Rattle.profile_rows.specs.Names.{name_cmp}
 use Rattle.profile_rows.specs.Rows.{stack_cmp, is_same_stack, is_kept, kept_rows, total_of, weight_if, weight_where}
 use Rattle.profile_rows.specs.Aggregate.{aggregate_of, rows_of}
@@ -23,12 +23,12 @@ use Rattle.profile_rows.proofs.Members.{in_order-same}
 use Rattle.profile_rows.proofs.Ranking.{top_list_of-same}
 
 -- the rows of the aggregate add up to it again
-pub aggregate_of-rows_of : (rows : List Row) → aggregate_of (rows_of (aggregate_of rows)) ≡ aggregate_of rows
+pub aggregate_of-rows_of : (rows : List WeightedStack) → aggregate_of (rows_of (aggregate_of rows)) ≡ aggregate_of rows
 aggregate_of-rows_of rows = aggregate_of-same (rows_of (aggregate_of rows)) rows (λ stack. weight_where-rows_of (is_same_stack stack) rows)
 
 -- ---- kept rows
 
-weight_where-kept : (focus ignored : Option (List ℕ)) (test : List (List ℕ) → Bool) (rows : List Row)
+weight_where-kept : (focus ignored : Option (List ℕ)) (test : List (List ℕ) → Bool) (rows : List WeightedStack)
     → weight_where test (kept_rows focus ignored rows) ≡ weight_where (λ stack. is_kept focus ignored stack && test stack) rows
 weight_where-kept focus ignored test [] = refl
 weight_where-kept focus ignored test (row ∷ rows) =
@@ -45,7 +45,7 @@ weight_where-kept focus ignored test (row ∷ rows) =
           omega arith
     ] refl
 
-pub kept_rows-same : (focus ignored : Option (List ℕ)) (rows others : List Row) → aggregate_of rows ≡ aggregate_of others
+pub kept_rows-same : (focus ignored : Option (List ℕ)) (rows others : List WeightedStack) → aggregate_of rows ≡ aggregate_of others
     → aggregate_of (kept_rows focus ignored rows) ≡ aggregate_of (kept_rows focus ignored others)
 kept_rows-same focus ignored rows others same =
     aggregate_of-same (kept_rows focus ignored rows) (kept_rows focus ignored others)
@@ -56,7 +56,7 @@ kept_rows-same focus ignored rows others same =
 
 -- ---- top lists
 
-pub top_list_of-same_aggregate : (ranking : Ranking) (count : ℕ) (rows others : List Row) → aggregate_of rows ≡ aggregate_of others
+pub top_list_of-same_aggregate : (ranking : Ranking) (count : ℕ) (rows others : List WeightedStack) → aggregate_of rows ≡ aggregate_of others
     → top_list_of ranking count rows ≡ top_list_of ranking count others
 top_list_of-same_aggregate ranking count rows others same = top_list_of-same ranking count rows others (λ test. weight_where-same test rows others same)
 
@@ -87,11 +87,11 @@ list_any-prefixes (name ∷ path) (frame ∷ stack) =
     ∙ ap (λ o. match_ordering o false (list_any (is_same_stack path) (prefixes stack)) false) (sym (nat_list_cmp_total.antisymm frame name))
     ∙ ap (λ b. match_ordering (name_cmp frame name) false b false) (list_any-prefixes path stack)
 
-abbrev fronts : List Row → List (List (List ℕ))
+abbrev fronts : List WeightedStack → List (List (List ℕ))
 fronts rows = flat_map (λ row. prefixes row.stack) rows
 
 -- the rows have the paths that weigh something
-list_any-paths : (path : List (List ℕ)) (rows : List Row)
+list_any-paths : (path : List (List ℕ)) (rows : List WeightedStack)
     → list_any (is_same_stack path) (fronts (filter (λ row. nat_lt 0 row.weight) rows)) ≡ nat_lt 0 (path_weight rows path)
 list_any-paths path [] = refl
 list_any-paths path (row ∷ rows) =
@@ -119,7 +119,7 @@ list_any-paths path (row ∷ rows) =
     nothing true = refl
     nothing false = refl
 
-pub paths_of-same : (rows others : List Row) → aggregate_of rows ≡ aggregate_of others → paths_of rows ≡ paths_of others
+pub paths_of-same : (rows others : List WeightedStack) → aggregate_of rows ≡ aggregate_of others → paths_of rows ≡ paths_of others
 paths_of-same rows others same =
     in_order-same stack_cmp stack_cmp_total stack_cmp_apart
     (fronts (filter (λ row. nat_lt 0 row.weight) rows)) (fronts (filter (λ row. nat_lt 0 row.weight) others))
@@ -137,7 +137,7 @@ rectangle_from columns path total start weight = record {
   right = column_at columns total (start + weight);
 }
 
-rectangle_at-same : (columns : ℕ) (rows others : List Row) → aggregate_of rows ≡ aggregate_of others → (path : List (List ℕ)) → rectangle_at columns rows path ≡ rectangle_at columns others path
+rectangle_at-same : (columns : ℕ) (rows others : List WeightedStack) → aggregate_of rows ≡ aggregate_of others → (path : List (List ℕ)) → rectangle_at columns rows path ≡ rectangle_at columns others path
 rectangle_at-same columns rows others same path =
     ap (λ total. rectangle_from columns path total (path_start rows path) (path_weight rows path)) (weight_where-same (λ stack. true) rows others same)
     ∙ ap (λ start. rectangle_from columns path (total_of others) start (path_weight rows path)) (weight_where-same (lies_left_of name_cmp path) rows others same)
@@ -147,7 +147,7 @@ map-same : {A B : Type 0} (f g : A → B) → ((x : A) → f x ≡ g x) → (xs 
 map-same f g same [] = refl
 map-same f g same (x ∷ xs) = ap (λ y. y ∷ map f xs) (same x) ∙ ap (λ ys. g x ∷ ys) (map-same f g same xs)
 
-pub rectangles_of-same : (columns : ℕ) (rows others : List Row) → aggregate_of rows ≡ aggregate_of others → rectangles_of columns rows ≡ rectangles_of columns others
+pub rectangles_of-same : (columns : ℕ) (rows others : List WeightedStack) → aggregate_of rows ≡ aggregate_of others → rectangles_of columns rows ≡ rectangles_of columns others
 rectangles_of-same columns rows others same =
     ap (filter is_shown)
     (map-same (rectangle_at columns rows) (rectangle_at columns others) (rectangle_at-same columns rows others same) (paths_of rows)

@@ -10,7 +10,7 @@ use Rattle.std.specs.FinMap.Entries.{by_order}
 use Rattle.std.proofs.lemmas.List.{nil_from_length}
 use Rattle.std.specs.Prelude.{T}
 use Rattle.std.proofs.lemmas.List.Sums.{sum_by-cons}
-use Rattle.profile_rows.specs.declared.batch.Row.{Row}
+use Rattle.profile_rows.specs.declared.weighted_stacks.WeightedStack.{WeightedStack}
 use Rattle.profile_rows.specs.Rows.{stack_cmp, weight_if, weight_where}
 use Rattle.profile_rows.specs.Aggregate.{Weighted, weight_in, with_row, with_rows, aggregate_of, row_of, rows_of}
 use Rattle.profile_rows.proofs.RowLaws.{stack_cmp_total, stack_cmp_apart, no_more}
@@ -54,7 +54,7 @@ nothing : (b : Bool) → let none : ℕ = 0 in cond b none none ≡ none
 nothing true = refl
 nothing false = refl
 
-sum_put : (test : List (List ℕ) → Bool) (k : List (List ℕ)) (v : ℕ) (es : List Entry) → T (is_sorted stack_cmp es)
+pub sum_put : (test : List (List ℕ) → Bool) (k : List (List ℕ)) (v : ℕ) (es : List Entry) → T (is_sorted stack_cmp es)
     → sum_by (entry_if test) (put stack_cmp k v es) + cond (test k) (unwrap_or (find stack_cmp k es) 0) 0 ≡ sum_by (entry_if test) es + cond (test k) v 0
 sum_put test k v [] h = let one = sum_by-cons (entry_if test) (k, v) [] in let none = nothing (test k) in omega (arith, one, none)
 sum_put test k v (e ∷ es) h =
@@ -78,11 +78,11 @@ sum_put test k v (e ∷ es) h =
           omega (arith, rest, new, old)
     ] refl
 
-put_more : (b : Bool) (s a w t : ℕ) → t + cond b a 0 ≡ s + cond b (a + w) 0 → t ≡ s + cond b w 0
+pub put_more : (b : Bool) (s a w t : ℕ) → t + cond b a 0 ≡ s + cond b (a + w) 0 → t ≡ s + cond b w 0
 put_more true s a w t e = omega arith
 put_more false s a w t e = omega arith
 
-pub entries_where-with_row : (test : List (List ℕ) → Bool) (m : Weighted) (row : Row) → entries_where test (with_row m row) ≡ entries_where test m + weight_if test row
+pub entries_where-with_row : (test : List (List ℕ) → Bool) (m : Weighted) (row : WeightedStack) → entries_where test (with_row m row) ≡ entries_where test m + weight_if test row
 entries_where-with_row test m row =
     elim (ltb 0 row.weight) as (λ b. ltb 0 row.weight ≡ b → entries_where test (cond b (finite.insert m row.stack (weight_in m row.stack + row.weight)) m) ≡ entries_where test m + cond (test row.stack) row.weight 0) [
       | true ↦ λ e.
@@ -93,7 +93,7 @@ entries_where-with_row test m row =
       | false ↦ λ e. no_more row.weight (entries_where test m) (test row.stack) e
     ] refl
 
-pub entries_where-with_rows : (test : List (List ℕ) → Bool) (m : Weighted) (rows : List Row) → entries_where test (with_rows m rows) ≡ entries_where test m + weight_where test rows
+pub entries_where-with_rows : (test : List (List ℕ) → Bool) (m : Weighted) (rows : List WeightedStack) → entries_where test (with_rows m rows) ≡ entries_where test m + weight_where test rows
 entries_where-with_rows test m [] = omega arith
 entries_where-with_rows test m (row ∷ rows) =
     let rest = entries_where-with_rows test (with_row m row) rows in
@@ -102,17 +102,17 @@ entries_where-with_rows test m (row ∷ rows) =
     omega (arith, rest, here, cons)
 
 -- the law: a sum over rows is one over the map
-pub entries_where-aggregate_of : (test : List (List ℕ) → Bool) (rows : List Row) → entries_where test (aggregate_of rows) ≡ weight_where test rows
+pub entries_where-aggregate_of : (test : List (List ℕ) → Bool) (rows : List WeightedStack) → entries_where test (aggregate_of rows) ≡ weight_where test rows
 entries_where-aggregate_of test rows = let all = entries_where-with_rows test finite.empty rows in let none = nothing_in test in omega (arith, all, none)
   where
     nothing_in : (test : List (List ℕ) → Bool) → entries_where test finite.empty ≡ 0
     nothing_in test = ap (sum_by (entry_if test)) no_entries
 
-pub weight_where-same : (test : List (List ℕ) → Bool) (rows others : List Row) → aggregate_of rows ≡ aggregate_of others → weight_where test rows ≡ weight_where test others
+pub weight_where-same : (test : List (List ℕ) → Bool) (rows others : List WeightedStack) → aggregate_of rows ≡ aggregate_of others → weight_where test rows ≡ weight_where test others
 weight_where-same test rows others e = sym (entries_where-aggregate_of test rows) ∙ ap (entries_where test) e ∙ entries_where-aggregate_of test others
 
 -- the entries' rows weigh as much as the entries
-weight_where-entries : (test : List (List ℕ) → Bool) (entries : List Entry) → weight_where test (map row_of entries) ≡ sum_by (entry_if test) entries
+pub weight_where-entries : (test : List (List ℕ) → Bool) (entries : List Entry) → weight_where test (map row_of entries) ≡ sum_by (entry_if test) entries
 weight_where-entries test [] = refl
 weight_where-entries test (entry ∷ entries) =
     let rest = weight_where-entries test entries in
@@ -120,5 +120,5 @@ weight_where-entries test (entry ∷ entries) =
     let right = sum_by-cons (entry_if test) entry entries in
     omega (arith, rest, left, right)
 
-pub weight_where-rows_of : (test : List (List ℕ) → Bool) (rows : List Row) → weight_where test (rows_of (aggregate_of rows)) ≡ weight_where test rows
+pub weight_where-rows_of : (test : List (List ℕ) → Bool) (rows : List WeightedStack) → weight_where test (rows_of (aggregate_of rows)) ≡ weight_where test rows
 weight_where-rows_of test rows = weight_where-entries test (finite.entries (aggregate_of rows)) ∙ entries_where-aggregate_of test rows

@@ -3,14 +3,17 @@ pub mod BatchRows
 pub mod Cleaning
 pub mod EntryLaws
 pub mod EqualRows
+pub mod FourValues
 pub mod Kept
 pub mod LentStacks
 pub mod Members
 pub mod MergedRows
 pub mod Ranking
 pub mod RowLaws
+pub mod RowValues
 pub mod SameNames
 pub mod TallyLaws
+pub mod UniqueRows
 pub mod Weighted
 pub mod WorkedAggregate
 pub mod WorkedRows

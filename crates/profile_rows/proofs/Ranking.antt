@@ -13,7 +13,7 @@ use Rattle.std.proofs.lemmas.List.Sorted.{sum_by-IsPermutation, All-permutation,
 use Rattle.std.proofs.lemmas.List.Elements.{recursion_from_All}
 use borrow.Author.Tests.{ltb-true, lt-ltb, le-ltb}
 use Prim.Native.Nat.{zero, suc}
-use Rattle.profile_rows.specs.declared.batch.Row.{Row}
+use Rattle.profile_rows.specs.declared.weighted_stacks.WeightedStack.{WeightedStack}
 use Rattle.profile_rows.specs.Names.{is_same_name}
 use Rattle.profile_rows.specs.Order.{with_member, in_order}
 use Rattle.profile_rows.specs.Rows.{has_name, ends_with_name, weight_if, weight_where, flat_weight_of, cumulative_weight_of}
@@ -70,7 +70,7 @@ found P name (x ∷ xs) all some =
       | false ↦ λ e. let none = mark-no name x e in found P name xs all.1 (omega arith)
     ] refl
 
-module _ (rows : List Row) (ranking : Ranking) where
+module _ (rows : List WeightedStack) (ranking : Ranking) where
   -- the weights are those of the rows
   abbrev IsOf : FrameTotal → Type 0
   IsOf sums = sums ≡ sums_at rows sums.name
@@ -323,11 +323,11 @@ module _ (rows : List Row) (ranking : Ranking) where
 
 -- ---- the rows' names
 
-weight_if-has : (name : List ℕ) (row : Row) → has_name name row.stack ≡ false → weight_if (has_name name) row ≡ 0
+weight_if-has : (name : List ℕ) (row : WeightedStack) → has_name name row.stack ≡ false → weight_if (has_name name) row ≡ 0
 weight_if-has name row e = ap (λ b. cond b row.weight 0) e
 
 -- a name of weight above 0 stands in some row
-names_of-some : (rows : List Row) (name : List ℕ) → 0 < cumulative_weight_of rows name → list_any (is_same_name name) (flat_map (λ row. row.stack) rows) ≡ true
+names_of-some : (rows : List WeightedStack) (name : List ℕ) → 0 < cumulative_weight_of rows name → list_any (is_same_name name) (flat_map (λ row. row.stack) rows) ≡ true
 names_of-some [] name some = absurd (omega arith)
 names_of-some (row ∷ rows) name some =
     let cons : cumulative_weight_of (row ∷ rows) name ≡ weight_if (has_name name) row + cumulative_weight_of rows name = sum_by-cons (weight_if (has_name name)) row rows in
@@ -337,7 +337,7 @@ names_of-some (row ∷ rows) name some =
       | false ↦ λ e. let none = weight_if-has name row e in names_of-some rows name (omega arith)
     ] refl
 
-sums_of-occurrences : (rows : List Row) (name : List ℕ) → ltb 0 (occurrences name (sums_of rows)) ≡ nat_lt 0 (cumulative_weight_of rows name)
+sums_of-occurrences : (rows : List WeightedStack) (name : List ℕ) → ltb 0 (occurrences name (sums_of rows)) ≡ nat_lt 0 (cumulative_weight_of rows name)
 sums_of-occurrences rows name =
     elim (nat_lt 0 (cumulative_weight_of rows name)) as (λ b. nat_lt 0 (cumulative_weight_of rows name) ≡ b → ltb 0 (occurrences name (sums_of rows)) ≡ b) [
       | true ↦ λ e. lt-ltb 0 _ (weights_of-some rows by_flat name (flat_map (λ row. row.stack) rows) e (names_of-some rows name (ltb-true 0 _ e)))
@@ -346,7 +346,7 @@ sums_of-occurrences rows name =
 
 -- ---- a sorted list
 
-rises_from : (rows : List Row) (ranking : Ranking) (xs : List FrameTotal)
+rises_from : (rows : List WeightedStack) (ranking : Ranking) (xs : List FrameTotal)
     → ((i j : ℕ) (d : FrameTotal) → i ≤ j → j < length xs → is_lt (top_cmp ranking (get_or xs j d) (get_or xs i d)) ≡ false) → Rises rows ranking xs
 rises_from rows ranking [] far = tt
 rises_from rows ranking (x ∷ xs) far = (
@@ -355,7 +355,7 @@ rises_from rows ranking (x ∷ xs) far = (
 )
 
 -- However the weights of the names were sorted, their front is the top list.
-pub top_list_of-ranked : (ranking : Ranking) (count : ℕ) (rows : List Row) (sums ranked : List FrameTotal)
+pub top_list_of-ranked : (ranking : Ranking) (count : ℕ) (rows : List WeightedStack) (sums ranked : List FrameTotal)
     → AreSumsOf rows sums → IsPermutation sums ranked → IsSorted (top_cmp ranking) ranked → take count ranked ≡ top_list_of ranking count rows
 top_list_of-ranked ranking count rows sums ranked are moved sorted =
     let of : AllByRecursion (IsOf rows ranking) ranked = recursion_from_All (IsOf rows ranking) ranked (All-permutation (IsOf rows ranking) sums ranked moved are.weights) in
@@ -371,13 +371,13 @@ top_list_of-ranked ranking count rows sums ranked are moved sorted =
 
 -- ---- rows with the same sums
 
-sums_at-same : (rows others : List Row) → ((test : List (List ℕ) → Bool) → weight_where test rows ≡ weight_where test others) → (name : List ℕ) → sums_at rows name ≡ sums_at others name
+sums_at-same : (rows others : List WeightedStack) → ((test : List (List ℕ) → Bool) → weight_where test rows ≡ weight_where test others) → (name : List ℕ) → sums_at rows name ≡ sums_at others name
 sums_at-same rows others same name =
     ap (λ n. let sums : FrameTotal = record { name = name; flat = n; cum = cumulative_weight_of rows name } in sums) (same (ends_with_name name))
     ∙ ap (λ n. let sums : FrameTotal = record { name = name; flat = flat_weight_of others name; cum = n } in sums) (same (has_name name))
 
 -- have one top list
-pub top_list_of-same : (ranking : Ranking) (count : ℕ) (rows others : List Row) → ((test : List (List ℕ) → Bool) → weight_where test rows ≡ weight_where test others)
+pub top_list_of-same : (ranking : Ranking) (count : ℕ) (rows others : List WeightedStack) → ((test : List (List ℕ) → Bool) → weight_where test rows ≡ weight_where test others)
     → top_list_of ranking count rows ≡ top_list_of ranking count others
 top_list_of-same ranking count rows others same =
     let listed = weights_of-IsOf rows ranking (flat_map (λ row. row.stack) rows) in

@@ -12,7 +12,7 @@ use Rattle.std.specs.Map.{lookup}
 use Rattle.std.proofs.lemmas.List.Elements.{recursion_from_All}
 use Rattle.std.proofs.lemmas.List.Sums.{sum_by_push}
 use Rattle.profile_rows.specs.Names.{IsName, is_same_name}
-use Rattle.profile_rows.specs.declared.batch.Row.{Row}
+use Rattle.profile_rows.specs.declared.weighted_stacks.WeightedStack.{WeightedStack}
 use Rattle.profile_rows.specs.Rows.{has_name, ends_with_name, weight_if, weight_where, total_of}
 use Rattle.profile_rows.proofs.SameNames.{same_from_is_same_name}
 use Rattle.profile_rows.specs.declared.tallies.Tally.{Tally}
@@ -123,7 +123,7 @@ ends_with_name-push name [] leaf = refl
 ends_with_name-push name (caller ∷ []) leaf = refl
 ends_with_name-push name (caller ∷ next ∷ callers) leaf = ends_with_name-push name (next ∷ callers) leaf
 
-pub row_counted-leaf : (row : Row) (number : ℕ) (name leaf : List ℕ) (callers : List (List ℕ)) (t : Tally) → row.stack ≡ callers ++ leaf ∷ [] → t.row < number
+pub row_counted-leaf : (row : WeightedStack) (number : ℕ) (name leaf : List ℕ) (callers : List (List ℕ)) (t : Tally) → row.stack ≡ callers ++ leaf ∷ [] → t.row < number
     → cond (is_same_name name leaf) (frame_counted (callers_counted callers number row.weight name t) number row.weight row.weight) (callers_counted callers number row.weight name t)
     ≡ row_counted row number name t
 row_counted-leaf row number name leaf callers t stack fresh =
@@ -134,7 +134,7 @@ row_counted-leaf row number name leaf callers t stack fresh =
     ∙ ap (λ b. tally_from (ends_with_name name row.stack) b number row.weight t) (sym has)
 
 -- the empty stack counts for no name
-pub row_counted-empty : (row : Row) (number : ℕ) (name : List ℕ) (t : Tally) → row.stack ≡ [] → t ≡ row_counted row number name t
+pub row_counted-empty : (row : WeightedStack) (number : ℕ) (name : List ℕ) (t : Tally) → row.stack ≡ [] → t ≡ row_counted row number name t
 row_counted-empty row number name t empty =
     same_tally _ _ (omega arith) (omega arith) refl
     ∙ ap (λ b. tally_from b false number row.weight t) (sym (ap (ends_with_name name) empty))
@@ -150,7 +150,7 @@ named_in name (frame ∷ stack) all has = elim (is_same_name name frame) as (λ 
   | false ↦ λ is e. named_in name stack all.1 e
 ] refl has
 
-IsTallyOf-counted : (rows : List Row) (row : Row) (held : ℕ) (name : List ℕ) (tally after : Tally) → All IsName row.stack → IsTallyOf rows held name tally
+IsTallyOf-counted : (rows : List WeightedStack) (row : WeightedStack) (held : ℕ) (name : List ℕ) (tally after : Tally) → All IsName row.stack → IsTallyOf rows held name tally
     → after ≡ row_counted row (held + row.weight) name tally → IsTallyOf (rows ++ row ∷ []) (held + row.weight) name after
 IsTallyOf-counted rows row held name tally after names is counted = record {
   flat = ap (λ (t : Tally). t.flat) counted ∙ ap (λ n. n + weight_if (ends_with_name name) row) is.flat ∙ sym (weight_where-push (ends_with_name name) rows row);
@@ -168,7 +168,7 @@ IsTallyOf-counted rows row held name tally after names is counted = record {
     known false has some = is.named (omega (arith, some))
 
 -- a row without weight leaves the tallies
-IsTallyOf-weightless : (rows : List Row) (row : Row) (held : ℕ) (name : List ℕ) (tally : Tally) → row.weight ≡ 0 → IsTallyOf rows held name tally
+IsTallyOf-weightless : (rows : List WeightedStack) (row : WeightedStack) (held : ℕ) (name : List ℕ) (tally : Tally) → row.weight ≡ 0 → IsTallyOf rows held name tally
     → IsTallyOf (rows ++ row ∷ []) (held + row.weight) name tally
 IsTallyOf-weightless rows row held name tally none is = record {
   flat = is.flat ∙ same (ends_with_name name);
@@ -187,17 +187,17 @@ IsTallyOf-weightless rows row held name tally none is = record {
         let more = weight_where-push test rows row in
         omega arith
 
-held_more : (rows : List Row) (row : Row) (held : ℕ) → held ≡ total_of rows → held + row.weight ≡ total_of (rows ++ row ∷ [])
-held_more rows row held is = ap (λ n. n + row.weight) is ∙ sym (sum_by_push (λ (row : Row). row.weight) rows row)
+held_more : (rows : List WeightedStack) (row : WeightedStack) (held : ℕ) → held ≡ total_of rows → held + row.weight ≡ total_of (rows ++ row ∷ [])
+held_more rows row held is = ap (λ n. n + row.weight) is ∙ sym (sum_by_push (λ (row : WeightedStack). row.weight) rows row)
 
-pub AreTalliesOf-counted : (rows : List Row) (row : Row) (held : ℕ) (tallies after : Tallies) → All IsName row.stack → AreTalliesOf rows held tallies
+pub AreTalliesOf-counted : (rows : List WeightedStack) (row : WeightedStack) (held : ℕ) (tallies after : Tallies) → All IsName row.stack → AreTalliesOf rows held tallies
     → ((name : List ℕ) → tally_at after name ≡ row_counted row (held + row.weight) name (tally_at tallies name)) → AreTalliesOf (rows ++ row ∷ []) (held + row.weight) after
 AreTalliesOf-counted rows row held tallies after names are counted = record {
   each = λ name. IsTallyOf-counted rows row held name (tally_at tallies name) (tally_at after name) names (are.each name) (counted name);
   total = held_more rows row held are.total;
 }
 
-pub AreTalliesOf-weightless : (rows : List Row) (row : Row) (held : ℕ) (tallies : Tallies) → row.weight ≡ 0 → AreTalliesOf rows held tallies
+pub AreTalliesOf-weightless : (rows : List WeightedStack) (row : WeightedStack) (held : ℕ) (tallies : Tallies) → row.weight ≡ 0 → AreTalliesOf rows held tallies
     → AreTalliesOf (rows ++ row ∷ []) (held + row.weight) tallies
 AreTalliesOf-weightless rows row held tallies none are = record {
   each = λ name. IsTallyOf-weightless rows row held name (tally_at tallies name) none (are.each name);
@@ -205,14 +205,14 @@ AreTalliesOf-weightless rows row held tallies none are = record {
 }
 
 -- no name weighs more than all rows together
-pub AreTalliesOf-cumulative : (rows : List Row) (held : ℕ) (tallies : Tallies) (name : List ℕ) → AreTalliesOf rows held tallies → (tally_at tallies name).cumulative ≤ held
+pub AreTalliesOf-cumulative : (rows : List WeightedStack) (held : ℕ) (tallies : Tallies) (name : List ℕ) → AreTalliesOf rows held tallies → (tally_at tallies name).cumulative ≤ held
 AreTalliesOf-cumulative rows held tallies name are =
     let most = weight_where-le-total (has_name name) rows in
     let tally = (are.each name).cumulative in
     let all = are.total in
     omega arith
 
-pub AreTalliesOf-flat : (rows : List Row) (held : ℕ) (tallies : Tallies) (name : List ℕ) → AreTalliesOf rows held tallies → (tally_at tallies name).flat ≤ held
+pub AreTalliesOf-flat : (rows : List WeightedStack) (held : ℕ) (tallies : Tallies) (name : List ℕ) → AreTalliesOf rows held tallies → (tally_at tallies name).flat ≤ held
 AreTalliesOf-flat rows held tallies name are =
     let most = weight_where-le-total (ends_with_name name) rows in
     let tally = (are.each name).flat in

@@ -6,7 +6,7 @@ use Rattle.std.proofs.lemmas.Cmp.{nat_list_eq_equiv}
 use Rattle.profile_rows.specs.declared.frame_totals.FrameTotal.{FrameTotal}
 use Rattle.profile_rows.specs.Names.{IsName, is_same_name}
 use Rattle.profile_rows.specs.TopList.{occurrences, AreSumsOf, sums_at}
-use Rattle.profile_rows.specs.declared.batch.Row.{Row}
+use Rattle.profile_rows.specs.declared.weighted_stacks.WeightedStack.{WeightedStack}
 use Rattle.profile_rows.specs.Rows.{flat_weight_of}
 use Rattle.std.proofs.lemmas.Map.Entries.{lookup_from_place}
 use Rattle.std.proofs.lemmas.Option.{slice_get-get_or}
@@ -97,12 +97,12 @@ each_found entries distinct k d lt =
     sym (ap (λ o. unwrap_or o zero_tally) (lookup_from_place keys_equiv entries k (get_or entries k d).0 (get_or entries k d).1 distinct (slice_get-get_or entries k d lt)))
 
 -- what is shown of an entry with the rows' tally is the name's weights in the rows
-sums_from : (rows : List Row) (last : ℕ) (entry : Entry) → IsTallyOf rows last entry.0.now entry.1 → entry_shown entry ≡ sums_at rows entry.0.now
+sums_from : (rows : List WeightedStack) (last : ℕ) (entry : Entry) → IsTallyOf rows last entry.0.now entry.1 → entry_shown entry ≡ sums_at rows entry.0.now
 sums_from rows last entry is =
     ap (λ n. let sums : FrameTotal = record { name = entry.0.now; flat = n; cum = entry.1.cumulative } in sums) is.flat
     ∙ ap (λ n. let sums : FrameTotal = record { name = entry.0.now; flat = flat_weight_of rows entry.0.now; cum = n } in sums) is.cumulative
 
-shown_weights : (rows : List Row) (last : ℕ) (all entries : List Entry) → ((name : List ℕ) → IsTallyOf rows last name (found_in all name)) → AllByRecursion (λ (e : Entry). e.1 ≡ found_in all e.0.now) entries
+shown_weights : (rows : List WeightedStack) (last : ℕ) (all entries : List Entry) → ((name : List ℕ) → IsTallyOf rows last name (found_in all name)) → AllByRecursion (λ (e : Entry). e.1 ≡ found_in all e.0.now) entries
     → AllByRecursion (λ sums. sums ≡ sums_at rows sums.name) (weighted_in entries)
 shown_weights rows last all [] tallies each = tt
 shown_weights rows last all (entry ∷ entries) tallies each =
@@ -114,7 +114,7 @@ shown_weights rows last all (entry ∷ entries) tallies each =
     ]
 
 -- the entries of the rows' tallies show each name that weighs something once, with its weights
-pub shown-AreSumsOf : (rows : List Row) (held : ℕ) (tallies : Tallies) → AreTalliesOf rows held tallies → IsDistinct keys_eq (keys_of tallies.entries) → AreSumsOf rows (weighted_in tallies.entries)
+pub shown-AreSumsOf : (rows : List WeightedStack) (held : ℕ) (tallies : Tallies) → AreTalliesOf rows held tallies → IsDistinct keys_eq (keys_of tallies.entries) → AreSumsOf rows (weighted_in tallies.entries)
 shown-AreSumsOf rows held tallies are distinct = record {
   weights = All-from_recursion (λ sums. sums ≡ sums_at rows sums.name) (weighted_in tallies.entries)
       (shown_weights rows held tallies.entries tallies.entries are.each (recursion_from_All (λ (e : Entry). e.1 ≡ found_in tallies.entries e.0.now) tallies.entries (each_found tallies.entries distinct)));
@@ -125,7 +125,7 @@ shown-AreSumsOf rows held tallies are distinct = record {
 abbrev pub IsNamed : Entry → Type 0
 IsNamed entry = 0 < entry.1.cumulative → IsName entry.0.now
 
-pub entries-IsNamed : (rows : List Row) (held : ℕ) (tallies : Tallies) → AreTalliesOf rows held tallies → IsDistinct keys_eq (keys_of tallies.entries) → AllByRecursion IsNamed tallies.entries
+pub entries-IsNamed : (rows : List WeightedStack) (held : ℕ) (tallies : Tallies) → AreTalliesOf rows held tallies → IsDistinct keys_eq (keys_of tallies.entries) → AllByRecursion IsNamed tallies.entries
 entries-IsNamed rows held tallies are distinct = each tallies.entries (recursion_from_All (λ (e : Entry). e.1 ≡ found_in tallies.entries e.0.now) tallies.entries (each_found tallies.entries distinct))
   where
     each : (entries : List Entry) → AllByRecursion (λ (e : Entry). e.1 ≡ found_in tallies.entries e.0.now) entries → AllByRecursion IsNamed entries

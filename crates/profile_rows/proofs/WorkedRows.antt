@@ -3,7 +3,7 @@ use Rattle.std.proofs.Common.{◌≡◌, ℕ, List, [], ◌∷◌, ◌++◌, ref
 use Rattle.std.specs.Prelude.{Some, None}
 use Rattle.std.specs.declared.cmp.Ordering.TheVariants.{Less}
 use Rattle.std.specs.Fmt.{digits}
-use Rattle.profile_rows.specs.declared.batch.Row.{Row}
+use Rattle.profile_rows.specs.declared.weighted_stacks.WeightedStack.{WeightedStack}
 use Rattle.profile_rows.specs.Rows.{stack_cmp, total_of, flat_weight_of, cumulative_weight_of, kept_rows}
 use Rattle.profile_rows.specs.Layout.{Rectangle, rectangles_of}
 use Rattle.profile_rows.specs.TopList.{top_report_of}
@@ -27,7 +27,7 @@ f = codes "f"
 abbrev g : List ℕ
 g = codes "g"
 
-abbrev pub row : List (List ℕ) → ℕ → Row
+abbrev pub row : List (List ℕ) → ℕ → WeightedStack
 row stack weight = record { stack = stack; weight = weight }
 
 -- these lines, each with its line feed
@@ -36,11 +36,11 @@ text [] = []
 text (line ∷ lines) = line ++ 10 ∷ text lines
 
 -- main;a;b 3, main;a 2, main;c 5
-abbrev three : List Row
+abbrev three : List WeightedStack
 three = row (main ∷ a ∷ b ∷ []) 3 ∷ row (main ∷ a ∷ []) 2 ∷ row (main ∷ c ∷ []) 5 ∷ []
 
 -- main;f;g;f 4
-abbrev recursion : List Row
+abbrev recursion : List WeightedStack
 recursion = row (main ∷ f ∷ g ∷ f ∷ []) 4 ∷ []
 
 -- a name that recurs counts once in a row

@@ -1,6 +1,6 @@
 -- The layout of a flame graph: a rectangle for each path of the rows that is wide enough to be seen.
 use Rattle.std.specs.Prelude.{ℕ, ◌+◌, ◌*◌, ◌/◌, Bool, List, [], ◌∷◌, map, filter, length, nat_lt}
-use Rattle.profile_rows.specs.declared.batch.Row.{Row}
+use Rattle.profile_rows.specs.declared.weighted_stacks.WeightedStack.{WeightedStack}
 use Rattle.profile_rows.specs.Rows.{total_of}
 use Rattle.profile_rows.specs.Paths.{path_weight, path_start, paths_of}
 
@@ -24,7 +24,7 @@ last_name (name ∷ []) = name
 last_name (name ∷ next ∷ names) = last_name (next ∷ names)
 
 -- the rectangle of a path among these rows: its edges are rounded, and not its width
-abbrev pub rectangle_at : ℕ → List Row → List (List ℕ) → Rectangle
+abbrev pub rectangle_at : ℕ → List WeightedStack → List (List ℕ) → Rectangle
 rectangle_at columns rows path = record {
   depth = length path;
   name = last_name path;
@@ -39,5 +39,5 @@ abbrev pub is_shown : Rectangle → Bool
 is_shown rectangle = nat_lt rectangle.left rectangle.right
 
 -- the rectangles of the layout, in the order of their paths
-abbrev pub rectangles_of : ℕ → List Row → List Rectangle
+abbrev pub rectangles_of : ℕ → List WeightedStack → List Rectangle
 rectangles_of columns rows = filter is_shown (map (rectangle_at columns rows) (paths_of rows))

@@ -10,3 +10,4 @@ pub mod Rows
 pub mod Merging
 pub mod Tallies
 pub mod TopList
+pub mod Values

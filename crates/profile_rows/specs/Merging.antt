@@ -6,15 +6,15 @@ use Rattle.std.specs.Str.{bytes_eq}
 use Rattle.std.specs.declared.hash.FoldHasher.{FoldHasher}
 use Rattle.std.specs.declared.hash.BuildHasherDefault.{BuildHasherDefault}
 use denote.Ref.{Bor}
-use Rattle.profile_rows.specs.declared.batch.Row.{Row}
+use Rattle.profile_rows.specs.declared.weighted_stacks.WeightedStack.{WeightedStack}
 use Rattle.profile_rows.specs.Rows.{is_same_stack, total_of, weight_if, weight_of}
 
 -- the row at an index; past the end one without frames and weight
-abbrev pub row_at : List Row → ℕ → Row
+abbrev pub row_at : List WeightedStack → ℕ → WeightedStack
 row_at rows at = slice_index_or rows at (record { stack = []; weight = 0 })
 
 -- the rows, of which the one at an index weighs so much more
-abbrev pub with_added_at : List Row → ℕ → ℕ → List Row
+abbrev pub with_added_at : List WeightedStack → ℕ → ℕ → List WeightedStack
 with_added_at rows at weight =
     slice_set rows at (record { stack = (row_at rows at).stack; weight = (row_at rows at).weight + weight })
 
@@ -26,20 +26,20 @@ abbrev pub row_spelled : RowsBySpelling → List ℕ → Option ℕ
 row_spelled known spelling = hash.get_by (λ (key : Bor (List ℕ)). bytes_eq spelling key.now) known
 
 -- what a spelling leads to is a row of the stack that it spells
-abbrev pub ArePlacedBy : (List ℕ → List (List ℕ)) → RowsBySpelling → List Row → Type 0
+abbrev pub ArePlacedBy : (List ℕ → List (List ℕ)) → RowsBySpelling → List WeightedStack → Type 0
 ArePlacedBy stack_of known rows = (spelling : List ℕ)
     → IfSome (row_spelled known spelling)
     (λ at. (at < length rows) × ((row_at rows at).stack ≡ stack_of spelling)
     × (length (stack_of spelling) ≤ 65535))
 
 -- the rows weigh a row more: each stack does, and all together
-pub record AddsRow (old new : List Row) (row : Row) : Type 0 where
+pub record AddsRow (old new : List WeightedStack) (row : WeightedStack) : Type 0 where
   pub weights : (stack : List (List ℕ))
       → weight_of new stack ≡ weight_of old stack + weight_if (is_same_stack stack) row
   pub total : total_of new ≡ total_of old + row.weight
   pub fits : total_of old + row.weight < 2 ^ 63
 
 -- the sums weigh what the rows do: each stack does, and all together
-pub record AreMergedSoFar (rows sums : List Row) : Type 0 where
+pub record AreMergedSoFar (rows sums : List WeightedStack) : Type 0 where
   pub weights : (stack : List (List ℕ)) → weight_of sums stack ≡ weight_of rows stack
   pub total : total_of sums ≡ total_of rows

@@ -3,7 +3,7 @@ use Rattle.std.specs.Prelude.{ℕ, Bool, true, false, List, [], ◌∷◌, map, 
 use Rattle.std.specs.List.{flat_map}
 use Rattle.std.specs.Ordering.{match_ordering}
 use Rattle.std.specs.declared.cmp.Ordering.{Ordering}
-use Rattle.profile_rows.specs.declared.batch.Row.{Row}
+use Rattle.profile_rows.specs.declared.weighted_stacks.WeightedStack.{WeightedStack}
 use Rattle.profile_rows.specs.Names.{name_cmp}
 use Rattle.profile_rows.specs.Order.{in_order}
 use Rattle.profile_rows.specs.Rows.{stack_cmp, weight_where}
@@ -28,13 +28,13 @@ prefixes [] = [] ∷ []
 prefixes (name ∷ names) = [] ∷ map (λ path. name ∷ path) (prefixes names)
 
 -- the width of a path: the weight of the rows whose stack begins with it
-abbrev pub path_weight : List Row → List (List ℕ) → ℕ
+abbrev pub path_weight : List WeightedStack → List (List ℕ) → ℕ
 path_weight rows path = weight_where (begins_with name_cmp path) rows
 
 -- where a path starts: the weight of the rows that lie left of it
-abbrev pub path_start : List Row → List (List ℕ) → ℕ
+abbrev pub path_start : List WeightedStack → List (List ℕ) → ℕ
 path_start rows path = weight_where (lies_left_of name_cmp path) rows
 
 -- the paths of the rows that weigh something, each once, in their order
-abbrev pub paths_of : List Row → List (List (List ℕ))
+abbrev pub paths_of : List WeightedStack → List (List (List ℕ))
 paths_of rows = in_order stack_cmp (flat_map (λ row. prefixes row.stack) (filter (λ row. nat_lt 0 row.weight) rows))

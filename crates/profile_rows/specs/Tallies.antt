@@ -5,7 +5,7 @@ use Rattle.std.specs.HashMap.{HashMap}
 use Rattle.std.specs.declared.hash.FoldHasher.{FoldHasher}
 use Rattle.std.specs.declared.hash.BuildHasherDefault.{BuildHasherDefault}
 use denote.Ref.{Bor}
-use Rattle.profile_rows.specs.declared.batch.Row.{Row}
+use Rattle.profile_rows.specs.declared.weighted_stacks.WeightedStack.{WeightedStack}
 use Rattle.profile_rows.specs.Names.{IsName, is_same_name}
 use Rattle.profile_rows.specs.Rows.{has_name, ends_with_name, weight_if, total_of, flat_weight_of, cumulative_weight_of}
 use Rattle.profile_rows.specs.declared.tallies.Tally.{Tally}
@@ -33,7 +33,7 @@ callers_counted callers number weight name tally =
     else tally
 
 -- a row more, for the tally of one name
-abbrev pub row_counted : Row → ℕ → List ℕ → Tally → Tally
+abbrev pub row_counted : WeightedStack → ℕ → List ℕ → Tally → Tally
 row_counted row number name tally = record {
   flat = tally.flat + weight_if (ends_with_name name) row;
   cumulative = tally.cumulative + weight_if (has_name name) row;
@@ -41,13 +41,13 @@ row_counted row number name tally = record {
 }
 
 -- the tally of a text after these rows, which are numbered up to `last`; a text that weighs something is a name
-pub record IsTallyOf (rows : List Row) (last : ℕ) (name : List ℕ) (tally : Tally) : Type 0 where
+pub record IsTallyOf (rows : List WeightedStack) (last : ℕ) (name : List ℕ) (tally : Tally) : Type 0 where
   pub flat : tally.flat ≡ flat_weight_of rows name
   pub cumulative : tally.cumulative ≡ cumulative_weight_of rows name
   pub numbered : tally.row ≤ last
   pub named : 0 < tally.cumulative → IsName name
 
 -- the tallies of these rows, which weigh `held` together: a row's number is the weight up to it
-pub record AreTalliesOf (rows : List Row) (held : ℕ) (tallies : Tallies) : Type 0 where
+pub record AreTalliesOf (rows : List WeightedStack) (held : ℕ) (tallies : Tallies) : Type 0 where
   pub each : (name : List ℕ) → IsTallyOf rows held name (tally_at tallies name)
   pub total : held ≡ total_of rows

@@ -4,7 +4,7 @@ use Rattle.std.specs.List.{flat_map}
 use Rattle.std.specs.Fmt.{decimal}
 use Rattle.std.specs.declared.cmp.Ordering.{Ordering}
 use Rattle.std.specs.Ordering.{nat_cmp, ordering_then}
-use Rattle.profile_rows.specs.declared.batch.Row.{Row}
+use Rattle.profile_rows.specs.declared.weighted_stacks.WeightedStack.{WeightedStack}
 use Rattle.profile_rows.specs.declared.frame_totals.FrameTotal.{FrameTotal}
 use Rattle.profile_rows.specs.declared.frame_totals.FrameTotals.{FrameTotals}
 use Rattle.profile_rows.specs.Names.{name_cmp, is_same_name}
@@ -26,15 +26,15 @@ top_cmp ranking a b =
     ordering_then (nat_cmp (chosen_weight ranking b) (chosen_weight ranking a)) (name_cmp a.name b.name)
 
 -- the weights of a name among these rows
-abbrev pub sums_at : List Row → List ℕ → FrameTotal
+abbrev pub sums_at : List WeightedStack → List ℕ → FrameTotal
 sums_at rows name = record { name = name; flat = flat_weight_of rows name; cum = cumulative_weight_of rows name }
 
 -- the names in the rows, with their weights: those of cumulative weight above 0
-abbrev pub sums_of : List Row → List FrameTotal
+abbrev pub sums_of : List WeightedStack → List FrameTotal
 sums_of rows = filter (λ sums. nat_lt 0 sums.cum) (map (sums_at rows) (flat_map (λ row. row.stack) rows))
 
 -- the first `count` names by the chosen weight, each once
-abbrev pub top_list_of : Ranking → ℕ → List Row → List FrameTotal
+abbrev pub top_list_of : Ranking → ℕ → List WeightedStack → List FrameTotal
 top_list_of ranking count rows = take count (in_order (top_cmp ranking) (sums_of rows))
 
 -- how often a name stands in a list of names with their weights
@@ -43,13 +43,13 @@ occurrences name list = sum_by (λ (sums : FrameTotal). if is_same_name name sum
 
 -- the list has each name of cumulative weight above 0 once, with its weights among the rows, and no other name, in any
 -- order
-pub record AreSumsOf (rows : List Row) (list : List FrameTotal) : Type 0 where
+pub record AreSumsOf (rows : List WeightedStack) (list : List FrameTotal) : Type 0 where
   pub weights : All (λ sums. sums ≡ sums_at rows sums.name) list
   pub once : (name : List ℕ)
       → occurrences name list ≡ (if nat_lt 0 (cumulative_weight_of rows name) then 1 else 0)
 
 -- what the names of rows weigh, and what the rows weigh together
-pub record AreTotalsOf (rows : List Row) (totals : FrameTotals) : Type 0 where
+pub record AreTotalsOf (rows : List WeightedStack) (totals : FrameTotals) : Type 0 where
   pub sums : AreSumsOf rows totals.frames.items
   pub total : totals.total ≡ total_of rows
 
@@ -62,5 +62,5 @@ abbrev pub top_text_of : ℕ → List FrameTotal → List ℕ
 top_text_of total list = codes "total " ++ decimal total ++ 10 ∷ flat_map top_line list
 
 -- the text of the top list of these rows
-abbrev pub top_report_of : Ranking → ℕ → List Row → List ℕ
+abbrev pub top_report_of : Ranking → ℕ → List WeightedStack → List ℕ
 top_report_of ranking count rows = top_text_of (total_of rows) (top_list_of ranking count rows)

@@ -1,182 +1,223 @@
-//! Batches: rows in order, whose total keeps the limit.
+//! Batches: rows of one to four values, in order, of which the total of each value keeps the limit.
 
-ghost use Rattle.std.specs.Prelude.{◌≡◌, ◌≤◌, ◌+◌, ◌^◌, ◌<◌, ◌++◌, ◌∷◌, [], length, IfErr, OnErr, OnOk};
-ghost use Rattle.profile_rows.specs.Rows.{total_of};
+ghost use Rattle.std.specs.Prelude.{ℕ, ◌≡◌, ◌+◌, ◌-◌, ◌*◌, ◌<◌, ◌≤◌, ◌++◌, ◌∷◌, [], drop, length, take, IfErr, OnErr, OnOk};
+ghost use Rattle.profile_rows.specs.Values.{AreTotals, BatchState, HasRoom, IsBatch, row_in, rows_at, single_batch, value_of};
 ghost use Rattle.profile_rows.specs.Pushing.{IsPushFault};
-ghost use Rattle.profile_rows.specs.Merging.{with_added_at};
 
 use crate::stack::Stack;
+use crate::values::{Weights, Width, first_heavy};
+use crate::weighted_stacks::{PushFault, Refused, WeightedStacks};
 use std::alloc::Global;
 use std::marker::Model;
-use thiserror::Error;
 
-/// The greatest total weight of a batch.
-pub const MAX_TOTAL: u64 = 9_223_372_036_854_775_807;
-
-/// A sample: a stack and its weight.
-#[derive(Drop, PartialEq, Eq)]
-pub struct Row {
-    pub stack: Stack,
-    pub weight: u64,
+/// A row of a batch: a stack, which is lent, and its values.
+#[derive(Clone, Copy)]
+pub struct Row<'a> {
+    pub stack: &'a Stack,
+    pub weights: Weights,
 }
 
-/// Why a batch refuses a row.
-#[derive(Clone, Copy, Debug, PartialEq, Eq, Error)]
-pub enum PushFault {
-    /// The total, `held`, and the row's weight pass [`MAX_TOTAL`] together.
-    #[error("Q1 Heavy held {held}")]
-    Heavy { held: u64 },
-    /// Memory ran out.
-    #[error("Q2 NoMemory")]
-    NoMemory,
-}
-
-/// A fault, and the value that was refused.
-#[derive(Drop)]
-pub struct Refused<T> {
-    pub fault: PushFault,
-    pub back: T,
-}
-
-/// Rows in order, whose weights are at most [`MAX_TOTAL`] together.
+/// Rows in order, each of as many values as the batch is wide. The total of each value is at most
+/// [`MAX_TOTAL`](crate::MAX_TOTAL).
 #[derive(Drop)]
 pub struct Batch {
-    rows: Vec<Row>,
-    total: u64,
+    /// The total of each value.
+    totals: Weights,
+    /// The stacks with their first values.
+    first: WeightedStacks,
+    /// The other values, row by row.
+    others: Vec<u64>,
 }
 
 impl Model for Batch {
-    ghost use Rattle.std.specs.Prelude.{List, ◌≡◌, ◌<◌, ◌^◌};
-    ghost use Rattle.profile_rows.specs.declared.batch.Row.{Row};
+    ghost use Rattle.profile_rows.specs.Values.{AreParts, BatchState, batch_with};
 
-    ghost Value = { List Row };
+    ghost Value = { BatchState };
 
-    ghost use Rattle.profile_rows.specs.Rows.{total_of};
+    ghost view = { λ b. batch_with b.totals b.first b.others.items };
 
-    ghost view = { λ b. b.rows.items };
+    ghost invariant = { λ b. AreParts b.totals b.first b.others.items };
+}
 
-    ghost invariant = { λ b. (b.total ≡ total_of b.rows.items) × (total_of b.rows.items < 2 ^ 63) };
+/// A row's values but for the first, of those of all rows.
+fn other_values(others: &[u64], at: usize, width: Width) -> &[u64]
+    requires { at * (width - 1) + (width - 1) ≤ length others.now }
+    ensures { result.now ≡ take (width - 1) (drop (at * (width - 1)) others.now) }
+{
+    let more = width.get() as usize - 1;
+    let start = at * more;
+    &others[start..start + more]
 }
 
 impl Batch {
-    /// A batch without rows. It keeps the allocator, and takes no memory yet.
-    pub fn new(alloc: Global) -> Batch
-        ensures { result ≡ [] }
+    /// A batch of this width without rows. It keeps the allocator, and takes no memory yet.
+    pub fn new(alloc: Global, width: Width) -> Batch
+        ensures { result ≡ record { width = width; rows = [] } }
     {
         Batch {
-            rows: Vec::new(alloc),
-            total: 0,
+            totals: Weights::zero(width),
+            first: WeightedStacks::new(alloc),
+            others: Vec::new(alloc),
         }
     }
 
-    /// The rows, in the order in which they were added.
-    pub fn rows(&self) -> &[Row]
-        ensures rows { result.now ≡ self.now }
-        ensures fits { total_of self.now < 2 ^ 63 }
+    /// The batch of one value that has these rows. Takes no memory.
+    pub fn single(alloc: Global, rows: WeightedStacks) -> Batch
+        ensures { result ≡ single_batch rows }
     {
-        let rows: &Vec<Row> = &self.rows;
-        rows.as_slice()
+        Batch {
+            totals: Weights::join(rows.total(), &[]),
+            first: rows,
+            others: Vec::new(alloc),
+        }
     }
 
-    /// The rows as a vector of the caller's own. Takes no memory.
-    pub fn into_rows(self) -> Vec<Row>
-        ensures rows { result.items ≡ self }
-        ensures fits { total_of self < 2 ^ 63 }
+    /// How many values each row has.
+    pub fn width(&self) -> Width
+        ensures width { result ≡ self.now.width }
+        ensures batch { IsBatch self.now }
     {
-        self.rows
+        self.totals.width()
     }
 
-    /// The weights of all rows together. Takes no time per row.
-    pub fn total(&self) -> u64
-        ensures total { result ≡ total_of self.now }
-        ensures fits { total_of self.now < 2 ^ 63 }
+    /// How many rows there are.
+    pub fn len(&self) -> usize
+        ensures { result ≡ length self.now.rows }
     {
-        self.total
+        self.first.rows().len()
+    }
+
+    /// The total of each value. Takes no time per row.
+    pub fn total(&self) -> Weights
+        ensures totals { AreTotals self.now result }
+        ensures batch { IsBatch self.now }
+    {
+        self.totals
+    }
+
+    /// The stacks in the order of their rows, each with its first value.
+    pub fn first(&self) -> &WeightedStacks
+        ensures first { result.now ≡ rows_at 0 self.now.rows }
+        ensures batch { IsBatch self.now }
+    {
+        &self.first
+    }
+
+    /// The value of this number, counted from 0, in a row.
+    pub fn weight(&self, at: usize, value: u32) -> u64
+        requires row { at < length self.now.rows }
+        requires value { value < self.now.width }
+        ensures { result ≡ value_of value (row_in self.now.rows at).weights }
+    {
+        let rows = self.first.rows();
+        prove!(at < rows.len());
+        if value == 0 {
+            return rows[at].weight;
+        }
+        let others = other_values(&self.others, at, self.totals.width());
+        others[value as usize - 1]
+    }
+
+    /// A row by its number, counted from 0.
+    pub fn row(&self, at: usize) -> Row<'_>
+        requires { at < length self.now.rows }
+        ensures stack { result.stack.now ≡ (row_in self.now.rows at).stack }
+        ensures weights { result.weights ≡ (row_in self.now.rows at).weights }
+    {
+        let rows = self.first.rows();
+        prove!(at < rows.len());
+        let row = &rows[at];
+        Row {
+            stack: &row.stack,
+            weights: Weights::join(
+                row.weight,
+                other_values(&self.others, at, self.totals.width()),
+            ),
+        }
+    }
+
+    /// Whether a row of these values can follow.
+    fn fitting(&self, weights: &Weights) -> Result<(), PushFault>
+        ensures width { OnOk result (length weights.now ≡ self.now.width) }
+        ensures room { OnOk result ((value : ℕ) → HasRoom self.now weights.now value) }
+        ensures fault { IfErr result (IsPushFault self.now weights.now) }
+    {
+        let held = self.totals.width();
+        if weights.width() != held {
+            return Err(PushFault::Width { held: held.get() });
+        }
+        match first_heavy(&self.totals, weights) {
+            Some(value) => Err(PushFault::Heavy {
+                value,
+                held: self.totals.value(value),
+            }),
+            None => Ok(()),
+        }
     }
 
     /// Adds a row at the end.
     ///
     /// # Errors
     ///
-    /// `Heavy` exactly where the total would pass [`MAX_TOTAL`], with the total; `NoMemory`. The batch is then as it
-    /// was, and the stack is handed back.
-    pub fn push(&mut self, stack: Stack, weight: u64) -> Result<(), Refused<Stack>>
-        ensures pushed { OnOk result (self.new ≡ self.old ++ (record { stack = stack; weight = weight }) ∷ []) }
-        ensures fits { OnOk result (total_of self.old + weight < 2 ^ 63) }
+    /// The first [`PushFault`]: memory is wanting only where there is no other. The batch is then as it was, and the
+    /// stack is handed back.
+    pub fn push(&mut self, stack: Stack, weights: Weights) -> Result<(), Refused<Stack>>
+        ensures pushed { OnOk result (self.new ≡ record
+            { width = self.old.width; rows = self.old.rows ++ (record { stack = stack; weights = weights }) ∷ [] }) }
+        ensures width { OnOk result (length weights ≡ self.old.width) }
+        ensures room { OnOk result ((value : ℕ) → HasRoom self.old weights value) }
         ensures unchanged { OnErr result (self.new ≡ self.old) }
         ensures back { IfErr result (λ refused. refused.back ≡ stack) }
-        ensures heavy { IfErr result (λ refused. IsPushFault self.old weight refused.fault) }
+        ensures fault { IfErr result (λ refused. IsPushFault self.old weights refused.fault) }
     {
-        let held = self.total;
-        if weight > MAX_TOTAL - held {
+        if let Err(fault) = self.fitting(&weights) {
+            return Err(Refused { fault, back: stack });
+        }
+        let kept = self.others.len();
+        if let Err(_) = self.others.extend_from_slice(weights.rest()) {
             return Err(Refused {
-                fault: PushFault::Heavy { held },
+                fault: PushFault::NoMemory,
                 back: stack,
             });
         }
-        match self.rows.push(Row { stack, weight }) {
+        match self.first.push(stack, weights.value(0)) {
             Ok(()) => {
-                self.total += weight;
+                self.totals = self.totals.plus(&weights);
                 Ok(())
             }
-            Err(failed) => {
-                let Row { stack, weight: _ } = failed.value;
+            Err(refused) => {
+                self.others.truncate(kept);
                 Err(Refused {
                     fault: PushFault::NoMemory,
-                    back: stack,
+                    back: refused.back,
                 })
             }
         }
     }
 }
 
-impl Batch {
-    /// Makes a row weigh so much more. Takes no memory.
-    ///
-    /// # Errors
-    ///
-    /// `Heavy` exactly where the total would pass [`MAX_TOTAL`], with the total. The batch is then as it was.
-    pub fn add_weight(&mut self, at: usize, weight: u64) -> Result<(), PushFault>
-        requires { at < length self.old }
-        ensures added { OnOk result (self.new ≡ with_added_at self.old at weight) }
-        ensures fits { OnOk result (total_of self.old + weight < 2 ^ 63) }
-        ensures unchanged { OnErr result (self.new ≡ self.old) }
-        ensures heavy { IfErr result
-            (λ fault. (fault ≡ PushFault.Heavy (total_of self.old)) × (2 ^ 63 ≤ total_of self.old + weight)) }
-    {
-        let room = MAX_TOTAL - self.total;
-        if room < weight {
-            return Err(PushFault::Heavy { held: self.total });
-        }
-        let row = &mut self.rows[at];
-        row.weight += weight;
-        self.total = self.total + weight;
-        Ok(())
-    }
-}
-
 impl PartialEq for Batch {
     ghost use Rattle.std.specs.Prelude.{◌≡◌, ◌↔◌, IsTrue};
-    ghost use Rattle.std.specs.Cmp.Lexicographic.{pointwise, lists_per};
     ghost use Rattle.std.specs.Cmp.{partial_equiv_from_equiv};
-    ghost use Rattle.profile_rows.specs.Equality.{row_eq, row_eq-laws};
+    ghost use Rattle.profile_rows.specs.Equality.{batch_eq, batch_eq-laws};
 
-    ghost eq = { pointwise row_eq };
+    ghost eq = { batch_eq };
 
-    ghost laws = { lists_per (partial_equiv_from_equiv row_eq-laws) };
+    ghost laws = { partial_equiv_from_equiv batch_eq-laws };
 
-    /// Whether the batches have the same rows in the same order.
+    /// Whether the batches have one width and the same rows in the same order.
     fn eq(&self, other: &Batch) -> bool
-        ensures compared { result ≡ pointwise row_eq self.now other.now }
+        ensures compared { result ≡ batch_eq self.now other.now }
         ensures equal { IsTrue result ↔ (self.now ≡ other.now) }
     {
-        self.rows.as_slice() == other.rows.as_slice()
+        self.totals.width() == other.totals.width()
+            && self.first == other.first
+            && self.others.as_slice() == other.others.as_slice()
     }
 }
 
 impl Eq for Batch {
-    ghost use Rattle.std.specs.Cmp.Lexicographic.{lists_equiv};
-    ghost use Rattle.profile_rows.specs.Equality.{row_eq-laws};
+    ghost use Rattle.profile_rows.specs.Equality.{batch_eq-laws};
 
-    ghost laws = { lists_equiv row_eq-laws };
+    ghost laws = { batch_eq-laws };
 }

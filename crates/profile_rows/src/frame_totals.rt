@@ -2,16 +2,16 @@
 
 ghost use Rattle.std.specs.Prelude.{ℕ, ◌≡◌, ◌+◌, ◌^◌, ◌<◌, ◌++◌, ◌∷◌, [], All, List, IfOk, OnOk, map};
 ghost use Rattle.std.specs.Option.{option_copied};
-ghost use Rattle.profile_rows.specs.declared.batch.Row.{Row};
+ghost use Rattle.profile_rows.specs.declared.weighted_stacks.WeightedStack.{WeightedStack};
 ghost use Rattle.profile_rows.specs.Names.{IsName};
 ghost use Rattle.profile_rows.specs.Rows.{kept_rows};
 ghost use Rattle.profile_rows.specs.Tallies.{AreTalliesOf};
 ghost use Rattle.profile_rows.specs.TopList.{AreTotalsOf};
 
-use crate::batch::{Batch, Row};
 use crate::keeping::keeps;
 use crate::name::Name;
 use crate::tallies::{Tally, count_stack, weighted};
+use crate::weighted_stacks::{WeightedStack, WeightedStacks};
 use no_memory::NoMemory;
 use std::alloc::{AllocError, Global};
 use std::collections::HashMap;
@@ -63,8 +63,8 @@ impl<'a> CountedRows<'a> {
     pub fn count(&mut self, frames: &[&'a str], weight: u64) -> Result<(), NoMemory>
         requires fits { self.old.total + weight < 2 ^ 63 }
         requires names { All IsName (map (λ frame. frame.now) frames.now) }
-        requires counted { (rows : List Row) × AreTalliesOf rows self.old.total self.old.tallies }
-        ensures { (rows : List Row) → AreTalliesOf rows self.old.total self.old.tallies
+        requires counted { (rows : List WeightedStack) × AreTalliesOf rows self.old.total self.old.tallies }
+        ensures { (rows : List WeightedStack) → AreTalliesOf rows self.old.total self.old.tallies
             → OnOk result
             (AreTalliesOf
             (rows ++ (record { stack = map (λ frame. frame.now) frames.now; weight = weight }) ∷ []) self.new.total
@@ -81,8 +81,8 @@ impl<'a> CountedRows<'a> {
     ///
     /// `NoMemory`.
     pub fn totals(&self, alloc: Global) -> Result<FrameTotals, NoMemory>
-        requires { (rows : List Row) × AreTalliesOf rows self.now.total self.now.tallies }
-        ensures { (rows : List Row) → AreTalliesOf rows self.now.total self.now.tallies
+        requires { (rows : List WeightedStack) × AreTalliesOf rows self.now.total self.now.tallies }
+        ensures { (rows : List WeightedStack) → AreTalliesOf rows self.now.total self.now.tallies
             → IfOk result (AreTotalsOf rows) }
     {
         let frames = weighted(alloc, &self.tallies)?;
@@ -109,11 +109,11 @@ fn replace_by_names<'a>(frames: &mut Vec<&'a str>, names: &'a [Name]) -> Result<
 fn count_batch_row<'a>(
     rows: &mut CountedRows<'a>,
     frames: &mut Vec<&'a str>,
-    row: &'a Row,
+    row: &'a WeightedStack,
 ) -> Result<(), NoMemory>
     requires fits { rows.old.total + row.now.weight < 2 ^ 63 }
-    requires counted { (before : List Row) × AreTalliesOf before rows.old.total rows.old.tallies }
-    ensures { (before : List Row) → AreTalliesOf before rows.old.total rows.old.tallies
+    requires counted { (before : List WeightedStack) × AreTalliesOf before rows.old.total rows.old.tallies }
+    ensures { (before : List WeightedStack) → AreTalliesOf before rows.old.total rows.old.tallies
         → OnOk result (AreTalliesOf (before ++ row.now ∷ []) rows.new.total rows.new.tallies) }
 {
     replace_by_names(frames, row.stack.names())?;
@@ -128,7 +128,7 @@ fn count_batch_row<'a>(
 /// `NoMemory`.
 pub fn kept_totals(
     alloc: Global,
-    batch: &Batch,
+    batch: &WeightedStacks,
     focus: Option<&Name>,
     ignored: Option<&Name>,
 ) -> Result<FrameTotals, NoMemory>

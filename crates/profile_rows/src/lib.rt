@@ -1,4 +1,4 @@
-//! Names, stacks and batches of weighted stacks, and what their rows weigh.
+//! Names, stacks, rows of a stack and one to four values, and what they weigh.
 //!
 //! `specs/` has the plain profile: what each report says of a list of rows. `laws` has facts of these definitions.
 #![tactic(auto)]
@@ -11,12 +11,16 @@ pub mod laws;
 mod name;
 mod stack;
 mod tallies;
+mod values;
+mod weighted_stacks;
 
 pub use aggregating::aggregate;
-pub use batch::{Batch, MAX_TOTAL, PushFault, Refused, Row};
+pub use batch::{Batch, Row};
 pub use frame_totals::{CountedRows, FrameTotal, FrameTotals, kept_totals};
 pub use keeping::keeps;
 pub use name::{Name, NameFault};
 pub use no_memory::NoMemory;
 pub use stack::{MAX_DEPTH, Stack};
 pub use tallies::Tally;
+pub use values::{MAX_WIDTH, Weights, Width, first_heavy};
+pub use weighted_stacks::{MAX_TOTAL, PushFault, Refused, WeightedStack, WeightedStacks};

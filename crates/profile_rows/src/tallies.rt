@@ -1,7 +1,7 @@
 //! What each name weighs in rows, by one pass and one look-up for each frame.
 
 ghost use Rattle.std.specs.Prelude.{ℕ, ◌≡◌, ◌≢◌, ◌+◌, ◌^◌, ◌<◌, ◌++◌, ◌∷◌, [], All, List, IfOk, OnOk, map, if◌then◌else◌};
-ghost use Rattle.profile_rows.specs.declared.batch.Row.{Row};
+ghost use Rattle.profile_rows.specs.declared.weighted_stacks.WeightedStack.{WeightedStack};
 ghost use Rattle.profile_rows.specs.Names.{IsName, is_same_name};
 ghost use Rattle.profile_rows.specs.Tallies.{AreTalliesOf, callers_counted, frame_counted, row_counted, tally_at};
 ghost use Rattle.profile_rows.specs.TopList.{AreSumsOf};
@@ -111,8 +111,8 @@ pub(crate) fn count_stack<'a>(
 ) -> Result<(), AllocError>
     requires fits { held + weight < 2 ^ 63 }
     requires names { All IsName (map (λ frame. frame.now) frames.now) }
-    requires counted { (rows : List Row) × AreTalliesOf rows held tallies.old }
-    ensures { (rows : List Row) → AreTalliesOf rows held tallies.old
+    requires counted { (rows : List WeightedStack) × AreTalliesOf rows held tallies.old }
+    ensures { (rows : List WeightedStack) → AreTalliesOf rows held tallies.old
         → OnOk result
         (AreTalliesOf (rows ++ (record { stack = map (λ frame. frame.now) frames.now; weight = weight }) ∷ [])
         (held + weight) tallies.new) }
@@ -128,8 +128,8 @@ pub(crate) fn weighted(
     alloc: Global,
     tallies: &HashMap<&str, Tally>,
 ) -> Result<Vec<FrameTotal>, NoMemory>
-    requires { (rows : List Row) × (held : ℕ) × AreTalliesOf rows held tallies.now }
-    ensures { (rows : List Row) (held : ℕ) → AreTalliesOf rows held tallies.now
+    requires { (rows : List WeightedStack) × (held : ℕ) × AreTalliesOf rows held tallies.now }
+    ensures { (rows : List WeightedStack) (held : ℕ) → AreTalliesOf rows held tallies.now
         → IfOk result (λ list. AreSumsOf rows list.items) }
 {
     let mut list = Vec::new(alloc);

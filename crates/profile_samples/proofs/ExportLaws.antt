@@ -1,27 +1,27 @@
 -- The profile of rows is valid, and its rows are those rows.
-use Rattle.std.proofs.Common.{◌≡◌, ℕ, suc, ◌+◌, ◌^◌, ◌<◌, Bool, true, false, cond, ◌||◌, eqb, List, [], ◌∷◌, ◌++◌, length, map, refl, sym, ap, ◌∙◌, subst, arith}
-use Rattle.std.specs.Prelude.{⊤, pos, Option, Some, None, ◌==◌, reverse, slice_index_or, unwrap_or}
+use Rattle.std.proofs.Common.{◌≡◌, ℕ, zero, suc, ◌+◌, ◌^◌, ◌<◌, ◌≤◌, Bool, true, false, cond, ◌||◌, eqb, List, [], ◌∷◌, ◌++◌, length, map, refl, sym, ap, ◌∙◌, subst, arith}
+use Rattle.std.specs.Prelude.{⊤, pos, Option, Some, None, ◌==◌, reverse, slice_get, slice_index_or, unwrap_or}
 use Rattle.std.specs.List.{All, AllByRecursion, list_all, list_any, flat_map}
 use Rattle.std.specs.Str.{bytes_eq}
 use Rattle.std.proofs.lemmas.Bool.{and_parts, eq-eqb, ne_eqb, lt-ltb, false≢true}
-use Rattle.std.proofs.lemmas.List.{reverse-reverse}
+use Rattle.std.proofs.lemmas.List.{length-map, reverse-reverse}
 use Rattle.std.proofs.lemmas.List.Concat.{flat_map-cons}
-use Rattle.std.proofs.lemmas.List.Elements.{recursion_from_All}
+use Rattle.std.proofs.lemmas.List.Elements.{All-from_recursion, recursion_from_All}
 use Rattle.std.proofs.lemmas.List.Folds.{list_all-append, list_any-append}
 use Rattle.std.proofs.lemmas.Grind.{flat_map-append, reverse_onto}
 use Rattle.pprof_profile.specs.declared.faults.ProfileFault.{ProfileFault}
 use Rattle.pprof_profile.specs.declared.faults.ProfileFault.TheVariants.{NoStrings, FirstString, StringIndex, ZeroId, DoubleId, NoLocation, NoMapping, NoFunction, ValueCount}
 use Rattle.pprof_profile.specs.declared.messages.Function.{Function}
 use Rattle.pprof_profile.specs.declared.messages.Location.{Location}
-use Rattle.pprof_profile.specs.Valid.{IsValidDraft, all_index, begins_with_empty, each_has_values, function_ids, function_indexes, has_double, is_index, is_known, is_nonempty, location_ids, mapping_ids, names_functions, names_locations, names_mappings, no_double_id, no_zero_id, sample_indexes}
-use Rattle.profile_rows.specs.declared.batch.Row.{Row}
+use Rattle.pprof_profile.specs.Valid.{IsValidDraft, all_index, begins_with_empty, each_has_values, function_ids, function_indexes, has_double, is_index, is_known, is_nonempty, location_ids, mapping_ids, names_functions, names_locations, names_mappings, no_double_id, no_zero_id, sample_indexes, value_type_indexes}
+use Rattle.profile_rows.specs.declared.weighted_stacks.WeightedStack.{WeightedStack}
 use Rattle.profile_samples.specs.declared.sampling.ValueChoice.TheVariants.{Default}
 use Rattle.profile_rows.specs.Names.{IsName, cleaned_name_of}
-use Rattle.profile_rows.specs.Rows.{total_of}
-use Rattle.profile_rows.specs.Rows.{IsBatchRow}
+use Rattle.profile_rows.specs.Rows.{IsBatchRow, total_of}
+use Rattle.profile_rows.specs.Values.{Row, rows_at, singles, value_of, weighing}
 use Rattle.profile_samples.specs.Samples.{AreSampleRows, IsBatchOf, IsSampleRow, address_name, first_name, frames_at, frames_of_id, item_with, named_by, string_at}
 use Rattle.profile_samples.specs.TextTables.{place_in, with_text, with_texts}
-use Rattle.profile_samples.specs.Export.{exported_function, exported_location, exported_profile_of, exported_sample, id_in, names_of, profile_with, strings_of}
+use Rattle.profile_samples.specs.Export.{KindAndUnit, exported_function, exported_location, exported_profile_of, exported_sample, exported_type, id_in, names_of, profile_with, single_profile_of, strings_of, unit_texts}
 use Rattle.profile_rows.proofs.Cleaning.{cleaned-name}
 use Rattle.profile_rows.proofs.SameNames.{same_from_is_same_name, is_same_name-self}
 use Rattle.profile_samples.proofs.TextPlaces.{any_push, place_in-lt, turned}
@@ -175,9 +175,36 @@ samples_index : (names : List (List ℕ)) (count : ℕ) (rows : List Row) → li
 samples_index names count [] = refl
 samples_index names count (row ∷ rows) = samples_index names count rows
 
-one_value_each : (names : List (List ℕ)) (rows : List Row) → each_has_values 1 (map (exported_sample names) rows) ≡ true
-one_value_each names [] = refl
-one_value_each names (row ∷ rows) = one_value_each names rows
+-- as many values as there are kinds and units
+values_each : (names : List (List ℕ)) (count : ℕ) (rows : List Row) → AllByRecursion (λ row. length row.weights ≡ count) rows → each_has_values count (map (exported_sample names) rows) ≡ true
+values_each names count [] all = refl
+values_each names count (row ∷ rows) all =
+    rw (eq-eqb (length (map pos row.weights)) count (length-map row.weights pos ∙ all.0), values_each names count rows all.1) refl
+
+-- the kinds and units of values stand among texts
+abbrev pub UnitsStand : List (List ℕ) → List KindAndUnit → Type 0
+UnitsStand strings [] = ⊤
+UnitsStand strings (unit ∷ units) = ((stands_in strings unit.0 ≡ true) × (stands_in strings unit.1 ≡ true)) × UnitsStand strings units
+
+types_index : (strings : List (List ℕ)) (units : List KindAndUnit) → UnitsStand strings units
+    → list_all (value_type_indexes (length strings)) (map (exported_type strings) units) ≡ true
+types_index strings [] all = refl
+types_index strings (unit ∷ units) all =
+    rw (is_index-place strings unit.0 all.0.0, is_index-place strings unit.1 all.0.1, types_index strings units all.1) refl
+
+units_stand : (strings : List (List ℕ)) (units : List KindAndUnit) → ((q : List ℕ) → stands_in (unit_texts units) q ≡ true → stands_in strings q ≡ true) → UnitsStand strings units
+units_stand strings [] h = tt
+units_stand strings (unit ∷ units) h = (
+  (
+    h unit.0 (or_left (bytes_eq unit.0 unit.0) (bytes_eq unit.0 unit.1 || stands_in (unit_texts units) unit.0) (is_same_name-self unit.0)),
+    h unit.1 (or_right (bytes_eq unit.1 unit.0) (bytes_eq unit.1 unit.1 || stands_in (unit_texts units) unit.1)
+        (or_left (bytes_eq unit.1 unit.1) (stands_in (unit_texts units) unit.1) (is_same_name-self unit.1))),
+  ),
+  units_stand strings units (λ q e. h q (or_right (bytes_eq q unit.0) (bytes_eq q unit.1 || stands_in (unit_texts units) q) (or_right (bytes_eq q unit.1) (stands_in (unit_texts units) q) e))),
+)
+
+types_count : (strings : List (List ℕ)) (units : List KindAndUnit) → length (map (exported_type strings) units) ≡ length units
+types_count strings units = length-map units (exported_type strings)
 
 no_mappings : (names sub : List (List ℕ)) (known : ℕ → Bool) → names_mappings known (map (exported_location names) sub) ≡ true
 no_mappings names [] known = refl
@@ -245,24 +272,22 @@ rule_kept : (rule : Bool) (fault : ProfileFault) (rest : Option ProfileFault) �
 rule_kept rule fault rest e left = ap (λ b. cond b rest (Some fault)) e ∙ left
 
 -- what the names and strings of an export are
-pub record AreExported (names strings : List (List ℕ)) (rows : List Row) (kind unit : List ℕ) : Type 0 where
+pub record AreExported (names strings : List (List ℕ)) (rows : List Row) (units : List KindAndUnit) : Type 0 where
   pub own : AllStand names names
   pub apart : AreDistinct names
   pub strung : AllStand strings names
   pub stacks_strung : RowsStand strings rows
-  pub kind_there : stands_in strings kind ≡ true
-  pub unit_there : stands_in strings unit ≡ true
+  pub units_there : UnitsStand strings units
   pub begun : begins_with_empty strings ≡ true
   pub stacks : RowsStand names rows
 
-pub valid_with : (names strings : List (List ℕ)) (rows : List Row) (kind unit : List ℕ) → AreExported names strings rows kind unit → IsValidDraft (profile_with names strings rows kind unit)
-valid_with names strings rows kind unit this =
-    let draft = profile_with names strings rows kind unit in
+pub valid_with : (names strings : List (List ℕ)) (rows : List Row) (units : List KindAndUnit) → AreExported names strings rows units → AllByRecursion (λ row. length row.weights ≡ length units) rows → IsValidDraft (profile_with names strings rows units)
+valid_with names strings rows units this widths =
+    let draft = profile_with names strings rows units in
     let some = begun_nonempty strings this.begun in
     let indices : all_index draft ≡ true =
     rw (
-      is_index-place strings kind this.kind_there,
-      is_index-place strings unit this.unit_there,
+      types_index strings units this.units_there,
       samples_index names (length strings) rows,
       functions_index names strings names some this.strung,
       is_index-zero strings some,
@@ -282,33 +307,32 @@ valid_with names strings rows kind unit this =
     (rule_kept (names_locations (is_known (location_ids draft)) draft.samples) NoLocation _ locations
     (rule_kept (names_mappings (is_known (mapping_ids draft)) draft.locations) NoMapping _ (no_mappings names names (is_known (mapping_ids draft)))
     (rule_kept (names_functions (is_known (function_ids draft)) draft.locations) NoFunction _ functions
-    (rule_kept (each_has_values 1 draft.samples) ValueCount None (one_value_each names rows) refl))))))))
+    (rule_kept (each_has_values (length draft.sample_types) draft.samples) ValueCount None
+    (ap (λ count. each_has_values count (map (exported_sample names) rows)) (types_count strings units) ∙ values_each names (length units) rows widths) refl))))))))
 
-pub exported_names : (rows : List Row) (kind unit : List ℕ) → AreExported (names_of rows) (strings_of kind unit (names_of rows)) rows kind unit
-exported_names rows kind unit =
+pub exported_names : (rows : List Row) (units : List KindAndUnit) → AreExported (names_of rows) (strings_of units (names_of rows)) rows units
+exported_names rows units =
     let frames = flat_map (λ (row : Row). row.stack) rows in
     let names = names_of rows in
-    let all = [] ∷ kind ∷ unit ∷ names in
+    let all = [] ∷ unit_texts units ++ names in
     let spelled : (q : List ℕ) → stands_in names q ≡ true → stands_in (with_texts [] all) q ≡ true = λ q e. with_texts-own [] all q
-    (or_right (bytes_eq q []) (bytes_eq q kind || (bytes_eq q unit || stands_in names q))
-    (or_right (bytes_eq q kind) (bytes_eq q unit || stands_in names q) (or_right (bytes_eq q unit) (stands_in names q) e))) in
+    (or_right (bytes_eq q []) (stands_in (unit_texts units ++ names) q)
+    (list_any-append (bytes_eq q) (unit_texts units) names ∙ or_right (stands_in (unit_texts units) q) (stands_in names q) e)) in
     record {
       own = stand_where names names (λ q e. e);
       apart = distinct_with_texts [] frames tt;
-      strung = stand_where names (strings_of kind unit names) spelled;
-      stacks_strung = rows_stand (strings_of kind unit names) rows (λ q e. spelled q (with_texts-own [] frames q e));
-      kind_there = with_texts-own [] all kind
-          (or_right (bytes_eq kind []) (bytes_eq kind kind || (bytes_eq kind unit || stands_in names kind))
-          (or_left (bytes_eq kind kind) (bytes_eq kind unit || stands_in names kind) (is_same_name-self kind)));
-      unit_there = with_texts-own [] all unit
-          (or_right (bytes_eq unit []) (bytes_eq unit kind || (bytes_eq unit unit || stands_in names unit))
-          (or_right (bytes_eq unit kind) (bytes_eq unit unit || stands_in names unit) (or_left (bytes_eq unit unit) (stands_in names unit) (is_same_name-self unit))));
-      begun = begins (with_text [] []) (kind ∷ unit ∷ names) refl;
+      strung = stand_where names (strings_of units names) spelled;
+      stacks_strung = rows_stand (strings_of units names) rows (λ q e. spelled q (with_texts-own [] frames q e));
+      units_there = units_stand (strings_of units names) units (λ q e. with_texts-own [] all q
+          (or_right (bytes_eq q []) (stands_in (unit_texts units ++ names) q)
+          (list_any-append (bytes_eq q) (unit_texts units) names ∙ or_left (stands_in (unit_texts units) q) (stands_in names q) e)));
+      begun = begins (with_text [] []) (unit_texts units ++ names) refl;
       stacks = rows_stand names rows (λ q e. with_texts-own [] frames q e);
     }
 
-pub export_valid : (rows : List Row) (kind unit : List ℕ) → IsValidDraft (exported_profile_of rows kind unit)
-export_valid rows kind unit = valid_with (names_of rows) (strings_of kind unit (names_of rows)) rows kind unit (exported_names rows kind unit)
+pub export_valid : (rows : List Row) (units : List KindAndUnit) → All (λ row. length row.weights ≡ length units) rows → IsValidDraft (exported_profile_of rows units)
+export_valid rows units widths = valid_with (names_of rows) (strings_of units (names_of rows)) rows units (exported_names rows units)
+    (recursion_from_All (λ (row : Row). length row.weights ≡ length units) rows widths)
 
 -- ---- the rows of the profile
 
@@ -336,10 +360,10 @@ found_by_id id_of made names (text ∷ sub) q ids e all there =
     ] refl there
 
 -- a name's location has it as its one frame
-frame_of_id : (names strings : List (List ℕ)) (rows : List Row) (kind unit text : List ℕ) → AreExported names strings rows kind unit → stands_in names text ≡ true → stands_in strings text ≡ true → IsName text
-    → frames_of_id (profile_with names strings rows kind unit) (id_in names text) ≡ text ∷ []
-frame_of_id names strings rows kind unit text this there strung is_name =
-    let draft = profile_with names strings rows kind unit in
+frame_of_id : (names strings : List (List ℕ)) (rows : List Row) (units : List KindAndUnit) (text : List ℕ) → AreExported names strings rows units → stands_in names text ≡ true → stands_in strings text ≡ true → IsName text
+    → frames_of_id (profile_with names strings rows units) (id_in names text) ≡ text ∷ []
+frame_of_id names strings rows units text this there strung is_name =
+    let draft = profile_with names strings rows units in
     let function = exported_function names strings text in
     let location_found = found_by_id (λ (location : Location). location.id) (exported_location names) names names text (λ t. refl) there this.own there in
     let function_found = found_by_id (λ (function : Function). function.id) (exported_function names strings) names names text (λ t. refl) there this.own there in
@@ -358,35 +382,71 @@ flat_of_reversed frames_of id_of (text ∷ stack) each =
     ∙ ap (λ frames. reverse stack ++ frames) (flat_map-cons frames_of (id_of text) [] ∙ ap (λ frames. frames ++ flat_map frames_of []) each.0)
     ∙ sym (reverse_onto stack text [])
 
-module _ (names strings : List (List ℕ)) (rows : List Row) (kind unit : List ℕ) (this : AreExported names strings rows kind unit) where
+value_there : (value : ℕ) (weights : List ℕ) → value < length weights → slice_get (map pos weights) value ≡ Some (pos (value_of value weights))
+value_there value [] within = absurd (omega (arith, within))
+value_there zero (weight ∷ weights) within = refl
+value_there (suc value) (weight ∷ weights) within = value_there value weights (omega (arith, within))
+
+-- a row of a stack that a batch can hold, with this value
+abbrev pub CanStand : ℕ → Row → Type 0
+CanStand value row = All IsName row.stack × (length row.stack ≤ 65535) × (value < length row.weights)
+
+module _ (names strings : List (List ℕ)) (rows : List Row) (units : List KindAndUnit) (this : AreExported names strings rows units) where
   each_frame : (stack : List (List ℕ)) → AllStand names stack → AllStand strings stack → AllByRecursion IsName stack
-      → AllByRecursion (λ text. frames_of_id (profile_with names strings rows kind unit) (id_in names text) ≡ text ∷ []) stack
+      → AllByRecursion (λ text. frames_of_id (profile_with names strings rows units) (id_in names text) ≡ text ∷ []) stack
   each_frame [] all strung are_names = tt
   each_frame (text ∷ stack) all strung are_names =
-      (frame_of_id names strings rows kind unit text this all.0 strung.0 are_names.0, each_frame stack all.1 strung.1 are_names.1)
+      (frame_of_id names strings rows units text this all.0 strung.0 are_names.0, each_frame stack all.1 strung.1 are_names.1)
 
-  row_sampled : (row : Row) → AllStand names row.stack → AllStand strings row.stack → IsBatchRow row → IsSampleRow (profile_with names strings rows kind unit) 0 (exported_sample names row) row
-  row_sampled row all strung batch_row = record {
-    stack = sym (ap reverse (flat_of_reversed (frames_of_id (profile_with names strings rows kind unit)) (id_in names) row.stack
-        (each_frame row.stack all strung (recursion_from_All IsName row.stack batch_row.names))) ∙ reverse-reverse row.stack);
-    depth = batch_row.depth;
-    value = refl;
+  row_sampled : (value : ℕ) (row : Row) → AllStand names row.stack → AllStand strings row.stack → All IsName row.stack → length row.stack ≤ 65535 → value < length row.weights
+      → IsSampleRow (profile_with names strings rows units) value (exported_sample names row) (weighing value row)
+  row_sampled value row all strung are_names deep within = record {
+    stack = sym (ap reverse (flat_of_reversed (frames_of_id (profile_with names strings rows units)) (id_in names) row.stack
+        (each_frame row.stack all strung (recursion_from_All IsName row.stack are_names))) ∙ reverse-reverse row.stack);
+    depth = deep;
+    value = value_there value row.weights within;
   }
 
-  rows_sampled : (some : List Row) → RowsStand names some → RowsStand strings some → AllByRecursion IsBatchRow some
-      → AreSampleRows (profile_with names strings rows kind unit) 0 (map (exported_sample names) some) some
-  rows_sampled [] all strung batch_rows = refl
-  rows_sampled (row ∷ some) all strung batch_rows = (row_sampled row all.0 strung.0 batch_rows.0, rows_sampled some all.1 strung.1 batch_rows.1)
+  rows_sampled : (value : ℕ) (some : List Row) → RowsStand names some → RowsStand strings some → AllByRecursion (CanStand value) some
+      → AreSampleRows (profile_with names strings rows units) value (map (exported_sample names) some) (rows_at value some)
+  rows_sampled value [] all strung can = refl
+  rows_sampled value (row ∷ some) all strung can =
+      (row_sampled value row all.0 strung.0 can.0.0 can.0.1 can.0.2, rows_sampled value some all.1 strung.1 can.1)
+
+-- by each value the rows come back
+pub export_values : (rows : List Row) (units : List KindAndUnit) (value : ℕ) → All (CanStand value) rows
+    → AreSampleRows (exported_profile_of rows units) value (map (exported_sample (names_of rows)) rows) (rows_at value rows)
+export_values rows units value can =
+    let names = names_of rows in
+    let this = exported_names rows units in
+    rows_sampled names (strings_of units names) rows units this value rows this.stacks this.stacks_strung (recursion_from_All (CanStand value) rows can)
+
+-- ---- rows of one value
+
+pub rows_at-singles : (rows : List WeightedStack) → rows_at 0 (singles rows) ≡ rows
+rows_at-singles [] = refl
+rows_at-singles (row ∷ rows) = ap (λ rest. row ∷ rest) (rows_at-singles rows)
+
+pub widths-singles : (rows : List WeightedStack) → All (λ row. length row.weights ≡ 1) (singles rows)
+widths-singles rows = All-from_recursion (λ (row : Row). length row.weights ≡ 1) (singles rows) (each rows)
+  where
+    each : (rows : List WeightedStack) → AllByRecursion (λ (row : Row). length row.weights ≡ 1) (singles rows)
+    each [] = tt
+    each (row ∷ rows) = (refl, each rows)
+
+can_stand-singles : (rows : List WeightedStack) → AllByRecursion IsBatchRow rows → AllByRecursion (CanStand 0) (singles rows)
+can_stand-singles [] all = tt
+can_stand-singles (row ∷ rows) all = ((all.0.names, all.0.depth, omega arith), can_stand-singles rows all.1)
 
 -- the rows come back
-pub export_rows : (rows : List Row) (kind unit : List ℕ) → All IsBatchRow rows → total_of rows < 2 ^ 63 → IsBatchOf (exported_profile_of rows kind unit) Default rows
+pub export_rows : (rows : List WeightedStack) (kind unit : List ℕ) → All IsBatchRow rows → total_of rows < 2 ^ 63 → IsBatchOf (single_profile_of rows kind unit) Default rows
 export_rows rows kind unit batch_rows fits =
-    let names = names_of rows in
-    let strings = strings_of kind unit names in
-    let this = exported_names rows kind unit in
+    let units = (kind, unit) ∷ [] in
+    let all = All-from_recursion (CanStand 0) (singles rows) (can_stand-singles rows (recursion_from_All IsBatchRow rows batch_rows)) in
     record {
       chosen = 0;
       is_chosen = refl;
-      rows_samples = rows_sampled names strings rows kind unit this rows this.stacks this.stacks_strung (recursion_from_All IsBatchRow rows batch_rows);
+      rows_samples = subst (AreSampleRows (single_profile_of rows kind unit) 0 (map (exported_sample (names_of (singles rows))) (singles rows))) (rows_at-singles rows)
+          (export_values (singles rows) units 0 all);
       total_fits = fits;
     }

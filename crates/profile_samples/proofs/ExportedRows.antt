@@ -8,12 +8,13 @@ use Rattle.std.proofs.lemmas.List.Sums.{sum_by_push}
 use Rattle.std.proofs.lemmas.Grind.{flat_map-append}
 use Rattle.pprof_profile.specs.declared.messages.Sample.{Sample}
 use Rattle.pprof_profile.specs.Canonical.{canonical_bytes_of, sample_bytes, samples_bytes, FitsEach, FitsSample}
-use Rattle.profile_rows.specs.declared.batch.Row.{Row}
+use Rattle.profile_rows.specs.declared.weighted_stacks.WeightedStack.{WeightedStack}
+use Rattle.profile_rows.specs.Values.{Row, rows_at, single, singles, weighing}
 use Rattle.folded_text.specs.declared.folded.FoldedFault.{FoldedFault}
 use Rattle.folded_text.specs.declared.folded.FoldedFault.TheVariants.{NoMemory}
 use Rattle.folded_text.specs.FoldedText.{IsFoldedText, IsWorkFault}
 use Rattle.profile_samples.specs.TextTables.{place_in, with_text, with_texts}
-use Rattle.profile_samples.specs.Export.{AreSamplesOf, IsExportOfText, exported_profile_of, exported_sample, id_in, names_of}
+use Rattle.profile_samples.specs.Export.{AreSamplesOf, IsExportOfText, single_profile_of, exported_sample, id_in, names_of}
 use Rattle.profile_samples.proofs.ExportLaws.{AllStand, RowsStand, rows_stand, stand_where, stands_in, with_text-stands, with_texts-own}
 use Rattle.folded_text.proofs.Reading.{IsFirstFault-folded, IsFoldedText-same}
 use Rattle.profile_samples.proofs.TextPlaces.{next_mapped, place_in-more, with_texts-append}
@@ -55,7 +56,7 @@ rows_stay texts text (row ∷ rows) all = (stack_stays texts text row.stack all.
 samples_kept-text : (texts : List (List ℕ)) (text : List ℕ) (rows : List Row) → RowsStand texts rows → map (exported_sample (with_text texts text)) rows ≡ map (exported_sample texts) rows
 samples_kept-text texts text [] all = refl
 samples_kept-text texts text (row ∷ rows) all =
-    ap (λ ids. let sample : Sample = record { location_ids = reverse ids; values = pos row.weight ∷ []; labels = [] } in sample ∷ map (exported_sample (with_text texts text)) rows) (ids_kept texts text row.stack all.0)
+    ap (λ ids. let sample : Sample = record { location_ids = reverse ids; values = map pos row.weights; labels = [] } in sample ∷ map (exported_sample (with_text texts text)) rows) (ids_kept texts text row.stack all.0)
     ∙ ap (λ samples. exported_sample texts row ∷ samples) (samples_kept-text texts text rows all.1)
 
 samples_kept : (texts more : List (List ℕ)) (rows : List Row) → RowsStand texts rows → map (exported_sample (with_texts texts more)) rows ≡ map (exported_sample texts) rows
@@ -78,33 +79,43 @@ fits_joined [] more fits other = other
 fits_joined (sample ∷ samples) more fits other = (fits.0, fits_joined samples more fits.1 other)
 
 -- a row more
-pub AreSamplesOf-push : (rows : List Row) (row : Row) (names next : List (List ℕ)) (samples after ids : List ℕ) (total sum : ℕ) → AreSamplesOf rows names samples total
+pub AreSamplesOf-push : (rows : List WeightedStack) (row : WeightedStack) (names next : List (List ℕ)) (samples after ids : List ℕ) (total sum : ℕ) → AreSamplesOf rows names samples total
     → next ≡ with_texts names row.stack → ids ≡ reverse (map (id_in next) row.stack) → sum ≡ total + row.weight
-    → after ≡ samples_bytes (map (exported_sample names) rows ++ (record { location_ids = ids; values = pos row.weight ∷ []; labels = [] }) ∷ [])
+    → after ≡ samples_bytes (map (exported_sample names) (singles rows) ++ (record { location_ids = ids; values = pos row.weight ∷ []; labels = [] }) ∷ [])
     → FitsEach FitsSample sample_bytes ((record { location_ids = ids; values = pos row.weight ∷ []; labels = [] }) ∷ [])
     → AreSamplesOf (rows ++ row ∷ []) next after sum
 AreSamplesOf-push rows row names next samples after ids total sum so_far added numbered more written fits =
-    let all : RowsStand names rows = subst (λ texts. RowsStand texts rows) (sym so_far.names_rows) (rows_stand (names_of rows) rows (λ q e. with_texts-own [] (flat_map (λ (r : Row). r.stack) rows) q e)) in
-    let kept : map (exported_sample names) rows ≡ map (exported_sample next) rows = sym (samples_kept names row.stack rows all) ∙ ap (λ texts. map (exported_sample texts) rows) (sym added) in
+    let before = singles rows in
+    let longer : singles (rows ++ row ∷ []) ≡ before ++ single row ∷ [] = map-append single rows (row ∷ []) in
+    let all : RowsStand names before = subst (λ texts. RowsStand texts before) (sym so_far.names_rows) (rows_stand (names_of before) before (λ q e. with_texts-own [] (flat_map (λ (r : Row). r.stack) before) q e)) in
+    let kept : map (exported_sample names) before ≡ map (exported_sample next) before = sym (samples_kept names row.stack before all) ∙ ap (λ texts. map (exported_sample texts) before) (sym added) in
     let sample : Sample = record { location_ids = ids; values = pos row.weight ∷ []; labels = [] } in
-    let listed : map (exported_sample names) rows ++ sample ∷ [] ≡ map (exported_sample next) (rows ++ row ∷ []) =
-    ap (λ is. let one : Sample = record { location_ids = is; values = pos row.weight ∷ []; labels = [] } in map (exported_sample names) rows ++ one ∷ []) numbered
-    ∙ ap (λ before. before ++ exported_sample next row ∷ []) kept
-    ∙ sym (map-append (exported_sample next) rows (row ∷ [])) in
+    let listed : map (exported_sample names) before ++ sample ∷ [] ≡ map (exported_sample next) (singles (rows ++ row ∷ [])) =
+    ap (λ is. let one : Sample = record { location_ids = is; values = pos row.weight ∷ []; labels = [] } in map (exported_sample names) before ++ one ∷ []) numbered
+    ∙ ap (λ front. front ++ exported_sample next (single row) ∷ []) kept
+    ∙ sym (map-append (exported_sample next) before (single row ∷ []))
+    ∙ ap (map (exported_sample next)) (sym longer) in
     record {
-      names_rows = added ∙ ap (λ texts. with_texts texts row.stack) so_far.names_rows ∙ sym (names_push rows row);
+      names_rows = added ∙ ap (λ texts. with_texts texts row.stack) so_far.names_rows ∙ sym (names_push before (single row)) ∙ ap names_of (sym longer);
       samples_rows = written ∙ ap samples_bytes listed;
       fits_rows = subst (λ all. FitsEach FitsSample sample_bytes all) listed
-          (fits_joined (map (exported_sample names) rows) (sample ∷ []) so_far.fits_rows fits);
-      total_rows = more ∙ ap (λ held. held + row.weight) so_far.total_rows ∙ sym (sum_by_push (λ (r : Row). r.weight) rows row);
+          (fits_joined (map (exported_sample names) before) (sample ∷ []) so_far.fits_rows fits);
+      total_rows = more ∙ ap (λ held. held + row.weight) so_far.total_rows ∙ sym (sum_by_push (λ (r : WeightedStack). r.weight) rows row);
     }
+
+-- the stacks of rows of several values are those of their first values
+pub stacks_first : (rows : List Row) → flat_map (λ (r : WeightedStack). r.stack) (rows_at 0 rows) ≡ flat_map (λ (r : Row). r.stack) rows
+stacks_first [] = refl
+stacks_first (row ∷ rows) =
+    flat_map-cons (λ (r : WeightedStack). r.stack) (weighing 0 row) (rows_at 0 rows) ∙ ap (λ names. row.stack ++ names) (stacks_first rows)
+    ∙ sym (flat_map-cons (λ (r : Row). r.stack) row rows)
 
 -- ---- what the export answers
 
 -- folded text has one export
 pub only_export : {T : Type 0} (items : T → List ℕ) (text kind unit : List ℕ) (outcome : Result T FoldedFault) → MatchResult outcome (λ bytes. IsExportOfText text kind unit (items bytes)) (λ fault. IsWorkFault text fault)
-    → (rows : List Row) → IsFoldedText text rows → MatchResult outcome (λ bytes. items bytes ≡ canonical_bytes_of (exported_profile_of rows kind unit)) (λ fault. fault ≡ NoMemory)
-only_export items text kind unit (Ok bytes) exported rows folded = exported.profile ∙ ap (λ some. canonical_bytes_of (exported_profile_of some kind unit)) (IsFoldedText-same text exported.rows rows exported.folded folded)
+    → (rows : List WeightedStack) → IsFoldedText text rows → MatchResult outcome (λ bytes. items bytes ≡ canonical_bytes_of (single_profile_of rows kind unit)) (λ fault. fault ≡ NoMemory)
+only_export items text kind unit (Ok bytes) exported rows folded = exported.profile ∙ ap (λ some. canonical_bytes_of (single_profile_of some kind unit)) (IsFoldedText-same text exported.rows rows exported.folded folded)
 only_export items text kind unit (Err fault) exported rows folded = elim exported [
   | inl first ↦ IsFirstFault-folded text rows fault folded first
   | inr late ↦ late.0

@@ -1,5 +1,6 @@
 pub mod ExportLaws
 pub mod ExportedRows
+pub mod ExportedValues
 pub mod ItemsById
 pub mod IdPlaces
 pub mod SampleRows

@@ -2,7 +2,7 @@
 use Rattle.std.proofs.Common.{◌≡◌, List, ap, ◌∙◌}
 use Rattle.std.specs.Prelude.{Result, Ok, Err, MatchResult}
 use Rattle.pprof_profile.specs.declared.messages.Draft.{Draft}
-use Rattle.profile_rows.specs.declared.batch.Row.{Row}
+use Rattle.profile_rows.specs.declared.weighted_stacks.WeightedStack.{WeightedStack}
 use Rattle.profile_rows.specs.Aggregate.{aggregate_of}
 use Rattle.profile_samples.specs.declared.sampling.BatchFault.{BatchFault}
 use Rattle.profile_samples.specs.declared.sampling.BatchFault.TheVariants as batch
@@ -12,7 +12,7 @@ use Rattle.profile_samples.specs.MergedSamples.{IsMergedBatch}
 use Rattle.profile_samples.proofs.SampleRows.{IsBatchOf-same, IsFirstBatchFault-batch}
 
 -- what the samples answer
-pub only_batch_sums : (draft : Draft) (choice : ValueChoice) (outcome : Result (List Row) BatchFault) → MatchResult outcome (λ sums. IsMergedBatch draft choice sums) (λ fault. IsFirstBatchFault draft choice fault)
-    → (rows : List Row) → IsBatchOf draft choice rows → MatchResult outcome (λ sums. aggregate_of sums ≡ aggregate_of rows) (λ fault. fault ≡ batch.NoMemory)
+pub only_batch_sums : (draft : Draft) (choice : ValueChoice) (outcome : Result (List WeightedStack) BatchFault) → MatchResult outcome (λ sums. IsMergedBatch draft choice sums) (λ fault. IsFirstBatchFault draft choice fault)
+    → (rows : List WeightedStack) → IsBatchOf draft choice rows → MatchResult outcome (λ sums. aggregate_of sums ≡ aggregate_of rows) (λ fault. fault ≡ batch.NoMemory)
 only_batch_sums draft choice (Ok sums) read rows this = read.same ∙ ap aggregate_of (IsBatchOf-same draft choice read.rows rows read.sampled this)
 only_batch_sums draft choice (Err fault) read rows this = IsFirstBatchFault-batch draft choice rows fault this read

@@ -13,7 +13,7 @@ use Rattle.pprof_profile.specs.declared.messages.Sample.{Sample}
 use Rattle.pprof_profile.specs.declared.messages.ValueType.{ValueType}
 use Rattle.pprof_profile.specs.Valid.{IsValidDraft, all_index, begins_with_empty, each_has_values, function_ids, is_known, is_nonempty, location_ids, mapping_ids, names_functions, names_locations, names_mappings, no_double_id, no_zero_id}
 use Rattle.pprof_profile.specs.declared.faults.ProfileFault.TheVariants.{NoStrings, FirstString, StringIndex, ZeroId, DoubleId, NoLocation, NoMapping, NoFunction, ValueCount}
-use Rattle.profile_rows.specs.declared.batch.Row.{Row}
+use Rattle.profile_rows.specs.declared.weighted_stacks.WeightedStack.{WeightedStack}
 use Rattle.profile_samples.specs.declared.sampling.BatchFault.{BatchFault}
 use Rattle.profile_samples.specs.declared.sampling.BatchFault.TheVariants.{NoValue, Negative, Depth, Heavy, NoMemory}
 use Rattle.profile_samples.specs.declared.sampling.ValueChoice.{ValueChoice}
@@ -72,10 +72,10 @@ has_value draft chosen count sample valid within lt item =
 
 -- ---- rows
 
-same_row : (a b : Row) → a.stack ≡ b.stack → a.weight ≡ b.weight → a ≡ b
+same_row : (a b : WeightedStack) → a.stack ≡ b.stack → a.weight ≡ b.weight → a ≡ b
 same_row a b stack weight =
-    let swapped : a ≡ record { stack = b.stack; weight = a.weight } = ap (λ s. let row : Row = record { stack = s; weight = a.weight } in row) stack in
-    swapped ∙ ap (λ w. let row : Row = record { stack = b.stack; weight = w } in row) weight
+    let swapped : a ≡ record { stack = b.stack; weight = a.weight } = ap (λ s. let row : WeightedStack = record { stack = s; weight = a.weight } in row) stack in
+    swapped ∙ ap (λ w. let row : WeightedStack = record { stack = b.stack; weight = w } in row) weight
 
 magnitude : Option ℤ → ℕ
 magnitude None = 0
@@ -87,11 +87,11 @@ is_below None = false
 is_below (Some (pos n)) = false
 is_below (Some (negsuc n)) = true
 
-pub IsSampleRow-same : (draft : Draft) (chosen : ℕ) (sample : Sample) (a b : Row) → IsSampleRow draft chosen sample a → IsSampleRow draft chosen sample b → a ≡ b
+pub IsSampleRow-same : (draft : Draft) (chosen : ℕ) (sample : Sample) (a b : WeightedStack) → IsSampleRow draft chosen sample a → IsSampleRow draft chosen sample b → a ≡ b
 unfolding magnitude
 IsSampleRow-same draft chosen sample a b one other = same_row a b (one.stack ∙ sym other.stack) (ap magnitude (sym one.value ∙ other.value))
 
-pub AreSampleRows-same : (draft : Draft) (chosen : ℕ) (samples : List Sample) (rows others : List Row) → AreSampleRows draft chosen samples rows → AreSampleRows draft chosen samples others → rows ≡ others
+pub AreSampleRows-same : (draft : Draft) (chosen : ℕ) (samples : List Sample) (rows others : List WeightedStack) → AreSampleRows draft chosen samples rows → AreSampleRows draft chosen samples others → rows ≡ others
 AreSampleRows-same draft chosen [] rows others one other = one ∙ sym other
 AreSampleRows-same draft chosen (sample ∷ samples) [] others one other = absurd one
 AreSampleRows-same draft chosen (sample ∷ samples) (row ∷ rows) [] one other = absurd other
@@ -100,7 +100,7 @@ AreSampleRows-same draft chosen (sample ∷ samples) (row ∷ rows) (r ∷ other
     let rest = AreSampleRows-same draft chosen samples rows others one.1 other.1 in
     ap (λ z. z ∷ rows) here ∙ ap (λ z. r ∷ z) rest
 
-pub AreSampleRows-push : (draft : Draft) (chosen : ℕ) (samples : List Sample) (rows : List Row) (sample : Sample) (row : Row)
+pub AreSampleRows-push : (draft : Draft) (chosen : ℕ) (samples : List Sample) (rows : List WeightedStack) (sample : Sample) (row : WeightedStack)
     → AreSampleRows draft chosen samples rows → IsSampleRow draft chosen sample row → AreSampleRows draft chosen (samples ++ sample ∷ []) (rows ++ row ∷ [])
 AreSampleRows-push draft chosen [] [] sample row all this = (this, refl)
 AreSampleRows-push draft chosen [] (r ∷ rows) sample row all this = cc
@@ -108,10 +108,10 @@ AreSampleRows-push draft chosen (s ∷ samples) [] sample row all this = absurd 
 AreSampleRows-push draft chosen (s ∷ samples) (r ∷ rows) sample row all this = (all.0, AreSampleRows-push draft chosen samples rows sample row all.1 this)
 
 -- the rows of samples that hold a sample: those before it, its own, those after it
-abbrev pub CutAtSample : Draft → ℕ → List Sample → Sample → List Row → Type 0
-CutAtSample draft chosen before sample rows = (front : List Row) × (row : Row) × (back : List Row) × (rows ≡ front ++ row ∷ back) × AreSampleRows draft chosen before front × IsSampleRow draft chosen sample row
+abbrev pub CutAtSample : Draft → ℕ → List Sample → Sample → List WeightedStack → Type 0
+CutAtSample draft chosen before sample rows = (front : List WeightedStack) × (row : WeightedStack) × (back : List WeightedStack) × (rows ≡ front ++ row ∷ back) × AreSampleRows draft chosen before front × IsSampleRow draft chosen sample row
 
-cut_at : (draft : Draft) (chosen : ℕ) (before : List Sample) (sample : Sample) (after : List Sample) (rows : List Row) → AreSampleRows draft chosen (before ++ sample ∷ after) rows → CutAtSample draft chosen before sample rows
+cut_at : (draft : Draft) (chosen : ℕ) (before : List Sample) (sample : Sample) (after : List Sample) (rows : List WeightedStack) → AreSampleRows draft chosen (before ++ sample ∷ after) rows → CutAtSample draft chosen before sample rows
 cut_at draft chosen [] sample after [] all = absurd all
 cut_at draft chosen [] sample after (row ∷ rows) all = ([], row, rows, refl, refl, all.0)
 cut_at draft chosen (s ∷ before) sample after [] all = absurd all
@@ -120,7 +120,7 @@ cut_at draft chosen (s ∷ before) sample after (r ∷ rows) all =
     (r ∷ rest.0, rest.1, rest.2, ap (λ z. r ∷ z) rest.3, (all.0, rest.4), rest.5)
 
 -- a sample that gives a row within the total has no fault but want of memory
-faultless : (draft : Draft) (chosen held number : ℕ) (sample : Sample) (row : Row) (fault : BatchFault) → IsSampleRow draft chosen sample row → held + row.weight < 2 ^ 63
+faultless : (draft : Draft) (chosen held number : ℕ) (sample : Sample) (row : WeightedStack) (fault : BatchFault) → IsSampleRow draft chosen sample row → held + row.weight < 2 ^ 63
     → IsSampleFault draft chosen held number sample fault → fault ≡ NoMemory
 unfolding is_below
 faultless draft chosen held number sample row NoValue this fits h = absurd h
@@ -130,7 +130,7 @@ faultless draft chosen held number sample row (Depth at) this fits h =
     let same = ap length this.stack in
     absurd (omega (arith, same, deep, h.3))
 faultless draft chosen held number sample row (Heavy at) this fits h =
-    let same : row.weight ≡ h.1.weight = ap (λ (r : Row). r.weight) (IsSampleRow-same draft chosen sample row h.1 this h.2) in
+    let same : row.weight ≡ h.1.weight = ap (λ (r : WeightedStack). r.weight) (IsSampleRow-same draft chosen sample row h.1 this h.2) in
     absurd (omega (arith, same, fits, h.3))
 faultless draft chosen held number sample row NoMemory this fits h = refl
 
@@ -138,20 +138,20 @@ chosen_same : (draft : Draft) (choice : ValueChoice) (a b : ℕ) → chosen_type
 chosen_same draft choice a b one other = ap (λ o. unwrap_or o 0) (sym one ∙ other)
 
 -- a profile that gives rows has no first fault but want of memory
-stands_nowhere : (draft : Draft) (choice : ValueChoice) (rows : List Row) (fault : BatchFault) → IsBatchOf draft choice rows → StandsAtSample draft choice fault → fault ≡ NoMemory
+stands_nowhere : (draft : Draft) (choice : ValueChoice) (rows : List WeightedStack) (fault : BatchFault) → IsBatchOf draft choice rows → StandsAtSample draft choice fault → fault ≡ NoMemory
 stands_nowhere draft choice rows fault batch (chosen, before, sample, after, front, is_chosen, cut, known, fits, there) =
     let same_type = chosen_same draft choice batch.chosen chosen batch.is_chosen is_chosen in
     let all = subst (λ c. AreSampleRows draft c draft.samples rows) same_type batch.rows_samples in
     let cut_rows = cut_at draft chosen before sample after rows (subst (λ ss. AreSampleRows draft chosen ss rows) cut all) in
     let same : front ≡ cut_rows.0 = AreSampleRows-same draft chosen before front cut_rows.0 known cut_rows.4 in
     let total : total_of rows ≡ total_of (cut_rows.0 ++ cut_rows.1 ∷ cut_rows.2) = ap total_of cut_rows.3 in
-    let parts = sum_by-append (λ (row : Row). row.weight) cut_rows.0 (cut_rows.1 ∷ cut_rows.2) in
-    let row = sum_by-cons (λ (row : Row). row.weight) cut_rows.1 cut_rows.2 in
+    let parts = sum_by-append (λ (row : WeightedStack). row.weight) cut_rows.0 (cut_rows.1 ∷ cut_rows.2) in
+    let row = sum_by-cons (λ (row : WeightedStack). row.weight) cut_rows.1 cut_rows.2 in
     let whole = batch.total_fits in
     let held = ap total_of same in
     faultless draft chosen (total_of front) (length before) sample cut_rows.1 fault cut_rows.5 (omega (arith, total, parts, row, whole, held)) there
 
-pub IsFirstBatchFault-batch : (draft : Draft) (choice : ValueChoice) (rows : List Row) (fault : BatchFault) → IsBatchOf draft choice rows → IsFirstBatchFault draft choice fault → fault ≡ NoMemory
+pub IsFirstBatchFault-batch : (draft : Draft) (choice : ValueChoice) (rows : List WeightedStack) (fault : BatchFault) → IsBatchOf draft choice rows → IsFirstBatchFault draft choice fault → fault ≡ NoMemory
 IsFirstBatchFault-batch draft choice rows NoValue batch h = absurd (false≢true (sym (ap is_some (sym batch.is_chosen ∙ h))))
 IsFirstBatchFault-batch draft choice rows (Negative at) batch h = stands_nowhere draft choice rows (Negative at) batch h
 IsFirstBatchFault-batch draft choice rows (Depth at) batch h = stands_nowhere draft choice rows (Depth at) batch h
@@ -159,29 +159,29 @@ IsFirstBatchFault-batch draft choice rows (Heavy at) batch h = stands_nowhere dr
 IsFirstBatchFault-batch draft choice rows NoMemory batch h = refl
 
 -- one profile and choice have one list of rows
-pub IsBatchOf-same : (draft : Draft) (choice : ValueChoice) (rows others : List Row) → IsBatchOf draft choice rows → IsBatchOf draft choice others → rows ≡ others
+pub IsBatchOf-same : (draft : Draft) (choice : ValueChoice) (rows others : List WeightedStack) → IsBatchOf draft choice rows → IsBatchOf draft choice others → rows ≡ others
 IsBatchOf-same draft choice rows others one other =
     let same_type = chosen_same draft choice one.chosen other.chosen one.is_chosen other.is_chosen in
     AreSampleRows-same draft other.chosen draft.samples rows others (subst (λ c. AreSampleRows draft c draft.samples rows) same_type one.rows_samples) other.rows_samples
 
 -- what `batch_of` answers decides what rows a profile gives
-pub only_batch : (draft : Draft) (choice : ValueChoice) (outcome : Result (List Row) BatchFault)
+pub only_batch : (draft : Draft) (choice : ValueChoice) (outcome : Result (List WeightedStack) BatchFault)
     → MatchResult outcome (λ batch. IsBatchOf draft choice batch) (λ fault. IsFirstBatchFault draft choice fault)
-    → (rows : List Row) → IsBatchOf draft choice rows → MatchResult outcome (λ batch. batch ≡ rows) (λ fault. fault ≡ NoMemory)
+    → (rows : List WeightedStack) → IsBatchOf draft choice rows → MatchResult outcome (λ batch. batch ≡ rows) (λ fault. fault ≡ NoMemory)
 only_batch draft choice (Ok batch) read rows this = IsBatchOf-same draft choice batch rows read this
 only_batch draft choice (Err fault) read rows this = IsFirstBatchFault-batch draft choice rows fault this read
 
 -- ---- the loop over the samples
 
 -- the first `count` samples give these rows
-pub record AreRowsSoFar (draft : Draft) (chosen count : ℕ) (rows : List Row) : Type 0 where
+pub record AreRowsSoFar (draft : Draft) (chosen count : ℕ) (rows : List WeightedStack) : Type 0 where
   pub known : AreSampleRows draft chosen (take count draft.samples) rows
   pub fits : total_of rows < 2 ^ 63
 
-pub AreRowsSoFar-row : (draft : Draft) (chosen count : ℕ) (sample : Sample) (rows : List Row) (row : Row) (all : List Row) → count < length draft.samples → sample ≡ get_or draft.samples count sample
+pub AreRowsSoFar-row : (draft : Draft) (chosen count : ℕ) (sample : Sample) (rows : List WeightedStack) (row : WeightedStack) (all : List WeightedStack) → count < length draft.samples → sample ≡ get_or draft.samples count sample
     → AreRowsSoFar draft chosen count rows → IsSampleRow draft chosen sample row → total_of rows + row.weight < 2 ^ 63 → all ≡ rows ++ row ∷ [] → AreRowsSoFar draft chosen (count + 1) all
 AreRowsSoFar-row draft chosen count sample rows row all lt item so_far this fits more =
-    let parts : total_of (rows ++ row ∷ []) ≡ total_of rows + row.weight = sum_by_push (λ (row : Row). row.weight) rows row in
+    let parts : total_of (rows ++ row ∷ []) ≡ total_of rows + row.weight = sum_by_push (λ (row : WeightedStack). row.weight) rows row in
     let total : total_of all ≡ total_of (rows ++ row ∷ []) = ap total_of more in
     let front : take (count + 1) draft.samples ≡ take count draft.samples ++ sample ∷ [] = (take_at_read draft.samples count sample lt).1 ∙ ap (λ s. take count draft.samples ++ s ∷ []) (sym item) in
     record {
@@ -190,12 +190,12 @@ AreRowsSoFar-row draft chosen count sample rows row all lt item so_far this fits
       fits = omega (arith, parts, total, fits);
     }
 
-pub AreRowsSoFar-end : (draft : Draft) (choice : ValueChoice) (chosen count : ℕ) (rows : List Row) → chosen_type_of draft choice ≡ Some chosen → length draft.samples ≤ count → AreRowsSoFar draft chosen count rows → IsBatchOf draft choice rows
+pub AreRowsSoFar-end : (draft : Draft) (choice : ValueChoice) (chosen count : ℕ) (rows : List WeightedStack) → chosen_type_of draft choice ≡ Some chosen → length draft.samples ≤ count → AreRowsSoFar draft chosen count rows → IsBatchOf draft choice rows
 AreRowsSoFar-end draft choice chosen count rows is_chosen whole so_far =
     record { chosen = chosen; is_chosen = is_chosen; rows_samples = subst (λ ss. AreSampleRows draft chosen ss rows) (take_all count draft.samples whole) so_far.known; total_fits = so_far.fits }
 
 -- a sample with a fault is the first one
-pub AreRowsSoFar-stands : (draft : Draft) (choice : ValueChoice) (chosen count : ℕ) (sample : Sample) (rows : List Row) (fault : BatchFault) → chosen_type_of draft choice ≡ Some chosen → count < length draft.samples
+pub AreRowsSoFar-stands : (draft : Draft) (choice : ValueChoice) (chosen count : ℕ) (sample : Sample) (rows : List WeightedStack) (fault : BatchFault) → chosen_type_of draft choice ≡ Some chosen → count < length draft.samples
     → sample ≡ get_or draft.samples count sample → AreRowsSoFar draft chosen count rows → IsSampleFault draft chosen (total_of rows) count sample fault → StandsAtSample draft choice fault
 AreRowsSoFar-stands draft choice chosen count sample rows fault is_chosen lt item so_far there =
     let long : length (take count draft.samples) ≡ count = grind (arith, common_steps) in

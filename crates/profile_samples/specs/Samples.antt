@@ -10,7 +10,7 @@ use Rattle.pprof_profile.specs.declared.messages.Location.{Location}
 use Rattle.pprof_profile.specs.declared.messages.Line.{Line}
 use Rattle.pprof_profile.specs.declared.messages.Function.{Function}
 use Rattle.pprof_profile.specs.declared.messages.ValueType.{ValueType}
-use Rattle.profile_rows.specs.declared.batch.Row.{Row}
+use Rattle.profile_rows.specs.declared.weighted_stacks.WeightedStack.{WeightedStack}
 use Rattle.profile_samples.specs.declared.sampling.BatchFault.{BatchFault}
 use Rattle.profile_samples.specs.declared.sampling.BatchFault.TheVariants.{NoValue, Negative, Depth, Heavy, NoMemory}
 use Rattle.profile_samples.specs.declared.sampling.ValueChoice.{ValueChoice}
@@ -122,20 +122,20 @@ chosen_type_of draft (Named text) = type_named draft text.now
 -- ---- rows
 
 -- the row of a sample, by the value that is chosen
-pub record IsSampleRow (draft : Draft) (chosen : ℕ) (sample : Sample) (row : Row) : Type 0 where
+pub record IsSampleRow (draft : Draft) (chosen : ℕ) (sample : Sample) (row : WeightedStack) : Type 0 where
   pub stack : row.stack ≡ sample_stack_of draft sample.location_ids
   pub depth : length row.stack ≤ 65535
   pub value : slice_get sample.values chosen ≡ Some (pos row.weight)
 
 -- a row for each sample, in order
-abbrev pub AreSampleRows : Draft → ℕ → List Sample → List Row → Type 0
+abbrev pub AreSampleRows : Draft → ℕ → List Sample → List WeightedStack → Type 0
 AreSampleRows draft chosen [] rows = rows ≡ []
 AreSampleRows draft chosen (sample ∷ samples) [] = ⊥
 AreSampleRows draft chosen (sample ∷ samples) (row ∷ rows) = IsSampleRow draft chosen sample row
     × AreSampleRows draft chosen samples rows
 
 -- the rows of a profile, by the choice of a value
-pub record IsBatchOf (draft : Draft) (choice : ValueChoice) (rows : List Row) : Type 0 where
+pub record IsBatchOf (draft : Draft) (choice : ValueChoice) (rows : List WeightedStack) : Type 0 where
   pub chosen : ℕ
   pub is_chosen : chosen_type_of draft choice ≡ Some chosen
   pub rows_samples : AreSampleRows draft chosen draft.samples rows
@@ -169,15 +169,15 @@ IsSampleFault draft chosen held number sample (Depth at) = (at ≡ number)
     × (weight : ℕ) × (slice_get sample.values chosen ≡ Some (pos weight))
     × (65535 < length (sample_stack_of draft sample.location_ids))
 IsSampleFault draft chosen held number sample (Heavy at) = (at ≡ number)
-    × (row : Row) × IsSampleRow draft chosen sample row × (2 ^ 63 ≤ held + row.weight)
-IsSampleFault draft chosen held number sample NoMemory = (row : Row) × IsSampleRow draft chosen sample row
+    × (row : WeightedStack) × IsSampleRow draft chosen sample row × (2 ^ 63 ≤ held + row.weight)
+IsSampleFault draft chosen held number sample NoMemory = (row : WeightedStack) × IsSampleRow draft chosen sample row
     × (held + row.weight < 2 ^ 63)
 
 -- the fault stands at a sample, and the samples before it give rows within the limit
 abbrev pub StandsAtSample : Draft → ValueChoice → BatchFault → Type 0
 StandsAtSample draft choice fault = (chosen : ℕ) × (before : List Sample) × (sample : Sample)
     × (after : List Sample)
-    × (rows : List Row)
+    × (rows : List WeightedStack)
     × (chosen_type_of draft choice ≡ Some chosen) × (draft.samples ≡ before ++ sample ∷ after)
     × AreSampleRows draft chosen before rows × (total_of rows < 2 ^ 63)
     × IsSampleFault draft chosen (total_of rows) (length before) sample fault

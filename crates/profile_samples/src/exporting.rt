@@ -1,9 +1,11 @@
 //! Rows as the profile that they are exported as.
 
-ghost use Rattle.std.specs.Prelude.{◌≡◌, ◌<◌, ◌≤◌, ◌^◌, All, IfOk, OnOk, length, map, reverse};
-ghost use Rattle.profile_samples.specs.Export.{draft_with, exported_draft, exported_function, exported_location, exported_profile_of, exported_sample, id_in, names_of, strings_of};
+ghost use Rattle.std.specs.Prelude.{ℕ, ◌≡◌, ◌<◌, ◌≤◌, ◌++◌, ◌^◌, All, IfOk, OnOk, [], length, map, pos, reverse};
+ghost use Rattle.std.specs.List.{flat_map};
 ghost use Rattle.profile_rows.specs.Names.{IsName};
-ghost use Rattle.profile_samples.specs.Samples.{IsBatchOf};
+ghost use Rattle.profile_rows.specs.Values.{rows_at};
+ghost use Rattle.profile_samples.specs.Export.{draft_with, exported_draft, exported_function, exported_location, exported_profile_of, exported_sample, exported_type, id_in, pairs_of, strings_of, unit_texts};
+ghost use Rattle.profile_samples.specs.Samples.{AreSampleRows, IsBatchOf};
 ghost use Rattle.profile_samples.specs.TextTables.{with_texts};
 ghost use Rattle.profile_samples.specs.declared.sampling.ValueChoice.TheVariants.{Default};
 
@@ -12,8 +14,15 @@ use no_memory::NoMemory;
 use pprof_profile::{
     Draft, Function, Items, Line, Location, Profile, Sample, Text, ValueType, check,
 };
-use profile_rows::{Batch, Name, Row};
+use profile_rows::{Batch, Name, Stack, WeightedStack, Weights};
 use std::alloc::Global;
+
+/// What a value counts, and in which unit: as `cpu` and `nanoseconds`.
+#[derive(Clone, Copy, Debug)]
+pub struct ValueUnit<'a> {
+    pub kind: &'a str,
+    pub unit: &'a str,
+}
 
 /// The table with the names of a stack.
 fn with_names<'a>(mut table: TextTable<'a>, names: &'a [Name]) -> Result<TextTable<'a>, NoMemory>
@@ -27,8 +36,8 @@ fn with_names<'a>(mut table: TextTable<'a>, names: &'a [Name]) -> Result<TextTab
 }
 
 /// The names of rows as they first stand.
-fn names_of<'a>(alloc: Global, rows: &'a [Row]) -> Result<TextTable<'a>, NoMemory>
-    ensures texts { IfOk result (λ names. names ≡ names_of rows.now) }
+fn names_of<'a>(alloc: Global, rows: &'a [WeightedStack]) -> Result<TextTable<'a>, NoMemory>
+    ensures texts { IfOk result (λ names. names ≡ with_texts [] (flat_map (λ row. row.stack) rows.now)) }
     ensures each { OnOk result (All (λ row. All IsName row.stack × (length row.stack ≤ 65535)) rows.now) }
 {
     let mut names = TextTable::new(alloc);
@@ -38,16 +47,28 @@ fn names_of<'a>(alloc: Global, rows: &'a [Row]) -> Result<TextTable<'a>, NoMemor
     Ok(names)
 }
 
+/// The table with the kinds and units of values.
+fn with_units<'a>(
+    mut table: TextTable<'a>,
+    units: &[ValueUnit<'a>],
+) -> Result<TextTable<'a>, NoMemory>
+    ensures { IfOk result (λ more. more ≡ with_texts table.entry (unit_texts (pairs_of units.now))) }
+{
+    for unit in units {
+        table = table.with(unit.kind)?.with(unit.unit)?;
+    }
+    Ok(table)
+}
+
 /// The strings of a profile with these names.
 fn strings_of<'a>(
     alloc: Global,
-    kind: &'a str,
-    unit: &'a str,
+    units: &[ValueUnit<'a>],
     names: &TextTable<'a>,
 ) -> Result<TextTable<'a>, NoMemory>
-    ensures { IfOk result (λ strings. strings ≡ strings_of kind.now unit.now names.now) }
+    ensures { IfOk result (λ strings. strings ≡ strings_of (pairs_of units.now) names.now) }
 {
-    let mut strings = TextTable::new(alloc).with("")?.with(kind)?.with(unit)?;
+    let mut strings = with_units(TextTable::new(alloc).with("")?, units)?;
     for name in names.texts() {
         strings = strings.with(*name)?;
     }
@@ -116,27 +137,65 @@ fn location_ids(alloc: Global, names: &TextTable, stack: &[Name]) -> Result<Item
     Ok(Items::new(ids))
 }
 
-/// The sample of a row.
-fn sample_of(alloc: Global, names: &TextTable, row: &Row) -> Result<Sample, NoMemory>
-    requires { row.now.weight < 2 ^ 63 }
-    ensures { IfOk result (λ sample. sample ≡ exported_sample names.now row.now) }
+/// The values of a row as those of a sample.
+fn values_of(alloc: Global, weights: &Weights) -> Result<Items<i64>, NoMemory>
+    requires { All (λ weight. weight < 2 ^ 63) weights.now }
+    ensures { IfOk result (λ values. values ≡ map pos weights.now) }
+{
+    let mut values = Vec::with_capacity(alloc, weights.values().len())?;
+    for weight in weights.values() {
+        values.push(*weight as i64)?;
+    }
+    Ok(Items::new(values))
+}
+
+/// The sample of a row of this stack and these values.
+fn sample_of(
+    alloc: Global,
+    names: &TextTable,
+    stack: &Stack,
+    weights: &Weights,
+) -> Result<Sample, NoMemory>
+    requires { All (λ weight. weight < 2 ^ 63) weights.now }
+    ensures { IfOk result (λ sample. sample
+        ≡ exported_sample names.now (record { stack = stack.now; weights = weights.now })) }
 {
     Ok(Sample {
-        location_ids: location_ids(alloc, names, row.stack.names())?,
-        values: Items::new(vec![in alloc; row.weight as i64]?),
+        location_ids: location_ids(alloc, names, stack.names())?,
+        values: values_of(alloc, weights)?,
         labels: Items::empty(alloc),
     })
 }
 
 /// The samples of a batch.
 fn samples_of(alloc: Global, names: &TextTable, batch: &Batch) -> Result<Items<Sample>, NoMemory>
-    ensures { IfOk result (λ samples. samples ≡ map (exported_sample names.now) batch.now) }
+    ensures { IfOk result (λ samples. samples ≡ map (exported_sample names.now) batch.now.rows) }
 {
-    let mut samples = Vec::with_capacity(alloc, batch.rows().len())?;
-    for row in batch.rows() {
-        samples.push(sample_of(alloc, names, row)?)?;
+    let count = batch.first().rows().len();
+    let mut samples = Vec::with_capacity(alloc, count)?;
+    for at in 0..count {
+        let row = batch.row(at);
+        samples.push(sample_of(alloc, names, row.stack, &row.weights)?)?;
     }
     Ok(Items::new(samples))
+}
+
+/// The sample types of values.
+fn types_of(
+    alloc: Global,
+    strings: &TextTable,
+    units: &[ValueUnit],
+) -> Result<Items<ValueType>, NoMemory>
+    ensures { IfOk result (λ types. types ≡ map (exported_type strings.now) (pairs_of units.now)) }
+{
+    let mut types = Vec::with_capacity(alloc, units.len())?;
+    for unit in units {
+        types.push(ValueType {
+            kind: strings.place_of(unit.kind) as i64,
+            unit: strings.place_of(unit.unit) as i64,
+        })?;
+    }
+    Ok(Items::new(types))
 }
 
 /// Copies of the texts.
@@ -156,12 +215,12 @@ fn draft_of(
     samples: Items<Sample>,
     names: &TextTable,
     strings: &TextTable,
-    sample_type: ValueType,
+    sample_types: Items<ValueType>,
 ) -> Result<Draft, NoMemory>
-    ensures { IfOk result (λ draft. draft ≡ draft_with names.now strings.now samples sample_type) }
+    ensures { IfOk result (λ draft. draft ≡ draft_with names.now strings.now samples sample_types) }
 {
     Ok(Draft {
-        sample_types: Items::new(vec![in alloc; sample_type]?),
+        sample_types,
         samples,
         mappings: Items::empty(alloc),
         locations: locations_of(alloc, names)?,
@@ -178,38 +237,38 @@ fn draft_of(
     })
 }
 
-/// The draft of samples whose values are of a kind and in a unit, and of the names that they number.
+/// The draft of samples whose values are of these kinds and in these units, and of the names that they number.
 pub(crate) fn exported_draft(
     alloc: Global,
     samples: Items<Sample>,
     names: &TextTable,
-    kind: &str,
-    unit: &str,
+    units: &[ValueUnit],
 ) -> Result<Draft, NoMemory>
-    ensures { IfOk result (λ draft. draft ≡ exported_draft names.now samples kind.now unit.now) }
+    ensures { IfOk result (λ draft. draft ≡ exported_draft names.now samples (pairs_of units.now)) }
 {
-    let strings = strings_of(alloc, kind, unit, names)?;
-    let sample_type = ValueType {
-        kind: strings.place_of(kind) as i64,
-        unit: strings.place_of(unit) as i64,
-    };
-    draft_of(alloc, samples, names, &strings, sample_type)
+    let strings = strings_of(alloc, units, names)?;
+    let sample_types = types_of(alloc, &strings, units)?;
+    draft_of(alloc, samples, names, &strings, sample_types)
 }
 
-/// The batch as a profile of one sample type, whose kind and unit these are: a sample for each row in order, and a
-/// function and a location for each name, numbered from 1 as the names first stand. Its samples give the rows of the
-/// batch back, in order.
+/// The batch as a profile of a sample type for each value, whose kinds and units these are, in order: a sample for each
+/// row in order, with all its values, and a function and a location for each name, numbered from 1 as the names first
+/// stand. By each of its types, its samples give the rows of the batch back by that value.
 ///
 /// # Errors
 ///
 /// `NoMemory`.
-pub fn profile_of(alloc: Global, batch: &Batch, kind: &str, unit: &str) -> Result<Profile, NoMemory>
-    ensures profile { IfOk result (λ profile. profile ≡ exported_profile_of batch.now kind.now unit.now) }
-    ensures reads_back { IfOk result (λ profile. IsBatchOf profile Default batch.now) }
+pub fn profile_of(alloc: Global, batch: &Batch, units: &[ValueUnit]) -> Result<Profile, NoMemory>
+    requires { length units.now ≡ batch.now.width }
+    ensures profile { IfOk result (λ profile. profile ≡ exported_profile_of batch.now.rows (pairs_of units.now)) }
+    ensures reads_back { IfOk result (λ profile. (value : ℕ) → value < batch.now.width
+        → AreSampleRows profile value profile.samples (rows_at value batch.now.rows)) }
+    ensures default { IfOk result (λ profile. batch.now.width ≡ 1
+        → IsBatchOf profile Default (rows_at 0 batch.now.rows)) }
 {
-    let names = names_of(alloc, batch.rows())?;
+    let names = names_of(alloc, batch.first().rows())?;
     let samples = samples_of(alloc, &names, batch)?;
-    let draft = exported_draft(alloc, samples, &names, kind, unit)?;
+    let draft = exported_draft(alloc, samples, &names, units)?;
     match check(alloc, draft) {
         Ok(profile) => Ok(profile),
         Err(_) => Err(NoMemory),

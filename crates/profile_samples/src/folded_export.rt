@@ -3,13 +3,13 @@
 ghost use Rattle.std.specs.Prelude.{◌≡◌, ◌+◌, ◌^◌, ◌<◌, ◌∷◌, ◌++◌, [], IfErr, IfOk, List, MatchResult, OnOk, map, reverse};
 ghost use Rattle.pprof_profile.specs.Canonical.{canonical_bytes_of};
 ghost use Rattle.pprof_profile.specs.Profiles.{IsProfile};
-ghost use Rattle.profile_rows.specs.declared.batch.Row.{Row};
-ghost use Rattle.profile_samples.specs.Export.{AreSamplesOf, IsExportOfText, exported_profile_of, id_in};
+ghost use Rattle.profile_rows.specs.declared.weighted_stacks.WeightedStack.{WeightedStack};
+ghost use Rattle.profile_samples.specs.Export.{AreSamplesOf, IsExportOfText, single_profile_of, id_in};
 ghost use Rattle.folded_text.specs.FoldedText.{IsFoldedText, IsLineFault, IsRowLine, IsWorkFault, frames_of};
 ghost use Rattle.profile_rows.specs.Rows.{total_of};
 ghost use Rattle.profile_samples.specs.TextTables.{with_texts};
 
-use crate::exporting::exported_draft;
+use crate::exporting::{ValueUnit, exported_draft};
 use crate::text_table::TextTable;
 use folded_text::{FoldedFault, Frames, LineTaker, Spelled, read_line, take_lines};
 use no_memory::NoMemory;
@@ -47,7 +47,7 @@ fn replace_ids<'a>(
 /// Adds the row that a line spells, which fits.
 fn push_row<'a>(rows: &mut SampledRows<'a>, spelled: Spelled<'a>) -> Result<(), NoMemory>
     requires fits { rows.old.total + spelled.weight < 2 ^ 63 }
-    ensures { (before : List Row) → AreSamplesOf before rows.old.names rows.old.samples rows.old.total
+    ensures { (before : List WeightedStack) → AreSamplesOf before rows.old.names rows.old.samples rows.old.total
         → OnOk result (AreSamplesOf
         (before ++ (record { stack = frames_of spelled.entry.stack.now; weight = spelled.entry.weight }) ∷ [])
         rows.new.names rows.new.samples rows.new.total) }
@@ -75,19 +75,20 @@ fn profile_bytes(
     kind: &str,
     unit: &str,
 ) -> Result<Vec<u8>, NoMemory>
-    ensures canonical { (all : List Row) → AreSamplesOf all rows.now.names rows.now.samples rows.now.total
-        → IfOk result (λ bytes. bytes.items ≡ canonical_bytes_of (exported_profile_of all kind.now unit.now)) }
-    ensures profile { (all : List Row) → AreSamplesOf all rows.now.names rows.now.samples rows.now.total
-        → IfOk result (λ bytes. IsProfile bytes.items (exported_profile_of all kind.now unit.now)) }
+    ensures canonical { (all : List WeightedStack) → AreSamplesOf all rows.now.names rows.now.samples rows.now.total
+        → IfOk result (λ bytes. bytes.items ≡ canonical_bytes_of (single_profile_of all kind.now unit.now)) }
+    ensures profile { (all : List WeightedStack) → AreSamplesOf all rows.now.names rows.now.samples rows.now.total
+        → IfOk result (λ bytes. IsProfile bytes.items (single_profile_of all kind.now unit.now)) }
 {
-    let draft = exported_draft(alloc, Items::empty(alloc), &rows.names, kind, unit)?;
+    let units = [ValueUnit { kind, unit }];
+    let draft = exported_draft(alloc, Items::empty(alloc), &rows.names, &units)?;
     encode_around(alloc, &draft, &rows.samples)
 }
 
 /// Folded text as a profile's bytes: those that [`encode`](pprof_profile::encode) gives of
-/// [`profile_of`](crate::profile_of) the rows that [`read_folded`](crate::read_folded) reads. Neither rows nor samples
-/// are kept: memory is for the bytes and the names. The bytes are a profile, which [`decode`](pprof_profile::decode)
-/// reads.
+/// [`profile_of`](crate::profile_of) the batch of one value that [`read_folded`](crate::read_folded) reads. Neither
+/// rows nor samples are kept: memory is for the bytes and the names. The bytes are a profile, which
+/// [`decode`](pprof_profile::decode) reads.
 ///
 /// # Errors
 ///
@@ -100,12 +101,12 @@ pub fn export_folded(
 ) -> Result<Vec<u8>, FoldedFault>
     ensures exported { MatchResult result (λ bytes. IsExportOfText text.now kind.now unit.now bytes.items)
         (λ fault. IsWorkFault text.now fault) }
-    ensures accepted { (rows : List Row) → IsFoldedText text.now rows
+    ensures accepted { (rows : List WeightedStack) → IsFoldedText text.now rows
         → MatchResult result
-        (λ bytes. bytes.items ≡ canonical_bytes_of (exported_profile_of rows kind.now unit.now))
+        (λ bytes. bytes.items ≡ canonical_bytes_of (single_profile_of rows kind.now unit.now))
         (λ fault. fault ≡ FoldedFault.NoMemory) }
-    ensures profile { (rows : List Row) → IsFoldedText text.now rows
-        → IfOk result (λ bytes. IsProfile bytes.items (exported_profile_of rows kind.now unit.now)) }
+    ensures profile { (rows : List WeightedStack) → IsFoldedText text.now rows
+        → IfOk result (λ bytes. IsProfile bytes.items (single_profile_of rows kind.now unit.now)) }
 {
     let mut rows = SampledRows {
         names: TextTable::new(alloc),

@@ -10,7 +10,7 @@ mod sampling;
 mod text_table;
 mod unfolding;
 
-pub use exporting::profile_of;
+pub use exporting::{ValueUnit, profile_of};
 pub use folded_export::export_folded;
 pub use merged_samples::merge_samples;
 pub use sampling::{BatchFault, ValueChoice, batch_of, unfold};

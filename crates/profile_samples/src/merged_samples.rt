@@ -1,7 +1,7 @@
 //! The rows of a profile's samples, those of the same locations merged into one.
 
 ghost use Rattle.std.specs.Prelude.{[], ◌≡◌, ◌+◌, ◌^◌, ◌<◌, ◌≤◌, IfErr, List, MatchResult, OnErr, OnOk, length, pos, slice_get, Some};
-ghost use Rattle.profile_rows.specs.declared.batch.Row.{Row};
+ghost use Rattle.profile_rows.specs.declared.weighted_stacks.WeightedStack.{WeightedStack};
 ghost use Rattle.profile_samples.specs.declared.sampling.ValueChoice.{ValueChoice};
 ghost use Rattle.profile_rows.specs.Aggregate.{aggregate_of};
 ghost use Rattle.profile_rows.specs.Rows.{total_of};
@@ -13,7 +13,7 @@ use crate::sampling::{BatchFault, ValueChoice, check_fit, chosen_type, push_row,
 use crate::unfolding::LocationFrames;
 use no_memory::NoMemory;
 use pprof_profile::{Profile, Sample};
-use profile_rows::Batch;
+use profile_rows::WeightedStacks;
 use std::alloc::Global;
 use std::collections::HashMap;
 
@@ -22,7 +22,7 @@ fn push_merged<'a>(
     alloc: Global,
     frames: &LocationFrames,
     known: &mut HashMap<&'a [u64], usize>,
-    merged: &mut Batch,
+    merged: &mut WeightedStacks,
     ids: &'a [u64],
     weight: u64,
 ) -> Result<(), NoMemory>
@@ -40,7 +40,12 @@ fn push_merged<'a>(
 }
 
 /// Sums a weight with that of a row.
-fn add_to_row(merged: &mut Batch, at: usize, weight: u64, number: u64) -> Result<(), BatchFault>
+fn add_to_row(
+    merged: &mut WeightedStacks,
+    at: usize,
+    weight: u64,
+    number: u64,
+) -> Result<(), BatchFault>
     requires { at < length merged.old }
     ensures added { OnOk result (merged.new ≡ with_added_at merged.old at weight) }
     ensures fits { OnOk result (total_of merged.old + weight < 2 ^ 63) }
@@ -58,7 +63,7 @@ fn merge_sample<'a>(
     alloc: Global,
     frames: &LocationFrames,
     known: &mut HashMap<&'a [u64], usize>,
-    merged: &mut Batch,
+    merged: &mut WeightedStacks,
     chosen: usize,
     sample: &'a Sample,
     number: u64,
@@ -66,7 +71,7 @@ fn merge_sample<'a>(
     requires values { chosen < length sample.now.values }
     requires placed { ArePlacedBy (sample_stack_of frames.now) known.old merged.old }
     ensures added { OnOk result
-        ((row : Row) × IsSampleRow frames.now chosen sample.now row × AddsRow merged.old merged.new row) }
+        ((row : WeightedStack) × IsSampleRow frames.now chosen sample.now row × AddsRow merged.old merged.new row) }
     ensures placed { OnOk result (ArePlacedBy (sample_stack_of frames.now) known.new merged.new) }
     ensures fault { IfErr result (IsSampleFault frames.now chosen (total_of merged.old) number sample.now) }
 {
@@ -89,7 +94,7 @@ fn merged_by<'a>(
     frames: &LocationFrames,
     mut known: HashMap<&'a [u64], usize>,
     chosen: usize,
-) -> Result<Batch, BatchFault>
+) -> Result<WeightedStacks, BatchFault>
     requires framed { frames.now ≡ profile.now }
     requires typed { chosen < length profile.now.sample_types }
     requires placed { ArePlacedBy (sample_stack_of profile.now) known [] }
@@ -97,7 +102,7 @@ fn merged_by<'a>(
         → MatchResult result (λ merged. IsMergedBatch profile.now choice merged)
         (λ fault. StandsAtSample profile.now choice fault) }
 {
-    let mut merged = Batch::new(alloc);
+    let mut merged = WeightedStacks::new(alloc);
     for (index, sample) in profile.draft().samples.as_slice().iter().enumerate() {
         merge_sample(
             alloc,
@@ -122,10 +127,10 @@ pub fn merge_samples(
     alloc: Global,
     profile: &Profile,
     choice: ValueChoice,
-) -> Result<Batch, BatchFault>
+) -> Result<WeightedStacks, BatchFault>
     ensures read { MatchResult result (λ merged. IsMergedBatch profile.now choice.entry merged)
         (λ fault. IsFirstBatchFault profile.now choice.entry fault) }
-    ensures accepted { (rows : List Row) → IsBatchOf profile.now choice.entry rows
+    ensures accepted { (rows : List WeightedStack) → IsBatchOf profile.now choice.entry rows
         → MatchResult result (λ merged. aggregate_of merged ≡ aggregate_of rows)
         (λ fault. fault ≡ BatchFault.NoMemory) }
 {

@@ -2,15 +2,16 @@
 
 ghost use Rattle.std.specs.Prelude.{◌≡◌, ◌+◌, ◌^◌, ◌<◌, ◌∷◌, ◌++◌, [], ◌≤◌, IfErr, IfOk, List, MatchResult, OnOk, Some, ℕ, pos, length, slice_get};
 ghost use Rattle.pprof_profile.specs.declared.messages.ValueType.{ValueType};
-ghost use Rattle.profile_rows.specs.declared.batch.Row.{Row};
+ghost use Rattle.profile_rows.specs.declared.weighted_stacks.WeightedStack.{WeightedStack};
 ghost use Rattle.profile_samples.specs.declared.sampling.ValueChoice.{ValueChoice};
 ghost use Rattle.profile_rows.specs.Rows.{total_of};
+ghost use Rattle.profile_rows.specs.Values.{single_batch};
 ghost use Rattle.profile_samples.specs.Samples.{IsBatchOf, IsFirstBatchFault, StandsAtSample, IsSampleFault, IsSampleRow, IsValueFault, IsFitFault, chosen_type_of, default_type, frames_of_sample, sample_stack_of, type_named};
 
 use crate::unfolding::{LocationFrames, string_at};
 use no_memory::NoMemory;
 use pprof_profile::{Draft, Profile, Sample};
-use profile_rows::{Batch, MAX_DEPTH, MAX_TOTAL, Name, Stack};
+use profile_rows::{Batch, MAX_DEPTH, MAX_TOTAL, Name, Stack, WeightedStacks};
 use std::alloc::{AllocError, Global};
 use thiserror::Error;
 
@@ -136,7 +137,7 @@ pub(crate) fn check_fit(
 pub(crate) fn push_row(
     alloc: Global,
     frames: &LocationFrames,
-    batch: &mut Batch,
+    batch: &mut WeightedStacks,
     ids: &[u64],
     weight: u64,
 ) -> Result<(), NoMemory>
@@ -158,15 +159,15 @@ pub(crate) fn push_row(
 fn add_sample(
     alloc: Global,
     frames: &LocationFrames,
-    batch: &mut Batch,
+    batch: &mut WeightedStacks,
     chosen: usize,
     sample: &Sample,
     number: u64,
 ) -> Result<(), BatchFault>
     requires { chosen < length sample.now.values }
     ensures added { OnOk result
-        ((row : Row) × IsSampleRow frames.now chosen sample.now row × (total_of batch.old + row.weight < 2 ^ 63)
-        × (batch.new ≡ batch.old ++ row ∷ [])) }
+        ((row : WeightedStack) × IsSampleRow frames.now chosen sample.now row
+        × (total_of batch.old + row.weight < 2 ^ 63) × (batch.new ≡ batch.old ++ row ∷ [])) }
     ensures fault { IfErr result (IsSampleFault frames.now chosen (total_of batch.old) number sample.now) }
 {
     let ids = sample.location_ids.as_slice();
@@ -182,38 +183,54 @@ fn rows_by(
     profile: &Profile,
     frames: &LocationFrames,
     chosen: usize,
-) -> Result<Batch, BatchFault>
+) -> Result<WeightedStacks, BatchFault>
     requires framed { frames.now ≡ profile.now }
     requires typed { chosen < length profile.now.sample_types }
     ensures { (choice : ValueChoice) → chosen_type_of profile.now choice ≡ Some chosen
         → MatchResult result (λ batch. IsBatchOf profile.now choice batch)
         (λ fault. StandsAtSample profile.now choice fault) }
 {
-    let mut batch = Batch::new(alloc);
+    let mut batch = WeightedStacks::new(alloc);
     for (index, sample) in profile.draft().samples.as_slice().iter().enumerate() {
         add_sample(alloc, frames, &mut batch, chosen, sample, index as u64)?;
     }
     Ok(batch)
 }
 
-/// The rows of a profile's samples: a row for each, in order. Its stack has the frames of the sample's locations, root
-/// first; its weight is the chosen value.
-///
-/// # Errors
-///
-/// `NoValue` where there is no such sample type. Else the fault of the first sample that has one, in the order of
-/// [`BatchFault`]'s variants; `NoMemory`.
-pub fn batch_of(alloc: Global, profile: &Profile, choice: ValueChoice) -> Result<Batch, BatchFault>
-    ensures read { MatchResult result (λ batch. IsBatchOf profile.now choice.entry batch)
+/// The rows of a profile's samples, by the chosen value.
+fn stacks_of(
+    alloc: Global,
+    profile: &Profile,
+    choice: ValueChoice,
+) -> Result<WeightedStacks, BatchFault>
+    ensures { MatchResult result (λ rows. IsBatchOf profile.now choice.entry rows)
         (λ fault. IsFirstBatchFault profile.now choice.entry fault) }
-    ensures accepted { (rows : List Row) → IsBatchOf profile.now choice.entry rows
-        → MatchResult result (λ batch. batch ≡ rows) (λ fault. fault ≡ BatchFault.NoMemory) }
 {
     let Some(chosen) = chosen_type(profile.draft(), choice) else {
         return Err(BatchFault::NoValue);
     };
     let frames = LocationFrames::new(alloc, profile)?;
     rows_by(alloc, profile, &frames, chosen)
+}
+
+/// The rows of a profile's samples, of one value: a row for each, in order. Its stack has the frames of the sample's
+/// locations, root first; its weight is the chosen value.
+///
+/// # Errors
+///
+/// `NoValue` where there is no such sample type. Else the fault of the first sample that has one, in the order of
+/// [`BatchFault`]'s variants; `NoMemory`.
+pub fn batch_of(alloc: Global, profile: &Profile, choice: ValueChoice) -> Result<Batch, BatchFault>
+    ensures read { MatchResult result
+        (λ batch. (rows : List WeightedStack) × IsBatchOf profile.now choice.entry rows × (batch ≡ single_batch rows))
+        (λ fault. IsFirstBatchFault profile.now choice.entry fault) }
+    ensures accepted { (rows : List WeightedStack) → IsBatchOf profile.now choice.entry rows
+        → MatchResult result (λ batch. batch ≡ single_batch rows) (λ fault. fault ≡ BatchFault.NoMemory) }
+{
+    match stacks_of(alloc, profile, choice) {
+        Ok(rows) => Ok(Batch::single(alloc, rows)),
+        Err(fault) => Err(fault),
+    }
 }
 
 /// The names of a sample's frames, leaf first: the lines of its locations in order. Samples are numbered from 0.

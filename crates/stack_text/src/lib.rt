@@ -5,11 +5,14 @@
 
 pub mod laws;
 
-pub use folded_text::{FoldedFault, folded_totals, merge_folded, read_folded, write_folded};
+pub use folded_text::{
+    FoldedFault, folded_totals, merge_folded, read_folded, write_folded, write_stacks,
+};
 pub use profile_rows::{
-    Batch, FrameTotal, FrameTotals, MAX_DEPTH, MAX_TOTAL, Name, NameFault, NoMemory, PushFault,
-    Refused, Row, Stack, aggregate, keeps, kept_totals,
+    Batch, FrameTotal, FrameTotals, MAX_DEPTH, MAX_TOTAL, MAX_WIDTH, Name, NameFault, NoMemory,
+    PushFault, Refused, Row, Stack, WeightedStack, WeightedStacks, Weights, Width, aggregate,
+    first_heavy, keeps, kept_totals,
 };
 pub use profile_samples::{
-    BatchFault, ValueChoice, batch_of, export_folded, merge_samples, profile_of, unfold,
+    BatchFault, ValueChoice, ValueUnit, batch_of, export_folded, merge_samples, profile_of, unfold,
 };

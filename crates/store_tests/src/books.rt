@@ -1,8 +1,11 @@
 //! A book driven by hand: what its sessions are told in turn, what its journal has, and how its faults are printed.
 
-use crate::helpers::{KEPT_REPORTS, ROWS, answer_text, batch_of, kept_query, kinds, query_of};
+use crate::helpers::{
+    KEPT_REPORTS, ROWS, answer_text, batch_of, kept_query, kinds, query_of, row_of, width_of,
+};
 use flame_report::{Answer, Kind};
 use op_book::{Book, BookFault, Entry, Journal, Op, Receipt, Reply};
+use stack_text::{MAX_TOTAL, Width};
 use std::alloc::Global;
 use std::sync::Arc;
 use std::test::Fail;
@@ -76,13 +79,17 @@ fn told_in_turn(alloc: Global, book: Book, steps: &[Step]) -> Result<String, Fai
         text.push_str(told.as_str()).ok().ok_or("no memory")?;
     }
     let journal = book.into_journal();
-    let (entries, total) = (journal.entries().len(), journal.tree().total());
+    let (entries, total) = (journal.entries().len(), journal.tree().total().values()[0]);
     let text = format!(in alloc; "{text}{entries} entries, {total}");
     Ok(text.ok().ok_or("no memory")?)
 }
 
 fn book_of(alloc: Global, limit: u32) -> Result<Book, Fail> {
-    Ok(Book::new(alloc, limit, 2).ok().ok_or("no memory")?)
+    Ok(
+        Book::new(alloc, limit, 2, Width::one())
+            .ok()
+            .ok_or("no memory")?,
+    )
 }
 
 #[test]
@@ -158,9 +165,49 @@ fn the_limit_of_weights(rt: HostRuntime) -> Result<(), Fail> {
     let told = told_in_turn(alloc, book_of(alloc, 10)?, &steps)?;
     assert_eq!(rt;
         told.as_str(),
-        "placed 0 at 0; K4 Heavy held 9223372036854775806; placed 1 at 1; \
+        "placed 0 at 0; K4 Heavy value 0 held 9223372036854775806; placed 1 at 1; \
          total 9223372036854775807 at 2; 3 entries, 9223372036854775807"
     );
+    Ok(())
+}
+
+// Why a book of two values, of which the first has the greatest total, refuses a row.
+fn refused(alloc: Global, values: &[u64]) -> Result<Option<BookFault>, Fail> {
+    let width = width_of(2)?;
+    let full = row_of(alloc, "a", &[MAX_TOTAL, 0])?;
+    let row = row_of(alloc, "b", values)?;
+    let mut book = Book::new(alloc, 3, 1, width).ok().ok_or("no memory")?;
+    book.add(alloc, 0, 0, full).ok().ok_or("refused")?;
+    Ok(
+        book.add(alloc, 0, 1, row)
+            .err()
+            .map(|refused| refused.fault),
+    )
+}
+
+#[test]
+fn a_book_keeps_the_limit_of_each_value(rt: HostRuntime) -> Result<(), Fail> {
+    let heavy = BookFault::Heavy {
+        value: 0,
+        held: MAX_TOTAL,
+    };
+    let table: [(&[u64], Option<BookFault>); 3] = [
+        (&[0, 1], None),
+        (&[1, 1], Some(heavy)),
+        (&[1], Some(BookFault::Width { held: 2 })),
+    ];
+    for (values, want) in table {
+        assert!(rt; refused(rt.alloc(), values)? == want, "{values:?}");
+    }
+    Ok(())
+}
+
+#[test]
+fn another_width_is_printed(rt: HostRuntime) -> Result<(), Fail> {
+    let printed = format!(in rt.alloc(); "{}", BookFault::Width { held: 2 })
+        .ok()
+        .ok_or("no memory")?;
+    assert_eq!(rt; printed.as_str(), "K6 Width held 2");
     Ok(())
 }
 

@@ -1,7 +1,7 @@
 //! What the tests are made of: batches of folded text, queries, and answers as text.
 
 use flame_report::{Answer, Columns, Kind, Query, Rank, flame_json, top_text};
-use stack_text::{Batch, Name, read_folded};
+use stack_text::{Batch, Name, Stack, Weights, Width, read_folded};
 use std::alloc::Global;
 use std::sync::Arc;
 use std::test::Fail;
@@ -10,14 +10,36 @@ pub(crate) fn batch_of(alloc: Global, text: &str) -> Result<Arc<Batch>, Fail> {
     Ok(Arc::new(alloc, read_folded(alloc, text.as_bytes())?)?)
 }
 
-/// What all rows answer.
-pub(crate) fn query_of(alloc: Global, kind: Kind) -> Result<Arc<Query>, Fail> {
+/// The batch of one row, whose stack has one frame.
+pub(crate) fn row_of(alloc: Global, frame: &str, values: &[u64]) -> Result<Arc<Batch>, Fail> {
+    let weights = Weights::make(values).ok_or("no weights")?;
+    let mut names = Vec::new(alloc);
+    names.push(Name::make(alloc, frame)?)?;
+    let stack = Stack::make(names).ok().ok_or("too deep")?;
+    let mut batch = Batch::new(alloc, weights.width());
+    batch.push(stack, weights).ok().ok_or("refused")?;
+    Ok(Arc::new(alloc, batch)?)
+}
+
+/// So many values.
+pub(crate) fn width_of(count: u32) -> Result<Width, Fail> {
+    Ok(Width::new(count).ok_or("no such width")?)
+}
+
+/// What all rows answer by a value.
+pub(crate) fn value_query(alloc: Global, value: u32, kind: Kind) -> Result<Arc<Query>, Fail> {
     let query = Query {
         focus: None,
         ignore: None,
+        value,
         kind,
     };
     Ok(Arc::new(alloc, query)?)
+}
+
+/// What all rows answer by the first value.
+pub(crate) fn query_of(alloc: Global, kind: Kind) -> Result<Arc<Query>, Fail> {
+    value_query(alloc, 0, kind)
 }
 
 /// Rows, of which [`kept_query`] keeps the second and the third.
@@ -28,6 +50,7 @@ pub(crate) fn kept_query(alloc: Global, kind: Kind) -> Result<Arc<Query>, Fail> 
     let query = Query {
         focus: Some(Name::make(alloc, "main")?),
         ignore: Some(Name::make(alloc, "b")?),
+        value: 0,
         kind,
     };
     Ok(Arc::new(alloc, query)?)

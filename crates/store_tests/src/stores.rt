@@ -3,11 +3,14 @@
 
 ghost use Rattle.std.specs.Prelude.{◌≡◌};
 
-use crate::helpers::{KEPT_REPORTS, ROWS, answer_text, batch_of, kept_query, kinds, query_of};
-use flame_report::{Answer, Kind};
+use crate::helpers::{
+    KEPT_REPORTS, ROWS, answer_text, batch_of, kept_query, kinds, query_of, row_of, value_query,
+    width_of,
+};
+use flame_report::{Answer, Kind, Rank};
 use live_store::{Blank, BookFault, Session, Store, StoreName};
 use op_book::Journal;
-use stack_text::Batch;
+use stack_text::{Batch, MAX_TOTAL, Width};
 use std::alloc::Global;
 use std::marker::Brand;
 use std::sync::{Arc, Wait};
@@ -105,7 +108,7 @@ fn two_sessions<N: StoreName, R: Wait>(
 
 // What two sessions are told, and what the closed store leaves.
 fn closed<N: StoreName, R: Wait>(rt: &R, alloc: Global, blank: Blank) -> Result<String, Fail>
-    requires { blank ≡ record { limit = N.limit; sessions = N.sessions } }
+    requires { blank ≡ record { limit = N.limit; sessions = N.sessions; width = N.width } }
 {
     let store = Store::<N>::start(blank);
     let told = two_sessions(rt, alloc, &store);
@@ -114,7 +117,7 @@ fn closed<N: StoreName, R: Wait>(rt: &R, alloc: Global, blank: Blank) -> Result<
     let sessions = sessions_of(alloc, &journal)?;
     Ok(format!(in alloc;
         "{told}; {sessions}{} {}",
-        journal.tree().total(),
+        journal.tree().total().values()[0],
         journal.sessions()
     )?)
 }
@@ -122,7 +125,7 @@ fn closed<N: StoreName, R: Wait>(rt: &R, alloc: Global, blank: Blank) -> Result<
 #[test]
 fn closed_store_gives_its_journal(rt: HostRuntime) -> Result<(), Fail> {
     let alloc = rt.alloc();
-    let told = closed::<Brand, HostRuntime>(&rt, alloc, Blank::make(alloc, 10, 2)?)?;
+    let told = closed::<Brand, HostRuntime>(&rt, alloc, Blank::make(alloc, 10, 2, Width::one())?)?;
     assert_eq!(rt;
         told.as_str(),
         "Ok(0) Ok(1) Ok(3) Ok(2) Ok(7) Some(AllGiven) 2 3; 0 1 0 1 1 7 2"
@@ -158,7 +161,7 @@ fn refused_session<N: StoreName, R: Wait>(
 
 // What a session of a store of three entries is told.
 fn refused<N: StoreName, R: Wait>(rt: &R, alloc: Global, blank: Blank) -> Result<String, Fail>
-    requires { blank ≡ record { limit = N.limit; sessions = N.sessions } }
+    requires { blank ≡ record { limit = N.limit; sessions = N.sessions; width = N.width } }
 {
     let store = Store::<N>::start(blank);
     let told = refused_session(rt, alloc, &store);
@@ -170,10 +173,10 @@ fn refused<N: StoreName, R: Wait>(rt: &R, alloc: Global, blank: Blank) -> Result
 #[test]
 fn store_limits(rt: HostRuntime) -> Result<(), Fail> {
     let alloc = rt.alloc();
-    let told = refused::<Brand, HostRuntime>(&rt, alloc, Blank::make(alloc, 3, 1)?)?;
+    let told = refused::<Brand, HostRuntime>(&rt, alloc, Blank::make(alloc, 3, 1, Width::one())?)?;
     assert_eq!(rt;
         told.as_str(),
-        "Ok(0) Err(Heavy { held: 9223372036854775806 }) Ok(1) Ok(9223372036854775807) \
+        "Ok(0) Err(Heavy { value: 0, held: 9223372036854775806 }) Ok(1) Ok(9223372036854775807) \
          Err(Full { held: 3 }) 3; 3"
     );
     Ok(())
@@ -235,9 +238,80 @@ fn each_kind<N: StoreName, R: Wait>(
     Ok(text)
 }
 
+// The place that a row of one frame is given, or why it is refused.
+fn add_row<N: StoreName, R: Wait>(
+    rt: &R,
+    alloc: Global,
+    session: &mut Session<'_, N>,
+    frame: &str,
+    values: &[u64],
+) -> Result<String, Fail> {
+    let row = row_of(alloc, frame, values)?;
+    let placed = match session.add(rt, alloc, row) {
+        Ok(placed) => Ok(placed.place),
+        Err(refused) => Err(refused.fault),
+    };
+    Ok(format!(in alloc; "{placed:?}|")?)
+}
+
+// What a session answers by a value, or why it refuses the question.
+fn answer_by<N: StoreName, R: Wait>(
+    rt: &R,
+    alloc: Global,
+    session: &mut Session<'_, N>,
+    value: u32,
+    kind: Kind,
+) -> Result<String, Fail> {
+    let query = value_query(alloc, value, kind)?;
+    let text = match session.ask(rt, alloc, &query) {
+        Ok(answer) => answer_text(alloc, answer)?,
+        Err(fault) => format!(in alloc; "{fault:?}")?,
+    };
+    Ok(format!(in alloc; "{text}|")?)
+}
+
+// A session that adds a row by each of two values: what it answers by each, and what it refuses.
+fn two_values<N: StoreName, R: Wait>(
+    rt: &R,
+    alloc: Global,
+    session: &mut Session<'_, N>,
+) -> Result<String, Fail> {
+    let mut text = add_row(rt, alloc, session, "a", &[1, 0])?;
+    text.push_str(add_row(rt, alloc, session, "b", &[0, 2])?.as_str())?;
+    text.push_str(add_row(rt, alloc, session, "c", &[3])?.as_str())?;
+    let top = Kind::Top {
+        rank: Rank::Flat,
+        count: 20,
+    };
+    for (value, kind) in [
+        (0, Kind::Total),
+        (1, Kind::Total),
+        (1, top),
+        (1, Kind::Folded),
+        (2, Kind::Total),
+    ] {
+        text.push_str(answer_by(rt, alloc, session, value, kind)?.as_str())?;
+    }
+    Ok(text)
+}
+
+// A session that fills the first of two values: what it is told.
+fn limit_of_each<N: StoreName, R: Wait>(
+    rt: &R,
+    alloc: Global,
+    session: &mut Session<'_, N>,
+) -> Result<String, Fail> {
+    let mut text = add_row(rt, alloc, session, "a", &[MAX_TOTAL, 0])?;
+    text.push_str(add_row(rt, alloc, session, "b", &[0, 1])?.as_str())?;
+    text.push_str(add_row(rt, alloc, session, "b", &[1, 0])?.as_str())?;
+    Ok(text)
+}
+
 // What two sessions do, or one of them.
 #[derive(Clone, Copy)]
 enum Story {
+    TwoValues,
+    LimitOfEach,
     SmallerBatch,
     OtherAsks,
     EachKind,
@@ -255,6 +329,8 @@ fn told_in<N: StoreName, R: Wait>(
         Story::SmallerBatch => smaller_batch(rt, alloc, &mut first, &mut second),
         Story::OtherAsks => other_asks(rt, alloc, &mut first, &mut second),
         Story::EachKind => each_kind(rt, alloc, &mut first),
+        Story::TwoValues => two_values(rt, alloc, &mut first),
+        Story::LimitOfEach => limit_of_each(rt, alloc, &mut first),
     }
 }
 
@@ -264,7 +340,7 @@ fn told<N: StoreName, R: Wait>(
     blank: Blank,
     story: Story,
 ) -> Result<String, Fail>
-    requires { blank ≡ record { limit = N.limit; sessions = N.sessions } }
+    requires { blank ≡ record { limit = N.limit; sessions = N.sessions; width = N.width } }
 {
     let store = Store::<N>::start(blank);
     let told = told_in(rt, alloc, &store, story);
@@ -275,11 +351,11 @@ fn told<N: StoreName, R: Wait>(
 #[test]
 fn a_session_that_was_refused_adds_a_smaller_batch(rt: HostRuntime) -> Result<(), Fail> {
     let alloc = rt.alloc();
-    let blank = Blank::make(alloc, 10, 2)?;
+    let blank = Blank::make(alloc, 10, 2, Width::one())?;
     let told = told::<Brand, HostRuntime>(&rt, alloc, blank, Story::SmallerBatch)?;
     assert_eq!(rt;
         told.as_str(),
-        "Ok(0) Err(Heavy { held: 9223372036854775806 }) Ok(1) 1"
+        "Ok(0) Err(Heavy { value: 0, held: 9223372036854775806 }) Ok(1) 1"
     );
     Ok(())
 }
@@ -287,7 +363,7 @@ fn a_session_that_was_refused_adds_a_smaller_batch(rt: HostRuntime) -> Result<()
 #[test]
 fn an_addition_is_seen_by_the_other_session(rt: HostRuntime) -> Result<(), Fail> {
     let alloc = rt.alloc();
-    let blank = Blank::make(alloc, 10, 2)?;
+    let blank = Blank::make(alloc, 10, 2, Width::one())?;
     let told = told::<Brand, HostRuntime>(&rt, alloc, blank, Story::OtherAsks)?;
     assert_eq!(rt; told.as_str(), "Ok(0) Ok(1) Ok(1)");
     Ok(())
@@ -296,9 +372,33 @@ fn an_addition_is_seen_by_the_other_session(rt: HostRuntime) -> Result<(), Fail>
 #[test]
 fn a_session_answers_each_kind_of_query(rt: HostRuntime) -> Result<(), Fail> {
     let alloc = rt.alloc();
-    let blank = Blank::make(alloc, 10, 2)?;
+    let blank = Blank::make(alloc, 10, 2, Width::one())?;
     let told = told::<Brand, HostRuntime>(&rt, alloc, blank, Story::EachKind)?;
     assert_eq!(rt; told.as_str(), KEPT_REPORTS);
+    Ok(())
+}
+
+#[test]
+fn a_session_of_two_values(rt: HostRuntime) -> Result<(), Fail> {
+    let alloc = rt.alloc();
+    let blank = Blank::make(alloc, 10, 2, width_of(2)?)?;
+    let told = told::<Brand, HostRuntime>(&rt, alloc, blank, Story::TwoValues)?;
+    assert_eq!(rt;
+        told.as_str(),
+        "Ok(0)|Ok(1)|Err(Width { held: 2 })|1|2|total 2\n2 2 b\n|b 2\n|Width { held: 2 }|"
+    );
+    Ok(())
+}
+
+#[test]
+fn the_limit_of_each_value(rt: HostRuntime) -> Result<(), Fail> {
+    let alloc = rt.alloc();
+    let blank = Blank::make(alloc, 10, 2, width_of(2)?)?;
+    let told = told::<Brand, HostRuntime>(&rt, alloc, blank, Story::LimitOfEach)?;
+    assert_eq!(rt;
+        told.as_str(),
+        "Ok(0)|Ok(1)|Err(Heavy { value: 0, held: 9223372036854775807 })|"
+    );
     Ok(())
 }
 
@@ -344,7 +444,7 @@ fn threaded<N: StoreName, R: Threads + Wait + Sync>(
     blank: Blank,
     batch: &Arc<Batch>,
 ) -> Result<String, Fail>
-    requires { blank ≡ record { limit = N.limit; sessions = N.sessions } }
+    requires { blank ≡ record { limit = N.limit; sessions = N.sessions; width = N.width } }
 {
     let store = Store::<N>::start(blank);
     let counts = two_threads(rt, alloc, &store, batch);
@@ -353,7 +453,7 @@ fn threaded<N: StoreName, R: Threads + Wait + Sync>(
     Ok(format!(in alloc;
         "{a} {b}; {} {}",
         journal.entries().len(),
-        journal.tree().total()
+        journal.tree().total().values()[0]
     )?)
 }
 
@@ -361,7 +461,7 @@ fn threaded<N: StoreName, R: Threads + Wait + Sync>(
 fn two_threads_add_at_once(rt: HostRuntime) -> Result<(), Fail> {
     let alloc = rt.alloc();
     let batch = batch_of(alloc, "main;a 1\n")?;
-    let blank = Blank::make(alloc, 200, 2)?;
+    let blank = Blank::make(alloc, 200, 2, Width::one())?;
     let told = threaded::<Brand, HostRuntime>(&rt, alloc, blank, &batch)?;
     assert_eq!(rt; told.as_str(), "100 100; 200 200");
     Ok(())

@@ -35,6 +35,6 @@ returns c =
     (subst (λ o. is_name_if_given o ≡ true) c.given.ensures c.in_ok-focus.ensures.1) (subst (λ o. is_name_if_given o ≡ true) c.given-2.ensures c.in_ok-ignore.ensures.1) in
     let source : ◌≡◌ {A = Source} (record { format = c.args.format; value = first_of (codes "value") rows }) (record { format = c.args.format; value = c.in_ok-value.value }) =
     ap (λ v. let s : Source = record { format = c.args.format; value = v } in s) (sym value) in
-    let query : ◌≡◌ {A = Query} (record { focus = first_of (codes "focus") rows; ignore = first_of (codes "ignore") rows; kind = c.args.kind }) (record { focus = c.in_ok-focus.focus; ignore = c.in_ok-ignore.ignore; kind = c.args.kind }) =
-    ap₂ (λ f i. let q : Query = record { focus = f; ignore = i; kind = c.args.kind } in q) (sym focus) (sym ignore) in
+    let query : ◌≡◌ {A = Query} (record { focus = first_of (codes "focus") rows; ignore = first_of (codes "ignore") rows; value = 0; kind = c.args.kind }) (record { focus = c.in_ok-focus.focus; ignore = c.in_ok-ignore.ignore; value = 0; kind = c.args.kind }) =
+    ap₂ (λ f i. let q : Query = record { focus = f; ignore = i; value = 0; kind = c.args.kind } in q) (sym focus) (sym ignore) in
     both ∙ ap₂ (λ s q. asked (Report s q)) source query

@@ -1,7 +1,7 @@
 use Rattle.std.proofs.Common.{◌≡◌, ◌+◌, ◌-◌, ◌++◌, ◌∷◌, [], length, take, vec_len, replicate, slice_index_or, sym, ap, subst, arith, ◌∙◌, suc}
 use Rattle.std.proofs.lemmas.List.{take_all, length-take-le, append_assoc}
 use Rattle.std.proofs.lemmas.List.Sums.{sum_by_more_le}
-use Rattle.profile_rows.specs.declared.batch.Row.{Row}
+use Rattle.profile_rows.specs.declared.weighted_stacks.WeightedStack.{WeightedStack}
 use Rattle.flame_report.specs.Sharing.{stack_at, known_at, AreHeld}
 use Rattle.flame_report.proofs.RowSums.{stack_at-get}
 use Rattle.flame_report.proofs.Held.{known-le, known-le-held, held_more, held_weight-le}
@@ -9,7 +9,7 @@ use Rattle.flame_report.proofs.layout.hold.Goals as goal
 
 pub overflow_add-above : goal.overflow_add-above
 overflow_add-above c =
-    omega (arith, held_weight-le c.args.rows.now c.args.at c.requires.at, sum_by_more_le (λ (row : Row). row.weight) c.args.rows.now c.args.at c.index-rows-at-2.result c.requires.at, c.requires.above, c.requires.fits)
+    omega (arith, held_weight-le c.args.rows.now c.args.at c.requires.at, sum_by_more_le (λ (row : WeightedStack). row.weight) c.args.rows.now c.args.at c.index-rows-at-2.result c.requires.at, c.requires.above, c.requires.fits)
 
 pub returns : goal.returns
 returns c =

@@ -1,4 +1,4 @@
--- Row by row, each path is drawn where it first comes.
+-- WeightedStack by row, each path is drawn where it first comes.
 use Rattle.std.proofs.Common.{◌≡◌, ◌+◌, ◌++◌, length, drop, sym, ap, arith, ◌∙◌, suc, map}
 use Rattle.profile_rows.specs.Paths.{prefixes}
 use Rattle.flame_report.specs.Answers.{rect_of}

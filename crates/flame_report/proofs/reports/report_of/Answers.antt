@@ -1,20 +1,23 @@
 -- The rows that a batch adds up to have its answer.
-use Rattle.std.proofs.Common.{refl, subst, sym, ap, ◌∙◌}
+use Rattle.std.proofs.Common.{refl, subst, sym, ap, ◌∙◌, List}
 use Rattle.profile_rows.specs.Aggregate.{aggregate_of}
-use Rattle.flame_report.specs.Answers.{answer_of}
+use Rattle.profile_rows.specs.Values.{rows_at}
+use Rattle.profile_rows.specs.declared.weighted_stacks.WeightedStack.{WeightedStack}
+use Rattle.flame_report.specs.Answers.{answer_of, value_answer_of}
 use Rattle.flame_report.specs.Sharing.{AreWeighty, IsAscending}
 use Rattle.flame_report.proofs.InOrder.{rows_of-AreWeighty, rows_of-IsAscending}
 use Rattle.flame_report.proofs.Same.{answer_of-rows_of, if_ok_seen}
 use Rattle.flame_report.proofs.reports.report_of.Goals as goal
 
 pub answer-requires-clause-ascending : goal.answer-requires-clause-ascending
-answer-requires-clause-ascending c = subst IsAscending (sym c.in_ok-rows-in_default.ensures) (rows_of-IsAscending (aggregate_of c.args.batch.now))
+answer-requires-clause-ascending c = subst IsAscending (sym c.in_ok-rows-in_default.ensures) (rows_of-IsAscending (aggregate_of (rows_at c.args.query.now.value c.args.batch.now.rows)))
 
 pub answer-requires-clause-weighty : goal.answer-requires-clause-weighty
-answer-requires-clause-weighty c = subst AreWeighty (sym c.in_ok-rows-in_default.ensures) (rows_of-AreWeighty c.args.batch.now)
+answer-requires-clause-weighty c = subst AreWeighty (sym c.in_ok-rows-in_default.ensures) (rows_of-AreWeighty (rows_at c.args.query.now.value c.args.batch.now.rows))
 
 pub returns-in_ok-rows-in_default : goal.returns-in_ok-rows-in_default
 returns-in_ok-rows-in_default c =
-    if_ok_seen (λ answer. answer) c.answer.result (answer_of c.in_ok-rows-in_default.rows c.args.query.now) (answer_of c.args.batch.now c.args.query.now)
-    (ap (λ rows. answer_of rows c.args.query.now) c.in_ok-rows-in_default.ensures ∙ answer_of-rows_of c.args.query.now c.args.batch.now c.args.batch.now refl)
+    let rows = rows_at c.args.query.now.value c.args.batch.now.rows in
+    if_ok_seen (λ answer. answer) c.answer.result (answer_of c.in_ok-rows-in_default.rows c.args.query.now) (value_answer_of c.args.batch.now.rows c.args.query.now)
+    (ap (λ rows. answer_of rows c.args.query.now) c.in_ok-rows-in_default.ensures ∙ answer_of-rows_of c.args.query.now rows rows refl)
     c.answer.ensures

@@ -4,7 +4,7 @@ use Rattle.std.specs.Prelude.{Result, Ok, Err, Some, OnOk, IfErr}
 use Rattle.std.specs.Str.{IsUtf8}
 use Rattle.std.specs.Str.Parse.{digits_value}
 use Rattle.std.proofs.lemmas.Result.{err_from_is_err_and}
-use Rattle.profile_rows.specs.declared.batch.Row.{Row}
+use Rattle.profile_rows.specs.declared.weighted_stacks.WeightedStack.{WeightedStack}
 use Rattle.folded_text.specs.declared.folded.FoldedFault.{FoldedFault}
 use Rattle.folded_text.specs.declared.folded.FoldedFault.TheVariants.{Heavy}
 use Rattle.profile_rows.specs.Rows.{total_of}
@@ -15,17 +15,17 @@ use Rattle.folded_text.proofs.Reading.{IsLineFault-fitting, IsLineFault-memory, 
 use Rattle.folded_text.proofs.merged_text.merge_line.Goals as goal
 
 -- a row of the line's stack, which weighs more now
-added_to : (at weight : ℕ) (line text digits : List ℕ) (merged new : List Row) (outcome : Result (Unit {0}) FoldedFault)
+added_to : (at weight : ℕ) (line text digits : List ℕ) (merged new : List WeightedStack) (outcome : Result (Unit {0}) FoldedFault)
     → IsUtf8 line → HasCount line text digits → weight ≡ digits_value 10 digits → weight < 2 ^ 63 → IsPlacedAt frames_of merged text at
     → OnOk outcome (new ≡ with_added_at merged at weight) → OnOk outcome (total_of merged + weight < 2 ^ 63)
-    → OnOk outcome ((row : Row) × IsRowLine line row × AddsRow merged new row)
+    → OnOk outcome ((row : WeightedStack) × IsRowLine line row × AddsRow merged new row)
 added_to at weight line text digits merged new (Ok done) utf8 count value small there added fits =
-    let row : Row = record { stack = frames_of text; weight = weight } in
-    let same : row ≡ record { stack = (row_at merged at).stack; weight = weight } = ap (λ s. let r : Row = record { stack = s; weight = weight } in r) (sym there.1) in
+    let row : WeightedStack = record { stack = frames_of text; weight = weight } in
+    let same : row ≡ record { stack = (row_at merged at).stack; weight = weight } = ap (λ s. let r : WeightedStack = record { stack = s; weight = weight } in r) (sym there.1) in
     (row, IsRowLine-read line text digits weight utf8 count value there.2 small, subst (λ rows. AddsRow merged rows row) (sym added) (AddsRow-added merged at weight row there.0 fits same))
 added_to at weight line text digits merged new (Err fault) utf8 count value small there added fits = tt
 
-refused_at : (at weight number : ℕ) (line text digits : List ℕ) (merged : List Row) (outcome : Result (Unit {0}) FoldedFault)
+refused_at : (at weight number : ℕ) (line text digits : List ℕ) (merged : List WeightedStack) (outcome : Result (Unit {0}) FoldedFault)
     → IsUtf8 line → HasCount line text digits → weight ≡ digits_value 10 digits → weight < 2 ^ 63 → IsPlacedAt frames_of merged text at
     → IfErr outcome (λ fault. (fault ≡ Heavy number) × (2 ^ 63 ≤ total_of merged + weight)) → IfErr outcome (IsLineFault (total_of merged) number line)
 refused_at at weight number line text digits merged (Ok done) utf8 count value small there fault = tt

@@ -1,8 +1,10 @@
 use Rattle.std.proofs.Common.{◌≡◌, ◌++◌, map}
-use Rattle.profile_rows.specs.Aggregate.{row_of}
-use Rattle.profile_rows.specs.LentStacks.{entries_in, lent_entry}
+use Rattle.profile_rows.specs.LentStacks.{lent_row, lent_rows}
 use Rattle.profile_rows.proofs.aggregating.batch_of_weights.Given as goal
 
 -- the rows so far, and those of the entries left
 abbrev pub invariant-loop-stack : goal.invariant-loop-stack
-invariant-loop-stack l = map row_of (entries_in l.fn.weights) ≡ l.batch ++ map row_of (map lent_entry l.stack-iterator)
+invariant-loop-stack l = record {
+  width : l.batch.width ≡ l.fn.width;
+  rows : lent_rows l.fn.weights ≡ l.batch.rows ++ map lent_row l.stack-iterator;
+}

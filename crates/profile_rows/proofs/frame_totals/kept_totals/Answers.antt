@@ -2,7 +2,7 @@
 use Rattle.std.proofs.Common.{◌≡◌, take, get_or, true, ap, sym, ◌∙◌, arith}
 use Rattle.std.specs.Option.{option_copied}
 use Rattle.std.proofs.lemmas.List.Sums.{sum_by_more_le}
-use Rattle.profile_rows.specs.declared.batch.Row.{Row}
+use Rattle.profile_rows.specs.declared.weighted_stacks.WeightedStack.{WeightedStack}
 use Rattle.profile_rows.specs.Rows.{total_of}
 use Rattle.profile_rows.proofs.Kept.{kept_rows-left, kept_rows-more, weight_where-kept-le}
 use Rattle.profile_rows.proofs.frame_totals.kept_totals.Goals as goal
@@ -12,8 +12,8 @@ pub count_batch_row-requires-clause-fits : goal.count_batch_row-requires-clause-
 count_batch_row-requires-clause-fits c =
     let rows = c.rows-row-items.result.now in
     let before = weight_where-kept-le (option_copied c.args.focus) (option_copied c.args.ignored) (λ stack. true) (take c.loop-row.row-index rows) in
-    let all = sum_by_more_le (λ (row : Row). row.weight) rows c.loop-row.row-index c.row-item.result c.loop-row-test.true in
-    let row : c.row-item.result.weight ≡ (get_or rows c.loop-row.row-index c.row-item.result).weight = ap (λ (row : Row). row.weight) c.row-item.is in
+    let all = sum_by_more_le (λ (row : WeightedStack). row.weight) rows c.loop-row.row-index c.row-item.result c.loop-row-test.true in
+    let row : c.row-item.result.weight ≡ (get_or rows c.loop-row.row-index c.row-item.result).weight = ap (λ (row : WeightedStack). row.weight) c.row-item.is in
     let held = c.loop-row.invariant.total in
     let batch = ap total_of c.rows-row-items.ensures.rows in
     let fits = c.rows-row-items.ensures.fits in

@@ -5,7 +5,7 @@ use Rattle.std.proofs.lemmas.Result.{on_ok_weaker}
 use denote.Ref.{Bor}
 use Rattle.profile_rows.specs.Names.{is_same_name}
 use Rattle.profile_rows.specs.Tallies.{tally_at, frame_counted}
-use Rattle.profile_rows.specs.declared.batch.Row.{Row}
+use Rattle.profile_rows.specs.declared.weighted_stacks.WeightedStack.{WeightedStack}
 use Rattle.profile_rows.proofs.TallyLaws.{row_counted-leaf}
 use Rattle.profile_rows.proofs.tallies.count_row.Goals as goal
 
@@ -17,7 +17,7 @@ texts frames = map (λ (frame : Bor (List ℕ)). frame.now) frames
 
 pub returns-in_ok-count_callers-in-Some : goal.returns-in_ok-count_callers-in-Some
 returns-in_ok-count_callers-in-Some c = on_ok_weaker c.count_frame.result (λ counted q.
-    let row : Row = record { stack = texts c.args.frames.now; weight = c.args.weight } in
+    let row : WeightedStack = record { stack = texts c.args.frames.now; weight = c.args.weight } in
     let stack : texts c.args.frames.now ≡ texts c.in-Some.callers.now ++ c.in-Some.leaf.now.now ∷ [] =
     ap texts c.in-Some.ensures.cases.0 ∙ map-append (λ (frame : Bor (List ℕ)). frame.now) c.in-Some.callers.now (c.in-Some.leaf.now ∷ []) in
     counted q

@@ -2,7 +2,7 @@
 use Rattle.std.proofs.Common.{ℕ, List, map, arith}
 use Rattle.std.proofs.lemmas.Result.{on_ok_weaker}
 use denote.Ref.{Bor}
-use Rattle.profile_rows.specs.declared.batch.Row.{Row}
+use Rattle.profile_rows.specs.declared.weighted_stacks.WeightedStack.{WeightedStack}
 use Rattle.profile_rows.proofs.TallyLaws.{AreTalliesOf-counted, AreTalliesOf-cumulative, AreTalliesOf-flat}
 use Rattle.profile_rows.proofs.tallies.count_stack.Goals as goal
 
@@ -20,5 +20,5 @@ count_row-requires-clause-flat c = λ q.
 
 pub returns : goal.returns
 returns c = λ rows are.
-    let row : Row = record { stack = map (λ (frame : Bor (List ℕ)). frame.now) c.args.frames.now; weight = c.args.weight } in
+    let row : WeightedStack = record { stack = map (λ (frame : Bor (List ℕ)). frame.now) c.args.frames.now; weight = c.args.weight } in
     on_ok_weaker c.count_row.result (AreTalliesOf-counted rows row c.args.held c.args.tallies.now c.count_row.new.tallies c.requires.names are) c.count_row.ensures

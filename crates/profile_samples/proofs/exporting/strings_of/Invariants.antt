@@ -1,7 +1,7 @@
 use Rattle.std.proofs.Common.{◌≡◌, take}
-use Rattle.profile_samples.specs.Export.{strings_of}
+use Rattle.profile_samples.specs.TextTables.{with_texts}
 use Rattle.profile_samples.proofs.exporting.strings_of.Given as goal
 
 -- the strings with the names so far
 abbrev pub invariant-loop-name : goal.invariant-loop-name
-invariant-loop-name l = l.strings ≡ strings_of l.fn.kind l.fn.unit (take l.name-index l.fn.names)
+invariant-loop-name l = l.strings ≡ with_texts l.initial.strings (take l.name-index l.fn.names)

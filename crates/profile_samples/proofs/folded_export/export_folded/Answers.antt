@@ -5,7 +5,7 @@ use Rattle.std.specs.Prelude.{ℕ}
 use Rattle.std.specs.declared.vec.Vec.{Vec}
 use Rattle.pprof_profile.specs.Canonical.{canonical_bytes_of}
 use Rattle.pprof_profile.specs.Profiles.{IsProfile}
-use Rattle.profile_samples.specs.Export.{exported_profile_of}
+use Rattle.profile_samples.specs.Export.{single_profile_of}
 use Rattle.profile_samples.proofs.ExportedRows.{AreSamplesOf-none, only_export}
 use Rattle.folded_text.proofs.Reading.{IsFoldedText-same}
 use Rattle.profile_samples.proofs.folded_export.export_folded.Goals as goal
@@ -28,11 +28,11 @@ returns-clause-accepted c = λ all folded.
     let (rows, read, samples) = c.in_ok-take_lines.ensures.taken in
     let same : rows ≡ all = IsFoldedText-same c.args.text.now rows all read folded in
     c.in_ok-profile_bytes.ensures.canonical rows samples
-    ∙ ap (λ some. canonical_bytes_of (exported_profile_of some c.args.kind.now c.args.unit.now)) same
+    ∙ ap (λ some. canonical_bytes_of (single_profile_of some c.args.kind.now c.args.unit.now)) same
 
 pub returns-clause-profile : goal.returns-clause-profile
 returns-clause-profile c = λ all folded.
     let (rows, read, samples) = c.in_ok-take_lines.ensures.taken in
     let same : rows ≡ all = IsFoldedText-same c.args.text.now rows all read folded in
-    subst (λ some. IsProfile c.in_ok-profile_bytes.field-0.items (exported_profile_of some c.args.kind.now c.args.unit.now))
+    subst (λ some. IsProfile c.in_ok-profile_bytes.field-0.items (single_profile_of some c.args.kind.now c.args.unit.now))
     same (c.in_ok-profile_bytes.ensures.profile rows samples)

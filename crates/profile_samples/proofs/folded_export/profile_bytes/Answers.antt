@@ -1,9 +1,10 @@
 -- The draft around the samples is the rows' export, which is valid.
-use Rattle.std.proofs.Common.{◌≡◌, ap, ◌∙◌, sym, subst, map}
+use Rattle.std.proofs.Common.{◌≡◌, [], ◌∷◌, ap, ◌∙◌, sym, subst, map}
 use Rattle.pprof_profile.specs.declared.messages.Draft.{Draft}
 use Rattle.pprof_profile.specs.Valid.{IsValidDraft}
-use Rattle.profile_samples.specs.Export.{exported_profile_of, exported_sample, profile_with, strings_of}
-use Rattle.profile_samples.proofs.ExportLaws.{export_valid}
+use Rattle.profile_samples.specs.Export.{exported_sample, profile_with, single_profile_of, strings_of}
+use Rattle.profile_rows.specs.Values.{singles}
+use Rattle.profile_samples.proofs.ExportLaws.{export_valid, widths-singles}
 use Rattle.profile_samples.proofs.folded_export.profile_bytes.Goals as goal
 
 pub returns-clause-profile : goal.returns-clause-profile
@@ -11,9 +12,11 @@ returns-clause-profile c = λ all so_far.
     let names = c.args.rows.now.names in
     let kind = c.args.kind.now in
     let unit = c.args.unit.now in
-    let samples = map (exported_sample names) all in
-    let made : (record c.in_ok-draft.draft { samples = samples }) ≡ exported_profile_of all kind unit =
+    let rows = singles all in
+    let units = (kind, unit) ∷ [] in
+    let samples = map (exported_sample names) rows in
+    let made : (record c.in_ok-draft.draft { samples = samples }) ≡ single_profile_of all kind unit =
     ap (λ (d : Draft). let filled : Draft = record d { samples = samples } in filled) c.in_ok-draft.ensures
-    ∙ ap (λ texts. profile_with texts (strings_of kind unit texts) all kind unit) so_far.names_rows in
+    ∙ ap (λ texts. profile_with texts (strings_of units texts) rows units) so_far.names_rows in
     rw (sym made) (c.encode_around.ensures.profile samples so_far.samples_rows so_far.fits_rows
-    (subst (λ (d : Draft). IsValidDraft d) (sym made) (export_valid all kind unit)))
+    (subst (λ (d : Draft). IsValidDraft d) (sym made) (export_valid rows units (widths-singles all))))

@@ -5,6 +5,7 @@ use Rattle.std.proofs.lemmas.Int.{to_z_pos}
 use Rattle.pprof_profile.specs.declared.messages.Sample.{Sample}
 use Rattle.pprof_profile.specs.Canonical.{sample_bytes, samples_bytes, FitsEach, FitsSample}
 use Rattle.profile_samples.specs.Export.{exported_sample}
+use Rattle.profile_rows.specs.Values.{singles}
 use Rattle.folded_text.specs.FoldedText.{frames_of}
 use Rattle.profile_samples.proofs.ExportedRows.{AreSamplesOf-push}
 use Rattle.profile_samples.proofs.folded_export.push_row.Goals as goal
@@ -19,7 +20,7 @@ pub returns : goal.returns
 returns c = λ before so_far.
     let fits = c.requires.fits in
     let small : c.args.spelled.weight < 2 ^ 63 = omega (arith, fits) in
-    let samples = map (exported_sample c.args.rows.now.names) before in
+    let samples = map (exported_sample c.args.rows.now.names) (singles before) in
     AreSamplesOf-push before (record { stack = frames_of c.args.spelled.stack.now; weight = c.args.spelled.weight }) c.args.rows.now.names c.replace_ids.new.names c.args.rows.now.samples c.push.new.self c.replace_ids.new.ids.items c.args.rows.now.total _ so_far
     c.in_ok-replace_ids.ensures.names c.in_ok-replace_ids.ensures.ids refl
     (c.in_ok-push.ensures.pushed samples so_far.samples_rows

@@ -1,9 +1,5 @@
 -- Each frame has its place, and a place stays as more names come.
-use Rattle.std.proofs.Common.{[], ◌∷◌, ◌++◌, ◌≡◌, ◌+◌, map, reverse, refl, sym, ap, ◌∙◌, append_assoc}
-use Rattle.std.proofs.lemmas.List.{append-nil}
-use Rattle.profile_samples.specs.Export.{id_in}
-use Rattle.folded_text.specs.FoldedText.{frames_of}
-use Rattle.profile_samples.specs.TextTables.{with_texts}
+use Rattle.std.proofs.Common.{[], ◌∷◌, ◌++◌, ◌+◌, refl, sym, ap, ◌∙◌, append_assoc}
 use Rattle.profile_samples.proofs.ExportedRows.{ids_with}
 use Rattle.profile_samples.proofs.TextPlaces.{next_with}
 use Rattle.profile_samples.proofs.folded_export.replace_ids.Goals as goal

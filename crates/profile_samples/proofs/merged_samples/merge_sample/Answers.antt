@@ -2,7 +2,7 @@
 use Rattle.std.proofs.Common.{◌≡◌, ℕ, ◌+◌, ◌^◌, ◌<◌, ◌≤◌, List, length, ap, sym, subst, ◌∙◌, refl}
 use Rattle.std.specs.Prelude.{Result, Ok, Err, Some, OnOk, IfErr, pos, slice_get}
 use Rattle.std.proofs.lemmas.Result.{err_from_is_err_and}
-use Rattle.profile_rows.specs.declared.batch.Row.{Row}
+use Rattle.profile_rows.specs.declared.weighted_stacks.WeightedStack.{WeightedStack}
 use Rattle.profile_samples.specs.declared.sampling.BatchFault.{BatchFault}
 use Rattle.profile_samples.specs.declared.sampling.BatchFault.TheVariants.{Heavy}
 use Rattle.pprof_profile.specs.declared.messages.Draft.{Draft}
@@ -15,17 +15,17 @@ use Rattle.profile_samples.proofs.SampleRows.{IsSampleFault-fit, IsSampleFault-m
 use Rattle.profile_samples.proofs.merged_samples.merge_sample.Goals as goal
 
 -- a row of the sample's stack, which weighs more now
-added_to : (draft : Draft) (chosen at weight : ℕ) (sample : Sample) (sums new : List Row) (outcome : Result (Unit {0}) BatchFault)
+added_to : (draft : Draft) (chosen at weight : ℕ) (sample : Sample) (sums new : List WeightedStack) (outcome : Result (Unit {0}) BatchFault)
     → slice_get sample.values chosen ≡ Some (pos weight) → IsPlacedAt (sample_stack_of draft) sums sample.location_ids at
     → OnOk outcome (new ≡ with_added_at sums at weight) → OnOk outcome (total_of sums + weight < 2 ^ 63)
-    → OnOk outcome ((row : Row) × IsSampleRow draft chosen sample row × AddsRow sums new row)
+    → OnOk outcome ((row : WeightedStack) × IsSampleRow draft chosen sample row × AddsRow sums new row)
 added_to draft chosen at weight sample sums new (Ok done) value there added fits =
-    let row : Row = record { stack = sample_stack_of draft sample.location_ids; weight = weight } in
-    let same : row ≡ record { stack = (row_at sums at).stack; weight = weight } = ap (λ s. let r : Row = record { stack = s; weight = weight } in r) (sym there.1) in
+    let row : WeightedStack = record { stack = sample_stack_of draft sample.location_ids; weight = weight } in
+    let same : row ≡ record { stack = (row_at sums at).stack; weight = weight } = ap (λ s. let r : WeightedStack = record { stack = s; weight = weight } in r) (sym there.1) in
     (row, sample_row draft chosen sample weight value there.2, subst (λ rows. AddsRow sums rows row) (sym added) (AddsRow-added sums at weight row there.0 fits same))
 added_to draft chosen at weight sample sums new (Err fault) value there added fits = tt
 
-refused_at : (draft : Draft) (chosen at weight number : ℕ) (sample : Sample) (sums : List Row) (outcome : Result (Unit {0}) BatchFault)
+refused_at : (draft : Draft) (chosen at weight number : ℕ) (sample : Sample) (sums : List WeightedStack) (outcome : Result (Unit {0}) BatchFault)
     → slice_get sample.values chosen ≡ Some (pos weight) → IsPlacedAt (sample_stack_of draft) sums sample.location_ids at
     → IfErr outcome (λ fault. (fault ≡ Heavy number) × (2 ^ 63 ≤ total_of sums + weight)) → IfErr outcome (IsSampleFault draft chosen (total_of sums) number sample)
 refused_at draft chosen at weight number sample sums (Ok done) value there fault = tt

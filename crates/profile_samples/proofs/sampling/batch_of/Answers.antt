@@ -1,18 +1,17 @@
--- What stands at a sample is the first fault.
-use Rattle.std.proofs.Common.{rules, ◌≡◌, Some}
-use Rattle.profile_samples.specs.Samples.{IsBatchOf, chosen_type_of}
-use Rattle.profile_samples.proofs.SampleRows.{chosen_within, first_of_standing, only_batch}
+-- The rows are those of any reading.
+use Rattle.std.proofs.Common.{ap, ◌∙◌}
+use Rattle.profile_rows.specs.Values.{single_batch}
+use Rattle.profile_samples.proofs.SampleRows.{IsBatchOf-same, IsFirstBatchFault-batch}
 use Rattle.profile_samples.proofs.sampling.batch_of.Goals as goal
 
-pub rows_by-requires-clause-typed : goal.rows_by-requires-clause-typed
-rows_by-requires-clause-typed c =
-    let chosen : chosen_type_of c.args.profile.now c.args.choice ≡ Some c.in-Some.chosen = search rules in
-    chosen_within c.args.profile.now c.args.choice c.in-Some.chosen chosen
+pub returns-in-Ok : goal.returns-in-Ok
+returns-in-Ok c = record {
+  read = (c.in-Ok.rows, c.in-Ok.ensures, c.single.ensures);
+  accepted = λ rows this. c.single.ensures ∙ ap single_batch (IsBatchOf-same c.args.profile.now c.args.choice c.in-Ok.rows rows c.in-Ok.ensures this);
+}
 
-pub returns-clause-read : goal.returns-clause-read
-returns-clause-read c =
-    let chosen : chosen_type_of c.args.profile.now c.args.choice ≡ Some c.in-Some.chosen = search rules in
-    first_of_standing (λ batch. IsBatchOf c.args.profile.now c.args.choice batch) c.args.profile.now c.args.choice c.rows_by.result (c.rows_by.ensures c.args.choice chosen)
-
-pub returns-clause-accepted : goal.returns-clause-accepted
-returns-clause-accepted c = only_batch c.args.profile.now c.args.choice c.rows_by.result (returns-clause-read c)
+pub returns-in-Err : goal.returns-in-Err
+returns-in-Err c = record {
+  read = c.in-Err.ensures;
+  accepted = λ rows this. IsFirstBatchFault-batch c.args.profile.now c.args.choice rows c.in-Err.fault this c.in-Err.ensures;
+}

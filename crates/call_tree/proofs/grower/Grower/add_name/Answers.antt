@@ -1,6 +1,6 @@
-use Rattle.std.proofs.Common.{◌≡◌, ◌<◌, ℕ, [], ◌∷◌, ◌++◌, length, arith, sym, ap, ◌∙◌, subst}
+use Rattle.std.proofs.Common.{◌≡◌, ◌<◌, ℕ, [], ◌∷◌, ◌++◌, length, get_or, arith, sym, ap, ◌∙◌, subst}
 use Rattle.std.specs.HashMap as hash
-use Rattle.call_tree.specs.State.{TreeState, IsIndex, same_key, name_at}
+use Rattle.call_tree.specs.State.{TreeState, IsIndex, plain_at, same_key, name_at}
 use Rattle.std.specs.Prelude.{if◌then◌else◌}
 use Rattle.indexmap.specs.IndexSet.{insert_key}
 use Rattle.profile_rows.specs.Names.{is_same_name}
@@ -9,13 +9,15 @@ use Rattle.call_tree.proofs.grower.Grower.add_name.Goals as goal
 
 pub invariant_of-self-2 : goal.invariant_of-self-2
 invariant_of-self-2 c =
-    let tree = c.self.inside.tree in
+    let tree = plain_at c.self.inside.tree 0 in
+    let state = c.known.ensures.each 0 c.known.ensures.some in
+    let ok = c.in_ok-append_name.ensures.ok in
     let listed : c.in_ok-listed.listed ≡ c.args.name.now = c.in_ok-listed.ensures in
     let key : c.in_ok-key.key ≡ c.args.name.now = c.in_ok-key.ensures in
     let absent = subst (λ (t : TreeState). (k : ℕ) → k < length t.names → name_at t.names k ≡ c.args.name.now → ⊥) (sym c.self.view_is) c.requires in
-    let next = IsIndex-named tree c.args.name.now (hash.get same_key c.self.inside.index) c.known.ensures absent c.self.invariant.1 in
-    let tree_is : record tree { names = tree.names ++ c.args.name.now ∷ [] } ≡ c.append_name.new.self =
-    λ i. record { names = sym (c.in_ok-append_name.ensures.ok.0 ∙ ap (λ n. tree.names ++ n ∷ []) listed) i; nodes = sym c.in_ok-append_name.ensures.ok.1 i } in
+    let next = IsIndex-named tree c.args.name.now (hash.get same_key c.self.inside.index) state absent c.self.invariant.1 in
+    let tree_is : record tree { names = tree.names ++ c.args.name.now ∷ [] } ≡ plain_at c.append_name.new.self 0 =
+    λ i. record { names = sym (ok.1 ∙ ap (λ n. tree.names ++ n ∷ []) listed) i; nodes = get_or (sym ok.2 i) 0 [] } in
     let spare = c.in_ok-reserve.ensures.ok in
     let inserted : c.insert.new.self.keys ≡ insert_key is_same_name c.reserve.new.self.keys c.in_ok-key.key = from_ok c.insert.result _ (c.insert.ensures.succeeds (omega (arith, spare))) c.insert.ensures.keys in
     let keys : c.reserve.new.self.keys ≡ tree.names = c.in_ok-reserve.ensures.keys ∙ c.self.invariant.0 in

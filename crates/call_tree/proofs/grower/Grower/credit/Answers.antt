@@ -1,33 +1,26 @@
-use Rattle.std.proofs.Common.{arith, sym, ap, ◌∙◌, subst}
+use Rattle.std.proofs.Common.{◌≡◌, ◌+◌, arith, sym, ap, ◌∙◌, subst}
 use Rattle.std.specs.HashMap as hash
-use Rattle.call_tree.specs.State.{TreeState, IsIndex, same_key}
-use Rattle.call_tree.specs.Plans.{IsPlan}
-use Rattle.call_tree.proofs.Planned.{IsCredited-step, credit_fits, IsIndex-credited}
+use Rattle.profile_rows.specs.Values.{rows_at}
+use Rattle.profile_rows.specs.Aggregate.{with_rows}
+use Rattle.call_tree.specs.State.{TreeState, IsIndex, plain_at, same_key, weights_of}
+use Rattle.call_tree.proofs.Planned.{IsIndex-credited}
+use Rattle.call_tree.proofs.Growing.{weights-credited}
 use Rattle.call_tree.proofs.grower.Grower.credit.Goals as goal
 
 pub invariant_of-self : goal.invariant_of-self
 invariant_of-self c =
-    let done = c.loop-credit.invariant.2 in
-    let kept : IsIndex (hash.get same_key c.self.inside.index) c.loop-credit.self-inside.tree = IsIndex-credited _ _ _ _ c.self.invariant.1 done in (
-      ap (λ s. s.keys) c.loop-credit.invariant.0 ∙ c.self.invariant.0 ∙ sym done.names,
-      subst (λ m. IsIndex (hash.get same_key m) c.loop-credit.self-inside.tree) (sym c.loop-credit.invariant.1) kept,
+    let credited = c.loop-index.invariant.2 in
+    let done = credited.done 0 (omega arith) in
+    let before = subst (λ (t : TreeState). IsIndex (hash.get same_key c.self.inside.index) (plain_at t 0)) c.self.view_is c.self.invariant.1 in
+    let kept : IsIndex (hash.get same_key c.self.inside.index) (plain_at c.loop-index.self-inside.tree 0) = IsIndex-credited _ _ _ _ before done in (
+      ap (λ s. s.keys) c.loop-index.invariant.0 ∙ c.self.invariant.0 ∙ ap (λ t. t.names) c.self.view_is ∙ sym credited.names,
+      subst (λ m. IsIndex (hash.get same_key m) (plain_at c.loop-index.self-inside.tree 0)) (sym c.loop-index.invariant.1) kept,
     )
 
-pub add_weight-requires-clause-fits : goal.add_weight-requires-clause-fits
-add_weight-requires-clause-fits c =
-    let before = ap (λ p. p.before) c.plan.view_is ∙ c.requires ∙ sym c.self.view_is in
-    let plan : IsPlan c.self.inside.tree c.plan.inside.batch.value c.deref-credit-items.result.now =
-    subst (λ (t : TreeState). IsPlan t c.plan.inside.batch.value c.deref-credit-items.result.now) before
-    (subst (λ cs. IsPlan c.plan.inside.before.value c.plan.inside.batch.value cs) (sym c.deref-credit-items.ensures.value) c.plan.invariant) in
-    credit_fits _ _ _ _ plan c.loop-credit.credit-index (omega (arith, plan.size)) c.loop-credit.invariant.2
-
-pub loop-credit-preserved : goal.loop-credit-preserved
-loop-credit-preserved c =
-    let before = ap (λ p. p.before) c.plan.view_is ∙ c.requires ∙ sym c.self.view_is in
-    let plan : IsPlan c.self.inside.tree c.plan.inside.batch.value c.deref-credit-items.result.now =
-    subst (λ (t : TreeState). IsPlan t c.plan.inside.batch.value c.deref-credit-items.result.now) before
-    (subst (λ cs. IsPlan c.plan.inside.before.value c.plan.inside.batch.value cs) (sym c.deref-credit-items.ensures.value) c.plan.invariant) in (
-      c.loop-credit.invariant.0,
-      c.loop-credit.invariant.1,
-      IsCredited-step _ _ _ _ plan c.loop-credit.credit-index (omega (arith, plan.size)) c.loop-credit.invariant.2 c.add_weight.new.self c.add_weight.ensures.names c.add_weight.ensures.nodes,
-    )
+pub returns-clause-weights : goal.returns-clause-weights
+returns-clause-weights c =
+    let plan = c.plan.invariant in
+    let batch = c.plan.inside.batch.value in
+    let width : batch.width ≡ c.loop-index.index + 1 = omega (arith, plan.width, plan.count, c.loop-index-test.false, c.loop-index.auto.index-end, c.len-index-end.ensures) in
+    λ value. weights-credited c.args.self.now c.loop-index.self-inside.tree batch (c.loop-index.index + 1) plan.batch width c.loop-index.invariant.2 value
+    ∙ ap (λ p. with_rows (weights_of c.args.self.now value) (rows_at value p.rows)) c.plan.view_is

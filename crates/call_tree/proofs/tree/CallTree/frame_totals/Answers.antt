@@ -11,7 +11,7 @@ use Rattle.call_tree.proofs.tree.CallTree.frame_totals.Goals as goal
 
 pub returns-clause-sums : goal.returns-clause-sums
 returns-clause-sums c =
-    AreSumsOf-permutation (rows_of (weights_of c.args.self.now)) c.in_ok-totals.totals.items c.sort_by.new.self.items
+    AreSumsOf-permutation (rows_of (weights_of c.args.self.now c.args.value)) c.in_ok-totals.totals.items c.sort_by.new.self.items
     c.sort_by.ensures.permutation c.in_ok-totals.ensures
 
 pub returns-clause-sorted : goal.returns-clause-sorted

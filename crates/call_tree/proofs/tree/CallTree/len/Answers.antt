@@ -1,6 +1,6 @@
-use Rattle.std.proofs.Common.{length, sym, ap, ◌∙◌}
-use Rattle.call_tree.proofs.Shapes.{length-node_rows}
+use Rattle.std.proofs.Common.{◌∙◌}
+use Rattle.call_tree.proofs.Trees.{length-seen}
 use Rattle.call_tree.proofs.tree.CallTree.len.Goals as goal
 
 pub returns : goal.returns
-returns c = c.len.ensures ∙ sym (length-node_rows c.self.inside.names c.self.inside.nodes) ∙ ap (λ t. length t.nodes) c.self.view_is
+returns c = c.len.ensures ∙ length-seen c.self.inside.names c.self.inside.nodes c.args.self.now 0 c.self.view_is

@@ -1,22 +1,22 @@
-use Rattle.std.proofs.Common.{rules, ◌≡◌, filter, ap, ◌∙◌, subst, IsPermutation}
-use Rattle.std.specs.Prelude.{IsSorted}
-use Rattle.std.specs.Ordering.{is_lt}
-use Rattle.std.proofs.lemmas.List.Sorted.{ranks_by, answers_always}
-use Rattle.profile_rows.specs.declared.batch.Row.{Row}
-use Rattle.profile_rows.specs.Rows.{stack_cmp}
-use Rattle.profile_rows.proofs.RowLaws.{stack_cmp_total}
-use Rattle.call_tree.specs.State.{has_weight}
+use Rattle.std.proofs.Common.{arith, ap, ◌∙◌}
+use Rattle.profile_rows.specs.Aggregate.{AreRowsOf, aggregates_of}
+use Rattle.profile_rows.specs.Values.{BatchState}
+use Rattle.call_tree.specs.State.{weights_of}
 use Rattle.call_tree.proofs.Indexing.{if_ok_more}
-use Rattle.call_tree.proofs.Sorting.{rows_of-sorted}
+use Rattle.call_tree.proofs.Several.{ArePushed-all, ArePushed-step}
 use Rattle.call_tree.proofs.tree.CallTree.rows.Goals as goal
 
-pub returns : goal.returns
-returns c =
-    let nodes = c.args.self.now.nodes in
-    let moved : IsPermutation (filter has_weight nodes) c.sort_by.new.self.items =
-    subst (λ rows. IsPermutation rows c.sort_by.new.self.items) c.in_ok-rows.ensures c.sort_by.ensures.permutation in
-    let sorted : IsSorted (λ (a b : Row). stack_cmp a.stack b.stack) c.sort_by.new.self.items =
-    c.in_ok-sort_by.ensures.sorted (λ (a : Row) (b : Row). is_lt (stack_cmp a.stack b.stack)) (ranks_by stack_cmp_total (λ (row : Row). row.stack))
-    (answers_always _ _ _ (λ f a r q k. let e : r ≡ stack_cmp a.0.now.stack a.1.0.now.stack = search rules in ap is_lt e)) in
-    let same = rows_of-sorted nodes c.sort_by.new.self.items c.known.ensures.apart moved sorted in
-    if_ok_more c.batch_of.result _ _ (λ batch e. e ∙ same) c.batch_of.ensures
+pub loop-value-preserved : goal.loop-value-preserved
+loop-value-preserved c =
+    let added = c.in_ok-push_value.ensures in
+    ArePushed-step c.args.self.now c.loop-value.batch c.push_value.new.batch c.loop-value.value c.in_ok-rows.rows
+    c.loop-value.invariant c.in_ok-rows.ensures added.width added.here added.others
+
+pub returns-clause-rows : goal.returns-clause-rows
+returns-clause-rows c =
+    let now = c.args.self.now in
+    let width = c.width-width.ensures ∙ ap (λ t. t.width) c.self.view_is in
+    if_ok_more c.aggregate.result (λ (rows : BatchState). AreRowsOf (aggregates_of c.loop-value.batch.rows) rows.rows) (λ (rows : BatchState). AreRowsOf (weights_of now) rows.rows)
+    (λ rows are. ArePushed-all now c.loop-value.batch c.loop-value.value rows.rows c.known.ensures
+    (omega (arith, c.loop-value-test.false, c.loop-value.auto.value-end, c.get-value-end.ensures.count, width)) c.loop-value.invariant are)
+    c.aggregate.ensures.rows

@@ -2,7 +2,8 @@ use Rattle.std.proofs.Common.{◌≡◌, ◌++◌, ◌∷◌, [], length, revers
 use Rattle.std.proofs.lemmas.List.{append-nil, get_or_read, length-reverse}
 use Rattle.call_tree.specs.State.{name_at, stack_at}
 use Rattle.call_tree.specs.Shape.{at, node_rows}
-use Rattle.call_tree.proofs.Raising.{read_is}
+use Rattle.call_tree.specs.Nodes.{nodes_of}
+use Rattle.call_tree.proofs.Trees.{length-seen, seen}
 use Rattle.call_tree.proofs.Shapes.{length-node_rows, stack_at-child}
 use Rattle.call_tree.proofs.Turning.{turned, turned_step}
 use Rattle.call_tree.proofs.tree.CallTree.stack_of.Goals as goal
@@ -10,42 +11,42 @@ use Rattle.call_tree.proofs.tree.CallTree.stack_of.Goals as goal
 pub loop-place-init : goal.loop-place-init
 loop-place-init c =
     let names = c.self.inside.names in
-    let nodes = c.self.inside.nodes in
+    let nodes = nodes_of c.self.inside.nodes 0 in
     let size = length-node_rows names nodes in (
-      omega (arith, c.requires, ap (λ t. length t.nodes) c.self.view_is, size),
+      omega (arith, c.requires, length-seen names c.self.inside.nodes c.args.self.now 0 c.self.view_is, size),
       sym (append-nil (stack_at (node_rows names nodes) c.args.at)) ∙ ap (λ ns. stack_at (node_rows names nodes) c.args.at ++ reverse ns) (sym c.new-names.ensures.items),
     )
 
 pub loop-place-preserved : goal.loop-place-preserved
 loop-place-preserved c =
     let names = c.self.inside.names in
-    let nodes = c.self.inside.nodes in
+    let nodes = nodes_of c.self.inside.nodes 0 in
     let place = c.loop-place.place in
     let before = c.loop-place.names.items in
-    let node_is : c.read-node.result.now ≡ at nodes place = read_is nodes place c.read-node.result.now c.loop-place.invariant.0 c.read-node.ensures in
-    let links = c.self.invariant.links place (omega (arith, c.loop-place-test.true)) c.loop-place.invariant.0 in
-    let name_is : c.read.result.now ≡ name_at names c.read-node.result.now.name =
-    get_or_read names c.read-node.result.now.name c.read.result.now (omega (arith, links.1, ap (λ node. node.name) node_is)) c.read.ensures [] in
+    let node_is : c.read-node.result ≡ at nodes place = c.read-node.ensures in
+    let links = (c.self.invariant 0 (omega (arith, c.known.ensures.some))).links place (omega (arith, c.loop-place-test.true)) c.loop-place.invariant.0 in
+    let name_is : c.read.result.now ≡ name_at names c.read-node.result.name =
+    get_or_read names c.read-node.result.name c.read.result.now (omega (arith, links.1, ap (λ node. node.name) node_is)) c.read.ensures [] in
     let name : c.in_ok-name.name ≡ name_at names (at nodes place).name = c.in_ok-name.ensures ∙ name_is ∙ ap (λ node. name_at names node.name) node_is in
     let child = stack_at-child names nodes place (omega (arith, c.loop-place-test.true)) c.loop-place.invariant.0 links.0 in
-    turned_step names nodes c.args.at place c.read-node.result.now.parent before c.push.new.self.items c.in_ok-name.name
+    turned_step names nodes c.args.at place c.read-node.result.parent before c.push.new.self.items c.in_ok-name.name
     (omega (arith, links.0, c.loop-place.invariant.0, ap (λ node. node.parent) node_is))
     c.loop-place.invariant.1 (child ∙ ap (λ p. stack_at (node_rows names nodes) p ++ name_at names (at nodes place).name ∷ []) (sym (ap (λ node. node.parent) node_is))
-    ∙ ap (λ n. stack_at (node_rows names nodes) c.read-node.result.now.parent ++ n ∷ []) (sym name))
+    ∙ ap (λ n. stack_at (node_rows names nodes) c.read-node.result.parent ++ n ∷ []) (sym name))
     c.in_ok-push.ensures.items
 
 pub prove-unreachable-requires : goal.prove-unreachable-requires
 prove-unreachable-requires c =
     let names = c.self.inside.names in
-    let nodes = c.self.inside.nodes in
+    let nodes = nodes_of c.self.inside.nodes 0 in
     let whole = ap length (turned names nodes c.args.at c.loop-place.place c.loop-place.names.items c.loop-place-test.false c.loop-place.invariant.1) in
-    let deep = c.self.invariant.deep c.args.at (omega (arith, c.requires, ap (λ t. length t.nodes) c.self.view_is, length-node_rows names nodes)) in
+    let deep = (c.self.invariant 0 (omega (arith, c.known.ensures.some))).deep c.args.at (omega (arith, c.requires, length-seen names c.self.inside.nodes c.args.self.now 0 c.self.view_is, length-node_rows names nodes)) in
     omega (arith, whole, deep, length-reverse c.loop-place.names.items, c.len-fits.ensures, c.reverse.ensures.len, c.loop-place.names.ok, c.if-prove.true)
 
 pub returns-in-Ok : goal.returns-in-Ok
 returns-in-Ok c =
     let names = c.self.inside.names in
-    let nodes = c.self.inside.nodes in
+    let nodes = nodes_of c.self.inside.nodes 0 in
     c.in-Ok.ensures.1 ∙ c.reverse.ensures.items
     ∙ sym (turned names nodes c.args.at c.loop-place.place c.loop-place.names.items c.loop-place-test.false c.loop-place.invariant.1)
-    ∙ ap (λ t. stack_at t.nodes c.args.at) c.self.view_is
+    ∙ ap (λ rows. stack_at rows c.args.at) (seen names c.self.inside.nodes c.args.self.now 0 c.self.view_is)

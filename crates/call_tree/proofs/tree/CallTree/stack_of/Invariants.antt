@@ -1,12 +1,13 @@
 use Rattle.std.proofs.Common.{◌≡◌, ◌<◌, ◌++◌, length, reverse}
 use Rattle.call_tree.specs.Shape.{node_rows}
+use Rattle.call_tree.specs.Nodes.{nodes_of}
 use Rattle.call_tree.specs.State.{stack_at}
 use Rattle.call_tree.proofs.tree.CallTree.stack_of.Given as goal
 
 -- what is left of the stack stands at the place, and the names so far are its rest, leaf first
 abbrev pub invariant-loop-place : goal.invariant-loop-place
-invariant-loop-place l = (l.place < length l.self-inside.nodes)
-    × (stack_at (node_rows l.self-inside.names l.self-inside.nodes) l.at ≡ stack_at (node_rows l.self-inside.names l.self-inside.nodes) l.place ++ reverse l.names.items)
+invariant-loop-place l = (l.place < length (nodes_of l.self-inside.nodes 0))
+    × (stack_at (node_rows l.self-inside.names (nodes_of l.self-inside.nodes 0)) l.at ≡ stack_at (node_rows l.self-inside.names (nodes_of l.self-inside.nodes 0)) l.place ++ reverse l.names.items)
 
 abbrev pub decreases-loop-place : goal.decreases-loop-place
 decreases-loop-place l = l.place

@@ -4,7 +4,7 @@ use Rattle.std.proofs.lemmas.Result.{err_from_is_err_and}
 use Rattle.folded_text.specs.FoldedText.{IsFoldedText}
 use Rattle.folded_text.proofs.FirstFault.{only_fault}
 use Rattle.folded_text.proofs.Reading.{only_answer}
-use Rattle.folded_text.proofs.folded.read_folded.Goals as goal
+use Rattle.folded_text.proofs.folded.read_stacks.Goals as goal
 
 pub returns-clause-read : goal.returns-clause-read
 returns-clause-read c =

@@ -1,0 +1,147 @@
+//! The home of the nodes with their weights of all values.
+
+ghost use Rattle.std.specs.Prelude.{◌≡◌, ◌<◌, ◌++◌, ◌∷◌, ℕ, List, [], length, map, IfOk, OnOk, OnErr, slice_set, slice_index_or};
+ghost use Rattle.call_tree.specs.declared.node.Node.{Node};
+ghost use Rattle.call_tree.specs.Nodes.{AreAlike, AreTables, nodes_of, without_weights, weighed};
+ghost use Rattle.call_tree.specs.Shape.{at};
+
+use crate::node::{Node, NodeWeights};
+use crate::table::Table;
+use profile_rows::Width;
+use std::alloc::{AllocError, Global};
+use std::marker::Model;
+
+/// Nodes in order. Their links and their weights of value 0 stand together, and the weights of each further value in a
+/// table of its own.
+#[derive(Drop)]
+pub struct Nodes {
+    width: Width,
+    first: Table<Node>,
+    /// For each value after the first what each node weighs, and perhaps some zeros more.
+    others: Vec<Table<NodeWeights>>,
+}
+
+impl Model for Nodes {
+    ghost use Rattle.std.specs.Prelude.{◌≡◌, ◌+◌, ◌∷◌, List, length, map};
+    ghost use Rattle.call_tree.specs.declared.node.Node.{Node};
+    ghost use Rattle.call_tree.specs.Nodes.{AreTables, weighed};
+
+    ghost Value = { List (List Node) };
+
+    ghost view = { λ n. n.first ∷ map (weighed n.first) n.others.items };
+
+    ghost invariant = { λ n. (length n.others.items + 1 ≡ n.width) × AreTables (length n.first) n.others.items };
+}
+
+impl Nodes {
+    /// No nodes. Takes no memory where there is one value.
+    pub fn new(alloc: Global, width: Width) -> Result<Nodes, AllocError>
+        ensures { IfOk result (λ nodes. (length nodes ≡ width) × ((value : ℕ) → nodes_of nodes value ≡ [])) }
+    {
+        let mut others = Vec::new(alloc);
+        for _ in 1..width.get() {
+            others.push(Table::new(alloc))?;
+        }
+        Ok(Nodes {
+            width,
+            first: Table::new(alloc),
+            others,
+        })
+    }
+
+    /// How many values a node has.
+    pub fn width(&self) -> Width
+        ensures { result ≡ length self.now }
+    {
+        self.width
+    }
+
+    /// How many nodes there are.
+    pub fn len(&self) -> usize
+        ensures { result ≡ length (nodes_of self.now 0) }
+    {
+        self.first.len()
+    }
+
+    /// What all nodes keep true, in the words of contracts.
+    pub fn known(&self)
+        ensures { AreAlike self.now }
+    {
+        let _ = &self.first;
+    }
+
+    /// A node with its weights of a value.
+    pub fn read(&self, value: u32, place: usize) -> Node
+        requires value { value < length self.now }
+        requires within { place < length (nodes_of self.now value) }
+        ensures { result ≡ at (nodes_of self.now value) place }
+    {
+        let node = *self.first.read(place);
+        if value == 0 {
+            return node;
+        }
+        let weights = *self.others[value as usize - 1].read(place);
+        Node {
+            parent: node.parent,
+            name: node.name,
+            counts: node.counts,
+            own: weights.own,
+            total: weights.total,
+        }
+    }
+
+    /// Puts a node that differs in its weights alone in place of another, for one value.
+    pub fn replace(&mut self, value: u32, place: usize, node: Node)
+        requires value { value < length self.old }
+        requires within { place < length (nodes_of self.old value) }
+        requires same { without_weights node ≡ without_weights (at (nodes_of self.old value) place) }
+        ensures width { length self.new ≡ length self.old }
+        ensures here { nodes_of self.new value ≡ slice_set (nodes_of self.old value) place node }
+        ensures others { (other : ℕ) → (other ≡ value → ⊥) → nodes_of self.new other ≡ nodes_of self.old other }
+    {
+        if value == 0 {
+            self.first.replace(place, node);
+        } else {
+            let table = &mut self.others[value as usize - 1];
+            table.replace(
+                place,
+                NodeWeights {
+                    own: node.own,
+                    total: node.total,
+                },
+            );
+        }
+    }
+
+    /// One more node of weight 0, at the end.
+    pub fn append(&mut self, node: Node) -> Result<(), AllocError>
+        requires own { node.own ≡ 0 }
+        requires total { node.total ≡ 0 }
+        ensures width { length self.new ≡ length self.old }
+        ensures ok { OnOk result
+            ((value : ℕ) → value < length self.old → nodes_of self.new value ≡ nodes_of self.old value ++ node ∷ []) }
+        ensures err { OnErr result (self.new ≡ self.old) }
+    {
+        take_room(&mut self.others, self.first.len())?;
+        self.first.append(node)?;
+        Ok(())
+    }
+}
+
+/// Room for one more node in each table.
+fn take_room(tables: &mut Vec<Table<NodeWeights>>, size: usize) -> Result<(), AllocError>
+    requires { AreTables size tables.old.items }
+    ensures count { length tables.new.items ≡ length tables.old.items }
+    ensures same { (nodes : List Node) → map (weighed nodes) tables.new.items ≡ map (weighed nodes) tables.old.items }
+    ensures kept { AreTables size tables.new.items }
+    ensures longer { OnOk result
+        ((k : ℕ) → k < length tables.new.items → size < length (slice_index_or tables.new.items k [])) }
+{
+    for index in 0..tables.len() {
+        let table = &mut tables[index];
+        if table.len() == size {
+            table.append(NodeWeights { own: 0, total: 0 })?;
+        }
+    }
+    Ok(())
+}

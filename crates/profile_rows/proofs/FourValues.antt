@@ -1,0 +1,121 @@
+-- Four places for one to four values, and what stands at a place.
+use Rattle.std.proofs.Common.{◌≡◌, ℕ, zero, suc, ◌+◌, ◌<◌, ◌≤◌, List, [], ◌∷◌, ◌++◌, length, get_or, refl, sym, ap, ◌∙◌, arith, take, drop, length-append, length-drop}
+use Rattle.profile_rows.specs.Values.{IsPadded, value_of}
+
+pub value_of-past : (v : ℕ) (values : List ℕ) → length values ≤ v → value_of v values ≡ 0
+value_of-past v [] past = refl
+value_of-past zero (x ∷ values) past = absurd (omega arith)
+value_of-past (suc v) (x ∷ values) past = value_of-past v values (omega arith)
+
+pub value_of-take : (v w : ℕ) (values : List ℕ) → v < w → value_of v (take w values) ≡ value_of v values
+value_of-take v zero values lt = absurd (omega arith)
+value_of-take v (suc w) [] lt = refl
+value_of-take zero (suc w) (x ∷ values) lt = refl
+value_of-take (suc v) (suc w) (x ∷ values) lt = value_of-take v w values (omega arith)
+
+abbrev pub zeros : List ℕ
+zeros = 0 ∷ 0 ∷ 0 ∷ 0 ∷ []
+
+value_of-none : (n v : ℕ) → value_of v (drop n []) ≡ 0
+value_of-none zero v = refl
+value_of-none (suc n) v = refl
+
+value_of-zeros : (n v : ℕ) → value_of v (drop n zeros) ≡ 0
+value_of-zeros zero zero = refl
+value_of-zeros zero (suc zero) = refl
+value_of-zeros zero (suc (suc zero)) = refl
+value_of-zeros zero (suc (suc (suc zero))) = refl
+value_of-zeros zero (suc (suc (suc (suc v)))) = refl
+value_of-zeros (suc zero) zero = refl
+value_of-zeros (suc zero) (suc zero) = refl
+value_of-zeros (suc zero) (suc (suc zero)) = refl
+value_of-zeros (suc zero) (suc (suc (suc v))) = refl
+value_of-zeros (suc (suc zero)) zero = refl
+value_of-zeros (suc (suc zero)) (suc zero) = refl
+value_of-zeros (suc (suc zero)) (suc (suc v)) = refl
+value_of-zeros (suc (suc (suc zero))) zero = refl
+value_of-zeros (suc (suc (suc zero))) (suc v) = refl
+value_of-zeros (suc (suc (suc (suc n)))) v = value_of-none n v
+
+value_of-append_zeros : (n v : ℕ) (values : List ℕ) → value_of v (values ++ drop n zeros) ≡ value_of v values
+value_of-append_zeros n v [] = value_of-zeros n v
+value_of-append_zeros n zero (x ∷ values) = refl
+value_of-append_zeros n (suc v) (x ∷ values) = value_of-append_zeros n v values
+
+-- the values past the width are 0 in the places too
+pub value_of-padded : (v w : ℕ) (places : List ℕ) → IsPadded w places → value_of v (take w places) ≡ value_of v places
+value_of-padded v w places is =
+    sym (value_of-append_zeros (length (take w places)) v (take w places)) ∙ ap (value_of v) is.rest
+
+pub four_places : (w : ℕ) (places : List ℕ) → IsPadded w places → length places ≡ 4
+four_places w places is =
+    let few = is.few in
+    let taken = is.taken in
+    let sizes = length-append (take w places) (drop (length (take w places)) zeros) in
+    let left = length-drop (length (take w places)) zeros in
+    let whole = ap length is.rest in
+    omega arith
+
+-- four places of which those past the width hold 0
+pub IsPadded-places : (w a b c d : ℕ) → 0 < w → w ≤ 4 → ((v : ℕ) → w ≤ v → value_of v (a ∷ b ∷ c ∷ d ∷ []) ≡ 0)
+    → IsPadded w (a ∷ b ∷ c ∷ d ∷ [])
+IsPadded-places zero a b c d some few past = absurd (omega arith)
+IsPadded-places (suc zero) a b c d some few past = record {
+  some = some;
+  few = few;
+  taken = refl;
+  rest = λ i. a ∷ sym (past 1 (omega arith)) i ∷ sym (past 2 (omega arith)) i ∷ sym (past 3 (omega arith)) i ∷ [];
+}
+IsPadded-places (suc (suc zero)) a b c d some few past = record {
+  some = some;
+  few = few;
+  taken = refl;
+  rest = λ i. a ∷ b ∷ sym (past 2 (omega arith)) i ∷ sym (past 3 (omega arith)) i ∷ [];
+}
+IsPadded-places (suc (suc (suc zero))) a b c d some few past = record {
+  some = some;
+  few = few;
+  taken = refl;
+  rest = λ i. a ∷ b ∷ c ∷ sym (past 3 (omega arith)) i ∷ [];
+}
+IsPadded-places (suc (suc (suc (suc zero)))) a b c d some few past = record { some = some; few = few; taken = refl; rest = refl }
+IsPadded-places (suc (suc (suc (suc (suc w))))) a b c d some few past = absurd (omega arith)
+
+-- ---- two rows of four places, added place by place
+
+module _ (w : ℕ) (xs ys : List ℕ) (x : IsPadded w xs) (y : IsPadded w ys) where
+  abbrev pub added : List ℕ
+  added = (get_or xs 0 0 + get_or ys 0 0) ∷ (get_or xs 1 0 + get_or ys 1 0) ∷ (get_or xs 2 0 + get_or ys 2 0)
+      ∷ (get_or xs 3 0 + get_or ys 3 0) ∷ []
+
+  pub value_of-added : (v : ℕ) → value_of v added ≡ value_of v xs + value_of v ys
+  value_of-added zero = refl
+  value_of-added (suc zero) = refl
+  value_of-added (suc (suc zero)) = refl
+  value_of-added (suc (suc (suc zero))) = refl
+  value_of-added (suc (suc (suc (suc v)))) =
+      let of_x = four_places w xs x in
+      let of_y = four_places w ys y in
+      let no_x = value_of-past (suc (suc (suc (suc v)))) xs (omega arith) in
+      let no_y = value_of-past (suc (suc (suc (suc v)))) ys (omega arith) in
+      omega arith
+
+  past-width : (v : ℕ) (places : List ℕ) → IsPadded w places → w ≤ v → value_of v places ≡ 0
+  past-width v places is past =
+      let taken = is.taken in
+      sym (value_of-padded v w places is) ∙ value_of-past v (take w places) (omega arith)
+
+  pub IsPadded-added : IsPadded w added
+  IsPadded-added = IsPadded-places w _ _ _ _ x.some x.few (λ v past.
+      let no_x = past-width v xs x past in
+      let no_y = past-width v ys y past in
+      let both = value_of-added v in
+      omega arith)
+
+  pub value_of-sums : (v : ℕ) → value_of v (take w added) ≡ value_of v (take w xs) + value_of v (take w ys)
+  value_of-sums v =
+      let sums = value_of-padded v w added IsPadded-added in
+      let of_x = value_of-padded v w xs x in
+      let of_y = value_of-padded v w ys y in
+      let both = value_of-added v in
+      omega arith

@@ -1,0 +1,227 @@
+-- Rows of several values that are kept as stacks with their first values, and the other values in one list.
+use Rattle.std.proofs.Common.{◌≡◌, ℕ, zero, suc, ◌+◌, ◌-◌, ◌*◌, ◌^◌, ◌<◌, ◌≤◌, List, [], ◌∷◌, ◌++◌, length, get_or, refl, sym, ap, ◌∙◌, subst, arith, take, drop, length-append, length-drop, take_all}
+use Rattle.std.proofs.lemmas.List.{drop-append-le, take-append-le, length-take-le, map-append}
+use Rattle.std.specs.List.{All}
+use Rattle.std.proofs.lemmas.List.Sums.{sum_by_push, sum_by-cons}
+use Rattle.profile_rows.specs.declared.weighted_stacks.WeightedStack.{WeightedStack}
+use Rattle.profile_rows.specs.Rows.{total_of}
+use Rattle.profile_rows.specs.Values.{AreParts, AreTotals, BatchState, HasRoom, IsBatch, Row, batch_with, row_in, rows_at, single, singles, value_of, weighing, with_values}
+use Rattle.profile_rows.proofs.FourValues.{value_of-past}
+
+abbrev pub row_with : List (List ℕ) → List ℕ → Row
+row_with stack weights = record { stack = stack; weights = weights }
+
+pub suc_times : (n m : ℕ) → suc n * m ≡ m + n * m
+suc_times n m = omega arith
+
+pub rows_at-with_values : (m : ℕ) (rows : List WeightedStack) (values : List ℕ) → rows_at 0 (with_values m rows values) ≡ rows
+rows_at-with_values m [] values = refl
+rows_at-with_values m (row ∷ rows) values = ap (λ rest. row ∷ rest) (rows_at-with_values m rows (drop m values))
+
+pub length-with_values : (m : ℕ) (rows : List WeightedStack) (values : List ℕ) → length (with_values m rows values) ≡ length rows
+length-with_values m [] values = refl
+length-with_values m (row ∷ rows) values = ap suc (length-with_values m rows (drop m values))
+
+pub no_times : (m : ℕ) → 0 * m ≡ 0
+no_times m = omega arith
+
+pub empty_list : (values : List ℕ) → length values ≡ 0 → values ≡ []
+empty_list [] none = refl
+empty_list (x ∷ values) none = absurd (omega arith)
+
+pub with_values-push : (m : ℕ) (rows : List WeightedStack) (values : List ℕ) (row : WeightedStack) (more : List ℕ)
+    → length values ≡ length rows * m → length more ≡ m
+    → with_values m (rows ++ row ∷ []) (values ++ more)
+    ≡ with_values m rows values ++ (record { stack = row.stack; weights = row.weight ∷ more }) ∷ []
+with_values-push m [] values row more sizes size =
+    ap (λ front. row_with row.stack (row.weight ∷ take m (front ++ more)) ∷ []) (empty_list values (sizes ∙ no_times m))
+    ∙ ap (λ l. row_with row.stack (row.weight ∷ l) ∷ []) (take_all m more (omega arith))
+with_values-push m (first ∷ rows) values row more sizes size =
+    let times = suc_times (length rows) m in
+    let left = length-drop m values in
+    let front = take-append-le m values more (omega arith) in
+    let back = drop-append-le m values more (omega arith) in
+    let rest = with_values-push m rows (drop m values) row more (omega arith) size in
+    λ i. row_with first.stack (first.weight ∷ front i)
+    ∷ (ap (with_values m (rows ++ row ∷ [])) back ∙ rest) i
+
+drop_none : {X : Type 0} (n : ℕ) → drop {A = X} n [] ≡ []
+drop_none zero = refl
+drop_none (suc n) = refl
+
+drops : {X : Type 0} (a b n : ℕ) (l : List X) → n ≡ a + b → drop b (drop a l) ≡ drop n l
+drops zero b n l whole = let same : b ≡ n = omega arith in ap (λ n. drop n l) same
+drops (suc a) b n [] whole = drop_none b ∙ sym (drop_none n)
+drops (suc a) b zero (x ∷ l) whole = absurd (omega arith)
+drops (suc a) b (suc n) (x ∷ l) whole = drops a b n l (omega arith)
+
+-- the stack and the values of a row
+pub row_in-with_values : (m : ℕ) (rows : List WeightedStack) (values : List ℕ) (k : ℕ) (d : WeightedStack) → k < length rows
+    → row_in (with_values m rows values) k
+    ≡ record { stack = (get_or rows k d).stack; weights = (get_or rows k d).weight ∷ take m (drop (k * m) values) }
+row_in-with_values m [] values k d lt = absurd (omega arith)
+row_in-with_values m (row ∷ rows) values zero d lt =
+    ap (λ n. row_with row.stack (row.weight ∷ take m (drop n values))) (sym (no_times m))
+row_in-with_values m (row ∷ rows) values (suc k) d lt =
+    let times = suc_times k m in
+    row_in-with_values m rows (drop m values) k d (omega arith)
+    ∙ ap (λ l. row_with (get_or rows k d).stack ((get_or rows k d).weight ∷ take m l)) (drops m (k * m) (suc k * m) values times)
+
+-- ---- totals
+
+pub total_of-push : (value : ℕ) (rows : List Row) (row : Row) → total_of (rows_at value (rows ++ row ∷ [])) ≡ total_of (rows_at value rows) + value_of value row.weights
+total_of-push value rows row =
+    ap total_of (map-append (weighing value) rows (row ∷ [])) ∙ sum_by_push (λ (row : WeightedStack). row.weight) (rows_at value rows) (weighing value row)
+
+pub width-with_values : (m : ℕ) (rows : List WeightedStack) (values : List ℕ) → length values ≡ length rows * m
+    → All (λ row. length row.weights ≡ m + 1) (with_values m rows values)
+width-with_values m [] values sizes k d lt = absurd (omega arith)
+width-with_values m (row ∷ rows) values sizes zero d lt =
+    let times = suc_times (length rows) m in
+    let front = length-take-le m values (omega arith) in
+    omega arith
+width-with_values m (row ∷ rows) values sizes (suc k) d lt =
+    let times = suc_times (length rows) m in
+    let left = length-drop m values in
+    width-with_values m rows (drop m values) (omega arith) k d (omega arith)
+
+-- ---- rows of one value
+
+pub with_values-single : (rows : List WeightedStack) → with_values 0 rows [] ≡ singles rows
+with_values-single [] = refl
+with_values-single (row ∷ rows) = ap (λ rest. single row ∷ rest) (with_values-single rows)
+
+pub total_of-past : (value : ℕ) (rows : List Row) (width : ℕ) → All (λ row. length row.weights ≡ width) rows → width ≤ value → total_of (rows_at value rows) ≡ 0
+total_of-past value [] width widths past = refl
+total_of-past value (row ∷ rows) width widths past =
+    let cons = sum_by-cons (λ (row : WeightedStack). row.weight) (weighing value row) (rows_at value rows) in
+    let size = widths 0 row (omega arith) in
+    let none = value_of-past value row.weights (omega arith) in
+    let rest = total_of-past value rows width (λ k d lt. widths (suc k) d (omega arith)) past in
+    omega arith
+
+pub single-AreParts : (rows : List WeightedStack) → total_of rows < 2 ^ 63 → AreParts (total_of rows ∷ []) rows []
+single-AreParts rows fits = (sym (times_none (length rows)), batch, are)
+  where
+    times_none : (n : ℕ) → n * 0 ≡ 0
+    times_none n = omega arith
+
+    totals : (value : ℕ) → value_of value (total_of rows ∷ []) ≡ total_of (rows_at value (with_values 0 rows []))
+    totals zero = ap total_of (sym (rows_at-with_values 0 rows []))
+    totals (suc value) = sym (total_of-past (suc value) (with_values 0 rows []) 1 (width-with_values 0 rows [] (sym (times_none (length rows)))) (omega arith))
+
+    below : (value : ℕ) → value_of value (total_of rows ∷ []) < 2 ^ 63
+    below zero = fits
+    below (suc value) = omega arith
+
+    batch : IsBatch (batch_with (total_of rows ∷ []) rows [])
+    batch = record {
+      some = omega arith;
+      few = omega arith;
+      widths = width-with_values 0 rows [] (sym (times_none (length rows)));
+      fits = λ value. subst (λ n. n < 2 ^ 63) (totals value) (below value);
+    }
+
+    are : AreTotals (batch_with (total_of rows ∷ []) rows []) (total_of rows ∷ [])
+    are = record { width = refl; each = totals }
+
+-- ---- one row more
+
+whole_weights : (weights : List ℕ) → 0 < length weights → value_of 0 weights ∷ drop 1 weights ≡ weights
+whole_weights [] some = absurd (omega arith)
+whole_weights (w ∷ weights) some = refl
+
+All-push : {X : Type 0} (P : X → Type 0) (xs : List X) (x : X) → All P xs → P x → All P (xs ++ x ∷ [])
+All-push P [] x all last zero d lt = last
+All-push P [] x all last (suc k) d lt = absurd (omega arith)
+All-push P (y ∷ xs) x all last zero d lt = all 0 d (omega arith)
+All-push P (y ∷ xs) x all last (suc k) d lt = All-push P xs x (λ k d lt. all (suc k) d (omega arith)) last k d (omega arith)
+
+module _ (totals : List ℕ) (rows : List WeightedStack) (values : List ℕ) (sizes : length values ≡ length rows * (length totals - 1))
+    (batch : IsBatch (batch_with totals rows values)) (are : AreTotals (batch_with totals rows values) totals)
+    (stack : List (List ℕ)) (weights : List ℕ) (width : length weights ≡ length totals)
+    (room : (value : ℕ) → HasRoom (batch_with totals rows values) weights value)
+    (sums : List ℕ) (size : length sums ≡ length totals)
+    (added : (value : ℕ) → value_of value sums ≡ value_of value totals + value_of value weights) where
+  abbrev pub pushed : BatchState
+  pushed = record {
+    width = length totals;
+    rows = with_values (length totals - 1) rows values ++ row_with stack weights ∷ [];
+  }
+
+  pub batch_with-push : batch_with sums (rows ++ (record { stack = stack; weight = value_of 0 weights }) ∷ []) (values ++ drop 1 weights) ≡ pushed
+  batch_with-push =
+      let some = batch.some in
+      let more : length (drop 1 weights) ≡ length totals - 1 = let d = length-drop 1 weights in omega arith in
+      let rest = with_values-push (length totals - 1) rows values (record { stack = stack; weight = value_of 0 weights }) (drop 1 weights) sizes more in
+      let whole = whole_weights weights (omega arith) in
+      (λ i. record { width = size i; rows = with_values (size i - 1) (rows ++ (record { stack = stack; weight = value_of 0 weights }) ∷ []) (values ++ drop 1 weights) })
+      ∙ (λ i. record { width = length totals; rows = rest i })
+      ∙ (λ i. record { width = length totals; rows = with_values (length totals - 1) rows values ++ row_with stack (whole i) ∷ [] })
+
+  pub pushed-sizes : length (values ++ drop 1 weights) ≡ length (rows ++ (record { stack = stack; weight = value_of 0 weights }) ∷ []) * (length sums - 1)
+  pushed-sizes =
+      let some = batch.some in
+      let d = length-drop 1 weights in
+      let left = length-append values (drop 1 weights) in
+      let longer = length-append rows ((record { stack = stack; weight = value_of 0 weights }) ∷ []) in
+      let times = suc_times (length rows) (length totals - 1) in
+      let here : length (values ++ drop 1 weights) ≡ suc (length rows) * (length totals - 1) = omega arith in
+      here ∙ (λ i. longer_is longer i * (sym size i - 1))
+    where
+      longer_is : {n : ℕ} → n ≡ length rows + 1 → suc (length rows) ≡ n
+      longer_is e = omega arith
+
+  pub pushed-IsBatch : IsBatch pushed
+  pushed-IsBatch = record {
+    some = batch.some;
+    few = batch.few;
+    widths = All-push (λ row. length row.weights ≡ length totals) (with_values (length totals - 1) rows values) (row_with stack weights) batch.widths width;
+    fits = λ value.
+        let more = total_of-push value (with_values (length totals - 1) rows values) (row_with stack weights) in
+        let has_room = room value in
+        omega arith;
+  }
+
+  pub pushed-AreTotals : AreTotals pushed sums
+  pushed-AreTotals = record {
+    width = size;
+    each = λ value.
+        let more = total_of-push value (with_values (length totals - 1) rows values) (row_with stack weights) in
+        let before = are.each value in
+        let sum = added value in
+        omega arith;
+  }
+
+  pub pushed-AreParts : AreParts sums (rows ++ (record { stack = stack; weight = value_of 0 weights }) ∷ []) (values ++ drop 1 weights)
+  pushed-AreParts = (
+    pushed-sizes,
+    subst IsBatch (sym batch_with-push) pushed-IsBatch,
+    subst (λ b. AreTotals b sums) (sym batch_with-push) pushed-AreTotals,
+  )
+
+-- ---- reading
+
+-- the values of a row lie within those of all rows
+pub times_within : (at n m : ℕ) → at < n → at * m + m ≤ n * m
+times_within at zero m lt = absurd (omega arith)
+times_within zero (suc n) m lt =
+    let none = no_times m in
+    let times = suc_times n m in
+    omega arith
+times_within (suc at) (suc n) m lt =
+    let here = suc_times at m in
+    let times = suc_times n m in
+    let rest = times_within at n m (omega arith) in
+    omega arith
+
+module _ (totals : List ℕ) (rows : List WeightedStack) (values : List ℕ) (batch : BatchState)
+    (seen : batch_with totals rows values ≡ batch) where
+  pub seen-length : length rows ≡ length batch.rows
+  seen-length = sym (length-with_values (length totals - 1) rows values) ∙ ap (λ (b : BatchState). length b.rows) seen
+
+  pub seen-row : (at : ℕ) (d : WeightedStack) → at < length rows
+      → row_with (get_or rows at d).stack ((get_or rows at d).weight ∷ take (length totals - 1) (drop (at * (length totals - 1)) values))
+      ≡ row_in batch.rows at
+  seen-row at d lt =
+      sym (row_in-with_values (length totals - 1) rows values at d lt) ∙ ap (λ (b : BatchState). row_in b.rows at) seen

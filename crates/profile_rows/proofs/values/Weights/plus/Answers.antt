@@ -1,0 +1,34 @@
+-- Values are added place by place.
+use Rattle.std.proofs.Common.{◌≡◌, ◌+◌, length, take, ap, sym, ◌∙◌, subst, arith}
+use Rattle.profile_rows.specs.Values.{IsPadded, value_of}
+use Rattle.profile_rows.proofs.FourValues.{IsPadded-added, value_of-sums}
+use Rattle.profile_rows.proofs.values.Weights.plus.Goals as goal
+
+-- both have the width of the first
+widths : (c : goal.After-result-5-1) → c.more.inside.width ≡ c.self.inside.width
+widths c =
+    let widths = c.requires.width in
+    let one = ap length c.self.view_is in
+    let other = ap length c.more.view_is in
+    let taken = c.self.invariant.taken in
+    let other_taken = c.more.invariant.taken in
+    omega arith
+
+more_padded : (c : goal.After-result-5-1) → IsPadded c.self.inside.width c.more.inside.values
+more_padded c = subst (λ w. IsPadded w c.more.inside.values) (widths c) c.more.invariant
+
+pub invariant_of-result : goal.invariant_of-result
+invariant_of-result c =
+    IsPadded-added c.self.inside.width c.self.inside.values c.more.inside.values c.self.invariant (more_padded c)
+
+pub returns-clause-width : goal.returns-clause-width
+returns-clause-width c =
+    let kept = IsPadded-added c.self.inside.width c.self.inside.values c.more.inside.values c.self.invariant (more_padded c) in
+    kept.taken ∙ sym c.self.invariant.taken ∙ ap length c.self.view_is
+
+pub returns-clause-each : goal.returns-clause-each
+returns-clause-each c = λ value.
+    let sums = value_of-sums c.self.inside.width c.self.inside.values c.more.inside.values c.self.invariant (more_padded c) value in
+    let one = ap (value_of value) c.self.view_is in
+    let other = ap (λ w. value_of value (take w c.more.inside.values)) (sym (widths c)) ∙ ap (value_of value) c.more.view_is in
+    sums ∙ (λ i. one i + other i)

@@ -1,0 +1,196 @@
+//! The values of a row: one to four.
+
+ghost use Rattle.std.specs.Prelude.{ℕ, ◌≡◌, ◌+◌, ◌^◌, ◌<◌, ◌≤◌, ◌⊎◌, ◌∷◌, ◌↔◌, IsTrue, MatchOption, drop, length};
+ghost use Rattle.profile_rows.specs.Aggregate.{HasWeight};
+ghost use Rattle.profile_rows.specs.Values.{IsFirstHeavy, value_of};
+
+use crate::weighted_stacks::MAX_TOTAL;
+use std::marker::Model;
+
+/// The most values of a row.
+pub const MAX_WIDTH: u32 = 4;
+
+/// How many values a row has: 1 to [`MAX_WIDTH`].
+#[derive(Clone, Copy, Debug, PartialEq, Eq)]
+pub struct Width {
+    count: u32,
+}
+
+impl Model for Width {
+    ghost use Rattle.std.specs.Prelude.{ℕ, ◌<◌, ◌≤◌};
+
+    ghost Value = { ℕ };
+
+    ghost view = { λ w. w.count };
+
+    ghost invariant = { λ w. (0 < w.count) × (w.count ≤ 4) };
+
+    ghost inverse = { λ n. record { count = n } };
+}
+
+impl Width {
+    /// So many values; nothing exactly where there are none or more than [`MAX_WIDTH`].
+    pub fn new(count: u32) -> Option<Width>
+        ensures { MatchOption result ((count ≡ 0) ⊎ (MAX_WIDTH < count))
+            (λ width. (width ≡ count) × (0 < count) × (count ≤ MAX_WIDTH)) }
+    {
+        if count == 0 || count > MAX_WIDTH {
+            return None;
+        }
+        Some(Width { count })
+    }
+
+    /// One value: what folded text has.
+    pub fn one() -> Width
+        ensures { result ≡ 1 }
+    {
+        Width { count: 1 }
+    }
+
+    /// How many there are.
+    pub fn get(&self) -> u32
+        ensures count { result ≡ self.now }
+        ensures some { 0 < self.now }
+        ensures few { self.now ≤ MAX_WIDTH }
+    {
+        self.count
+    }
+}
+
+/// The values of a row, in order: 1 to [`MAX_WIDTH`] of them.
+#[derive(Clone, Copy, Debug)]
+pub struct Weights {
+    width: Width,
+    /// The values, and 0 past the width.
+    values: [u64; 4],
+}
+
+impl Model for Weights {
+    ghost use Rattle.std.specs.Prelude.{List, ℕ, ◌≡◌, ◌<◌, ◌≤◌, take, length};
+    ghost use Rattle.profile_rows.specs.Values.{IsPadded, padded};
+
+    ghost Value = { List ℕ };
+
+    ghost view = { λ w. take w.width w.values };
+
+    ghost invariant = { λ w. IsPadded w.width w.values };
+
+    ghost inverse = { λ values. record { width = length values; values = padded values } };
+
+    ghost inverse_ok = { λ w kept i. record { width = kept.taken i; values = kept.rest i } };
+}
+
+impl Weights {
+    /// The values, where there are 1 to [`MAX_WIDTH`]; nothing exactly where there are none or more. Takes no memory.
+    pub fn make(values: &[u64]) -> Option<Weights>
+        ensures { MatchOption result ((length values.now ≡ 0) ⊎ (MAX_WIDTH < length values.now))
+            (λ weights. (weights ≡ values.now) × (0 < length values.now) × (length values.now ≤ MAX_WIDTH)) }
+    {
+        let width = Width::new(u32::try_from(values.len()).ok()?)?;
+        let mut held = [0; 4];
+        held[..values.len()].copy_from_slice(values);
+        Some(Weights {
+            width,
+            values: held,
+        })
+    }
+
+    /// As many zeros as the width says.
+    pub(crate) fn zero(width: Width) -> Weights
+        ensures width { length result ≡ width }
+        ensures zero { (value : ℕ) → value_of value result ≡ 0 }
+    {
+        Weights {
+            width,
+            values: [0; 4],
+        }
+    }
+
+    /// A first value and up to three others.
+    pub(crate) fn join(first: u64, others: &[u64]) -> Weights
+        requires { length others.now < 4 }
+        ensures { result ≡ first ∷ others.now }
+    {
+        let mut values = [first, 0, 0, 0];
+        values[1..others.len() + 1].copy_from_slice(others);
+        Weights {
+            width: Width {
+                count: others.len() as u32 + 1,
+            },
+            values,
+        }
+    }
+
+    /// These values and as many others, added one by one.
+    pub(crate) fn plus(&self, more: &Weights) -> Weights
+        requires width { length self.now ≡ length more.now }
+        requires fits { (value : ℕ) → value_of value self.now + value_of value more.now < 2 ^ 63 }
+        ensures width { length result ≡ length self.now }
+        ensures each { (value : ℕ) → value_of value result ≡ value_of value self.now + value_of value more.now }
+    {
+        let [first, second, third, fourth] = self.values;
+        Weights {
+            width: self.width,
+            values: [
+                first + more.values[0],
+                second + more.values[1],
+                third + more.values[2],
+                fourth + more.values[3],
+            ],
+        }
+    }
+
+    /// The values, in order.
+    pub fn values(&self) -> &[u64]
+        ensures values { result.now ≡ self.now }
+        ensures some { 0 < length self.now }
+        ensures few { length self.now ≤ MAX_WIDTH }
+    {
+        &self.values[..self.width.get() as usize]
+    }
+
+    /// The values but the first.
+    pub(crate) fn rest(&self) -> &[u64]
+        ensures { result.now ≡ drop 1 self.now }
+    {
+        let values = self.values();
+        &values[1..]
+    }
+
+    /// Whether some value is above 0.
+    pub(crate) fn weighs_something(&self) -> bool
+        ensures { IsTrue result ↔ HasWeight self.now }
+    {
+        self.values().iter().any(|value| *value > 0)
+    }
+
+    /// How many values there are.
+    pub fn width(&self) -> Width
+        ensures { result ≡ length self.now }
+    {
+        self.width
+    }
+
+    /// The value of this number, counted from 0.
+    pub fn value(&self, value: u32) -> u64
+        requires { value < length self.now }
+        ensures { result ≡ value_of value self.now }
+    {
+        self.values[value as usize]
+    }
+}
+
+/// The lowest value at which these weights and those pass [`MAX_TOTAL`] together; nothing where none does.
+pub fn first_heavy(held: &Weights, more: &Weights) -> Option<u32>
+    requires width { length held.now ≡ length more.now }
+    requires fits { (value : ℕ) → value_of value held.now < 2 ^ 63 }
+    ensures { MatchOption result ((value : ℕ) → value_of value held.now + value_of value more.now < 2 ^ 63)
+        (λ value. (value < length held.now) × IsFirstHeavy held.now more.now value) }
+{
+    for value in 0..held.width().get() {
+        if more.value(value) > MAX_TOTAL - held.value(value) {
+            return Some(value);
+        }
+    }
+    None
+}

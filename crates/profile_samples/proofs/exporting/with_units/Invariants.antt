@@ -1,0 +1,8 @@
+use Rattle.std.proofs.Common.{◌≡◌, take}
+use Rattle.profile_samples.specs.Export.{pairs_of, unit_texts}
+use Rattle.profile_samples.specs.TextTables.{with_texts}
+use Rattle.profile_samples.proofs.exporting.with_units.Given as goal
+
+-- the table with the kinds and units so far
+abbrev pub invariant-loop-unit : goal.invariant-loop-unit
+invariant-loop-unit l = l.table ≡ with_texts l.initial.table (unit_texts (pairs_of (take l.unit-index l.units)))

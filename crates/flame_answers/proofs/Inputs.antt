@@ -12,8 +12,9 @@ use Rattle.profile_samples.specs.declared.sampling.BatchFault.{BatchFault}
 use Rattle.profile_samples.specs.declared.sampling.BatchFault.TheVariants as batch
 use Rattle.profile_samples.specs.declared.sampling.ValueChoice.{ValueChoice}
 use Rattle.profile_samples.specs.declared.sampling.ValueChoice.TheVariants.{Default, Named}
+use Rattle.profile_samples.specs.declared.sampling.ValueChoice.TheVariants as choices
 use Rattle.folded_text.specs.FoldedText.{IsFirstFault, IsFoldedText, IsWorkFault}
-use Rattle.profile_samples.specs.Samples.{IsBatchOf, IsFirstBatchFault, chosen_type_of, type_named}
+use Rattle.profile_samples.specs.Samples.{AreStacksOf, IsFirstStacksFault, chosen_type_of, type_named}
 use Rattle.profile_samples.specs.MergedSamples.{IsMergedBatch}
 use Rattle.folded_text.specs.TextSums.{IsMergedText}
 use Rattle.flame_report.specs.Answers.{answer_by, kept_by}
@@ -90,27 +91,32 @@ profile_refused value input profile.NoMemory first drafts = tt
 -- a choice is by its text alone
 same_choice : (draft : Draft) (value : Option (List ℕ)) (one other : ValueChoice) → IsChoice value one → IsChoice value other → chosen_type_of draft one ≡ chosen_type_of draft other
 same_choice draft None Default Default a b = refl
+same_choice draft None Default choices.All a b = absurd b
+same_choice draft None choices.All other a b = absurd a
 same_choice draft None Default (Named text) a b = absurd b
 same_choice draft None (Named text) other a b = absurd a
 same_choice draft (Some value) Default other a b = absurd a
+same_choice draft (Some value) choices.All other a b = absurd a
 same_choice draft (Some value) (Named text) Default a b = absurd b
+same_choice draft (Some value) (Named text) choices.All a b = absurd b
 same_choice draft (Some value) (Named text) (Named also) a b = ap (type_named draft) (a ∙ sym b)
 
-same_rows : (draft : Draft) (value : Option (List ℕ)) (one other : ValueChoice) (rows : List WeightedStack) → IsChoice value one → IsChoice value other → IsBatchOf draft one rows → IsBatchOf draft other rows
+same_rows : (draft : Draft) (value : Option (List ℕ)) (one other : ValueChoice) (rows : List WeightedStack) → IsChoice value one → IsChoice value other → AreStacksOf draft one rows → AreStacksOf draft other rows
 same_rows draft value one other rows a b this =
     record { chosen = this.chosen; is_chosen = sym (same_choice draft value one other a b) ∙ this.is_chosen; rows_samples = this.rows_samples; total_fits = this.total_fits }
 
 refused_batch : (value : Option (List ℕ)) (input : List ℕ) (draft : Draft) (choice : ValueChoice) (fault : BatchFault) → IsProfile input draft → ((other : Draft) → IsProfile input other → draft ≡ other)
-    → IsChoice value choice → IsFirstBatchFault draft choice fault → ((rows : List WeightedStack) → IsBatchOf draft choice rows → fault ≡ batch.NoMemory) → fault ≢ batch.NoMemory
+    → IsChoice value choice → IsFirstStacksFault draft choice fault → ((rows : List WeightedStack) → AreStacksOf draft choice rows → fault ≡ batch.NoMemory) → fault ≢ batch.NoMemory
     → IsFaultIn Pprof value input (tool.Batch fault) × HasNoRows Pprof value input
 refused_batch value input draft choice fault is only chosen first rows other = (
   (record { draft = draft; profile = is; choice = choice; chosen = chosen; first = first }, other),
-  λ found this. other (rows found (same_rows draft value this.choice choice found this.chosen chosen (subst (λ d. IsBatchOf d this.choice found) (sym (only this.draft this.profile)) this.sampled))),
+  λ found this. other (rows found (same_rows draft value this.choice choice found this.chosen chosen (subst (λ d. AreStacksOf d this.choice found) (sym (only this.draft this.profile)) this.sampled))),
 )
 
 pub batch_refused : (value : Option (List ℕ)) (input : List ℕ) (draft : Draft) (choice : ValueChoice) (fault : BatchFault) → IsProfile input draft → ((other : Draft) → IsProfile input other → draft ≡ other)
-    → IsChoice value choice → IsFirstBatchFault draft choice fault → ((rows : List WeightedStack) → IsBatchOf draft choice rows → fault ≡ batch.NoMemory) → IsRefusedIn Pprof value input (batch_fault_of fault)
+    → IsChoice value choice → IsFirstStacksFault draft choice fault → ((rows : List WeightedStack) → AreStacksOf draft choice rows → fault ≡ batch.NoMemory) → IsRefusedIn Pprof value input (batch_fault_of fault)
 batch_refused value input draft choice batch.NoValue is only chosen first rows = refused_batch value input draft choice batch.NoValue is only chosen first rows (λ e. cc)
+batch_refused value input draft choice (batch.Width count) is only chosen first rows = absurd first
 batch_refused value input draft choice (batch.Negative at) is only chosen first rows = refused_batch value input draft choice (batch.Negative at) is only chosen first rows (λ e. cc)
 batch_refused value input draft choice (batch.Depth at) is only chosen first rows = refused_batch value input draft choice (batch.Depth at) is only chosen first rows (λ e. cc)
 batch_refused value input draft choice (batch.Heavy at) is only chosen first rows = refused_batch value input draft choice (batch.Heavy at) is only chosen first rows (λ e. cc)

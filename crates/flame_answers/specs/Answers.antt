@@ -12,11 +12,12 @@ use Rattle.profile_samples.specs.declared.sampling.BatchFault.{BatchFault}
 use Rattle.profile_samples.specs.declared.sampling.BatchFault.TheVariants as batch
 use Rattle.profile_samples.specs.declared.sampling.ValueChoice.{ValueChoice}
 use Rattle.profile_samples.specs.declared.sampling.ValueChoice.TheVariants.{Default, Named}
+use Rattle.profile_samples.specs.declared.sampling.ValueChoice.TheVariants as choices
 use Rattle.profile_rows.specs.Aggregate.{aggregate_of}
 use Rattle.pprof_profile.specs.Canonical.{canonical_bytes_of}
 use Rattle.profile_samples.specs.Export.{single_profile_of}
 use Rattle.folded_text.specs.FoldedText.{IsFirstFault, IsFoldedText}
-use Rattle.profile_samples.specs.Samples.{IsBatchOf, IsFirstBatchFault}
+use Rattle.profile_samples.specs.Samples.{AreStacksOf, IsFirstStacksFault}
 use Rattle.profile_rows.specs.TopList.{top_text_of}
 use Rattle.flame_report.specs.declared.answer.Answer.{Answer}
 use Rattle.flame_report.specs.declared.answer.Answer.TheVariants as answer
@@ -38,6 +39,7 @@ IsChoice None Default = ⊤
 IsChoice None (Named text) = ⊥
 IsChoice (Some value) Default = ⊥
 IsChoice (Some value) (Named text) = text.now ≡ value
+IsChoice value choices.All = ⊥
 
 -- the rows of the samples of the profile that bytes are
 pub record AreProfileRows (value : Option (List ℕ)) (input : List ℕ) (rows : List WeightedStack) : Type 0 where
@@ -45,7 +47,7 @@ pub record AreProfileRows (value : Option (List ℕ)) (input : List ℕ) (rows :
   pub profile : IsProfile input draft
   pub choice : ValueChoice
   pub chosen : IsChoice value choice
-  pub sampled : IsBatchOf draft choice rows
+  pub sampled : AreStacksOf draft choice rows
 
 -- the rows of an input of a format
 abbrev pub AreRowsIn : Format → Option (List ℕ) → List ℕ → List WeightedStack → Type 0
@@ -93,7 +95,7 @@ pub record HasBatchFault (value : Option (List ℕ)) (input : List ℕ) (fault :
   pub profile : IsProfile input draft
   pub choice : ValueChoice
   pub chosen : IsChoice value choice
-  pub first : IsFirstBatchFault draft choice fault
+  pub first : IsFirstStacksFault draft choice fault
 
 -- the first fault of an input of a format
 abbrev pub IsFaultIn : Format → Option (List ℕ) → List ℕ → ToolFault → Type 0
@@ -164,6 +166,7 @@ profile_fault_of profile.NoMemory = tool.NoMemory
 
 abbrev pub batch_fault_of : BatchFault → ToolFault
 batch_fault_of batch.NoValue = tool.Batch batch.NoValue
+batch_fault_of (batch.Width count) = tool.Batch (batch.Width count)
 batch_fault_of (batch.Negative sample) = tool.Batch (batch.Negative sample)
 batch_fault_of (batch.Depth sample) = tool.Batch (batch.Depth sample)
 batch_fault_of (batch.Heavy sample) = tool.Batch (batch.Heavy sample)

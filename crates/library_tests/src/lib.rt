@@ -19,4 +19,6 @@ mod stacks;
 #[cfg(test)]
 mod trees;
 #[cfg(test)]
+mod values;
+#[cfg(test)]
 mod wire;

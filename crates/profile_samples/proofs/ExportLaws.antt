@@ -19,7 +19,7 @@ use Rattle.profile_samples.specs.declared.sampling.ValueChoice.TheVariants.{Defa
 use Rattle.profile_rows.specs.Names.{IsName, cleaned_name_of}
 use Rattle.profile_rows.specs.Rows.{IsBatchRow, total_of}
 use Rattle.profile_rows.specs.Values.{Row, rows_at, singles, value_of, weighing}
-use Rattle.profile_samples.specs.Samples.{AreSampleRows, IsBatchOf, IsSampleRow, address_name, first_name, frames_at, frames_of_id, item_with, named_by, string_at}
+use Rattle.profile_samples.specs.Samples.{AreSampleRows, AreStacksOf, IsSampleRow, address_name, first_name, frames_at, frames_of_id, item_with, named_by, string_at}
 use Rattle.profile_samples.specs.TextTables.{place_in, with_text, with_texts}
 use Rattle.profile_samples.specs.Export.{KindAndUnit, exported_function, exported_location, exported_profile_of, exported_sample, exported_type, id_in, names_of, profile_with, single_profile_of, strings_of, unit_texts}
 use Rattle.profile_rows.proofs.Cleaning.{cleaned-name}
@@ -439,7 +439,7 @@ can_stand-singles [] all = tt
 can_stand-singles (row ∷ rows) all = ((all.0.names, all.0.depth, omega arith), can_stand-singles rows all.1)
 
 -- the rows come back
-pub export_rows : (rows : List WeightedStack) (kind unit : List ℕ) → All IsBatchRow rows → total_of rows < 2 ^ 63 → IsBatchOf (single_profile_of rows kind unit) Default rows
+pub export_rows : (rows : List WeightedStack) (kind unit : List ℕ) → All IsBatchRow rows → total_of rows < 2 ^ 63 → AreStacksOf (single_profile_of rows kind unit) Default rows
 export_rows rows kind unit batch_rows fits =
     let units = (kind, unit) ∷ [] in
     let all = All-from_recursion (CanStand 0) (singles rows) (can_stand-singles rows (recursion_from_All IsBatchRow rows batch_rows)) in

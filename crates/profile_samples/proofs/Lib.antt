@@ -1,8 +1,10 @@
 pub mod ExportLaws
+pub mod ExportedBatches
 pub mod ExportedRows
 pub mod ExportedValues
 pub mod ItemsById
 pub mod IdPlaces
+pub mod SampleBatches
 pub mod SampleRows
 pub mod MergedSamples
 pub mod TextPlaces

@@ -7,12 +7,12 @@ use Rattle.profile_rows.specs.Aggregate.{aggregate_of}
 use Rattle.profile_samples.specs.declared.sampling.BatchFault.{BatchFault}
 use Rattle.profile_samples.specs.declared.sampling.BatchFault.TheVariants as batch
 use Rattle.profile_samples.specs.declared.sampling.ValueChoice.{ValueChoice}
-use Rattle.profile_samples.specs.Samples.{IsBatchOf, IsFirstBatchFault}
+use Rattle.profile_samples.specs.Samples.{AreStacksOf, IsFirstStacksFault}
 use Rattle.profile_samples.specs.MergedSamples.{IsMergedBatch}
-use Rattle.profile_samples.proofs.SampleRows.{IsBatchOf-same, IsFirstBatchFault-batch}
+use Rattle.profile_samples.proofs.SampleRows.{AreStacksOf-same, IsFirstStacksFault-batch}
 
 -- what the samples answer
-pub only_batch_sums : (draft : Draft) (choice : ValueChoice) (outcome : Result (List WeightedStack) BatchFault) → MatchResult outcome (λ sums. IsMergedBatch draft choice sums) (λ fault. IsFirstBatchFault draft choice fault)
-    → (rows : List WeightedStack) → IsBatchOf draft choice rows → MatchResult outcome (λ sums. aggregate_of sums ≡ aggregate_of rows) (λ fault. fault ≡ batch.NoMemory)
-only_batch_sums draft choice (Ok sums) read rows this = read.same ∙ ap aggregate_of (IsBatchOf-same draft choice read.rows rows read.sampled this)
-only_batch_sums draft choice (Err fault) read rows this = IsFirstBatchFault-batch draft choice rows fault this read
+pub only_batch_sums : (draft : Draft) (choice : ValueChoice) (outcome : Result (List WeightedStack) BatchFault) → MatchResult outcome (λ sums. IsMergedBatch draft choice sums) (λ fault. IsFirstStacksFault draft choice fault)
+    → (rows : List WeightedStack) → AreStacksOf draft choice rows → MatchResult outcome (λ sums. aggregate_of sums ≡ aggregate_of rows) (λ fault. fault ≡ batch.NoMemory)
+only_batch_sums draft choice (Ok sums) read rows this = read.same ∙ ap aggregate_of (AreStacksOf-same draft choice read.rows rows read.sampled this)
+only_batch_sums draft choice (Err fault) read rows this = IsFirstStacksFault-batch draft choice rows fault this read

@@ -15,11 +15,11 @@ use Rattle.pprof_profile.specs.Valid.{IsValidDraft, all_index, begins_with_empty
 use Rattle.pprof_profile.specs.declared.faults.ProfileFault.TheVariants.{NoStrings, FirstString, StringIndex, ZeroId, DoubleId, NoLocation, NoMapping, NoFunction, ValueCount}
 use Rattle.profile_rows.specs.declared.weighted_stacks.WeightedStack.{WeightedStack}
 use Rattle.profile_samples.specs.declared.sampling.BatchFault.{BatchFault}
-use Rattle.profile_samples.specs.declared.sampling.BatchFault.TheVariants.{NoValue, Negative, Depth, Heavy, NoMemory}
+use Rattle.profile_samples.specs.declared.sampling.BatchFault.TheVariants.{NoValue, Width, Negative, Depth, Heavy, NoMemory}
 use Rattle.profile_samples.specs.declared.sampling.ValueChoice.{ValueChoice}
-use Rattle.profile_samples.specs.declared.sampling.ValueChoice.TheVariants.{Default, Named}
+use Rattle.profile_samples.specs.declared.sampling.ValueChoice.TheVariants.{Default, Named, All}
 use Rattle.profile_rows.specs.Rows.{total_of}
-use Rattle.profile_samples.specs.Samples.{AreSampleRows, IsBatchOf, IsFirstBatchFault, IsFitFault, IsSampleFault, IsSampleRow, sample_stack_of, StandsAtSample, chosen_type_of, is_zero, last_index, or_last, string_at, type_named}
+use Rattle.profile_samples.specs.Samples.{AreSampleRows, AreStacksOf, IsFirstStacksFault, IsFitFault, IsSampleFault, IsSampleRow, sample_stack_of, StandsAtSample, chosen_type_of, is_zero, last_index, or_last, string_at, type_named}
 use Rattle.profile_samples.proofs.ItemsById.{rule_holds}
 
 -- ---- the chosen value
@@ -43,6 +43,7 @@ chosen_within draft Default chosen e =
       | false ↦ λ z. or_last_within draft (type_named draft (string_at draft.strings draft.default_sample_type)) chosen (λ at named. named_within draft (string_at draft.strings draft.default_sample_type) at named) (rw z at e)
     ] refl
 chosen_within draft (Named text) chosen e = named_within draft text.now chosen e
+chosen_within draft All chosen e = absurd (false≢true (ap is_some e))
 
 -- each sample of a valid profile has as many values as there are sample types
 values_match : (draft : Draft) → IsValidDraft draft → each_has_values (length draft.sample_types) draft.samples ≡ true
@@ -62,13 +63,16 @@ each_matches count [] k d all lt = absurd (omega (arith, lt))
 each_matches count (sample ∷ samples) zero d all lt = eqb-true (length sample.values) count (and_parts (length sample.values == count) (each_has_values count samples) all).0
 each_matches count (sample ∷ samples) (suc k) d all lt = each_matches count samples k d (and_parts (length sample.values == count) (each_has_values count samples) all).1 (omega (arith, lt))
 
--- so each has the one at an index of a sample type
+-- so each has a value for each sample type
+pub values_of_sample : (draft : Draft) (count : ℕ) (sample : Sample) → IsValidDraft draft → count < length draft.samples → sample ≡ get_or draft.samples count sample → length sample.values ≡ length draft.sample_types
+values_of_sample draft count sample valid lt item =
+    ap (λ (s : Sample). length s.values) item ∙ each_matches (length draft.sample_types) draft.samples count sample (values_match draft valid) lt
+
 pub has_value : (draft : Draft) (chosen count : ℕ) (sample : Sample) → IsValidDraft draft → chosen < length draft.sample_types → count < length draft.samples → sample ≡ get_or draft.samples count sample
     → chosen < length sample.values
 has_value draft chosen count sample valid within lt item =
-    let values = each_matches (length draft.sample_types) draft.samples count sample (values_match draft valid) lt in
-    let same = ap (λ (s : Sample). length s.values) item in
-    omega (arith, within, values, same)
+    let same = values_of_sample draft count sample valid lt item in
+    omega (arith, within, same)
 
 -- ---- rows
 
@@ -120,10 +124,11 @@ cut_at draft chosen (s ∷ before) sample after (r ∷ rows) all =
     (r ∷ rest.0, rest.1, rest.2, ap (λ z. r ∷ z) rest.3, (all.0, rest.4), rest.5)
 
 -- a sample that gives a row within the total has no fault but want of memory
-faultless : (draft : Draft) (chosen held number : ℕ) (sample : Sample) (row : WeightedStack) (fault : BatchFault) → IsSampleRow draft chosen sample row → held + row.weight < 2 ^ 63
+pub faultless : (draft : Draft) (chosen held number : ℕ) (sample : Sample) (row : WeightedStack) (fault : BatchFault) → IsSampleRow draft chosen sample row → held + row.weight < 2 ^ 63
     → IsSampleFault draft chosen held number sample fault → fault ≡ NoMemory
 unfolding is_below
 faultless draft chosen held number sample row NoValue this fits h = absurd h
+faultless draft chosen held number sample row (Width count) this fits h = absurd h
 faultless draft chosen held number sample row (Negative at) this fits h = absurd (false≢true (ap is_below (sym this.value ∙ h.2)))
 faultless draft chosen held number sample row (Depth at) this fits h =
     let deep = this.depth in
@@ -138,7 +143,7 @@ chosen_same : (draft : Draft) (choice : ValueChoice) (a b : ℕ) → chosen_type
 chosen_same draft choice a b one other = ap (λ o. unwrap_or o 0) (sym one ∙ other)
 
 -- a profile that gives rows has no first fault but want of memory
-stands_nowhere : (draft : Draft) (choice : ValueChoice) (rows : List WeightedStack) (fault : BatchFault) → IsBatchOf draft choice rows → StandsAtSample draft choice fault → fault ≡ NoMemory
+stands_nowhere : (draft : Draft) (choice : ValueChoice) (rows : List WeightedStack) (fault : BatchFault) → AreStacksOf draft choice rows → StandsAtSample draft choice fault → fault ≡ NoMemory
 stands_nowhere draft choice rows fault batch (chosen, before, sample, after, front, is_chosen, cut, known, fits, there) =
     let same_type = chosen_same draft choice batch.chosen chosen batch.is_chosen is_chosen in
     let all = subst (λ c. AreSampleRows draft c draft.samples rows) same_type batch.rows_samples in
@@ -151,25 +156,26 @@ stands_nowhere draft choice rows fault batch (chosen, before, sample, after, fro
     let held = ap total_of same in
     faultless draft chosen (total_of front) (length before) sample cut_rows.1 fault cut_rows.5 (omega (arith, total, parts, row, whole, held)) there
 
-pub IsFirstBatchFault-batch : (draft : Draft) (choice : ValueChoice) (rows : List WeightedStack) (fault : BatchFault) → IsBatchOf draft choice rows → IsFirstBatchFault draft choice fault → fault ≡ NoMemory
-IsFirstBatchFault-batch draft choice rows NoValue batch h = absurd (false≢true (sym (ap is_some (sym batch.is_chosen ∙ h))))
-IsFirstBatchFault-batch draft choice rows (Negative at) batch h = stands_nowhere draft choice rows (Negative at) batch h
-IsFirstBatchFault-batch draft choice rows (Depth at) batch h = stands_nowhere draft choice rows (Depth at) batch h
-IsFirstBatchFault-batch draft choice rows (Heavy at) batch h = stands_nowhere draft choice rows (Heavy at) batch h
-IsFirstBatchFault-batch draft choice rows NoMemory batch h = refl
+pub IsFirstStacksFault-batch : (draft : Draft) (choice : ValueChoice) (rows : List WeightedStack) (fault : BatchFault) → AreStacksOf draft choice rows → IsFirstStacksFault draft choice fault → fault ≡ NoMemory
+IsFirstStacksFault-batch draft choice rows NoValue batch h = absurd (false≢true (sym (ap is_some (sym batch.is_chosen ∙ h))))
+IsFirstStacksFault-batch draft choice rows (Width count) batch h = absurd h
+IsFirstStacksFault-batch draft choice rows (Negative at) batch h = stands_nowhere draft choice rows (Negative at) batch h
+IsFirstStacksFault-batch draft choice rows (Depth at) batch h = stands_nowhere draft choice rows (Depth at) batch h
+IsFirstStacksFault-batch draft choice rows (Heavy at) batch h = stands_nowhere draft choice rows (Heavy at) batch h
+IsFirstStacksFault-batch draft choice rows NoMemory batch h = refl
 
 -- one profile and choice have one list of rows
-pub IsBatchOf-same : (draft : Draft) (choice : ValueChoice) (rows others : List WeightedStack) → IsBatchOf draft choice rows → IsBatchOf draft choice others → rows ≡ others
-IsBatchOf-same draft choice rows others one other =
+pub AreStacksOf-same : (draft : Draft) (choice : ValueChoice) (rows others : List WeightedStack) → AreStacksOf draft choice rows → AreStacksOf draft choice others → rows ≡ others
+AreStacksOf-same draft choice rows others one other =
     let same_type = chosen_same draft choice one.chosen other.chosen one.is_chosen other.is_chosen in
     AreSampleRows-same draft other.chosen draft.samples rows others (subst (λ c. AreSampleRows draft c draft.samples rows) same_type one.rows_samples) other.rows_samples
 
 -- what `batch_of` answers decides what rows a profile gives
 pub only_batch : (draft : Draft) (choice : ValueChoice) (outcome : Result (List WeightedStack) BatchFault)
-    → MatchResult outcome (λ batch. IsBatchOf draft choice batch) (λ fault. IsFirstBatchFault draft choice fault)
-    → (rows : List WeightedStack) → IsBatchOf draft choice rows → MatchResult outcome (λ batch. batch ≡ rows) (λ fault. fault ≡ NoMemory)
-only_batch draft choice (Ok batch) read rows this = IsBatchOf-same draft choice batch rows read this
-only_batch draft choice (Err fault) read rows this = IsFirstBatchFault-batch draft choice rows fault this read
+    → MatchResult outcome (λ batch. AreStacksOf draft choice batch) (λ fault. IsFirstStacksFault draft choice fault)
+    → (rows : List WeightedStack) → AreStacksOf draft choice rows → MatchResult outcome (λ batch. batch ≡ rows) (λ fault. fault ≡ NoMemory)
+only_batch draft choice (Ok batch) read rows this = AreStacksOf-same draft choice batch rows read this
+only_batch draft choice (Err fault) read rows this = IsFirstStacksFault-batch draft choice rows fault this read
 
 -- ---- the loop over the samples
 
@@ -190,7 +196,7 @@ AreRowsSoFar-row draft chosen count sample rows row all lt item so_far this fits
       fits = omega (arith, parts, total, fits);
     }
 
-pub AreRowsSoFar-end : (draft : Draft) (choice : ValueChoice) (chosen count : ℕ) (rows : List WeightedStack) → chosen_type_of draft choice ≡ Some chosen → length draft.samples ≤ count → AreRowsSoFar draft chosen count rows → IsBatchOf draft choice rows
+pub AreRowsSoFar-end : (draft : Draft) (choice : ValueChoice) (chosen count : ℕ) (rows : List WeightedStack) → chosen_type_of draft choice ≡ Some chosen → length draft.samples ≤ count → AreRowsSoFar draft chosen count rows → AreStacksOf draft choice rows
 AreRowsSoFar-end draft choice chosen count rows is_chosen whole so_far =
     record { chosen = chosen; is_chosen = is_chosen; rows_samples = subst (λ ss. AreSampleRows draft chosen ss rows) (take_all count draft.samples whole) so_far.known; total_fits = so_far.fits }
 
@@ -213,15 +219,16 @@ AreRowsSoFar-stands draft choice chosen count sample rows fault is_chosen lt ite
     )
 
 -- what stands at a sample is a profile's first fault
-stands_first : (draft : Draft) (choice : ValueChoice) (fault : BatchFault) → StandsAtSample draft choice fault → IsFirstBatchFault draft choice fault
+stands_first : (draft : Draft) (choice : ValueChoice) (fault : BatchFault) → StandsAtSample draft choice fault → IsFirstStacksFault draft choice fault
 stands_first draft choice NoValue there = absurd there.9
+stands_first draft choice (Width count) there = absurd there.9
 stands_first draft choice (Negative at) there = there
 stands_first draft choice (Depth at) there = there
 stands_first draft choice (Heavy at) there = there
 stands_first draft choice NoMemory there = (there.0, there.5)
 
 pub first_of_standing : {T : Type 0} (P : T → Type 0) (draft : Draft) (choice : ValueChoice) (outcome : Result T BatchFault) → MatchResult outcome P (λ fault. StandsAtSample draft choice fault)
-    → MatchResult outcome P (λ fault. IsFirstBatchFault draft choice fault)
+    → MatchResult outcome P (λ fault. IsFirstStacksFault draft choice fault)
 first_of_standing P draft choice (Ok made) this = this
 first_of_standing P draft choice (Err fault) there = stands_first draft choice fault there
 
@@ -236,6 +243,7 @@ sample_row draft chosen sample weight value deep = record { stack = refl; depth 
 pub IsSampleFault-fit : (draft : Draft) (chosen held number : ℕ) (sample : Sample) (weight : ℕ) (fault : BatchFault) → slice_get sample.values chosen ≡ Some (pos weight)
     → IsFitFault draft held number sample.location_ids weight fault → IsSampleFault draft chosen held number sample fault
 IsSampleFault-fit draft chosen held number sample weight NoValue value h = absurd h
+IsSampleFault-fit draft chosen held number sample weight (Width count) value h = absurd h
 IsSampleFault-fit draft chosen held number sample weight (Negative at) value h = absurd h
 IsSampleFault-fit draft chosen held number sample weight (Depth at) value h = (h.0, weight, value, h.1)
 IsSampleFault-fit draft chosen held number sample weight (Heavy at) value h =

@@ -1,3 +1,4 @@
+pub mod Batches
 pub mod Export
 pub mod IdPlaces
 pub mod MergedSamples

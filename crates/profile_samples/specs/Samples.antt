@@ -12,9 +12,9 @@ use Rattle.pprof_profile.specs.declared.messages.Function.{Function}
 use Rattle.pprof_profile.specs.declared.messages.ValueType.{ValueType}
 use Rattle.profile_rows.specs.declared.weighted_stacks.WeightedStack.{WeightedStack}
 use Rattle.profile_samples.specs.declared.sampling.BatchFault.{BatchFault}
-use Rattle.profile_samples.specs.declared.sampling.BatchFault.TheVariants.{NoValue, Negative, Depth, Heavy, NoMemory}
+use Rattle.profile_samples.specs.declared.sampling.BatchFault.TheVariants.{NoValue, Width, Negative, Depth, Heavy, NoMemory}
 use Rattle.profile_samples.specs.declared.sampling.ValueChoice.{ValueChoice}
-use Rattle.profile_samples.specs.declared.sampling.ValueChoice.TheVariants.{Default, Named}
+use Rattle.profile_samples.specs.declared.sampling.ValueChoice.TheVariants.{Default, Named, All}
 use Rattle.profile_rows.specs.Names.{cleaned_name_of}
 use Rattle.profile_rows.specs.Rows.{total_of}
 
@@ -114,10 +114,11 @@ default_type draft =
     if is_zero draft.default_sample_type then last_index draft.sample_types
     else or_last draft (type_named draft (string_at draft.strings draft.default_sample_type))
 
--- which of the values of each sample is chosen
+-- which of the values of each sample is chosen, where it is one
 abbrev pub chosen_type_of : Draft → ValueChoice → Option ℕ
 chosen_type_of draft Default = default_type draft
 chosen_type_of draft (Named text) = type_named draft text.now
+chosen_type_of draft All = None
 
 -- ---- rows
 
@@ -135,7 +136,7 @@ AreSampleRows draft chosen (sample ∷ samples) (row ∷ rows) = IsSampleRow dra
     × AreSampleRows draft chosen samples rows
 
 -- the rows of a profile, by the choice of a value
-pub record IsBatchOf (draft : Draft) (choice : ValueChoice) (rows : List WeightedStack) : Type 0 where
+pub record AreStacksOf (draft : Draft) (choice : ValueChoice) (rows : List WeightedStack) : Type 0 where
   pub chosen : ℕ
   pub is_chosen : chosen_type_of draft choice ≡ Some chosen
   pub rows_samples : AreSampleRows draft chosen draft.samples rows
@@ -144,6 +145,7 @@ pub record IsBatchOf (draft : Draft) (choice : ValueChoice) (rows : List Weighte
 -- what keeps a sample's value from being a weight
 abbrev pub IsValueFault : ℕ → ℕ → List ℤ → BatchFault → Type 0
 IsValueFault chosen number values NoValue = ⊥
+IsValueFault chosen number values (Width count) = ⊥
 IsValueFault chosen number values (Negative at) = (at ≡ number) × (below : ℕ)
     × (slice_get values chosen ≡ Some (negsuc below))
 IsValueFault chosen number values (Depth at) = ⊥
@@ -153,6 +155,7 @@ IsValueFault chosen number values NoMemory = ⊥
 -- why the locations and the value of a sample give no row that can follow rows of the weight `held`
 abbrev pub IsFitFault : Draft → ℕ → ℕ → List ℕ → ℕ → BatchFault → Type 0
 IsFitFault draft held number ids weight NoValue = ⊥
+IsFitFault draft held number ids weight (Width count) = ⊥
 IsFitFault draft held number ids weight (Negative at) = ⊥
 IsFitFault draft held number ids weight (Depth at) = (at ≡ number) × (65535 < length (sample_stack_of draft ids))
 IsFitFault draft held number ids weight (Heavy at) = (at ≡ number) × (length (sample_stack_of draft ids) ≤ 65535)
@@ -163,6 +166,7 @@ IsFitFault draft held number ids weight NoMemory = ⊥
 -- stand, and memory runs out only at a sample without a fault: one that gives a row which can follow.
 abbrev pub IsSampleFault : Draft → ℕ → ℕ → ℕ → Sample → BatchFault → Type 0
 IsSampleFault draft chosen held number sample NoValue = ⊥
+IsSampleFault draft chosen held number sample (Width count) = ⊥
 IsSampleFault draft chosen held number sample (Negative at) = (at ≡ number)
     × (below : ℕ) × (slice_get sample.values chosen ≡ Some (negsuc below))
 IsSampleFault draft chosen held number sample (Depth at) = (at ≡ number)
@@ -184,9 +188,10 @@ StandsAtSample draft choice fault = (chosen : ℕ) × (before : List Sample) × 
 
 -- Why a profile gives no rows: no such value, or the first sample with a fault. Memory runs out only where there is
 -- such a value.
-abbrev pub IsFirstBatchFault : Draft → ValueChoice → BatchFault → Type 0
-IsFirstBatchFault draft choice NoValue = chosen_type_of draft choice ≡ None
-IsFirstBatchFault draft choice (Negative at) = StandsAtSample draft choice (Negative at)
-IsFirstBatchFault draft choice (Depth at) = StandsAtSample draft choice (Depth at)
-IsFirstBatchFault draft choice (Heavy at) = StandsAtSample draft choice (Heavy at)
-IsFirstBatchFault draft choice NoMemory = (chosen : ℕ) × (chosen_type_of draft choice ≡ Some chosen)
+abbrev pub IsFirstStacksFault : Draft → ValueChoice → BatchFault → Type 0
+IsFirstStacksFault draft choice NoValue = chosen_type_of draft choice ≡ None
+IsFirstStacksFault draft choice (Width count) = ⊥
+IsFirstStacksFault draft choice (Negative at) = StandsAtSample draft choice (Negative at)
+IsFirstStacksFault draft choice (Depth at) = StandsAtSample draft choice (Depth at)
+IsFirstStacksFault draft choice (Heavy at) = StandsAtSample draft choice (Heavy at)
+IsFirstStacksFault draft choice NoMemory = (chosen : ℕ) × (chosen_type_of draft choice ≡ Some chosen)

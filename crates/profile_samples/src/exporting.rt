@@ -5,9 +5,10 @@ ghost use Rattle.std.specs.List.{flat_map};
 ghost use Rattle.profile_rows.specs.Names.{IsName};
 ghost use Rattle.profile_rows.specs.Values.{rows_at};
 ghost use Rattle.profile_samples.specs.Export.{draft_with, exported_draft, exported_function, exported_location, exported_profile_of, exported_sample, exported_type, id_in, pairs_of, strings_of, unit_texts};
-ghost use Rattle.profile_samples.specs.Samples.{AreSampleRows, IsBatchOf};
+ghost use Rattle.profile_samples.specs.Batches.{IsBatchOf};
 ghost use Rattle.profile_samples.specs.TextTables.{with_texts};
 ghost use Rattle.profile_samples.specs.declared.sampling.ValueChoice.TheVariants.{Default};
+ghost use Rattle.profile_samples.specs.declared.sampling.ValueChoice.TheVariants as choices;
 
 use crate::text_table::TextTable;
 use no_memory::NoMemory;
@@ -253,7 +254,7 @@ pub(crate) fn exported_draft(
 
 /// The batch as a profile of a sample type for each value, whose kinds and units these are, in order: a sample for each
 /// row in order, with all its values, and a function and a location for each name, numbered from 1 as the names first
-/// stand. By each of its types, its samples give the rows of the batch back by that value.
+/// stand. By all its types, its samples give the batch back.
 ///
 /// # Errors
 ///
@@ -261,10 +262,8 @@ pub(crate) fn exported_draft(
 pub fn profile_of(alloc: Global, batch: &Batch, units: &[ValueUnit]) -> Result<Profile, NoMemory>
     requires { length units.now ≡ batch.now.width }
     ensures profile { IfOk result (λ profile. profile ≡ exported_profile_of batch.now.rows (pairs_of units.now)) }
-    ensures reads_back { IfOk result (λ profile. (value : ℕ) → value < batch.now.width
-        → AreSampleRows profile value profile.samples (rows_at value batch.now.rows)) }
-    ensures default { IfOk result (λ profile. batch.now.width ≡ 1
-        → IsBatchOf profile Default (rows_at 0 batch.now.rows)) }
+    ensures reads_back { IfOk result (λ profile. IsBatchOf profile choices.All batch.now) }
+    ensures default { IfOk result (λ profile. batch.now.width ≡ 1 → IsBatchOf profile Default batch.now) }
 {
     let names = names_of(alloc, batch.first().rows())?;
     let samples = samples_of(alloc, &names, batch)?;

@@ -1,6 +1,7 @@
 //! The samples of a pprof profile as rows, and rows as the samples of a profile.
 #![tactic(auto)]
 
+mod batches;
 mod exporting;
 mod folded_export;
 mod id_places;
@@ -10,7 +11,8 @@ mod sampling;
 mod text_table;
 mod unfolding;
 
+pub use batches::batch_of;
 pub use exporting::{ValueUnit, profile_of};
 pub use folded_export::export_folded;
 pub use merged_samples::merge_samples;
-pub use sampling::{BatchFault, ValueChoice, batch_of, unfold};
+pub use sampling::{BatchFault, ValueChoice, unfold};

@@ -1,21 +1,58 @@
 //! The rows of a profile's samples, those of the same locations merged into one.
 
-ghost use Rattle.std.specs.Prelude.{[], ◌≡◌, ◌+◌, ◌^◌, ◌<◌, ◌≤◌, IfErr, List, MatchResult, OnErr, OnOk, length, pos, slice_get, Some};
+ghost use Rattle.std.specs.Prelude.{[], ◌∷◌, ◌++◌, ◌≡◌, ◌+◌, ◌^◌, ◌<◌, ◌≤◌, IfErr, List, MatchResult, OnErr, OnOk, length, pos, slice_get, Some};
 ghost use Rattle.profile_rows.specs.declared.weighted_stacks.WeightedStack.{WeightedStack};
 ghost use Rattle.profile_samples.specs.declared.sampling.ValueChoice.{ValueChoice};
 ghost use Rattle.profile_rows.specs.Aggregate.{aggregate_of};
 ghost use Rattle.profile_rows.specs.Rows.{total_of};
-ghost use Rattle.profile_samples.specs.Samples.{IsBatchOf, IsFirstBatchFault, IsSampleFault, IsSampleRow, StandsAtSample, chosen_type_of, sample_stack_of};
+ghost use Rattle.profile_samples.specs.Samples.{AreStacksOf, IsFirstStacksFault, IsFitFault, IsSampleFault, IsSampleRow, StandsAtSample, chosen_type_of, sample_stack_of};
 ghost use Rattle.profile_rows.specs.Merging.{AddsRow, ArePlacedBy, with_added_at};
 ghost use Rattle.profile_samples.specs.MergedSamples.{IsMergedBatch};
 
-use crate::sampling::{BatchFault, ValueChoice, check_fit, chosen_type, push_row, weight_of};
+use crate::sampling::{BatchFault, ValueChoice, check_depth, chosen_type, stack_at, weight_of};
 use crate::unfolding::LocationFrames;
 use no_memory::NoMemory;
 use pprof_profile::{Profile, Sample};
-use profile_rows::WeightedStacks;
+use profile_rows::{MAX_DEPTH, MAX_TOTAL, WeightedStacks};
 use std::alloc::Global;
 use std::collections::HashMap;
+
+/// Whether a sample at these locations gives a row that can follow rows of the weight `held`.
+fn check_fit(
+    frames: &LocationFrames,
+    ids: &[u64],
+    weight: u64,
+    held: u64,
+    number: u64,
+) -> Result<(), BatchFault>
+    requires { held < 2 ^ 63 }
+    ensures depth { OnOk result (length (sample_stack_of frames.now ids.now) ≤ MAX_DEPTH) }
+    ensures fits { OnOk result (held + weight < 2 ^ 63) }
+    ensures fault { IfErr result (IsFitFault frames.now held number ids.now weight) }
+{
+    check_depth(frames, ids, number)?;
+    if weight > MAX_TOTAL - held {
+        return Err(BatchFault::Heavy { sample: number });
+    }
+    Ok(())
+}
+
+/// Adds a row of the stack at these locations, which fits.
+fn push_row(
+    alloc: Global,
+    frames: &LocationFrames,
+    batch: &mut WeightedStacks,
+    ids: &[u64],
+    weight: u64,
+) -> Result<(), NoMemory>
+    requires depth { length (sample_stack_of frames.now ids.now) ≤ MAX_DEPTH }
+    requires fits { total_of batch.old + weight < 2 ^ 63 }
+    ensures { OnOk result
+        (batch.new ≡ batch.old ++ (record { stack = sample_stack_of frames.now ids.now; weight = weight }) ∷ []) }
+{
+    let stack = stack_at(alloc, frames, ids)?;
+    batch.push(stack, weight).map_err(|_| NoMemory)
+}
 
 /// Adds the row of locations that no sample had yet.
 fn push_merged<'a>(
@@ -117,20 +154,20 @@ fn merged_by<'a>(
     Ok(merged)
 }
 
-/// The rows of a profile's samples, those of the same locations merged and their weights summed: as
+/// The rows of a profile's samples by one value, those of the same locations merged and their weights summed: as
 /// [`batch_of`](crate::batch_of), and every report on them is the same, in fewer rows.
 ///
 /// # Errors
 ///
-/// Those of [`batch_of`](crate::batch_of).
+/// Those of [`batch_of`](crate::batch_of); `NoValue` where all values are asked for.
 pub fn merge_samples(
     alloc: Global,
     profile: &Profile,
     choice: ValueChoice,
 ) -> Result<WeightedStacks, BatchFault>
     ensures read { MatchResult result (λ merged. IsMergedBatch profile.now choice.entry merged)
-        (λ fault. IsFirstBatchFault profile.now choice.entry fault) }
-    ensures accepted { (rows : List WeightedStack) → IsBatchOf profile.now choice.entry rows
+        (λ fault. IsFirstStacksFault profile.now choice.entry fault) }
+    ensures accepted { (rows : List WeightedStack) → AreStacksOf profile.now choice.entry rows
         → MatchResult result (λ merged. aggregate_of merged ≡ aggregate_of rows)
         (λ fault. fault ≡ BatchFault.NoMemory) }
 {

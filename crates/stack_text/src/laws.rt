@@ -6,4 +6,4 @@ pub use profile_rows::laws::{
     kept_rows_are_by_the_aggregate, rectangles_are_by_the_aggregate,
     sums_are_those_of_the_aggregate, top_list_is_front_of_sorted, top_lists_are_by_the_aggregate,
 };
-pub use profile_samples::laws::export_reads_back;
+pub use profile_samples::laws::{export_reads_back, rows_of_one_value};

@@ -2,17 +2,16 @@
 use Rattle.std.proofs.Common.{◌≡◌, ◌<◌, ◌≤◌, length, get_or, ap, subst, ◌∙◌}
 use Rattle.std.proofs.lemmas.Result.{err_from_is_err_and}
 use Rattle.pprof_profile.specs.declared.messages.Draft.{Draft}
-use Rattle.profile_samples.specs.Samples.{IsSampleRow, IsSampleFault}
-use Rattle.profile_rows.specs.Rows.{total_of}
-use Rattle.profile_samples.proofs.SampleRows.{AreRowsSoFar-row, AreRowsSoFar-end, AreRowsSoFar-stands, has_value}
-use Rattle.profile_samples.proofs.sampling.rows_by.Goals as goal
+use Rattle.profile_samples.specs.Batches.{IsRowOfSample, IsValuesFault}
+use Rattle.profile_samples.proofs.SampleBatches.{IsBatchSoFar-row, IsBatchSoFar-end, IsBatchSoFar-stands, has_values}
+use Rattle.profile_samples.proofs.batches.batch_by.Goals as goal
 
-pub add_sample-requires : goal.add_sample-requires
-add_sample-requires c =
+pub add_sample-requires-clause-values : goal.add_sample-requires-clause-values
+add_sample-requires-clause-values c =
     let samples : c.as_slice-sample-items.result.now ≡ c.args.profile.now.samples = c.as_slice-sample-items.ensures ∙ ap (λ (d : Draft). d.samples) c.draft.ensures.draft in
     let item = c.sample-item.is ∙ ap (λ ss. get_or ss c.loop-index.index c.sample-item.result) samples in
     let within = subst (λ ss. c.loop-index.index < length ss) samples c.loop-index-test.true in
-    has_value c.args.profile.now c.args.chosen c.loop-index.index c.sample-item.result c.draft.ensures.valid c.requires.typed within item
+    has_values c.args.profile.now c.args.chosen.now.first c.args.chosen.now.width c.loop-index.index c.sample-item.result c.draft.ensures.valid c.requires.typed within item
 
 pub returns-in_err-add_sample : goal.returns-in_err-add_sample
 returns-in_err-add_sample c = λ choice is_chosen.
@@ -20,21 +19,22 @@ returns-in_err-add_sample c = λ choice is_chosen.
     let item = c.sample-item.is ∙ ap (λ ss. get_or ss c.loop-index.index c.sample-item.result) samples in
     let within = subst (λ ss. c.loop-index.index < length ss) samples c.loop-index-test.true in
     let p = err_from_is_err_and c.from_residual.result c.from_residual.ensures.1 in
-    let there : IsSampleFault c.args.profile.now c.args.chosen (total_of c.loop-index.batch) c.loop-index.index c.sample-item.result c.in_err-add_sample.field-0.0 =
-    subst (λ d. IsSampleFault d c.args.chosen (total_of c.loop-index.batch) c.loop-index.index c.sample-item.result c.in_err-add_sample.field-0.0) c.requires.framed c.in_err-add_sample.ensures.fault in
-    rw (p.1, p.2) (AreRowsSoFar-stands c.args.profile.now choice c.args.chosen c.loop-index.index c.sample-item.result c.loop-index.batch c.in_err-add_sample.field-0.0 is_chosen within item c.loop-index.invariant there)
+    let there : IsValuesFault c.args.profile.now c.args.chosen.now.first c.loop-index.batch c.loop-index.index c.sample-item.result c.in_err-add_sample.field-0.0 =
+    subst (λ d. IsValuesFault d c.args.chosen.now.first c.loop-index.batch c.loop-index.index c.sample-item.result c.in_err-add_sample.field-0.0) c.requires.framed c.in_err-add_sample.ensures.fault in
+    rw (p.1, p.2) (IsBatchSoFar-stands c.args.profile.now choice c.args.chosen.now.first c.args.chosen.now.width c.loop-index.index c.sample-item.result c.loop-index.batch c.in_err-add_sample.field-0.0 is_chosen within item
+    c.loop-index.invariant there)
 
 pub loop-index-preserved : goal.loop-index-preserved
 loop-index-preserved c =
     let samples : c.as_slice-sample-items.result.now ≡ c.args.profile.now.samples = c.as_slice-sample-items.ensures ∙ ap (λ (d : Draft). d.samples) c.draft.ensures.draft in
     let item = c.sample-item.is ∙ ap (λ ss. get_or ss c.loop-index.index c.sample-item.result) samples in
     let within = subst (λ ss. c.loop-index.index < length ss) samples c.loop-index-test.true in
-    let (row, this, fits, more) = c.in_ok-add_sample.ensures.added in
-    let own : IsSampleRow c.args.profile.now c.args.chosen c.sample-item.result row = subst (λ d. IsSampleRow d c.args.chosen c.sample-item.result row) c.requires.framed this in
-    AreRowsSoFar-row c.args.profile.now c.args.chosen c.loop-index.index c.sample-item.result c.loop-index.batch row _ within item c.loop-index.invariant own fits more
+    let (row, this, room, more) = c.in_ok-add_sample.ensures.added in
+    let own = subst (λ d. IsRowOfSample d c.args.chosen.now.first c.loop-index.batch.width c.sample-item.result row) c.requires.framed this in
+    IsBatchSoFar-row c.args.profile.now c.args.chosen.now.first c.args.chosen.now.width c.loop-index.index c.sample-item.result c.loop-index.batch row _ within item c.loop-index.invariant own room more
 
 pub returns : goal.returns
 returns c = λ choice is_chosen.
     let samples : c.as_slice-sample-items.result.now ≡ c.args.profile.now.samples = c.as_slice-sample-items.ensures ∙ ap (λ (d : Draft). d.samples) c.draft.ensures.draft in
     let whole = subst (λ ss. length ss ≤ c.loop-index.index) samples c.loop-index-test.false in
-    AreRowsSoFar-end c.args.profile.now choice c.args.chosen c.loop-index.index c.loop-index.batch is_chosen whole c.loop-index.invariant
+    IsBatchSoFar-end c.args.profile.now choice c.args.chosen.now.first c.args.chosen.now.width c.loop-index.index c.loop-index.batch is_chosen whole c.loop-index.invariant

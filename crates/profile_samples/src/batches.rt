@@ -1,0 +1,190 @@
+//! A profile's samples as a batch: the values that are chosen, a row for each sample, and why there is none.
+
+ghost use Rattle.std.specs.Prelude.{ℕ, ◌≡◌, ◌+◌, ◌^◌, ◌<◌, ◌≤◌, ◌∷◌, ◌++◌, ◌⊎◌, [], IfErr, IfOk, MatchOption, MatchResult, OnErr, OnOk, None, Some, length, pos, slice_get};
+ghost use Rattle.profile_rows.specs.Values.{BatchState, HasRoom, IsBatch, Row, rows_at, value_of};
+ghost use Rattle.profile_rows.specs.Rows.{total_of};
+ghost use Rattle.profile_samples.specs.declared.sampling.ValueChoice.{ValueChoice};
+ghost use Rattle.profile_samples.specs.Samples.{IsValueFault, sample_stack_of};
+ghost use Rattle.profile_samples.specs.Batches.{AreRowsOfSamples, IsBatchOf, IsFirstBatchFault, IsRowOfSample, IsValuesFault, StandsInBatch, chosen_types_of, one_from};
+
+use crate::sampling::{BatchFault, ValueChoice, check_depth, chosen_type, stack_at, weight_of};
+use crate::unfolding::LocationFrames;
+use no_memory::NoMemory;
+use pprof_profile::{Draft, Profile, Sample};
+use profile_rows::{Batch, MAX_DEPTH, Weights, Width, first_heavy};
+use std::alloc::Global;
+
+/// The values that are taken of each sample: the place of the first, and how many they are.
+#[derive(Clone, Copy)]
+struct ChosenValues {
+    first: usize,
+    width: Width,
+}
+
+/// So many values, where a row can have them.
+fn width_of(count: usize) -> Option<Width>
+    ensures { MatchOption result ((count ≡ 0) ⊎ (4 < count)) (λ width. (width ≡ count) × (width ≤ 4)) }
+{
+    Width::new(u32::try_from(count).ok()?)
+}
+
+/// All values of the samples.
+fn all_values(draft: &Draft) -> Result<ChosenValues, BatchFault>
+    ensures few { IfOk result (λ chosen. chosen.width ≤ 4) }
+    ensures chosen { MatchResult result
+        (λ chosen. chosen_types_of draft.now ValueChoice.All ≡ Some (chosen.first, chosen.width))
+        (λ fault. IsFirstBatchFault draft.now ValueChoice.All fault) }
+{
+    let count = draft.sample_types.len();
+    match width_of(count) {
+        Some(width) => Ok(ChosenValues { first: 0, width }),
+        None if count == 0 => Err(BatchFault::NoValue),
+        None => Err(BatchFault::Width { count }),
+    }
+}
+
+/// The value at this place alone, where there is one.
+fn one_value(first: Option<usize>) -> Result<ChosenValues, BatchFault>
+    ensures few { IfOk result (λ chosen. chosen.width ≤ 4) }
+    ensures chosen { MatchResult result (λ chosen. one_from first ≡ Some (chosen.first, chosen.width))
+        (λ fault. (one_from first ≡ None) × (fault ≡ BatchFault.NoValue)) }
+{
+    match first {
+        Some(first) => Ok(ChosenValues {
+            first,
+            width: Width::one(),
+        }),
+        None => Err(BatchFault::NoValue),
+    }
+}
+
+/// The values that a choice takes.
+fn chosen_values(draft: &Draft, choice: ValueChoice) -> Result<ChosenValues, BatchFault>
+    ensures few { IfOk result (λ chosen. chosen.width ≤ 4) }
+    ensures chosen { MatchResult result
+        (λ chosen. chosen_types_of draft.now choice.entry ≡ Some (chosen.first, chosen.width))
+        (λ fault. IsFirstBatchFault draft.now choice.entry fault) }
+{
+    match choice {
+        ValueChoice::All => all_values(draft),
+        ValueChoice::Default | ValueChoice::Named(_) => one_value(chosen_type(draft, choice)),
+    }
+}
+
+/// The values that are taken, as weights.
+fn weights_of(values: &[i64], chosen: &ChosenValues, number: u64) -> Result<Weights, BatchFault>
+    requires { chosen.now.first + chosen.now.width ≤ length values.now }
+    ensures count { IfOk result (λ weights. length weights ≡ chosen.now.width) }
+    ensures weights { IfOk result (λ weights. (value : ℕ) → value < chosen.now.width
+        → slice_get values.now (chosen.now.first + value) ≡ Some (pos (value_of value weights))) }
+    ensures fault { IfErr result (λ fault. (value : ℕ) × (value < chosen.now.width)
+        × IsValueFault (chosen.now.first + value) number values.now fault) }
+{
+    let count = chosen.width.get() as usize;
+    let mut held = [0; 4];
+    for value in 0..count {
+        held[value] = weight_of(values, chosen.first + value, number)?;
+    }
+    match Weights::make(&held[..count]) {
+        Some(weights) => Ok(weights),
+        None => unreachable!(),
+    }
+}
+
+/// Whether a row of these values can follow rows of these totals.
+fn check_room(totals: &Weights, weights: &Weights, number: u64) -> Result<(), BatchFault>
+    requires width { length totals.now ≡ length weights.now }
+    requires fits { (value : ℕ) → value_of value totals.now < 2 ^ 63 }
+    ensures room { OnOk result ((value : ℕ) → value_of value totals.now + value_of value weights.now < 2 ^ 63) }
+    ensures fault { IfErr result (λ fault. (fault ≡ BatchFault.Heavy number) × (value : ℕ)
+        × (value < length totals.now) × (2 ^ 63 ≤ value_of value totals.now + value_of value weights.now)) }
+{
+    match first_heavy(totals, weights) {
+        Some(_) => Err(BatchFault::Heavy { sample: number }),
+        None => Ok(()),
+    }
+}
+
+/// Adds a row of the stack at these locations, which fits.
+fn push_row(
+    alloc: Global,
+    frames: &LocationFrames,
+    batch: &mut Batch,
+    ids: &[u64],
+    weights: &Weights,
+) -> Result<(), NoMemory>
+    requires depth { length (sample_stack_of frames.now ids.now) ≤ MAX_DEPTH }
+    requires width { length weights.now ≡ batch.old.width }
+    requires room { (value : ℕ) → HasRoom batch.old weights.now value }
+    ensures { OnOk result (batch.new ≡ record {
+      width = batch.old.width;
+      rows = batch.old.rows
+          ++ (record { stack = sample_stack_of frames.now ids.now; weights = weights.now }) ∷ [];
+    }) }
+{
+    let stack = stack_at(alloc, frames, ids)?;
+    batch.push(stack, *weights).map_err(|_| NoMemory)
+}
+
+/// Adds the row of a sample, where it gives one that can follow the rows of the batch. A fault of the sample is found
+/// before memory can run out at it.
+fn add_sample(
+    alloc: Global,
+    frames: &LocationFrames,
+    batch: &mut Batch,
+    chosen: &ChosenValues,
+    sample: &Sample,
+    number: u64,
+) -> Result<(), BatchFault>
+    requires values { chosen.now.first + chosen.now.width ≤ length sample.now.values }
+    requires width { batch.old.width ≡ chosen.now.width }
+    ensures added { OnOk result ((row : Row) × IsRowOfSample frames.now chosen.now.first batch.old.width sample.now row
+        × ((value : ℕ) → HasRoom batch.old row.weights value)
+        × (batch.new ≡ record { width = batch.old.width; rows = batch.old.rows ++ row ∷ [] })) }
+    ensures fault { IfErr result (IsValuesFault frames.now chosen.now.first batch.old number sample.now) }
+{
+    let ids = sample.location_ids.as_slice();
+    let weights = weights_of(sample.values.as_slice(), chosen, number)?;
+    check_depth(frames, ids, number)?;
+    check_room(&batch.total(), &weights, number)?;
+    Ok(push_row(alloc, frames, batch, ids, &weights)?)
+}
+
+/// The batch of a profile's samples by these values. Where memory runs out, the samples before have no fault, nor has
+/// the one at hand.
+fn batch_by(
+    alloc: Global,
+    profile: &Profile,
+    frames: &LocationFrames,
+    chosen: &ChosenValues,
+) -> Result<Batch, BatchFault>
+    requires framed { frames.now ≡ profile.now }
+    requires typed { chosen.now.first + chosen.now.width ≤ length profile.now.sample_types }
+    ensures { (choice : ValueChoice) → chosen_types_of profile.now choice ≡ Some (chosen.now.first, chosen.now.width)
+        → MatchResult result (λ batch. IsBatchOf profile.now choice batch)
+        (λ fault. StandsInBatch profile.now choice fault) }
+{
+    let mut batch = Batch::new(alloc, chosen.width);
+    for (index, sample) in profile.draft().samples.as_slice().iter().enumerate() {
+        add_sample(alloc, frames, &mut batch, chosen, sample, index as u64)?;
+    }
+    Ok(batch)
+}
+
+/// The rows of a profile's samples: a row for each, in order. Its stack has the frames of the sample's locations, root
+/// first; its values are those that the choice takes, in the order of the sample types.
+///
+/// # Errors
+///
+/// `NoValue` where there is no such sample type; `Width` where all are asked for and there are more than four. Else the
+/// fault of the first sample that has one, in the order of [`BatchFault`]'s variants; `NoMemory`.
+pub fn batch_of(alloc: Global, profile: &Profile, choice: ValueChoice) -> Result<Batch, BatchFault>
+    ensures read { MatchResult result (λ batch. IsBatchOf profile.now choice.entry batch)
+        (λ fault. IsFirstBatchFault profile.now choice.entry fault) }
+    ensures accepted { (batch : BatchState) → IsBatchOf profile.now choice.entry batch
+        → MatchResult result (λ made. made ≡ batch) (λ fault. fault ≡ BatchFault.NoMemory) }
+{
+    let chosen = chosen_values(profile.draft(), choice)?;
+    let frames = LocationFrames::new(alloc, profile)?;
+    batch_by(alloc, profile, &frames, &chosen)
+}

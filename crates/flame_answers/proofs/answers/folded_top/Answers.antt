@@ -1,5 +1,5 @@
 -- The list is that of the rows whose sums were counted.
-use Rattle.std.proofs.Common.{map, sym, subst, ap, ◌∙◌}
+use Rattle.std.proofs.Common.{sym, subst, ap, ◌∙◌}
 use Rattle.profile_rows.specs.TopList.{top_text_of}
 use Rattle.flame_report.specs.declared.answer.Top.{Top}
 use Rattle.flame_answers.specs.Answers.{IsRefusedIn}

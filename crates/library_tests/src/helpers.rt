@@ -5,7 +5,7 @@
 
 use call_tree::Grower;
 use profile_rows::first_heavy;
-use stack_text::{Batch, Name, Stack, Weights, read_folded, write_folded};
+use stack_text::{Batch, Name, Stack, Weights, Width, read_folded, write_folded};
 use std::alloc::Global;
 use std::test::Fail;
 
@@ -34,16 +34,34 @@ pub(crate) fn weights_of(values: &[u64]) -> Result<Weights, Fail> {
 }
 
 /// Adds a row to a batch, which accepts it.
-pub(crate) fn push(
-    alloc: Global,
-    batch: &mut Batch,
-    frames: &str,
-    values: &[u64],
-) -> Result<(), Fail> {
+fn push(alloc: Global, batch: &mut Batch, frames: &str, values: &[u64]) -> Result<(), Fail> {
     let weights = weights_of(values)?;
     let stack = stack_of(alloc, frames)?;
     batch.push(stack, weights).ok().ok_or("refused")?;
     Ok(())
+}
+
+/// Adds rows to a batch of two values, which accepts them.
+fn push_pairs(alloc: Global, batch: &mut Batch, rows: &[(&str, [u64; 2])]) -> Result<(), Fail> {
+    for (frames, values) in rows {
+        push(alloc, batch, frames, values.as_slice())?;
+    }
+    Ok(())
+}
+
+/// A batch of two values, of these rows.
+pub(crate) fn pairs_of(alloc: Global, rows: &[(&str, [u64; 2])]) -> Result<Batch, Fail> {
+    let width = Width::new(2).ok_or("no width")?;
+    let mut batch = Batch::new(alloc, width);
+    push_pairs(alloc, &mut batch, rows)?;
+    Ok(batch)
+}
+
+/// Rows as folded text by each of two values, and their totals.
+pub(crate) fn pairs_text(alloc: Global, rows: &Batch, totals: &Weights) -> Result<String, Fail> {
+    let first = value_text(alloc, rows, 0)?;
+    let second = value_text(alloc, rows, 1)?;
+    Ok(format!(in alloc; "{first}|{second}|{:?}", totals.values())?)
 }
 
 /// A stack by its frames, joined by semicolons. No text is the empty stack.
@@ -76,4 +94,11 @@ pub(crate) fn plan(
         grower.credit(plan);
     }
     Ok(())
+}
+
+/// The tree of rows.
+pub(crate) fn grower_of(alloc: Global, rows: &Batch) -> Result<Grower, Fail> {
+    let mut grower = Grower::new(alloc, rows.width())?;
+    plan(alloc, &mut grower, rows, true)?;
+    Ok(grower)
 }

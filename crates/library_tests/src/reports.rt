@@ -1,12 +1,12 @@
 //! What no clause says of reports: that calls succeed with ample memory, and what they answer on worked rows.
 
-use crate::helpers::{plan, push, rows_of};
-use call_tree::{CallTree, Grower};
+use crate::helpers::{grower_of, pairs_of, rows_of};
+use call_tree::CallTree;
 use flame_report::{
     Answer, Columns, Flame, Kind, Label, MAX_COLUMNS, Query, Rank, flame_json, report, report_of,
     top_list, top_text,
 };
-use stack_text::{Batch, Name, Width, folded_totals};
+use stack_text::{Batch, Name, folded_totals};
 use std::alloc::Global;
 use std::test::Fail;
 
@@ -75,14 +75,8 @@ fn answer_of_tree(alloc: Global, tree: &CallTree, query: &Query) -> Result<Strin
     answer_text(alloc, &report(alloc, tree, query)?)
 }
 
-fn grown(alloc: Global, rows: &Batch) -> Result<Grower, Fail> {
-    let mut grower = Grower::new(alloc, rows.width())?;
-    plan(alloc, &mut grower, rows, true)?;
-    Ok(grower)
-}
-
 fn answer_by_tree(alloc: Global, rows: &Batch, query: &Query) -> Result<String, Fail> {
-    let grower = grown(alloc, rows)?;
+    let grower = grower_of(alloc, rows)?;
     answer_of_tree(alloc, grower.tree(), query)
 }
 
@@ -159,10 +153,14 @@ fn rectangles(alloc: Global, rows: &Batch, kind: Kind) -> Result<String, Fail> {
         value: 0,
         kind,
     };
-    if rows.width().get() == 0 {
-        return Err("no value".into());
+    layout_answered(alloc, rows, &query)
+}
+
+fn layout_answered(alloc: Global, rows: &Batch, query: &Query) -> Result<String, Fail> {
+    if query.value >= rows.width().get() {
+        return Err("no such value".into());
     }
-    match &report_of(alloc, rows, &query)? {
+    match &report_of(alloc, rows, query)? {
         Answer::Flame(flame) => layout_text(alloc, flame),
         _ => Err("no layout".into()),
     }
@@ -324,16 +322,13 @@ fn a_label_has_the_text_of_its_name(rt: HostRuntime) -> Result<(), Fail> {
 
 // The answer over the rows `a` [1, 0] and `b` [0, 2], by a value.
 fn answered_by_value(alloc: Global, value: u32, kind: Kind) -> Result<String, Fail> {
+    let rows = pairs_of(alloc, &[("a", [1, 0]), ("b", [0, 2])])?;
     let query = Query {
         focus: None,
         ignore: None,
         value,
         kind,
     };
-    let width = Width::new(2).ok_or("no width")?;
-    let mut rows = Batch::new(alloc, width);
-    push(alloc, &mut rows, "a", &[1, 0])?;
-    push(alloc, &mut rows, "b", &[0, 2])?;
     answer_by_both(alloc, &rows, &query)
 }
 

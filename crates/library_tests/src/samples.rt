@@ -1,11 +1,11 @@
 //! What no clause says of a profile's samples: that calls succeed with ample memory, and what they answer on values
 //! from the format's description.
 
-use crate::helpers::{push, rows_of, text_of};
+use crate::helpers::{pairs_of, rows_of, text_of};
 use crate::messages::{INLINED_AND_BARE_LOCATIONS, NEGATIVE_VALUE, ONE_SAMPLE, TWO_SAMPLE_TYPES};
 use pprof_profile::{Profile, decode, encode};
 use stack_text::{
-    Batch, BatchFault, Name, ValueChoice, ValueUnit, Width, batch_of, export_folded, merge_samples,
+    Batch, BatchFault, Name, ValueChoice, ValueUnit, batch_of, export_folded, merge_samples,
     profile_of, unfold, write_stacks,
 };
 use std::alloc::Global;
@@ -29,14 +29,23 @@ fn exported(alloc: Global, rows: &Batch) -> Result<Vec<u8>, Fail> {
         unit: "ns",
     };
     let profile = profile_of(alloc, rows, &[unit])?;
-    Ok(encode(alloc, &profile)?)
+    encoded(alloc, &profile)
+}
+
+fn encoded(alloc: Global, profile: &Profile) -> Result<Vec<u8>, Fail> {
+    Ok(encode(alloc, profile)?)
+}
+
+fn exported_text(alloc: Global, text: &str) -> Result<Vec<u8>, Fail> {
+    let rows = rows_of(alloc, text)?;
+    exported(alloc, &rows)
 }
 
 // The same sample, from a batch.
 #[test]
 fn a_batch_is_exported_as_a_profile(rt: HostRuntime) -> Result<(), Fail> {
-    let rows = rows_of(rt.alloc(), "f 7\n")?;
-    assert!(rt; exported(rt.alloc(), &rows)?.as_slice() == ONE_SAMPLE);
+    let bytes = exported_text(rt.alloc(), "f 7\n")?;
+    assert!(rt; bytes.as_slice() == ONE_SAMPLE);
     Ok(())
 }
 
@@ -196,8 +205,7 @@ fn the_leaf_is_unfolded_first(rt: HostRuntime) -> Result<(), Fail> {
 
 // The profile of a row of two values by each of them, and its sample types.
 fn two_values(alloc: Global) -> Result<String, Fail> {
-    let mut rows = Batch::new(alloc, Width::new(2).ok_or("no width")?);
-    push(alloc, &mut rows, "f", &[3, 30])?;
+    let rows = pairs_of(alloc, &[("f", [3, 30])])?;
     two_values_of(alloc, &rows)
 }
 
@@ -213,7 +221,8 @@ fn two_values_of(alloc: Global, rows: &Batch) -> Result<String, Fail> {
         kind: "cpu",
         unit: "ns",
     };
-    both_types(alloc, &profile_of(alloc, rows, &[samples, cpu])?)
+    let profile = profile_of(alloc, rows, &[samples, cpu])?;
+    both_types(alloc, &profile)
 }
 
 fn both_types(alloc: Global, profile: &Profile) -> Result<String, Fail> {

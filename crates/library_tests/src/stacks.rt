@@ -1,7 +1,7 @@
 //! What no clause says of names, stacks, rows and folded text: that calls succeed with ample memory, and what they
 //! answer.
 
-use crate::helpers::{push, rows_of, stack_of, text_of, value_text, weights_of};
+use crate::helpers::{pairs_of, pairs_text, rows_of, stack_of, text_of, weights_of};
 use profile_rows::CountedRows;
 use stack_text::{
     Batch, FoldedFault, FrameTotals, MAX_DEPTH, MAX_TOTAL, Name, NameFault, NoMemory, PushFault,
@@ -283,26 +283,20 @@ fn widths_and_weights_are_one_to_four(rt: HostRuntime) -> Result<(), Fail> {
 
 // A batch of two values: a by the first, b by the second.
 fn two_values(alloc: Global) -> Result<Batch, Fail> {
-    let width = Width::new(2).ok_or("no width")?;
-    let mut batch = Batch::new(alloc, width);
-    push(alloc, &mut batch, "b", &[0, 2])?;
-    push(alloc, &mut batch, "a", &[1, 0])?;
-    push(alloc, &mut batch, "c", &[0, 0])?;
-    push(alloc, &mut batch, "b", &[0, 3])?;
-    Ok(batch)
+    pairs_of(
+        alloc,
+        &[("b", [0, 2]), ("a", [1, 0]), ("c", [0, 0]), ("b", [0, 3])],
+    )
 }
 
-// The batch by each of its two values, and its totals.
-fn both_values(alloc: Global, batch: &Batch) -> Result<String, Fail> {
-    let first = value_text(alloc, batch, 0)?;
-    let second = value_text(alloc, batch, 1)?;
-    Ok(format!(in alloc; "{first}|{second}|{:?}", batch.total().values())?)
+fn text_of_two_values(alloc: Global) -> Result<String, Fail> {
+    let batch = two_values(alloc)?;
+    pairs_text(alloc, &batch, &batch.total())
 }
 
 #[test]
 fn each_value_of_a_batch_is_written(rt: HostRuntime) -> Result<(), Fail> {
-    let batch = two_values(rt.alloc())?;
-    let written = both_values(rt.alloc(), &batch)?;
+    let written = text_of_two_values(rt.alloc())?;
     assert_eq!(rt;
         written.as_str(),
         "b 0\na 1\nc 0\nb 0\n|b 2\na 0\nc 0\nb 3\n|[1, 5]"
@@ -310,10 +304,15 @@ fn each_value_of_a_batch_is_written(rt: HostRuntime) -> Result<(), Fail> {
     Ok(())
 }
 
+fn aggregate_text(alloc: Global, batch: &Batch) -> Result<String, Fail> {
+    let sums = aggregate(alloc, batch)?;
+    pairs_text(alloc, &sums, &sums.total())
+}
+
 // The aggregate of the batch of two values.
 fn aggregate_of_two_values(alloc: Global) -> Result<String, Fail> {
     let batch = two_values(alloc)?;
-    both_values(alloc, &aggregate(alloc, &batch)?)
+    aggregate_text(alloc, &batch)
 }
 
 #[test]
@@ -325,12 +324,17 @@ fn an_aggregate_keeps_what_weighs_by_any_value(rt: HostRuntime) -> Result<(), Fa
 
 // Why a batch of two values, which holds the greatest total of the first, refuses a row of these values.
 fn refusal(alloc: Global, values: &[u64]) -> Result<Option<PushFault>, Fail> {
-    let width = Width::new(2).ok_or("no width")?;
+    let mut batch = pairs_of(alloc, &[("a", [MAX_TOTAL, 0])])?;
+    refused_by(alloc, &mut batch, values)
+}
+
+fn refused_by(alloc: Global, batch: &mut Batch, values: &[u64]) -> Result<Option<PushFault>, Fail> {
     let weights = weights_of(values)?;
-    let mut batch = Batch::new(alloc, width);
-    push(alloc, &mut batch, "a", &[MAX_TOTAL, 0])?;
-    let refused = batch.push(stack_of(alloc, "b")?, weights).err();
-    Ok(refused.map(|refused| refused.fault))
+    let stack = stack_of(alloc, "b")?;
+    match batch.push(stack, weights) {
+        Ok(()) => Ok(None),
+        Err(refused) => Ok(Some(refused.fault)),
+    }
 }
 
 #[test]

@@ -1,6 +1,6 @@
 //! What no clause says of trees: that calls succeed with ample memory, and what they answer on worked rows.
 
-use crate::helpers::{plan, push, rows_of, stack_of, text_of, value_text};
+use crate::helpers::{grower_of, pairs_of, pairs_text, plan, rows_of, stack_of, text_of};
 use call_tree::{CallTree, Grower};
 use stack_text::{Batch, MAX_DEPTH, Width};
 use std::alloc::{AllocError, Global};
@@ -349,20 +349,13 @@ fn a_tree_answers_as_a_slow_program_does(rt: HostRuntime) -> Result<(), Fail> {
 
 // The tree of a [1, 0], b [0, 2] and c [0, 0], by each of its values.
 fn grown_by_two(alloc: Global) -> Result<Grower, Fail> {
-    let mut rows = Batch::new(alloc, Width::new(2).ok_or("no width")?);
-    push(alloc, &mut rows, "b", &[0, 2])?;
-    push(alloc, &mut rows, "a", &[1, 0])?;
-    push(alloc, &mut rows, "c", &[0, 0])?;
-    let mut grower = Grower::new(alloc, rows.width())?;
-    plan(alloc, &mut grower, &rows, true)?;
-    Ok(grower)
+    let rows = pairs_of(alloc, &[("b", [0, 2]), ("a", [1, 0]), ("c", [0, 0])])?;
+    grower_of(alloc, &rows)
 }
 
 fn both_values(alloc: Global, tree: &CallTree) -> Result<String, Fail> {
     let rows = tree.rows(alloc)?;
-    let first = value_text(alloc, &rows, 0)?;
-    let second = value_text(alloc, &rows, 1)?;
-    Ok(format!(in alloc; "{first}|{second}|{:?}", tree.total().values())?)
+    pairs_text(alloc, &rows, &tree.total())
 }
 
 fn told_by_two(alloc: Global) -> Result<String, Fail> {

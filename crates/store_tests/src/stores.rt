@@ -19,6 +19,19 @@ use std::thread;
 use std::thread::Threads;
 
 // The place that a batch is given, or why it is refused.
+fn add_batch<N: StoreName, R: Wait>(
+    rt: &R,
+    alloc: Global,
+    session: &mut Session<'_, N>,
+    batch: Arc<Batch>,
+) -> Result<u64, BookFault> {
+    match session.add(rt, alloc, batch) {
+        Ok(placed) => Ok(placed.place),
+        Err(refused) => Err(refused.fault),
+    }
+}
+
+// The same of folded text.
 fn add<N: StoreName, R: Wait>(
     rt: &R,
     alloc: Global,
@@ -26,10 +39,7 @@ fn add<N: StoreName, R: Wait>(
     text: &str,
 ) -> Result<Result<u64, BookFault>, Fail> {
     let batch = batch_of(alloc, text)?;
-    match session.add(rt, alloc, batch) {
-        Ok(placed) => Ok(Ok(placed.place)),
-        Err(refused) => Ok(Err(refused.fault)),
-    }
+    Ok(add_batch(rt, alloc, session, batch))
 }
 
 // The weight of all that was added, or why the question is refused.
@@ -257,10 +267,7 @@ fn add_row<N: StoreName, R: Wait>(
     row: &Row,
 ) -> Result<Result<u64, BookFault>, Fail> {
     let batch = row_of(alloc, row.frame, row.values)?;
-    match session.add(rt, alloc, batch) {
-        Ok(placed) => Ok(Ok(placed.place)),
-        Err(refused) => Ok(Err(refused.fault)),
-    }
+    Ok(add_batch(rt, alloc, session, batch))
 }
 
 // What a session is told of each row.

@@ -171,18 +171,25 @@ fn the_limit_of_weights(rt: HostRuntime) -> Result<(), Fail> {
     Ok(())
 }
 
-// Why a book of two values, of which the first has the greatest total, refuses a row.
+// Why a book of two values refuses a row behind one that has the greatest total by the first value.
+fn refused_behind(
+    alloc: Global,
+    book: &mut Book,
+    values: &[u64],
+) -> Result<Option<BookFault>, Fail> {
+    let full = row_of(alloc, "a", &[MAX_TOTAL, 0])?;
+    book.add(alloc, 0, 0, full).ok().ok_or("refused")?;
+    let row = row_of(alloc, "b", values)?;
+    match book.add(alloc, 0, 1, row) {
+        Ok(_) => Ok(None),
+        Err(refused) => Ok(Some(refused.fault)),
+    }
+}
+
 fn refused(alloc: Global, values: &[u64]) -> Result<Option<BookFault>, Fail> {
     let width = width_of(2)?;
-    let full = row_of(alloc, "a", &[MAX_TOTAL, 0])?;
-    let row = row_of(alloc, "b", values)?;
     let mut book = Book::new(alloc, 3, 1, width).ok().ok_or("no memory")?;
-    book.add(alloc, 0, 0, full).ok().ok_or("refused")?;
-    Ok(
-        book.add(alloc, 0, 1, row)
-            .err()
-            .map(|refused| refused.fault),
-    )
+    refused_behind(alloc, &mut book, values)
 }
 
 #[test]

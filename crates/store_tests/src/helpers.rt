@@ -10,14 +10,24 @@ pub(crate) fn batch_of(alloc: Global, text: &str) -> Result<Arc<Batch>, Fail> {
     Ok(Arc::new(alloc, read_folded(alloc, text.as_bytes())?)?)
 }
 
+fn stack_of(alloc: Global, frame: &str) -> Result<Stack, Fail> {
+    let name = Name::make(alloc, frame).ok().ok_or("no name")?;
+    let mut names = Vec::new(alloc);
+    names.push(name).ok().ok_or("no memory")?;
+    Ok(Stack::make(names).ok().ok_or("too deep")?)
+}
+
+fn push_row(alloc: Global, batch: &mut Batch, frame: &str, weights: Weights) -> Result<(), Fail> {
+    let stack = stack_of(alloc, frame)?;
+    batch.push(stack, weights).ok().ok_or("refused")?;
+    Ok(())
+}
+
 /// The batch of one row, whose stack has one frame.
 pub(crate) fn row_of(alloc: Global, frame: &str, values: &[u64]) -> Result<Arc<Batch>, Fail> {
     let weights = Weights::make(values).ok_or("no weights")?;
-    let mut names = Vec::new(alloc);
-    names.push(Name::make(alloc, frame)?)?;
-    let stack = Stack::make(names).ok().ok_or("too deep")?;
     let mut batch = Batch::new(alloc, weights.width());
-    batch.push(stack, weights).ok().ok_or("refused")?;
+    push_row(alloc, &mut batch, frame, weights)?;
     Ok(Arc::new(alloc, batch)?)
 }
 

@@ -7,7 +7,7 @@ use crate::helpers::{
     KEPT_REPORTS, ROWS, answer_text, batch_of, kept_query, kinds, query_of, row_of, value_query,
     width_of,
 };
-use flame_report::{Answer, Kind, Rank};
+use flame_report::{Answer, Kind, Query, Rank};
 use live_store::{Blank, BookFault, Session, Store, StoreName};
 use op_book::Journal;
 use stack_text::{Batch, MAX_TOTAL, Width};
@@ -19,6 +19,19 @@ use std::thread;
 use std::thread::Threads;
 
 // The place that a batch is given, or why it is refused.
+fn add_batch<N: StoreName, R: Wait>(
+    rt: &R,
+    alloc: Global,
+    session: &mut Session<'_, N>,
+    batch: Arc<Batch>,
+) -> Result<u64, BookFault> {
+    match session.add(rt, alloc, batch) {
+        Ok(placed) => Ok(placed.place),
+        Err(refused) => Err(refused.fault),
+    }
+}
+
+// The same of folded text.
 fn add<N: StoreName, R: Wait>(
     rt: &R,
     alloc: Global,
@@ -26,10 +39,7 @@ fn add<N: StoreName, R: Wait>(
     text: &str,
 ) -> Result<Result<u64, BookFault>, Fail> {
     let batch = batch_of(alloc, text)?;
-    match session.add(rt, alloc, batch) {
-        Ok(placed) => Ok(Ok(placed.place)),
-        Err(refused) => Ok(Err(refused.fault)),
-    }
+    Ok(add_batch(rt, alloc, session, batch))
 }
 
 // The weight of all that was added, or why the question is refused.
@@ -238,20 +248,54 @@ fn each_kind<N: StoreName, R: Wait>(
     Ok(text)
 }
 
-// The place that a row of one frame is given, or why it is refused.
+// A row of one frame.
+#[derive(Drop)]
+struct Row<'a> {
+    frame: &'a str,
+    values: &'a [u64],
+}
+
+fn make_row<'a>(frame: &'a str, values: &'a [u64]) -> Row<'a> {
+    Row { frame, values }
+}
+
+// The place that a row is given, or why it is refused.
 fn add_row<N: StoreName, R: Wait>(
     rt: &R,
     alloc: Global,
     session: &mut Session<'_, N>,
-    frame: &str,
-    values: &[u64],
+    row: &Row,
+) -> Result<Result<u64, BookFault>, Fail> {
+    let batch = row_of(alloc, row.frame, row.values)?;
+    Ok(add_batch(rt, alloc, session, batch))
+}
+
+// What a session is told of each row.
+fn add_rows<N: StoreName, R: Wait>(
+    rt: &R,
+    alloc: Global,
+    session: &mut Session<'_, N>,
+    rows: &[Row],
 ) -> Result<String, Fail> {
-    let row = row_of(alloc, frame, values)?;
-    let placed = match session.add(rt, alloc, row) {
-        Ok(placed) => Ok(placed.place),
-        Err(refused) => Err(refused.fault),
-    };
-    Ok(format!(in alloc; "{placed:?}|")?)
+    let mut text = String::new(alloc);
+    for row in rows {
+        let placed = add_row(rt, alloc, session, row)?;
+        write!(text, "{placed:?}|")?;
+    }
+    Ok(text)
+}
+
+// What a session answers, or why it refuses the question.
+fn told_of<N: StoreName, R: Wait>(
+    rt: &R,
+    alloc: Global,
+    session: &mut Session<'_, N>,
+    query: &Arc<Query>,
+) -> Result<String, Fail> {
+    match session.ask(rt, alloc, query) {
+        Ok(answer) => answer_text(alloc, answer),
+        Err(fault) => Ok(format!(in alloc; "{fault:?}")?),
+    }
 }
 
 // What a session answers by a value, or why it refuses the question.
@@ -263,26 +307,20 @@ fn answer_by<N: StoreName, R: Wait>(
     kind: Kind,
 ) -> Result<String, Fail> {
     let query = value_query(alloc, value, kind)?;
-    let text = match session.ask(rt, alloc, &query) {
-        Ok(answer) => answer_text(alloc, answer)?,
-        Err(fault) => format!(in alloc; "{fault:?}")?,
-    };
-    Ok(format!(in alloc; "{text}|")?)
+    told_of(rt, alloc, session, &query)
 }
 
-// A session that adds a row by each of two values: what it answers by each, and what it refuses.
-fn two_values<N: StoreName, R: Wait>(
+// What a session answers to questions of values and kinds.
+fn answers_by<N: StoreName, R: Wait>(
     rt: &R,
     alloc: Global,
     session: &mut Session<'_, N>,
 ) -> Result<String, Fail> {
-    let mut text = add_row(rt, alloc, session, "a", &[1, 0])?;
-    text.push_str(add_row(rt, alloc, session, "b", &[0, 2])?.as_str())?;
-    text.push_str(add_row(rt, alloc, session, "c", &[3])?.as_str())?;
     let top = Kind::Top {
         rank: Rank::Flat,
         count: 20,
     };
+    let mut text = String::new(alloc);
     for (value, kind) in [
         (0, Kind::Total),
         (1, Kind::Total),
@@ -291,8 +329,25 @@ fn two_values<N: StoreName, R: Wait>(
         (2, Kind::Total),
     ] {
         text.push_str(answer_by(rt, alloc, session, value, kind)?.as_str())?;
+        text.push('|')?;
     }
     Ok(text)
+}
+
+// A session that adds a row by each of two values: what it answers by each, and what it refuses.
+fn two_values<N: StoreName, R: Wait>(
+    rt: &R,
+    alloc: Global,
+    session: &mut Session<'_, N>,
+) -> Result<String, Fail> {
+    let rows = [
+        make_row("a", &[1, 0]),
+        make_row("b", &[0, 2]),
+        make_row("c", &[3]),
+    ];
+    let added = add_rows(rt, alloc, session, &rows)?;
+    let answers = answers_by(rt, alloc, session)?;
+    Ok(format!(in alloc; "{added}{answers}")?)
 }
 
 // A session that fills the first of two values: what it is told.
@@ -301,10 +356,12 @@ fn limit_of_each<N: StoreName, R: Wait>(
     alloc: Global,
     session: &mut Session<'_, N>,
 ) -> Result<String, Fail> {
-    let mut text = add_row(rt, alloc, session, "a", &[MAX_TOTAL, 0])?;
-    text.push_str(add_row(rt, alloc, session, "b", &[0, 1])?.as_str())?;
-    text.push_str(add_row(rt, alloc, session, "b", &[1, 0])?.as_str())?;
-    Ok(text)
+    let rows = [
+        make_row("a", &[MAX_TOTAL, 0]),
+        make_row("b", &[0, 1]),
+        make_row("b", &[1, 0]),
+    ];
+    add_rows(rt, alloc, session, &rows)
 }
 
 // What two sessions do, or one of them.

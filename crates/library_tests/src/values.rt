@@ -30,11 +30,11 @@ fn fault_of(alloc: Global, bytes: &[u8], choice: ValueChoice) -> Result<Option<B
 // A profile of so many sample types, all of one name, and of one sample at a location without lines. Its values are
 // given as they stand in the message.
 fn sampled(alloc: Global, types: usize, values: &[u8]) -> Result<Vec<u8>, Fail> {
+    let size = u8::try_from(values.len()).ok().ok_or("too long")?;
     let mut bytes = Vec::new(alloc);
     for _ in 0..types {
         bytes.extend_from_slice(&[0x0a, 0x04, 0x08, 0x01, 0x10, 0x02])?;
     }
-    let size = values.len() as u8;
     bytes.extend_from_slice(&[0x12, size.wrapping_add(5), 0x0a, 0x01, 0x01, 0x12, size])?;
     bytes.extend_from_slice(values)?;
     bytes.extend_from_slice(&[0x22, 0x02, 0x08, 0x01, 0x32, 0x00])?;

@@ -3,7 +3,8 @@
 pub use folded_text::laws::written_rows_read_back;
 pub use profile_rows::laws::{
     aggregate_has_weights, aggregate_is_by_weights, aggregate_of_its_rows, aggregate_of_more_rows,
-    kept_rows_are_by_the_aggregate, rectangles_are_by_the_aggregate,
-    sums_are_those_of_the_aggregate, top_list_is_front_of_sorted, top_lists_are_by_the_aggregate,
+    kept_rows_are_by_the_aggregate, rectangles_are_by_the_aggregate, rows_at_of_more_rows,
+    rows_of_aggregates_are_unique, sums_are_those_of_the_aggregate, top_list_is_front_of_sorted,
+    top_lists_are_by_the_aggregate,
 };
 pub use profile_samples::laws::{export_reads_back, rows_of_one_value};

@@ -118,6 +118,7 @@ pub(crate) fn command<'a>(alloc: Global) -> Result<Command<'a>, AllocError>
     Command::new(alloc, "flame")
         .bin_name("flame")?
         .about(help::ABOUT)
+        .after_help(help::AFTER_PROGRAM)
         .subcommand_required(true)
         .subcommand(top_command(alloc)?)?
         .subcommand(flame_graph_command(alloc)?)?

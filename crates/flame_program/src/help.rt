@@ -19,21 +19,28 @@ pub const VALUE: &str = "\
     The sample type of a pprof profile whose values are the weights, by its name, such as cpu or alloc_space; \
     without it the profile's own choice";
 
-pub const FOCUS: &str = "Keep only stacks that have a frame of exactly this name";
+pub const FOCUS: &str = "Count only stacks that have a frame of exactly this name, in totals too";
 
-pub const IGNORE: &str = "Leave out stacks that have a frame of exactly this name";
+pub const IGNORE: &str = "Leave out stacks that have a frame of exactly this name, in totals too";
 
 pub const BY: &str = "\
     What the names are ordered by: flat (the weight of stacks that end with the name) or cum (of stacks that \
     contain it)";
 
-pub const COUNT: &str = "How many names are listed at most";
+pub const COUNT: &str = "How many names are listed at most; the total stays as it is";
 
-pub const COLUMNS: &str = "How many columns the whole graph takes, 1 to 65535";
+pub const COLUMNS: &str = "\
+    How many columns the whole graph takes, 1 to 65535; a rectangle that takes none of them is left out";
 
-pub const KIND: &str = "The name of the profile's sample type";
+pub const KIND: &str = "The name of the profile's sample type; it changes no number";
 
-pub const UNIT: &str = "The unit of the profile's sample type";
+pub const UNIT: &str = "The unit of the profile's sample type; it changes no number";
+
+pub const AFTER_PROGRAM: &str = "\
+Example:
+  $ printf 'main;a;b 3\\nmain;a 2\\nmain;c 5\\n' | flame fold --focus a
+  main;a 2
+  main;a;b 3";
 
 pub const AFTER_TOP: &str = "\
 The first line of output has the total. Each line after it has the flat weight of a name (the

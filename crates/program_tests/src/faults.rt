@@ -60,11 +60,11 @@ fn deepest_stack(rt: HostRuntime) -> Result<(), Fail> {
 #[test]
 fn refused_words(rt: HostRuntime) -> Result<(), Fail> {
     let cases: [(&[&str], &str); 13] = [
-        (&[], "Usage: "),
-        (&["flame"], "Usage: flame"),
+        (&[], "Usage: flame <COMMAND>"),
+        (&["flame"], "Usage: flame <COMMAND>"),
         (&["flame", "nope"], "unrecognized subcommand 'nope'"),
-        (&["flame", "--help"], "Usage: flame"),
-        (&["flame", "help"], "Usage: flame"),
+        (&["flame", "--help"], "\n  main;a 2\n  main;a;b 3\n"),
+        (&["flame", "help"], "Usage: flame <COMMAND>"),
         (&["flame", "top", "--help"], "total 10"),
         (
             &["flame", "fold", "--by", "cum"],
@@ -101,6 +101,23 @@ fn refused_words(rt: HostRuntime) -> Result<(), Fail> {
         assert_eq!(rt; status.code, 2, "{part}");
         assert!(rt; said.contains(part), "{said}");
         assert!(rt; written.is_empty(), "{part}");
+    }
+    Ok(())
+}
+
+#[test]
+fn usage_lines_name_the_program(rt: HostRuntime) -> Result<(), Fail> {
+    let cases: [&[&str]; 4] = [
+        &["out/flame_tool"],
+        &["out/flame_tool", "nope"],
+        &["out/flame_tool", "top", "--help"],
+        &["out/flame_tool", "fold", "--by", "cum"],
+    ];
+    for (place, words) in cases.iter().enumerate() {
+        let (status, _) = run_on(rt.alloc(), words, STORED, MAX_INPUT);
+        let said = status.cause.to_string(rt.alloc())?;
+        assert!(rt; said.contains("\nUsage: flame "), "{place}");
+        assert!(rt; !said.contains("flame_tool"), "{place}");
     }
     Ok(())
 }

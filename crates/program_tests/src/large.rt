@@ -6,11 +6,11 @@ use std::alloc::{AllocError, Global};
 use std::test::Fail;
 
 // The samples are numbered from 128 to 3,199, and each weighs its number. Its leaf has the address 0x7f0000000000 + its
-// number, and its root the address 0x7fffffffffff: locations without lines, which are called by their addresses.
+// number, and its root the address 0xffffffffffffffff: locations without lines, which are called by their addresses.
 const TYPE_AND_STRINGS: &[u8] = b"\x0a\x04\x08\x01\x10\x02\x32\x00\x32\x03cpu\x32\x02ns";
 
 // The root's location, of id 1.
-const ROOT: &[u8] = b"\x22\x0b\x08\x81\x00\x18\xff\xff\xff\xff\xff\xff\x1f";
+const ROOT: &[u8] = b"\x22\x0e\x08\x81\x00\x18\xff\xff\xff\xff\xff\xff\xff\xff\xff\x01";
 
 // The sample and the leaf's location of each number `128 * high + low`.
 fn push_samples(bytes: &mut Vec<u8>, high: u8) -> Result<(), AllocError> {
@@ -37,7 +37,7 @@ fn profile(alloc: Global) -> Result<Vec<u8>, AllocError> {
 fn folded(alloc: Global) -> Result<Vec<u8>, AllocError> {
     let mut text = Vec::new(alloc);
     for number in 128..3_200u32 {
-        let line = format!(in alloc; "0x7fffffffffff;0x7f0000000{number:03x} {number}\n")?;
+        let line = format!(in alloc; "0xffffffffffffffff;0x7f0000000{number:03x} {number}\n")?;
         text.extend_from_slice(line.as_bytes())?;
     }
     Ok(text)
@@ -67,11 +67,11 @@ const REPORTS: [(&[&str], &[u8]); 9] = [
     ),
     (
         &["flame", "top", "--by", "cum", "--count", "2"],
-        b"total 5110272\n0 5110272 0x7fffffffffff\n3199 3199 0x7f0000000c7f\n",
+        b"total 5110272\n0 5110272 0xffffffffffffffff\n3199 3199 0x7f0000000c7f\n",
     ),
     (
         &["flame", "top", "--focus", "0x7f0000000c7f"],
-        b"total 3199\n3199 3199 0x7f0000000c7f\n0 3199 0x7fffffffffff\n",
+        b"total 3199\n3199 3199 0x7f0000000c7f\n0 3199 0xffffffffffffffff\n",
     ),
     (
         &[
@@ -87,19 +87,19 @@ const REPORTS: [(&[&str], &[u8]); 9] = [
         b"total 5107073\n3198 3198 0x7f0000000c7e\n",
     ),
     (
-        &["flame", "top", "--ignore", "0x7fffffffffff"],
+        &["flame", "top", "--ignore", "0xffffffffffffffff"],
         b"total 0\n",
     ),
     (
         &["flame", "fold", "--focus", "0x7f0000000c7f"],
-        b"0x7fffffffffff;0x7f0000000c7f 3199\n",
+        b"0xffffffffffffffff;0x7f0000000c7f 3199\n",
     ),
-    (&["flame", "fold", "--ignore", "0x7fffffffffff"], b""),
+    (&["flame", "fold", "--ignore", "0xffffffffffffffff"], b""),
     (
         &["flame", "flame", "--columns", "1"],
         b"{\"columns\":1,\"rects\":[\
           {\"depth\":0,\"left\":0,\"name\":\"\",\"right\":1,\"weight\":5110272,\"x\":0},\
-          {\"depth\":1,\"left\":0,\"name\":\"0x7fffffffffff\",\"right\":1,\"weight\":5110272,\"x\":0},\
+          {\"depth\":1,\"left\":0,\"name\":\"0xffffffffffffffff\",\"right\":1,\"weight\":5110272,\"x\":0},\
           {\"depth\":2,\"left\":0,\"name\":\"0x7f0000000c7f\",\"right\":1,\"weight\":3199,\"x\":5107073}\
           ],\"total\":5110272}\n",
     ),
@@ -114,7 +114,7 @@ const REPORTS: [(&[&str], &[u8]); 9] = [
         ],
         b"{\"columns\":2,\"rects\":[\
           {\"depth\":0,\"left\":0,\"name\":\"\",\"right\":2,\"weight\":3199,\"x\":0},\
-          {\"depth\":1,\"left\":0,\"name\":\"0x7fffffffffff\",\"right\":2,\"weight\":3199,\"x\":0},\
+          {\"depth\":1,\"left\":0,\"name\":\"0xffffffffffffffff\",\"right\":2,\"weight\":3199,\"x\":0},\
           {\"depth\":2,\"left\":0,\"name\":\"0x7f0000000c7f\",\"right\":2,\"weight\":3199,\"x\":0}\
           ],\"total\":3199}\n",
     ),
@@ -138,8 +138,8 @@ const WHOLE: [(&[&str], usize, &[u8], &[u8]); 4] = [
     (
         &["flame", "fold"],
         3_072,
-        b"0x7fffffffffff;0x7f0000000080 128\n0x7fffffffffff;0x7f0000000081 129\n",
-        b"0x7fffffffffff;0x7f0000000c7f 3199\n",
+        b"0xffffffffffffffff;0x7f0000000080 128\n0xffffffffffffffff;0x7f0000000081 129\n",
+        b"0xffffffffffffffff;0x7f0000000c7f 3199\n",
     ),
     (
         &["flame", "top"],
@@ -151,7 +151,7 @@ const WHOLE: [(&[&str], usize, &[u8], &[u8]); 4] = [
         &["flame", "top", "--count", "5000"],
         3_074,
         b"total 5110272\n3199 3199 0x7f0000000c7f\n",
-        b"\n128 128 0x7f0000000080\n0 5110272 0x7fffffffffff\n",
+        b"\n128 128 0x7f0000000080\n0 5110272 0xffffffffffffffff\n",
     ),
     (
         &["flame", "flame"],

@@ -1,12 +1,12 @@
 //! What no clause says of reports: that calls succeed with ample memory, and what they answer on worked rows.
 
-use crate::helpers::{grower_of, pairs_of, rows_of};
+use crate::helpers::{grower_of, pairs_of, rows_of, stack_of};
 use call_tree::CallTree;
 use flame_report::{
     Answer, Columns, Flame, Kind, Label, MAX_COLUMNS, Query, Rank, flame_json, report, report_of,
-    top_list, top_text,
+    report_of_stacks, top_list, top_text,
 };
-use stack_text::{Batch, Name, folded_totals};
+use stack_text::{Batch, Name, WeightedStacks, folded_totals};
 use std::alloc::Global;
 use std::test::Fail;
 
@@ -349,6 +349,87 @@ fn a_report_is_over_the_value_that_it_names(rt: HostRuntime) -> Result<(), Fail>
         ),
     ] {
         let answer = answered_by_value(rt.alloc(), value, kind)?;
+        assert_eq!(rt; answer.as_str(), want);
+    }
+    Ok(())
+}
+
+fn push_stacks(
+    alloc: Global,
+    rows: &mut WeightedStacks,
+    stacks: &[(&str, u64)],
+) -> Result<(), Fail> {
+    for (frames, weight) in stacks {
+        let stack = stack_of(alloc, frames)?;
+        rows.push(stack, *weight).ok().ok_or("refused")?;
+    }
+    Ok(())
+}
+
+fn stacks_of(alloc: Global, stacks: &[(&str, u64)]) -> Result<WeightedStacks, Fail> {
+    let mut rows = WeightedStacks::new(alloc);
+    push_stacks(alloc, &mut rows, stacks)?;
+    Ok(rows)
+}
+
+// The answer over rows of one value, one of them twice and one of no weight.
+fn stacks_answered(alloc: Global, query: &Query) -> Result<String, Fail> {
+    let rows = stacks_of(
+        alloc,
+        &[
+            ("main;c", 5),
+            ("main;a;b", 1),
+            ("z", 0),
+            ("main;a", 2),
+            ("main;a;b", 2),
+        ],
+    )?;
+    let answer = report_of_stacks(alloc, rows, query)?;
+    answer_text(alloc, &answer)
+}
+
+// The same, of the rows with the focus and without the ignored name; an empty text is none.
+fn kept_stacks_answered(
+    alloc: Global,
+    focus: &str,
+    ignore: &str,
+    kind: Kind,
+) -> Result<String, Fail> {
+    let query = Query {
+        focus: some_name(alloc, focus)?,
+        ignore: some_name(alloc, ignore)?,
+        value: 3,
+        kind,
+    };
+    stacks_answered(alloc, &query)
+}
+
+#[test]
+fn rows_of_one_value_have_reports(rt: HostRuntime) -> Result<(), Fail> {
+    for (focus, ignore, kind, want) in [
+        ("", "", Kind::Total, "10"),
+        ("", "", top(Rank::Cum, 2), "total 10\n0 10 main\n2 5 a\n"),
+        ("", "", Kind::Folded, "main;a 2\nmain;a;b 3\nmain;c 5\n"),
+        (
+            "",
+            "",
+            flame(2)?,
+            "{\"columns\":2,\"rects\":[\
+             {\"depth\":0,\"left\":0,\"name\":\"\",\"right\":2,\"weight\":10,\"x\":0},\
+             {\"depth\":1,\"left\":0,\"name\":\"main\",\"right\":2,\"weight\":10,\"x\":0},\
+             {\"depth\":2,\"left\":0,\"name\":\"a\",\"right\":1,\"weight\":5,\"x\":0},\
+             {\"depth\":2,\"left\":1,\"name\":\"c\",\"right\":2,\"weight\":5,\"x\":5}],\"total\":10}",
+        ),
+        ("a", "", Kind::Folded, "main;a 2\nmain;a;b 3\n"),
+        ("a", "b", Kind::Total, "2"),
+        (
+            "",
+            "b",
+            top(Rank::Flat, 20),
+            "total 7\n5 5 c\n2 2 a\n0 7 main\n",
+        ),
+    ] {
+        let answer = kept_stacks_answered(rt.alloc(), focus, ignore, kind)?;
         assert_eq!(rt; answer.as_str(), want);
     }
     Ok(())

@@ -140,16 +140,16 @@ fn a_sample_of_65535_frames_is_read(rt: HostRuntime) -> Result<(), Fail> {
     Ok(())
 }
 
-fn sums_text(alloc: Global, profile: &Profile) -> Result<String, Fail> {
+fn merged_text(alloc: Global, profile: &Profile) -> Result<String, Fail> {
     let merged = merge_samples(alloc, profile, ValueChoice::Default)?;
     let text = String::from_utf8(write_stacks(alloc, &merged)?);
     Ok(text.ok().ok_or("no text")?)
 }
 
-// The rows of a profile's samples where equal ones are put together, as folded text.
-fn read_sums(alloc: Global, bytes: &[u8]) -> Result<String, Fail> {
+// The rows of a profile's samples, equal ones merged, as folded text.
+fn read_merged(alloc: Global, bytes: &[u8]) -> Result<String, Fail> {
     let profile = decode(alloc, bytes)?;
-    sums_text(alloc, &profile)
+    merged_text(alloc, &profile)
 }
 
 // Two samples of the frame f, of the values 7 and 5.
@@ -166,7 +166,7 @@ fn samples_are_merged_to_rows(rt: HostRuntime) -> Result<(), Fail> {
         (INLINED_AND_BARE_LOCATIONS, "0xff;c;b;a 2\n"),
         (TWO_EQUAL_SAMPLES, "f 12\n"),
     ] {
-        let rows = read_sums(rt.alloc(), bytes)?;
+        let rows = read_merged(rt.alloc(), bytes)?;
         assert_eq!(rt; rows.as_str(), want);
     }
     Ok(())

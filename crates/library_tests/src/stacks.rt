@@ -146,7 +146,7 @@ fn the_first_fault_is_answered_with_its_line(rt: HostRuntime) -> Result<(), Fail
     Ok(())
 }
 
-// The sums of the rows of folded text, in the order of stacks.
+// The aggregate of the rows of folded text, as folded text.
 fn aggregated(alloc: Global, text: &str) -> Result<String, Fail> {
     let rows = rows_of(alloc, text)?;
     text_of(alloc, &aggregate(alloc, &rows)?)
@@ -166,9 +166,9 @@ fn an_aggregate_has_each_stack_once(rt: HostRuntime) -> Result<(), Fail> {
 
 #[test]
 fn lines_of_one_stack_are_merged(rt: HostRuntime) -> Result<(), Fail> {
-    let sums = merge_folded(rt.alloc(), b"a;b 1\nc 2\na;b 3\n")?;
+    let merged = merge_folded(rt.alloc(), b"a;b 1\nc 2\na;b 3\n")?;
     assert_eq!(rt;
-        write_stacks(rt.alloc(), &sums)?.as_slice(),
+        write_stacks(rt.alloc(), &merged)?.as_slice(),
         b"a;b 4\nc 2\n".as_slice()
     );
     Ok(())

@@ -2,7 +2,7 @@
 
 use crate::helpers::{grower_of, pairs_of, pairs_text, plan, rows_of, stack_of, text_of};
 use call_tree::{CallTree, Grower};
-use stack_text::{Batch, MAX_DEPTH, Width};
+use stack_text::{Batch, MAX_DEPTH, WeightedStacks, Width, write_stacks};
 use std::alloc::{AllocError, Global};
 use std::test::Fail;
 
@@ -367,5 +367,42 @@ fn told_by_two(alloc: Global) -> Result<String, Fail> {
 fn a_tree_has_what_weighs_by_any_value(rt: HostRuntime) -> Result<(), Fail> {
     let told = told_by_two(rt.alloc())?;
     assert_eq!(rt; told.as_str(), "a 1\nb 0\n|a 0\nb 2\n|[1, 2]");
+    Ok(())
+}
+
+fn stacks_text(alloc: Global, stacks: &WeightedStacks) -> Result<String, Fail> {
+    let text = String::from_utf8(write_stacks(alloc, stacks)?);
+    Ok(text.ok().ok_or("no text")?)
+}
+
+// The stacks of a tree as folded text, by a value.
+fn stacks_by_value(alloc: Global, tree: &CallTree, value: u32) -> Result<String, Fail> {
+    if value >= tree.width().get() {
+        return Err("no such value".into());
+    }
+    stacks_text(alloc, &tree.weighted_stacks(alloc, value)?)
+}
+
+const NESTED: [(&str, [u64; 2]); 6] = [
+    ("a!;x", [1, 1]),
+    ("a;b", [2, 0]),
+    ("", [6, 3]),
+    ("a;b", [0, 4]),
+    ("a;b;c", [0, 0]),
+    ("a", [0, 5]),
+];
+
+// The stacks of the tree of these rows, by a value.
+fn nested_stacks(alloc: Global, value: u32) -> Result<String, Fail> {
+    let grower = grower_of(alloc, &pairs_of(alloc, &NESTED)?)?;
+    stacks_by_value(alloc, grower.tree(), value)
+}
+
+#[test]
+fn a_tree_has_its_stacks_by_each_value(rt: HostRuntime) -> Result<(), Fail> {
+    for (value, want) in [(0, " 6\na;b 2\na!;x 1\n"), (1, " 3\na 5\na;b 4\na!;x 1\n")] {
+        let stacks = nested_stacks(rt.alloc(), value)?;
+        assert_eq!(rt; stacks.as_str(), want);
+    }
     Ok(())
 }

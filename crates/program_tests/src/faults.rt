@@ -59,13 +59,17 @@ fn deepest_stack(rt: HostRuntime) -> Result<(), Fail> {
 
 #[test]
 fn refused_words(rt: HostRuntime) -> Result<(), Fail> {
-    let cases: [(&[&str], &str); 13] = [
+    let cases: [(&[&str], &str); 14] = [
         (&[], "Usage: flame <COMMAND>"),
         (&["flame"], "Usage: flame <COMMAND>"),
         (&["flame", "nope"], "unrecognized subcommand 'nope'"),
         (&["flame", "--help"], "\n  main;a 2\n  main;a;b 3\n"),
         (&["flame", "help"], "Usage: flame <COMMAND>"),
         (&["flame", "top", "--help"], "total 10"),
+        (
+            &["flame", "top", "--help"],
+            "gunzip -c cpu.pb.gz | flame top --format pprof) [default: folded]\n",
+        ),
         (
             &["flame", "fold", "--by", "cum"],
             "unexpected argument '--by'",

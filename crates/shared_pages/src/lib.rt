@@ -1,0 +1,7 @@
+//! A list that only grows, in pages that several owners share. An owner's change copies what others own too, and
+//! changes in place what it owns alone.
+#![tactic(auto)]
+
+mod pages;
+
+pub use pages::Pages;

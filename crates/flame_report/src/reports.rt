@@ -1,14 +1,13 @@
 //! Reports: the answer to a query over a call tree, or over a batch.
 
 ghost use Rattle.std.specs.Prelude.{◌≡◌, ◌+◌, ◌^◌, ◌<◌, IfOk, IsTrue, List};
-ghost use Rattle.profile_rows.specs.Aggregate.{aggregate_of, rows_of};
+ghost use Rattle.profile_rows.specs.Aggregate.{AreWeighty, IsAscending, aggregate_of, rows_of};
 ghost use Rattle.folded_text.specs.FoldedText.{folded_text_of};
 ghost use Rattle.profile_rows.specs.Rows.{total_of};
 ghost use Rattle.profile_rows.specs.declared.weighted_stacks.WeightedStack.{WeightedStack};
 ghost use Rattle.call_tree.specs.State.{weights_of};
 ghost use Rattle.flame_report.specs.Answers.{answer_of, flame_of, kept_by, top_of, value_answer_of};
 ghost use Rattle.profile_rows.specs.Values.{rows_at};
-ghost use Rattle.flame_report.specs.Sharing.{AreWeighty, IsAscending};
 
 use crate::answer::{Answer, Flame, Top};
 use crate::items::Items;

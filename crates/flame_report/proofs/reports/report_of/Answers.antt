@@ -1,11 +1,10 @@
 -- The rows that a batch adds up to have its answer.
 use Rattle.std.proofs.Common.{refl, subst, sym, ap, ◌∙◌, List}
-use Rattle.profile_rows.specs.Aggregate.{aggregate_of}
+use Rattle.profile_rows.specs.Aggregate.{AreWeighty, IsAscending, aggregate_of}
 use Rattle.profile_rows.specs.Values.{rows_at}
 use Rattle.profile_rows.specs.declared.weighted_stacks.WeightedStack.{WeightedStack}
 use Rattle.flame_report.specs.Answers.{answer_of, value_answer_of}
-use Rattle.flame_report.specs.Sharing.{AreWeighty, IsAscending}
-use Rattle.flame_report.proofs.InOrder.{rows_of-AreWeighty, rows_of-IsAscending}
+use Rattle.profile_rows.proofs.InOrder.{rows_of-AreWeighty, rows_of-IsAscending}
 use Rattle.flame_report.proofs.Same.{answer_of-rows_of, if_ok_seen}
 use Rattle.flame_report.proofs.reports.report_of.Goals as goal
 

@@ -1,10 +1,9 @@
 -- Rows in order, each of some weight, are the rows of their own aggregate; and what a query keeps of them is such a list too.
-use Rattle.std.proofs.Common.{◌≡◌, ℕ, suc, ◌+◌, ◌<◌, Bool, true, false, cond, ltb, List, [], ◌∷◌, ◌++◌, map, Option, None, Some, refl, sym, ap, ◌∙◌, subst, arith, zero-add}
-use Rattle.std.specs.Prelude.{T, ◌&&◌, unwrap_or}
+use Rattle.std.proofs.Common.{◌≡◌, ℕ, suc, ◌+◌, ◌<◌, true, false, cond, ltb, List, [], ◌∷◌, ◌++◌, map, Option, None, Some, refl, sym, ap, ◌∙◌, subst, arith, zero-add}
+use Rattle.std.specs.Prelude.{T, unwrap_or}
 use Rattle.std.specs.List.{AllByRecursion}
-use Rattle.std.specs.declared.cmp.Ordering.{Ordering}
 use Rattle.std.specs.declared.cmp.Ordering.TheVariants.{Less, Equal, Greater}
-use Rattle.std.specs.Ordering.{is_eq, is_lt, ordering_reverse}
+use Rattle.std.specs.Ordering.{is_eq, ordering_reverse}
 use Rattle.std.specs.FinMap as finite
 use Rattle.std.specs.FinMap.{put, find, is_sorted, entries-insert, get-entries, entries_sorted}
 use Rattle.std.specs.FinMap.Entries.{by_order, below_all}
@@ -14,10 +13,9 @@ use Rattle.std.proofs.lemmas.List.Elements.{recursion_from_All, All-from_recursi
 use Rattle.std.proofs.lemmas.List.Kept.{AllPairs-cons, AllPairs-filter}
 use Rattle.profile_rows.specs.declared.weighted_stacks.WeightedStack.{WeightedStack}
 use Rattle.profile_rows.specs.Rows.{stack_cmp, is_kept, kept_rows}
-use Rattle.profile_rows.specs.Aggregate.{Weighted, weight_in, with_row, with_rows, aggregate_of, row_of, rows_of}
+use Rattle.profile_rows.specs.Aggregate.{AreWeighty, IsAscending, Weighted, weight_in, with_row, with_rows, aggregate_of, row_of, rows_of}
 use Rattle.profile_rows.proofs.EntryLaws.{Entry, first, less, no_entries, second}
 use Rattle.profile_rows.proofs.RowLaws.{stack_cmp_total}
-use Rattle.flame_report.specs.Sharing.{IsAscending, AreWeighty}
 
 abbrev entry : WeightedStack → Entry
 entry row = (row.stack, row.weight)

@@ -14,7 +14,7 @@ use crate::node::Node;
 use crate::nodes::Nodes;
 use profile_rows::{
     Batch, FrameTotal, MAX_DEPTH, Name, NoMemory, Stack, WeightedStack, WeightedStacks, Weights,
-    Width, aggregate,
+    Width, aggregate, aggregate_stacks,
 };
 use shared_pages::Pages;
 use std::alloc::{AllocError, Global};
@@ -311,17 +311,17 @@ impl CallTree {
     }
 
     /// The stacks of weight above 0 by a value, by their nodes.
-    fn weighted_rows(&self, alloc: Global, value: u32) -> Result<Vec<WeightedStack>, NoMemory>
+    fn weighted_rows(&self, alloc: Global, value: u32) -> Result<WeightedStacks, NoMemory>
         requires { value < self.now.width }
-        ensures { IfOk result (λ rows. rows.items ≡ filter has_weight (nodes_at self.now value)) }
+        ensures { IfOk result (λ rows. rows ≡ filter has_weight (nodes_at self.now value)) }
     {
         self.known();
-        let mut rows = Vec::new(alloc);
+        let mut rows = WeightedStacks::new(alloc);
         for index in 0..self.nodes.len() {
             let weight = self.nodes.read(value, index).own;
             if weight > 0 {
                 let stack = self.stack_of(alloc, index)?;
-                rows.push(WeightedStack { stack, weight })?;
+                rows.push(stack, weight).map_err(|_| NoMemory)?;
             }
         }
         Ok(rows)
@@ -337,10 +337,8 @@ impl CallTree {
         requires { value < self.now.width }
         ensures { IfOk result (λ batch. batch ≡ rows_of (weights_of self.now value)) }
     {
-        self.known();
-        let mut rows = self.weighted_rows(alloc, value)?;
-        rows.sort_by(|left, right| left.stack.cmp(&right.stack))?;
-        batch_of(alloc, rows)
+        let rows = self.weighted_rows(alloc, value)?;
+        aggregate_stacks(alloc, rows)
     }
 
     /// Each stack that weighs something by some value once, in the order of stacks, with all its values.
@@ -456,20 +454,6 @@ fn weighing(width: Width, value: u32, weight: u64) -> Weights
     let mut places = [0; 4];
     places[value as usize] = weight;
     weights_from(&places, width)
-}
-
-/// A batch of these rows.
-fn batch_of(alloc: Global, rows: Vec<WeightedStack>) -> Result<WeightedStacks, NoMemory>
-    ensures { IfOk result (λ batch. batch ≡ rows.items) }
-{
-    let mut batch = WeightedStacks::new(alloc);
-    for row in rows {
-        let WeightedStack { stack, weight } = row;
-        if batch.push(stack, weight).is_err() {
-            return Err(NoMemory);
-        }
-    }
-    Ok(batch)
 }
 
 /// The first of four places, as many as the width says.

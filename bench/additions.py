@@ -3,9 +3,9 @@
 
     bench/additions.py [--pages 64,128,256] [--rounds 5] [--work FOLDER] [--peers FOLDER]
 
-The rows have 34 frames. They are random walks in a seeded call graph, so that they share their first frames, as stacks do.
-The first rows build the tree, and then as many as --additions says are added one by one, each a row of the tree that is
-drawn at random. Two kinds of additions are timed:
+The rows have 34 frames. They are random walks in a seeded call graph, so that they share their first frames, as stacks
+do. The first rows build the tree, and then as many as --additions says are added one by one, each a row of the tree
+that is drawn at random. Two kinds of additions are timed:
   alone    a batch is planned and credited;
   shared   the same, and a share of the tree after each addition is held until the next.
 
@@ -82,7 +82,8 @@ def write_rows(folder, options):
 def crates_below():
     """The lines of crates.txt for the program's libraries and all below them."""
     lines = (TOP / "crates.txt").read_text(encoding="utf-8").splitlines()
-    uses = {name: rest.split() for name, _, rest in (line.partition(":") for line in lines if line[:1] not in ("#", ""))}
+    parts = (line.partition(":") for line in lines if line[:1] not in ("#", ""))
+    uses = {name: rest.split() for name, _, rest in parts}
     found, left = {}, list(LIBRARIES)
     while left:
         name = left.pop()
@@ -180,7 +181,8 @@ def print_times(labels, least, additions, has_peer):
         for label in labels:
             wall, processor = (least[label, kind, clock] for clock in ("wall", "processor"))
             ratio = f"{peers[kind] / wall:.2f}" if has_peer else ""
-            print(f"{label + ' ' + kind:<24}{wall:>10}{processor:>11}{1e9 / wall:>13.0f}{ratio:>8}{wall / processor:>7.2f}")
+            rate, busy = 1e9 / wall, wall / processor
+            print(f"{label + ' ' + kind:<24}{wall:>10}{processor:>11}{rate:>13.0f}{ratio:>8}{busy:>7.2f}")
 
 
 def print_pages(program, nodes, file):
@@ -197,7 +199,9 @@ def read_options():
     reader.add_argument("--additions", type=int, default=40_000, help="how many are timed")
     reader.add_argument("--rounds", type=int, default=5)
     reader.add_argument("--seed", type=int, default=7)
-    reader.add_argument("--peers", type=pathlib.Path, default=os.environ.get("PEERS"), help="the folder of the Rust programs")
+    reader.add_argument(
+        "--peers", type=pathlib.Path, default=os.environ.get("PEERS"), help="the folder of the Rust programs"
+    )
     reader.add_argument("--work", type=pathlib.Path, help="a folder outside the repository that is kept")
     return reader.parse_args()
 
@@ -216,7 +220,8 @@ def run(options, work):
     for page in map(int, options.pages.split(",")):
         ours[f"{page} x {options.group}"] = build(work / f"pages_{page}_{options.group}", page, options.group)
     tree_rows = write_rows(work, options)
-    print(f"{tree_rows} rows build a tree of {options.nodes} nodes; {options.additions} additions; load {os.getloadavg()[0]:.1f}", flush=True)
+    load = os.getloadavg()[0]
+    print(f"{tree_rows} rows build a tree of {options.nodes} nodes; {options.additions} additions; load {load:.1f}")
     live, pages = peer(options, "live"), peer(options, "pages")
     least = time_all(ours, live, work, tree_rows, options.rounds)
     print_times(ours, least, options.additions, live is not None)

@@ -70,7 +70,7 @@ def tree_stacks(dice, nodes, names):
 def write_rows(folder, options):
     """Writes the tree's rows, and those with the additions behind them, and tells how many build the tree."""
     dice = random.Random(options.seed)
-    names = ["%s::%s::%s_%d" % (*dice.choices(WORDS, k=3), number) for number in range(options.names)]
+    names = ["::".join(dice.choices(WORDS, k=3)) + f"_{number}" for number in range(options.names)]
     stacks = tree_stacks(dice, options.nodes, len(names))
     added = [dice.choice(stacks) for _ in range(options.additions)]
     for file, rows in (("tree", stacks), ("all", stacks + added)):
@@ -82,7 +82,7 @@ def write_rows(folder, options):
 def crates_below():
     """The lines of crates.txt for the program's libraries and all below them."""
     lines = (TOP / "crates.txt").read_text(encoding="utf-8").splitlines()
-    parts = (line.partition(":") for line in lines if line[:1] not in ("#", ""))
+    parts = [line.partition(":") for line in lines if line[:1] not in ("#", "")]
     uses = {name: rest.split() for name, _, rest in parts}
     found, left = {}, list(LIBRARIES)
     while left:
@@ -181,8 +181,8 @@ def print_times(labels, least, additions, has_peer):
         for label in labels:
             wall, processor = (least[label, kind, clock] for clock in ("wall", "processor"))
             ratio = f"{peers[kind] / wall:.2f}" if has_peer else ""
-            rate, busy = 1e9 / wall, wall / processor
-            print(f"{label + ' ' + kind:<24}{wall:>10}{processor:>11}{rate:>13.0f}{ratio:>8}{busy:>7.2f}")
+            times = f"{wall:>10}{processor:>11}{1e9 / wall:>13.0f}{ratio:>8}{wall / processor:>7.2f}"
+            print(f"{label + ' ' + kind:<24}{times}")
 
 
 def print_pages(program, nodes, file):
@@ -199,9 +199,7 @@ def read_options():
     reader.add_argument("--additions", type=int, default=40_000, help="how many are timed")
     reader.add_argument("--rounds", type=int, default=5)
     reader.add_argument("--seed", type=int, default=7)
-    reader.add_argument(
-        "--peers", type=pathlib.Path, default=os.environ.get("PEERS"), help="the folder of the Rust programs"
-    )
+    reader.add_argument("--peers", default=os.environ.get("PEERS"), help="the folder of the Rust programs")
     reader.add_argument("--work", type=pathlib.Path, help="a folder outside the repository that is kept")
     return reader.parse_args()
 
@@ -220,8 +218,8 @@ def run(options, work):
     for page in map(int, options.pages.split(",")):
         ours[f"{page} x {options.group}"] = build(work / f"pages_{page}_{options.group}", page, options.group)
     tree_rows = write_rows(work, options)
-    load = os.getloadavg()[0]
-    print(f"{tree_rows} rows build a tree of {options.nodes} nodes; {options.additions} additions; load {load:.1f}")
+    print(f"{tree_rows} rows build a tree of {options.nodes} nodes; {options.additions} additions", flush=True)
+    print(f"load {os.getloadavg()[0]:.1f} on {os.cpu_count()} cores", flush=True)
     live, pages = peer(options, "live"), peer(options, "pages")
     least = time_all(ours, live, work, tree_rows, options.rounds)
     print_times(ours, least, options.additions, live is not None)

@@ -234,13 +234,13 @@ impl Grower {
         ensures grown { AreGrown self.old self.new }
     {
         self.tree.known();
-        let guess = walk.guess(depth);
+        let guess = walk.guess(place);
         if let Some(number) = self.tree.number_below(place, guess, &frames[depth]) {
             let _there = walk.add(number)?;
             return Ok(guess);
         }
         let child = self.look_up(frames, depth, place, walk)?;
-        walk.keep(depth, child)?;
+        walk.keep(place, child)?;
         Ok(child)
     }
 

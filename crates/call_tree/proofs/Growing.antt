@@ -1,16 +1,15 @@
 -- A tree that grows, and is credited, by each of its values.
-use Rattle.std.proofs.Common.{◌≡◌, ℕ, zero, suc, ◌+◌, ◌<◌, ◌≤◌, ◌^◌, true, false, ltb, Bool, List, [], ◌∷◌, ◌++◌, length, get_or, refl, sym, ap, ◌∙◌, subst, arith, ⊎_elim}
+use Rattle.std.proofs.Common.{◌≡◌, ℕ, ◌+◌, ◌<◌, ◌≤◌, true, false, ltb, Bool, List, [], ◌∷◌, ◌++◌, length, get_or, refl, sym, ap, ◌∙◌, subst, arith, ⊎_elim}
+use Rattle.std.specs.FinMap as map
 use Rattle.std.specs.List.{AllByRecursion}
-use Rattle.std.proofs.lemmas.List.{get_or-map, get_or_append_left, get_or_push, length-map, length_push}
+use Rattle.std.proofs.lemmas.List.{get_or-map, length-map}
 use Rattle.std.proofs.lemmas.List.Elements.{recursion_from_All}
 use Rattle.std.proofs.lemmas.Bool.{cases_eq, ltb-true, ltb-false}
-use Rattle.profile_rows.specs.Rows.{total_of}
-use Rattle.profile_rows.specs.Values.{BatchState, IsBatch, Row, row_in, rows_at, value_of, weighing}
+use Rattle.profile_rows.specs.Values.{BatchState, IsBatch, Row, rows_at, weighing}
 use Rattle.profile_rows.specs.Aggregate.{Weighted, aggregate_of, with_row, with_rows}
 use Rattle.profile_rows.proofs.FourValues.{value_of-past}
-use Rattle.call_tree.specs.declared.grower.Credit.{Credit}
-use Rattle.call_tree.specs.State.{TreeState, PlainTree, AreGrown, AreStates, IsAppended, IsFresh, IsGrown, nodes_at, plain_at, name_at, node_at, weights_of, no_row}
-use Rattle.call_tree.specs.Plans.{ArePlanned, AreCreditsOf, ArePlans, IsCredit, IsCredited, IsPlan, credit_at, no_credit}
+use Rattle.call_tree.specs.State.{TreeState, PlainTree, AreGrown, AreStates, IsAppended, IsFresh, IsGrown, nodes_at, plain_at, name_at, weights_of, no_row}
+use Rattle.call_tree.specs.Plans.{AreCredited, AreFirstPlaces, ArePlaces, IsCredited, place_at}
 use Rattle.call_tree.proofs.Indexing.{IsGrown-refl, IsGrown-trans, IsGrown-named, IsGrown-added}
 use Rattle.call_tree.proofs.Trees.{nodes_at-past}
 
@@ -63,65 +62,7 @@ AreGrown-appended before after parent name counts states fresh appended = record
       (λ k k_lt e. fresh.fresh k (omega (arith, size, k_lt)) (sym (states.stacks value k lt) ∙ e ∙ ap (λ s. s ++ name_at before.names name ∷ []) stack)));
 }
 
--- ---- the credits of a further value
-
-pub record AreCreditsTo (value : ℕ) (rows : List Row) (others credits : List Credit) (count : ℕ) : Type 0 where
-  pub size : length credits ≡ count
-  pub each : (k : ℕ) → k < count → credit_at credits k
-      ≡ record { node = (credit_at others k).node; weight = value_of value (row_in rows k).weights }
-
-pub AreCreditsTo-start : (value : ℕ) (rows : List Row) (others credits : List Credit) → credits ≡ [] → AreCreditsTo value rows others credits 0
-AreCreditsTo-start value rows others credits none = record { size = ap length none; each = λ k lt. absurd (omega arith) }
-
-pub AreCreditsTo-step : (value : ℕ) (rows : List Row) (others credits next : List Credit) (count : ℕ) (credit : Credit) → AreCreditsTo value rows others credits count
-    → credit ≡ record { node = (credit_at others count).node; weight = value_of value (row_in rows count).weights }
-    → next ≡ credits ++ credit ∷ [] → AreCreditsTo value rows others next (count + 1)
-AreCreditsTo-step value rows others credits next count credit so_far credit_is next_is = subst (λ cs. AreCreditsTo value rows others cs (count + 1)) (sym next_is) (record {
-  size = length_push credits credit ∙ ap (λ n. n + 1) so_far.size;
-  each = λ k lt. ⊎_elim
-      (λ e. get_or_push credits credit no_credit k (so_far.size ∙ sym e) ∙ credit_is
-      ∙ ap (λ j. record { node = (credit_at others j).node; weight = value_of value (row_in rows j).weights }) (sym e))
-      (λ ne. get_or_append_left credits (credit ∷ []) no_credit k (omega (arith, so_far.size, lt, ne)) ∙ so_far.each k (omega arith))
-      (cases_eq k count);
-})
-
-pub AreCreditsOf-all : (value : ℕ) (rows : List Row) (others credits : List Credit) (count : ℕ) → count ≡ length rows → AreCreditsTo value rows others credits count
-    → AreCreditsOf value rows others credits
-AreCreditsOf-all value rows others credits count all so_far = record { size = so_far.size ∙ all; each = λ k lt. so_far.each k (omega (arith, lt, all)) }
-
-row_is : (value : ℕ) (rows : List Row) (k : ℕ) → k < length rows → node_at (rows_at value rows) k ≡ weighing value (row_in rows k)
-row_is value rows k lt = get_or-map (weighing value) rows k (record { stack = []; weights = [] }) no_row lt
-
-module _ (tree : TreeState) (states : AreStates tree) (rows : List Row) (first : List Credit)
-    (planned : ArePlanned (plain_at tree 0) (rows_at 0 rows) first (length (rows_at 0 rows))) where
-  pub IsPlan-first : total_of (nodes_at tree 0) + total_of (rows_at 0 rows) < 2 ^ 63 → IsPlan (plain_at tree 0) (rows_at 0 rows) first
-  IsPlan-first fits = record { size = planned.size; each = planned.each; fits = fits }
-
-  pub IsPlan-further : (value : ℕ) (credits : List Credit) → value < tree.width → AreCreditsOf value rows first credits
-      → total_of (nodes_at tree value) + total_of (rows_at value rows) < 2 ^ 63 → IsPlan (plain_at tree value) (rows_at value rows) credits
-  IsPlan-further value credits lt are fits = record {
-    size = are.size ∙ sym (length-map rows (weighing value));
-    each = λ k k_lt.
-        let in_rows : k < length rows = omega (arith, k_lt, length-map rows (weighing value)) in
-        let of_first = planned.each k (omega (arith, in_rows, length-map rows (weighing 0))) in
-        let size = states.sizes value lt in
-        let first_row = ap (λ row. row.stack) (row_is 0 rows k in_rows) in
-        subst (λ row. IsCredit (plain_at tree value) row (credit_at credits k)) (sym (row_is value rows k in_rows))
-        (subst (IsCredit (plain_at tree value) (weighing value (row_in rows k))) (sym (are.each k in_rows)) (record {
-          within = omega (arith, of_first.within, size);
-          stack = states.stacks value (credit_at first k).node lt ∙ of_first.stack ∙ first_row;
-          weight = refl;
-        }));
-    fits = fits;
-  }
-
 -- ---- credits by one value after the other
-
-pub record AreCredited (before now : TreeState) (rows : List Row) (count : ℕ) : Type 0 where
-  pub width : now.width ≡ before.width
-  pub names : now.names ≡ before.names
-  pub done : (value : ℕ) → value < count → IsCredited (plain_at before value) (plain_at now value) (rows_at value rows)
-  pub left : (value : ℕ) → count ≤ value → nodes_at now value ≡ nodes_at before value
 
 pub AreCredited-step : (before now next : TreeState) (rows : List Row) (count : ℕ) → AreCredited before now rows count
     → next.width ≡ now.width → next.names ≡ now.names → IsCredited (plain_at now count) (plain_at next count) (rows_at count rows)
@@ -163,33 +104,35 @@ weights-credited before now rows count batch width credited value =
     narrow [] all past = tt
     narrow (row ∷ rs) all past = let here = all.0 in (omega (arith, here, width, past), narrow rs all.1 past)
 
--- ---- a plan
+-- ---- the places of a batch's rows
 
-module _ (before tree : TreeState) (grown : AreGrown before tree) (states : AreStates tree) (batch : BatchState) (is : IsBatch batch)
-    (width : batch.width ≡ before.width) (fits : (value : ℕ) → total_of (nodes_at before value) + total_of (rows_at value batch.rows) < 2 ^ 63)
-    (first : List Credit) (others : List (List Credit))
-    (planned : ArePlanned (plain_at tree 0) (rows_at 0 batch.rows) first (length (rows_at 0 batch.rows)))
-    (count : length others + 1 ≡ batch.width)
-    (each : (k : ℕ) → k < length others → AreCreditsOf (k + 1) batch.rows first (get_or others k [])) where
-  fits_now : (value : ℕ) → value < tree.width → total_of (nodes_at tree value) + total_of (rows_at value batch.rows) < 2 ^ 63
-  fits_now value lt =
-      let same = (grown.each value (omega (arith, lt, states.width, grown.count))).total in
-      let old = fits value in
-      omega (arith, same, old)
+-- the places in the tree as it was are those in the tree by any value
+pub ArePlaces-by : (tree : TreeState) (rows : List Row) (places : List ℕ) (value : ℕ) → AreStates tree → value < tree.width → ArePlaces (plain_at tree 0) rows places
+    → ArePlaces (plain_at tree value) rows places
+ArePlaces-by tree rows places value states lt are = record {
+  size = are.size;
+  each = λ k k_lt.
+      let place = are.each k k_lt in
+      let size = states.sizes value lt in
+      record { within = omega (arith, size, place.within); stack = states.stacks value (place_at places k) lt ∙ place.stack };
+}
 
-  plan_at : (value : ℕ) → value < tree.width → IsPlan (plain_at tree value) (rows_at value batch.rows) (get_or (first ∷ others) value [])
-  plan_at zero lt = IsPlan-first tree states batch.rows first planned (fits_now 0 lt)
-  plan_at (suc k) lt =
-      let in_others : k < length others = omega (arith, lt, count, width, grown.width) in
-      let next : k + 1 ≡ suc k = omega arith in
-      IsPlan-further tree states batch.rows first planned (suc k) (get_or others k []) lt
-      (subst (λ v. AreCreditsOf v batch.rows first (get_or others k [])) next (each k in_others)) (fits_now (suc k) lt)
+pub ArePlaces-first : (tree : PlainTree) (rows : List Row) (places : List ℕ) → AreFirstPlaces tree (rows_at 0 rows) places (length (rows_at 0 rows)) → ArePlaces tree rows places
+ArePlaces-first tree rows places are = record {
+  size = are.size ∙ length-map rows (weighing 0);
+  each = λ k k_lt.
+      let place = are.each k (omega (arith, k_lt, length-map rows (weighing 0))) in
+      record {
+        within = place.within;
+        stack = place.stack ∙ ap (λ row. row.stack) (get_or-map (weighing 0) rows k (record { stack = []; weights = [] }) no_row k_lt);
+      };
+}
 
-  pub ArePlans-made : ArePlans tree batch (first ∷ others)
-  ArePlans-made = record {
-    batch = is;
-    width = width ∙ sym grown.width;
-    values = states.width;
-    count = omega (arith, count, width, grown.width);
-    each = plan_at;
-  }
+-- a tree of the root alone has nothing by any value
+pub weights-root : (tree : TreeState) → AreStates tree → ((value : ℕ) → value < tree.width → nodes_at tree value ≡ no_row ∷ [])
+    → (value : ℕ) → weights_of tree value ≡ map.empty
+weights-root tree states root value =
+    elim (ltb value tree.width) as (λ b. ltb value tree.width ≡ b → weights_of tree value ≡ map.empty) [
+      | true ↦ λ e. ap aggregate_of (root value (ltb-true value tree.width e))
+      | false ↦ λ e. ap aggregate_of (nodes_at-past tree value (omega (arith, ltb-false value tree.width e, states.width)))
+    ] refl

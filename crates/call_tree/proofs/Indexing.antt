@@ -1,5 +1,5 @@
 -- The index from a parent and a name to a child, when a name or a node is added.
-use Rattle.std.proofs.Common.{◌≡◌, ℕ, zero, suc, ◌<◌, Bool, true, false, cond, ◌&&◌, ◌||◌, nat_eq, List, [], ◌∷◌, ◌++◌, length, Option, Some, refl, sym, ap, ◌∙◌, subst, arith, inl, inr, ⊎_elim, ◌⊎◌}
+use Rattle.std.proofs.Common.{◌≡◌, ℕ, zero, suc, ◌<◌, Bool, true, false, cond, ◌&&◌, ◌||◌, nat_eq, List, [], ◌∷◌, ◌++◌, length, Option, Some, None, refl, sym, ap, ◌∙◌, subst, arith, inl, inr, ⊎_elim, ◌⊎◌}
 use Rattle.std.proofs.lemmas.List.{get_or_append_left, get_or_push, length_push, same_from_push}
 use Rattle.std.proofs.lemmas.List.Sums.{sum_by_push}
 use Rattle.std.proofs.lemmas.Bool.{cases_eq, eqb-true, eq-eqb}
@@ -17,6 +17,21 @@ pub IsIndex-look : (look other : ℕ × ℕ → Option ℕ) (tree : PlainTree) �
 IsIndex-look look other tree same index = record {
   right = λ p n k e. index.right p n k (sym (same (p, n)) ∙ e);
   complete = λ p n k child. same (p, n) ∙ index.complete p n k child;
+}
+
+how_many : Option ℕ → ℕ
+how_many (Some _) = 1
+how_many None = 0
+
+some_is_no_none : (k : ℕ) → Some k ≡ None → ⊥
+unfolding how_many
+some_is_no_none k e = let different : 1 ≡ 0 = ap how_many e in omega (arith, different)
+
+-- an empty index, of a tree without names
+pub IsIndex-none : (look : ℕ × ℕ → Option ℕ) (tree : PlainTree) → ((key : ℕ × ℕ) → look key ≡ None) → tree.names ≡ [] → IsIndex look tree
+IsIndex-none look tree none no_names = record {
+  right = λ p n k e. absurd (some_is_no_none k (sym e ∙ none (p, n)));
+  complete = λ p n k child. absurd (omega (arith, child.name_lt, ap length no_names));
 }
 
 pub IsGrown-refl : (tree : PlainTree) → IsGrown tree tree

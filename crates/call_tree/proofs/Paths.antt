@@ -9,9 +9,8 @@ use Rattle.profile_rows.specs.declared.weighted_stacks.WeightedStack.{WeightedSt
 use Rattle.profile_rows.specs.Names.{is_same_name}
 use Rattle.profile_rows.specs.Rows.{has_name}
 use Rattle.profile_rows.proofs.SameNames.{same_from_is_same_name, is_same_name-self}
-use Rattle.call_tree.specs.declared.grower.Credit.{Credit}
 use Rattle.call_tree.specs.State.{PlainTree, IsState, IsGrown, name_at, node_at, stack_at}
-use Rattle.call_tree.specs.Plans.{ArePlanned, IsCredit, no_credit, credit_at}
+use Rattle.call_tree.specs.Plans.{AreFirstPlaces, IsPlace, place_at}
 use Rattle.call_tree.specs.Walks.{has_number, IsOnPath}
 use Rattle.call_tree.proofs.Raising.{has_name-next}
 
@@ -108,26 +107,24 @@ module _ (tree named : PlainTree) (seen : List ℕ) (frames : List (List ℕ)) (
 
 -- ---- the credits so far
 
-pub ArePlanned-start : (tree : PlainTree) (rows : List WeightedStack) → ArePlanned tree rows [] 0
-ArePlanned-start tree rows = record { size = refl; each = λ k lt. absurd (omega arith) }
+pub AreFirstPlaces-start : (tree : PlainTree) (rows : List WeightedStack) → AreFirstPlaces tree rows [] 0
+AreFirstPlaces-start tree rows = record { size = refl; each = λ k lt. absurd (omega arith) }
 
-IsCredit-grown : (tree after : PlainTree) (row : WeightedStack) (credit : Credit) → IsGrown tree after → IsCredit tree row credit → IsCredit after row credit
-IsCredit-grown tree after row credit grown one = record {
+IsPlace-grown : (tree after : PlainTree) (frames : List (List ℕ)) (place : ℕ) → IsGrown tree after → IsPlace tree frames place → IsPlace after frames place
+IsPlace-grown tree after frames place grown one = record {
   within = omega (arith, one.within, grown.longer);
-  stack = ap (λ row. row.stack) (grown.kept credit.node one.within) ∙ one.stack;
-  weight = one.weight;
+  stack = ap (λ row. row.stack) (grown.kept place one.within) ∙ one.stack;
 }
 
-pub ArePlanned-step : (tree after : PlainTree) (rows : List WeightedStack) (credits next : List Credit) (i node weight : ℕ) → ArePlanned tree rows credits i → IsGrown tree after
-    → node < length after.nodes → stack_at after.nodes node ≡ stack_at rows i → weight ≡ (node_at rows i).weight
-    → next ≡ credits ++ (record { node = node; weight = weight }) ∷ [] → ArePlanned after rows next (i + 1)
-ArePlanned-step tree after rows credits next i node weight planned grown lt stack same next_e = record {
-  size = ap length next_e ∙ length_push credits _ ∙ ap (λ n. n + 1) planned.size;
-  each = λ k h. subst (λ cs. IsCredit after (node_at rows k) (credit_at cs k)) (sym next_e) (⊎_elim
-      (λ e. subst (IsCredit after (node_at rows k)) (sym (get_or_push credits (record { node = node; weight = weight }) no_credit k (planned.size ∙ sym e)))
-      (subst (λ j. IsCredit after (node_at rows j) (record { node = node; weight = weight })) (sym e) (record { within = lt; stack = stack; weight = same })))
+pub AreFirstPlaces-step : (tree after : PlainTree) (rows : List WeightedStack) (places next : List ℕ) (i node : ℕ) → AreFirstPlaces tree rows places i → IsGrown tree after
+    → node < length after.nodes → stack_at after.nodes node ≡ stack_at rows i → next ≡ places ++ node ∷ [] → AreFirstPlaces after rows next (i + 1)
+AreFirstPlaces-step tree after rows places next i node are grown lt stack next_e = record {
+  size = ap length next_e ∙ length_push places node ∙ ap (λ n. n + 1) are.size;
+  each = λ k h. subst (λ ps. IsPlace after (node_at rows k).stack (place_at ps k)) (sym next_e) (⊎_elim
+      (λ e. subst (IsPlace after (node_at rows k).stack) (sym (get_or_push places node 0 k (are.size ∙ sym e)))
+      (subst (λ j. IsPlace after (node_at rows j).stack node) (sym e) (record { within = lt; stack = stack })))
       (λ ne. let less : k < i = omega arith in
-      subst (IsCredit after (node_at rows k)) (sym (get_or_append_left credits ((record { node = node; weight = weight }) ∷ []) no_credit k (omega (arith, planned.size))))
-      (IsCredit-grown tree after _ _ grown (planned.each k less)))
+      subst (IsPlace after (node_at rows k).stack) (sym (get_or_append_left places (node ∷ []) 0 k (omega (arith, are.size))))
+      (IsPlace-grown tree after _ _ grown (are.each k less)))
       (cases_eq k i));
 }

@@ -1,13 +1,13 @@
 -- The rows of a plan credited one after the other.
 use Rattle.std.proofs.Common.{◌≡◌, ℕ, ◌+◌, ◌<◌, ◌^◌, List, [], ◌∷◌, ◌++◌, length, take, Option, refl, sym, ap, ◌∙◌, arith}
-use Rattle.std.proofs.lemmas.List.{take_more}
+use Rattle.std.proofs.lemmas.List.{get_or-map, length-map, take_more}
 use Rattle.std.proofs.lemmas.List.Sums.{sum_by_more, sum_by_more_le}
 use Rattle.profile_rows.specs.declared.weighted_stacks.WeightedStack.{WeightedStack}
 use Rattle.profile_rows.specs.Rows.{total_of}
 use Rattle.profile_rows.specs.Aggregate.{Weighted, with_row, with_rows, aggregate_of}
-use Rattle.call_tree.specs.declared.grower.Credit.{Credit}
+use Rattle.profile_rows.specs.Values.{Row, row_in, rows_at, value_of, weighing}
 use Rattle.call_tree.specs.State.{PlainTree, name_at, no_row, node_at, stack_at, credited, IsIndex}
-use Rattle.call_tree.specs.Plans.{IsCredit, IsCredited, IsPlan, credit_at}
+use Rattle.call_tree.specs.Plans.{ArePlaces, HasSameNodes, IsCredited, place_at}
 use Rattle.call_tree.proofs.Crediting.{length-credited, stack_at-credited, total_of-credited, aggregate_of-credited}
 
 pub with_rows-push : (m : Weighted) (rows : List WeightedStack) (row : WeightedStack) → with_rows m (rows ++ row ∷ []) ≡ with_row (with_rows m rows) row
@@ -17,50 +17,56 @@ with_rows-push m (first ∷ rows) row = with_rows-push (with_row m first) rows r
 pub IsCredited-start : (tree : PlainTree) → IsCredited tree tree []
 IsCredited-start tree = record { names = refl; size = refl; stacks = λ k. refl; total = omega arith; weights = refl }
 
-module _ (before now : PlainTree) (rows : List WeightedStack) (credits : List Credit) (plan : IsPlan before rows credits) (i : ℕ) (lt : i < length rows)
-    (done : IsCredited before now (take i rows)) where
-  abbrev credit : Credit
-  credit = credit_at credits i
+-- ---- one row more
 
-  here : IsCredit before (node_at rows i) credit
-  here = plan.each i lt
+row_is : (value : ℕ) (rows : List Row) (k : ℕ) → k < length rows → node_at (rows_at value rows) k ≡ weighing value (row_in rows k)
+row_is value rows k lt = get_or-map (weighing value) rows k (record { stack = []; weights = [] }) no_row lt
 
-  pub credit_within : (credit_at credits i).node < length now.nodes
-  credit_within = let w = here.within in omega (arith, w, done.size)
+module _ (before now : PlainTree) (value : ℕ) (rows : List Row) (places : List ℕ) (are : ArePlaces before rows places)
+    (fits : total_of before.nodes + total_of (rows_at value rows) < 2 ^ 63) (i : ℕ) (lt : i < length rows)
+    (done : IsCredited before now (take i (rows_at value rows))) (weight : ℕ) (weight_is : weight ≡ value_of value (row_in rows i).weights) where
+  in_rows : i < length (rows_at value rows)
+  in_rows = omega (arith, lt, length-map rows (weighing value))
 
-  pub credit_fits : total_of now.nodes + (credit_at credits i).weight < 2 ^ 63
+  abbrev place : ℕ
+  place = place_at places i
+
+  here : node_at (rows_at value rows) i ≡ weighing value (row_in rows i)
+  here = row_is value rows i lt
+
+  pub credit_within : place_at places i < length now.nodes
+  credit_within = omega (arith, (are.each i lt).within, done.size)
+
+  pub credit_fits : total_of now.nodes + weight < 2 ^ 63
   credit_fits =
-      let part = sum_by_more_le (λ (row : WeightedStack). row.weight) rows i no_row lt in
-      let weight = here.weight in
-      let total = done.total in
-      let fits = plan.fits in
-      omega (arith, part, weight, total, fits)
+      let part = sum_by_more_le (λ (row : WeightedStack). row.weight) (rows_at value rows) i no_row in_rows in
+      let weight_of_row : (node_at (rows_at value rows) i).weight ≡ weight = ap (λ row. row.weight) here ∙ sym weight_is in
+      omega (arith, part, weight_of_row, done.total, fits)
 
-  pub IsCredited-step : (next : PlainTree) → next.names ≡ now.names → next.nodes ≡ credited now.nodes (credit_at credits i).node (credit_at credits i).weight
-      → IsCredited before next (take (i + 1) rows)
+  pub IsCredited-step : (next : PlainTree) → next.names ≡ now.names → next.nodes ≡ credited now.nodes (place_at places i) weight
+      → IsCredited before next (take (i + 1) (rows_at value rows))
   IsCredited-step next names nodes = record {
     names = names ∙ done.names;
-    size = ap length nodes ∙ length-credited now.nodes credit.node credit.weight ∙ done.size;
-    stacks = λ k. ap (λ ns. stack_at ns k) nodes ∙ stack_at-credited now.nodes credit.node credit.weight k credit_within ∙ done.stacks k;
+    size = ap length nodes ∙ length-credited now.nodes place weight ∙ done.size;
+    stacks = λ k. ap (λ ns. stack_at ns k) nodes ∙ stack_at-credited now.nodes place weight k credit_within ∙ done.stacks k;
     total =
-        let new : total_of next.nodes ≡ total_of now.nodes + credit.weight = ap total_of nodes ∙ total_of-credited now.nodes credit.node credit.weight credit_within in
-        let part = sum_by_more (λ (row : WeightedStack). row.weight) rows i no_row lt in
-        let weight = here.weight in
-        let old = done.total in
-        omega (arith, new, part, weight, old);
+        let new : total_of next.nodes ≡ total_of now.nodes + weight = ap total_of nodes ∙ total_of-credited now.nodes place weight credit_within in
+        let part = sum_by_more (λ (row : WeightedStack). row.weight) (rows_at value rows) i no_row in_rows in
+        let weight_of_row : (node_at (rows_at value rows) i).weight ≡ weight = ap (λ row. row.weight) here ∙ sym weight_is in
+        omega (arith, new, part, weight_of_row, done.total);
     weights =
-        let row_is : (record { stack = stack_at now.nodes credit.node; weight = credit.weight }) ≡ node_at rows i =
-        λ j. record { stack = (done.stacks credit.node ∙ here.stack) j; weight = here.weight j } in
-        ap aggregate_of nodes ∙ aggregate_of-credited now.nodes credit.node credit.weight credit_within
-        ∙ ap (λ m. with_row m (record { stack = stack_at now.nodes credit.node; weight = credit.weight })) done.weights
-        ∙ ap (with_row (with_rows (aggregate_of before.nodes) (take i rows))) row_is
-        ∙ sym (with_rows-push (aggregate_of before.nodes) (take i rows) (node_at rows i))
-        ∙ ap (with_rows (aggregate_of before.nodes)) (sym (take_more rows i no_row lt));
+        let row_now : (record { stack = stack_at now.nodes place; weight = weight }) ≡ node_at (rows_at value rows) i =
+        (λ j. record { stack = (done.stacks place ∙ (are.each i lt).stack) j; weight = weight_is j }) ∙ sym here in
+        ap aggregate_of nodes ∙ aggregate_of-credited now.nodes place weight credit_within
+        ∙ ap (λ m. with_row m (record { stack = stack_at now.nodes place; weight = weight })) done.weights
+        ∙ ap (with_row (with_rows (aggregate_of before.nodes) (take i (rows_at value rows)))) row_now
+        ∙ sym (with_rows-push (aggregate_of before.nodes) (take i (rows_at value rows)) (node_at (rows_at value rows) i))
+        ∙ ap (with_rows (aggregate_of before.nodes)) (sym (take_more (rows_at value rows) i no_row in_rows));
   }
 
 -- the index speaks of names and stacks alone
-pub IsIndex-credited : (look : ℕ × ℕ → Option ℕ) (before now : PlainTree) (rows : List WeightedStack) → IsIndex look before → IsCredited before now rows → IsIndex look now
-IsIndex-credited look before now rows index done = record {
+pub IsIndex-credited : (look : ℕ × ℕ → Option ℕ) (before now : PlainTree) → IsIndex look before → HasSameNodes before now → IsIndex look now
+IsIndex-credited look before now index done = record {
   right = λ p n k e. let old = index.right p n k e in record {
     parent_lt = omega (arith, old.parent_lt, done.size);
     name_lt = omega (arith, old.name_lt, ap length done.names);

@@ -2,7 +2,7 @@
 use Rattle.std.specs.Prelude.{ℕ, ◌≡◌, ◌<◌, ◌≤◌, List, [], ◌∷◌, length, map, slice_index_or}
 use Rattle.call_tree.specs.declared.node.Node.{Node}
 use Rattle.call_tree.specs.declared.node.NodeWeights.{NodeWeights}
-use Rattle.call_tree.specs.State.{TreeState}
+use Rattle.call_tree.specs.State.{PlainTree, TreeState}
 use Rattle.call_tree.specs.Shape.{IsTree, node_rows}
 
 abbrev pub no_weights : NodeWeights
@@ -41,6 +41,10 @@ pub record AreAlike (all : List (List Node)) : Type 0 where
 -- what a tree is to contracts
 abbrev pub tree_of : List (List ℕ) → List (List Node) → TreeState
 tree_of names all = record { width = length all; names = names; values = map (node_rows names) all }
+
+-- the same by one value
+abbrev pub plain_of : List (List ℕ) → List (List Node) → ℕ → PlainTree
+plain_of names all value = record { names = names; nodes = node_rows names (nodes_of all value) }
 
 -- by each value the nodes are a tree
 abbrev pub AreTrees : List (List ℕ) → List (List Node) → Type 0

@@ -2,7 +2,6 @@
 use Rattle.std.specs.Prelude.{ℕ, ◌≡◌, ◌<◌, ◌≤◌, ◌+◌, ◌^◌, Bool, ◌&&◌, not, nat_eq, nat_lt, Option, Some, List, [], ◌∷◌, ◌++◌, length, slice_index_or, slice_set}
 use Rattle.profile_rows.specs.declared.weighted_stacks.WeightedStack.{WeightedStack}
 use Rattle.profile_rows.specs.Rows.{has_name, total_of}
-use Rattle.profile_rows.specs.Values.{Row}
 use Rattle.profile_rows.specs.Aggregate.{Weighted, aggregate_of, rows_of}
 
 -- A tree by one value: the names by their numbers, and for each node in order its stack and the weight of that stack
@@ -114,10 +113,10 @@ pub record IsIndex (look : ℕ × ℕ → Option ℕ) (tree : PlainTree) : Type 
   pub right : (p n k : ℕ) → look (p, n) ≡ Some k → IsChild tree p n k
   pub complete : (p n k : ℕ) → IsChild tree p n k → look (p, n) ≡ Some k
 
--- what a plan remembers: the tree when it was made, and the rows
+-- a plan: the tree when it was made, and the tree that it will make of it
 pub record PlanState : Type 0 where
   pub before : TreeState
-  pub rows : List Row
+  pub next : TreeState
 
 -- a node that may be added: no node has its stack yet
 pub record IsFresh (tree : PlainTree) (parent name : ℕ) (counts : Bool) : Type 0 where

@@ -6,10 +6,9 @@ ghost use Rattle.profile_rows.specs.Rows.{total_of, has_name};
 ghost use Rattle.profile_rows.specs.Aggregate.{with_rows};
 ghost use Rattle.profile_rows.specs.Values.{rows_at};
 ghost use Rattle.call_tree.specs.State.{TreeState, PlanState, IsFresh, AreGrown, weights_of, total_in, nodes_at, plain_at, name_at, stack_at};
-ghost use Rattle.call_tree.specs.Plans.{ArePlanned, AreCreditsOf, ArePlans, IsPlan, IsCredited};
+ghost use Rattle.call_tree.specs.Plans.{AreFirstPlaces};
 ghost use Rattle.call_tree.specs.Walks.{IsOnPath};
 
-use crate::table::Table;
 use crate::tree::CallTree;
 use crate::walk::Walk;
 use indexmap::IndexSet;
@@ -20,39 +19,39 @@ use std::marker::Model;
 use std::mem;
 use std::snapshot::Snapshot;
 
-/// One row's weight of one value for one node.
-#[derive(Clone, Copy)]
-struct Credit {
-    node: u32,
-    weight: u64,
-}
-
-/// A batch for which a [`Grower`] has made room. It remembers the grower as it was then, and serves it as long as it is
-/// so.
+/// What a [`Grower`] is about to do: the tree that it will have, with a batch more or with nothing in it. A plan
+/// remembers the grower as it was when it was made, and serves it as long as it is so.
 #[derive(Drop)]
 pub struct Plan {
-    /// The credits of value 0, one for each row.
-    first: Vec<Credit>,
-    /// For each further value the credits for the same nodes.
-    others: Vec<Table<Credit>>,
+    next: CallTree,
+    /// Whether the next tree begins anew, with names and nodes of its own.
+    resets: bool,
     before: Snapshot<CallTree>,
-    batch: Snapshot<Batch>,
 }
 
 impl Model for Plan {
     ghost use Rattle.call_tree.specs.State.{PlanState};
-    ghost use Rattle.std.specs.Prelude.{◌∷◌};
-    ghost use Rattle.call_tree.specs.Plans.{ArePlans};
+    ghost use Rattle.call_tree.specs.Plans.{IsNext};
 
     ghost Value = { PlanState };
 
-    ghost view = { λ p. record { before = p.before.value; rows = p.batch.value.rows } };
+    ghost view = { λ p. record { before = p.before.value; next = p.next } };
 
-    ghost invariant = { λ p. ArePlans p.before.value p.batch.value (p.first.items ∷ p.others.items) };
+    ghost invariant = { λ p. IsNext p.resets p.before.value p.next };
+}
+
+impl Plan {
+    /// The tree that [`credit`](Grower::credit) will give.
+    pub fn next(&self) -> &CallTree
+        ensures { result.now ≡ self.now.next }
+    {
+        &self.next
+    }
 }
 
 /// A [`CallTree`] that grows by batches: [`plan`](Grower::plan) takes all memory that a batch needs, and
-/// [`credit`](Grower::credit) adds the batch without taking any. A plan may be dropped.
+/// [`credit`](Grower::credit) adds the batch without taking any. [`plan_reset`](Grower::plan_reset) does the same for
+/// an empty tree. A plan may be dropped.
 #[derive(Drop)]
 pub struct Grower {
     tree: CallTree,
@@ -84,25 +83,22 @@ impl Grower {
         &self.tree
     }
 
-    /// Adds the rows of a plan, which this grower made as it is now: no plan and no credit changed it since. Takes no
-    /// memory.
+    /// Puts the tree of a plan in place, which this grower made as it is now: no plan and no credit changed it since.
+    /// Takes no memory.
     pub fn credit(&mut self, plan: Plan)
         requires { plan.before ≡ self.old }
-        ensures weights { (value : ℕ)
-            → weights_of self.new value ≡ with_rows (weights_of self.old value) (rows_at value plan.rows) }
-        ensures width { self.new.width ≡ self.old.width }
+        ensures { self.new ≡ plan.next }
     {
         let Plan {
-            first,
-            others,
+            next,
+            resets,
             before: _,
-            batch,
         } = plan;
-        credit_value(&mut self.tree, 0, first.as_slice(), &batch);
-        for index in 0..others.len() {
-            let credits = &others[index];
-            credit_value(&mut self.tree, index as u32 + 1, credits.as_slice(), &batch);
+        if resets {
+            self.numbers.clear();
+            self.index.clear();
         }
+        self.tree = next;
     }
 
     /// A grower of an empty tree for so many values. It keeps the allocator.
@@ -115,6 +111,7 @@ impl Grower {
         ensures weights { IfOk result (λ grower. (value : ℕ) → weights_of grower value ≡ map.empty) }
     {
         let tree = CallTree::new(alloc, width)?;
+        tree.known();
         Ok(Grower {
             tree,
             numbers: IndexSet::new(alloc),
@@ -134,7 +131,9 @@ impl Grower {
         requires fits { (value : ℕ)
             → total_in (weights_of self.old value) + total_of (rows_at value batch.now.rows) < 2 ^ 63 }
         ensures before { IfOk result (λ plan. plan.before ≡ self.new) }
-        ensures rows { IfOk result (λ plan. plan.rows ≡ batch.now.rows) }
+        ensures next { IfOk result (λ plan. (value : ℕ)
+            → weights_of plan.next value ≡ with_rows (weights_of self.old value) (rows_at value batch.now.rows)) }
+        ensures next_width { IfOk result (λ plan. plan.next.width ≡ self.old.width) }
         ensures weights { (value : ℕ) → weights_of self.new value ≡ weights_of self.old value }
         ensures width { self.new.width ≡ self.old.width }
     {
@@ -144,47 +143,64 @@ impl Grower {
         planned
     }
 
-    /// The plan of a batch: by each value one credit for each row.
+    /// The plan of an empty tree of the same width. This tree stays, also where the plan is refused.
+    ///
+    /// # Errors
+    ///
+    /// `NoMemory`.
+    pub fn plan_reset(&mut self, alloc: Global) -> Result<Plan, NoMemory>
+        ensures before { IfOk result (λ plan. plan.before ≡ self.new) }
+        ensures next { IfOk result (λ plan. (value : ℕ) → weights_of plan.next value ≡ map.empty) }
+        ensures next_width { IfOk result (λ plan. plan.next.width ≡ self.old.width) }
+        ensures same { self.new ≡ self.old }
+    {
+        let next = CallTree::new(alloc, self.tree.width())?;
+        Ok(Plan {
+            next,
+            resets: true,
+            before: Snapshot::of(&self.tree),
+        })
+    }
+
+    /// The plan of a batch: its nodes, and then the tree with its weights.
     fn plan_rows(&mut self, alloc: Global, batch: &Batch, walk: &mut Walk) -> Result<Plan, NoMemory>
         requires width { batch.now.width ≡ self.old.width }
         requires fits { (value : ℕ)
             → total_of (nodes_at self.old value) + total_of (rows_at value batch.now.rows) < 2 ^ 63 }
         ensures before { IfOk result (λ plan. plan.before ≡ self.new) }
-        ensures rows { IfOk result (λ plan. plan.rows ≡ batch.now.rows) }
+        ensures next { IfOk result (λ plan. (value : ℕ)
+            → weights_of plan.next value ≡ with_rows (weights_of self.old value) (rows_at value batch.now.rows)) }
+        ensures next_width { IfOk result (λ plan. plan.next.width ≡ self.old.width) }
         ensures grown { AreGrown self.old self.new }
     {
-        let first = self.first_credits(alloc, batch.first(), walk)?;
-        let others = further_credits(alloc, batch, first.as_slice())?;
+        let places = self.places_of(alloc, batch.first(), walk)?;
         self.tree.known();
+        let next = self.tree.with_batch(batch, places.as_slice())?;
         Ok(Plan {
-            first,
-            others,
+            next,
+            resets: false,
             before: Snapshot::of(&self.tree),
-            batch: Snapshot::of(batch),
         })
     }
 
-    /// The credits of rows by value 0, with their nodes.
-    fn first_credits(
+    /// The nodes of rows, one for each row, with new nodes where there are none.
+    fn places_of(
         &mut self,
         alloc: Global,
         batch: &WeightedStacks,
         walk: &mut Walk,
-    ) -> Result<Vec<Credit>, NoMemory>
-        ensures planned { IfOk result
-            (λ credits. ArePlanned (plain_at self.new 0) batch.now credits.items (length batch.now)) }
+    ) -> Result<Vec<u32>, NoMemory>
+        ensures places { IfOk result
+            (λ places. AreFirstPlaces (plain_at self.new 0) batch.now places.items (length batch.now)) }
         ensures grown { AreGrown self.old self.new }
     {
         let rows = batch.rows();
-        let mut credits = Vec::with_capacity(alloc, rows.len())?;
+        let mut places = Vec::with_capacity(alloc, rows.len())?;
         for row in rows {
             let node = self.grow(&row.stack, walk)?;
-            credits.push(Credit {
-                node,
-                weight: row.weight,
-            })?;
+            places.push(node)?;
         }
-        Ok(credits)
+        Ok(places)
     }
 
     /// The node of a stack, with new nodes of weight 0 where there are none.
@@ -218,13 +234,13 @@ impl Grower {
         ensures grown { AreGrown self.old self.new }
     {
         self.tree.known();
-        let guess = walk.guess(depth);
+        let guess = walk.guess(place);
         if let Some(number) = self.tree.number_below(place, guess, &frames[depth]) {
             let _there = walk.add(number)?;
             return Ok(guess);
         }
         let child = self.look_up(frames, depth, place, walk)?;
-        walk.keep(depth, child)?;
+        walk.keep(place, child)?;
         Ok(child)
     }
 
@@ -324,60 +340,4 @@ fn number_of(len: usize) -> Result<u32, NoMemory>
         Ok(number) => Ok(number),
         Err(_) => Err(NoMemory),
     }
-}
-
-/// The weights of one value of a plan's rows, added one after the other.
-fn credit_value(tree: &mut CallTree, value: u32, credits: &[Credit], batch: &Snapshot<Batch>)
-    requires value { value < tree.old.width }
-    requires plan { IsPlan (plain_at tree.old value) (rows_at value batch.now.value.rows) credits.now }
-    ensures width { tree.new.width ≡ tree.old.width }
-    ensures names { tree.new.names ≡ tree.old.names }
-    ensures credited { IsCredited (plain_at tree.old value) (plain_at tree.new value)
-        (rows_at value batch.now.value.rows) }
-    ensures others { (other : ℕ) → (other ≡ value → ⊥) → nodes_at tree.new other ≡ nodes_at tree.old other }
-{
-    let _batch = batch;
-    for credit in credits {
-        tree.add_weight(value, credit.node, credit.weight);
-    }
-}
-
-/// For each value but the first the credits of a batch, for the nodes of those of the first.
-fn further_credits(
-    alloc: Global,
-    batch: &Batch,
-    first: &[Credit],
-) -> Result<Vec<Table<Credit>>, NoMemory>
-    requires { length first.now ≡ length batch.now.rows }
-    ensures count { IfOk result (λ others. length others.items + 1 ≡ batch.now.width) }
-    ensures each { IfOk result (λ others. (k : ℕ) → k < length others.items
-        → AreCreditsOf (k + 1) batch.now.rows first.now (slice_index_or others.items k [])) }
-{
-    let mut others = Vec::new(alloc);
-    for value in 1..batch.width().get() {
-        let credits = value_credits(alloc, batch, value, first)?;
-        others.push(credits)?;
-    }
-    Ok(others)
-}
-
-/// The credits of a batch by one value, for these nodes.
-fn value_credits(
-    alloc: Global,
-    batch: &Batch,
-    value: u32,
-    first: &[Credit],
-) -> Result<Table<Credit>, NoMemory>
-    requires size { length first.now ≡ length batch.now.rows }
-    requires value { value < batch.now.width }
-    ensures { IfOk result (AreCreditsOf value batch.now.rows first.now) }
-{
-    let mut credits = Table::new(alloc);
-    for at in 0..first.len() {
-        credits.append(Credit {
-            node: first[at].node,
-            weight: batch.weight(at, value),
-        })?;
-    }
-    Ok(credits)
 }

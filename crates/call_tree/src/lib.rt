@@ -5,7 +5,6 @@
 mod grower;
 mod node;
 mod nodes;
-mod table;
 mod tree;
 mod walk;
 

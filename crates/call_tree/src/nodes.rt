@@ -6,19 +6,19 @@ ghost use Rattle.call_tree.specs.Nodes.{AreAlike, AreTables, nodes_of, without_w
 ghost use Rattle.call_tree.specs.Shape.{at};
 
 use crate::node::{Node, NodeWeights};
-use crate::table::Table;
 use profile_rows::Width;
+use shared_pages::Pages;
 use std::alloc::{AllocError, Global};
 use std::marker::Model;
 
-/// Nodes in order. Their links and their weights of value 0 stand together, and the weights of each further value in a
-/// table of its own.
+/// Nodes in order, in pages that may have other owners. Their links and their weights of value 0 stand together, and
+/// the weights of each further value in pages of their own.
 #[derive(Drop)]
 pub struct Nodes {
     width: Width,
-    first: Table<Node>,
+    first: Pages<Node>,
     /// For each value after the first what each node weighs, and perhaps some zeros more.
-    others: Vec<Table<NodeWeights>>,
+    others: Vec<Pages<NodeWeights>>,
 }
 
 impl Model for Nodes {
@@ -40,11 +40,11 @@ impl Nodes {
     {
         let mut others = Vec::new(alloc);
         for _ in 1..width.get() {
-            others.push(Table::new(alloc))?;
+            others.push(Pages::new(alloc))?;
         }
         Ok(Nodes {
             width,
-            first: Table::new(alloc),
+            first: Pages::new(alloc),
             others,
         })
     }
@@ -90,17 +90,19 @@ impl Nodes {
         }
     }
 
-    /// Puts a node that differs in its weights alone in place of another, for one value.
-    pub fn replace(&mut self, value: u32, place: usize, node: Node)
+    /// Puts a node that differs in its weights alone in place of another, for one value. Other owners of the pages keep
+    /// theirs.
+    pub fn replace(&mut self, value: u32, place: usize, node: Node) -> Result<(), AllocError>
         requires value { value < length self.old }
         requires within { place < length (nodes_of self.old value) }
         requires same { without_weights node ≡ without_weights (at (nodes_of self.old value) place) }
         ensures width { length self.new ≡ length self.old }
-        ensures here { nodes_of self.new value ≡ slice_set (nodes_of self.old value) place node }
-        ensures others { (other : ℕ) → (other ≡ value → ⊥) → nodes_of self.new other ≡ nodes_of self.old other }
+        ensures here { OnOk result (nodes_of self.new value ≡ slice_set (nodes_of self.old value) place node) }
+        ensures others { OnOk result
+            ((other : ℕ) → (other ≡ value → ⊥) → nodes_of self.new other ≡ nodes_of self.old other) }
     {
         if value == 0 {
-            self.first.replace(place, node);
+            self.first.replace(place, node)?;
         } else {
             let table = &mut self.others[value as usize - 1];
             table.replace(
@@ -109,8 +111,20 @@ impl Nodes {
                     own: node.own,
                     total: node.total,
                 },
-            );
+            )?;
         }
+        Ok(())
+    }
+
+    /// Another owner of the same pages.
+    pub fn share(&self) -> Result<Nodes, AllocError>
+        ensures { IfOk result (λ nodes. nodes ≡ self.now) }
+    {
+        Ok(Nodes {
+            width: self.width,
+            first: self.first.share()?,
+            others: self.others.clone()?,
+        })
     }
 
     /// One more node of weight 0, at the end.
@@ -129,7 +143,7 @@ impl Nodes {
 }
 
 /// Room for one more node in each table.
-fn take_room(tables: &mut Vec<Table<NodeWeights>>, size: usize) -> Result<(), AllocError>
+fn take_room(tables: &mut Vec<Pages<NodeWeights>>, size: usize) -> Result<(), AllocError>
     requires { AreTables size tables.old.items }
     ensures count { length tables.new.items ≡ length tables.old.items }
     ensures same { (nodes : List Node) → map (weighed nodes) tables.new.items ≡ map (weighed nodes) tables.old.items }

@@ -4,16 +4,19 @@ ghost use Rattle.std.specs.Prelude.{◌≡◌, ◌<◌, ◌≤◌, ◌+◌, ◌+
 ghost use Rattle.profile_rows.specs.Rows.{total_of};
 ghost use Rattle.profile_rows.specs.Aggregate.{AreRowsOf, aggregates_of, weight_in, with_rows, rows_of};
 ghost use Rattle.profile_rows.specs.TopList.{AreSumsOf};
-ghost use Rattle.profile_rows.specs.Values.{value_of};
+ghost use Rattle.profile_rows.specs.Values.{value_of, rows_at};
 ghost use Rattle.call_tree.specs.State.{TreeState, weights_of, total_in, nodes_at, plain_at, name_at, node_at, stack_at, credited, has_weight, IsAppended, IsChild, IsFresh, AreStates};
+ghost use Rattle.call_tree.specs.Nodes.{AreTrees, nodes_of, plain_of};
+ghost use Rattle.call_tree.specs.Shape.{node_rows};
+ghost use Rattle.call_tree.specs.Plans.{ArePlaces, AreCredited, IsCredited};
 
 use crate::node::Node;
 use crate::nodes::Nodes;
-use crate::table::Table;
 use profile_rows::{
     Batch, FrameTotal, MAX_DEPTH, Name, NoMemory, Stack, WeightedStack, WeightedStacks, Weights,
-    Width, aggregate,
+    Width, aggregate, aggregate_stacks,
 };
+use shared_pages::Pages;
 use std::alloc::{AllocError, Global};
 use std::marker::Model;
 
@@ -28,7 +31,7 @@ struct Sums {
 /// grew.
 #[derive(Drop)]
 pub struct CallTree {
-    names: Table<Name>,
+    names: Pages<Name>,
     nodes: Nodes,
 }
 
@@ -68,29 +71,35 @@ impl CallTree {
         weights_from(&totals, width)
     }
 
-    /// One more weight of one value at a node: at the node, and in the totals of all above it.
-    pub(crate) fn add_weight(&mut self, value: u32, at: u32, weight: u64)
-        requires value { value < self.old.width }
-        requires within { at < length (nodes_at self.old value) }
-        requires fits { total_of (nodes_at self.old value) + weight < 2 ^ 63 }
-        ensures width { self.new.width ≡ self.old.width }
-        ensures names { self.new.names ≡ self.old.names }
-        ensures nodes { nodes_at self.new value ≡ credited (nodes_at self.old value) at weight }
-        ensures others { (other : ℕ) → (other ≡ value → ⊥) → nodes_at self.new other ≡ nodes_at self.old other }
+    /// Another owner of this tree: what becomes of one shows in no other.
+    ///
+    /// # Errors
+    ///
+    /// `NoMemory`.
+    pub fn share(&self) -> Result<CallTree, NoMemory>
+        ensures { IfOk result (λ tree. tree ≡ self.now) }
     {
-        let mut place = at;
-        while place != 0 {
-            let mut node = self.nodes.read(value, place as usize);
-            node.total += weight;
-            self.nodes.replace(value, place as usize, node);
-            place = node.parent;
+        Ok(CallTree {
+            names: self.names.share()?,
+            nodes: self.nodes.share()?,
+        })
+    }
+
+    /// This tree with the rows of a batch, each at its node. Nothing of this tree changes.
+    pub(crate) fn with_batch(&self, batch: &Batch, places: &[u32]) -> Result<CallTree, NoMemory>
+        requires width { batch.now.width ≡ self.now.width }
+        requires places { ArePlaces (plain_at self.now 0) batch.now.rows places.now }
+        requires fits { (value : ℕ)
+            → total_of (nodes_at self.now value) + total_of (rows_at value batch.now.rows) < 2 ^ 63 }
+        ensures { IfOk result (λ next. AreCredited self.now next batch.now.rows self.now.width) }
+    {
+        self.known();
+        let names = self.names.share()?;
+        let mut nodes = self.nodes.share()?;
+        for value in 0..self.nodes.width().get() {
+            add_rows(&names, &mut nodes, value, batch, places)?;
         }
-        let mut root = self.nodes.read(value, 0);
-        root.total += weight;
-        self.nodes.replace(value, 0, root);
-        let mut leaf = self.nodes.read(value, at as usize);
-        leaf.own += weight;
-        self.nodes.replace(value, at as usize, leaf);
+        Ok(CallTree { names, nodes })
     }
 
     /// One more name, with the next number.
@@ -204,7 +213,7 @@ impl CallTree {
             total: 0,
         })?;
         Ok(CallTree {
-            names: Table::new(alloc),
+            names: Pages::new(alloc),
             nodes,
         })
     }
@@ -302,17 +311,17 @@ impl CallTree {
     }
 
     /// The stacks of weight above 0 by a value, by their nodes.
-    fn weighted_rows(&self, alloc: Global, value: u32) -> Result<Vec<WeightedStack>, NoMemory>
+    fn weighted_rows(&self, alloc: Global, value: u32) -> Result<WeightedStacks, NoMemory>
         requires { value < self.now.width }
-        ensures { IfOk result (λ rows. rows.items ≡ filter has_weight (nodes_at self.now value)) }
+        ensures { IfOk result (λ rows. rows ≡ filter has_weight (nodes_at self.now value)) }
     {
         self.known();
-        let mut rows = Vec::new(alloc);
+        let mut rows = WeightedStacks::new(alloc);
         for index in 0..self.nodes.len() {
             let weight = self.nodes.read(value, index).own;
             if weight > 0 {
                 let stack = self.stack_of(alloc, index)?;
-                rows.push(WeightedStack { stack, weight })?;
+                rows.push(stack, weight).map_err(|_| NoMemory)?;
             }
         }
         Ok(rows)
@@ -328,10 +337,8 @@ impl CallTree {
         requires { value < self.now.width }
         ensures { IfOk result (λ batch. batch ≡ rows_of (weights_of self.now value)) }
     {
-        self.known();
-        let mut rows = self.weighted_rows(alloc, value)?;
-        rows.sort_by(|left, right| left.stack.cmp(&right.stack))?;
-        batch_of(alloc, rows)
+        let rows = self.weighted_rows(alloc, value)?;
+        aggregate_stacks(alloc, rows)
     }
 
     /// Each stack that weighs something by some value once, in the order of stacks, with all its values.
@@ -352,6 +359,70 @@ impl CallTree {
         }
         aggregate(alloc, &batch)
     }
+}
+
+/// The weights of a batch's rows by one value, each at its node.
+fn add_rows(
+    names: &Pages<Name>,
+    nodes: &mut Nodes,
+    value: u32,
+    batch: &Batch,
+    places: &[u32],
+) -> Result<(), AllocError>
+    requires trees { AreTrees names.now nodes.old }
+    requires value { value < length nodes.old }
+    requires width { value < batch.now.width }
+    requires places { ArePlaces (plain_of names.now nodes.old value) batch.now.rows places.now }
+    requires fits { total_of (node_rows names.now (nodes_of nodes.old value))
+        + total_of (rows_at value batch.now.rows) < 2 ^ 63 }
+    ensures trees { OnOk result (AreTrees names.now nodes.new) }
+    ensures width { OnOk result (length nodes.new ≡ length nodes.old) }
+    ensures credited { OnOk result (IsCredited (plain_of names.now nodes.old value)
+        (plain_of names.now nodes.new value) (rows_at value batch.now.rows)) }
+    ensures others { OnOk result
+        ((other : ℕ) → (other ≡ value → ⊥) → nodes_of nodes.new other ≡ nodes_of nodes.old other) }
+{
+    for index in 0..places.len() {
+        let weight = batch.weight(index, value);
+        add_weight(names, nodes, value, places[index], weight)?;
+    }
+    Ok(())
+}
+
+/// One more weight of one value at a node: at the node, and in the totals of all above it.
+fn add_weight(
+    names: &Pages<Name>,
+    nodes: &mut Nodes,
+    value: u32,
+    at: u32,
+    weight: u64,
+) -> Result<(), AllocError>
+    requires trees { AreTrees names.now nodes.old }
+    requires value { value < length nodes.old }
+    requires within { at < length (nodes_of nodes.old value) }
+    requires fits { total_of (node_rows names.now (nodes_of nodes.old value)) + weight < 2 ^ 63 }
+    ensures trees { OnOk result (AreTrees names.now nodes.new) }
+    ensures width { OnOk result (length nodes.new ≡ length nodes.old) }
+    ensures nodes { OnOk result (node_rows names.now (nodes_of nodes.new value)
+        ≡ credited (node_rows names.now (nodes_of nodes.old value)) at weight) }
+    ensures others { OnOk result
+        ((other : ℕ) → (other ≡ value → ⊥) → nodes_of nodes.new other ≡ nodes_of nodes.old other) }
+{
+    let _names = names;
+    let mut place = at;
+    while place != 0 {
+        let mut node = nodes.read(value, place as usize);
+        node.total += weight;
+        nodes.replace(value, place as usize, node)?;
+        place = node.parent;
+    }
+    let mut root = nodes.read(value, 0);
+    root.total += weight;
+    nodes.replace(value, 0, root)?;
+    let mut leaf = nodes.read(value, at as usize);
+    leaf.own += weight;
+    nodes.replace(value, at as usize, leaf)?;
+    Ok(())
 }
 
 /// For each of these rows one row more, which has its weight as this value and 0 as each other.
@@ -383,20 +454,6 @@ fn weighing(width: Width, value: u32, weight: u64) -> Weights
     let mut places = [0; 4];
     places[value as usize] = weight;
     weights_from(&places, width)
-}
-
-/// A batch of these rows.
-fn batch_of(alloc: Global, rows: Vec<WeightedStack>) -> Result<WeightedStacks, NoMemory>
-    ensures { IfOk result (λ batch. batch ≡ rows.items) }
-{
-    let mut batch = WeightedStacks::new(alloc);
-    for row in rows {
-        let WeightedStack { stack, weight } = row;
-        if batch.push(stack, weight).is_err() {
-            return Err(NoMemory);
-        }
-    }
-    Ok(batch)
 }
 
 /// The first of four places, as many as the width says.

@@ -13,7 +13,7 @@ pub struct Walk {
     /// Where a name may stand in `names`; any number for one that doesn't.
     places: Vec<usize>,
     names: Vec<u32>,
-    /// For each depth the node that a walk entered there last.
+    /// For each node the one below it that a walk entered last, or the root.
     nodes: Vec<u32>,
 }
 
@@ -66,24 +66,24 @@ impl Walk {
         Ok(false)
     }
 
-    /// The node where a walk before went at this depth, or the root. Whether it serves this walk is for the caller to
+    /// The node that a walk entered last from this one, or the root. Whether it serves this walk is for the caller to
     /// see.
-    pub fn guess(&self, depth: usize) -> u32 {
-        match self.nodes.get(depth) {
+    pub fn guess(&self, parent: u32) -> u32 {
+        match self.nodes.get(parent as usize) {
             Some(node) => *node,
             None => 0,
         }
     }
 
-    /// Keeps the node of this depth as a guess.
-    pub fn keep(&mut self, depth: usize, node: u32) -> Result<(), AllocError>
+    /// Keeps a node as the guess below its parent.
+    pub fn keep(&mut self, parent: u32, node: u32) -> Result<(), AllocError>
         ensures { OnOk result (self.new ≡ self.old) }
     {
-        if depth < self.nodes.len() {
-            self.nodes[depth] = node;
-        } else {
-            self.nodes.push(node)?;
+        let at = parent as usize;
+        if at >= self.nodes.len() {
+            self.nodes.resize(at + 1, 0)?;
         }
+        self.nodes[at] = node;
         Ok(())
     }
 }

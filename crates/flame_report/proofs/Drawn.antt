@@ -7,7 +7,8 @@ use Rattle.profile_rows.specs.Layout.{Rectangle, is_shown, rectangle_at}
 use Rattle.profile_rows.specs.Paths.{prefixes}
 use Rattle.profile_rows.specs.Rows.{total_of}
 use Rattle.flame_report.specs.Answers.{rect_of}
-use Rattle.flame_report.specs.Sharing.{AreWeighty, shown_of, span_of}
+use Rattle.profile_rows.specs.Aggregate.{AreWeighty}
+use Rattle.flame_report.specs.Sharing.{shown_of, span_of}
 use Rattle.flame_report.specs.declared.answer.Rect.{Rect}
 use Rattle.flame_report.specs.declared.layout.Span.{Span}
 use Rattle.flame_report.proofs.Prefixes.{drop-prefixes_more, shown_of-yes, shown_of-append}

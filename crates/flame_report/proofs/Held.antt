@@ -9,7 +9,8 @@ use Rattle.profile_rows.specs.declared.weighted_stacks.WeightedStack.{WeightedSt
 use Rattle.profile_rows.specs.Paths.{begins_with}
 use Rattle.profile_rows.specs.Names.{name_cmp}
 use Rattle.profile_rows.specs.Rows.{total_of, weight_where}
-use Rattle.flame_report.specs.Sharing.{known_at, stack_at, held_weight, IsAscending, AreHeld}
+use Rattle.profile_rows.specs.Aggregate.{IsAscending}
+use Rattle.flame_report.specs.Sharing.{known_at, stack_at, held_weight, AreHeld}
 use Rattle.flame_report.proofs.PathOrder as order
 use Rattle.flame_report.proofs.RowSums.{names_total, names_same, in_order, held_weight-new, weight_where-more, weight_where-same_more, weight_where-take-le}
 

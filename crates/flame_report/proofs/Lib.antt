@@ -1,6 +1,5 @@
 pub mod Drawn
 pub mod Held
-pub mod InOrder
 pub mod Listed
 pub mod Narrow
 pub mod NewPaths

@@ -17,7 +17,8 @@ use Rattle.profile_rows.specs.declared.weighted_stacks.WeightedStack.{WeightedSt
 use Rattle.profile_rows.specs.Paths.{prefixes, begins_with}
 use Rattle.profile_rows.specs.Names.{name_cmp}
 use Rattle.profile_rows.specs.Rows.{stack_cmp}
-use Rattle.flame_report.specs.Sharing.{IsAscending, AreWeighty, known_at, stack_at}
+use Rattle.profile_rows.specs.Aggregate.{AreWeighty, IsAscending}
+use Rattle.flame_report.specs.Sharing.{known_at, stack_at}
 use Rattle.profile_rows.specs.Paths.{paths_of}
 use Rattle.flame_report.specs.Sharing.{paths_until}
 use Rattle.flame_report.proofs.PathOrder as order

@@ -15,7 +15,8 @@ use Rattle.profile_rows.specs.Names.{name_cmp}
 use Rattle.profile_rows.specs.Rows.{stack_cmp, weight_where, total_of}
 use Rattle.profile_rows.specs.Paths.{path_weight, path_start}
 use Rattle.profile_rows.proofs.RowLaws.{weight_where-le-total}
-use Rattle.flame_report.specs.Sharing.{IsAscending, stack_at, shared_paths, known_at, held_weight}
+use Rattle.profile_rows.specs.Aggregate.{IsAscending}
+use Rattle.flame_report.specs.Sharing.{stack_at, shared_paths, known_at, held_weight}
 use Rattle.flame_report.proofs.PathOrder as order
 
 pub names_total : IsTotalOrder name_cmp

@@ -1,22 +1,14 @@
 -- What the stacks of rows in order share, row by row.
-use Rattle.std.specs.Prelude.{ℕ, ◌≡◌, ◌<◌, ◌≤◌, ◌+◌, List, [], ◌++◌, map, filter, length, take, drop, slice_index_or, All, ⊤}
+use Rattle.std.specs.Prelude.{ℕ, ◌≡◌, ◌<◌, ◌≤◌, ◌+◌, List, [], ◌++◌, map, filter, length, take, drop, slice_index_or, ⊤}
 use Prim.Native.Nat.{zero, suc}
 use Rattle.std.specs.Ordering.{eq_by_cmp}
-use Rattle.std.specs.declared.cmp.Ordering.TheVariants.{Less}
-use Rattle.std.specs.List.{AllPairs, common_prefix_len}
+use Rattle.std.specs.List.{common_prefix_len}
 use Rattle.profile_rows.specs.declared.weighted_stacks.WeightedStack.{WeightedStack}
 use Rattle.profile_rows.specs.Layout.{Rectangle, is_shown, rectangle_at}
 use Rattle.profile_rows.specs.Names.{name_cmp}
 use Rattle.profile_rows.specs.Paths.{begins_with, prefixes}
-use Rattle.profile_rows.specs.Rows.{stack_cmp, weight_where}
+use Rattle.profile_rows.specs.Rows.{weight_where}
 use Rattle.flame_report.specs.declared.layout.Span.{Span}
-
--- each stack comes before those after it: in order, and none twice
-abbrev pub IsAscending : List WeightedStack → Type 0
-IsAscending rows = AllPairs (λ a b. stack_cmp a.stack b.stack ≡ Less) rows
-
-abbrev pub AreWeighty : List WeightedStack → Type 0
-AreWeighty rows = All (λ (row : WeightedStack). 0 < row.weight) rows
 
 -- the stack of the row at an index
 abbrev pub stack_at : List WeightedStack → ℕ → List (List ℕ)

@@ -76,7 +76,8 @@ pub fn parents_are_shown()
 /// The paths of rows come in their order, each once: those that weigh something, and no others. The rectangles are
 /// those of the paths that take a column, in the order of the paths.
 pub fn rectangles_come_in_order()
-    ensures ascending { (rows : List WeightedStack) → AllPairs (λ path after. stack_cmp path after ≡ Less) (paths_of rows) }
+    ensures ascending { (rows : List WeightedStack)
+        → AllPairs (λ path after. stack_cmp path after ≡ Less) (paths_of rows) }
     ensures weighty { (rows : List WeightedStack) (path : List (List ℕ))
         → Contains (paths_of rows) path ↔ (0 < path_weight rows path) }
     ensures drawn { (columns : ℕ) (rows : List WeightedStack) → rectangles_of columns rows

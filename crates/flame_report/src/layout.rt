@@ -9,7 +9,8 @@ ghost use Rattle.profile_rows.specs.Names.{name_cmp};
 ghost use Rattle.profile_rows.specs.Paths.{begins_with, path_weight, prefixes};
 ghost use Rattle.profile_rows.specs.Rows.{total_of};
 ghost use Rattle.flame_report.specs.Answers.{rect_of};
-ghost use Rattle.flame_report.specs.Sharing.{AreHeld, AreKnownPaths, AreWeighty, IsAscending, held_weight, known_at, shown_of, span_of, stack_at};
+ghost use Rattle.profile_rows.specs.Aggregate.{AreWeighty, IsAscending};
+ghost use Rattle.flame_report.specs.Sharing.{AreHeld, AreKnownPaths, held_weight, known_at, shown_of, span_of, stack_at};
 
 use crate::answer::{Label, Rect};
 use crate::query::Columns;

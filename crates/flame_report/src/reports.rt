@@ -1,24 +1,22 @@
 //! Reports: the answer to a query over a call tree, or over a batch.
 
 ghost use Rattle.std.specs.Prelude.{◌≡◌, ◌+◌, ◌^◌, ◌<◌, IfOk, IsTrue, List};
-ghost use Rattle.profile_rows.specs.Aggregate.{aggregate_of, rows_of};
+ghost use Rattle.profile_rows.specs.Aggregate.{AreWeighty, IsAscending, aggregate_of, rows_of};
 ghost use Rattle.folded_text.specs.FoldedText.{folded_text_of};
 ghost use Rattle.profile_rows.specs.Rows.{total_of};
 ghost use Rattle.profile_rows.specs.declared.weighted_stacks.WeightedStack.{WeightedStack};
 ghost use Rattle.call_tree.specs.State.{weights_of};
 ghost use Rattle.flame_report.specs.Answers.{answer_of, flame_of, kept_by, top_of, value_answer_of};
 ghost use Rattle.profile_rows.specs.Values.{rows_at};
-ghost use Rattle.flame_report.specs.Sharing.{AreWeighty, IsAscending};
 
 use crate::answer::{Answer, Flame, Top};
 use crate::items::Items;
 use crate::layout::{Scale, rects_of};
 use crate::query::{Columns, Kind, Query, Rank};
 use crate::top::{kept_total, top_list, top_of_rows};
-use call_tree::{CallTree, Grower};
+use call_tree::CallTree;
 use folded_text::write_stacks;
-use profile_rows::laws::sums_are_those_of_the_aggregate;
-use profile_rows::{Batch, FrameTotals, NoMemory, WeightedStack, WeightedStacks};
+use profile_rows::{Batch, FrameTotals, NoMemory, WeightedStack, WeightedStacks, aggregate_stacks};
 use std::alloc::Global;
 
 /// The rows of a batch that a query keeps.
@@ -144,20 +142,8 @@ pub fn report(alloc: Global, tree: &CallTree, query: &Query) -> Result<Answer, N
     held_answer(alloc, tree, query)
 }
 
-/// What a batch adds up to by one value, in order.
-fn summed(alloc: Global, batch: &Batch, value: u32) -> Result<WeightedStacks, NoMemory>
-    requires { value < batch.now.width }
-    ensures { IfOk result (λ rows. rows ≡ rows_of (aggregate_of (rows_at value batch.now.rows))) }
-{
-    let mut grower = Grower::new(alloc, batch.width())?;
-    sums_are_those_of_the_aggregate();
-    let plan = grower.plan(alloc, batch)?;
-    grower.credit(plan);
-    grower.tree().weighted_stacks(alloc, value)
-}
-
 /// The plain answer to a query over the rows of a batch, by the query's value. A total and a top list of the first
-/// value are made from the rows as they stand, and no tree for them.
+/// value are made from the rows as they stand.
 ///
 /// # Errors
 ///
@@ -175,14 +161,14 @@ pub fn report_of(alloc: Global, batch: &Batch, query: &Query) -> Result<Answer, 
             Ok(Answer::Top(top))
         }
         _ => {
-            let rows = summed(alloc, batch, query.value)?;
-            answer(alloc, rows, query)
+            let rows = batch.weighted_stacks(alloc, query.value)?;
+            report_of_stacks(alloc, rows, query)
         }
     }
 }
 
 /// The plain answer to a query over rows of one value, whichever value the query names. A total and a top list are made
-/// from the rows as they stand, and no tree for them.
+/// from the rows as they stand; for the other answers the rows are sorted, and no tree is made.
 ///
 /// # Errors
 ///
@@ -201,7 +187,7 @@ pub fn report_of_stacks(
             Ok(Answer::Top(top))
         }
         _ => {
-            let rows = summed(alloc, &Batch::single(alloc, rows), 0)?;
+            let rows = aggregate_stacks(alloc, rows)?;
             answer(alloc, rows, query)
         }
     }

@@ -95,7 +95,8 @@ pub(crate) fn kept_total(rows: &[WeightedStack], query: &Query) -> u64
 ///
 /// `NoMemory`.
 pub fn top_list(totals: FrameTotals, rank: Rank, count: u32) -> Result<Top, NoMemory>
-    ensures { (rows : List WeightedStack) → AreTotalsOf rows totals → IfOk result (λ top. top ≡ top_of rank count rows) }
+    ensures { (rows : List WeightedStack) → AreTotalsOf rows totals
+        → IfOk result (λ top. top ≡ top_of rank count rows) }
 {
     let FrameTotals { total, mut frames } = totals;
     rank_names(&mut frames, rank, count)?;

@@ -260,7 +260,8 @@ fn read_stacks(alloc: Global, text: &[u8]) -> Result<WeightedStacks, FoldedFault
 
 /// Reads folded stacks: a line for each row, its frames from root to leaf separated by semicolons, then a space and a
 /// count. A line ends at its line feed, and one carriage return directly before that is dropped; the last line may lack
-/// it. Empty lines are skipped, and so are empty parts between semicolons: a stack may be empty. The batch has one value.
+/// it. Empty lines are skipped, and so are empty parts between semicolons: a stack may be empty. The batch has one
+/// value.
 ///
 /// # Errors
 ///

@@ -3,7 +3,9 @@
 //! A proof pays for each way out of a function beside a value that has to be dropped, a profile or a tree above all. So
 //! the tests make such a value in one function and lend it in that function's last call.
 
-use call_tree::Grower;
+ghost use Rattle.std.specs.Prelude.{◌≡◌, IfOk};
+
+use call_tree::{Grower, Plan};
 use profile_rows::first_heavy;
 use stack_text::{Batch, Name, Stack, Weights, Width, read_folded, write_folded};
 use std::alloc::Global;
@@ -75,13 +77,10 @@ pub(crate) fn stack_of(alloc: Global, frames: &str) -> Result<Stack, Fail> {
     Ok(Stack::make(names).ok().ok_or("too deep")?)
 }
 
-/// Plans rows, and credits them where `kept`.
-pub(crate) fn plan(
-    alloc: Global,
-    grower: &mut Grower,
-    rows: &Batch,
-    kept: bool,
-) -> Result<(), Fail> {
+/// The plan of rows.
+pub(crate) fn plan_of(alloc: Global, grower: &mut Grower, rows: &Batch) -> Result<Plan, Fail>
+    ensures { IfOk result (λ plan. plan.before ≡ grower.new) }
+{
     if grower.tree().width() != rows.width() {
         return Err("another width".into());
     }
@@ -89,7 +88,17 @@ pub(crate) fn plan(
     if let Some(_) = first_heavy(&held, &rows.total()) {
         return Err("too heavy".into());
     }
-    let plan = grower.plan(alloc, rows)?;
+    Ok(grower.plan(alloc, rows)?)
+}
+
+/// Plans rows, and credits them where `kept`.
+pub(crate) fn plan(
+    alloc: Global,
+    grower: &mut Grower,
+    rows: &Batch,
+    kept: bool,
+) -> Result<(), Fail> {
+    let plan = plan_of(alloc, grower, rows)?;
     if kept {
         grower.credit(plan);
     }

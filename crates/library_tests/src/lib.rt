@@ -15,6 +15,8 @@ mod reports;
 #[cfg(test)]
 mod samples;
 #[cfg(test)]
+mod shared_trees;
+#[cfg(test)]
 mod stacks;
 #[cfg(test)]
 mod trees;

@@ -4,6 +4,7 @@ pub mod Cleaning
 pub mod EntryLaws
 pub mod EqualRows
 pub mod FourValues
+pub mod InOrder
 pub mod Kept
 pub mod LentStacks
 pub mod Members
@@ -12,6 +13,7 @@ pub mod Ranking
 pub mod RowLaws
 pub mod RowValues
 pub mod SameNames
+pub mod PuttingTogether
 pub mod TallyLaws
 pub mod UniqueRows
 pub mod Weighted

@@ -55,7 +55,7 @@ AddsRow-push rows all row is fits = record {
 
 -- ---- rows by what spells their stacks
 
-stack_kept : (rows : List WeightedStack) (at k weight : ℕ) → at < length rows → (row_at (with_added_at rows at weight) k).stack ≡ (row_at rows k).stack
+pub stack_kept : (rows : List WeightedStack) (at k weight : ℕ) → at < length rows → (row_at (with_added_at rows at weight) k).stack ≡ (row_at rows k).stack
 stack_kept rows at k weight lt = elim (cases_eq k at) [
   | inl same ↦ subst (λ j. (row_at (with_added_at rows at weight) j).stack ≡ (row_at rows j).stack) (sym same)
       (ap (λ (r : WeightedStack). r.stack) (get_or-set_same rows at (record { stack = (row_at rows at).stack; weight = (row_at rows at).weight + weight }) no_row lt))

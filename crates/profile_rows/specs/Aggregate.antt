@@ -35,6 +35,13 @@ row_of entry = record { stack = entry.0; weight = entry.1 }
 abbrev pub rows_of : Weighted → List WeightedStack
 rows_of weighted = map row_of (finite.entries weighted)
 
+-- each stack comes before those after it: in order, and none twice
+abbrev pub IsAscending : List WeightedStack → Type 0
+IsAscending rows = AllPairs (λ a b. slice_cmp (slice_cmp nat_cmp) a.stack b.stack ≡ Less) rows
+
+abbrev pub AreWeighty : List WeightedStack → Type 0
+AreWeighty rows = All (λ (row : WeightedStack). 0 < row.weight) rows
+
 -- some value is above 0
 abbrev pub HasWeight : List ℕ → Type 0
 HasWeight weights = (value : ℕ) × (0 < value_of value weights)

@@ -1,13 +1,15 @@
 -- Rows in which equal stacks were put together.
-use Rattle.std.specs.Prelude.{ℕ, ◌≡◌, ◌+◌, ◌^◌, ◌<◌, ◌≤◌, List, [], Option, IfSome, length, slice_index_or, slice_set}
+use Rattle.std.specs.Prelude.{ℕ, ◌≡◌, ◌+◌, ◌^◌, ◌<◌, ◌≤◌, All, false, List, [], Option, IfSome, length, slice_index_or, slice_set}
 use Rattle.std.specs.HashMap as hash
 use Rattle.std.specs.HashMap.{HashMap}
+use Rattle.std.specs.Ordering.{is_lt}
+use Rattle.std.specs.declared.cmp.Ordering.{Ordering}
 use Rattle.std.specs.Str.{bytes_eq}
 use Rattle.std.specs.declared.hash.FoldHasher.{FoldHasher}
 use Rattle.std.specs.declared.hash.BuildHasherDefault.{BuildHasherDefault}
 use denote.Ref.{Bor}
 use Rattle.profile_rows.specs.declared.weighted_stacks.WeightedStack.{WeightedStack}
-use Rattle.profile_rows.specs.Rows.{is_same_stack, total_of, weight_if, weight_of}
+use Rattle.profile_rows.specs.Rows.{is_same_stack, stack_cmp, total_of, weight_if, weight_of}
 
 -- the row at an index; past the end one without frames and weight
 abbrev pub row_at : List WeightedStack → ℕ → WeightedStack
@@ -17,6 +19,14 @@ row_at rows at = slice_index_or rows at (record { stack = []; weight = 0 })
 abbrev pub with_added_at : List WeightedStack → ℕ → ℕ → List WeightedStack
 with_added_at rows at weight =
     slice_set rows at (record { stack = (row_at rows at).stack; weight = (row_at rows at).weight + weight })
+
+-- rows in the order of their stacks
+abbrev pub by_stack : WeightedStack → WeightedStack → Ordering
+by_stack row after = stack_cmp row.stack after.stack
+
+-- no row has a stack behind this one
+abbrev pub AreUpTo : List (List ℕ) → List WeightedStack → Type 0
+AreUpTo stack rows = All (λ (row : WeightedStack). is_lt (stack_cmp stack row.stack) ≡ false) rows
 
 -- rows by what spells their stacks
 abbrev pub RowsBySpelling : Type 0

@@ -1,12 +1,13 @@
 //! Batches: rows of one to four values, in order, of which the total of each value keeps the limit.
 
-ghost use Rattle.std.specs.Prelude.{ℕ, ◌≡◌, ◌+◌, ◌-◌, ◌*◌, ◌<◌, ◌≤◌, ◌++◌, ◌∷◌, [], drop, length, take, IfErr, OnErr, OnOk};
+ghost use Rattle.std.specs.Prelude.{ℕ, ◌≡◌, ◌+◌, ◌-◌, ◌*◌, ◌<◌, ◌≤◌, ◌++◌, ◌∷◌, [], drop, length, take, IfErr, IfOk, OnErr, OnOk};
 ghost use Rattle.profile_rows.specs.Values.{AreTotals, BatchState, HasRoom, IsBatch, row_in, rows_at, single_batch, value_of};
 ghost use Rattle.profile_rows.specs.Pushing.{IsPushFault};
 
 use crate::stack::Stack;
 use crate::values::{Weights, Width, first_heavy};
 use crate::weighted_stacks::{PushFault, Refused, WeightedStacks};
+use no_memory::NoMemory;
 use std::alloc::Global;
 use std::marker::Model;
 
@@ -134,6 +135,24 @@ impl Batch {
                 other_values(&self.others, at, self.totals.width()),
             ),
         }
+    }
+
+    /// The stacks in the order of their rows, each with its value of this number. Names are shared.
+    ///
+    /// # Errors
+    ///
+    /// `NoMemory`.
+    pub fn weighted_stacks(&self, alloc: Global, value: u32) -> Result<WeightedStacks, NoMemory>
+        requires { value < self.now.width }
+        ensures { IfOk result (λ rows. rows ≡ rows_at value self.now.rows) }
+    {
+        let mut rows = WeightedStacks::new(alloc);
+        for at in 0..self.len() {
+            let weight = self.weight(at, value);
+            let stack = self.row(at).stack.share(alloc)?;
+            rows.push(stack, weight).map_err(|_| NoMemory)?;
+        }
+        Ok(rows)
     }
 
     /// Whether a row of these values can follow.

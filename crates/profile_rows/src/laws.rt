@@ -65,13 +65,15 @@ pub fn aggregate_of_its_rows()
 
 /// What is kept of the rows of one aggregate has one aggregate.
 pub fn kept_rows_are_by_the_aggregate()
-    ensures { (focus ignored : Option (List ℕ)) (rows others : List WeightedStack) → aggregate_of rows ≡ aggregate_of others
+    ensures { (focus ignored : Option (List ℕ)) (rows others : List WeightedStack)
+        → aggregate_of rows ≡ aggregate_of others
         → aggregate_of (kept_rows focus ignored rows) ≡ aggregate_of (kept_rows focus ignored others) }
 {}
 
 /// Top lists depend on the aggregate of the rows alone.
 pub fn top_lists_are_by_the_aggregate()
-    ensures { (ranking : Ranking) (count : ℕ) (rows others : List WeightedStack) → aggregate_of rows ≡ aggregate_of others
+    ensures { (ranking : Ranking) (count : ℕ) (rows others : List WeightedStack)
+        → aggregate_of rows ≡ aggregate_of others
         → top_list_of ranking count rows ≡ top_list_of ranking count others }
 {}
 

@@ -10,7 +10,8 @@ ghost use Rattle.std.specs.Prelude.{map, string_bytes};
 ghost use Rattle.profile_rows.specs.Names.{IsName, cleaned_byte, cleaned_name_of};
 
 use no_memory::NoMemory;
-use std::alloc::Global;
+use std::alloc::{AllocError, Global};
+use std::clone::Clone;
 use std::cmp::Ordering;
 use std::marker::Model;
 use std::sync::ArcStr;
@@ -73,6 +74,17 @@ fn cleaned_text(alloc: Global, text: &str) -> Result<String, NoMemory>
         bytes.push(cleaned_byte(*byte))?;
     }
     Ok(String::from_utf8_lossy(alloc, &bytes)?)
+}
+
+impl Clone for Name {
+    ghost use Rattle.std.specs.Prelude.{◌≡◌};
+
+    ghost is_clone = { λ name clone. clone ≡ name };
+
+    fn clone(&self) -> Result<Name, AllocError> {
+        let text = self.text.clone()?;
+        Ok(Name { text })
+    }
 }
 
 impl Name {

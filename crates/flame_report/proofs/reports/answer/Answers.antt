@@ -1,7 +1,7 @@
 -- What is kept of rows in order is in order.
 use Rattle.std.proofs.Common.{subst, sym}
-use Rattle.flame_report.specs.Sharing.{AreWeighty, IsAscending}
-use Rattle.flame_report.proofs.InOrder.{kept_rows-AreWeighty, kept_rows-IsAscending}
+use Rattle.profile_rows.specs.Aggregate.{AreWeighty, IsAscending}
+use Rattle.profile_rows.proofs.InOrder.{kept_rows-AreWeighty, kept_rows-IsAscending}
 use Rattle.flame_report.proofs.reports.answer.Goals as goal
 
 pub flame-requires-clause-ascending : goal.flame-requires-clause-ascending

@@ -1,7 +1,7 @@
 -- Rows in order are the rows of their aggregate.
 use Rattle.std.proofs.Common.{sym, ap, ◌∙◌}
 use Rattle.folded_text.specs.FoldedText.{rows_text}
-use Rattle.flame_report.proofs.InOrder.{rows_of-aggregate}
+use Rattle.profile_rows.proofs.InOrder.{rows_of-aggregate}
 use Rattle.flame_report.proofs.reports.folded.Goals as goal
 
 pub returns : goal.returns

@@ -1,8 +1,8 @@
 -- The rows of a tree are those of its aggregate.
 use Rattle.std.proofs.Common.{sym, subst}
 use Rattle.call_tree.specs.State.{nodes_at, weights_of}
-use Rattle.flame_report.specs.Sharing.{AreWeighty, IsAscending}
-use Rattle.flame_report.proofs.InOrder.{rows_of-AreWeighty, rows_of-IsAscending}
+use Rattle.profile_rows.specs.Aggregate.{AreWeighty, IsAscending}
+use Rattle.profile_rows.proofs.InOrder.{rows_of-AreWeighty, rows_of-IsAscending}
 use Rattle.flame_report.proofs.reports.held_answer.Goals as goal
 
 pub answer-requires-clause-ascending : goal.answer-requires-clause-ascending

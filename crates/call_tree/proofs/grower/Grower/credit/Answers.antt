@@ -1,26 +1,29 @@
-use Rattle.std.proofs.Common.{◌≡◌, ◌+◌, arith, sym, ap, ◌∙◌, subst}
+use Rattle.std.proofs.Common.{◌≡◌, sym, ap, ◌∙◌, subst}
 use Rattle.std.specs.HashMap as hash
-use Rattle.profile_rows.specs.Values.{rows_at}
-use Rattle.profile_rows.specs.Aggregate.{with_rows}
-use Rattle.call_tree.specs.State.{TreeState, IsIndex, plain_at, same_key, weights_of}
+use Rattle.std.specs.Map.{lookup}
+use Rattle.call_tree.specs.State.{TreeState, IsIndex, plain_at, same_key}
+use Rattle.call_tree.specs.Plans.{IsNext}
+use Rattle.call_tree.proofs.Indexing.{IsIndex-none}
 use Rattle.call_tree.proofs.Planned.{IsIndex-credited}
-use Rattle.call_tree.proofs.Growing.{weights-credited}
 use Rattle.call_tree.proofs.grower.Grower.credit.Goals as goal
+use Rattle.call_tree.proofs.grower.Grower.credit.Goals.{then-resets, else-resets}
 
 pub invariant_of-self : goal.invariant_of-self
 invariant_of-self c =
-    let credited = c.loop-index.invariant.2 in
-    let done = credited.done 0 (omega arith) in
-    let before = subst (λ (t : TreeState). IsIndex (hash.get same_key c.self.inside.index) (plain_at t 0)) c.self.view_is c.self.invariant.1 in
-    let kept : IsIndex (hash.get same_key c.self.inside.index) (plain_at c.loop-index.self-inside.tree 0) = IsIndex-credited _ _ _ _ before done in (
-      ap (λ s. s.keys) c.loop-index.invariant.0 ∙ c.self.invariant.0 ∙ ap (λ t. t.names) c.self.view_is ∙ sym credited.names,
-      subst (λ m. IsIndex (hash.get same_key m) (plain_at c.loop-index.self-inside.tree 0)) (sym c.loop-index.invariant.1) kept,
-    )
-
-pub returns-clause-weights : goal.returns-clause-weights
-returns-clause-weights c =
-    let plan = c.plan.invariant in
-    let batch = c.plan.inside.batch.value in
-    let width : batch.width ≡ c.loop-index.index + 1 = omega (arith, plan.width, plan.count, c.loop-index-test.false, c.loop-index.auto.index-end, c.len-index-end.ensures) in
-    λ value. weights-credited c.args.self.now c.loop-index.self-inside.tree batch (c.loop-index.index + 1) plan.batch width c.loop-index.invariant.2 value
-    ∙ ap (λ p. with_rows (weights_of c.args.self.now value) (rows_at value p.rows)) c.plan.view_is
+    let next = c.plan.inside.next in
+    elim c.if-resets.branch [
+      | then-resets w ↦
+          let root = subst (λ b. IsNext b c.plan.inside.before.value next) w.if-resets.true c.plan.invariant in
+          let index = IsIndex-none (hash.get same_key w.clear-then-resets.new.self) (plain_at next 0) (λ key. ap (lookup (same_key key)) w.clear-then-resets.ensures.empty) root.names in (
+            ap (λ s. s.numbers.keys) w.self-inside-is ∙ w.clear.ensures.empty ∙ sym root.names,
+            subst (λ s. IsIndex (hash.get same_key s.index) (plain_at next 0)) (sym w.self-inside-is) index,
+          )
+      | else-resets w ↦
+          let same = subst (λ b. IsNext b c.plan.inside.before.value next) w.if-resets.false c.plan.invariant in
+          let before : c.plan.inside.before.value ≡ c.self.inside.tree = ap (λ p. p.before) c.plan.view_is ∙ c.requires ∙ sym c.self.view_is in
+          let had = subst (λ (t : TreeState). IsIndex (hash.get same_key c.self.inside.index) (plain_at t 0)) (sym before) c.self.invariant.1 in
+          let index = IsIndex-credited (hash.get same_key c.self.inside.index) (plain_at c.plan.inside.before.value 0) (plain_at next 0) had same in (
+            ap (λ s. s.numbers.keys) w.self-inside-is ∙ c.self.invariant.0 ∙ ap (λ t. t.names) (sym before) ∙ sym same.names,
+            subst (λ s. IsIndex (hash.get same_key s.index) (plain_at next 0)) (sym w.self-inside-is) index,
+          )
+    ]

@@ -1,22 +1,15 @@
-use Rattle.std.proofs.Common.{◌≡◌, ◌<◌, ◌+◌, ◌∷◌, ℕ, List, [], length, get_or, sym, ◌∙◌, subst}
-use Rattle.profile_rows.specs.Values.{BatchState}
-use Rattle.profile_rows.specs.declared.weighted_stacks.WeightedStack.{WeightedStack}
-use Rattle.call_tree.specs.declared.grower.Credit.{Credit}
-use Rattle.call_tree.specs.State.{TreeState, AreStates, plain_at}
-use Rattle.call_tree.specs.Plans.{AreCreditsOf, ArePlanned, ArePlans}
-use Rattle.call_tree.proofs.Growing.{ArePlans-made}
+use Rattle.std.proofs.Common.{sym, ap, ◌∙◌}
+use Rattle.profile_rows.specs.Values.{rows_at}
+use Rattle.profile_rows.specs.Aggregate.{with_rows}
+use Rattle.call_tree.specs.State.{weights_of}
+use Rattle.call_tree.proofs.Growing.{weights-credited, weights-grown}
 use Rattle.call_tree.proofs.grower.Grower.plan_rows.Goals as goal
 
-pub invariant_of-result : goal.invariant_of-result
-invariant_of-result c =
-    let tree = c.first_credits.new.self in
+pub returns-clause-next : goal.returns-clause-next
+returns-clause-next c =
     let batch = c.args.batch.now in
-    let first = c.in_ok-first.first.items in
-    let others = c.in_ok-others.others.items in
-    let states = subst AreStates c.self.view_is c.known.ensures in
-    let planned = subst (λ (rows : List WeightedStack). ArePlanned (plain_at tree 0) rows first (length rows)) c.first.ensures.first c.in_ok-first.ensures.planned in
-    let plans = ArePlans-made c.args.self.now tree c.in_ok-first.ensures.grown states batch c.first.ensures.batch c.requires.width c.requires.fits first others planned
-    c.in_ok-others.ensures.count (subst (λ (cs : List Credit). (k : ℕ) → k < length others → AreCreditsOf (k + 1) batch.rows cs (get_or others k [])) c.as_slice.ensures.value c.in_ok-others.ensures.each) in
-    let tree_is : c.of.result.value ≡ tree = c.of.ensures ∙ c.self.view_is in
-    subst (λ (t : TreeState). ArePlans t c.of-2.result.value (first ∷ others)) (sym tree_is)
-    (subst (λ (b : BatchState). ArePlans tree b (first ∷ others)) (sym c.of-2.ensures) plans)
+    let grown = c.in_ok-places.ensures.grown in
+    let tree = c.self.inside.tree in
+    let width = c.requires.width ∙ sym grown.width ∙ sym (ap (λ t. t.width) c.self.view_is) in
+    λ value. weights-credited tree c.in_ok-next.next batch tree.width c.first.ensures.batch width c.in_ok-next.ensures value
+    ∙ ap (λ m. with_rows m (rows_at value batch.rows)) (ap (λ t. weights_of t value) c.self.view_is ∙ weights-grown c.args.self.now c.places_of.new.self grown value)

@@ -6,8 +6,8 @@ use Rattle.call_tree.specs.Nodes.{nodes_of, without_weights, weighed}
 use Rattle.call_tree.proofs.Weighing.{table_of, length-nodes_of, others-first, here-all, AreTables-set}
 use Rattle.call_tree.proofs.nodes.Nodes.replace.Goals as goal
 
-pub replace-requires-else-value-eq0 : goal.replace-requires-else-value-eq0
-replace-requires-else-value-eq0 c =
+pub replace-requires-else-value-eq0-clause-within : goal.replace-requires-else-value-eq0-clause-within
+replace-requires-else-value-eq0-clause-within c =
     let first = c.self.inside.first in
     let tables = c.self.inside.others.items in
     let size = length-nodes_of first tables c.args.value (omega (arith, c.requires.value, ap length c.self.view_is)) in
@@ -17,8 +17,8 @@ replace-requires-else-value-eq0 c =
     let long = c.self.invariant.1.long (c.args.value - 1) lt in
     omega (arith, within, long, ap length table_is)
 
-pub invariant_of-self-else-value-eq0 : goal.invariant_of-self-else-value-eq0
-invariant_of-self-else-value-eq0 c =
+pub invariant_of-self-in-Continue-branch-2 : goal.invariant_of-self-in-Continue-branch-2
+invariant_of-self-in-Continue-branch-2 c =
     let first = c.self.inside.first in
     let tables = c.self.inside.others.items in
     let size = length-nodes_of first tables c.args.value (omega (arith, c.requires.value, ap length c.self.view_is)) in
@@ -27,21 +27,21 @@ invariant_of-self-else-value-eq0 c =
     let table_is : c.index_mut-table.result.now ≡ table_of tables (c.args.value - 1) = get_or_read tables (c.args.value - 1) c.index_mut-table.result.now lt c.index_mut-table.ensures.value [] in (
       ap (λ n. n + 1) (length-set tables (c.args.value - 1) c.replace-else-value-eq0.new.self) ∙ c.self.invariant.0,
       AreTables-set (length first) tables (c.args.value - 1) c.args.place (record { own = c.args.node.own; total = c.args.node.total }) c.replace-else-value-eq0.new.self c.self.invariant.1 lt within
-          (c.replace-else-value-eq0.ensures ∙ ap (λ table. set table c.args.place (record { own = c.args.node.own; total = c.args.node.total })) table_is),
+          (c.in_ok-replace-2.ensures.ok ∙ ap (λ table. set table c.args.place (record { own = c.args.node.own; total = c.args.node.total })) table_is),
     )
 
-pub returns-then-value-eq0-clause-others : goal.returns-then-value-eq0-clause-others
-returns-then-value-eq0-clause-others c =
+pub returns-in_ok-replace-clause-others : goal.returns-in_ok-replace-clause-others
+returns-in_ok-replace-clause-others c =
     let first = c.self.inside.first in
     let tables = c.self.inside.others.items in
     let value = c.if-value-eq0.true in
     let same : without_weights c.args.node ≡ without_weights (at first c.args.place) =
     c.requires.same ∙ ap (λ v. without_weights (at (nodes_of c.args.self.now v) c.args.place)) value ∙ ap (λ all. without_weights (at (nodes_of all 0) c.args.place)) (sym c.self.view_is) in
-    λ other ne. others-first first c.replace.new.self tables c.args.place c.args.node same c.replace.ensures other (λ e. ne (e ∙ sym value))
+    λ other ne. others-first first c.replace.new.self tables c.args.place c.args.node same c.in_ok-replace.ensures.ok other (λ e. ne (e ∙ sym value))
     ∙ ap (λ all. nodes_of all other) c.self.view_is
 
-pub returns-else-value-eq0-clause-here : goal.returns-else-value-eq0-clause-here
-returns-else-value-eq0-clause-here c =
+pub returns-in_ok-replace-2-clause-here : goal.returns-in_ok-replace-2-clause-here
+returns-in_ok-replace-2-clause-here c =
     let first = c.self.inside.first in
     let tables = c.self.inside.others.items in
     let size = length-nodes_of first tables c.args.value (omega (arith, c.requires.value, ap length c.self.view_is)) in
@@ -51,5 +51,5 @@ returns-else-value-eq0-clause-here c =
     let long = c.self.invariant.1.long (c.args.value - 1) lt in
     here-all first tables c.args.value (c.args.value - 1) c.args.place c.args.node c.replace-else-value-eq0.new.self (omega (arith, c.if-value-eq0.false)) lt within (omega (arith, within, long))
     (c.requires.same ∙ ap (λ all. without_weights (at (nodes_of all c.args.value) c.args.place)) (sym c.self.view_is))
-    (c.replace-else-value-eq0.ensures ∙ ap (λ table. set table c.args.place (record { own = c.args.node.own; total = c.args.node.total })) table_is)
+    (c.in_ok-replace-2.ensures.ok ∙ ap (λ table. set table c.args.place (record { own = c.args.node.own; total = c.args.node.total })) table_is)
     ∙ ap (λ all. set (nodes_of all c.args.value) c.args.place c.args.node) c.self.view_is

@@ -1,12 +1,12 @@
-use Rattle.std.proofs.Common.{◌≡◌, ◌<◌, filter, length, take, arith, sym, ap, ◌∙◌}
+use Rattle.std.proofs.Common.{rules, ◌≡◌, ◌<◌, filter, length, take, arith, sym, ap, ◌∙◌}
 use Rattle.std.proofs.lemmas.List.{take_all}
 use Rattle.call_tree.specs.State.{has_weight, node_at, nodes_at}
 use Rattle.call_tree.specs.Nodes.{nodes_of}
 use Rattle.call_tree.proofs.Shapes.{node_at-node_rows}
-use Rattle.call_tree.proofs.Sorting.{weighted, weightless}
+use Rattle.call_tree.proofs.Weighty.{weighted, weightless}
 use Rattle.call_tree.proofs.Trees.{length-seen, seen}
 use Rattle.call_tree.proofs.tree.CallTree.weighted_rows.Goals as goal
-use Rattle.call_tree.proofs.tree.CallTree.weighted_rows.Goals.{then-weight-gt0+in_ok-stack+in_ok-push, else-weight-gt0}
+use Rattle.call_tree.proofs.tree.CallTree.weighted_rows.Goals.{then-weight-gt0+in_ok-stack+in_ok-map_err, else-weight-gt0}
 
 pub stack_of-requires : goal.stack_of-requires
 stack_of-requires c =
@@ -31,12 +31,12 @@ loop-index-preserved c =
     ap (λ node. node.own) c.read-weight.ensures ∙ sym (ap (λ row. row.weight) (node_at-node_rows names nodes k))
     ∙ ap (λ rows. (node_at rows k).weight) (seen names all c.args.self.now c.args.value c.self.view_is) in
     elim c.if-weight-gt0.branch [
-      | then-weight-gt0+in_ok-stack+in_ok-push w ↦
-          weighted rows c.loop-index.rows.items c.if-weight-gt0.rows.items k c.read-weight.result.own lt weight c.loop-index.invariant
-          w.if-weight-gt0.true w.in_ok-stack.stack (w.in_ok-stack.ensures ∙ sym (c.known.ensures.stacks c.args.value k c.requires)) (ap (λ v. v.items) w.rows-is ∙ w.in_ok-push.ensures.items)
+      | then-weight-gt0+in_ok-stack+in_ok-map_err w ↦
+          weighted rows c.loop-index.rows c.if-weight-gt0.rows k c.read-weight.result.own lt weight c.loop-index.invariant
+          w.if-weight-gt0.true w.in_ok-stack.stack (w.in_ok-stack.ensures ∙ sym (c.known.ensures.stacks c.args.value k c.requires)) (w.rows-is ∙ (search rules))
       | else-weight-gt0 w ↦
-          weightless rows c.loop-index.rows.items c.if-weight-gt0.rows.items k c.read-weight.result.own lt weight c.loop-index.invariant
-          (omega (arith, w.if-weight-gt0.false)) (ap (λ v. v.items) w.rows-is)
+          weightless rows c.loop-index.rows c.if-weight-gt0.rows k c.read-weight.result.own lt weight c.loop-index.invariant
+          (omega (arith, w.if-weight-gt0.false)) w.rows-is
     ]
 
 pub returns : goal.returns

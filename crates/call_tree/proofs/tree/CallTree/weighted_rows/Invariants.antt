@@ -4,4 +4,4 @@ use Rattle.call_tree.proofs.tree.CallTree.weighted_rows.Given as goal
 
 -- the rows of the nodes so far
 abbrev pub invariant-loop-index : goal.invariant-loop-index
-invariant-loop-index l = l.rows.items ≡ filter has_weight (take l.index (nodes_at l.self l.value))
+invariant-loop-index l = l.rows ≡ filter has_weight (take l.index (nodes_at l.self l.value))

@@ -1,5 +1,5 @@
 -- What is held of each value, and the batch's.
-use Rattle.std.proofs.Common.{◌≡◌, ◌<◌, ◌^◌, ℕ, sym, subst}
+use Rattle.std.proofs.Common.{◌<◌, ◌^◌, sym, subst}
 use Rattle.op_book.proofs.book.Book.check_batch.Goals as goal
 
 pub first_heavy-requires-clause-fits : goal.first_heavy-requires-clause-fits

@@ -1,5 +1,5 @@
 -- The tree's totals are those of the rows whose aggregate it is.
-use Rattle.std.proofs.Common.{◌≡◌, ◌<◌, ◌^◌, ℕ, true, ap, sym, ◌∙◌, subst}
+use Rattle.std.proofs.Common.{◌≡◌, ◌<◌, ◌^◌, ℕ, true, ap, ◌∙◌, subst}
 use Rattle.call_tree.specs.State.{TreeState, total_in, weights_of}
 use Rattle.profile_rows.specs.Values.{rows_at}
 use Rattle.op_book.specs.Books.{BookState, weight_held}

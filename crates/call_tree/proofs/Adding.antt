@@ -1,0 +1,61 @@
+-- The weights of a batch's rows, added by one value after the other.
+use Rattle.std.proofs.Common.{◌≡◌, ℕ, ◌+◌, List, length, take, refl, sym, ap, ◌∙◌, subst, arith}
+use Rattle.profile_rows.specs.Values.{Row, rows_at}
+use Rattle.call_tree.specs.declared.node.Node.{Node}
+use Rattle.profile_rows.specs.Rows.{total_of}
+use Rattle.call_tree.specs.State.{PlainTree, nodes_at, plain_at}
+use Rattle.call_tree.specs.Shape.{node_rows}
+use Rattle.call_tree.specs.Nodes.{AreTrees, nodes_of, plain_of, tree_of}
+use Rattle.call_tree.specs.Plans.{AreCredited, ArePlaces, IsCredited}
+use Rattle.call_tree.proofs.Growing.{AreCredited-start, AreCredited-step}
+use Rattle.call_tree.proofs.Trees.{nodes_at-tree, seen_plain}
+use Rattle.call_tree.proofs.Planned.{IsCredited-start}
+
+pub record AreAdded (names : List (List ℕ)) (before now : List (List Node)) (value : ℕ) (rows : List Row) (count : ℕ) : Type 0 where
+  pub trees : AreTrees names now
+  pub width : length now ≡ length before
+  pub done : IsCredited (plain_of names before value) (plain_of names now value) (take count (rows_at value rows))
+  pub others : (other : ℕ) → (other ≡ value → ⊥) → nodes_of now other ≡ nodes_of before other
+
+pub AreAdded-start : (names : List (List ℕ)) (all : List (List Node)) (value : ℕ) (rows : List Row) → AreTrees names all → AreAdded names all all value rows 0
+AreAdded-start names all value rows trees =
+    record { trees = trees; width = refl; done = IsCredited-start (plain_of names all value); others = λ other ne. refl }
+
+-- ---- the values so far
+
+pub record AreAddedTo (names : List (List ℕ)) (before now : List (List Node)) (rows : List Row) (count : ℕ) : Type 0 where
+  pub trees : AreTrees names now
+  pub width : length now ≡ length before
+  pub credited : AreCredited (tree_of names before) (tree_of names now) rows count
+
+pub AreAddedTo-start : (names : List (List ℕ)) (all : List (List Node)) (rows : List Row) → AreTrees names all → AreAddedTo names all all rows 0
+AreAddedTo-start names all rows trees = record { trees = trees; width = refl; credited = AreCredited-start (tree_of names all) rows }
+
+plain_is : (names : List (List ℕ)) (all : List (List Node)) (value : ℕ) → plain_of names all value ≡ plain_at (tree_of names all) value
+plain_is names all value = seen_plain names all (tree_of names all) value refl
+
+module _ (names : List (List ℕ)) (before now : List (List Node)) (batch : List Row) (value : ℕ) (so_far : AreAddedTo names before now batch value) where
+  -- this value's nodes are as they were
+  left_is : nodes_at (tree_of names now) value ≡ nodes_at (tree_of names before) value
+  left_is = so_far.credited.left value (omega arith)
+
+  still : plain_at (tree_of names before) value ≡ plain_of names now value
+  still = (λ i. record { names = names; nodes = sym left_is i }) ∙ sym (plain_is names now value)
+
+  pub places_now : (places : List ℕ) → ArePlaces (plain_at (tree_of names before) value) batch places → ArePlaces (plain_of names now value) batch places
+  places_now places are = subst (λ (tree : PlainTree). ArePlaces tree batch places) still are
+
+  pub total_now : total_of (node_rows names (nodes_of now value)) ≡ total_of (nodes_at (tree_of names before) value)
+  total_now = ap (λ (tree : PlainTree). total_of tree.nodes) (sym still)
+
+  pub AreAddedTo-step : (next : List (List Node)) → AreTrees names next → length next ≡ length now
+      → IsCredited (plain_of names now value) (plain_of names next value) (rows_at value batch)
+      → ((other : ℕ) → (other ≡ value → ⊥) → nodes_of next other ≡ nodes_of now other) → AreAddedTo names before next batch (value + 1)
+  AreAddedTo-step next trees width here others = record {
+    trees = trees;
+    width = width ∙ so_far.width;
+    credited = AreCredited-step (tree_of names before) (tree_of names now) (tree_of names next) batch value so_far.credited width refl
+        (subst (λ (tree : PlainTree). IsCredited tree (plain_at (tree_of names next) value) (rows_at value batch)) (plain_is names now value)
+        (subst (λ (tree : PlainTree). IsCredited (plain_of names now value) tree (rows_at value batch)) (plain_is names next value) here))
+        (λ other ne. nodes_at-tree names next other ∙ ap (node_rows names) (others other ne) ∙ sym (nodes_at-tree names now other));
+  }

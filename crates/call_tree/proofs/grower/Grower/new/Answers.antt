@@ -1,0 +1,7 @@
+use Rattle.std.proofs.Common.{arith}
+use Rattle.call_tree.proofs.Growing.{weights-root}
+use Rattle.call_tree.proofs.grower.Grower.new.Goals as goal
+
+pub returns-clause-weights : goal.returns-clause-weights
+returns-clause-weights c =
+    weights-root c.in_ok-tree.tree c.known.ensures (λ value lt. c.in_ok-tree.ensures.2 value (omega (arith, lt, c.in_ok-tree.ensures.0)))

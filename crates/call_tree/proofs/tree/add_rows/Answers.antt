@@ -1,0 +1,40 @@
+use Rattle.std.proofs.Common.{◌<◌, length, arith, refl, ◌∙◌}
+use Rattle.call_tree.specs.Nodes.{nodes_of, plain_of}
+use Rattle.call_tree.proofs.Shapes.{length-node_rows}
+use Rattle.call_tree.proofs.Planned.{IsCredited-step, credit_fits, credit_within}
+use Rattle.call_tree.proofs.tree.add_rows.Goals as goal
+
+pub add_weight-requires-clause-within : goal.add_weight-requires-clause-within
+add_weight-requires-clause-within c =
+    let names = c.args.names.now in
+    let value = c.args.value in
+    let rows = c.args.batch.now.rows in
+    let lt : c.loop-index.index < length rows = omega (arith, c.loop-index-test.true, c.requires.places.size) in
+    let within = credit_within (plain_of names c.args.nodes.now value) (plain_of names c.loop-index.nodes value) value rows c.args.places.now c.requires.places c.requires.fits
+    c.loop-index.index lt c.loop-index.invariant.done c.weight-weight.result c.weight-weight.ensures in
+    omega (arith, within, length-node_rows names (nodes_of c.loop-index.nodes value))
+
+pub add_weight-requires-clause-fits : goal.add_weight-requires-clause-fits
+add_weight-requires-clause-fits c =
+    let names = c.args.names.now in
+    let value = c.args.value in
+    let rows = c.args.batch.now.rows in
+    let lt : c.loop-index.index < length rows = omega (arith, c.loop-index-test.true, c.requires.places.size) in
+    credit_fits (plain_of names c.args.nodes.now value) (plain_of names c.loop-index.nodes value) value rows c.args.places.now c.requires.places c.requires.fits
+    c.loop-index.index lt c.loop-index.invariant.done c.weight-weight.result c.weight-weight.ensures
+
+pub loop-index-preserved : goal.loop-index-preserved
+loop-index-preserved c =
+    let names = c.args.names.now in
+    let value = c.args.value in
+    let rows = c.args.batch.now.rows in
+    let so_far = c.loop-index.invariant in
+    let lt : c.loop-index.index < length rows = omega (arith, c.loop-index-test.true, c.requires.places.size) in
+    let added = c.in_ok-add_weight.ensures in
+    record {
+      trees = added.trees;
+      width = added.width ∙ so_far.width;
+      done = IsCredited-step (plain_of names c.args.nodes.now value) (plain_of names c.loop-index.nodes value) value rows c.args.places.now c.requires.places c.requires.fits
+          c.loop-index.index lt so_far.done c.weight-weight.result c.weight-weight.ensures (plain_of names c.add_weight.new.nodes value) refl added.nodes;
+      others = λ other ne. added.others other ne ∙ so_far.others other ne;
+    }

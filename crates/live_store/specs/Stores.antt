@@ -1,8 +1,8 @@
 -- What contracts see of a store and of a session.
-use Rattle.std.specs.Prelude.{ℕ, ◌≡◌, ◌≢◌, ◌<◌, ◌≤◌, ◌+◌, ◌^◌, ◌⊎◌, List}
+use Rattle.std.specs.Prelude.{ℕ, ◌≡◌, ◌≢◌, ◌<◌, ◌≤◌, ◌+◌, ◌^◌, ◌⊎◌, List, map}
 use Rattle.profile_rows.specs.Rows.{total_of}
 use Rattle.profile_rows.specs.Values.{rows_at}
-use Rattle.op_book.specs.Operations.{MissesWidth, PlainOp, PlainReceipt, rows_added}
+use Rattle.op_book.specs.Operations.{MissesWidth, PlainOp, PlainReceipt, changes_in, rows_added}
 use Rattle.op_book.specs.declared.fault.BookFault.{BookFault}
 use Rattle.op_book.specs.declared.fault.BookFault.TheVariants as book
 use Rattle.live_store.specs.declared.fault.MakeFault.{MakeFault}
@@ -23,6 +23,10 @@ IsMakeFault sessions make.NoMemory = (0 < sessions) × (sessions ≤ 64)
 pub record SessionState : Type 0 where
   pub number : ℕ
   pub log : List PlainReceipt
+
+-- how many of these receipts are of changes
+abbrev pub changes_told : List PlainReceipt → ℕ
+changes_told log = changes_in (map (λ (receipt : PlainReceipt). receipt.op) log)
 
 -- what a refusal tells of its cause, in a store of this limit and width, to a session that took a turn for an operation
 abbrev pub ShowsCause : ℕ → ℕ → ℕ → PlainOp → BookFault → Type 0

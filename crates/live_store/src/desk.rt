@@ -1,14 +1,14 @@
 //! What a store's lock keeps.
 
-ghost use Rattle.std.specs.Prelude.{◌≡◌, ◌≢◌, ◌<◌, ◌≤◌, ℕ, IfErr, IfOk, IfSome};
+ghost use Rattle.std.specs.Prelude.{◌≡◌, ◌<◌, ◌≤◌, ℕ, IfErr, IfOk, IfSome};
 ghost use Rattle.std.specs.Arc.{arc_value};
 ghost use Rattle.flame_report.specs.declared.answer.Answer.{Answer};
 ghost use Rattle.op_book.specs.Operations.{add, answered, ask, placed};
 ghost use Rattle.live_store.specs.Stores.{ShowsCause};
 
 use crate::store::StoreName;
-use flame_report::Query;
-use op_book::{Book, BookFault, Journal, Receipt, Refused};
+use flame_report::{NoMemory, Query, report};
+use op_book::{Book, Journal, Op, Receipt, Refused, Reply};
 use profile_rows::Batch;
 use std::alloc::Global;
 use std::marker::PhantomData;
@@ -75,23 +75,21 @@ impl<N: StoreName> Desk<N> {
     }
 
     /// The event of a report.
-    pub(crate) fn ask(
-        &mut self,
-        alloc: Global,
-        session: u32,
-        turn: u64,
-        query: Arc<Query>,
-    ) -> Result<Receipt, Refused<Arc<Query>>>
-        requires { session < N.sessions }
-        ensures receipt { IfOk result
+    pub(crate) fn ask(&self, alloc: Global, query: Arc<Query>) -> Result<Receipt, NoMemory>
+        requires { (arc_value query).value < N.width }
+        ensures { IfOk result
             (λ receipt. (answer : Answer) × (at : ℕ)
             × (receipt ≡ record { op = ask (arc_value query); reply = answered answer; at = at })) }
-        ensures back { IfErr result (λ refused. refused.back ≡ query) }
-        ensures cause { IfErr result
-            (λ refused. ShowsCause N.limit N.width turn (ask (arc_value query)) refused.fault) }
-        ensures light { IfErr result (λ refused. (value held : ℕ) → refused.fault ≢ BookFault.Heavy value held) }
     {
-        self.book.ask(alloc, session, turn, query)
+        let answer = report(alloc, self.book.tree(), &query)?;
+        match Arc::new(alloc, answer) {
+            Ok(answer) => Ok(Receipt {
+                op: Op::Ask(query),
+                reply: Reply::Answered(answer),
+                at: self.book.entries().len() as u64,
+            }),
+            Err(_) => Err(NoMemory),
+        }
     }
 
     /// The book closed.

@@ -1,10 +1,10 @@
 //! A session: what one thread asks of a store, and what it was told.
 
-ghost use Rattle.std.specs.Prelude.{◌≡◌, ◌≢◌, ◌<◌, ◌≤◌, ◌++◌, ◌∷◌, [], ℕ, List, length, IfErr, IfOk, MatchResult, OnErr, OnOk};
+ghost use Rattle.std.specs.Prelude.{◌≡◌, ◌≢◌, ◌<◌, ◌≤◌, ◌++◌, ◌∷◌, [], ℕ, List, IfErr, IfOk, MatchResult, OnErr, OnOk};
 ghost use Rattle.std.specs.Arc.{arc_value};
 ghost use Rattle.op_book.specs.Operations.{PlainOp, PlainReceipt, add, answered, ask, placed, plain_reply};
 ghost use Rattle.flame_report.specs.declared.answer.Answer.{Answer};
-ghost use Rattle.live_store.specs.Stores.{ShowsCause};
+ghost use Rattle.live_store.specs.Stores.{ShowsCause, changes_told};
 
 use crate::store::{Store, StoreName};
 use flame_report::{Answer, Items, Query};
@@ -17,7 +17,7 @@ use std::sync::{Arc, Wait};
 /// Where an addition was placed.
 #[derive(Clone, Copy, Debug, PartialEq, Eq)]
 pub struct Placed {
-    /// How many additions stand before it.
+    /// How many changes stand before it.
     pub place: u64,
 }
 
@@ -38,17 +38,19 @@ pub struct Session<'a, N: StoreName> {
     store: &'a Store<N>,
     number: u32,
     log: Vec<Receipt>,
+    /// How many receipts are of changes.
+    turn: u64,
 }
 
 impl<'a, N: StoreName> Model for Session<'a, N> {
-    ghost use Rattle.std.specs.Prelude.{◌<◌};
-    ghost use Rattle.live_store.specs.Stores.{SessionState};
+    ghost use Rattle.std.specs.Prelude.{◌≡◌, ◌<◌};
+    ghost use Rattle.live_store.specs.Stores.{SessionState, changes_told};
 
     ghost Value = { SessionState };
 
     ghost view = { λ s. record { number = s.number; log = s.log.items } };
 
-    ghost invariant = { λ s. s.number < N.sessions };
+    ghost invariant = { λ s. (s.number < N.sessions) × (s.turn ≡ changes_told s.log.items) };
 }
 
 impl<'a, N: StoreName> Session<'a, N> {
@@ -67,6 +69,7 @@ impl<'a, N: StoreName> Session<'a, N> {
             store,
             number,
             log: Vec::new(alloc),
+            turn: 0,
         }
     }
 
@@ -116,7 +119,7 @@ impl<'a, N: StoreName> Session<'a, N> {
         ensures number { self.new.number ≡ self.old.number }
         ensures back { IfErr result (λ refused. refused.back ≡ batch) }
         ensures cause { IfErr result
-            (λ refused. ShowsCause N.limit N.width (length self.old.log) (add (arc_value batch)) refused.fault) }
+            (λ refused. ShowsCause N.limit N.width (changes_told self.old.log) (add (arc_value batch)) refused.fault) }
     {
         if self.log.reserve(1).is_err() {
             return Err(Refused {
@@ -124,30 +127,30 @@ impl<'a, N: StoreName> Session<'a, N> {
                 back: batch,
             });
         }
-        let turn = self.log.len() as u64;
         let added = self
             .store
             .desk()
             .lock(rt)
-            .add(alloc, self.number, turn, batch);
+            .add(alloc, self.number, self.turn, batch);
         match added {
             Ok(receipt) => {
                 let place = place_in(&receipt.reply);
                 self.log.push_reserved(receipt);
+                self.turn += 1;
                 Ok(Placed { place })
             }
             Err(refused) => Err(refused),
         }
     }
 
-    /// Answers a query over all that was added so far, and keeps the receipt, from which the answer is lent. The query
+    /// Answers a query over what counts so far, and keeps the receipt, from which the answer is lent. The query
     /// is shared. The contract speaks of the session once the answer is let go: its log then ends with exactly this
     /// receipt.
     ///
     /// # Errors
     ///
-    /// `Width` wherever the query's value is none of the store's, and before anything is taken; else the book's first
-    /// [`BookFault`], which is never `Heavy`. The log is then as it was.
+    /// `Width` wherever the query's value is none of the store's, and before anything is taken; else `NoMemory`. The
+    /// log is then as it was.
     pub fn ask<R: Wait>(
         &mut self,
         rt: &R,
@@ -155,7 +158,7 @@ impl<'a, N: StoreName> Session<'a, N> {
         query: &Arc<Query>,
     ) -> Result<&Answer, BookFault>
         ensures cause { IfErr result
-            (λ fault. ShowsCause N.limit N.width (length self.entry.now.log) (ask (arc_value query.now)) fault) }
+            (λ fault. ShowsCause N.limit N.width (changes_told self.entry.now.log) (ask (arc_value query.now)) fault) }
         ensures width { MatchResult result (λ _. (arc_value query.now).value < N.width)
             (λ fault. N.width ≤ (arc_value query.now).value → fault ≡ BookFault.Width N.width) }
         ensures light { IfErr result (λ fault. (value held : ℕ) → fault ≢ BookFault.Heavy value held) }
@@ -187,7 +190,7 @@ impl<'a, N: StoreName> Session<'a, N> {
         ensures unchanged { OnErr result (self.new ≡ self.old) }
         ensures number { self.new.number ≡ self.old.number }
         ensures cause { IfErr result
-            (λ fault. ShowsCause N.limit N.width (length self.old.log) (ask (arc_value query.now)) fault) }
+            (λ fault. ShowsCause N.limit N.width (changes_told self.old.log) (ask (arc_value query.now)) fault) }
         ensures width { MatchResult result (λ _. (arc_value query.now).value < N.width)
             (λ fault. N.width ≤ (arc_value query.now).value → fault ≡ BookFault.Width N.width) }
         ensures light { IfErr result (λ fault. (value held : ℕ) → fault ≢ BookFault.Heavy value held) }
@@ -198,19 +201,9 @@ impl<'a, N: StoreName> Session<'a, N> {
         }
         let shared = Arc::try_clone(query)?;
         self.log.reserve(1)?;
-        let turn = self.log.len() as u64;
-        let asked = self
-            .store
-            .desk()
-            .lock(rt)
-            .ask(alloc, self.number, turn, shared);
-        match asked {
-            Ok(receipt) => {
-                self.log.push_reserved(receipt);
-                Ok(())
-            }
-            Err(refused) => Err(refused.fault),
-        }
+        let receipt = self.store.desk().lock(rt).ask(alloc, shared)?;
+        self.log.push_reserved(receipt);
+        Ok(())
     }
 
     /// The answer of the last receipt.

@@ -32,7 +32,8 @@ impl StoreName for Brand {
 }
 
 /// A profile store that many threads use, each through a session of its own. Whenever its lock is free, its tree is the
-/// aggregate of the journal's additions, and each reply is what the plain profile gives after the operations before.
+/// aggregate of the additions in its journal that count, and each reply is what the plain profile gives after the
+/// changes before.
 pub struct Store<N: StoreName> {
     desk: Mutex<Desk<N>>,
     width: Width,

@@ -1,38 +1,24 @@
 -- One entry more keeps what a ledger keeps.
-use Rattle.std.proofs.Common.{◌≡◌, ℕ, ◌+◌, ◌<◌, ◌≤◌, cond, List, [], ◌∷◌, ◌++◌, length, get_or, set, sym, ap, ◌∙◌, subst, arith, inl, inr}
+use Rattle.std.proofs.Common.{◌≡◌, ℕ, ◌+◌, ◌<◌, ◌≤◌, ◌^◌, true, cond, List, [], ◌∷◌, ◌++◌, length, get_or, set, sym, ap, ◌∙◌, subst, arith, inl, inr}
 use Rattle.std.specs.Prelude.{◌==◌}
 use Rattle.std.proofs.lemmas.Bool.{cases_eq, eq-eqb, ne_eqb}
-use Rattle.std.proofs.lemmas.List.{length-append, length-map, length-set, get_or-set_same, get_or-set_other}
+use Rattle.std.proofs.lemmas.List.{length-append, length-set, get_or-set_same, get_or-set_other}
 use Rattle.std.proofs.lemmas.List.Sums.{count_by-le-length}
+use Rattle.profile_rows.specs.Rows.{total_of}
+use Rattle.profile_rows.specs.Values.{rows_at}
 use Rattle.op_book.specs.Books.{HasTurn}
 use Rattle.op_book.specs.Ledgers.{IsLedger}
-use Rattle.op_book.specs.Operations.{FitsWidth, PlainEntry, addition_of, additions_of, operations_of, plain_answer}
+use Rattle.op_book.specs.Operations.{FitsWidth, PlainEntry, is_change, operations_of, plain_answer, profile_after}
 use Rattle.op_book.specs.Runs.{turns_of}
-use Rattle.op_book.proofs.EntryLaws.{EachAfter-push, addition_of-le, additions_of-le, additions_of-push, operations_of-push, turns_of-push}
+use Rattle.op_book.proofs.EntryLaws.{EachAfter-push, KeepLimit-push, turns_of-push}
 
 -- the count that a ledger has of a session's entries
-pub turn_held : (entries : List PlainEntry) (additions limit width : ℕ) (turns : List ℕ) (session held : ℕ) → IsLedger entries additions limit width turns → session < length turns
+pub turn_held : (entries : List PlainEntry) (limit width : ℕ) (turns : List ℕ) (session held : ℕ) → IsLedger entries limit width turns → session < length turns
     → held ≡ get_or turns session held → held ≡ turns_of entries session
-turn_held entries additions limit width turns session held is known there = there ∙ is.turns_are session held known
+turn_held entries limit width turns session held is known there = there ∙ is.turns_are session held known
 
 pub turns_of-le : (entries : List PlainEntry) (session : ℕ) → turns_of entries session ≤ length entries
 turns_of-le entries session = count_by-le-length (λ (entry : PlainEntry). entry.session == session) entries
-
--- how many additions there are with one operation more
-pub additions-le : (entries : List PlainEntry) (additions limit width : ℕ) (turns : List ℕ) (entry : PlainEntry) → IsLedger entries additions limit width turns
-    → additions + length (addition_of entry.op) ≤ limit + 1
-additions-le entries additions limit width turns entry is =
-    let most = additions_of-le (operations_of entries) in
-    let one = addition_of-le entry.op in
-    let size : length (operations_of entries) ≡ length entries = length-map entries (λ (e : PlainEntry). e.op) in
-    omega (arith, most, one, size, is.additions_are, is.count)
-
-counted : (entries : List PlainEntry) (additions : ℕ) (entry : PlainEntry) → additions ≡ length (additions_of (operations_of entries))
-    → additions + length (addition_of entry.op) ≡ length (additions_of (operations_of (entries ++ entry ∷ [])))
-counted entries additions entry is =
-    let all : additions_of (operations_of (entries ++ entry ∷ [])) ≡ additions_of (operations_of entries) ++ addition_of entry.op =
-    ap additions_of (operations_of-push entries entry) ∙ additions_of-push (operations_of entries) entry.op in
-    ap (λ n. n + length (addition_of entry.op)) is ∙ sym (ap length all ∙ length-append (additions_of (operations_of entries)) (addition_of entry.op))
 
 next_turns : (entries : List PlainEntry) (turns : List ℕ) (entry : PlainEntry) → ((session otherwise : ℕ) → session < length turns → get_or turns session otherwise ≡ turns_of entries session)
     → (session otherwise : ℕ) → session < length turns → get_or (set turns entry.session (turns_of entries entry.session + 1)) session otherwise ≡ turns_of (entries ++ entry ∷ []) session
@@ -50,10 +36,12 @@ next_turns entries turns entry are session otherwise lt =
           omega (arith, none, kept, left)
     ]
 
-pub IsLedger-append : (entries : List PlainEntry) (additions limit width : ℕ) (turns : List ℕ) (entry : PlainEntry) → IsLedger entries additions limit width turns
-    → HasTurn entries limit (length turns) entry.session entry.turn → FitsWidth width entry.op → entry.reply ≡ plain_answer (operations_of entries) entry.op
-    → IsLedger (entries ++ entry ∷ []) (additions + length (addition_of entry.op)) limit width (set turns entry.session (turns_of entries entry.session + 1))
-IsLedger-append entries additions limit width turns entry is turn fits reply =
+pub IsLedger-append : (entries : List PlainEntry) (limit width : ℕ) (turns : List ℕ) (entry : PlainEntry) → IsLedger entries limit width turns
+    → HasTurn entries limit (length turns) entry.session entry.turn → is_change entry.op ≡ true → FitsWidth width entry.op
+    → ((value : ℕ) → total_of (rows_at value (profile_after (operations_of entries ++ entry.op ∷ []))) < 2 ^ 63)
+    → entry.reply ≡ plain_answer (operations_of entries) entry.op
+    → IsLedger (entries ++ entry ∷ []) limit width (set turns entry.session (turns_of entries entry.session + 1))
+IsLedger-append entries limit width turns entry is turn change fits light reply =
     let sessions : length (set turns entry.session (turns_of entries entry.session + 1)) ≡ length turns = length-set turns entry.session (turns_of entries entry.session + 1) in
     let size = length-append entries (entry ∷ []) in
     record {
@@ -61,7 +49,8 @@ IsLedger-append entries additions limit width turns entry is turn fits reply =
       in_turn = EachAfter-push (λ before last. last.turn ≡ turns_of before last.session) entries entry is.in_turn turn.next;
       known = rw sessions (EachAfter-push (λ before last. last.session < length turns) entries entry is.known turn.known);
       fitted = EachAfter-push (λ before last. FitsWidth width last.op) entries entry is.fitted fits;
-      additions_are = counted entries additions entry is.additions_are;
+      changes = EachAfter-push (λ before last. is_change last.op ≡ true) entries entry is.changes change;
+      light = KeepLimit-push entries entry is.light light;
       turns_are = λ session otherwise lt. next_turns entries turns entry is.turns_are session otherwise (subst (λ n. session < n) sessions lt);
       count = omega (arith, size, turn.room);
       some = rw sessions is.some;

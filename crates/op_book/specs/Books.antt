@@ -1,22 +1,23 @@
 -- What contracts see of a book and of a journal, and what both keep.
-use Rattle.std.specs.Prelude.{ℕ, ◌≡◌, ◌≢◌, ◌<◌, ◌≤◌, ◌+◌, ◌^◌, List, [], ◌∷◌, ◌++◌, length}
+use Rattle.std.specs.Prelude.{ℕ, ◌≡◌, ◌≢◌, ◌<◌, ◌≤◌, ◌+◌, ◌^◌, true, List, [], ◌∷◌, ◌++◌, length}
 use Rattle.profile_rows.specs.Aggregate.{aggregates_of}
 use Rattle.profile_rows.specs.Rows.{total_of}
-use Rattle.profile_rows.specs.Values.{BatchState, rows_at}
+use Rattle.profile_rows.specs.Values.{rows_at}
 use Rattle.call_tree.specs.State.{TreeState, weights_of}
-use Rattle.op_book.specs.Operations.{FitsWidth, MissesWidth, PlainOp, PlainEntry, PlainReceipt, add, operations_of, plain_answer, profile_after, rows_added}
-use Rattle.op_book.specs.Runs.{AreOfSessions, AreOfWidth, AreTurnsInOrder, IsLegalRun, turns_of}
+use Rattle.op_book.specs.Operations.{FitsWidth, MissesWidth, PlainOp, PlainEntry, PlainReceipt, is_change, operations_of, plain_answer, profile_after, rows_added}
+use Rattle.op_book.specs.Runs.{AreChanges, AreOfSessions, AreOfWidth, AreTurnsInOrder, IsLegalRun, KeepLimit, turns_of}
 use Rattle.op_book.specs.declared.fault.BookFault.{BookFault}
 use Rattle.op_book.specs.declared.fault.BookFault.TheVariants.{Session, Turn, Full, Width, Heavy, NoMemory}
 
--- the entries in order, the tree that they made, how many entries and sessions there may be, and how many values a row
--- has
+-- the entries in order, the tree that they made, how many entries and sessions there may be, how many values a row has,
+-- and for how many entries there is memory
 pub record BookState : Type 0 where
   pub entries : List PlainEntry
   pub tree : TreeState
   pub limit : ℕ
   pub sessions : ℕ
   pub width : ℕ
+  pub capacity : ℕ
 
 -- the entries of a book that was closed, the tree that they made, the number of sessions, and that of a row's values
 pub record JournalState : Type 0 where
@@ -25,22 +26,23 @@ pub record JournalState : Type 0 where
   pub sessions : ℕ
   pub width : ℕ
 
--- the tree is the aggregate of the entries' additions, by each value, and each reply is what the plain profile gives
+-- the tree is the aggregate of the additions that count, by each value, and each reply is what the plain profile gives
 -- after the operations before it
 pub record IsReplay (entries : List PlainEntry) (tree : TreeState) : Type 0 where
   pub aggregate : (value : ℕ) → weights_of tree value ≡ aggregates_of (profile_after (operations_of entries)) value
   pub legal : IsLegalRun entries
 
--- the entries are of the book's sessions, 1 to 64, whose turns are in order, and of its width, 1 to 4, which the tree
--- has too; they keep the limits of weights and of entries
+-- the entries are changes of the book's sessions, 1 to 64, whose turns are in order, and of its width, 1 to 4, which
+-- the tree has too; they keep the limit of weights at each time, and that of entries
 pub record IsOrderly (book : BookState) : Type 0 where
+  pub changes : AreChanges book.entries
   pub turns : AreTurnsInOrder book.entries
   pub known : AreOfSessions book.sessions book.entries
   pub fitted : AreOfWidth book.width book.entries
   pub wide : book.tree.width ≡ book.width
   pub one : 0 < book.width
   pub four : book.width ≤ 4
-  pub weight : (value : ℕ) → total_of (rows_at value (profile_after (operations_of book.entries))) < 2 ^ 63
+  pub light : KeepLimit book.entries
   pub count : length book.entries ≤ book.limit
   pub some : 0 < book.sessions
   pub few : book.sessions ≤ 64
@@ -88,7 +90,7 @@ IsTurnFault entries limit sessions session turn (Width held) = ⊥
 IsTurnFault entries limit sessions session turn (Heavy value held) = ⊥
 IsTurnFault entries limit sessions session turn NoMemory = ⊥
 
--- what all rows that were added weigh, by a value
+-- what all rows that count weigh, by a value
 abbrev pub weight_held : BookState → ℕ → ℕ
 weight_held book value = total_of (rows_at value (profile_after (operations_of book.entries)))
 
@@ -110,11 +112,18 @@ pub record IsHeavyFor (book : BookState) (op : PlainOp) (value held : ℕ) : Typ
   pub heavy : 2 ^ 63 ≤ held + total_of (rows_at value (rows_added op))
   pub lower : (below : ℕ) → below < value → HasRoomFor book op below
 
--- what keeps a batch from the book, whose turn it is: another width, or the limit of a value, the lowest such
-abbrev pub IsBatchFault : BookState → BatchState → BookFault → Type 0
-IsBatchFault book batch (Width held) = (held ≡ book.width) × MissesWidth book.width (add batch)
-IsBatchFault book batch (Heavy value held) = IsHeavyFor book (add batch) value held
-IsBatchFault book batch fault = ⊥
+-- the book has the operation's width and room for what it adds
+pub record HasSpaceFor (book : BookState) (op : PlainOp) : Type 0 where
+  pub width : FitsWidth book.width op
+  pub fits : (value : ℕ) → HasRoomFor book op value
+
+-- what keeps an operation from the book, whose turn it is: another width, or the limit of a value, the lowest such;
+-- memory is wanting only where there is no other cause
+abbrev pub IsSpaceFault : BookState → PlainOp → BookFault → Type 0
+IsSpaceFault book op (Width held) = (held ≡ book.width) × MissesWidth book.width op
+IsSpaceFault book op (Heavy value held) = IsHeavyFor book op value held
+IsSpaceFault book op NoMemory = HasSpaceFor book op
+IsSpaceFault book op fault = ⊥
 
 -- the first cause to refuse an operation: those of its turn, then its width, then its weights; memory is wanting only
 -- where there is no other
@@ -125,3 +134,28 @@ IsFirstBookFault book session turn op (Heavy value held) = HasTurn book.entries 
     × IsHeavyFor book op value held
 IsFirstBookFault book session turn op NoMemory = IsTaken book session turn op
 IsFirstBookFault book session turn op fault = IsTurnFault book.entries book.limit book.sessions session turn fault
+
+-- a change that a book is ready for: the book as it was made ready, the session's turn and the operation, and the tree
+-- after it
+pub record ReadyState : Type 0 where
+  pub before : BookState
+  pub session : ℕ
+  pub turn : ℕ
+  pub op : PlainOp
+  pub next : TreeState
+
+-- the tree after one operation more: the aggregate of the additions that then count
+pub record IsTreeAfter (book : BookState) (op : PlainOp) (next : TreeState) : Type 0 where
+  pub width : next.width ≡ book.width
+  pub aggregate : (value : ℕ)
+      → weights_of next value ≡ aggregates_of (profile_after (operations_of book.entries ++ op ∷ [])) value
+
+-- what is kept for a change: it may be taken, there is memory for its entry, and its entry, its receipt and its tree are
+-- those that it will have
+pub record IsReady (ready : ReadyState) (entry : PlainEntry) (receipt : PlainReceipt) : Type 0 where
+  pub taken : IsTaken ready.before ready.session ready.turn ready.op
+  pub change : is_change ready.op ≡ true
+  pub memory : length ready.before.entries < ready.before.capacity
+  pub entry_is : entry ≡ entry_after ready.before.entries ready.session ready.turn ready.op
+  pub receipt_is : receipt ≡ receipt_after ready.before.entries ready.op
+  pub tree : IsTreeAfter ready.before ready.op ready.next

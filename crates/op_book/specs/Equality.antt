@@ -1,5 +1,5 @@
 -- `==` on operations and replies is equality of what they hold.
-use Rattle.std.specs.Prelude.{ℕ, ◌≡◌, Bool, false, ◌==◌}
+use Rattle.std.specs.Prelude.{ℕ, ◌≡◌, Bool, true, false, ◌==◌, refl}
 use Rattle.std.specs.Bool.{Decides}
 use Rattle.std.specs.Cmp.{IsEquivalence, on_equiv, unsigned_Decides}
 use Rattle.std.proofs.Common.{ap}
@@ -10,12 +10,13 @@ use Rattle.flame_report.specs.declared.answer.Answer.{Answer}
 use Rattle.flame_report.specs.declared.query.Query.{Query}
 use Rattle.flame_report.specs.Equality.{answer_eq, query_eq}
 use Rattle.flame_report.specs.EqualityLaws.{answer_eq-decides, query_eq-decides}
-use Rattle.op_book.specs.Operations.{PlainOp, PlainReply, add, ask, placed, answered, plain_op, plain_reply}
+use Rattle.op_book.specs.Operations.{PlainOp, PlainReply, add, reset, ask, placed, answered, plain_op, plain_reply}
 use Rattle.op_book.specs.declared.operation.Op.{Op}
 use Rattle.op_book.specs.declared.operation.Reply.{Reply}
 
 abbrev pub plain_op_eq : PlainOp → PlainOp → Bool
 plain_op_eq (add batch) (add other) = batch_eq batch other
+plain_op_eq reset reset = true
 plain_op_eq (ask query) (ask other) = query_eq query other
 plain_op_eq a b = false
 
@@ -32,17 +33,24 @@ reply_eq a b = plain_reply_eq (plain_reply a) (plain_reply b)
 
 abbrev batch_in : BatchState → PlainOp → BatchState
 batch_in otherwise (add batch) = batch
+batch_in otherwise reset = otherwise
 batch_in otherwise (ask query) = otherwise
 
 abbrev query_in : Query → PlainOp → Query
 query_in otherwise (add batch) = otherwise
+query_in otherwise reset = otherwise
 query_in otherwise (ask query) = query
 
 pub plain_op_eq-decides : (a b : PlainOp) → Decides (plain_op_eq a b) (a ≡ b)
 plain_op_eq-decides (add batch) (add other) = let batches = batch_eq-decides batch other in
     (λ e. ap add (batches.0 e), λ e. batches.1 (ap (batch_in batch) e))
+plain_op_eq-decides (add batch) reset = (λ e. cc, λ e. cc)
 plain_op_eq-decides (add batch) (ask query) = (λ e. cc, λ e. cc)
+plain_op_eq-decides reset (add batch) = (λ e. cc, λ e. cc)
+plain_op_eq-decides reset reset = (λ e. refl, λ e. refl)
+plain_op_eq-decides reset (ask query) = (λ e. cc, λ e. cc)
 plain_op_eq-decides (ask query) (add batch) = (λ e. cc, λ e. cc)
+plain_op_eq-decides (ask query) reset = (λ e. cc, λ e. cc)
 plain_op_eq-decides (ask query) (ask other) = let queries = query_eq-decides query other in
     (λ e. ap ask (queries.0 e), λ e. queries.1 (ap (query_in query) e))
 

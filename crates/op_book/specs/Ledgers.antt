@@ -1,21 +1,25 @@
 -- What a ledger keeps beside its entries.
 use Rattle.std.specs.Prelude.{ℕ, ◌≡◌, ◌<◌, ◌≤◌, ◌^◌, List, get_or, length}
-use Rattle.op_book.specs.Operations.{PlainEntry, additions_of, operations_of}
-use Rattle.op_book.specs.Runs.{AreOfSessions, AreOfWidth, AreTurnsInOrder, IsLegalRun, turns_of}
+use Rattle.op_book.specs.Operations.{PlainEntry}
+use Rattle.op_book.specs.Runs.{AreChanges, AreOfSessions, AreOfWidth, AreTurnsInOrder, IsLegalRun, KeepLimit, turns_of}
 
+-- the entries, how many there may be and of how many sessions, how many values a row has, and for how many entries there
+-- is memory
 pub record LedgerState : Type 0 where
   pub entries : List PlainEntry
   pub limit : ℕ
   pub sessions : ℕ
   pub width : ℕ
+  pub capacity : ℕ
 
--- the additions are counted, and the entries of each session
-pub record IsLedger (entries : List PlainEntry) (additions limit width : ℕ) (turns : List ℕ) : Type 0 where
+-- the entries are changes of one profile, and those of each session are counted
+pub record IsLedger (entries : List PlainEntry) (limit width : ℕ) (turns : List ℕ) : Type 0 where
   pub legal : IsLegalRun entries
   pub in_turn : AreTurnsInOrder entries
   pub known : AreOfSessions (length turns) entries
   pub fitted : AreOfWidth width entries
-  pub additions_are : additions ≡ length (additions_of (operations_of entries))
+  pub changes : AreChanges entries
+  pub light : KeepLimit entries
   pub turns_are : (session otherwise : ℕ) → session < length turns
       → get_or turns session otherwise ≡ turns_of entries session
   pub count : length entries ≤ limit

@@ -1,28 +1,31 @@
-//! The book of a store: the journal so far, and the tree of all that was added.
+//! The book of a store: the journal so far, and the tree of what counts.
 
-ghost use Rattle.std.specs.Prelude.{◌≡◌, ◌≢◌, ◌+◌, ◌≤◌, ◌<◌, ◌^◌, ℕ, [], length, IfErr, IfOk, OnErr, OnOk};
+ghost use Rattle.std.specs.Prelude.{◌≡◌, ◌≢◌, ◌+◌, ◌<◌, ◌≤◌, ◌^◌, ℕ, [], length, true, IfErr, IfOk, OnErr, OnOk};
 ghost use Rattle.std.specs.Arc.{arc_value};
 ghost use Rattle.call_tree.specs.State.{total_in, weights_of};
-ghost use Rattle.op_book.specs.Books.{HasRoomFor, IsAppended, IsBatchFault, IsFirstBookFault, IsOrderly, IsReplay, IsSameBook, IsTaken, receipt_after, weight_held};
-ghost use Rattle.profile_rows.specs.Values.{rows_at, value_of};
+ghost use Rattle.op_book.specs.Books.{HasSpaceFor, IsAppended, IsFirstBookFault, IsOrderly, IsReplay, IsSameBook, IsSpaceFault, IsTaken, IsTreeAfter, receipt_after, weight_held};
+ghost use Rattle.op_book.specs.Changes.{change_op};
+ghost use Rattle.op_book.specs.Operations.{add, plain_op, reset};
 ghost use Rattle.profile_rows.specs.Rows.{total_of};
-ghost use Rattle.op_book.specs.Operations.{MissesWidth, add, ask, operations_of, plain_answer, plain_reply};
+ghost use Rattle.profile_rows.specs.Values.{rows_at, value_of};
 
 use crate::entry::{Entry, Receipt};
 use crate::fault::{BookFault, Refused};
 use crate::journal::Journal;
 use crate::ledger::Ledger;
 use crate::operation::{Op, Reply};
-use call_tree::{CallTree, Grower};
-use flame_report::{NoMemory, Query, report};
+use call_tree::{CallTree, Grower, Plan};
+use flame_report::NoMemory;
 use profile_rows::laws::{aggregate_of_more_rows, sums_are_those_of_the_aggregate};
 use profile_rows::{Batch, Weights, Width, first_heavy};
-use std::alloc::Global;
+use std::alloc::{AllocError, Global};
 use std::marker::Model;
+use std::snapshot::Snapshot;
 use std::sync::Arc;
 
-/// Operations in order, each with its reply, and the tree of all that they added. Whatever is done to a book, its tree
-/// is the aggregate of the additions in it, and each reply is what the plain profile gives after the operations before.
+/// Changes in order, each with its reply, and the tree of what they added since the last reset. Whatever is done to a
+/// book, its tree is the aggregate of the additions that count, and each reply is what the plain profile gives after
+/// the changes before.
 #[derive(Drop)]
 pub struct Book {
     ledger: Ledger,
@@ -44,22 +47,91 @@ impl Model for Book {
       limit = b.ledger.limit;
       sessions = b.ledger.sessions;
       width = b.ledger.width;
+      capacity = b.ledger.capacity;
     } };
 
     ghost invariant = { λ b. (b.grower.width ≡ b.ledger.width) × ((value : ℕ)
         → weights_of b.grower value ≡ aggregates_of (profile_after (operations_of b.ledger.entries)) value) };
 }
 
-/// What an operation is told, and the place of its entry.
+/// A change that a book has all memory for. It remembers the book as it was when it was prepared, and serves it as long
+/// as it is so. It may be dropped.
 #[derive(Drop)]
-struct Told {
-    reply: Reply,
-    at: u64,
+pub struct Ready {
+    plan: Plan,
+    entry: Entry,
+    receipt: Receipt,
+    ledger: Snapshot<Ledger>,
+}
+
+impl Model for Ready {
+    ghost use Rattle.op_book.specs.Books.{IsReady, ReadyState};
+
+    ghost Value = { ReadyState };
+
+    ghost view = { λ r. record {
+      before = record {
+        entries = r.ledger.value.entries;
+        tree = r.plan.before;
+        limit = r.ledger.value.limit;
+        sessions = r.ledger.value.sessions;
+        width = r.ledger.value.width;
+        capacity = r.ledger.value.capacity;
+      };
+      session = r.entry.session;
+      turn = r.entry.turn;
+      op = r.entry.op;
+      next = r.plan.next;
+    } };
+
+    ghost invariant = { λ r. IsReady (record {
+      before = record {
+        entries = r.ledger.value.entries;
+        tree = r.plan.before;
+        limit = r.ledger.value.limit;
+        sessions = r.ledger.value.sessions;
+        width = r.ledger.value.width;
+        capacity = r.ledger.value.capacity;
+      };
+      session = r.entry.session;
+      turn = r.entry.turn;
+      op = r.entry.op;
+      next = r.plan.next;
+    }) r.entry r.receipt };
+}
+
+impl Ready {
+    /// The tree after the change.
+    pub fn next(&self) -> &CallTree
+        ensures next { result.now ≡ self.now.next }
+        ensures tree { IsTreeAfter self.now.before self.now.op self.now.next }
+    {
+        self.plan.next()
+    }
+}
+
+/// A change that a session asks for.
+#[derive(Clone, Copy)]
+enum Change<'a> {
+    Add(&'a Arc<Batch>),
+    Reset,
+}
+
+impl<'a> Change<'a> {
+    /// The change as an operation.
+    fn op(self) -> Result<Op, AllocError>
+        ensures { IfOk result (λ op. plain_op op ≡ change_op self.entry) }
+    {
+        match self {
+            Change::Add(batch) => Ok(Op::Add(Arc::try_clone(batch)?)),
+            Change::Reset => Ok(Op::Reset),
+        }
+    }
 }
 
 impl Book {
-    /// A book without entries, for at most `limit` of them, of sessions that are numbered from 0: 1 to 64. Each row that
-    /// is added has as many values as the width says.
+    /// A book without entries, for at most `limit` of them, of sessions that are numbered from 0: 1 to 64. Each row
+    /// that is added has as many values as the width says.
     ///
     /// # Errors
     ///
@@ -102,97 +174,215 @@ impl Book {
         ensures replay { IsReplay self.new.entries self.new.tree }
         ensures orderly { IsOrderly self.new }
     {
-        let appended = self.append_addition(alloc, session, turn, &batch);
+        match self.prepare(alloc, session, turn, batch) {
+            Ok(ready) => Ok(self.settle(ready)),
+            Err(refused) => Err(refused),
+        }
+    }
+
+    /// Empties the profile as the turn of a session: what was added before counts no more. The journal gets exactly one
+    /// entry, of which the receipt tells.
+    ///
+    /// # Errors
+    ///
+    /// The first [`BookFault`], which is neither `Width` nor `Heavy`: memory is wanting only where there is no other.
+    /// The book is then as it was.
+    pub fn reset(&mut self, alloc: Global, session: u32, turn: u64) -> Result<Receipt, BookFault>
+        ensures appended { OnOk result (IsAppended self.old session turn reset self.new) }
+        ensures receipt { IfOk result (λ receipt. receipt ≡ receipt_after self.old.entries reset) }
+        ensures taken { OnOk result (IsTaken self.old session turn reset) }
+        ensures unchanged { OnErr result (IsSameBook self.old self.new) }
+        ensures first_fault { IfErr result (λ fault. IsFirstBookFault self.old session turn reset fault) }
+        ensures light { IfErr result (λ fault. (value held : ℕ) → fault ≢ BookFault.Heavy value held) }
+        ensures replay { IsReplay self.new.entries self.new.tree }
+        ensures orderly { IsOrderly self.new }
+    {
+        let ready = self.prepare_reset(alloc, session, turn)?;
+        Ok(self.settle(ready))
+    }
+
+    /// Takes all memory that an addition needs, which [`settle`](Book::settle) then makes. What the book holds stays.
+    ///
+    /// # Errors
+    ///
+    /// Those of [`add`](Book::add).
+    pub fn prepare(
+        &mut self,
+        alloc: Global,
+        session: u32,
+        turn: u64,
+        batch: Arc<Batch>,
+    ) -> Result<Ready, Refused<Arc<Batch>>>
+        ensures before { IfOk result (λ ready. ready.before ≡ self.new) }
+        ensures change { IfOk result (λ ready. (ready.session ≡ session) × (ready.turn ≡ turn)
+            × (ready.op ≡ add (arc_value batch))) }
+        ensures next { IfOk result (λ ready. IsTreeAfter self.old (add (arc_value batch)) ready.next) }
+        ensures taken { OnOk result (IsTaken self.old session turn (add (arc_value batch))) }
+        ensures unchanged { IsSameBook self.old self.new }
+        ensures back { IfErr result (λ refused. refused.back ≡ batch) }
+        ensures first_fault { IfErr result
+            (λ refused. IsFirstBookFault self.old session turn (add (arc_value batch)) refused.fault) }
+        ensures replay { IsReplay self.new.entries self.new.tree }
+        ensures orderly { IsOrderly self.new }
+    {
+        let ready = self.ready(alloc, session, turn, Change::Add(&batch));
         self.known();
-        match appended {
-            Ok(Told { reply, at }) => Ok(Receipt {
-                op: Op::Add(batch),
-                reply,
-                at,
-            }),
+        match ready {
+            Ok(ready) => Ok(ready),
             Err(fault) => Err(Refused { fault, back: batch }),
         }
     }
 
-    /// Answers a query over all that was added so far as the turn of a session. The journal gets exactly one entry, of
-    /// which the receipt tells.
+    /// Takes all memory that a reset needs, which [`settle`](Book::settle) then makes. What the book holds stays.
     ///
     /// # Errors
     ///
-    /// The first [`BookFault`], which is never `Heavy`: memory is wanting only where there is no other. The book is
-    /// then as it was, and the query is handed back.
-    pub fn ask(
+    /// Those of [`reset`](Book::reset).
+    pub fn prepare_reset(
         &mut self,
         alloc: Global,
         session: u32,
         turn: u64,
-        query: Arc<Query>,
-    ) -> Result<Receipt, Refused<Arc<Query>>>
-        ensures appended { OnOk result (IsAppended self.old session turn (ask (arc_value query)) self.new) }
-        ensures receipt { IfOk result (λ receipt. receipt ≡ receipt_after self.old.entries (ask (arc_value query))) }
-        ensures taken { OnOk result (IsTaken self.old session turn (ask (arc_value query))) }
-        ensures unchanged { OnErr result (IsSameBook self.old self.new) }
-        ensures back { IfErr result (λ refused. refused.back ≡ query) }
-        ensures first_fault { IfErr result
-            (λ refused. IsFirstBookFault self.old session turn (ask (arc_value query)) refused.fault) }
-        ensures light { IfErr result (λ refused. (value held : ℕ) → refused.fault ≢ BookFault.Heavy value held) }
+    ) -> Result<Ready, BookFault>
+        ensures before { IfOk result (λ ready. ready.before ≡ self.new) }
+        ensures change { IfOk result (λ ready. (ready.session ≡ session) × (ready.turn ≡ turn) × (ready.op ≡ reset)) }
+        ensures next { IfOk result (λ ready. IsTreeAfter self.old reset ready.next) }
+        ensures taken { OnOk result (IsTaken self.old session turn reset) }
+        ensures unchanged { IsSameBook self.old self.new }
+        ensures first_fault { IfErr result (λ fault. IsFirstBookFault self.old session turn reset fault) }
+        ensures light { IfErr result (λ fault. (value held : ℕ) → fault ≢ BookFault.Heavy value held) }
         ensures replay { IsReplay self.new.entries self.new.tree }
         ensures orderly { IsOrderly self.new }
     {
-        let appended = self.append_report(alloc, session, turn, &query);
         self.known();
-        match appended {
-            Ok(Told { reply, at }) => Ok(Receipt {
-                op: Op::Ask(query),
-                reply,
-                at,
-            }),
-            Err(fault) => Err(Refused { fault, back: query }),
-        }
+        let ready = self.ready(alloc, session, turn, Change::Reset);
+        self.known();
+        ready
     }
 
-    /// Adds a batch and its entry. All memory is taken before anything is changed.
-    fn append_addition(
+    /// Makes the change that this book, as it is now, was prepared for: the journal gets exactly one entry, of which
+    /// the receipt tells. Takes no memory.
+    pub fn settle(&mut self, ready: Ready) -> Receipt
+        requires { ready.before ≡ self.old }
+        ensures appended { IsAppended self.old ready.session ready.turn ready.op self.new }
+        ensures receipt { result ≡ receipt_after self.old.entries ready.op }
+        ensures taken { IsTaken self.old ready.session ready.turn ready.op }
+        ensures tree { self.new.tree ≡ ready.next }
+        ensures replay { IsReplay self.new.entries self.new.tree }
+        ensures orderly { IsOrderly self.new }
+    {
+        let Ready {
+            plan,
+            entry,
+            receipt,
+            ledger: _,
+        } = ready;
+        self.ledger.append(entry);
+        self.grower.credit(plan);
+        self.known();
+        receipt
+    }
+
+    /// The tree of what counts.
+    pub fn tree(&self) -> &CallTree
+        ensures tree { result.now ≡ self.now.tree }
+        ensures replay { IsReplay self.now.entries self.now.tree }
+        ensures orderly { IsOrderly self.now }
+    {
+        self.known();
+        self.grower.tree()
+    }
+
+    /// The entries, in the order in which the changes were made.
+    pub fn entries(&self) -> &[Entry]
+        ensures entries { result.now ≡ self.now.entries }
+        ensures replay { IsReplay self.now.entries self.now.tree }
+        ensures orderly { IsOrderly self.now }
+        ensures small { length self.now.entries < 2 ^ 32 }
+    {
+        self.known();
+        self.ledger.entries()
+    }
+
+    /// The book closed: what it holds, to which nothing is added any more. Takes no memory.
+    pub fn into_journal(self) -> Journal
+        ensures { result ≡ record
+            { entries = self.entries; tree = self.tree; sessions = self.sessions; width = self.width } }
+    {
+        Journal::new(self)
+    }
+
+    /// What a change needs: the next tree, memory for its entry, and what its session will be told.
+    fn ready(
         &mut self,
         alloc: Global,
         session: u32,
         turn: u64,
-        batch: &Arc<Batch>,
-    ) -> Result<Told, BookFault>
-        ensures appended { OnOk result (IsAppended self.old session turn (add (arc_value batch.now)) self.new) }
-        ensures told { IfOk result (λ told. (told.at ≡ length self.old.entries)
-            × (plain_reply told.reply ≡ plain_answer (operations_of self.old.entries) (add (arc_value batch.now)))) }
-        ensures taken { OnOk result (IsTaken self.old session turn (add (arc_value batch.now))) }
-        ensures unchanged { OnErr result (IsSameBook self.old self.new) }
+        change: Change<'_>,
+    ) -> Result<Ready, BookFault>
+        ensures before { IfOk result (λ ready. ready.before ≡ self.new) }
+        ensures change { IfOk result (λ ready. (ready.session ≡ session) × (ready.turn ≡ turn)
+            × (ready.op ≡ change_op change.entry)) }
+        ensures next { IfOk result (λ ready. IsTreeAfter self.old (change_op change.entry) ready.next) }
+        ensures taken { OnOk result (IsTaken self.old session turn (change_op change.entry)) }
+        ensures unchanged { IsSameBook self.old self.new }
         ensures first_fault { IfErr result
-            (λ fault. IsFirstBookFault self.old session turn (add (arc_value batch.now)) fault) }
+            (λ fault. IsFirstBookFault self.old session turn (change_op change.entry) fault) }
     {
+        self.known();
         self.ledger.admit(session, turn)?;
-        self.check_batch(batch)?;
-        let place = self.ledger.additions();
+        let plan = self.plan(alloc, change)?;
+        self.ledger.reserve()?;
+        let place = self.ledger.len();
+        let journalled = change.op()?;
         let entry = Entry {
             session,
             turn,
-            op: Op::Add(Arc::try_clone(batch)?),
+            op: journalled,
             reply: Reply::Placed(place),
         };
-        let plan = self.grower.plan(alloc, batch)?;
-        let at = self.ledger.append(entry)?;
-        aggregate_of_more_rows();
-        self.grower.credit(plan);
-        Ok(Told {
+        let told = change.op()?;
+        let receipt = Receipt {
+            op: told,
             reply: Reply::Placed(place),
-            at,
+            at: place,
+        };
+        Ok(Ready {
+            plan,
+            entry,
+            receipt,
+            ledger: Snapshot::of(&self.ledger),
         })
+    }
+
+    /// The tree after a change of the book's width that keeps the limit of each value.
+    fn plan(&mut self, alloc: Global, change: Change<'_>) -> Result<Plan, BookFault>
+        ensures before { IfOk result (λ plan. plan.before ≡ self.new.tree) }
+        ensures next { IfOk result (λ plan. IsTreeAfter self.old (change_op change.entry) plan.next) }
+        ensures space { OnOk result (HasSpaceFor self.old (change_op change.entry)) }
+        ensures unchanged { IsSameBook self.old self.new }
+        ensures fault { IfErr result (IsSpaceFault self.old (change_op change.entry)) }
+    {
+        match change {
+            Change::Add(batch) => {
+                self.check_batch(batch)?;
+                aggregate_of_more_rows();
+                Ok(self.grower.plan(alloc, batch)?)
+            }
+            Change::Reset => {
+                self.known();
+                Ok(self.grower.plan_reset(alloc)?)
+            }
+        }
     }
 
     /// Whether a batch has the book's width and keeps the limit of each value.
     fn check_batch(&self, batch: &Batch) -> Result<(), BookFault>
-        ensures width { OnOk result (batch.now.width ≡ self.now.width) }
-        ensures fits { OnOk result ((value : ℕ) → HasRoomFor self.now (add batch.now) value) }
+        ensures space { OnOk result (HasSpaceFor self.now (add batch.now)) }
         ensures tree { OnOk result ((value : ℕ)
             → total_in (weights_of self.now.tree value) + total_of (rows_at value batch.now.rows) < 2 ^ 63) }
-        ensures fault { IfErr result (IsBatchFault self.now batch.now) }
+        ensures fault { IfErr result (IsSpaceFault self.now (add batch.now)) }
+        ensures memory { IfErr result (λ fault. fault ≢ BookFault.NoMemory) }
     {
         let width = self.width();
         if batch.width() != width {
@@ -208,65 +398,17 @@ impl Book {
         }
     }
 
-    /// Whether a query asks for one of the book's values.
-    fn check_query(&self, query: &Query) -> Result<(), BookFault>
-        ensures width { OnOk result (query.now.value < self.now.width) }
-        ensures tree { OnOk result (query.now.value < self.now.tree.width) }
-        ensures fits { OnOk result ((value : ℕ) → HasRoomFor self.now (ask query.now) value) }
-        ensures fault { IfErr result (λ fault. (fault ≡ BookFault.Width self.now.width)
-            × MissesWidth self.now.width (ask query.now)) }
-    {
-        let held = self.width().get();
-        if query.value >= held {
-            return Err(BookFault::Width { held });
-        }
-        Ok(())
-    }
-
-    /// Answers a query, and adds its entry.
-    fn append_report(
-        &mut self,
-        alloc: Global,
-        session: u32,
-        turn: u64,
-        query: &Arc<Query>,
-    ) -> Result<Told, BookFault>
-        ensures appended { OnOk result (IsAppended self.old session turn (ask (arc_value query.now)) self.new) }
-        ensures told { IfOk result (λ told. (told.at ≡ length self.old.entries)
-            × (plain_reply told.reply ≡ plain_answer (operations_of self.old.entries) (ask (arc_value query.now)))) }
-        ensures taken { OnOk result (IsTaken self.old session turn (ask (arc_value query.now))) }
-        ensures unchanged { OnErr result (IsSameBook self.old self.new) }
-        ensures first_fault { IfErr result
-            (λ fault. IsFirstBookFault self.old session turn (ask (arc_value query.now)) fault) }
-        ensures light { IfErr result (λ fault. (value held : ℕ) → fault ≢ BookFault.Heavy value held) }
-    {
-        self.known();
-        self.ledger.admit(session, turn)?;
-        self.check_query(query)?;
-        let answer = Arc::new(alloc, report(alloc, self.grower.tree(), query)?)?;
-        let entry = Entry {
-            session,
-            turn,
-            op: Op::Ask(Arc::try_clone(query)?),
-            reply: Reply::Answered(Arc::try_clone(&answer)?),
-        };
-        let at = self.ledger.append(entry)?;
-        Ok(Told {
-            reply: Reply::Answered(answer),
-            at,
-        })
-    }
-
     /// What every book keeps.
     fn known(&self)
         ensures replay { IsReplay self.now.entries self.now.tree }
         ensures orderly { IsOrderly self.now }
     {
         let _ = self.ledger.entries();
-        let _ = self.held();
+        let _ = self.grower.tree();
+        let _ = self.ledger.width().get();
     }
 
-    /// What all rows that were added weigh, by each value.
+    /// What all rows that count weigh, by each value.
     fn held(&self) -> Weights
         ensures width { length result ≡ self.now.width }
         ensures held { (value : ℕ) → value_of value result ≡ weight_held self.now value }
@@ -287,26 +429,6 @@ impl Book {
         self.ledger.width()
     }
 
-    /// The entries.
-    pub(crate) fn entries(&self) -> &[Entry]
-        ensures entries { result.now ≡ self.now.entries }
-        ensures replay { IsReplay self.now.entries self.now.tree }
-        ensures orderly { IsOrderly self.now }
-        ensures small { length self.now.entries < 2 ^ 32 }
-    {
-        self.known();
-        self.ledger.entries()
-    }
-
-    /// The tree of all that was added.
-    pub(crate) fn tree(&self) -> &CallTree
-        ensures tree { result.now ≡ self.now.tree }
-        ensures replay { IsReplay self.now.entries self.now.tree }
-    {
-        self.known();
-        self.grower.tree()
-    }
-
     /// How many sessions the book has.
     pub(crate) fn sessions(&self) -> u32
         ensures sessions { result ≡ self.now.sessions }
@@ -314,13 +436,5 @@ impl Book {
     {
         self.known();
         self.ledger.sessions()
-    }
-
-    /// The book closed: what it holds, to which nothing is added any more. Takes no memory.
-    pub fn into_journal(self) -> Journal
-        ensures { result ≡ record
-            { entries = self.entries; tree = self.tree; sessions = self.sessions; width = self.width } }
-    {
-        Journal::new(self)
     }
 }

@@ -1,4 +1,4 @@
-//! What a journal keeps of an operation, and what its session is told of it.
+//! What a journal keeps of a change, and what a session is told of its operations.
 
 use crate::operation::{Op, Reply};
 use flame_report::Items;
@@ -28,7 +28,7 @@ impl Model for Entry {
 pub struct Receipt {
     pub op: Op,
     pub reply: Reply,
-    /// The place of the entry in the journal, from 0.
+    /// Of a change the place of its entry in the journal, from 0; of a report how many changes it answers after.
     pub at: u64,
 }
 

@@ -1,11 +1,8 @@
 //! What a closed book leaves.
 
-ghost use Rattle.std.specs.Prelude.{ℕ, ◌≡◌, ◌<◌, ◌≤◌, ◌^◌, length};
-ghost use Rattle.profile_rows.specs.Rows.{total_of};
-ghost use Rattle.profile_rows.specs.Values.{rows_at};
-ghost use Rattle.op_book.specs.Operations.{operations_of, profile_after};
+ghost use Rattle.std.specs.Prelude.{◌≡◌, ◌<◌, ◌≤◌, ◌^◌, length};
 ghost use Rattle.op_book.specs.Books.{IsReplay};
-ghost use Rattle.op_book.specs.Runs.{AreOfSessions, AreOfWidth, AreTurnsInOrder};
+ghost use Rattle.op_book.specs.Runs.{AreChanges, AreOfSessions, AreOfWidth, AreTurnsInOrder, KeepLimit};
 
 use crate::book::Book;
 use crate::entry::Entry;
@@ -37,21 +34,21 @@ impl Journal {
         Journal { book }
     }
 
-    /// The entries, in the order in which the operations were taken.
+    /// The entries, in the order in which the changes were made.
     pub fn entries(&self) -> &[Entry]
         ensures entries { result.now ≡ self.now.entries }
         ensures replay { IsReplay self.now.entries self.now.tree }
         ensures turns { AreTurnsInOrder self.now.entries }
         ensures known { AreOfSessions self.now.sessions self.now.entries }
         ensures fitted { AreOfWidth self.now.width self.now.entries }
+        ensures changes { AreChanges self.now.entries }
         ensures count { length self.now.entries < 2 ^ 32 }
-        ensures weight { (value : ℕ)
-            → total_of (rows_at value (profile_after (operations_of self.now.entries))) < 2 ^ 63 }
+        ensures light { KeepLimit self.now.entries }
     {
         self.book.entries()
     }
 
-    /// The tree of all that was added.
+    /// The tree of what counts.
     pub fn tree(&self) -> &CallTree
         ensures tree { result.now ≡ self.now.tree }
         ensures replay { IsReplay self.now.entries self.now.tree }

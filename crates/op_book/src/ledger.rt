@@ -1,13 +1,14 @@
 //! Entries in order, with the next turn of each session.
 
-ghost use Rattle.std.specs.Prelude.{◌≡◌, ◌<◌, ◌≤◌, ◌^◌, ◌++◌, ◌∷◌, [], length, IfOk, MatchResult, OnErr, OnOk};
+ghost use Rattle.std.specs.Prelude.{ℕ, ◌≡◌, ◌<◌, ◌≤◌, ◌^◌, ◌++◌, ◌∷◌, [], true, length, IfOk, MatchResult, OnOk};
 ghost use Rattle.op_book.specs.Books.{HasTurn, IsTurnFault};
-ghost use Rattle.op_book.specs.Operations.{FitsWidth, additions_of, operations_of, plain_answer};
-ghost use Rattle.op_book.specs.Runs.{AreOfSessions, AreOfWidth, AreTurnsInOrder, IsLegalRun};
+ghost use Rattle.op_book.specs.Operations.{FitsWidth, is_change, operations_of, plain_answer, profile_after};
+ghost use Rattle.op_book.specs.Runs.{AreChanges, AreOfSessions, AreOfWidth, AreTurnsInOrder, IsLegalRun, KeepLimit};
+ghost use Rattle.profile_rows.specs.Rows.{total_of};
+ghost use Rattle.profile_rows.specs.Values.{rows_at};
 
 use crate::entry::Entry;
 use crate::fault::BookFault;
-use flame_report::NoMemory;
 use profile_rows::Width;
 use std::alloc::{AllocError, Global};
 use std::marker::Model;
@@ -16,8 +17,6 @@ use std::marker::Model;
 #[derive(Drop)]
 pub(crate) struct Ledger {
     entries: Vec<Entry>,
-    /// How many of the entries are additions.
-    additions: u64,
     /// How many of the entries each session has.
     turns: Vec<u64>,
     limit: u32,
@@ -25,15 +24,20 @@ pub(crate) struct Ledger {
 }
 
 impl Model for Ledger {
-    ghost use Rattle.std.specs.Prelude.{length};
+    ghost use Rattle.std.specs.Prelude.{length, vec_capacity};
     ghost use Rattle.op_book.specs.Ledgers.{IsLedger, LedgerState};
 
     ghost Value = { LedgerState };
 
-    ghost view = { λ l. record
-        { entries = l.entries.items; limit = l.limit; sessions = length l.turns.items; width = l.width } };
+    ghost view = { λ l. record {
+      entries = l.entries.items;
+      limit = l.limit;
+      sessions = length l.turns.items;
+      width = l.width;
+      capacity = vec_capacity l.entries;
+    } };
 
-    ghost invariant = { λ l. IsLedger l.entries.items l.additions l.limit l.width l.turns.items };
+    ghost invariant = { λ l. IsLedger l.entries.items l.limit l.width l.turns.items };
 }
 
 impl Ledger {
@@ -46,13 +50,13 @@ impl Ledger {
     ) -> Result<Ledger, AllocError>
         requires some { 0 < sessions }
         requires few { sessions ≤ 64 }
-        ensures { IfOk result
-            (λ ledger. ledger ≡ record { entries = []; limit = limit; sessions = sessions; width = width }) }
+        ensures entries { IfOk result (λ ledger. ledger.entries ≡ []) }
+        ensures limits { IfOk result (λ ledger. (ledger.limit ≡ limit) × (ledger.sessions ≡ sessions)) }
+        ensures width { IfOk result (λ ledger. ledger.width ≡ width) }
     {
         let turns = vec![in alloc; 0; sessions as usize]?;
         Ok(Ledger {
             entries: Vec::new(alloc),
-            additions: 0,
             turns,
             limit,
             width,
@@ -66,6 +70,8 @@ impl Ledger {
         ensures turns { AreTurnsInOrder self.now.entries }
         ensures known { AreOfSessions self.now.sessions self.now.entries }
         ensures fitted { AreOfWidth self.now.width self.now.entries }
+        ensures changes { AreChanges self.now.entries }
+        ensures light { KeepLimit self.now.entries }
         ensures count { length self.now.entries ≤ self.now.limit }
         ensures small { self.now.limit < 2 ^ 32 }
         ensures some { 0 < self.now.sessions }
@@ -73,6 +79,13 @@ impl Ledger {
     {
         let entries: &Vec<Entry> = &self.entries;
         entries.as_slice()
+    }
+
+    /// How many entries there are.
+    pub(crate) fn len(&self) -> u64
+        ensures { result ≡ length self.now.entries }
+    {
+        self.entries.len() as u64
     }
 
     /// How many sessions there are.
@@ -87,13 +100,6 @@ impl Ledger {
         ensures { result ≡ self.now.width }
     {
         self.width
-    }
-
-    /// How many of the entries are additions.
-    pub(crate) fn additions(&self) -> u64
-        ensures { result ≡ length (additions_of (operations_of self.now.entries)) }
-    {
-        self.additions
     }
 
     /// Whether a session may take this turn: the first cause that keeps it from it.
@@ -114,21 +120,28 @@ impl Ledger {
         Ok(())
     }
 
-    /// Adds an entry at the end, and gives its place. Nothing is changed where memory runs out.
-    pub(crate) fn append(&mut self, entry: Entry) -> Result<u64, NoMemory>
-        requires turn { HasTurn self.old.entries self.old.limit self.old.sessions entry.session entry.turn }
-        requires width { FitsWidth self.old.width entry.op }
-        requires reply { entry.reply ≡ plain_answer (operations_of self.old.entries) entry.op }
-        ensures appended { OnOk result (self.new ≡ record self.old { entries = self.old.entries ++ entry ∷ [] }) }
-        ensures at { IfOk result (λ at. at ≡ length self.old.entries) }
-        ensures unchanged { OnErr result (self.new ≡ self.old) }
+    /// Takes memory for one more entry.
+    pub(crate) fn reserve(&mut self) -> Result<(), AllocError>
+        ensures same { self.new ≡ record self.old { capacity = self.new.capacity } }
+        ensures memory { OnOk result (length self.new.entries < self.new.capacity) }
     {
-        let at = self.entries.len() as u64;
+        self.entries.reserve(1)?;
+        Ok(())
+    }
+
+    /// Adds an entry at the end. Takes no memory.
+    pub(crate) fn append(&mut self, entry: Entry)
+        requires memory { length self.old.entries < self.old.capacity }
+        requires turn { HasTurn self.old.entries self.old.limit self.old.sessions entry.session entry.turn }
+        requires change { is_change entry.op ≡ true }
+        requires width { FitsWidth self.old.width entry.op }
+        requires light { (value : ℕ) → total_of
+            (rows_at value (profile_after (operations_of self.old.entries ++ entry.op ∷ []))) < 2 ^ 63 }
+        requires reply { entry.reply ≡ plain_answer (operations_of self.old.entries) entry.op }
+        ensures { self.new ≡ record self.old { entries = self.old.entries ++ entry ∷ [] } }
+    {
         let session = entry.session as usize;
-        let additions = entry.op.additions();
-        self.entries.push(entry)?;
+        self.entries.push_reserved(entry);
         self.turns[session] += 1;
-        self.additions += additions;
-        Ok(at)
     }
 }

@@ -1,9 +1,9 @@
 //! What a session may ask of a book, and what it is told.
 
-ghost use Rattle.std.specs.Prelude.{◌≡◌, ◌↔◌, IsTrue, length};
-ghost use Rattle.op_book.specs.Operations.{addition_of, plain_op, plain_reply};
+ghost use Rattle.std.specs.Prelude.{◌≡◌, ◌↔◌, IfOk, IsTrue};
+ghost use Rattle.op_book.specs.Operations.{is_change, plain_op, plain_reply};
 
-use flame_report::{Answer, Query};
+use flame_report::{Answer, NoMemory, Query};
 use profile_rows::Batch;
 use std::sync::Arc;
 
@@ -12,27 +12,43 @@ use std::sync::Arc;
 pub enum Op {
     /// The rows of a batch are added.
     Add(Arc<Batch>),
-    /// A query is answered over all that was added before.
+    /// What was added before counts no more.
+    Reset,
+    /// A query is answered over what counts.
     Ask(Arc<Query>),
 }
 
 /// What an operation is answered.
 #[derive(Drop)]
 pub enum Reply {
-    /// An addition: how many additions stand before it.
+    /// An addition or a reset: how many of these stand before it.
     Placed(u64),
     /// The answer to a query.
     Answered(Arc<Answer>),
 }
 
 impl Op {
-    /// How many batches the operation adds.
-    pub(crate) fn additions(&self) -> u64
-        ensures { result ≡ length (addition_of (plain_op self.now)) }
+    /// Whether it changes the profile: an addition or a reset.
+    pub(crate) fn is_change(&self) -> bool
+        ensures { result ≡ is_change (plain_op self.now) }
+    {
+        !matches!(self, Op::Ask(_))
+    }
+
+    /// Another owner of what the operation holds.
+    pub(crate) fn share(&self) -> Result<Op, NoMemory>
+        ensures { IfOk result (λ op. plain_op op ≡ plain_op self.now) }
     {
         match self {
-            Op::Add(_) => 1,
-            Op::Ask(_) => 0,
+            Op::Add(batch) => match Arc::try_clone(batch) {
+                Ok(batch) => Ok(Op::Add(batch)),
+                Err(_) => Err(NoMemory),
+            },
+            Op::Reset => Ok(Op::Reset),
+            Op::Ask(query) => match Arc::try_clone(query) {
+                Ok(query) => Ok(Op::Ask(query)),
+                Err(_) => Err(NoMemory),
+            },
         }
     }
 }
@@ -45,13 +61,14 @@ impl PartialEq for Op {
 
     ghost laws = { partial_equiv_from_equiv op_eq-laws };
 
-    /// Whether the operations add the same rows or ask the same.
+    /// Whether the operations add the same rows, are both resets, or ask the same.
     fn eq(&self, other: &Op) -> bool
         ensures compared { result ≡ op_eq self.now other.now }
         ensures equal { IsTrue result ↔ (plain_op self.now ≡ plain_op other.now) }
     {
         match (self, other) {
             (Op::Add(batch), Op::Add(other)) => batch == other,
+            (Op::Reset, Op::Reset) => true,
             (Op::Ask(query), Op::Ask(other)) => query == other,
             _ => false,
         }
@@ -62,6 +79,21 @@ impl Eq for Op {
     ghost use Rattle.op_book.specs.Equality.{op_eq-laws};
 
     ghost laws = { op_eq-laws };
+}
+
+impl Reply {
+    /// Another owner of what the reply holds.
+    pub(crate) fn share(&self) -> Result<Reply, NoMemory>
+        ensures { IfOk result (λ reply. plain_reply reply ≡ plain_reply self.now) }
+    {
+        match self {
+            Reply::Placed(place) => Ok(Reply::Placed(*place)),
+            Reply::Answered(answer) => match Arc::try_clone(answer) {
+                Ok(answer) => Ok(Reply::Answered(answer)),
+                Err(_) => Err(NoMemory),
+            },
+        }
+    }
 }
 
 impl PartialEq for Reply {

@@ -1,16 +1,17 @@
 //! A book driven by hand: what its sessions are told in turn, what its journal has, and how its faults are printed.
 
-use crate::helpers::{
-    KEPT_REPORTS, ROWS, answer_text, batch_of, kept_query, kinds, query_of, row_of, width_of,
-};
+ghost use Rattle.std.specs.Prelude.{◌≡◌};
+
+use crate::helpers::{batch_of, kept_query, query_of, row_of, width_of};
+use call_tree::CallTree;
 use flame_report::{Answer, Kind};
-use op_book::{Book, BookFault, Entry, Journal, Op, Receipt, Reply};
+use op_book::{Book, BookFault, Entry, Journal, Op, Ready, Receipt, Reply};
 use stack_text::{MAX_TOTAL, Width};
 use std::alloc::Global;
 use std::sync::Arc;
 use std::test::Fail;
 
-/// What a session asks of a book: an addition of folded text, or, where there is none, the total.
+/// What a session asks of a book: an addition of folded text, or, where there is none, a reset.
 #[derive(Drop)]
 struct Step<'a> {
     session: u32,
@@ -26,7 +27,7 @@ fn add(session: u32, turn: u64, text: &str) -> Step<'_> {
     }
 }
 
-fn ask(session: u32, turn: u64) -> Step<'static> {
+fn reset(session: u32, turn: u64) -> Step<'static> {
     Step {
         session,
         turn,
@@ -39,10 +40,7 @@ fn told(alloc: Global, receipt: &Receipt) -> Result<String, Fail> {
     let at = receipt.at;
     let text = match &receipt.reply {
         Reply::Placed(place) => format!(in alloc; "placed {place} at {at}; "),
-        Reply::Answered(answer) => match &**answer {
-            Answer::Total(total) => format!(in alloc; "total {total} at {at}; "),
-            _ => format!(in alloc; "another answer; "),
-        },
+        Reply::Answered(_) => format!(in alloc; "an answer; "),
     };
     Ok(text.ok().ok_or("no memory")?)
 }
@@ -54,15 +52,7 @@ fn told_at(alloc: Global, book: &mut Book, step: &Step) -> Result<String, Fail> 
             Ok(receipt) => Ok(receipt),
             Err(refused) => Err(refused.fault),
         },
-        None => match book.ask(
-            alloc,
-            step.session,
-            step.turn,
-            query_of(alloc, Kind::Total)?,
-        ) {
-            Ok(receipt) => Ok(receipt),
-            Err(refused) => Err(refused.fault),
-        },
+        None => book.reset(alloc, step.session, step.turn),
     };
     match outcome {
         Ok(receipt) => told(alloc, &receipt),
@@ -70,7 +60,7 @@ fn told_at(alloc: Global, book: &mut Book, step: &Step) -> Result<String, Fail> 
     }
 }
 
-// What the sessions are told in turn, and then how many entries the journal has and what was added weighs.
+// What the sessions are told in turn, and then how many entries the journal has and what counts weighs.
 fn told_in_turn(alloc: Global, book: Book, steps: &[Step]) -> Result<String, Fail> {
     let mut book = book;
     let mut text = String::new(alloc);
@@ -105,22 +95,22 @@ fn a_book_driven_by_hand(rt: HostRuntime) -> Result<(), Fail> {
 }
 
 #[test]
-fn places_count_additions_and_entries_count_all(rt: HostRuntime) -> Result<(), Fail> {
+fn a_reset_between_two_additions(rt: HostRuntime) -> Result<(), Fail> {
     let alloc = rt.alloc();
-    let steps = [
-        add(0, 0, "a 1\n"),
-        ask(1, 0),
-        add(0, 1, "b 2\n"),
-        ask(1, 1),
-        ask(1, 0),
-        ask(5, 0),
-    ];
-    let told = told_in_turn(alloc, book_of(alloc, 3)?, &steps)?;
+    let steps = [add(0, 0, "a 1\n"), reset(0, 1), add(0, 2, "b 2\n")];
+    let told = told_in_turn(alloc, book_of(alloc, 10)?, &steps)?;
     assert_eq!(rt;
         told.as_str(),
-        "placed 0 at 0; total 1 at 1; placed 1 at 2; \
-         K3 Full held 3; K2 Turn held 1; K1 Session; 3 entries, 3"
+        "placed 0 at 0; placed 1 at 1; placed 2 at 2; 3 entries, 2"
     );
+    Ok(())
+}
+
+#[test]
+fn an_empty_book_is_reset(rt: HostRuntime) -> Result<(), Fail> {
+    let alloc = rt.alloc();
+    let told = told_in_turn(alloc, book_of(alloc, 10)?, &[reset(1, 0)])?;
+    assert_eq!(rt; told.as_str(), "placed 0 at 0; 1 entries, 0");
     Ok(())
 }
 
@@ -129,14 +119,14 @@ fn a_full_book_takes_no_more(rt: HostRuntime) -> Result<(), Fail> {
     let alloc = rt.alloc();
     let steps = [
         add(0, 0, "a 1\n"),
-        add(1, 0, "b 1\n"),
+        reset(1, 0),
         add(0, 1, "c 1\n"),
-        ask(1, 1),
+        reset(1, 1),
     ];
     let told = told_in_turn(alloc, book_of(alloc, 2)?, &steps)?;
     assert_eq!(rt;
         told.as_str(),
-        "placed 0 at 0; placed 1 at 1; K3 Full held 2; K3 Full held 2; 2 entries, 2"
+        "placed 0 at 0; placed 1 at 1; K3 Full held 2; K3 Full held 2; 2 entries, 0"
     );
     Ok(())
 }
@@ -144,11 +134,19 @@ fn a_full_book_takes_no_more(rt: HostRuntime) -> Result<(), Fail> {
 #[test]
 fn the_first_cause_is_told(rt: HostRuntime) -> Result<(), Fail> {
     let alloc = rt.alloc();
-    let steps = [add(2, 1, "a 1\n"), add(0, 1, "a 1\n"), add(0, 0, "a 1\n")];
+    let steps = [
+        add(2, 1, "a 1\n"),
+        add(0, 1, "a 1\n"),
+        add(0, 0, "a 1\n"),
+        reset(2, 1),
+        reset(0, 1),
+        reset(0, 0),
+    ];
     let told = told_in_turn(alloc, book_of(alloc, 0)?, &steps)?;
     assert_eq!(rt;
         told.as_str(),
-        "K1 Session; K2 Turn held 0; K3 Full held 0; 0 entries, 0"
+        "K1 Session; K2 Turn held 0; K3 Full held 0; \
+         K1 Session; K2 Turn held 0; K3 Full held 0; 0 entries, 0"
     );
     Ok(())
 }
@@ -160,14 +158,90 @@ fn the_limit_of_weights(rt: HostRuntime) -> Result<(), Fail> {
         add(0, 0, "a 9223372036854775806\n"),
         add(0, 1, "b 2\n"),
         add(0, 1, "b 1\n"),
-        ask(0, 2),
     ];
     let told = told_in_turn(alloc, book_of(alloc, 10)?, &steps)?;
     assert_eq!(rt;
         told.as_str(),
         "placed 0 at 0; K4 Heavy value 0 held 9223372036854775806; placed 1 at 1; \
-         total 9223372036854775807 at 2; 3 entries, 9223372036854775807"
+         2 entries, 9223372036854775807"
     );
+    Ok(())
+}
+
+#[test]
+fn what_stood_before_a_reset_weighs_nothing(rt: HostRuntime) -> Result<(), Fail> {
+    let alloc = rt.alloc();
+    let steps = [
+        add(0, 0, "a 9223372036854775807\n"),
+        add(0, 1, "a 1\n"),
+        reset(0, 1),
+        add(0, 2, "a 1\n"),
+    ];
+    let told = told_in_turn(alloc, book_of(alloc, 10)?, &steps)?;
+    assert_eq!(rt;
+        told.as_str(),
+        "placed 0 at 0; K4 Heavy value 0 held 9223372036854775807; \
+         placed 1 at 1; placed 2 at 2; 3 entries, 1"
+    );
+    Ok(())
+}
+
+fn total_of(tree: &CallTree) -> u64 {
+    tree.total().values()[0]
+}
+
+// What a book weighs, what it will weigh after a change, and what it weighs once the change is made.
+fn settled(alloc: Global, book: &mut Book, ready: Ready) -> Result<String, Fail>
+    requires { ready.before ≡ book.old }
+{
+    let (before, next) = (total_of(book.tree()), total_of(ready.next()));
+    let at = book.settle(ready).at;
+    let after = total_of(book.tree());
+    Ok(format!(in alloc; "{before} {next} {after} at {at}; ")?)
+}
+
+fn prepared(alloc: Global, book: &mut Book, turn: u64, text: &str) -> Result<String, Fail> {
+    match book.prepare(alloc, 0, turn, batch_of(alloc, text)?) {
+        Ok(ready) => settled(alloc, book, ready),
+        Err(_) => Err("refused".into()),
+    }
+}
+
+fn prepared_reset(alloc: Global, book: &mut Book, turn: u64) -> Result<String, Fail> {
+    match book.prepare_reset(alloc, 0, turn) {
+        Ok(ready) => settled(alloc, book, ready),
+        Err(_) => Err("refused".into()),
+    }
+}
+
+fn prepared_in_turn(alloc: Global, book: &mut Book) -> Result<String, Fail> {
+    let mut text = prepared(alloc, book, 0, "a 1\n")?;
+    text.push_str(prepared(alloc, book, 1, "b 2\n")?.as_str())?;
+    text.push_str(prepared_reset(alloc, book, 2)?.as_str())?;
+    Ok(text)
+}
+
+#[test]
+fn a_prepared_change_is_made_when_it_is_settled(rt: HostRuntime) -> Result<(), Fail> {
+    let mut book = book_of(rt.alloc(), 3)?;
+    let told = prepared_in_turn(rt.alloc(), &mut book)?;
+    assert_eq!(rt; told.as_str(), "0 1 1 at 0; 1 3 3 at 1; 3 0 0 at 2; ");
+    Ok(())
+}
+
+// A change that is prepared and let go.
+fn let_go(alloc: Global, book: &mut Book, text: &str) -> Result<u64, Fail> {
+    match book.prepare(alloc, 0, 0, batch_of(alloc, text)?) {
+        Ok(ready) => Ok(total_of(ready.next())),
+        Err(_) => Err("refused".into()),
+    }
+}
+
+#[test]
+fn a_prepared_change_that_is_let_go_changes_nothing(rt: HostRuntime) -> Result<(), Fail> {
+    let mut book = book_of(rt.alloc(), 3)?;
+    assert_eq!(rt; let_go(rt.alloc(), &mut book, "a 1\n")?, 1);
+    assert_eq!(rt; (book.entries().len(), total_of(book.tree())), (0, 0));
     Ok(())
 }
 
@@ -227,68 +301,17 @@ fn want_of_memory_is_printed(rt: HostRuntime) -> Result<(), Fail> {
     Ok(())
 }
 
-fn answer_in(alloc: Global, reply: &Reply) -> Result<String, Fail> {
-    match reply {
-        Reply::Answered(answer) => answer_text(alloc, answer),
-        Reply::Placed(_) => Err("no answer".into()),
-    }
-}
-
-fn report_on(alloc: Global, book: &mut Book, kind: Kind) -> Result<String, Fail> {
-    let asked = book.ask(alloc, 0, 1, kept_query(alloc, kind)?);
-    let receipt = asked.ok().ok_or("refused")?;
-    answer_in(alloc, &receipt.reply)
-}
-
-fn add_rows(alloc: Global, book: &mut Book) -> Result<(), Fail> {
-    book.add(alloc, 0, 0, batch_of(alloc, ROWS)?)
-        .ok()
-        .ok_or("refused")?;
-    Ok(())
-}
-
-fn book_of_rows(alloc: Global) -> Result<Book, Fail> {
-    let mut book = book_of(alloc, 2)?;
-    add_rows(alloc, &mut book)?;
-    Ok(book)
-}
-
-// What a book answers a query of some kind behind an addition.
-fn report_of_rows(alloc: Global, kind: Kind) -> Result<String, Fail> {
-    let mut book = book_of_rows(alloc)?;
-    report_on(alloc, &mut book, kind)
-}
-
-fn reports_of_rows(alloc: Global) -> Result<String, Fail> {
-    let mut text = String::new(alloc);
-    for kind in kinds()? {
-        text.push_str(report_of_rows(alloc, kind)?.as_str())?;
-        text.push('|')?;
-    }
-    Ok(text)
-}
-
-#[test]
-fn a_book_answers_each_kind_of_query(rt: HostRuntime) -> Result<(), Fail> {
-    let reports = reports_of_rows(rt.alloc())?;
-    assert_eq!(rt; reports.as_str(), KEPT_REPORTS);
-    Ok(())
-}
-
-// An addition and a question for its folded text.
-fn ask_for_text(alloc: Global, book: &mut Book) -> Result<(), Fail> {
+fn add_and_reset(alloc: Global, book: &mut Book) -> Result<(), Fail> {
     book.add(alloc, 1, 0, batch_of(alloc, "main;a 2\n")?)
         .ok()
         .ok_or("refused")?;
-    book.ask(alloc, 0, 0, query_of(alloc, Kind::Folded)?)
-        .ok()
-        .ok_or("refused")?;
+    book.reset(alloc, 0, 0).ok().ok_or("refused")?;
     Ok(())
 }
 
 fn two_entries(alloc: Global) -> Result<Journal, Fail> {
     let mut book = book_of(alloc, 2)?;
-    ask_for_text(alloc, &mut book)?;
+    add_and_reset(alloc, &mut book)?;
     Ok(book.into_journal())
 }
 
@@ -297,26 +320,24 @@ fn has_addition(alloc: Global, entry: &Entry) -> Result<bool, Fail> {
     Ok((entry.session, entry.turn) == (1, 0) && entry.op == op && entry.reply == Reply::Placed(0))
 }
 
-fn has_question(alloc: Global, entry: &Entry) -> Result<bool, Fail> {
-    let op = Op::Ask(query_of(alloc, Kind::Folded)?);
-    Ok((entry.session, entry.turn) == (0, 0) && entry.op == op)
+fn has_reset(entry: &Entry) -> bool {
+    (entry.session, entry.turn) == (0, 0)
+        && entry.op == Op::Reset
+        && entry.reply == Reply::Placed(1)
 }
 
 fn check_entries(alloc: Global, entries: &[Entry]) -> Result<(), Fail> {
     let [first, second] = entries else {
         return Err("two entries".into());
     };
-    if !has_addition(alloc, first)? || !has_question(alloc, second)? {
+    if !has_addition(alloc, first)? || !has_reset(second) {
         return Err("other entries".into());
-    }
-    if answer_in(alloc, &second.reply)?.as_str() != "main;a 2\n" {
-        return Err("another answer".into());
     }
     Ok(())
 }
 
 #[test]
-fn a_journal_has_what_was_asked_and_told(rt: HostRuntime) -> Result<(), Fail> {
+fn a_journal_has_what_was_done_and_told(rt: HostRuntime) -> Result<(), Fail> {
     let journal = two_entries(rt.alloc())?;
     check_entries(rt.alloc(), journal.entries())
 }
@@ -327,6 +348,7 @@ fn additions_are_compared_by_their_rows(rt: HostRuntime) -> Result<(), Fail> {
     assert!(rt; added == Op::Add(batch_of(rt.alloc(), "a 1\n")?));
     assert!(rt; added != Op::Add(batch_of(rt.alloc(), "a 2\n")?));
     assert!(rt; added != Op::Ask(query_of(rt.alloc(), Kind::Total)?));
+    assert!(rt; added != Op::Reset && Op::Reset == Op::Reset);
     Ok(())
 }
 

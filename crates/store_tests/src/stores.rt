@@ -138,7 +138,7 @@ fn closed_store_gives_its_journal(rt: HostRuntime) -> Result<(), Fail> {
     let told = closed::<Brand, HostRuntime>(&rt, alloc, Blank::make(alloc, 10, 2, Width::one())?)?;
     assert_eq!(rt;
         told.as_str(),
-        "Ok(0) Ok(1) Ok(3) Ok(2) Ok(7) Some(AllGiven) 2 3; 0 1 0 1 1 7 2"
+        "Ok(0) Ok(1) Ok(3) Ok(2) Ok(7) Some(AllGiven) 2 3; 0 1 1 7 2"
     );
     Ok(())
 }
@@ -153,7 +153,7 @@ fn go_on<N: StoreName, R: Wait>(
     let heavy = add(rt, alloc, session, "b 2\n")?;
     let last = add(rt, alloc, session, "b 1\n")?;
     let all = total(rt, alloc, session)?;
-    let full = total(rt, alloc, session)?;
+    let full = add(rt, alloc, session, "c 1\n")?;
     Ok(format!(in alloc; "{most:?} {heavy:?} {last:?} {all:?} {full:?}")?)
 }
 
@@ -169,7 +169,7 @@ fn refused_session<N: StoreName, R: Wait>(
     Ok(format!(in alloc; "{} {receipts}", told?)?)
 }
 
-// What a session of a store of three entries is told.
+// What a session of a store of two entries is told.
 fn refused<N: StoreName, R: Wait>(rt: &R, alloc: Global, blank: Blank) -> Result<String, Fail>
     requires { blank ≡ record { limit = N.limit; sessions = N.sessions; width = N.width } }
 {
@@ -183,11 +183,11 @@ fn refused<N: StoreName, R: Wait>(rt: &R, alloc: Global, blank: Blank) -> Result
 #[test]
 fn store_limits(rt: HostRuntime) -> Result<(), Fail> {
     let alloc = rt.alloc();
-    let told = refused::<Brand, HostRuntime>(&rt, alloc, Blank::make(alloc, 3, 1, Width::one())?)?;
+    let told = refused::<Brand, HostRuntime>(&rt, alloc, Blank::make(alloc, 2, 1, Width::one())?)?;
     assert_eq!(rt;
         told.as_str(),
         "Ok(0) Err(Heavy { value: 0, held: 9223372036854775806 }) Ok(1) Ok(9223372036854775807) \
-         Err(Full { held: 3 }) 3; 3"
+         Err(Full { held: 2 }) 3; 2"
     );
     Ok(())
 }

@@ -1,10 +1,10 @@
 //! A session: what one thread asks of a store, and what it was told.
 
-ghost use Rattle.std.specs.Prelude.{◌≡◌, ◌≢◌, ◌<◌, ◌≤◌, ◌++◌, ◌∷◌, [], ℕ, List, IfErr, IfOk, MatchResult, OnErr, OnOk};
+ghost use Rattle.std.specs.Prelude.{◌≡◌, ◌≢◌, ◌<◌, ◌≤◌, ◌⊎◌, ◌++◌, ◌∷◌, [], ℕ, List, length, true, IfErr, IfOk, MatchResult, OnErr, OnOk};
 ghost use Rattle.std.specs.Arc.{arc_value};
-ghost use Rattle.op_book.specs.Operations.{PlainOp, PlainReceipt, add, answered, ask, placed, plain_reply};
+ghost use Rattle.op_book.specs.Operations.{PlainOp, PlainReceipt, add, answered, ask, is_change, placed, reset};
 ghost use Rattle.flame_report.specs.declared.answer.Answer.{Answer};
-ghost use Rattle.live_store.specs.Stores.{ShowsCause, changes_told};
+ghost use Rattle.live_store.specs.Stores.{ShowsCause, change_told, changes_told};
 
 use crate::store::{Store, StoreName};
 use flame_report::{Answer, Items, Query};
@@ -14,22 +14,26 @@ use std::alloc::Global;
 use std::marker::Model;
 use std::sync::{Arc, Wait};
 
-/// Where an addition was placed.
+/// Where a change was placed.
 #[derive(Clone, Copy, Debug, PartialEq, Eq)]
 pub struct Placed {
     /// How many changes stand before it.
     pub place: u64,
 }
 
-/// The place that an addition was told.
-fn place_in(reply: &Reply) -> u64
-    requires { (place : ℕ) × (plain_reply reply.now ≡ placed place) }
-    ensures { plain_reply reply.now ≡ placed result }
+/// Puts the receipt of a change into a log that has memory for it, and counts the change.
+fn keep_change(log: &mut Vec<Receipt>, turn: &mut u64, receipt: Receipt) -> Placed
+    requires memory { length log.old.items < log.old.cap }
+    requires turn { turn.old ≡ changes_told log.old.items }
+    requires told { (op : PlainOp) × (place : ℕ) × (receipt ≡ change_told op place) × (is_change op ≡ true) }
+    ensures log { log.new.items ≡ log.old.items ++ receipt ∷ [] }
+    ensures turn { turn.new ≡ changes_told log.new.items }
+    ensures placed { receipt.reply ≡ placed result.place }
 {
-    match reply {
-        Reply::Placed(place) => *place,
-        Reply::Answered(_) => unreachable!(),
-    }
+    *turn += 1;
+    let place = receipt.at;
+    log.push_reserved(receipt);
+    Placed { place }
 }
 
 /// What one thread asks of a store. It keeps a receipt of each operation that succeeded.
@@ -37,9 +41,9 @@ fn place_in(reply: &Reply) -> u64
 pub struct Session<'a, N: StoreName> {
     store: &'a Store<N>,
     number: u32,
-    log: Vec<Receipt>,
-    /// How many receipts are of changes.
+    /// How many changes the session made.
     turn: u64,
+    log: Vec<Receipt>,
 }
 
 impl<'a, N: StoreName> Model for Session<'a, N> {
@@ -68,8 +72,8 @@ impl<'a, N: StoreName> Session<'a, N> {
         Session {
             store,
             number,
-            log: Vec::new(alloc),
             turn: 0,
+            log: Vec::new(alloc),
         }
     }
 
@@ -111,15 +115,12 @@ impl<'a, N: StoreName> Session<'a, N> {
         batch: Arc<Batch>,
     ) -> Result<Placed, Refused<Arc<Batch>>>
         ensures extended { IfOk result
-            (λ placing. (at : ℕ)
-            × (self.new.log
-            ≡ self.old.log
-            ++ (record { op = add (arc_value batch); reply = placed placing.place; at = at }) ∷ [])) }
+            (λ placing. self.new.log ≡ self.old.log ++ change_told (add (arc_value batch)) placing.place ∷ []) }
         ensures unchanged { OnErr result (self.new ≡ self.old) }
         ensures number { self.new.number ≡ self.old.number }
         ensures back { IfErr result (λ refused. refused.back ≡ batch) }
-        ensures cause { IfErr result
-            (λ refused. ShowsCause N.limit N.width (changes_told self.old.log) (add (arc_value batch)) refused.fault) }
+        ensures cause { IfErr result (λ refused.
+            ShowsCause N.limit N.width (changes_told self.old.log) (add (arc_value batch)) refused.fault) }
     {
         if self.log.reserve(1).is_err() {
             return Err(Refused {
@@ -133,35 +134,53 @@ impl<'a, N: StoreName> Session<'a, N> {
             .lock(rt)
             .add(alloc, self.number, self.turn, batch);
         match added {
-            Ok(receipt) => {
-                let place = place_in(&receipt.reply);
-                self.log.push_reserved(receipt);
-                self.turn += 1;
-                Ok(Placed { place })
-            }
+            Ok(receipt) => Ok(keep_change(&mut self.log, &mut self.turn, receipt)),
             Err(refused) => Err(refused),
         }
     }
 
-    /// Answers a query over what counts so far, and keeps the receipt, from which the answer is lent. The query
+    /// Empties the profile, and keeps the receipt: what was added before counts no more.
+    ///
+    /// # Errors
+    ///
+    /// The book's first [`BookFault`], which is neither `Width` nor `Heavy`. The log is then as it was.
+    pub fn reset<R: Wait>(&mut self, rt: &R, alloc: Global) -> Result<Placed, BookFault>
+        ensures extended { IfOk result
+            (λ placing. self.new.log ≡ self.old.log ++ change_told reset placing.place ∷ []) }
+        ensures unchanged { OnErr result (self.new ≡ self.old) }
+        ensures number { self.new.number ≡ self.old.number }
+        ensures cause { IfErr result (ShowsCause N.limit N.width (changes_told self.old.log) reset) }
+        ensures light { IfErr result (λ fault. (value held : ℕ) → fault ≢ BookFault.Heavy value held) }
+    {
+        self.log.reserve(1)?;
+        let made = self
+            .store
+            .desk()
+            .lock(rt)
+            .reset(alloc, self.number, self.turn);
+        match made {
+            Ok(receipt) => Ok(keep_change(&mut self.log, &mut self.turn, receipt)),
+            Err(fault) => Err(fault),
+        }
+    }
+
+    /// Answers a query over what counts, and keeps the receipt, from which the answer is lent. The query
     /// is shared. The contract speaks of the session once the answer is let go: its log then ends with exactly this
     /// receipt.
     ///
     /// # Errors
     ///
-    /// `Width` wherever the query's value is none of the store's, and before anything is taken; else `NoMemory`. The
-    /// log is then as it was.
+    /// `Width` exactly where the query's value is none of the store's, and before anything is taken; `NoMemory`. The log
+    /// is then as it was.
     pub fn ask<R: Wait>(
         &mut self,
         rt: &R,
         alloc: Global,
         query: &Arc<Query>,
     ) -> Result<&Answer, BookFault>
-        ensures cause { IfErr result
-            (λ fault. ShowsCause N.limit N.width (changes_told self.entry.now.log) (ask (arc_value query.now)) fault) }
-        ensures width { MatchResult result (λ _. (arc_value query.now).value < N.width)
-            (λ fault. N.width ≤ (arc_value query.now).value → fault ≡ BookFault.Width N.width) }
-        ensures light { IfErr result (λ fault. (value held : ℕ) → fault ≢ BookFault.Heavy value held) }
+        ensures width { MatchResult result (λ _. (arc_value query.now).value < N.width) (λ fault.
+            ((N.width ≤ (arc_value query.now).value) × (fault ≡ BookFault.Width N.width))
+            ⊎ (((arc_value query.now).value < N.width) × (fault ≡ BookFault.NoMemory))) }
         ensures* ends { sem 𝓛
             (follows_so (the_row (record { mir = named 1; lft = [] }) N.row N.StoreName)
             (the_row (record { mir = named 1; lft = [] }) N.row N.StoreName)
@@ -189,19 +208,16 @@ impl<'a, N: StoreName> Session<'a, N> {
             ≡ self.old.log ++ (record { op = ask (arc_value query.now); reply = answered answer; at = at }) ∷ [])) }
         ensures unchanged { OnErr result (self.new ≡ self.old) }
         ensures number { self.new.number ≡ self.old.number }
-        ensures cause { IfErr result
-            (λ fault. ShowsCause N.limit N.width (changes_told self.old.log) (ask (arc_value query.now)) fault) }
-        ensures width { MatchResult result (λ _. (arc_value query.now).value < N.width)
-            (λ fault. N.width ≤ (arc_value query.now).value → fault ≡ BookFault.Width N.width) }
-        ensures light { IfErr result (λ fault. (value held : ℕ) → fault ≢ BookFault.Heavy value held) }
+        ensures width { MatchResult result (λ _. (arc_value query.now).value < N.width) (λ fault.
+            ((N.width ≤ (arc_value query.now).value) × (fault ≡ BookFault.Width N.width))
+            ⊎ (((arc_value query.now).value < N.width) × (fault ≡ BookFault.NoMemory))) }
     {
         let held = self.store.width().get();
         if query.value >= held {
             return Err(BookFault::Width { held });
         }
-        let shared = Arc::try_clone(query)?;
         self.log.reserve(1)?;
-        let receipt = self.store.desk().lock(rt).ask(alloc, shared)?;
+        let receipt = self.store.desk().lock(rt).ask(alloc, query)?;
         self.log.push_reserved(receipt);
         Ok(())
     }

@@ -1,8 +1,8 @@
 //! Audits: journals and logs that match, and logs with one change each.
 
-use crate::helpers::{batch_of, query_of, value_query};
+use crate::helpers::{batch_of, query_of, steps_text, value_query};
 use flame_report::{Answer, Items, Kind, Query};
-use op_book::{Book, Journal, Op, Receipt, Reply, Run, SessionLog, audit};
+use op_book::{Book, Journal, Op, Receipt, Reply, SessionLog, audit};
 use stack_text::Width;
 use std::alloc::Global;
 use std::sync::Arc;
@@ -74,16 +74,6 @@ fn logs_of(alloc: Global, logs: &[Log]) -> Result<Vec<SessionLog>, Fail> {
         made.push(log_of(alloc, *log)?).ok().ok_or("no memory")?;
     }
     Ok(made)
-}
-
-// The session and the index of each step.
-fn steps_text(alloc: Global, run: &Run) -> Result<String, Fail> {
-    let mut text = String::new(alloc);
-    for step in run.steps() {
-        let place = format!(in alloc; "{}.{} ", step.session, step.index)?;
-        text.push_str(place.as_str())?;
-    }
-    Ok(text)
 }
 
 // The steps of the run, or the fault as it is printed.

@@ -1,6 +1,7 @@
 //! What the tests are made of: batches of folded text, queries, and answers as text.
 
 use flame_report::{Answer, Columns, Kind, Query, Rank, flame_json, top_text};
+use op_book::Run;
 use stack_text::{Batch, Name, Stack, Weights, Width, read_folded};
 use std::alloc::Global;
 use std::sync::Arc;
@@ -110,4 +111,14 @@ pub(crate) fn answer_text(alloc: Global, answer: &Answer) -> Result<String, Fail
             Ok(String::from_str(alloc, text)?)
         }
     }
+}
+
+/// The session and the index of each step.
+pub(crate) fn steps_text(alloc: Global, run: &Run) -> Result<String, Fail> {
+    let mut text = String::new(alloc);
+    for step in run.steps() {
+        let place = format!(in alloc; "{}.{} ", step.session, step.index)?;
+        text.push_str(place.as_str())?;
+    }
+    Ok(text)
 }

@@ -2,6 +2,8 @@
 #![tactic(auto)]
 
 #[cfg(test)]
+mod audited_stores;
+#[cfg(test)]
 mod audits;
 #[cfg(test)]
 mod books;

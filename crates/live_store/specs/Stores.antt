@@ -2,7 +2,7 @@
 use Rattle.std.specs.Prelude.{ℕ, ◌≡◌, ◌≢◌, ◌<◌, ◌≤◌, ◌+◌, ◌^◌, ◌⊎◌, List, map}
 use Rattle.profile_rows.specs.Rows.{total_of}
 use Rattle.profile_rows.specs.Values.{rows_at}
-use Rattle.op_book.specs.Operations.{MissesWidth, PlainOp, PlainReceipt, changes_in, placed, rows_added}
+use Rattle.op_book.specs.Operations.{MissesWidth, PlainOp, PlainReceipt, changes_in, rows_added}
 use Rattle.op_book.specs.declared.fault.BookFault.{BookFault}
 use Rattle.op_book.specs.declared.fault.BookFault.TheVariants as book
 use Rattle.live_store.specs.declared.fault.MakeFault.{MakeFault}
@@ -27,10 +27,6 @@ pub record SessionState : Type 0 where
 -- how many changes a session made, by what it was told
 abbrev pub changes_told : List PlainReceipt → ℕ
 changes_told log = changes_in (map (λ (receipt : PlainReceipt). receipt.op) log)
-
--- what is told of a change that is made after so many others
-abbrev pub change_told : PlainOp → ℕ → PlainReceipt
-change_told op place = record { op = op; reply = placed place; at = place }
 
 -- what a refusal tells of its cause, in a store of this limit and width, to a session that took a turn for an operation
 abbrev pub ShowsCause : ℕ → ℕ → ℕ → PlainOp → BookFault → Type 0

@@ -3,9 +3,9 @@
 ghost use Rattle.std.specs.Prelude.{◌≡◌, ◌≢◌, ◌+◌, ◌<◌, ◌≤◌, ℕ, IfErr, IfOk, List, MatchOption, OnErr, OnOk, length};
 ghost use Rattle.std.specs.Arc.{arc_value};
 ghost use Rattle.flame_report.specs.declared.answer.Answer.{Answer};
-ghost use Rattle.op_book.specs.Books.{IsAppended, IsFirstBookFault, IsReplay, IsSameBook, receipt_after};
+ghost use Rattle.op_book.specs.Books.{IsAppended, IsFirstBookFault, IsReplay, IsSameBook, change_told, receipt_after};
 ghost use Rattle.op_book.specs.Operations.{PlainEntry, add, answered, ask, reset};
-ghost use Rattle.live_store.specs.Stores.{ShowsCause, change_told};
+ghost use Rattle.live_store.specs.Stores.{ShowsCause};
 
 use crate::store::StoreName;
 use call_tree::CallTree;

@@ -2,9 +2,10 @@
 
 ghost use Rattle.std.specs.Prelude.{◌≡◌, ◌≢◌, ◌<◌, ◌≤◌, ◌⊎◌, ◌++◌, ◌∷◌, [], ℕ, List, length, true, IfErr, IfOk, MatchResult, OnErr, OnOk};
 ghost use Rattle.std.specs.Arc.{arc_value};
+ghost use Rattle.op_book.specs.Books.{change_told};
 ghost use Rattle.op_book.specs.Operations.{PlainOp, PlainReceipt, add, answered, ask, is_change, placed, reset};
 ghost use Rattle.flame_report.specs.declared.answer.Answer.{Answer};
-ghost use Rattle.live_store.specs.Stores.{ShowsCause, change_told, changes_told};
+ghost use Rattle.live_store.specs.Stores.{ShowsCause, changes_told};
 
 use crate::store::{Store, StoreName};
 use flame_report::{Answer, Items, Query};
@@ -170,8 +171,8 @@ impl<'a, N: StoreName> Session<'a, N> {
     ///
     /// # Errors
     ///
-    /// `Width` exactly where the query's value is none of the store's, and before anything is taken; `NoMemory`. The log
-    /// is then as it was.
+    /// `Width` exactly where the query's value is none of the store's, and before anything is taken; `NoMemory`. The
+    /// log is then as it was.
     pub fn ask<R: Wait>(
         &mut self,
         rt: &R,

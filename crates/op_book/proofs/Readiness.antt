@@ -31,5 +31,6 @@ IsReady-made book tree capacity session turn place op told wanted next orderly t
       memory = memory;
       entry_is = λ i. record { session = session; turn = turn; op = wanted; reply = sym answer i };
       receipt_is = λ i. record { op = wanted; reply = sym answer i; at = length book.entries };
+      told_is = refl;
       tree = record { width = after.width; aggregate = after.aggregate };
     })

@@ -4,7 +4,7 @@ use Rattle.profile_rows.specs.Aggregate.{aggregates_of}
 use Rattle.profile_rows.specs.Rows.{total_of}
 use Rattle.profile_rows.specs.Values.{rows_at}
 use Rattle.call_tree.specs.State.{TreeState, weights_of}
-use Rattle.op_book.specs.Operations.{FitsWidth, MissesWidth, PlainOp, PlainEntry, PlainReceipt, is_change, operations_of, plain_answer, profile_after, rows_added}
+use Rattle.op_book.specs.Operations.{FitsWidth, MissesWidth, PlainOp, PlainEntry, PlainReceipt, is_change, operations_of, placed, plain_answer, profile_after, rows_added}
 use Rattle.op_book.specs.Runs.{AreChanges, AreOfSessions, AreOfWidth, AreTurnsInOrder, IsLegalRun, KeepLimit, turns_of}
 use Rattle.op_book.specs.declared.fault.BookFault.{BookFault}
 use Rattle.op_book.specs.declared.fault.BookFault.TheVariants.{Session, Turn, Full, Width, Heavy, NoMemory}
@@ -55,6 +55,10 @@ entry_after entries session turn op =
 -- what a session is told of an operation after the entries of a book
 abbrev pub receipt_after : List PlainEntry → PlainOp → PlainReceipt
 receipt_after entries op = record { op = op; reply = plain_answer (operations_of entries) op; at = length entries }
+
+-- what is told of a change that is made after so many others
+abbrev pub change_told : PlainOp → ℕ → PlainReceipt
+change_told op place = record { op = op; reply = placed place; at = place }
 
 -- the book after one operation: exactly one entry more
 pub record IsAppended (before : BookState) (session turn : ℕ) (op : PlainOp) (after : BookState) : Type 0 where
@@ -109,6 +113,7 @@ pub record IsHeavyFor (book : BookState) (op : PlainOp) (value held : ℕ) : Typ
   pub width : FitsWidth book.width op
   pub within : value < book.width
   pub held_is : held ≡ weight_held book value
+  pub light : held < 2 ^ 63
   pub heavy : 2 ^ 63 ≤ held + total_of (rows_at value (rows_added op))
   pub lower : (below : ℕ) → below < value → HasRoomFor book op below
 
@@ -150,12 +155,13 @@ pub record IsTreeAfter (book : BookState) (op : PlainOp) (next : TreeState) : Ty
   pub aggregate : (value : ℕ)
       → weights_of next value ≡ aggregates_of (profile_after (operations_of book.entries ++ op ∷ [])) value
 
--- what is kept for a change: it may be taken, there is memory for its entry, and its entry, its receipt and its tree are
--- those that it will have
+-- what is kept for a change: it may be taken, there is memory for its entry, and its entry, its receipt and its tree
+-- are those that it will have
 pub record IsReady (ready : ReadyState) (entry : PlainEntry) (receipt : PlainReceipt) : Type 0 where
   pub taken : IsTaken ready.before ready.session ready.turn ready.op
   pub change : is_change ready.op ≡ true
   pub memory : length ready.before.entries < ready.before.capacity
   pub entry_is : entry ≡ entry_after ready.before.entries ready.session ready.turn ready.op
   pub receipt_is : receipt ≡ receipt_after ready.before.entries ready.op
+  pub told_is : receipt ≡ change_told ready.op (length ready.before.entries)
   pub tree : IsTreeAfter ready.before ready.op ready.next

@@ -3,8 +3,8 @@ use Rattle.std.specs.Prelude.{ℕ, ◌≡◌, ◌<◌, ◌≤◌, ◌^◌, List,
 use Rattle.op_book.specs.Operations.{PlainEntry}
 use Rattle.op_book.specs.Runs.{AreChanges, AreOfSessions, AreOfWidth, AreTurnsInOrder, IsLegalRun, KeepLimit, turns_of}
 
--- the entries, how many there may be and of how many sessions, how many values a row has, and for how many entries there
--- is memory
+-- the entries, how many there may be and of how many sessions, how many values a row has, and for how many entries
+-- there is memory
 pub record LedgerState : Type 0 where
   pub entries : List PlainEntry
   pub limit : ℕ

@@ -3,7 +3,7 @@
 ghost use Rattle.std.specs.Prelude.{◌≡◌, ◌≢◌, ◌+◌, ◌<◌, ◌≤◌, ◌^◌, ℕ, [], length, true, IfErr, IfOk, OnErr, OnOk};
 ghost use Rattle.std.specs.Arc.{arc_value};
 ghost use Rattle.call_tree.specs.State.{total_in, weights_of};
-ghost use Rattle.op_book.specs.Books.{HasSpaceFor, IsAppended, IsFirstBookFault, IsOrderly, IsReplay, IsSameBook, IsSpaceFault, IsTaken, IsTreeAfter, receipt_after, weight_held};
+ghost use Rattle.op_book.specs.Books.{HasSpaceFor, IsAppended, IsFirstBookFault, IsOrderly, IsReplay, IsSameBook, IsSpaceFault, IsTaken, IsTreeAfter, change_told, receipt_after, weight_held};
 ghost use Rattle.op_book.specs.Changes.{change_op};
 ghost use Rattle.op_book.specs.Operations.{add, plain_op, reset};
 ghost use Rattle.profile_rows.specs.Rows.{total_of};
@@ -166,6 +166,8 @@ impl Book {
     ) -> Result<Receipt, Refused<Arc<Batch>>>
         ensures appended { OnOk result (IsAppended self.old session turn (add (arc_value batch)) self.new) }
         ensures receipt { IfOk result (λ receipt. receipt ≡ receipt_after self.old.entries (add (arc_value batch))) }
+        ensures told { IfOk result
+            (λ receipt. receipt ≡ change_told (add (arc_value batch)) (length self.old.entries)) }
         ensures taken { OnOk result (IsTaken self.old session turn (add (arc_value batch))) }
         ensures unchanged { OnErr result (IsSameBook self.old self.new) }
         ensures back { IfErr result (λ refused. refused.back ≡ batch) }
@@ -190,6 +192,7 @@ impl Book {
     pub fn reset(&mut self, alloc: Global, session: u32, turn: u64) -> Result<Receipt, BookFault>
         ensures appended { OnOk result (IsAppended self.old session turn reset self.new) }
         ensures receipt { IfOk result (λ receipt. receipt ≡ receipt_after self.old.entries reset) }
+        ensures told { IfOk result (λ receipt. receipt ≡ change_told reset (length self.old.entries)) }
         ensures taken { OnOk result (IsTaken self.old session turn reset) }
         ensures unchanged { OnErr result (IsSameBook self.old self.new) }
         ensures first_fault { IfErr result (λ fault. IsFirstBookFault self.old session turn reset fault) }
@@ -266,6 +269,7 @@ impl Book {
         requires { ready.before ≡ self.old }
         ensures appended { IsAppended self.old ready.session ready.turn ready.op self.new }
         ensures receipt { result ≡ receipt_after self.old.entries ready.op }
+        ensures told { result ≡ change_told ready.op (length self.old.entries) }
         ensures taken { IsTaken self.old ready.session ready.turn ready.op }
         ensures tree { self.new.tree ≡ ready.next }
         ensures replay { IsReplay self.new.entries self.new.tree }

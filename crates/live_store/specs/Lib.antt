@@ -1,1 +1,2 @@
 pub mod Stores
+pub mod Workers

@@ -1,5 +1,6 @@
-//! Why a store isn't made, or gives no session.
+//! Why a store isn't made, gives no session, or no worker starts.
 
+use std::alloc::AllocError;
 use thiserror::Error;
 
 /// Why no store is made.
@@ -22,4 +23,21 @@ pub enum SessionFault {
     /// Memory ran out.
     #[error("N3 NoMemory")]
     NoMemory,
+}
+
+/// Why no worker is started.
+#[derive(Clone, Copy, Debug, PartialEq, Eq, Error)]
+pub enum WorkersFault {
+    /// The store gave no session for the list of this number.
+    #[error("G1 Session worker {worker} fault {fault}")]
+    Session { worker: usize, fault: SessionFault },
+    /// Memory ran out.
+    #[error("G2 NoMemory")]
+    NoMemory,
+}
+
+impl From<AllocError> for WorkersFault {
+    fn from(_error: AllocError) -> WorkersFault {
+        WorkersFault::NoMemory
+    }
 }

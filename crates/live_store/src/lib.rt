@@ -7,9 +7,11 @@ mod desk;
 mod fault;
 mod session;
 mod store;
+mod workers;
 
 pub use blank::{Blank, MAX_SESSIONS};
-pub use fault::{MakeFault, SessionFault};
+pub use fault::{MakeFault, SessionFault, WorkersFault};
 pub use op_book::{BookFault, Refused};
 pub use session::{Placed, Session};
 pub use store::{Store, StoreName};
+pub use workers::{Cause, Gate, Stop, Worked, run_workers};

@@ -3,13 +3,14 @@
 ghost use Rattle.std.specs.Prelude.{◌≡◌, ◌≢◌, ◌<◌, ◌≤◌, ◌⊎◌, ◌++◌, ◌∷◌, [], ℕ, List, length, true, IfErr, IfOk, MatchResult, OnErr, OnOk};
 ghost use Rattle.std.specs.Arc.{arc_value};
 ghost use Rattle.op_book.specs.Books.{change_told};
-ghost use Rattle.op_book.specs.Operations.{PlainOp, PlainReceipt, add, answered, ask, is_change, placed, reset};
+ghost use Rattle.op_book.specs.Operations.{PlainOp, PlainReceipt, add, answered, ask, is_change, placed, plain_op, reset};
 ghost use Rattle.flame_report.specs.declared.answer.Answer.{Answer};
 ghost use Rattle.live_store.specs.Stores.{ShowsCause, changes_told};
+ghost use Rattle.live_store.specs.Workers.{ops_told};
 
 use crate::store::{Store, StoreName};
 use flame_report::{Answer, Items, Query};
-use op_book::{BookFault, Receipt, Refused, Reply, SessionLog};
+use op_book::{BookFault, Op, Receipt, Refused, Reply, SessionLog};
 use profile_rows::Batch;
 use std::alloc::Global;
 use std::marker::Model;
@@ -194,6 +195,32 @@ impl<'a, N: StoreName> Session<'a, N> {
     {
         self.report(rt, alloc, query)?;
         Ok(self.last_answer())
+    }
+
+    /// Takes an operation, and keeps its receipt.
+    pub(crate) fn take<R: Wait>(
+        &mut self,
+        rt: &R,
+        alloc: Global,
+        op: Op,
+    ) -> Result<(), BookFault>
+        ensures taken { OnOk result
+            (ops_told self.new.log ≡ ops_told self.old.log ++ plain_op op ∷ []) }
+        ensures unchanged { OnErr result (self.new ≡ self.old) }
+        ensures cause { IfErr result
+            (ShowsCause N.limit N.width (changes_told self.old.log) (plain_op op)) }
+    {
+        match op {
+            Op::Add(batch) => match self.add(rt, alloc, batch) {
+                Ok(_) => Ok(()),
+                Err(refused) => Err(refused.fault),
+            },
+            Op::Reset => match self.reset(rt, alloc) {
+                Ok(_) => Ok(()),
+                Err(fault) => Err(fault),
+            },
+            Op::Ask(query) => self.report(rt, alloc, &query),
+        }
     }
 
     /// Answers a query, and keeps the receipt.

@@ -1,0 +1,273 @@
+//! Workers: threads of which each takes the operations of a list to a session of its own.
+
+ghost use Rattle.std.specs.Prelude.{◌≡◌, ◌≤◌, [], length, map, vec_capacity, IfOk, MatchOption};
+ghost use Rattle.std.specs.Option.{ForSome};
+ghost use Rattle.op_book.specs.Operations.{plain_op};
+ghost use Rattle.live_store.specs.Workers.{AreWorkOf, IsStoppedBy, IsWorkOf, ops_told};
+
+use crate::fault::WorkersFault;
+use crate::session::Session;
+use crate::store::{Store, StoreName};
+use flame_report::Items;
+use op_book::{BookFault, Op, SessionLog};
+use std::alloc::Global;
+use std::marker::PhantomData;
+use std::snapshot::Snapshot;
+use std::sync::Wait;
+use std::thread;
+use std::thread::{Promise, PromisedHandle, Threads};
+
+/// What is called around each step of each worker, a refused one included. Workers and steps are numbered from 0.
+pub trait Gate: Sync {
+    /// The worker is about to take the operation of this step.
+    fn before<R: Wait>(&self, rt: &R, worker: usize, step: usize);
+
+    /// The worker was answered or refused.
+    fn after<R: Wait>(&self, rt: &R, worker: usize, step: usize);
+}
+
+/// Why a worker stopped.
+#[derive(Clone, Copy, Debug, PartialEq, Eq)]
+pub enum Cause {
+    /// Its session was refused the operation.
+    Book(BookFault),
+    /// Its thread couldn't be started.
+    Start,
+}
+
+/// Where a worker stopped, and why.
+#[derive(Clone, Copy, Debug, PartialEq, Eq)]
+pub struct Stop {
+    /// The number of the operation that it wasn't answered, from 0.
+    pub step: usize,
+    pub cause: Cause,
+}
+
+/// What a worker did.
+#[derive(Drop)]
+pub struct Worked {
+    /// What its session was told.
+    pub log: SessionLog,
+    /// Where it stopped; nothing where all its operations were answered.
+    pub stopped: Option<Stop>,
+}
+
+/// A session that was told nothing yet, and what it is to do.
+#[derive(Drop)]
+struct Worker<'a, N: StoreName> {
+    session: Session<'a, N>,
+    /// The number of its list.
+    place: usize,
+    list: Vec<Op>,
+    ghost fresh: { session.log ≡ [] },
+}
+
+/// A worker works on this list.
+#[derive(Drop)]
+struct WorkOn<N: StoreName> {
+    list: Snapshot<Vec<Op>>,
+    of: PhantomData<N>,
+}
+
+impl<N: StoreName> Promise<Worked> for WorkOn<N> {
+    ghost use Rattle.std.specs.Prelude.{map};
+    ghost use Rattle.op_book.specs.Operations.{plain_op};
+    ghost use Rattle.live_store.specs.Workers.{IsWorkOf};
+
+    ghost kept_by = { λ promise worked. IsWorkOf N.limit N.width (map plain_op promise.list.value.items) worked };
+}
+
+/// A worker whose thread was started, or couldn't be.
+#[derive(Drop)]
+struct Begun<N: StoreName> {
+    session: u32,
+    list: Snapshot<Vec<Op>>,
+    thread: Option<PromisedHandle<Worked, WorkOn<N>>>,
+    ghost same: { ForSome thread (λ handle. handle.promise.list.value ≡ list.value) },
+}
+
+/// Gives each list of operations to a session of its own, in a thread of its own, and returns what each did, in the
+/// order of the lists. A worker stops at its first refusal.
+///
+/// # Errors
+///
+/// `Session` with the number of the first list for which the store gave no session; `NoMemory`. No worker has started
+/// then, and sessions that were already opened have used up their numbers.
+pub fn run_workers<'a, N: StoreName, G: Gate, R: Threads + Wait + Sync>(
+    rt: &R,
+    alloc: Global,
+    store: &'a Store<N>,
+    lists: Vec<Vec<Op>>,
+    gate: &G,
+) -> Result<Vec<Worked>, WorkersFault>
+    ensures { IfOk result
+        (λ all. AreWorkOf N.limit N.width (map (λ list. map plain_op list.items) lists.items) all.items) }
+{
+    let workers = open(rt, alloc, store, lists)?;
+    let begun = Vec::with_capacity(alloc, workers.len())?;
+    let worked = Vec::with_capacity(alloc, workers.len())?;
+    Ok(work_all(rt, alloc, workers, gate, begun, worked))
+}
+
+/// A session for each list.
+fn open<'a, N: StoreName, R: Wait>(
+    rt: &R,
+    alloc: Global,
+    store: &'a Store<N>,
+    lists: Vec<Vec<Op>>,
+) -> Result<Vec<Worker<'a, N>>, WorkersFault>
+    ensures { IfOk result (λ workers. map (λ worker. map plain_op worker.list.items) workers.items
+        ≡ map (λ list. map plain_op list.items) lists.items) }
+{
+    let mut workers = Vec::with_capacity(alloc, lists.len())?;
+    for list in lists {
+        let place = workers.len();
+        match store.session(rt, alloc) {
+            Ok(session) => workers.push_reserved(Worker {
+                session,
+                place,
+                list,
+            }),
+            Err(fault) => {
+                return Err(WorkersFault::Session {
+                    worker: place,
+                    fault,
+                });
+            }
+        }
+    }
+    Ok(workers)
+}
+
+/// Starts a thread for each worker, and joins all. Both lists have memory for all workers.
+fn work_all<'a, N: StoreName, G: Gate, R: Threads + Wait + Sync>(
+    rt: &R,
+    alloc: Global,
+    workers: Vec<Worker<'a, N>>,
+    gate: &G,
+    begun: Vec<Begun<N>>,
+    worked: Vec<Worked>,
+) -> Vec<Worked>
+    requires begun { (begun.items ≡ []) × (length workers.items ≤ vec_capacity begun) }
+    requires worked { (worked.items ≡ []) × (length workers.items ≤ vec_capacity worked) }
+    ensures { AreWorkOf N.limit N.width (map (λ worker. map plain_op worker.list.items) workers.entry.items) result.items }
+{
+    thread::scope(
+        thread::scope_env(),
+        rt,
+        move |scope| -> Vec<Worked>
+            requires { (begun.items ≡ []) × (length workers.items ≤ vec_capacity begun) × (worked.items ≡ [])
+                × (length workers.items ≤ vec_capacity worked) }
+            ensures { AreWorkOf N.limit N.width
+                (map (λ worker. map plain_op worker.list.items) workers.entry.items) result.items }
+        {
+            let mut begun = begun;
+            for worker in workers {
+                let session = worker.session.number();
+                let list = Snapshot::of(&worker.list);
+                let promise = WorkOn {
+                    list: Snapshot::of(&worker.list),
+                    of: PhantomData,
+                };
+                let started = scope.spawn_with(promise, move || work(rt, alloc, worker, gate));
+                begun.push_reserved(Begun {
+                    session,
+                    list,
+                    thread: started.ok(),
+                });
+            }
+            join_all(rt, alloc, begun, worked)
+        },
+    )
+}
+
+/// What each worker did, once its thread has ended.
+fn join_all<N: StoreName, R: Threads + Wait>(
+    rt: &R,
+    alloc: Global,
+    begun: Vec<Begun<N>>,
+    worked: Vec<Worked>,
+) -> Vec<Worked>
+    requires { (worked.items ≡ []) × (length begun.items ≤ vec_capacity worked) }
+    ensures { AreWorkOf N.limit N.width (map (λ one. map plain_op one.list.value.items) begun.items) result.items }
+{
+    let mut worked = worked;
+    for one in begun {
+        worked.push_reserved(join_one(rt, alloc, one));
+    }
+    worked
+}
+
+/// What a worker did, once its thread has ended.
+fn join_one<N: StoreName, R: Threads + Wait>(rt: &R, alloc: Global, begun: Begun<N>) -> Worked
+    ensures { IsWorkOf N.limit N.width (map plain_op begun.list.value.items) result }
+{
+    let Begun {
+        session,
+        list: _,
+        thread,
+    } = begun;
+    match thread {
+        Some(thread) => thread.join(rt),
+        None => Worked {
+            log: SessionLog {
+                session,
+                receipts: Items::new(Vec::new(alloc)),
+            },
+            stopped: Some(Stop {
+                step: 0,
+                cause: Cause::Start,
+            }),
+        },
+    }
+}
+
+/// Takes the operations of a worker's list in order, as long as they are answered.
+fn work<'a, N: StoreName, G: Gate, R: Wait>(
+    rt: &R,
+    alloc: Global,
+    worker: Worker<'a, N>,
+    gate: &G,
+) -> Worked
+    ensures { IsWorkOf N.limit N.width (map plain_op worker.entry.list.items) result }
+{
+    let Worker {
+        mut session,
+        place,
+        list,
+    } = worker;
+    let stopped = take_all(rt, alloc, &mut session, place, list, gate);
+    Worked {
+        log: session.close(),
+        stopped,
+    }
+}
+
+/// Takes operations in order, as long as they are answered.
+fn take_all<'a, N: StoreName, G: Gate, R: Wait>(
+    rt: &R,
+    alloc: Global,
+    session: &mut Session<'a, N>,
+    place: usize,
+    list: Vec<Op>,
+    gate: &G,
+) -> Option<Stop>
+    requires { session.old.log ≡ [] }
+    ensures { MatchOption result (ops_told session.new.log ≡ map plain_op list.items)
+        (λ stop. (stop.step ≡ length session.new.log)
+        × IsStoppedBy N.limit N.width (map plain_op list.items) session.new.log stop.cause) }
+{
+    for op in list {
+        let step = session.log().len();
+        gate.before(rt, place, step);
+        let taken = session.take(rt, alloc, op);
+        gate.after(rt, place, step);
+        if let Err(fault) = taken {
+            return Some(Stop {
+                step,
+                cause: Cause::Book(fault),
+            });
+        }
+    }
+    None
+}

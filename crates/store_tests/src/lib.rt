@@ -11,3 +11,5 @@ mod books;
 mod helpers;
 #[cfg(test)]
 mod stores;
+#[cfg(test)]
+mod workers;

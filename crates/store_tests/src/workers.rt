@@ -1,0 +1,208 @@
+//! What no clause says of workers: that each has a thread of its own, that none starts where a session is refused, what
+//! is called around their steps, and that their logs match the journal.
+
+ghost use Rattle.std.specs.Prelude.{◌≡◌};
+
+use crate::helpers::{batch_of, query_of, steps_text};
+use flame_report::Kind;
+use live_store::{Blank, Gate, Store, StoreName, Worked, run_workers};
+use op_book::{Journal, Op, SessionLog, audit};
+use stack_text::Width;
+use std::alloc::Global;
+use std::marker::Brand;
+use std::sync::Wait;
+use std::sync::atomic::{AtomicU64, Ordering};
+use std::test::Fail;
+use std::thread;
+use std::thread::Threads;
+
+/// Counts the calls.
+#[derive(Drop)]
+struct Counting {
+    before: AtomicU64,
+    after: AtomicU64,
+}
+
+impl Counting {
+    fn new() -> Counting {
+        Counting {
+            before: AtomicU64::new(0),
+            after: AtomicU64::new(0),
+        }
+    }
+
+    fn calls(&self) -> (u64, u64) {
+        let before = self.before.load(Ordering::SeqCst);
+        (before, self.after.load(Ordering::SeqCst))
+    }
+}
+
+impl Gate for Counting {
+    fn before<R: Wait>(&self, _rt: &R, _worker: usize, _step: usize) {
+        let _ = self.before.fetch_add(1, Ordering::SeqCst);
+    }
+
+    fn after<R: Wait>(&self, _rt: &R, _worker: usize, _step: usize) {
+        let _ = self.after.fetch_add(1, Ordering::SeqCst);
+    }
+}
+
+/// Holds two workers in their first step until both are there, and counts those that waited in vain.
+#[derive(Drop)]
+struct Meeting {
+    there: AtomicU64,
+    alone: AtomicU64,
+}
+
+// Whether two come, within some turns.
+fn two_come(there: &AtomicU64) -> bool {
+    for _ in 0..100_000_000 {
+        if there.load(Ordering::SeqCst) == 2 {
+            return true;
+        }
+        thread::yield_now();
+    }
+    false
+}
+
+impl Gate for Meeting {
+    fn before<R: Wait>(&self, _rt: &R, _worker: usize, step: usize) {
+        if step == 0 {
+            let _ = self.there.fetch_add(1, Ordering::SeqCst);
+            if !two_come(&self.there) {
+                let _ = self.alone.fetch_add(1, Ordering::SeqCst);
+            }
+        }
+    }
+
+    fn after<R: Wait>(&self, _rt: &R, _worker: usize, _step: usize) {}
+}
+
+fn adds(alloc: Global, text: &str) -> Result<Op, Fail> {
+    Ok(Op::Add(batch_of(alloc, text)?))
+}
+
+fn asks(alloc: Global) -> Result<Op, Fail> {
+    Ok(Op::Ask(query_of(alloc, Kind::Total)?))
+}
+
+// How many receipts each worker has and where it stopped, and the run of all or why the logs don't match the journal.
+fn told(alloc: Global, journal: &Journal, all: Vec<Worked>) -> Result<String, Fail> {
+    let mut text = String::new(alloc);
+    let mut logs: Vec<SessionLog> = Vec::new(alloc);
+    for one in all {
+        let Worked { log, stopped } = one;
+        write!(text, "{} {stopped:?}; ", log.receipts.as_slice().len())?;
+        logs.push(log).ok().ok_or("no memory")?;
+    }
+    match audit(alloc, journal, &logs) {
+        Ok(run) => Ok(format!(in alloc; "{text}{}", steps_text(alloc, &run)?)?),
+        Err(fault) => Ok(format!(in alloc; "{text}{fault}")?),
+    }
+}
+
+// What workers of a store did, or why none started.
+fn worked<N: StoreName, G: Gate, R: Threads + Wait + Sync>(
+    rt: &R,
+    alloc: Global,
+    blank: Blank,
+    lists: Vec<Vec<Op>>,
+    gate: &G,
+) -> Result<String, Fail>
+    requires { blank ≡ record { limit = N.limit; sessions = N.sessions; width = N.width } }
+{
+    let store = Store::<N>::start(blank);
+    let all = run_workers(rt, alloc, &store, lists, gate);
+    let journal = store.close(rt);
+    match all {
+        Ok(all) => told(alloc, &journal, all),
+        Err(fault) => Ok(format!(in alloc; "{fault}")?),
+    }
+}
+
+#[test]
+fn each_list_has_a_thread(rt: HostRuntime) -> Result<(), Fail> {
+    let alloc = rt.alloc();
+    let first = vec![in alloc; asks(alloc)?]?;
+    let second = vec![in alloc; asks(alloc)?]?;
+    let lists = vec![in alloc; first, second]?;
+    let gate = Meeting {
+        there: AtomicU64::new(0),
+        alone: AtomicU64::new(0),
+    };
+    let blank = Blank::make(alloc, 10, 2, Width::one())?;
+    let said = worked::<Brand, Meeting, HostRuntime>(&rt, alloc, blank, lists, &gate)?;
+    assert_eq!(rt; said.as_str(), "1 None; 1 None; 0.0 1.0 ");
+    assert_eq!(rt; gate.there.load(Ordering::SeqCst), 2);
+    assert_eq!(rt; gate.alone.load(Ordering::SeqCst), 0);
+    Ok(())
+}
+
+// A list whose fourth operation is refused by a store that takes two changes.
+fn refused_list(alloc: Global) -> Result<Vec<Op>, Fail> {
+    Ok(vec![in alloc;
+        adds(alloc, "a 1\n")?,
+        asks(alloc)?,
+        Op::Reset,
+        adds(alloc, "b 1\n")?,
+        asks(alloc)?,
+    ]?)
+}
+
+#[test]
+fn a_worker_stops_where_it_is_refused(rt: HostRuntime) -> Result<(), Fail> {
+    let alloc = rt.alloc();
+    let list = refused_list(alloc)?;
+    let lists = vec![in alloc; Vec::new(alloc), list]?;
+    let gate = Counting::new();
+    let blank = Blank::make(alloc, 2, 2, Width::one())?;
+    let said = worked::<Brand, Counting, HostRuntime>(&rt, alloc, blank, lists, &gate)?;
+    assert_eq!(rt;
+        said.as_str(),
+        "0 None; 3 Some(Stop { step: 3, cause: Book(Full { held: 2 }) }); 1.0 1.1 1.2 "
+    );
+    assert_eq!(rt; gate.calls(), (4, 4));
+    Ok(())
+}
+
+#[test]
+fn no_worker_starts_where_a_session_is_refused(rt: HostRuntime) -> Result<(), Fail> {
+    let alloc = rt.alloc();
+    let first = vec![in alloc; asks(alloc)?]?;
+    let second = vec![in alloc; asks(alloc)?]?;
+    let lists = vec![in alloc; first, second]?;
+    let gate = Counting::new();
+    let blank = Blank::make(alloc, 10, 1, Width::one())?;
+    let said = worked::<Brand, Counting, HostRuntime>(&rt, alloc, blank, lists, &gate)?;
+    assert_eq!(rt; said.as_str(), "G1 Session worker 1 fault N1 AllGiven");
+    assert_eq!(rt; gate.calls(), (0, 0));
+    Ok(())
+}
+
+// So many rows, and then the total.
+fn list_of_rows(alloc: Global, rows: usize) -> Result<Vec<Op>, Fail> {
+    let mut list = Vec::new(alloc);
+    for _ in 0..rows {
+        list.push(adds(alloc, "main;a 1\n")?)
+            .ok()
+            .ok_or("no memory")?;
+    }
+    list.push(asks(alloc)?).ok().ok_or("no memory")?;
+    Ok(list)
+}
+
+#[test]
+fn workers_match_their_journal(rt: HostRuntime) -> Result<(), Fail> {
+    let alloc = rt.alloc();
+    let mut lists = Vec::new(alloc);
+    for _ in 0..8 {
+        let list = list_of_rows(alloc, 50)?;
+        lists.push(list).ok().ok_or("no memory")?;
+    }
+    let gate = Counting::new();
+    let blank = Blank::make(alloc, 400, 8, Width::one())?;
+    let said = worked::<Brand, Counting, HostRuntime>(&rt, alloc, blank, lists, &gate)?;
+    assert!(rt; said.as_str().starts_with("51 None; 51 None; 51 None; 51 None; 51 None; "));
+    assert_eq!(rt; said.as_str().matches(".").count(), 408);
+    Ok(())
+}

@@ -1,8 +1,9 @@
 -- Receipts in the order of a run follow the journal: the changes before each are the journal's first ones.
-use Rattle.std.proofs.Common.{ℕ, zero, suc, ◌≡◌, ◌<◌, ◌≤◌, ◌+◌, ◌^◌, inl, inr, Bool, true, false, Option, None, List, [], ◌∷◌, ◌++◌, length, get_or, take, map, All, refl, sym, ap, subst, ◌∙◌, arith}
+use Rattle.std.proofs.Common.{ℕ, zero, suc, ◌≡◌, ◌<◌, ◌≤◌, ◌+◌, ◌^◌, inl, inr, Bool, true, false, cond, filter, Option, None, List, [], ◌∷◌, ◌++◌, length, get_or, take, map, All, refl, sym, ap, subst, ◌∙◌, arith}
 use Rattle.std.specs.Prelude.{IsSomeAnd}
 use Rattle.std.specs.List.{flat_map}
 use Rattle.std.proofs.lemmas.Bool.{cases_lt}
+use Rattle.std.proofs.lemmas.List.Elements.{filter-append}
 use Rattle.std.proofs.lemmas.List.{append-nil, get_or-take, get_or_default, length-map, length-take-le, take-map, take_all, take_more}
 use Rattle.std.proofs.lemmas.Option.{slice_get_cases}
 use Rattle.std.proofs.lemmas.Simd.{map-map}
@@ -10,12 +11,12 @@ use Rattle.profile_rows.specs.Rows.{total_of}
 use Rattle.profile_rows.specs.Values.{BatchState, rows_at}
 use Rattle.flame_report.specs.Answers.{value_answer_of}
 use Rattle.op_book.specs.Books.{JournalState}
-use Rattle.op_book.specs.Matching.{HasEntry, IsKnown, IsOfJournal, IsRight, LoggedReceipt, PlainStep, step_of}
+use Rattle.op_book.specs.Matching.{HasEntry, IsKnown, IsOfJournal, IsReceived, IsRight, LoggedReceipt, PlainStep, step_of}
 use Rattle.op_book.specs.Operations.{FitsWidth, PlainEntry, PlainOp, PlainReceipt, add, reset, ask, addition_of, answered, batches_after, changes_in, is_change, operations_of, placed, plain_answer, profile_after}
 use Rattle.op_book.specs.Replays.{AreLight, AreNumbered, IsPlain, ops_in}
 use Rattle.op_book.specs.Runs.{AreChanges, AreOfWidth, IsLegal, IsLegalRun, KeepLimit}
 use Rattle.op_book.proofs.EntryLaws.{batches_after-push, batches_after-reset, changes_in-entries, operations_of-push}
-use Rattle.op_book.proofs.Numbering.{changes-push, one_if}
+use Rattle.op_book.proofs.Numbering.{IsCounted, IsCounted-empty, IsCounted-push, changes-push, one_if}
 use Rattle.op_book.proofs.Replaying.{ops_in-more, take-ops_in}
 
 -- ---- what a known receipt is of
@@ -91,31 +92,43 @@ more_changes : (all : List LoggedReceipt) (i : ℕ) (one : LoggedReceipt) → i 
 more_changes all i one lt is =
     ap (λ (l : List LoggedReceipt). changes_in (ops_in l)) (take_more all i one lt ∙ ap (λ (x : LoggedReceipt). take i all ++ x ∷ []) (sym is)) ∙ changes-push (take i all) one
 
-follows_more : (journal : JournalState) (all : List LoggedReceipt) (i : ℕ) (one : LoggedReceipt) (b : Bool) → is_change one.receipt.op ≡ b → i < length all → one ≡ get_or all i one
+-- the journal's first operations, with that of one change more
+operations-more : (journal : JournalState) (all : List LoggedReceipt) (i : ℕ) (one : LoggedReceipt) → is_change one.receipt.op ≡ true → i < length all → one ≡ get_or all i one
     → one.receipt.at ≡ changes_before all i → IsKnown journal one
-    → batches_after (ops_in (take i all)) ≡ batches_after (operations_of (take (changes_before all i) journal.entries))
-    → batches_after (ops_in (take (i + 1) all)) ≡ batches_after (operations_of (take (changes_before all (i + 1)) journal.entries))
-follows_more journal all i one true change lt is at known so_far =
+    → operations_of (take (changes_before all (i + 1)) journal.entries) ≡ operations_of (take (changes_before all i) journal.entries) ++ one.receipt.op ∷ []
+operations-more journal all i one change lt is at known =
     let entry = known_change journal one known change in
     let n = changes_before all i in
     let n_lt : n < length journal.entries = subst (λ k. k < length journal.entries) at entry.within in
     let next : changes_before all (i + 1) ≡ n + 1 = more_changes all i one lt is ∙ ap (λ b. n + one_if b) change in
     let item : get_or journal.entries n entry.entry ≡ entry.entry = ap (λ k. get_or journal.entries k entry.entry) (sym at) ∙ entry.item in
-    let ops : operations_of (take (n + 1) journal.entries) ≡ operations_of (take n journal.entries) ++ one.receipt.op ∷ [] =
-    ap operations_of (take_more journal.entries n entry.entry n_lt ∙ ap (λ (e : PlainEntry). take n journal.entries ++ e ∷ []) item)
-    ∙ operations_of-push (take n journal.entries) entry.entry ∙ ap (λ (o : PlainOp). operations_of (take n journal.entries) ++ o ∷ []) entry.op_is in
-    ap batches_after (ops_in-more all i one lt is)
-    ∙ step_batches (ops_in (take i all)) (operations_of (take n journal.entries)) one.receipt.op so_far
-    ∙ ap batches_after (sym ops)
-    ∙ ap (λ k. batches_after (operations_of (take k journal.entries))) (sym next)
-follows_more journal all i one false report lt is at known so_far =
+    ap (λ k. operations_of (take k journal.entries)) next
+    ∙ ap operations_of (take_more journal.entries n entry.entry n_lt ∙ ap (λ (e : PlainEntry). take n journal.entries ++ e ∷ []) item)
+    ∙ operations_of-push (take n journal.entries) entry.entry
+    ∙ ap (λ (o : PlainOp). operations_of (take n journal.entries) ++ o ∷ []) entry.op_is
+
+-- a report more leaves them
+operations-same : (journal : JournalState) (all : List LoggedReceipt) (i : ℕ) (one : LoggedReceipt) → is_change one.receipt.op ≡ false → i < length all → one ≡ get_or all i one
+    → operations_of (take (changes_before all (i + 1)) journal.entries) ≡ operations_of (take (changes_before all i) journal.entries)
+operations-same journal all i one report lt is =
     let n = changes_before all i in
     let plus : (k : ℕ) → k + 0 ≡ k = λ k. omega arith in
     let next : changes_before all (i + 1) ≡ n = more_changes all i one lt is ∙ ap (λ b. n + one_if b) report ∙ plus n in
+    ap (λ k. operations_of (take k journal.entries)) next
+
+follows_more : (journal : JournalState) (all : List LoggedReceipt) (i : ℕ) (one : LoggedReceipt) (b : Bool) → is_change one.receipt.op ≡ b → i < length all → one ≡ get_or all i one
+    → one.receipt.at ≡ changes_before all i → IsKnown journal one
+    → batches_after (ops_in (take i all)) ≡ batches_after (operations_of (take (changes_before all i) journal.entries))
+    → batches_after (ops_in (take (i + 1) all)) ≡ batches_after (operations_of (take (changes_before all (i + 1)) journal.entries))
+follows_more journal all i one true change lt is at known so_far =
+    ap batches_after (ops_in-more all i one lt is)
+    ∙ step_batches (ops_in (take i all)) (operations_of (take (changes_before all i) journal.entries)) one.receipt.op so_far
+    ∙ ap batches_after (sym (operations-more journal all i one change lt is at known))
+follows_more journal all i one false report lt is at known so_far =
     ap batches_after (ops_in-more all i one lt is)
     ∙ report_batches (ops_in (take i all)) one.receipt.op report
     ∙ so_far
-    ∙ ap (λ k. batches_after (operations_of (take k journal.entries))) (sym next)
+    ∙ ap batches_after (sym (operations-same journal all i one report lt is))
 
 -- what counts before a receipt is what counts after as many changes of the journal
 pub follows : (journal : JournalState) (all : List LoggedReceipt) → AreNumbered all → All (IsKnown journal) all → (i : ℕ) → i ≤ length all
@@ -129,6 +142,72 @@ follows journal all numbered known (suc i) le =
     let next = follows_more journal all i one (is_change one.receipt.op) refl lt is (numbered i nobody lt) (known i nobody lt) so_far in
     let same : suc i ≡ i + 1 = omega arith in
     subst (λ k. batches_after (ops_in (take k all)) ≡ batches_after (operations_of (take (changes_before all k) journal.entries))) (sym same) next
+
+-- ---- the changes of a run are the journal's entries
+
+more_of : (operations : List PlainOp) (op : PlainOp) (b : Bool) → is_change op ≡ b → filter is_change (operations ++ op ∷ []) ≡ filter is_change operations ++ cond b (op ∷ []) []
+more_of operations op b is = filter-append is_change operations (op ∷ []) ∙ ap (λ c. filter is_change operations ++ cond c (op ∷ []) []) is
+
+changes_more : (journal : JournalState) (all : List LoggedReceipt) (i : ℕ) (one : LoggedReceipt) (b : Bool) → is_change one.receipt.op ≡ b → i < length all → one ≡ get_or all i one
+    → one.receipt.at ≡ changes_before all i → IsKnown journal one
+    → filter is_change (ops_in (take i all)) ≡ operations_of (take (changes_before all i) journal.entries)
+    → filter is_change (ops_in (take (i + 1) all)) ≡ operations_of (take (changes_before all (i + 1)) journal.entries)
+changes_more journal all i one true change lt is at known so_far =
+    ap (filter is_change) (ops_in-more all i one lt is)
+    ∙ more_of (ops_in (take i all)) one.receipt.op true change
+    ∙ ap (λ (ops : List PlainOp). ops ++ one.receipt.op ∷ []) so_far
+    ∙ sym (operations-more journal all i one change lt is at known)
+changes_more journal all i one false report lt is at known so_far =
+    ap (filter is_change) (ops_in-more all i one lt is)
+    ∙ more_of (ops_in (take i all)) one.receipt.op false report
+    ∙ append-nil (filter is_change (ops_in (take i all)))
+    ∙ so_far
+    ∙ sym (operations-same journal all i one report lt is)
+
+changes_follow : (journal : JournalState) (all : List LoggedReceipt) → AreNumbered all → All (IsKnown journal) all → (i : ℕ) → i ≤ length all
+    → filter is_change (ops_in (take i all)) ≡ operations_of (take (changes_before all i) journal.entries)
+changes_follow journal all numbered known zero le = refl
+changes_follow journal all numbered known (suc i) le =
+    let lt : i < length all = omega (arith, le) in
+    let one = get_or all i nobody in
+    let is : one ≡ get_or all i one = get_or_default all i nobody one lt in
+    let so_far = changes_follow journal all numbered known i (omega (arith, le)) in
+    let next = changes_more journal all i one (is_change one.receipt.op) refl lt is (numbered i nobody lt) (known i nobody lt) so_far in
+    let same : suc i ≡ i + 1 = omega arith in
+    subst (λ k. filter is_change (ops_in (take k all)) ≡ operations_of (take (changes_before all k) journal.entries)) (sym same) next
+
+counted_so_far : (all : List LoggedReceipt) → AreNumbered all → (i : ℕ) → i ≤ length all → IsCounted (take i all) (changes_before all i)
+counted_so_far all numbered zero le = IsCounted-empty
+counted_so_far all numbered (suc i) le =
+    let lt : i < length all = omega (arith, le) in
+    let one = get_or all i nobody in
+    let is : one ≡ get_or all i one = get_or_default all i nobody one lt in
+    let next = IsCounted-push (take i all) (changes_before all i) one (counted_so_far all numbered i (omega (arith, le))) (numbered i nobody lt) in
+    let front : take (i + 1) all ≡ take i all ++ one ∷ [] = take_more all i one lt ∙ ap (λ (x : LoggedReceipt). take i all ++ x ∷ []) (sym is) in
+    let same : suc i ≡ i + 1 = omega arith in
+    subst (λ k. IsCounted (take k all) (changes_before all k)) (sym same)
+    (rw (front, changes-push (take i all) one) next)
+
+-- where each entry is received, there are as many changes
+enough_changes : (journal : JournalState) (all : List LoggedReceipt) → AreNumbered all → ((place : ℕ) → place < length journal.entries → IsReceived all place)
+    → length journal.entries ≤ changes_before all (length all)
+enough_changes journal all numbered received =
+    elim (cases_lt (changes_before all (length all)) (length journal.entries)) [
+      | inl fewer ↦
+          let (k, one, inside, there, (change, at)) = received (changes_before all (length all)) fewer in
+          let counted = subst (λ (seen : List LoggedReceipt). IsCounted seen (changes_before all (length all))) (take_all (length all) all (omega arith)) (counted_so_far all numbered (length all) (omega arith)) in
+          let low = subst (λ (r : LoggedReceipt). is_change r.receipt.op ≡ true → r.receipt.at < changes_before all (length all)) there (counted.below k one inside) change in
+          absurd (omega (arith, low, at))
+      | inr enough ↦ enough
+    ]
+
+-- the changes among all receipts, in the order of a run, are what the journal has
+pub run_changes : (journal : JournalState) (all : List LoggedReceipt) → AreNumbered all → All (IsKnown journal) all → ((place : ℕ) → place < length journal.entries → IsReceived all place)
+    → filter is_change (ops_in all) ≡ operations_of journal.entries
+run_changes journal all numbered known received =
+    ap (λ (l : List LoggedReceipt). filter is_change (ops_in l)) (sym (take_all (length all) all (omega arith)))
+    ∙ changes_follow journal all numbered known (length all) (omega arith)
+    ∙ ap operations_of (take_all (changes_before all (length all)) journal.entries (enough_changes journal all numbered received))
 
 answer_same : (operations others : List PlainOp) (op : PlainOp) → is_change op ≡ false → batches_after operations ≡ batches_after others → plain_answer operations op ≡ plain_answer others op
 answer_same operations others (add batch) report same = absurd (cc)

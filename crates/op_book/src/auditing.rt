@@ -1,8 +1,10 @@
 //! The audit: whether the logs of sessions match a journal.
 
-ghost use Rattle.std.specs.Prelude.{◌≡◌, ◌<◌, All, AllPairs, IfErr, IfOk, IsPermutation, MatchResult};
+ghost use Rattle.std.specs.Prelude.{◌≡◌, ◌<◌, All, AllPairs, IfErr, IfOk, IsPermutation, MatchResult, map};
 ghost use Rattle.op_book.specs.Matching.{HasOneLogEach, IsFirstAuditFault, IsInOrder, IsKnown, IsRunOf, LogsMatch, logged, steps_in};
+ghost use Rattle.op_book.specs.Operations.{is_change, operations_of};
 ghost use Rattle.op_book.specs.Runs.{IsLegal};
+ghost use Rattle.std.specs.List.{filter};
 
 use crate::entry::SessionLog;
 use crate::fault::AuditFault;
@@ -27,6 +29,8 @@ pub fn audit(alloc: Global, journal: &Journal, logs: &[SessionLog]) -> Result<Ru
     ensures accepted { LogsMatch journal.now logs.now
         → MatchResult result (λ _. Unit {0}) (λ fault. fault ≡ AuditFault.NoMemory) }
     ensures legal { IfOk result (λ run. IsLegal (λ step. step.op) (λ step. step.reply) run) }
+    ensures changes { IfOk result
+        (λ run. filter is_change (map (λ step. step.op) run) ≡ operations_of journal.now.entries) }
     ensures each_receipt_once { IfOk result (λ run. IsPermutation (steps_in logs.now) run) }
     ensures own_order { IfOk result
         (λ run. AllPairs (λ earlier later. earlier.session ≡ later.session → earlier.index < later.index) run) }
@@ -40,6 +44,8 @@ fn run_of(alloc: Global, journal: &Journal, logs: &[SessionLog]) -> Result<Run, 
         (λ run. LogsMatch journal.now logs.now × IsRunOf logs.now run)
         (λ fault. IsFirstAuditFault journal.now logs.now fault) }
     ensures legal { IfOk result (λ run. IsLegal (λ step. step.op) (λ step. step.reply) run) }
+    ensures changes { IfOk result
+        (λ run. filter is_change (map (λ step. step.op) run) ≡ operations_of journal.now.entries) }
 {
     let mut receipts = known_receipts(alloc, journal, logs)?;
     let entries = journal.entries();

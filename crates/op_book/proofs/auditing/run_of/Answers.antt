@@ -1,12 +1,14 @@
 -- What was found in the order of a run decides.
-use Rattle.std.proofs.Common.{ℕ, ◌<◌, Option, List, length, map, sym, ap, subst, ◌∙◌}
+use Rattle.std.proofs.Common.{ℕ, ◌<◌, Option, List, filter, length, map, sym, ap, subst, ◌∙◌}
 use Rattle.std.proofs.lemmas.List.Sorted.{All-permutation}
+use Rattle.std.proofs.lemmas.Simd.{map-map}
 use Rattle.op_book.specs.Matching.{IsFirstMissing, IsKnown, IsReceived, IsRight, LoggedReceipt, PlainStep, logged, step_of}
+use Rattle.op_book.specs.Operations.{is_change}
 use Rattle.op_book.specs.Replays.{AreLight, AreNumbered, AreRising, IsLowestOf, ops_in}
 use Rattle.op_book.specs.Runs.{IsLegal}
 use Rattle.op_book.specs.declared.replay.Wrong.{Wrong}
 use Rattle.op_book.proofs.Deciding.{known_widths, missing_from, of_logs, received_from, right_in_logs, within_journal, wrong_in_logs}
-use Rattle.op_book.proofs.Following.{light_from_journal, run_is_legal}
+use Rattle.op_book.proofs.Following.{light_from_journal, run_changes, run_is_legal}
 use Rattle.op_book.proofs.Ordered.{rising}
 use Rattle.op_book.proofs.auditing.run_of.Goals as goal
 
@@ -100,3 +102,13 @@ returns-clause-legal c =
     (run_is_legal c.args.journal.now ordered c.entries-entries.ensures.replay.legal c.entries-entries.ensures.changes numbered
     (All-permutation (IsKnown c.args.journal.now) (logged c.args.logs.now) ordered perm checked.1)
     (All-permutation (IsRight c.args.journal.now) (logged c.args.logs.now) ordered perm right))
+
+pub returns-clause-changes : goal.returns-clause-changes
+returns-clause-changes c =
+    let ordered = c.sort_for_run.new.all.items in
+    let perm = of_logs (logged c.args.logs.now) c.in_ok-receipts.receipts.items ordered c.in_ok-receipts.ensures.receipts c.sort_for_run.ensures.permutation in
+    let numbered : AreNumbered ordered = subst (λ (xs : List LoggedReceipt). AreNumbered xs) c.deref.ensures.value c.in_default.ensures.0 in
+    let received : (place : ℕ) → place < length c.args.journal.now.entries → IsReceived ordered place = rw (← c.deref.ensures.value, ← c.entries-entries.ensures.entries) c.in_default.ensures.1 in
+    let steps = ap (map (λ (step : PlainStep). step.op)) (c.in_ok-run.ensures ∙ ap (map step_of) c.deref-3.ensures.value) in
+    ap (filter is_change) (steps ∙ map-map (λ (step : PlainStep). step.op) step_of ordered)
+    ∙ run_changes c.args.journal.now ordered numbered (All-permutation (IsKnown c.args.journal.now) (logged c.args.logs.now) ordered perm c.in_ok-receipts.ensures.checked.1) received

@@ -27,80 +27,24 @@ import os
 import pathlib
 import random
 import re
-import shutil
-import subprocess
-import sys
-import tempfile
 
-TOP = pathlib.Path(__file__).resolve().parent.parent
+from proved_program import copy_program, link, output_of, run_outside
+from random_stacks import function_names, tree_stacks, write_folded
+
 NAME = "additions"
 LIBRARIES = ["profile_rows", "folded_text", "call_tree", "anyhow"]
 KINDS = {"alone": "lock", "shared": "paged --page 256"}
-DEPTH = 34
-WORDS = "alloc buffer cache decode encode fetch graph handle index join kernel layout merge parse query read".split()
-
-
-def call_graph(dice, names):
-    """For each function those that it calls, the likeliest first."""
-    return [[dice.randrange(names) for _ in range(dice.randint(1, 6))] for _ in range(names)]
-
-
-def walk(dice, roots, callees):
-    """A stack, root first, by the functions' numbers."""
-    stack = [dice.choice(roots)]
-    while len(stack) < DEPTH:
-        below = callees[stack[-1]]
-        stack.append(below[min(dice.randrange(len(below)), dice.randrange(len(below)))])
-    return stack
-
-
-def tree_stacks(dice, nodes, names):
-    """Stacks until their tree has so many nodes."""
-    callees = call_graph(dice, names)
-    roots = [dice.randrange(names) for _ in range(24)]
-    children, stacks = {}, []
-    while len(children) + 1 < nodes:
-        stacks.append(walk(dice, roots, callees))
-        place = 0
-        for name in stacks[-1]:
-            place = children.setdefault((place, name), len(children) + 1)
-    return stacks
 
 
 def write_rows(folder, options):
     """Writes the tree's rows, and those with the additions behind them, and tells how many build the tree."""
     dice = random.Random(options.seed)
-    names = ["::".join(dice.choices(WORDS, k=3)) + f"_{number}" for number in range(options.names)]
+    names = function_names(dice, options.names)
     stacks = tree_stacks(dice, options.nodes, len(names))
     added = [dice.choice(stacks) for _ in range(options.additions)]
     for file, rows in (("tree", stacks), ("all", stacks + added)):
-        with open(folder / f"{file}.folded", "w", encoding="utf-8") as out:
-            out.writelines(";".join(names[name] for name in row) + " 1\n" for row in rows)
+        write_folded(folder / f"{file}.folded", names, rows)
     return len(stacks)
-
-
-def crates_below():
-    """The lines of crates.txt for the program's libraries and all below them."""
-    lines = (TOP / "crates.txt").read_text(encoding="utf-8").splitlines()
-    parts = [line.partition(":") for line in lines if line[:1] not in ("#", "")]
-    uses = {name: rest.split() for name, _, rest in parts}
-    found, left = {}, list(LIBRARIES)
-    while left:
-        name = left.pop()
-        if name in uses and name not in found:
-            found[name] = uses[name]
-            left += uses[name]
-    return found
-
-
-def copy_crate(name, into):
-    """Copies a crate's sources, and what earlier checks of it kept unless the copy has its own."""
-    for part in ("src", "specs", "proofs", "out"):
-        at, to = TOP / "crates" / name / part, into / name / part
-        if part != "out":
-            shutil.rmtree(to, ignore_errors=True)
-        if at.is_dir() and not to.exists():
-            shutil.copytree(at, to)
 
 
 def set_pages(crate, page, group):
@@ -118,28 +62,10 @@ def set_pages(crate, page, group):
 
 def build(folder, page, group):
     """Proves and links the program with pages of this size, and returns its file."""
-    crates = folder / "crates"
-    below = crates_below()
-    for name in below:
-        copy_crate(name, crates)
+    crates = copy_program(NAME, LIBRARIES, folder)
     set_pages(crates / "shared_pages", page, group)
-    (crates / NAME / "src").mkdir(parents=True, exist_ok=True)
-    shutil.copyfile(TOP / f"bench/{NAME}.rattle", crates / NAME / "src/main.rt")
-    below[NAME] = LIBRARIES
-    lines = [f"{name}: {' '.join(uses)}\n" for name, uses in below.items()]
-    (folder / "crates.txt").write_text("".join(lines), encoding="utf-8")
-    shutil.copyfile(TOP / "HANDLES", folder / "HANDLES")
     print(f"proves and links {NAME} with pages of {page} and groups of {group} pages", flush=True)
-    words = ["rt", "run", "--jobs", "1", "--", "alone", "0"]
-    ran = subprocess.run(words, cwd=crates / NAME, input="", capture_output=True, text=True)
-    if ran.returncode:
-        sys.exit(ran.stderr + f"{NAME} is not proved or not linked")
-    return crates / NAME / "out" / NAME
-
-
-def output_of(words, file):
-    with open(file, "rb") as rows:
-        return subprocess.run(list(map(str, words)), stdin=rows, check=True, capture_output=True, text=True).stdout
+    return link(NAME, folder, ["alone", "0"], "")
 
 
 def our_times(program, kind, tree_rows, file):
@@ -211,9 +137,6 @@ def peer(options, name):
 
 
 def run(options, work):
-    if TOP in [work, *work.parents]:
-        sys.exit("--work is a folder outside the repository: rt all stops at sources that crates.txt doesn't name")
-    work.mkdir(parents=True, exist_ok=True)
     ours = {}
     for page in map(int, options.pages.split(",")):
         ours[f"{page} x {options.group}"] = build(work / f"pages_{page}_{options.group}", page, options.group)
@@ -229,10 +152,7 @@ def run(options, work):
 
 def main():
     options = read_options()
-    if options.work:
-        return run(options, options.work.resolve())
-    with tempfile.TemporaryDirectory(prefix="additions-") as work:
-        run(options, pathlib.Path(work))
+    run_outside(options.work, NAME, lambda work: run(options, work))
 
 
 if __name__ == "__main__":

@@ -198,12 +198,7 @@ impl<'a, N: StoreName> Session<'a, N> {
     }
 
     /// Takes an operation, and keeps its receipt.
-    pub(crate) fn take<R: Wait>(
-        &mut self,
-        rt: &R,
-        alloc: Global,
-        op: Op,
-    ) -> Result<(), BookFault>
+    pub(crate) fn take<R: Wait>(&mut self, rt: &R, alloc: Global, op: Op) -> Result<(), BookFault>
         ensures taken { OnOk result
             (ops_told self.new.log ≡ ops_told self.old.log ++ plain_op op ∷ []) }
         ensures unchanged { OnErr result (self.new ≡ self.old) }

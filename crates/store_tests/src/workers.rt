@@ -202,7 +202,10 @@ fn workers_match_their_journal(rt: HostRuntime) -> Result<(), Fail> {
     let gate = Counting::new();
     let blank = Blank::make(alloc, 400, 8, Width::one())?;
     let said = worked::<Brand, Counting, HostRuntime>(&rt, alloc, blank, lists, &gate)?;
-    assert!(rt; said.as_str().starts_with("51 None; 51 None; 51 None; 51 None; 51 None; "));
+    assert!(rt;
+        said.as_str()
+            .starts_with("51 None; 51 None; 51 None; 51 None; 51 None; ")
+    );
     assert_eq!(rt; said.as_str().matches(".").count(), 408);
     Ok(())
 }

@@ -51,6 +51,7 @@ impl Journal {
     /// The tree of what counts.
     pub fn tree(&self) -> &CallTree
         ensures tree { result.now ≡ self.now.tree }
+        ensures wide { result.now.width ≡ self.now.width }
         ensures replay { IsReplay self.now.entries self.now.tree }
     {
         self.book.tree()

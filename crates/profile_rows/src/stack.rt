@@ -59,8 +59,12 @@ impl Stack {
         names.as_slice()
     }
 
-    /// A second owner of each name.
-    pub(crate) fn share(&self, alloc: Global) -> Result<Stack, NoMemory>
+    /// The same stack, with a second owner of each name.
+    ///
+    /// # Errors
+    ///
+    /// `NoMemory`.
+    pub fn share(&self, alloc: Global) -> Result<Stack, NoMemory>
         ensures { IfOk result (λ stack. stack ≡ self.now) }
     {
         let mut shares = Vec::with_capacity(alloc, self.names.len())?;

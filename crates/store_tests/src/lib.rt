@@ -10,6 +10,8 @@ mod books;
 #[cfg(test)]
 mod helpers;
 #[cfg(test)]
+mod live;
+#[cfg(test)]
 mod stores;
 #[cfg(test)]
 mod workers;

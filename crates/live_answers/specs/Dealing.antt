@@ -1,0 +1,35 @@
+-- How the rows of a batch are dealt to workers.
+use Prim.Native.Nat.{zero, suc}
+use Rattle.std.specs.Prelude.{ℕ, ◌≡◌, ◌+◌, ◌*◌, Option, Some, None, List, [], ◌∷◌, length, map, sum_by}
+use Rattle.profile_rows.specs.Values.{BatchState, Row}
+use Rattle.flame_report.specs.declared.query.Kind.TheVariants.{Total}
+use Rattle.op_book.specs.Operations.{PlainOp, add, ask, reset}
+
+-- the addition of a row, as a batch of its own
+abbrev pub addition : ℕ → Row → PlainOp
+addition width row = add (record { width = width; rows = row ∷ [] })
+
+-- a question for the total of a value
+abbrev pub total_at : ℕ → PlainOp
+total_at value = ask (record { focus = None; ignore = None; value = value; kind = Total })
+
+-- those of so many values, the first of this number
+abbrev pub totals_from : ℕ → ℕ → List PlainOp
+totals_from value zero = []
+totals_from value (suc more) = total_at value ∷ totals_from (value + 1) more
+
+-- what the session of a warm start is told, where there is one: the whole batch, its total, and a reset
+abbrev pub warm_lists : Option BatchState → List (List PlainOp)
+warm_lists None = []
+warm_lists (Some batch) = (add batch ∷ total_at 0 ∷ reset ∷ []) ∷ []
+
+-- what all operations of lists weigh
+abbrev pub weigh : (PlainOp → ℕ) → List (List PlainOp) → ℕ
+weigh weight lists = sum_by (sum_by weight) lists
+
+-- The lists have the additions of all rows, and each the totals: so all operations weigh as much as these do, however
+-- operations are weighed.
+pub record AreDealt (batch : BatchState) (sessions : ℕ) (lists : List (List PlainOp)) : Type 0 where
+  pub count : length lists ≡ sessions
+  pub same : (weight : PlainOp → ℕ) → weigh weight lists
+      ≡ sum_by weight (map (addition batch.width) batch.rows) + sessions * sum_by weight (totals_from 0 batch.width)

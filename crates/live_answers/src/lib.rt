@@ -1,0 +1,13 @@
+//! What `live` writes of a batch: its reports out of a store to which several threads added its rows, once the logs of
+//! all were audited.
+#![tactic(auto)]
+
+mod dealing;
+mod fault;
+mod options;
+mod storing;
+mod texts;
+
+pub use fault::LiveFault;
+pub use options::LiveOptions;
+pub use texts::live_text;

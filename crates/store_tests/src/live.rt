@@ -1,0 +1,77 @@
+//! What `live` writes of worked examples, by several numbers of workers, and that these succeed.
+
+ghost use Rattle.std.specs.Prelude.{◌<◌};
+
+use crate::helpers::{batch_of, row_of};
+use live_answers::{LiveOptions, live_text};
+use stack_text::Batch;
+use std::alloc::Global;
+use std::sync::{Arc, Wait};
+use std::test::Fail;
+use std::thread::Threads;
+
+// What is written, or why nothing is.
+fn written<R: Threads + Wait + Sync>(
+    rt: &R,
+    alloc: Global,
+    batch: &Arc<Batch>,
+    options: LiveOptions,
+) -> Result<String, Fail>
+    requires some { 0 < options.sessions }
+    requires few { options.sessions < 64 }
+{
+    match live_text(rt, alloc, batch, options) {
+        Ok(text) => Ok(String::from_utf8(text)?),
+        Err(fault) => Ok(format!(in alloc; "{fault}")?),
+    }
+}
+
+#[test]
+fn rows_of_several_workers(rt: HostRuntime) -> Result<(), Fail> {
+    let alloc = rt.alloc();
+    let batch = batch_of(alloc, "main;a;b 3\nmain;a 2\nmain;c 5\n")?;
+    for (sessions, last) in [(1, "4"), (2, "5"), (5, "8"), (63, "66")] {
+        let options = LiveOptions {
+            sessions,
+            all: false,
+            warm: false,
+        };
+        let said = written(&rt, alloc, &batch, options)?;
+        let wanted = format!(in alloc;
+            "main;a 2\nmain;a;b 3\nmain;c 5\naudited {last} operations\n"
+        )?;
+        assert_eq!(rt; said.as_str(), wanted.as_str());
+    }
+    Ok(())
+}
+
+#[test]
+fn no_rows_have_empty_reports(rt: HostRuntime) -> Result<(), Fail> {
+    let alloc = rt.alloc();
+    let batch = batch_of(alloc, "")?;
+    let options = LiveOptions {
+        sessions: 2,
+        all: false,
+        warm: true,
+    };
+    let said = written(&rt, alloc, &batch, options)?;
+    assert_eq!(rt; said.as_str(), "audited 5 operations\n");
+    Ok(())
+}
+
+#[test]
+fn each_value_behind_a_warm_start(rt: HostRuntime) -> Result<(), Fail> {
+    let alloc = rt.alloc();
+    let batch = row_of(alloc, "a", &[1, 2])?;
+    let options = LiveOptions {
+        sessions: 2,
+        all: true,
+        warm: true,
+    };
+    let said = written(&rt, alloc, &batch, options)?;
+    assert_eq!(rt;
+        said.as_str(),
+        "value 0\na 1\nvalue 1\na 2\naudited 8 operations\n"
+    );
+    Ok(())
+}

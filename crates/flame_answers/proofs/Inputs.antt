@@ -20,12 +20,11 @@ use Rattle.folded_text.specs.TextSums.{IsMergedText}
 use Rattle.flame_report.specs.Answers.{answer_by, kept_by}
 use Rattle.flame_report.specs.declared.query.Kind.{Kind}
 use Rattle.flame_report.specs.declared.query.Query.{Query}
-use Rattle.flame_answers.specs.declared.request.Request.TheVariants.{Report}
 use Rattle.flame_answers.specs.declared.request.Source.{Source}
 use Rattle.flame_answers.specs.declared.outcomes.ToolFault.{ToolFault}
 use Rattle.flame_answers.specs.declared.outcomes.ToolFault.TheVariants as tool
 use Rattle.flame_answers.specs.declared.request.Format.TheVariants.{Folded, Pprof}
-use Rattle.flame_answers.specs.Answers.{AreRowsIn, AreMergedIn, HasNoRows, IsAnswer, IsAnswerOfText, IsChoice, IsFaultIn, IsInputFault, IsRefusedIn, answer_text, batch_fault_of, folded_fault_of, profile_fault_of}
+use Rattle.flame_answers.specs.Answers.{AreRowsIn, AreMergedIn, HasNoRows, IsAnswerOfText, IsChoice, IsFaultIn, IsRefusedIn, IsReport, answer_text, batch_fault_of, folded_fault_of, profile_fault_of}
 
 -- ---- folded text
 
@@ -49,9 +48,9 @@ work_refused value input fault (inl first) rows = folded_refused value input fau
 work_refused value input fault (inr late) rows = subst (λ (f : FoldedFault). IsRefusedIn Folded value input (folded_fault_of f)) (sym late.0) tt
 
 -- a query that keeps every row of folded text is answered by all of them
-IsAnswer-of_text : (source : Source) (query : Query) (kind : Kind) (input text : List ℕ) → source.format ≡ Folded → query.kind ≡ kind → ((rows : List WeightedStack) → kept_by query rows ≡ rows)
-    → IsAnswerOfText input kind text → IsAnswer (Report source query) input text
-IsAnswer-of_text source query kind input text format asked keeps (rows, spelled, whole) = record {
+IsReport-of_text : (source : Source) (query : Query) (kind : Kind) (input text : List ℕ) → source.format ≡ Folded → query.kind ≡ kind → ((rows : List WeightedStack) → kept_by query rows ≡ rows)
+    → IsAnswerOfText input kind text → IsReport source.format source.value query input text
+IsReport-of_text source query kind input text format asked keeps (rows, spelled, whole) = record {
   rows = rows;
   spelled = subst (λ f. AreRowsIn f source.value input rows) (sym format) spelled;
   whole = whole ∙ ap (λ k. answer_text (answer_by k rows)) (sym asked) ∙ ap (λ kept. answer_text (answer_by query.kind kept)) (sym (keeps rows));
@@ -60,8 +59,8 @@ IsAnswer-of_text source query kind input text format asked keeps (rows, spelled,
 pub answered-of_text : {T : Type 0} (bytes : T → List ℕ) (source : Source) (query : Query) (kind : Kind) (input : List ℕ) (outcome : Result T ToolFault) → source.format ≡ Folded → query.kind ≡ kind
     → ((rows : List WeightedStack) → kept_by query rows ≡ rows)
     → ((value : Option (List ℕ)) → MatchResult outcome (λ text. IsAnswerOfText input kind (bytes text)) (λ fault. IsRefusedIn Folded value input fault))
-    → MatchResult outcome (λ text. IsAnswer (Report source query) input (bytes text)) (λ fault. IsInputFault (Report source query) input fault)
-answered-of_text bytes source query kind input (Ok text) format asked keeps answered = IsAnswer-of_text source query kind input (bytes text) format asked keeps (answered source.value)
+    → MatchResult outcome (λ text. IsReport source.format source.value query input (bytes text)) (λ fault. IsRefusedIn source.format source.value input fault)
+answered-of_text bytes source query kind input (Ok text) format asked keeps answered = IsReport-of_text source query kind input (bytes text) format asked keeps (answered source.value)
 answered-of_text bytes source query kind input (Err fault) format asked keeps answered = subst (λ f. IsRefusedIn f source.value input fault) (sym format) (answered source.value)
 
 -- ---- profiles

@@ -1,5 +1,5 @@
 -- What an input answers to a request.
-use Rattle.std.specs.Prelude.{ℕ, ◌≡◌, ◌≢◌, ⊤, List, [], ◌∷◌, ◌++◌, Option, Some, None}
+use Rattle.std.specs.Prelude.{ℕ, ◌≡◌, ◌≢◌, ⊤, Bool, true, false, List, [], ◌∷◌, ◌++◌, Option, Some, None}
 use Rattle.std.specs.Fmt.{decimal}
 use Rattle.pprof_profile.specs.declared.faults.ProfileFault.{ProfileFault}
 use Rattle.pprof_profile.specs.declared.faults.ProfileFault.TheVariants as profile
@@ -16,20 +16,28 @@ use Rattle.profile_samples.specs.declared.sampling.ValueChoice.TheVariants as ch
 use Rattle.profile_rows.specs.Aggregate.{aggregate_of}
 use Rattle.pprof_profile.specs.Canonical.{canonical_bytes_of}
 use Rattle.profile_samples.specs.Export.{single_profile_of}
-use Rattle.folded_text.specs.FoldedText.{IsFirstFault, IsFoldedText}
+use Rattle.folded_text.specs.FoldedText.{IsFirstFault, IsFoldedBatch, IsFoldedText}
+use Rattle.profile_samples.specs.Batches.{IsBatchOf, IsFirstBatchFault}
 use Rattle.profile_samples.specs.Samples.{AreStacksOf, IsFirstStacksFault}
+use Rattle.profile_rows.specs.Values.{BatchState}
+use Rattle.live_answers.specs.declared.fault.LiveFault.{LiveFault}
+use Rattle.live_answers.specs.declared.fault.LiveFault.TheVariants as live
+use Rattle.live_answers.specs.Live.{live_text_of}
+use Rattle.live_answers.specs.Options.{PlainOptions}
 use Rattle.profile_rows.specs.TopList.{top_text_of}
 use Rattle.flame_report.specs.declared.answer.Answer.{Answer}
 use Rattle.flame_report.specs.declared.answer.Answer.TheVariants as answer
 use Rattle.flame_report.specs.Answers.{answer_by, answer_of}
 use Rattle.flame_report.specs.declared.query.Kind.{Kind}
+use Rattle.flame_report.specs.declared.query.Query.{Query}
 use Rattle.flame_report.specs.Json.{flame_json_of}
 use Rattle.flame_answers.specs.declared.outcomes.ToolFault.{ToolFault}
 use Rattle.flame_answers.specs.declared.outcomes.ToolFault.TheVariants as tool
 use Rattle.flame_answers.specs.declared.request.Format.{Format}
 use Rattle.flame_answers.specs.declared.request.Format.TheVariants.{Folded, Pprof}
 use Rattle.flame_answers.specs.declared.request.Request.{Request}
-use Rattle.flame_answers.specs.declared.request.Request.TheVariants.{Report, Export}
+use Rattle.flame_answers.specs.declared.request.Request.TheVariants.{Report, Export, Live}
+use Rattle.flame_answers.specs.declared.request.Source.{Source}
 
 -- ---- the rows of an input
 
@@ -54,14 +62,32 @@ abbrev pub AreRowsIn : Format → Option (List ℕ) → List ℕ → List Weight
 AreRowsIn Folded value input rows = IsFoldedText input rows
 AreRowsIn Pprof value input rows = AreProfileRows value input rows
 
--- how a request reads its input
-abbrev pub format_for : Request → Format
-format_for (Report source query) = source.format
-format_for (Export kind unit) = Folded
+-- the values of each sample that `live` takes: all where all are asked for, else the one of the option `--value`
+abbrev pub IsLiveChoice : Bool → Option (List ℕ) → ValueChoice → Type 0
+IsLiveChoice false value choice = IsChoice value choice
+IsLiveChoice true value Default = ⊥
+IsLiveChoice true value (Named text) = ⊥
+IsLiveChoice true value choices.All = ⊤
 
-abbrev pub value_for : Request → Option (List ℕ)
-value_for (Report source query) = source.value
-value_for (Export kind unit) = None
+-- the batch of the samples of the profile that bytes are, by one value or by all
+pub record IsProfileBatch (all : Bool) (value : Option (List ℕ)) (input : List ℕ) (batch : BatchState) : Type 0 where
+  pub draft : Draft
+  pub profile : IsProfile input draft
+  pub choice : ValueChoice
+  pub chosen : IsLiveChoice all value choice
+  pub sampled : IsBatchOf draft choice batch
+
+-- the batch of an input of a format; folded text has one value
+abbrev pub IsBatchIn : Format → Bool → Option (List ℕ) → List ℕ → BatchState → Type 0
+IsBatchIn Folded all value input batch = IsFoldedBatch input batch
+IsBatchIn Pprof all value input batch = IsProfileBatch all value input batch
+
+-- the input has rows for a request
+abbrev pub IsReadable : Request → List ℕ → Type 0
+IsReadable (Report source query) input = (rows : List WeightedStack) × AreRowsIn source.format source.value input rows
+IsReadable (Export kind unit) input = (rows : List WeightedStack) × IsFoldedText input rows
+IsReadable (Live source options) input =
+    (batch : BatchState) × IsBatchIn source.format options.all source.value input batch
 
 -- ---- the text of an answer
 
@@ -71,16 +97,30 @@ answer_text (answer.Top top) = top_text_of top.total top.rows
 answer_text (answer.Flame flame) = flame_json_of flame ++ 10 ∷ []
 answer_text (answer.Folded text) = text
 
--- what a request wants of rows
-abbrev pub output_of : Request → List WeightedStack → List ℕ
-output_of (Report source query) rows = answer_text (answer_of rows query)
-output_of (Export kind unit) rows = canonical_bytes_of (single_profile_of rows kind unit)
+-- the text is the answer to a query over the rows of the input
+pub record IsReport (format : Format) (value : Option (List ℕ)) (query : Query) (input text : List ℕ) : Type 0 where
+  pub rows : List WeightedStack
+  pub spelled : AreRowsIn format value input rows
+  pub whole : text ≡ answer_text (answer_of rows query)
+
+-- the bytes are those of the profile of the rows that folded text spells
+pub record IsExport (kind unit input bytes : List ℕ) : Type 0 where
+  pub rows : List WeightedStack
+  pub spelled : IsFoldedText input rows
+  pub whole : bytes ≡ canonical_bytes_of (single_profile_of rows kind unit)
+
+-- the text is what `live` writes of the batch of the input
+pub record IsLiveText (format : Format) (value : Option (List ℕ)) (options : PlainOptions) (input text : List ℕ)
+    : Type 0 where
+  pub batch : BatchState
+  pub spelled : IsBatchIn format options.all value input batch
+  pub whole : text ≡ live_text_of options batch
 
 -- the text is what the request wants of the rows of the input
-pub record IsAnswer (request : Request) (input text : List ℕ) : Type 0 where
-  pub rows : List WeightedStack
-  pub spelled : AreRowsIn (format_for request) (value_for request) input rows
-  pub whole : text ≡ output_of request rows
+abbrev pub IsAnswer : Request → List ℕ → List ℕ → Type 0
+IsAnswer (Report source query) input text = IsReport source.format source.value query input text
+IsAnswer (Export kind unit) input text = IsExport kind unit input text
+IsAnswer (Live source options) input text = IsLiveText source.format source.value options input text
 
 -- the text is what all rows of folded text answer to a question
 abbrev pub IsAnswerOfText : List ℕ → Kind → List ℕ → Type 0
@@ -105,7 +145,9 @@ IsFaultIn Pprof value input (tool.Batch fault) = HasBatchFault value input fault
 IsFaultIn Folded value input (tool.Profile fault) = ⊥
 IsFaultIn Folded value input (tool.Batch fault) = ⊥
 IsFaultIn Pprof value input (tool.Folded fault) = ⊥
+IsFaultIn format value input (tool.Live fault) = ⊥
 IsFaultIn format value input tool.Name = ⊥
+IsFaultIn format value input tool.Sessions = ⊥
 IsFaultIn format value input tool.Read = ⊥
 IsFaultIn format value input tool.Write = ⊥
 IsFaultIn format value input tool.TooLong = ⊥
@@ -123,15 +165,49 @@ IsRefusedIn format value input (tool.Profile fault) =
     IsFaultIn format value input (tool.Profile fault) × HasNoRows format value input
 IsRefusedIn format value input (tool.Batch fault) =
     IsFaultIn format value input (tool.Batch fault) × HasNoRows format value input
+IsRefusedIn format value input (tool.Live fault) = ⊥
 IsRefusedIn format value input tool.Name = ⊥
+IsRefusedIn format value input tool.Sessions = ⊥
 IsRefusedIn format value input tool.Read = ⊥
 IsRefusedIn format value input tool.Write = ⊥
 IsRefusedIn format value input tool.TooLong = ⊥
 IsRefusedIn format value input tool.NoMemory = ⊤
 
+-- why a profile has no batch, by one value or by all
+pub record HasLiveFault (all : Bool) (value : Option (List ℕ)) (input : List ℕ) (fault : BatchFault) : Type 0 where
+  pub draft : Draft
+  pub profile : IsProfile input draft
+  pub choice : ValueChoice
+  pub chosen : IsLiveChoice all value choice
+  pub first : IsFirstBatchFault draft choice fault
+
+-- an input of a format without a batch
+abbrev pub HasNoBatch : Format → Bool → Option (List ℕ) → List ℕ → Type 0
+HasNoBatch format all value input = (batch : BatchState) → IsBatchIn format all value input batch → ⊥
+
+-- What keeps `live` from an answer: the first fault of an input that has no batch; or want of memory or what happened
+-- to the store, which claim nothing of the input.
+abbrev pub IsLiveRefused : Format → Bool → Option (List ℕ) → List ℕ → ToolFault → Type 0
+IsLiveRefused format all value input (tool.Folded fault) = (format ≡ Folded)
+    × IsFirstFault input fault × (fault ≢ folded.NoMemory) × HasNoBatch format all value input
+IsLiveRefused format all value input (tool.Profile fault) = (format ≡ Pprof)
+    × IsProfileFault input fault × (fault ≢ profile.NoMemory) × HasNoBatch format all value input
+IsLiveRefused format all value input (tool.Batch fault) = (format ≡ Pprof)
+    × HasLiveFault all value input fault × (fault ≢ batch.NoMemory) × HasNoBatch format all value input
+IsLiveRefused format all value input (tool.Live fault) = ⊤
+IsLiveRefused format all value input tool.Name = ⊥
+IsLiveRefused format all value input tool.Sessions = ⊥
+IsLiveRefused format all value input tool.Read = ⊥
+IsLiveRefused format all value input tool.Write = ⊥
+IsLiveRefused format all value input tool.TooLong = ⊥
+IsLiveRefused format all value input tool.NoMemory = ⊤
+
 -- what keeps an input from an answer
 abbrev pub IsInputFault : Request → List ℕ → ToolFault → Type 0
-IsInputFault request input fault = IsRefusedIn (format_for request) (value_for request) input fault
+IsInputFault (Report source query) input fault = IsRefusedIn source.format source.value input fault
+IsInputFault (Export kind unit) input fault = IsRefusedIn Folded None input fault
+IsInputFault (Live source options) input fault =
+    IsLiveRefused source.format options.all source.value input fault
 
 -- rows that add up to those of an input
 pub record AreMergedIn (format : Format) (value : Option (List ℕ)) (input : List ℕ)
@@ -171,3 +247,11 @@ batch_fault_of (batch.Negative sample) = tool.Batch (batch.Negative sample)
 batch_fault_of (batch.Depth sample) = tool.Batch (batch.Depth sample)
 batch_fault_of (batch.Heavy sample) = tool.Batch (batch.Heavy sample)
 batch_fault_of batch.NoMemory = tool.NoMemory
+
+abbrev pub store_fault_of : LiveFault → ToolFault
+store_fault_of live.Start = tool.Live live.Start
+store_fault_of (live.Session fault) = tool.Live (live.Session fault)
+store_fault_of (live.Book fault) = tool.Live (live.Book fault)
+store_fault_of (live.Audit fault) = tool.Live (live.Audit fault)
+store_fault_of live.Warm = tool.Live live.Warm
+store_fault_of live.NoMemory = tool.NoMemory

@@ -3,14 +3,28 @@ use Rattle.std.specs.Prelude.{ℕ, List, [], ◌∷◌, ◌++◌, Option, Some, 
 use Rattle.flame_answers.specs.declared.outcomes.Outcome.{Outcome}
 use Rattle.flame_answers.specs.declared.outcomes.Outcome.TheVariants.{Done, Words, Fault}
 use Rattle.flame_answers.specs.declared.outcomes.ToolFault.{ToolFault}
-use Rattle.flame_answers.specs.declared.outcomes.ToolFault.TheVariants.{Folded, Profile, Batch, Name, Read, Write, TooLong, NoMemory}
+use Rattle.flame_answers.specs.declared.outcomes.ToolFault.TheVariants.{Folded, Profile, Batch, Name, Sessions, Live, Read, Write, TooLong, NoMemory}
+use Rattle.live_answers.specs.declared.fault.LiveFault.{LiveFault}
+use Rattle.live_answers.specs.declared.fault.LiveFault.TheVariants as live
 
--- 1: the input is refused. 2: a name of the words can't be one. 3: the world outside failed. 4: memory ran out.
+-- 4: a thread or memory was wanting. 5: the store refused an operation, or the audit refused the logs.
+abbrev pub live_code_of : LiveFault → ℕ
+live_code_of live.Start = 4
+live_code_of (live.Session fault) = 5
+live_code_of (live.Book fault) = 5
+live_code_of (live.Audit fault) = 5
+live_code_of live.Warm = 5
+live_code_of live.NoMemory = 4
+
+-- 1: the input is refused. 2: a name of the words can't be one, or there is no session for a warm start. 3: the world
+-- outside failed. 4: memory ran out. Else the rows couldn't be stored or confirmed.
 abbrev pub fault_code_of : ToolFault → ℕ
 fault_code_of (Folded fault) = 1
 fault_code_of (Profile fault) = 1
 fault_code_of (Batch fault) = 1
 fault_code_of Name = 2
+fault_code_of Sessions = 2
+fault_code_of (Live fault) = live_code_of fault
 fault_code_of Read = 3
 fault_code_of Write = 3
 fault_code_of TooLong = 1
@@ -22,12 +36,14 @@ code_of Done = 0
 code_of (Words text) = 2
 code_of (Fault fault) = fault_code_of fault
 
--- the text of a fault of the program's own; those of an input have the text of the crate that reads it
+-- the text of a fault of the program's own; those of an input and of a store have the text of the crate that tells them
 abbrev pub fault_text_of : ToolFault → Option (List ℕ)
 fault_text_of (Folded fault) = None
 fault_text_of (Profile fault) = None
 fault_text_of (Batch fault) = None
+fault_text_of (Live fault) = None
 fault_text_of Name = Some (codes "C1 Name")
+fault_text_of Sessions = Some (codes "C2 Sessions")
 fault_text_of Read = Some (codes "E1 Read")
 fault_text_of Write = Some (codes "E2 Write")
 fault_text_of TooLong = Some (codes "E3 TooLong")

@@ -1,13 +1,13 @@
 //! What an input answers to a request.
 
-ghost use Rattle.std.specs.Prelude.{ℕ, ◌≡◌, ◌∷◌, ◌++◌, [], List, MatchResult, IfOk, Option};
+ghost use Rattle.std.specs.Prelude.{ℕ, ◌≡◌, ◌∷◌, ◌++◌, [], List, MatchResult, IfOk, None, Option};
 ghost use Rattle.profile_rows.specs.declared.weighted_stacks.WeightedStack.{WeightedStack};
 ghost use Rattle.flame_report.specs.Answers.{answer_of};
 ghost use Rattle.flame_report.specs.declared.query.Kind.TheVariants.{Top};
-ghost use Rattle.flame_answers.specs.Answers.{AreMergedIn, IsAnswer, IsAnswerOfText, IsChoice, IsInputFault, IsRefusedIn, answer_text, batch_fault_of, folded_fault_of, profile_fault_of};
+ghost use Rattle.flame_answers.specs.Answers.{AreMergedIn, IsAnswer, IsAnswerOfText, IsChoice, IsExport, IsInputFault, IsRefusedIn, IsReport, answer_text, batch_fault_of, folded_fault_of, profile_fault_of};
 ghost use Rattle.flame_answers.specs.declared.request.Format.TheVariants.{Folded, Pprof};
-ghost use Rattle.flame_answers.specs.declared.request.Request.TheVariants.{Report, Export};
 
+use crate::live::live_report;
 use crate::outcomes::ToolFault;
 use crate::request::{Format, Request, Source};
 use flame_report::laws::answers_are_by_the_aggregate;
@@ -17,13 +17,21 @@ use pprof_profile::{ProfileFault, Text, decode};
 use profile_rows::{NoMemory, WeightedStacks};
 use profile_samples::{BatchFault, ValueChoice, export_folded, merge_samples};
 use std::alloc::Global;
+use std::sync::Wait;
+use std::thread::Threads;
 
 /// The whole text that is written for an input.
 ///
 /// # Errors
 ///
-/// The first fault of an input that has no rows for the request; `NoMemory`.
-pub fn answer(alloc: Global, request: &Request, input: &[u8]) -> Result<Vec<u8>, ToolFault>
+/// The first fault of an input that has no rows for the request; for `Live` also what kept the store's sessions from their
+/// work, or the audit from a run; `NoMemory`.
+pub fn answer<R: Threads + Wait + Sync>(
+    rt: &R,
+    alloc: Global,
+    request: &Request,
+    input: &[u8],
+) -> Result<Vec<u8>, ToolFault>
     ensures { MatchResult result
         (λ text. IsAnswer request.now input.now text.items)
         (λ fault. IsInputFault request.now input.now fault) }
@@ -31,6 +39,7 @@ pub fn answer(alloc: Global, request: &Request, input: &[u8]) -> Result<Vec<u8>,
     match request {
         Request::Report { source, query } => report_on(alloc, source, query, input),
         Request::Export { kind, unit } => export(alloc, kind, unit, input),
+        Request::Live { source, options } => live_report(rt, alloc, source, *options, input),
     }
 }
 
@@ -42,8 +51,8 @@ fn report_on(
     input: &[u8],
 ) -> Result<Vec<u8>, ToolFault>
     ensures { MatchResult result
-        (λ text. IsAnswer (Report source.now query.now) input.now text.items)
-        (λ fault. IsInputFault (Report source.now query.now) input.now fault) }
+        (λ text. IsReport source.now.format source.now.value query.now input.now text.items)
+        (λ fault. IsRefusedIn source.now.format source.now.value input.now fault) }
 {
     match (source.format, query.kind) {
         (Format::Folded, Kind::Top { rank, count }) if query.keeps_all() => {
@@ -74,8 +83,8 @@ fn folded_top(alloc: Global, rank: Rank, count: u32, input: &[u8]) -> Result<Vec
 /// The bytes of the profile that folded text is exported as.
 fn export(alloc: Global, kind: &Text, unit: &Text, input: &[u8]) -> Result<Vec<u8>, ToolFault>
     ensures { MatchResult result
-        (λ bytes. IsAnswer (Export kind.now unit.now) input.now bytes.items)
-        (λ fault. IsInputFault (Export kind.now unit.now) input.now fault) }
+        (λ bytes. IsExport kind.now unit.now input.now bytes.items)
+        (λ fault. IsRefusedIn Folded None input.now fault) }
 {
     match export_folded(alloc, input, kind.as_str(), unit.as_str()) {
         Ok(bytes) => Ok(bytes),
@@ -128,7 +137,7 @@ fn merged_samples(
 }
 
 /// The choice of a value.
-fn choice_of<'a>(value: &'a Option<Text>) -> ValueChoice<'a>
+pub(crate) fn choice_of<'a>(value: &'a Option<Text>) -> ValueChoice<'a>
     ensures { IsChoice value.entry.now result }
 {
     match value {
@@ -162,7 +171,7 @@ fn text_of(alloc: Global, answer: Answer) -> Result<Vec<u8>, NoMemory>
 }
 
 // The program's fault for one of folded text: want of memory is one for all.
-fn folded_fault(fault: FoldedFault) -> ToolFault
+pub(crate) fn folded_fault(fault: FoldedFault) -> ToolFault
     ensures { result ≡ folded_fault_of fault }
 {
     match fault {
@@ -172,7 +181,7 @@ fn folded_fault(fault: FoldedFault) -> ToolFault
 }
 
 // The program's fault for one of a profile.
-fn profile_fault(fault: ProfileFault) -> ToolFault
+pub(crate) fn profile_fault(fault: ProfileFault) -> ToolFault
     ensures { result ≡ profile_fault_of fault }
 {
     match fault {
@@ -182,7 +191,7 @@ fn profile_fault(fault: ProfileFault) -> ToolFault
 }
 
 // The program's fault for one of a profile's samples.
-fn batch_fault(fault: BatchFault) -> ToolFault
+pub(crate) fn batch_fault(fault: BatchFault) -> ToolFault
     ensures { result ≡ batch_fault_of fault }
 {
     match fault {

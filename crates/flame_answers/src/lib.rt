@@ -3,6 +3,7 @@
 #![tactic(auto)]
 
 mod answers;
+mod live;
 mod outcomes;
 mod request;
 mod streams;

@@ -1,9 +1,10 @@
 //! How a run ends, and why.
 
 ghost use Rattle.std.specs.Prelude.{◌≡◌};
-ghost use Rattle.flame_answers.specs.Outcomes.{code_of, fault_text_of, said_of};
+ghost use Rattle.flame_answers.specs.Outcomes.{code_of, fault_text_of, live_code_of, said_of};
 
 use folded_text::FoldedFault;
+use live_answers::LiveFault;
 use pprof_profile::ProfileFault;
 use profile_rows::NoMemory;
 use profile_samples::BatchFault;
@@ -21,6 +22,10 @@ pub enum ToolFault {
     Batch(BatchFault),
     /// A focus or an ignored name can't be a name.
     Name,
+    /// There is no session left for a warm start.
+    Sessions,
+    /// The rows couldn't be stored, or what was stored couldn't be confirmed.
+    Live(LiveFault),
     /// A read failed.
     Read,
     /// A write or a flush failed, or a write took no byte.
@@ -41,7 +46,9 @@ impl fmt::Display for ToolFault {
             ToolFault::Folded(fault) => write!(f, "{fault}"),
             ToolFault::Profile(fault) => write!(f, "{fault}"),
             ToolFault::Batch(fault) => write!(f, "{fault}"),
+            ToolFault::Live(fault) => write!(f, "{fault}"),
             ToolFault::Name => f.write_str("C1 Name"),
+            ToolFault::Sessions => f.write_str("C2 Sessions"),
             ToolFault::Read => f.write_str("E1 Read"),
             ToolFault::Write => f.write_str("E2 Write"),
             ToolFault::TooLong => f.write_str("E3 TooLong"),
@@ -93,7 +100,8 @@ impl fmt::Display for Outcome {
 }
 
 impl Status {
-    /// The status of this cause: 0 done, 1 input refused, 2 words refused or help, 3 read or write, 4 memory.
+    /// The status of this cause: 0 done, 1 input refused, 2 words refused or help, 3 read or write, 4 memory or threads,
+    /// 5 rows that couldn't be stored or confirmed.
     pub fn of(cause: Outcome) -> Status
         ensures cause { result.cause ≡ cause }
         ensures code { result.code ≡ code_of cause }
@@ -115,9 +123,20 @@ impl Outcome {
                 | ToolFault::Batch(_)
                 | ToolFault::TooLong,
             ) => 1,
-            Outcome::Words(_) | Outcome::Fault(ToolFault::Name) => 2,
+            Outcome::Words(_) | Outcome::Fault(ToolFault::Name | ToolFault::Sessions) => 2,
             Outcome::Fault(ToolFault::Read | ToolFault::Write) => 3,
             Outcome::Fault(ToolFault::NoMemory) => 4,
+            Outcome::Fault(ToolFault::Live(fault)) => live_code(*fault),
         }
+    }
+}
+
+// The status of a fault of the store: 4 where a thread or memory was wanting, else 5.
+fn live_code(fault: LiveFault) -> u8
+    ensures { result ≡ live_code_of fault }
+{
+    match fault {
+        LiveFault::Start | LiveFault::NoMemory => 4,
+        _ => 5,
     }
 }

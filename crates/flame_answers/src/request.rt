@@ -1,6 +1,7 @@
 //! What words ask for.
 
 use flame_report::Query;
+use live_answers::LiveOptions;
 use pprof_profile::Text;
 
 /// How an input is written.
@@ -25,7 +26,18 @@ pub struct Source {
 #[derive(Drop)]
 pub enum Request {
     /// A report on the rows of the input.
-    Report { source: Source, query: Query },
+    Report {
+        source: Source,
+        query: Query,
+    },
     /// A profile of the rows of folded input, whose only sample type has this name and unit.
-    Export { kind: Text, unit: Text },
+    Export {
+        kind: Text,
+        unit: Text,
+    },
+    /// Reports out of a store that several threads fill with the rows of the input.
+    Live {
+        source: Source,
+        options: LiveOptions,
+    },
 }

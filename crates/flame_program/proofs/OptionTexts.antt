@@ -12,7 +12,7 @@ use Rattle.flame_report.specs.declared.query.Kind.{Kind}
 use Rattle.flame_answers.specs.declared.request.Format.{Format}
 use Rattle.flame_answers.specs.declared.request.Request.TheVariants.{Report}
 use Rattle.flame_program.specs.declared.words.WordsFault.{WordsFault}
-use Rattle.flame_program.specs.declared.words.WordsFault.TheVariants.{Refused, BadName, NoMemory}
+use Rattle.flame_program.specs.declared.words.WordsFault.TheVariants.{Refused, BadName, Sessions, NoMemory}
 use Rattle.flame_program.specs.Words.{IsNameFault, IsUnread, named_report}
 use Rattle.flame_program.specs.Words.Reading.{asked}
 use Rattle.flame_program.specs.Options.{is_digit, is_name_if_given, is_name_text, is_number, is_plain, number_named}
@@ -94,12 +94,14 @@ is_name_text-other text utf8 other = elim (is_name_text text) as (λ b. is_name_
 pub misnamed_focus : (kind : Kind) (format : Format) (value focus ignore : Option (List ℕ)) (fault : WordsFault) → IsNameFault focus fault → IsUnread (named_report kind format value focus ignore) fault
 misnamed_focus kind format value focus ignore (Refused text) h = absurd h
 misnamed_focus kind format value focus ignore BadName h = rw h refl
+misnamed_focus kind format value focus ignore Sessions h = absurd h
 misnamed_focus kind format value focus ignore NoMemory h = tt
 
 pub misnamed_ignore : (kind : Kind) (format : Format) (value focus ignore : Option (List ℕ)) (fault : WordsFault) → is_name_if_given focus ≡ true → IsNameFault ignore fault
     → IsUnread (named_report kind format value focus ignore) fault
 misnamed_ignore kind format value focus ignore (Refused text) named h = absurd h
 misnamed_ignore kind format value focus ignore BadName named h = rw (named, h) refl
+misnamed_ignore kind format value focus ignore Sessions named h = absurd h
 misnamed_ignore kind format value focus ignore NoMemory named h = tt
 
 pub named_asked : (kind : Kind) (format : Format) (value focus ignore : Option (List ℕ)) → is_name_if_given focus ≡ true → is_name_if_given ignore ≡ true

@@ -15,6 +15,10 @@ use Rattle.flame_answers.specs.declared.request.Format.TheVariants.{Folded, Ppro
 abbrev pub text_or : Text → Text → List Row → Text
 text_or default id rows = unwrap_or (first_of id rows) default
 
+-- whether an option without a value is given
+abbrev pub is_set : Text → List Row → Bool
+is_set id rows = bytes_eq (text_or (codes "false") id rows) (codes "true")
+
 abbrev pub format_named : Text → Option Format
 format_named text =
     if bytes_eq text (codes "folded") then Some Folded
@@ -45,6 +49,14 @@ number_named text =
 abbrev pub columns_of : Option ℕ → Option ℕ
 columns_of None = None
 columns_of (Some number) = if not (number == 0) && nat_lt number 65536 then Some number else None
+
+-- a number of threads: 1 to 64
+abbrev pub sessions_of : Option ℕ → Option ℕ
+sessions_of None = None
+sessions_of (Some number) = if not (number == 0) && nat_lt number 65 then Some number else None
+
+abbrev pub sessions_in : List Row → Option ℕ
+sessions_in rows = sessions_of (number_named (text_or (codes "2") (codes "sessions") rows))
 
 abbrev pub top_of : Option Rank → Option ℕ → Option Kind
 top_of (Some rank) (Some count) = Some (kind.Top rank count)

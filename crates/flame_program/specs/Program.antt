@@ -1,20 +1,21 @@
 -- How a run of the program ends, over what its reader had left and what its writer holds, before and after.
-use Rattle.std.specs.Prelude.{ℕ, ◌≡◌, ◌≢◌, ◌+◌, ◌≤◌, ◌↔◌, List, length, Option, Some, IfSome}
+use Rattle.std.specs.Prelude.{ℕ, ⊤, ◌≡◌, ◌≢◌, ◌+◌, ◌≤◌, ◌↔◌, List, length, Option, Some, IfSome}
 use Rattle.std.specs.Io.KnownBytes.{Appends, Keeps}
-use Rattle.profile_rows.specs.declared.weighted_stacks.WeightedStack.{WeightedStack}
-use Rattle.flame_answers.specs.Answers.{AreRowsIn, IsAnswer, IsInputFault, format_for, value_for}
+use Rattle.flame_answers.specs.Answers.{IsAnswer, IsInputFault, IsReadable}
 use Rattle.flame_answers.specs.Parts.{AppendsBeginning, IsWholeInput, TakesAtMost, TakesExactly}
 use Rattle.flame_answers.specs.Outcomes.{code_of}
-use Rattle.flame_program.specs.Words.{IsMisnamed, IsRefused, request_of}
+use Rattle.flame_program.specs.Words.{IsCrowded, IsMisnamed, IsRefused, request_of}
 use Rattle.flame_answers.specs.declared.outcomes.Outcome.{Outcome}
 use Rattle.flame_answers.specs.declared.outcomes.Outcome.TheVariants.{Done, Words, Fault}
 use Rattle.flame_answers.specs.declared.outcomes.ToolFault.{ToolFault}
-use Rattle.flame_answers.specs.declared.outcomes.ToolFault.TheVariants.{Folded, Profile, Batch, Name, Read, Write, TooLong, NoMemory}
+use Rattle.flame_answers.specs.declared.outcomes.ToolFault.TheVariants as tool
+use Rattle.flame_answers.specs.declared.outcomes.ToolFault.TheVariants.{Folded, Profile, Batch, Name, Sessions, Read, Write, TooLong, NoMemory}
 use Rattle.flame_answers.specs.declared.streams.ReadFault.{ReadFault}
 use Rattle.flame_answers.specs.declared.streams.ReadFault.TheVariants as reading
 use Rattle.flame_program.specs.declared.words.WordsFault.{WordsFault}
 use Rattle.flame_program.specs.declared.words.WordsFault.TheVariants as words
 use Rattle.flame_answers.specs.declared.request.Request.{Request}
+use Rattle.flame_answers.specs.declared.request.Request.TheVariants.{Report, Export, Live}
 
 -- the words ask for something
 abbrev pub IsAsked : List (List ℕ) → Type 0
@@ -41,7 +42,8 @@ abbrev pub IsCut : List (List ℕ) → ℕ → Option (List ℕ) → Option (Lis
 IsCut words limit unread left before after =
     (text : List ℕ) × IsAnswered words limit unread left text × AppendsBeginning before after text
 
--- the words ask for something of an input that has no rows for it, and this is its first fault
+-- the words ask for something of an input that has no rows for it, and this is its first fault; or for `live`, and this
+-- happened to its store
 pub record IsRefusedInput (words : List (List ℕ)) (limit : ℕ) (unread left : Option (List ℕ))
     (fault : ToolFault) : Type 0 where
   pub request : Request
@@ -59,7 +61,10 @@ EndsByFault words limit unread left before after (Profile fault) =
     IsRefusedInput words limit unread left (Profile fault) × Keeps before after
 EndsByFault words limit unread left before after (Batch fault) =
     IsRefusedInput words limit unread left (Batch fault) × Keeps before after
+EndsByFault words limit unread left before after (tool.Live fault) =
+    IsRefusedInput words limit unread left (tool.Live fault) × Keeps before after
 EndsByFault words limit unread left before after Name = IsMisnamed words × Keeps unread left × Keeps before after
+EndsByFault words limit unread left before after Sessions = IsCrowded words × Keeps unread left × Keeps before after
 EndsByFault words limit unread left before after Read =
     IsAsked words × TakesAtMost limit unread left × Keeps before after
 EndsByFault words limit unread left before after Write = IsCut words limit unread left before after
@@ -83,13 +88,20 @@ pub record IsEnd (words : List (List ℕ)) (limit : ℕ) (unread left before aft
 -- an input that a request is answered on: within the limit, and with rows for it
 abbrev pub IsAccepted : Request → ℕ → List ℕ → Type 0
 IsAccepted request limit input =
-    (length input ≤ limit) × ((rows : List WeightedStack) × AreRowsIn (format_for request) (value_for request) input rows)
+    (length input ≤ limit) × IsReadable request input
 
--- where the words ask for something, the input alone decides between 0 and 1, but where the streams or memory failed
+-- a run with this code doesn't end by what happened to a store, which only `live` has
+abbrev pub IsUntroubled : Request → ℕ → Type 0
+IsUntroubled (Report source query) code = ⊤
+IsUntroubled (Export kind unit) code = ⊤
+IsUntroubled (Live source options) code = code ≢ 5
+
+-- where the words ask for something, the input alone decides between 0 and 1, but where the streams or memory failed, or
+-- the store of `live`
 abbrev pub InputDecides : List (List ℕ) → ℕ → Option (List ℕ) → ℕ → Type 0
 InputDecides words limit unread code =
     IfSome unread (λ input. (request : Request) → request_of words ≡ Some request
-    → code ≢ 3 → code ≢ 4
+    → code ≢ 3 → code ≢ 4 → IsUntroubled request code
     → ((code ≡ 0) ↔ IsAccepted request limit input) × ((code ≡ 1) ↔ ¬ IsAccepted request limit input))
 
 -- a fault of reading is one of the program
@@ -102,4 +114,5 @@ read_fault_of reading.NoMemory = NoMemory
 abbrev pub unasked_outcome_of : WordsFault → Outcome
 unasked_outcome_of (words.Refused text) = Words text
 unasked_outcome_of words.BadName = Fault Name
+unasked_outcome_of words.Sessions = Fault Sessions
 unasked_outcome_of words.NoMemory = Fault NoMemory

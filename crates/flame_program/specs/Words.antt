@@ -1,16 +1,18 @@
 -- The command line: the command, and what words ask for.
-use Rattle.std.specs.Prelude.{◌≡◌, ⊤, ◌&&◌, true, false, List, [], ◌∷◌, Option, Some, None, Result, Ok, Err, codes, map, if◌then◌else◌}
+use Rattle.std.specs.Prelude.{ℕ, ◌≡◌, ⊤, ◌&&◌, true, false, List, [], ◌∷◌, Option, Some, None, Result, Ok, Err, codes, map, if◌then◌else◌}
 use Rattle.std.specs.Borrow.{Bor}
 use Rattle.std.specs.Str.{bytes_eq}
+use Rattle.clap.specs.declared.builder.action.ArgAction.TheVariants.{SetTrue}
 use Rattle.clap.specs.Words.{App, Kinds, Row, Rule, Text, fault_of, first_of, new_app, new_rule, subcommand_of, with_rule, with_subcommand}
 use Rattle.flame_report.specs.declared.query.Kind.{Kind}
 use Rattle.flame_report.specs.declared.query.Kind.TheVariants as kind
 use Rattle.flame_answers.specs.declared.request.Format.{Format}
 use Rattle.flame_answers.specs.declared.request.Request.{Request}
-use Rattle.flame_answers.specs.declared.request.Request.TheVariants.{Report, Export}
+use Rattle.flame_answers.specs.declared.request.Request.TheVariants.{Report, Export, Live}
+use Rattle.live_answers.specs.Options.{PlainOptions, options_of}
 use Rattle.flame_program.specs.declared.words.WordsFault.{WordsFault}
-use Rattle.flame_program.specs.declared.words.WordsFault.TheVariants.{Refused, BadName, NoMemory}
-use Rattle.flame_program.specs.Options.{flame_kind, format_named, is_name_if_given, text_or, top_kind}
+use Rattle.flame_program.specs.declared.words.WordsFault.TheVariants.{Refused, BadName, Sessions, NoMemory}
+use Rattle.flame_program.specs.Options.{flame_kind, format_named, is_name_if_given, is_set, sessions_in, text_or, top_kind}
 
 -- ---- the command
 
@@ -22,6 +24,10 @@ option_rule id = record (new_rule id) { long = Some id; value_names = 1 }
 abbrev pub default_rule : Text → Text → Rule
 default_rule id default = record (option_rule id) { defaults = default ∷ [] }
 
+-- an option without a value
+abbrev pub flag_rule : Text → Rule
+flag_rule id = record (new_rule id) { long = Some id; action = Some SetTrue }
+
 -- how the input is read
 abbrev pub with_source : App → App
 with_source app =
@@ -30,6 +36,10 @@ with_source app =
 -- which rows are kept
 abbrev pub with_filters : App → App
 with_filters app = with_rule (with_rule app (option_rule (codes "focus"))) (option_rule (codes "ignore"))
+
+-- what is stored and written
+abbrev pub with_flags : App → App
+with_flags app = with_rule (with_rule app (flag_rule (codes "all"))) (flag_rule (codes "warm"))
 
 abbrev pub top_app : App
 top_app =
@@ -49,6 +59,10 @@ proto_app =
     with_rule (with_rule (new_app (codes "proto")) (default_rule (codes "kind") (codes "samples")))
     (default_rule (codes "unit") (codes "count"))
 
+abbrev pub live_app : App
+live_app =
+    with_rule (with_flags (with_source (new_app (codes "live")))) (default_rule (codes "sessions") (codes "2"))
+
 -- `flame`, which wants one of its subcommands
 abbrev pub flame_app : App
 flame_app = record { top = record (new_app (codes "flame")).top { subcommand_required = true }; subs = [] }
@@ -56,8 +70,10 @@ flame_app = record { top = record (new_app (codes "flame")).top { subcommand_req
 abbrev pub program_app : App
 program_app =
     with_subcommand
+    (with_subcommand
     (with_subcommand (with_subcommand (with_subcommand flame_app top_app.top) flame_graph_app.top) fold_app.top)
-    proto_app.top
+    proto_app.top)
+    live_app.top
 
 -- ---- what words ask for
 
@@ -65,10 +81,12 @@ program_app =
 abbrev pub texts_of : List (Bor Text) → List Text
 texts_of words = map (λ word. word.now) words
 
--- What was made of words: a request, a focus or an ignored name that can't be a name, or nothing.
+-- What was made of words: a request; a focus or an ignored name that can't be a name; a warm start for which a store
+-- has no session; or nothing.
 pub data Reading : Type 0 where
   asked : Request → Reading
   misnamed : Reading
+  crowded : Reading
   refused : Reading
 
 -- a report, where both names that it filters by can be names
@@ -94,6 +112,21 @@ abbrev pub export_in : List Row → Reading
 export_in rows =
     asked (Export (text_or (codes "samples") (codes "kind") rows) (text_or (codes "count") (codes "unit") rows))
 
+-- reports out of a store, where it has a session for each thread and for a warm start
+abbrev pub stored_report : Format → Option Text → Option PlainOptions → Reading
+stored_report format value None = crowded
+stored_report format value (Some options) = asked (Live (record { format = format; value = value }) options)
+
+abbrev pub live_of : Option ℕ → Option Format → List Row → Reading
+live_of None format rows = refused
+live_of (Some sessions) None rows = refused
+live_of (Some sessions) (Some format) rows =
+    stored_report format (first_of (codes "value") rows)
+    (options_of sessions (is_set (codes "all") rows) (is_set (codes "warm") rows))
+
+abbrev pub live_in : List Row → Reading
+live_in rows = live_of (sessions_in rows) (format_named (text_or (codes "folded") (codes "format") rows)) rows
+
 -- what a subcommand asks for, by its name and its options
 abbrev pub asked_by : Option (Text × List Row) → Reading
 asked_by None = refused
@@ -102,6 +135,7 @@ asked_by (Some subcommand) =
     else if bytes_eq subcommand.0 (codes "flame") then report_in (flame_kind subcommand.1) subcommand.1
     else if bytes_eq subcommand.0 (codes "fold") then report_in (Some kind.Folded) subcommand.1
     else if bytes_eq subcommand.0 (codes "proto") then export_in subcommand.1
+    else if bytes_eq subcommand.0 (codes "live") then live_in subcommand.1
     else refused
 
 -- a reading, where nothing is wrong with the words
@@ -116,6 +150,7 @@ reading_of words = unless_faulty (fault_of program_app words) (asked_by (subcomm
 abbrev pub request_in : Reading → Option Request
 request_in (asked request) = Some request
 request_in misnamed = None
+request_in crowded = None
 request_in refused = None
 
 -- the request of the words, where they have one
@@ -130,10 +165,15 @@ IsRefused words = reading_of words ≡ refused
 abbrev pub IsMisnamed : List Text → Type 0
 IsMisnamed words = reading_of words ≡ misnamed
 
+-- a store has no session for the warm start of the words
+abbrev pub IsCrowded : List Text → Type 0
+IsCrowded words = reading_of words ≡ crowded
+
 -- why words weren't read, of which this was made; want of memory claims nothing
 abbrev pub IsUnread : Reading → WordsFault → Type 0
 IsUnread reading (Refused text) = reading ≡ refused
 IsUnread reading BadName = reading ≡ misnamed
+IsUnread reading Sessions = reading ≡ crowded
 IsUnread reading NoMemory = ⊤
 
 abbrev pub IsReadAs : Reading → Result Request WordsFault → Type 0
@@ -144,4 +184,5 @@ IsReadAs reading (Err fault) = IsUnread reading fault
 abbrev pub IsNameFault : Option Text → WordsFault → Type 0
 IsNameFault given (Refused text) = ⊥
 IsNameFault given BadName = is_name_if_given given ≡ false
+IsNameFault given Sessions = ⊥
 IsNameFault given NoMemory = ⊤

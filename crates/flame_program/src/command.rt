@@ -3,10 +3,10 @@
 ghost use Rattle.std.specs.Prelude.{◌≡◌, IfOk, false};
 ghost use Rattle.clap.specs.Words.{app_of, rule_of};
 ghost use Rattle.clap.specs.declared.builder.command.Command.TheViews.{out-Command};
-ghost use Rattle.flame_program.specs.Words.{default_rule, flame_app, flame_graph_app, fold_app, option_rule, program_app, proto_app, top_app, with_filters, with_source};
+ghost use Rattle.flame_program.specs.Words.{default_rule, flag_rule, flame_app, flame_graph_app, fold_app, live_app, option_rule, program_app, proto_app, top_app, with_filters, with_flags, with_source};
 
 use crate::help;
-use clap::{Arg, Command};
+use clap::{Arg, ArgAction, Command};
 use std::alloc::{AllocError, Global};
 
 // An option with a value.
@@ -38,6 +38,17 @@ fn default_option<'a>(
         .default_value(default)
 }
 
+// An option without a value.
+fn flag<'a>(alloc: Global, id: &'a str, text: &'a str) -> Arg<'a>
+    ensures rule { rule_of result ≡ flag_rule id.entry.now }
+    ensures local { result.global ≡ false }
+{
+    Arg::new(alloc, id)
+        .long(id)
+        .help(text)
+        .action(ArgAction::SetTrue)
+}
+
 // The options that say how the input is read.
 fn with_source<'a>(alloc: Global, command: Command<'a>) -> Result<Command<'a>, AllocError>
     ensures app { IfOk result (λ with. app_of with ≡ with_source (app_of command.entry)) }
@@ -56,6 +67,16 @@ fn with_filters<'a>(alloc: Global, command: Command<'a>) -> Result<Command<'a>, 
     command
         .arg(option(alloc, "focus", "NAME", help::FOCUS))?
         .arg(option(alloc, "ignore", "NAME", help::IGNORE))
+}
+
+// The options that say what is stored and written.
+fn with_flags<'a>(alloc: Global, command: Command<'a>) -> Result<Command<'a>, AllocError>
+    ensures app { IfOk result (λ with. app_of with ≡ with_flags (app_of command.entry)) }
+    ensures local { IfOk result (λ with. (out-Command with).has_globals ≡ (out-Command command.entry).has_globals) }
+{
+    command
+        .arg(flag(alloc, "all", help::ALL))?
+        .arg(flag(alloc, "warm", help::WARM))
 }
 
 // The subcommand `top`.
@@ -111,6 +132,23 @@ fn proto_command<'a>(alloc: Global) -> Result<Command<'a>, AllocError>
         .arg(default_option(alloc, "unit", "count", "UNIT", help::UNIT))
 }
 
+// The subcommand `live`.
+fn live_command<'a>(alloc: Global) -> Result<Command<'a>, AllocError>
+    ensures app { IfOk result (λ command. app_of command ≡ live_app) }
+    ensures local { IfOk result (λ command. (out-Command command).has_globals ≡ false) }
+{
+    let command = Command::new(alloc, "live")
+        .about(help::ABOUT_LIVE)
+        .after_help(help::AFTER_LIVE);
+    with_flags(alloc, with_source(alloc, command)?)?.arg(default_option(
+        alloc,
+        "sessions",
+        "2",
+        "NUMBER",
+        help::SESSIONS,
+    ))
+}
+
 /// The command `flame`, with its subcommands and their texts.
 pub(crate) fn command<'a>(alloc: Global) -> Result<Command<'a>, AllocError>
     ensures { IfOk result (λ command. app_of command ≡ program_app) }
@@ -123,5 +161,6 @@ pub(crate) fn command<'a>(alloc: Global) -> Result<Command<'a>, AllocError>
         .subcommand(top_command(alloc)?)?
         .subcommand(flame_graph_command(alloc)?)?
         .subcommand(fold_command(alloc)?)?
-        .subcommand(proto_command(alloc)?)
+        .subcommand(proto_command(alloc)?)?
+        .subcommand(live_command(alloc)?)
 }

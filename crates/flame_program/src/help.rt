@@ -11,6 +11,9 @@ pub const ABOUT_FOLD: &str = "Adds up equal stacks";
 
 pub const ABOUT_PROTO: &str = "Writes folded stacks as a pprof profile";
 
+pub const ABOUT_LIVE: &str =
+    "Adds up equal stacks in a store that several threads fill, and audits what they were told";
+
 pub const FORMAT: &str = "\
     How the input is written: folded (stacks, as collapse scripts write them) or pprof (profile.proto, \
     unpacked: gunzip -c cpu.pb.gz | flame top --format pprof)";
@@ -35,6 +38,15 @@ pub const COLUMNS: &str = "\
 pub const KIND: &str = "The name of the profile's sample type; it changes no number";
 
 pub const UNIT: &str = "The unit of the profile's sample type; it changes no number";
+
+pub const ALL: &str = "\
+    Take all sample types of a pprof profile, at most four, and write a report for each; --value has no effect then";
+
+pub const WARM: &str = "\
+    First add all stacks by one session more, ask for the total and reset the store; it changes no report";
+
+pub const SESSIONS: &str = "\
+    How many threads add stacks, 1 to 64, or 1 to 63 with --warm; it changes no report but the last line";
 
 pub const AFTER_PROGRAM: &str = "\
 Example:
@@ -84,3 +96,16 @@ each line, which other tools open.
 Example:
   $ flame proto --kind cpu --unit nanoseconds < stacks.folded > stacks.pb
   $ go tool pprof -top stacks.pb";
+
+pub const AFTER_LIVE: &str = "\
+Each stack goes to the next of the threads, which adds it to one store in memory. At the end each
+thread asks for the total, and all that it was told is compared with the store's journal. Where
+they agree, the output is that of fold, and a line that counts the operations of all threads. With
+--all there is a line with the number of each value before its stacks.
+
+Examples:
+  $ printf 'main;a 2\\nmain 1\\nmain;a 3\\n' | flame live --sessions 3
+  main 1
+  main;a 5
+  audited 6 operations
+  $ gunzip -c heap.pb.gz | flame live --format pprof --all --sessions 8";

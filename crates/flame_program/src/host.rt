@@ -10,6 +10,7 @@ use std::process::ExitCode;
 /// it show that it takes all of both, and that the status is the cause's.
 pub fn run_on_host(rt: HostRuntime) -> ExitCode {
     let end = run_process(
+        &rt,
         rt.alloc(),
         env::args(&rt),
         &mut rt.stdin(),

@@ -4,7 +4,7 @@ ghost use Rattle.std.specs.Prelude.{◌≡◌, ◌^◌, ◌<◌, ◌≤◌, Matc
 ghost use Rattle.std.specs.List.{list_all};
 ghost use Rattle.std.specs.Str.Parse.{IsNumeral, digits_value};
 ghost use Rattle.clap.specs.Words.{first_of, found_of, rows_of};
-ghost use Rattle.flame_program.specs.Options.{columns_of, flame_kind, format_named, is_digit, is_number, number_named, rank_named, text_or, top_kind};
+ghost use Rattle.flame_program.specs.Options.{columns_of, flame_kind, format_named, is_digit, is_number, is_set, number_named, rank_named, sessions_in, sessions_of, text_or, top_kind};
 
 use clap::ArgMatches;
 use flame_answers::Format;
@@ -25,6 +25,13 @@ pub(crate) fn text_or<'a>(matches: &ArgMatches<'a>, id: &str, default: &'a str) 
         Some(text) => text,
         None => default,
     }
+}
+
+/// Whether an option without a value is given.
+pub(crate) fn is_set(matches: &ArgMatches<'_>, id: &str) -> bool
+    ensures { result ≡ is_set id.now (rows_of (found_of matches.now)) }
+{
+    text_or(matches, id, "false") == "true"
 }
 
 /// The format of the input.
@@ -94,6 +101,23 @@ fn columns_of(number: Option<u32>) -> Option<Columns>
     }
 }
 
+// A number of threads.
+fn sessions_of(number: Option<u32>) -> Option<u32>
+    ensures { result ≡ sessions_of number }
+{
+    match number {
+        Some(number) if number != 0 && number < 65 => Some(number),
+        _ => None,
+    }
+}
+
+/// How many threads of `live` add stacks.
+pub(crate) fn sessions_in(matches: &ArgMatches<'_>) -> Option<u32>
+    ensures { result ≡ sessions_in (rows_of (found_of matches.now)) }
+{
+    sessions_of(number_named(text_or(matches, "sessions", "2")))
+}
+
 /// The report of `top`.
 pub(crate) fn top_kind(matches: &ArgMatches<'_>) -> Option<Kind>
     ensures { result ≡ top_kind (rows_of (found_of matches.now)) }
@@ -124,6 +148,12 @@ pub(crate) fn refused_option<'a>(
         ("by", rank, "flat or cum")
     } else if number_named(count).is_none() {
         ("count", count, "a number from 0 to 4294967295")
+    } else if sessions_in(matches).is_none() {
+        (
+            "sessions",
+            text_or(matches, "sessions", "2"),
+            "a number from 1 to 64",
+        )
     } else {
         (
             "columns",

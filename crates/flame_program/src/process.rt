@@ -16,6 +16,8 @@ use std::env::Args;
 use std::io;
 use std::io::{ErrorKind, Read, Write};
 use std::process::ExitCode;
+use std::sync::Wait;
+use std::thread::Threads;
 
 /// How a process ends.
 #[derive(Drop)]
@@ -30,7 +32,8 @@ pub struct End {
 ///
 /// The first word is the program's name. At most 268,435,456 bytes of input are taken. The writer gets the report
 /// alone, and the error writer what there is to say of another end.
-pub fn run_process<R: Read, W: Write, E: Write>(
+pub fn run_process<T: Threads + Wait + Sync, R: Read, W: Write, E: Write>(
+    rt: &T,
     alloc: Global,
     words: io::Result<Args>,
     reader: &mut R,
@@ -45,7 +48,7 @@ pub fn run_process<R: Read, W: Write, E: Write>(
     ensures done { exit_status result.code ≡ 0 → IfOk words (λ words.
         IsDone (map string_bytes (into_iter_items words)) 268435456
         (R.remaining reader.old) (R.remaining reader.new) (W.contents writer.old) (W.contents writer.new)) }
-    // Where the words ask for something, the input alone decides, but where the streams or memory failed.
+    // Where the words ask for something, the input alone decides, but where the streams, memory or a store failed.
     ensures decided { IfOk words (λ words. InputDecides (map string_bytes (into_iter_items words)) 268435456
         (R.remaining reader.old) (exit_status result.code)) }
     // Where the words can't be had, nothing is read or written, and it ends with 2 and a text that says so, or with 4.
@@ -53,7 +56,7 @@ pub fn run_process<R: Read, W: Write, E: Write>(
         (R.remaining reader.old) (R.remaining reader.new) (W.contents writer.old) (W.contents writer.new)
         (exit_status result.code) cause × IsSaid (E.contents errors.old) (E.contents errors.new) cause result.said) }
 {
-    let status = run_words(alloc, words, reader, writer);
+    let status = run_words(rt, alloc, words, reader, writer);
     End {
         code: exit_code(&status),
         said: say(errors, &status.cause),
@@ -75,7 +78,8 @@ fn say<E: Write>(errors: &mut E, cause: &Outcome) -> io::Result<()>
 }
 
 // Runs on the words, where they can be had.
-fn run_words<R: Read, W: Write>(
+fn run_words<T: Threads + Wait + Sync, R: Read, W: Write>(
+    rt: &T,
     alloc: Global,
     words: io::Result<Args>,
     reader: &mut R,
@@ -94,13 +98,19 @@ fn run_words<R: Read, W: Write>(
         result.code result.cause) }
 {
     match words {
-        Ok(words) => run_args(alloc, words, reader, writer),
+        Ok(words) => run_args(rt, alloc, words, reader, writer),
         Err(error) => unread_words(alloc, &error),
     }
 }
 
 // Runs on all of the words.
-fn run_args<R: Read, W: Write>(alloc: Global, words: Args, reader: &mut R, writer: &mut W) -> Status
+fn run_args<T: Threads + Wait + Sync, R: Read, W: Write>(
+    rt: &T,
+    alloc: Global,
+    words: Args,
+    reader: &mut R,
+    writer: &mut W,
+) -> Status
     ensures ends { IsEnd (map string_bytes (into_iter_items words)) 268435456
         (R.remaining reader.old) (R.remaining reader.new) (W.contents writer.old) (W.contents writer.new)
         result.code result.cause }
@@ -110,7 +120,7 @@ fn run_args<R: Read, W: Write>(alloc: Global, words: Args, reader: &mut R, write
         result.code }
 {
     match owned_words(alloc, words) {
-        Ok(words) => run_texts(alloc, words.as_slice(), reader, writer),
+        Ok(words) => run_texts(rt, alloc, words.as_slice(), reader, writer),
         Err(_) => no_memory(),
     }
 }
@@ -123,7 +133,8 @@ fn owned_words(alloc: Global, words: Args) -> Result<Vec<String>, AllocError>
 }
 
 // Runs on the texts of the words.
-fn run_texts<R: Read, W: Write>(
+fn run_texts<T: Threads + Wait + Sync, R: Read, W: Write>(
+    rt: &T,
     alloc: Global,
     words: &[String],
     reader: &mut R,
@@ -137,7 +148,7 @@ fn run_texts<R: Read, W: Write>(
     ensures decided { InputDecides (map string_bytes words.now) 268435456 (R.remaining reader.old) result.code }
 {
     match texts_in(alloc, words) {
-        Ok(texts) => run(alloc, texts.as_slice(), reader, writer, MAX_INPUT),
+        Ok(texts) => run(rt, alloc, texts.as_slice(), reader, writer, MAX_INPUT),
         Err(_) => no_memory(),
     }
 }

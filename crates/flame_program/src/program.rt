@@ -4,7 +4,7 @@ ghost use Rattle.std.specs.Prelude.{◌≡◌, ◌≢◌, ◌+◌, ◌≤◌, �
 ghost use Rattle.std.specs.Io.KnownBytes.{Keeps};
 ghost use Rattle.flame_answers.specs.Parts.{TakesAtMost};
 ghost use Rattle.flame_program.specs.Program.{EndsBy, InputDecides, IsCut, IsDone, IsEnd, read_fault_of, unasked_outcome_of};
-ghost use Rattle.flame_program.specs.Words.{IsMisnamed, IsRefused, request_of, texts_of};
+ghost use Rattle.flame_program.specs.Words.{IsCrowded, IsMisnamed, IsRefused, request_of, texts_of};
 
 use crate::words::{WordsFault, read_words};
 use flame_answers::{
@@ -12,12 +12,15 @@ use flame_answers::{
 };
 use std::alloc::Global;
 use std::io::{Read, Write};
+use std::sync::Wait;
+use std::thread::Threads;
 
 /// Reads the words, then the whole input, and writes the whole report on it.
 ///
 /// The first word is the program's name. At most `limit` bytes of input are taken, and one more shows that it is too
 /// long. Nothing is written before the whole text is made.
-pub fn run<'a, R: Read, W: Write>(
+pub fn run<'a, T: Threads + Wait + Sync, R: Read, W: Write>(
+    rt: &T,
     alloc: Global,
     words: &'a [&'a str],
     reader: &mut R,
@@ -31,11 +34,12 @@ pub fn run<'a, R: Read, W: Write>(
     // At 0 the input was read to its end, and exactly the report on the rows that it spells was appended.
     ensures done { result.code ≡ 0 → IsDone (texts_of words.entry.now) limit
         (R.remaining reader.old) (R.remaining reader.new) (W.contents writer.old) (W.contents writer.new) }
-    // Where the words ask for something, the input alone decides, but where the streams or memory failed.
+    // Where the words ask for something, the input alone decides, but where the streams, memory or a store failed.
     ensures decided { InputDecides (texts_of words.entry.now) limit (R.remaining reader.old) result.code }
     // Words that ask for nothing end with 2, want of memory aside, and no others do.
     ensures refused { result.code ≡ 2
-        → IsRefused (texts_of words.entry.now) ⊎ IsMisnamed (texts_of words.entry.now) }
+        → IsRefused (texts_of words.entry.now) ⊎ (IsMisnamed (texts_of words.entry.now)
+        ⊎ IsCrowded (texts_of words.entry.now)) }
     ensures unasked { request_of (texts_of words.entry.now) ≡ None → result.code ≢ 4 → result.code ≡ 2 }
     // Nothing is written, but at 0 and at a fault of writing: then a beginning of the report.
     ensures silent { result.code ≢ 0 → result.cause ≢ Outcome.Fault ToolFault.Write
@@ -44,11 +48,12 @@ pub fn run<'a, R: Read, W: Write>(
         (R.remaining reader.old) (R.remaining reader.new) (W.contents writer.old) (W.contents writer.new) }
     ensures reads_at_most { TakesAtMost (limit + 1) (R.remaining reader.old) (R.remaining reader.new) }
 {
-    Status::of(outcome_of(alloc, words, reader, writer, limit))
+    Status::of(outcome_of(rt, alloc, words, reader, writer, limit))
 }
 
 // How the run ends.
-fn outcome_of<'a, R: Read, W: Write>(
+fn outcome_of<'a, T: Threads + Wait + Sync, R: Read, W: Write>(
+    rt: &T,
     alloc: Global,
     words: &'a [&'a str],
     reader: &mut R,
@@ -60,7 +65,7 @@ fn outcome_of<'a, R: Read, W: Write>(
         (W.contents writer.old) (W.contents writer.new) result }
 {
     match read_words(alloc, words) {
-        Ok(request) => respond(alloc, request, reader, writer, limit),
+        Ok(request) => respond(rt, alloc, request, reader, writer, limit),
         Err(fault) => unasked(fault),
     }
 }
@@ -72,12 +77,14 @@ fn unasked(fault: WordsFault) -> Outcome
     match fault {
         WordsFault::Refused(text) => Outcome::Words(text),
         WordsFault::BadName => Outcome::Fault(ToolFault::Name),
+        WordsFault::Sessions => Outcome::Fault(ToolFault::Sessions),
         WordsFault::NoMemory => Outcome::Fault(ToolFault::NoMemory),
     }
 }
 
 // Reads the input, makes the text, and writes it.
-fn respond<R: Read, W: Write>(
+fn respond<T: Threads + Wait + Sync, R: Read, W: Write>(
+    rt: &T,
     alloc: Global,
     request: Request,
     reader: &mut R,
@@ -93,7 +100,7 @@ fn respond<R: Read, W: Write>(
         Ok(input) => input,
         Err(fault) => return Outcome::Fault(read_fault(fault)),
     };
-    let text = match answer(alloc, &request, input.as_slice()) {
+    let text = match answer(rt, alloc, &request, input.as_slice()) {
         Ok(text) => text,
         Err(fault) => return Outcome::Fault(fault),
     };

@@ -2,16 +2,20 @@
 
 ghost use Rattle.std.specs.Prelude.{◌≡◌, ◌⊎◌, List, MatchResult, Some, Option, true, ⊤, codes, option_map};
 ghost use Rattle.clap.specs.Words.{Text, first_of, found_of, kind_of, rows_of, subcommand_rows_of};
-ghost use Rattle.flame_program.specs.Options.{is_name_if_given};
-ghost use Rattle.flame_program.specs.Words.{IsNameFault, IsReadAs, IsRefused, IsUnread, Reading, asked_by, export_in, named_report, reading_of, report_in, texts_of};
+ghost use Rattle.flame_program.specs.Options.{is_name_if_given, is_set};
+ghost use Rattle.live_answers.specs.Options.{options_of};
+ghost use Rattle.flame_program.specs.Words.{IsNameFault, IsReadAs, IsRefused, IsUnread, Reading, asked_by, export_in, live_in, named_report, reading_of, report_in, stored_report, texts_of};
 ghost use Rattle.flame_program.specs.Words.Reading.{refused};
 
 use crate::command::command;
-use crate::options::{flame_kind, format_named, given, refused_option, text_or, top_kind};
+use crate::options::{
+    flame_kind, format_named, given, is_set, refused_option, sessions_in, text_or, top_kind,
+};
 use clap::error::ErrorKind;
 use clap::{ArgMatches, Error};
 use flame_answers::{Format, Request, Source};
 use flame_report::{Kind, Query};
+use live_answers::LiveOptions;
 use pprof_profile::Text;
 use profile_rows::{Name, NameFault, NoMemory};
 use std::alloc::{AllocError, Global};
@@ -23,6 +27,8 @@ pub enum WordsFault {
     Refused(String),
     /// A focus or an ignored name can't be a name.
     BadName,
+    /// A warm start beside 64 sessions.
+    Sessions,
     /// Memory ran out.
     NoMemory,
 }
@@ -43,7 +49,8 @@ impl From<NoMemory> for WordsFault {
 /// # Errors
 ///
 /// `Refused` exactly where the command refuses the words, an option has a value that it can't have, or the words ask
-/// for help; `BadName` where only a focus or an ignored name is wrong; `NoMemory`.
+/// for help; `BadName` where only a focus or an ignored name is wrong; `Sessions` where only a session for a warm start is
+/// wanting; `NoMemory`.
 pub fn read_words<'a>(alloc: Global, words: &'a [&'a str]) -> Result<Request, WordsFault>
     ensures { IsReadAs (reading_of (texts_of words.entry.now)) result }
 {
@@ -75,6 +82,7 @@ fn named_request(alloc: Global, name: &str, options: &ArgMatches<'_>) -> Result<
         "flame" => report_in(alloc, flame_kind(options), options),
         "fold" => report_in(alloc, Some(Kind::Folded), options),
         "proto" => export_in(alloc, options),
+        "live" => live_in(alloc, options),
         _ => Err(refusal(format!(in alloc; "error: there is no subcommand {name}\n"))),
     }
 }
@@ -153,6 +161,38 @@ fn export_in(alloc: Global, options: &ArgMatches<'_>) -> Result<Request, WordsFa
     let kind = Text::copied(alloc, text_or(options, "kind", "samples"))?;
     let unit = Text::copied(alloc, text_or(options, "unit", "count"))?;
     Ok(Request::Export { kind, unit })
+}
+
+// What `live` asks for, where the options have values that they can have.
+fn live_in(alloc: Global, options: &ArgMatches<'_>) -> Result<Request, WordsFault>
+    ensures { IsReadAs (live_in (rows_of (found_of options.now))) result }
+{
+    let format = format_named(text_or(options, "format", "folded"));
+    match (sessions_in(options), format) {
+        (Some(sessions), Some(format)) => stored_report(alloc, sessions, format, options),
+        _ => Err(value_refusal(alloc, options)),
+    }
+}
+
+// The reports out of a store, where it has a session for each thread and for a warm start.
+fn stored_report(
+    alloc: Global,
+    sessions: u32,
+    format: Format,
+    options: &ArgMatches<'_>,
+) -> Result<Request, WordsFault>
+    ensures { IsReadAs (stored_report format (first_of (codes "value") (rows_of (found_of options.now)))
+        (options_of sessions (is_set (codes "all") (rows_of (found_of options.now)))
+        (is_set (codes "warm") (rows_of (found_of options.now))))) result }
+{
+    let value = text_from(alloc, given(options, "value"))?;
+    match LiveOptions::new(sessions, is_set(options, "all"), is_set(options, "warm")) {
+        Some(options) => Ok(Request::Live {
+            source: Source { format, value },
+            options,
+        }),
+        None => Err(WordsFault::Sessions),
+    }
 }
 
 // What is said of an option whose value it can't have.

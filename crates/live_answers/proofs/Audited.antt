@@ -16,7 +16,7 @@ use Rattle.op_book.specs.declared.entry.SessionLog.{SessionLog}
 use Rattle.live_store.specs.Workers.{ops_told}
 use Rattle.live_answers.specs.Dealing.{AreDealt, addition, total_at, totals_from, warm_lists, weigh}
 use Rattle.live_answers.specs.Live.{operations_in}
-use Rattle.live_answers.specs.declared.options.LiveOptions.{LiveOptions}
+use Rattle.live_answers.specs.Options.{PlainOptions}
 
 -- ---- sums
 
@@ -78,7 +78,7 @@ counts_warm : (is : Bool) (batch : BatchState) → weigh (λ _. 1) (warm_lists (
 counts_warm true batch = refl
 counts_warm false batch = refl
 
-pub run_counts : (batch : BatchState) (options : LiveOptions) (warm : Option BatchState) (lists : List (List PlainOp)) (logs : List SessionLog) (run : List PlainStep) → AreDealt batch options.sessions lists
+pub run_counts : (batch : BatchState) (options : PlainOptions) (warm : Option BatchState) (lists : List (List PlainOp)) (logs : List SessionLog) (run : List PlainStep) → AreDealt batch options.sessions lists
     → map (λ (log : SessionLog). ops_told log.receipts) logs ≡ warm_lists warm ++ lists → IsPermutation (steps_in logs) run → warm ≡ cond options.warm (Some batch) None
     → length run ≡ operations_in options batch
 run_counts batch options warm lists logs run dealt told once is =

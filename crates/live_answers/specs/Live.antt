@@ -4,7 +4,7 @@ use Rattle.std.specs.Prelude.{ℕ, ◌+◌, ◌*◌, Bool, cond, List, [], ◌++
 use Rattle.std.specs.Fmt.{decimal}
 use Rattle.folded_text.specs.FoldedText.{folded_text_of}
 use Rattle.profile_rows.specs.Values.{BatchState, Row, rows_at}
-use Rattle.live_answers.specs.declared.options.LiveOptions.{LiveOptions}
+use Rattle.live_answers.specs.Options.{PlainOptions}
 
 -- the folded report of one value
 abbrev pub folded_at : ℕ → List Row → List ℕ
@@ -28,7 +28,7 @@ abbrev pub operations_of_workers : ℕ → BatchState → ℕ
 operations_of_workers sessions batch = length batch.rows + sessions * batch.width
 
 -- how many operations all sessions make: a warm start has an addition, a total and a reset
-abbrev pub operations_in : LiveOptions → BatchState → ℕ
+abbrev pub operations_in : PlainOptions → BatchState → ℕ
 operations_in options batch = cond options.warm 3 0 + operations_of_workers options.sessions batch
 
 -- how many operations were audited
@@ -36,5 +36,5 @@ abbrev pub count_line : ℕ → List ℕ
 count_line operations = codes "audited " ++ decimal operations ++ codes " operations\n"
 
 -- the reports, and how many operations were audited
-abbrev pub live_text_of : LiveOptions → BatchState → List ℕ
+abbrev pub live_text_of : PlainOptions → BatchState → List ℕ
 live_text_of options batch = reports_of options.all batch ++ count_line (operations_in options batch)

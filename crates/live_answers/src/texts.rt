@@ -35,11 +35,9 @@ pub fn live_text<R: Threads + Wait + Sync>(
     batch: &Arc<Batch>,
     options: LiveOptions,
 ) -> Result<Vec<u8>, LiveFault>
-    requires some { 0 < options.sessions }
-    requires few { options.sessions + cond options.warm 1 0 ≤ 64 }
     ensures { IfOk result (λ text. text.items ≡ live_text_of options (arc_value batch.now)) }
 {
-    let lists = deal(alloc, batch, options.sessions)?;
+    let lists = deal(alloc, batch, options.sessions())?;
     let warm = warm_batch(batch, options)?;
     let blank = blank_for(alloc, batch, options)?;
     let Stored { journal, logs } = store::<Brand, R>(rt, alloc, blank, warm, lists)?;
@@ -47,7 +45,7 @@ pub fn live_text<R: Threads + Wait + Sync>(
     check_warm(options, &logs)?;
     additions_count_since_the_last_reset();
     aggregate_is_by_weights();
-    let mut text = reports(alloc, journal.tree(), options.all)?;
+    let mut text = reports(alloc, journal.tree(), options.all())?;
     let operations = run.steps().len();
     push_count(alloc, operations, &mut text)?;
     Ok(text)
@@ -78,8 +76,6 @@ fn check_warm(options: LiveOptions, logs: &[SessionLog]) -> Result<(), LiveFault
 
 /// A store for the rows of a batch and for a warm start.
 fn blank_for(alloc: Global, batch: &Batch, options: LiveOptions) -> Result<Blank, LiveFault>
-    requires some { 0 < options.sessions }
-    requires few { options.sessions + cond options.warm 1 0 ≤ 64 }
     ensures width { IfOk result (λ blank. blank.width ≡ batch.now.width) }
 {
     let (sessions, more) = if options.warm {

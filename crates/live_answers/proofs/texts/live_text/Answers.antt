@@ -25,7 +25,8 @@ returns g c =
     let warm : Option BatchState = option_map arc_value c.in_ok-warm.warm in
     let run : List PlainStep = c.in_ok-run.run' in
     let given : c.deref.result.now ≡ batch = c.deref.ensures in
-    let dealt : AreDealt batch options.sessions lists = subst (λ (b : BatchState). AreDealt b options.sessions lists) given c.in_ok-lists.ensures in
+    let dealt : AreDealt batch options.sessions lists =
+    subst (λ (n : ℕ). AreDealt batch n lists) c.sessions.ensures (subst (λ (b : BatchState). AreDealt b c.sessions.result lists) given c.in_ok-lists.ensures) in
     let told : map (λ (log : SessionLog). ops_told log.receipts) logs ≡ warm_lists warm ++ lists = c.in_ok-journal.ensures.told in
     let warm_is : warm ≡ cond options.warm (Some batch) None = c.in_ok-warm.ensures in
     let matched : LogsMatch journal logs = subst (λ (ls : List SessionLog). LogsMatch journal ls) c.deref-3.ensures.value (c.in_ok-run.ensures.first).0 in
@@ -45,5 +46,5 @@ returns g c =
     let count : length c.steps-operations.result.now ≡ operations_in options batch =
     ap length c.steps-operations.ensures ∙ run_counts batch options warm lists logs run dealt told once warm_is in
     c.in_ok-push_count.ensures
-    ∙ ap (λ text. text ++ count_line (length c.steps-operations.result.now)) (c.in_ok-text.ensures batch width all)
+    ∙ ap (λ text. text ++ count_line (length c.steps-operations.result.now)) (c.in_ok-text.ensures batch width all ∙ ap (λ b. reports_of b batch) c.all.ensures)
     ∙ ap (λ n. reports_of options.all batch ++ count_line n) count

@@ -1,0 +1,105 @@
+//! What `live` writes of an input.
+
+ghost use Rattle.std.specs.Prelude.{ℕ, ◌≡◌, Bool, List, MatchResult, Option};
+ghost use Rattle.flame_answers.specs.Answers.{IsBatchIn, IsLiveChoice, IsLiveRefused, IsLiveText, store_fault_of};
+ghost use Rattle.flame_answers.specs.declared.request.Format.TheVariants.{Folded, Pprof};
+
+use crate::answers::{batch_fault, choice_of, folded_fault, profile_fault};
+use crate::outcomes::ToolFault;
+use crate::request::{Format, Source};
+use folded_text::read_folded;
+use live_answers::{LiveFault, LiveOptions, live_text};
+use pprof_profile::{Text, decode};
+use profile_rows::Batch;
+use profile_samples::{ValueChoice, batch_of};
+use std::alloc::Global;
+use std::sync::{Arc, Wait};
+use std::thread::Threads;
+
+/// The reports of the input's rows out of a store that several threads filled, once it was audited.
+pub(crate) fn live_report<R: Threads + Wait + Sync>(
+    rt: &R,
+    alloc: Global,
+    source: &Source,
+    options: LiveOptions,
+    input: &[u8],
+) -> Result<Vec<u8>, ToolFault>
+    ensures { MatchResult result
+        (λ text. IsLiveText source.now.format source.now.value options input.now text.items)
+        (λ fault. IsLiveRefused source.now.format options.all source.now.value input.now fault) }
+{
+    let batch = live_batch(alloc, source, options.all(), input)?;
+    let Ok(batch) = Arc::new(alloc, batch) else {
+        return Err(ToolFault::NoMemory);
+    };
+    match live_text(rt, alloc, &batch, options) {
+        Ok(text) => Ok(text),
+        Err(fault) => Err(store_fault(fault)),
+    }
+}
+
+/// The batch of the input.
+fn live_batch(alloc: Global, source: &Source, all: bool, input: &[u8]) -> Result<Batch, ToolFault>
+    ensures { MatchResult result
+        (λ batch. IsBatchIn source.now.format all source.now.value input.now batch)
+        (λ fault. IsLiveRefused source.now.format all source.now.value input.now fault) }
+{
+    match source.format {
+        Format::Folded => folded_batch(alloc, input),
+        Format::Pprof => profile_batch(alloc, all, &source.value, input),
+    }
+}
+
+/// The batch of folded text.
+fn folded_batch(alloc: Global, input: &[u8]) -> Result<Batch, ToolFault>
+    ensures { (all : Bool) (value : Option (List ℕ)) → MatchResult result
+        (λ batch. IsBatchIn Folded all value input.now batch)
+        (λ fault. IsLiveRefused Folded all value input.now fault) }
+{
+    match read_folded(alloc, input) {
+        Ok(batch) => Ok(batch),
+        Err(fault) => Err(folded_fault(fault)),
+    }
+}
+
+/// The batch of a profile's samples.
+fn profile_batch(
+    alloc: Global,
+    all: bool,
+    value: &Option<Text>,
+    input: &[u8],
+) -> Result<Batch, ToolFault>
+    ensures { MatchResult result
+        (λ batch. IsBatchIn Pprof all value.now input.now batch)
+        (λ fault. IsLiveRefused Pprof all value.now input.now fault) }
+{
+    let profile = match decode(alloc, input) {
+        Ok(profile) => profile,
+        Err(fault) => return Err(profile_fault(fault)),
+    };
+    match batch_of(alloc, &profile, live_choice(all, value)) {
+        Ok(batch) => Ok(batch),
+        Err(fault) => Err(batch_fault(fault)),
+    }
+}
+
+/// The choice of one value or of all.
+fn live_choice<'a>(all: bool, value: &'a Option<Text>) -> ValueChoice<'a>
+    ensures { IsLiveChoice all value.entry.now result }
+{
+    if all {
+        ValueChoice::All
+    } else {
+        choice_of(value)
+    }
+}
+
+// The program's fault for one of the store: want of memory is one for all.
+fn store_fault(fault: LiveFault) -> ToolFault
+    ensures { result ≡ store_fault_of fault }
+{
+    match fault {
+        LiveFault::NoMemory => ToolFault::NoMemory,
+        _ => ToolFault::Live(fault),
+    }
+}

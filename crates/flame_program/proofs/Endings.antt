@@ -1,5 +1,5 @@
 -- What a run's end says of its reader.
-use Rattle.std.proofs.Common.{⊥, ◌≡◌, ◌+◌, ℕ, List, [], Option, Some, None, sym, arith}
+use Rattle.std.proofs.Common.{◌≡◌, ◌+◌, ℕ, List, [], Option, Some, None, sym, arith}
 use Rattle.std.proofs.KnownBytes.{Keeps-refl}
 use Rattle.std.specs.Io.KnownBytes.{Keeps}
 use Rattle.flame_answers.specs.Parts.{IsWholeInput, LeavesAfterFault, TakesAtMost}

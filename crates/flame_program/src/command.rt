@@ -149,15 +149,23 @@ fn live_command<'a>(alloc: Global) -> Result<Command<'a>, AllocError>
     ))
 }
 
+// The command `flame` without its subcommands.
+fn bare_command<'a>(alloc: Global) -> Result<Command<'a>, AllocError>
+    ensures { IfOk result (λ command. app_of command ≡ flame_app) }
+{
+    let command = Command::new(alloc, "flame")
+        .bin_name("flame")?
+        .about(help::ABOUT)
+        .after_help(help::AFTER_PROGRAM)
+        .subcommand_required(true);
+    Ok(command)
+}
+
 /// The command `flame`, with its subcommands and their texts.
 pub(crate) fn command<'a>(alloc: Global) -> Result<Command<'a>, AllocError>
     ensures { IfOk result (λ command. app_of command ≡ program_app) }
 {
-    Command::new(alloc, "flame")
-        .bin_name("flame")?
-        .about(help::ABOUT)
-        .after_help(help::AFTER_PROGRAM)
-        .subcommand_required(true)
+    bare_command(alloc)?
         .subcommand(top_command(alloc)?)?
         .subcommand(flame_graph_command(alloc)?)?
         .subcommand(fold_command(alloc)?)?

@@ -3,14 +3,17 @@
 use crate::process::run_process;
 use std::env;
 use std::process::ExitCode;
+use std::sync::Wait;
+use std::thread::Threads;
 
-/// The whole of `main`: runs on the process's words and its three streams, and gives the exit status.
+/// The whole of `main`: runs on the process's words and its three streams, and gives the exit status. Threads are those
+/// of `threads`, which `main` has of its runtime.
 ///
 /// It has no clause, since none knows what a process's words and streams are. The stored runs of the programs that call
 /// it show that it takes all of both, and that the status is the cause's.
-pub fn run_on_host(rt: HostRuntime) -> ExitCode {
+pub fn run_on_host<T: Threads + Wait + Sync>(threads: &T, rt: HostRuntime) -> ExitCode {
     let end = run_process(
-        &rt,
+        threads,
         rt.alloc(),
         env::args(&rt),
         &mut rt.stdin(),

@@ -5,6 +5,8 @@ use flame_program::run;
 use std::alloc::{AllocError, Global};
 use std::io;
 use std::io::{ErrorKind, Read, Write};
+use std::sync::Wait;
+use std::thread::Threads;
 
 /// The words that ask for the top list.
 pub static TOP: [&str; 2] = ["flame", "top"];
@@ -95,7 +97,8 @@ impl Write for Narrow {
 }
 
 /// What a run on these bytes ended with, and what it wrote.
-pub fn run_on<'a>(
+pub fn run_on<'a, T: Threads + Wait + Sync>(
+    rt: &T,
     alloc: Global,
     words: &'a [&'a str],
     input: &[u8],
@@ -104,6 +107,7 @@ pub fn run_on<'a>(
     let mut reader = input;
     let mut written = Vec::new(alloc);
     let status = run(
+        rt,
         alloc,
         words,
         &mut reader,

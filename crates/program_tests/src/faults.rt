@@ -26,7 +26,7 @@ fn folded_faults(rt: HostRuntime) -> Result<(), Fail> {
         (b"\xff 1\n", b"flame: F1 NotUtf8 line 1\n"),
     ];
     for (place, (input, line)) in cases.iter().enumerate() {
-        let (status, written) = run_on(rt.alloc(), TOP.as_slice(), input, MAX_INPUT);
+        let (status, written) = run_on(&rt, rt.alloc(), TOP.as_slice(), input, MAX_INPUT);
         let said = status.cause.to_string(rt.alloc())?;
         assert_eq!(rt; status.code, 1, "{place}");
         assert_eq!(rt; said.as_bytes(), *line, "{place}");
@@ -41,13 +41,13 @@ fn deepest_stack(rt: HostRuntime) -> Result<(), Fail> {
     let mut deepest = repeated(alloc, b"a;", 65_534)?;
     deepest.extend_from_slice(b"a 1\n")?;
     for words in [TOP, FOLD] {
-        let (status, _) = run_on(alloc, words.as_slice(), deepest.as_slice(), MAX_INPUT);
+        let (status, _) = run_on(&rt, alloc, words.as_slice(), deepest.as_slice(), MAX_INPUT);
         assert_eq!(rt; status.code, 0);
     }
     let mut deeper = repeated(alloc, b"a;", 65_535)?;
     deeper.extend_from_slice(b"a 1\n")?;
     for words in [TOP, FOLD] {
-        let (status, _) = run_on(alloc, words.as_slice(), deeper.as_slice(), MAX_INPUT);
+        let (status, _) = run_on(&rt, alloc, words.as_slice(), deeper.as_slice(), MAX_INPUT);
         assert_eq!(rt;
             status.cause.to_string(alloc)?.as_str(),
             "flame: F4 Depth line 1\n"
@@ -100,7 +100,7 @@ fn refused_words(rt: HostRuntime) -> Result<(), Fail> {
         ),
     ];
     for (words, part) in cases {
-        let (status, written) = run_on(rt.alloc(), words, STORED, MAX_INPUT);
+        let (status, written) = run_on(&rt, rt.alloc(), words, STORED, MAX_INPUT);
         let said = status.cause.to_string(rt.alloc())?;
         assert_eq!(rt; status.code, 2, "{part}");
         assert!(rt; said.contains(part), "{said}");
@@ -118,7 +118,7 @@ fn usage_lines_name_the_program(rt: HostRuntime) -> Result<(), Fail> {
         &["out/flame_tool", "fold", "--by", "cum"],
     ];
     for (place, words) in cases.iter().enumerate() {
-        let (status, _) = run_on(rt.alloc(), words, STORED, MAX_INPUT);
+        let (status, _) = run_on(&rt, rt.alloc(), words, STORED, MAX_INPUT);
         let said = status.cause.to_string(rt.alloc())?;
         assert!(rt; said.contains("\nUsage: flame "), "{place}");
         assert!(rt; !said.contains("flame_tool"), "{place}");
@@ -128,17 +128,17 @@ fn usage_lines_name_the_program(rt: HostRuntime) -> Result<(), Fail> {
 
 #[test]
 fn input_limit(rt: HostRuntime) -> Result<(), Fail> {
-    let (status, written) = run_on(rt.alloc(), TOP.as_slice(), b"a 12", 3);
+    let (status, written) = run_on(&rt, rt.alloc(), TOP.as_slice(), b"a 12", 3);
     assert_eq!(rt; status.code, 1);
     assert_eq!(rt;
         status.cause.to_string(rt.alloc())?.as_str(),
         "flame: E3 TooLong\n"
     );
     assert!(rt; written.is_empty());
-    let (status, written) = run_on(rt.alloc(), TOP.as_slice(), b"a 12", 4);
+    let (status, written) = run_on(&rt, rt.alloc(), TOP.as_slice(), b"a 12", 4);
     assert_eq!(rt; status.code, 0);
     assert_eq!(rt; written.as_slice(), b"total 12\n12 12 a\n".as_slice());
-    let (status, written) = run_on(rt.alloc(), FOLD.as_slice(), b"a 12", 4);
+    let (status, written) = run_on(&rt, rt.alloc(), FOLD.as_slice(), b"a 12", 4);
     assert_eq!(rt; status.code, 0);
     assert_eq!(rt; written.as_slice(), b"a 12\n".as_slice());
     let mut reader = Dripping {
@@ -147,7 +147,7 @@ fn input_limit(rt: HostRuntime) -> Result<(), Fail> {
         fault: ErrorKind::Interrupted,
     };
     let mut writer = Narrow::new(rt.alloc(), 100, 100);
-    let status = run(rt.alloc(), TOP.as_slice(), &mut reader, &mut writer, 3);
+    let status = run(&rt, rt.alloc(), TOP.as_slice(), &mut reader, &mut writer, 3);
     assert_eq!(rt;
         status.cause.to_string(rt.alloc())?.as_str(),
         "flame: E3 TooLong\n",
@@ -171,6 +171,7 @@ fn each_read_failing_in_turn(rt: HostRuntime) -> Result<(), Fail> {
         };
         let mut writer = Narrow::new(rt.alloc(), 100, 100);
         let status = run(
+            &rt,
             rt.alloc(),
             TOP.as_slice(),
             &mut reader,
@@ -204,6 +205,7 @@ fn failing_writers(rt: HostRuntime) -> Result<(), Fail> {
         let mut writer = Narrow::new(rt.alloc(), room, each);
         writer.fault = fault;
         let status = run(
+            &rt,
             rt.alloc(),
             TOP.as_slice(),
             &mut reader,
@@ -226,6 +228,7 @@ fn failing_flush(rt: HostRuntime) {
     let mut writer = Narrow::new(rt.alloc(), 100, 100);
     writer.fails_at_flush = true;
     let status = run(
+        &rt,
         rt.alloc(),
         TOP.as_slice(),
         &mut reader,

@@ -3,7 +3,9 @@
 use crate::fakes::{repeated, run_on};
 use flame_answers::MAX_INPUT;
 use std::alloc::{AllocError, Global};
+use std::sync::Wait;
 use std::test::Fail;
+use std::thread::Threads;
 
 // The samples are numbered from 128 to 3,199, and each weighs its number. Its leaf has the address 0x7f0000000000 + its
 // number, and its root the address 0xffffffffffffffff: locations without lines, which are called by their addresses.
@@ -44,7 +46,8 @@ fn folded(alloc: Global) -> Result<Vec<u8>, AllocError> {
 }
 
 // The report that these words ask for, of an input of this format.
-fn report_on<'a>(
+fn report_on<'a, T: Threads + Wait + Sync>(
+    rt: &T,
     alloc: Global,
     words: &'a [&'a str],
     format: &'a str,
@@ -53,7 +56,7 @@ fn report_on<'a>(
     let mut all = Vec::from_slice(alloc, words)?;
     all.push("--format")?;
     all.push(format)?;
-    let (status, written) = run_on(alloc, all.as_slice(), input, MAX_INPUT);
+    let (status, written) = run_on(rt, alloc, all.as_slice(), input, MAX_INPUT);
     match status.code {
         0 => Ok(written),
         code => Err(Fail::new(code)),
@@ -125,8 +128,8 @@ fn reports_with_options_on_thousands_of_rows(rt: HostRuntime) -> Result<(), Fail
     let profile = profile(rt.alloc())?;
     let folded = folded(rt.alloc())?;
     for (place, (words, report)) in REPORTS.iter().enumerate() {
-        let of_profile = report_on(rt.alloc(), words, "pprof", profile.as_slice())?;
-        let of_folded = report_on(rt.alloc(), words, "folded", folded.as_slice())?;
+        let of_profile = report_on(&rt, rt.alloc(), words, "pprof", profile.as_slice())?;
+        let of_folded = report_on(&rt, rt.alloc(), words, "folded", folded.as_slice())?;
         assert_eq!(rt; of_profile.as_slice(), *report, "{place}");
         assert_eq!(rt; of_folded.as_slice(), *report, "{place}");
     }
@@ -166,12 +169,12 @@ fn whole_reports_on_thousands_of_rows(rt: HostRuntime) -> Result<(), Fail> {
     let profile = profile(rt.alloc())?;
     let folded = folded(rt.alloc())?;
     for (words, lines, beginning, end) in WHOLE {
-        let report = report_on(rt.alloc(), words, "folded", folded.as_slice())?;
+        let report = report_on(&rt, rt.alloc(), words, "folded", folded.as_slice())?;
         let count = report.iter().filter(|byte| **byte == b'\n').count();
         assert_eq!(rt; count, lines, "{lines}");
         assert!(rt; report.as_slice().starts_with(beginning), "{lines}");
         assert!(rt; report.as_slice().ends_with(end), "{lines}");
-        let of_profile = report_on(rt.alloc(), words, "pprof", profile.as_slice())?;
+        let of_profile = report_on(&rt, rt.alloc(), words, "pprof", profile.as_slice())?;
         assert!(rt; of_profile.as_slice() == report.as_slice(), "{lines}");
     }
     Ok(())
@@ -181,9 +184,21 @@ fn whole_reports_on_thousands_of_rows(rt: HostRuntime) -> Result<(), Fail> {
 fn an_export_of_thousands_of_rows(rt: HostRuntime) -> Result<(), Fail> {
     let folded = folded(rt.alloc())?;
     let words = ["flame", "proto"];
-    let (status, exported) = run_on(rt.alloc(), words.as_slice(), folded.as_slice(), MAX_INPUT);
+    let (status, exported) = run_on(
+        &rt,
+        rt.alloc(),
+        words.as_slice(),
+        folded.as_slice(),
+        MAX_INPUT,
+    );
     assert_eq!(rt; status.code, 0);
-    let report = report_on(rt.alloc(), &["flame", "fold"], "pprof", exported.as_slice())?;
+    let report = report_on(
+        &rt,
+        rt.alloc(),
+        &["flame", "fold"],
+        "pprof",
+        exported.as_slice(),
+    )?;
     assert!(rt; report.as_slice() == folded.as_slice());
     Ok(())
 }
@@ -194,7 +209,13 @@ fn many_options_on_a_long_input(rt: HostRuntime) -> Result<(), Fail> {
     let words = [
         "flame", "top", "--by", "cum", "--count", "2", "--focus", "a", "--ignore", "b",
     ];
-    let report = report_on(rt.alloc(), words.as_slice(), "folded", input.as_slice())?;
+    let report = report_on(
+        &rt,
+        rt.alloc(),
+        words.as_slice(),
+        "folded",
+        input.as_slice(),
+    )?;
     assert_eq!(rt;
         report.as_slice(),
         b"total 14000\n14000 14000 a\n0 14000 main\n".as_slice()
@@ -207,9 +228,21 @@ fn a_name_longer_than_three_reads(rt: HostRuntime) -> Result<(), Fail> {
     let name = repeated(rt.alloc(), b"x", 210_000)?;
     let mut line = Vec::from_slice(rt.alloc(), name.as_slice())?;
     line.extend_from_slice(b" 1\n")?;
-    let report = report_on(rt.alloc(), &["flame", "fold"], "folded", line.as_slice())?;
+    let report = report_on(
+        &rt,
+        rt.alloc(),
+        &["flame", "fold"],
+        "folded",
+        line.as_slice(),
+    )?;
     assert!(rt; report.as_slice() == line.as_slice());
-    let report = report_on(rt.alloc(), &["flame", "top"], "folded", line.as_slice())?;
+    let report = report_on(
+        &rt,
+        rt.alloc(),
+        &["flame", "top"],
+        "folded",
+        line.as_slice(),
+    )?;
     assert!(rt; report.as_slice().starts_with(b"total 1\n1 1 xxx"));
     assert_eq!(rt; report.len(), 8 + 4 + 210_000 + 1);
     Ok(())

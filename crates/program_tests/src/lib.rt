@@ -9,6 +9,8 @@ mod faults;
 #[cfg(test)]
 mod large;
 #[cfg(test)]
+mod live;
+#[cfg(test)]
 mod options;
 #[cfg(test)]
 mod parts;

@@ -46,7 +46,7 @@ fn reports_with_options(rt: HostRuntime) {
         ),
     ];
     for (place, (words, report)) in cases.iter().enumerate() {
-        let (status, written) = run_on(rt.alloc(), words, STORED, MAX_INPUT);
+        let (status, written) = run_on(&rt, rt.alloc(), words, STORED, MAX_INPUT);
         assert_eq!(rt; status.code, 0, "{place}");
         assert_eq!(rt; written.as_slice(), *report, "{place}");
     }
@@ -55,6 +55,7 @@ fn reports_with_options(rt: HostRuntime) {
 #[test]
 fn weightless_rows_in_a_flame_graph(rt: HostRuntime) {
     let (status, written) = run_on(
+        &rt,
         rt.alloc(),
         &["flame", "flame", "--columns", "5"],
         b"x 0\n",
@@ -75,7 +76,7 @@ fn names_that_are_none(rt: HostRuntime) -> Result<(), Fail> {
         &["flame", "flame", "--focus", "a", "--ignore", "b\n"],
     ];
     for words in cases {
-        let (status, written) = run_on(rt.alloc(), words, b"no folded text", MAX_INPUT);
+        let (status, written) = run_on(&rt, rt.alloc(), words, b"no folded text", MAX_INPUT);
         assert_eq!(rt; status.code, 2);
         assert_eq!(rt;
             status.cause.to_string(rt.alloc())?.as_str(),

@@ -7,7 +7,9 @@ use std::env::Args;
 use std::io;
 use std::io::ErrorKind;
 use std::process::ExitCode;
+use std::sync::Wait;
 use std::test::Fail;
+use std::thread::Threads;
 
 const STORED: &[u8] = b"main;a;b 3\nmain;a 2\nmain;c 5\n";
 
@@ -20,11 +22,15 @@ fn owned(alloc: Global, words: &[&str]) -> Result<Args, AllocError> {
 }
 
 // How a process with these words ends on the stored input, what it wrote, and what it said.
-fn process_on(alloc: Global, words: io::Result<Args>) -> (End, Vec<u8>, Vec<u8>) {
+fn process_on<T: Threads + Wait + Sync>(
+    rt: &T,
+    alloc: Global,
+    words: io::Result<Args>,
+) -> (End, Vec<u8>, Vec<u8>) {
     let mut reader = STORED;
     let mut written = Vec::new(alloc);
     let mut said = Vec::new(alloc);
-    let end = run_process(alloc, words, &mut reader, &mut written, &mut said);
+    let end = run_process(rt, alloc, words, &mut reader, &mut written, &mut said);
     (end, written, said)
 }
 
@@ -52,7 +58,7 @@ fn reports_of_a_process(rt: HostRuntime) -> Result<(), Fail> {
     ];
     for (words, code, report, line) in cases {
         let words = owned(rt.alloc(), words)?;
-        let (end, written, said) = process_on(rt.alloc(), Ok(words));
+        let (end, written, said) = process_on(&rt, rt.alloc(), Ok(words));
         assert_eq!(rt; end.code, ExitCode::from(code));
         assert_eq!(rt; written.as_slice(), report);
         assert_eq!(rt; said.as_slice(), line);
@@ -71,7 +77,7 @@ fn processes_without_words(rt: HostRuntime) {
         (ErrorKind::OutOfMemory, 4, b"flame: E4 NoMemory\n"),
     ];
     for (kind, code, line) in cases {
-        let (end, written, said) = process_on(rt.alloc(), Err(io::Error::from(kind)));
+        let (end, written, said) = process_on(&rt, rt.alloc(), Err(io::Error::from(kind)));
         assert_eq!(rt; end.code, ExitCode::from(code));
         assert!(rt; written.is_empty());
         assert_eq!(rt; said.as_slice(), line);
@@ -85,7 +91,14 @@ fn a_standard_error_that_fails(rt: HostRuntime) -> Result<(), Fail> {
     let mut writer = Narrow::new(rt.alloc(), 5, 5);
     let mut errors = Narrow::new(rt.alloc(), 5, 5);
     errors.fault = ErrorKind::BrokenPipe;
-    let end = run_process(rt.alloc(), Ok(words), &mut reader, &mut writer, &mut errors);
+    let end = run_process(
+        &rt,
+        rt.alloc(),
+        Ok(words),
+        &mut reader,
+        &mut writer,
+        &mut errors,
+    );
     assert_eq!(rt; end.code, ExitCode::from(2));
     assert!(rt; end.said.is_err());
     assert_eq!(rt; errors.taken.as_slice(), b"flame".as_slice());

@@ -3,7 +3,9 @@
 use crate::fakes::{repeated, run_on};
 use flame_answers::MAX_INPUT;
 use std::alloc::{AllocError, Global};
+use std::sync::Wait;
 use std::test::Fail;
+use std::thread::Threads;
 
 static FOLD: [&str; 4] = ["flame", "fold", "--format", "pprof"];
 
@@ -28,7 +30,7 @@ const INLINED: &[u8] =
       \x10\x05\x32\x00\x32\x03cpu\x32\x02ns\x32\x01a\x32\x01b\x32\x01c";
 
 // One sample of f: 3 samples, 30 ns of cpu.
-const TWO_TYPES: &[u8] =
+pub(crate) const TWO_TYPES: &[u8] =
     b"\x0a\x04\x08\x01\x10\x02\x0a\x04\x08\x03\x10\x04\x12\x07\x0a\x01\x01\x12\x02\x03\x1e\x22\x06\x08\x01\x22\x02\
       \x08\x01\x2a\x04\x08\x01\x10\x05\x32\x00\x32\x07samples\x32\x05count\x32\x03cpu\x32\x02ns\x32\x01f";
 
@@ -68,7 +70,7 @@ fn reports_on_profiles(rt: HostRuntime) -> Result<(), Fail> {
         (FOLD.as_slice(), unknown.as_slice(), b"f 30\n"),
     ];
     for (place, (words, input, report)) in cases.iter().enumerate() {
-        let (status, written) = run_on(alloc, words, input, MAX_INPUT);
+        let (status, written) = run_on(&rt, alloc, words, input, MAX_INPUT);
         assert_eq!(rt; status.code, 0, "{place}");
         assert_eq!(rt; written.as_slice(), *report, "{place}");
     }
@@ -78,10 +80,10 @@ fn reports_on_profiles(rt: HostRuntime) -> Result<(), Fail> {
 #[test]
 fn export_of_one_row(rt: HostRuntime) -> Result<(), Fail> {
     let words = ["flame", "proto", "--kind", "cpu", "--unit", "ns"];
-    let (status, written) = run_on(rt.alloc(), words.as_slice(), b"f 7\n", MAX_INPUT);
+    let (status, written) = run_on(&rt, rt.alloc(), words.as_slice(), b"f 7\n", MAX_INPUT);
     assert_eq!(rt; status.code, 0);
     assert_eq!(rt; written.as_slice(), ONE_SAMPLE);
-    let (status, written) = run_on(rt.alloc(), words.as_slice(), b"f\n", MAX_INPUT);
+    let (status, written) = run_on(&rt, rt.alloc(), words.as_slice(), b"f\n", MAX_INPUT);
     assert_eq!(rt;
         status.cause.to_string(rt.alloc())?.as_str(),
         "flame: F2 NoCount line 1\n"
@@ -95,7 +97,13 @@ fn export_of_a_stack_too_deep(rt: HostRuntime) -> Result<(), Fail> {
     let mut deeper = repeated(rt.alloc(), b"a;", 65_535)?;
     deeper.extend_from_slice(b"a 1\n")?;
     let words = ["flame", "proto", "--kind", "cpu", "--unit", "ns"];
-    let (status, written) = run_on(rt.alloc(), words.as_slice(), deeper.as_slice(), MAX_INPUT);
+    let (status, written) = run_on(
+        &rt,
+        rt.alloc(),
+        words.as_slice(),
+        deeper.as_slice(),
+        MAX_INPUT,
+    );
     assert_eq!(rt;
         status.cause.to_string(rt.alloc())?.as_str(),
         "flame: F4 Depth line 1\n"
@@ -129,7 +137,7 @@ fn refused_profiles(rt: HostRuntime) -> Result<(), Fail> {
         (FOLD_WALL.as_slice(), TWO_TYPES, b"flame: B1 NoValue\n"),
     ];
     for (place, (words, input, line)) in cases.iter().enumerate() {
-        let (status, written) = run_on(rt.alloc(), words, input, MAX_INPUT);
+        let (status, written) = run_on(&rt, rt.alloc(), words, input, MAX_INPUT);
         let said = status.cause.to_string(rt.alloc())?;
         assert_eq!(rt; said.as_bytes(), *line, "{place}");
         assert_eq!(rt; status.code, 1, "{place}");
@@ -147,9 +155,13 @@ fn profile_of(alloc: Global, samples: &[u8]) -> Result<Vec<u8>, AllocError> {
 }
 
 // What is written and said of a folded profile of these samples.
-fn fold_of(alloc: Global, samples: &[u8]) -> Result<(Vec<u8>, String), AllocError> {
+fn fold_of<T: Threads + Wait + Sync>(
+    rt: &T,
+    alloc: Global,
+    samples: &[u8],
+) -> Result<(Vec<u8>, String), AllocError> {
     let input = profile_of(alloc, samples)?;
-    let (status, written) = run_on(alloc, FOLD.as_slice(), input.as_slice(), MAX_INPUT);
+    let (status, written) = run_on(rt, alloc, FOLD.as_slice(), input.as_slice(), MAX_INPUT);
     Ok((written, status.cause.to_string(alloc)?))
 }
 
@@ -158,7 +170,7 @@ fn samples_of_the_greatest_total(rt: HostRuntime) -> Result<(), Fail> {
     let samples =
         b"\x12\x0e\x0a\x01\x01\x12\x09\x80\x80\x80\x80\x80\x80\x80\x80\x40\x12\x0e\x0a\x01\x01\x12\x09\xff\xff\xff\xff\
       \xff\xff\xff\xff\x3f";
-    let (written, _) = fold_of(rt.alloc(), samples)?;
+    let (written, _) = fold_of(&rt, rt.alloc(), samples)?;
     assert_eq!(rt; written.as_slice(), b"f 9223372036854775807\n".as_slice());
     Ok(())
 }
@@ -168,7 +180,7 @@ fn samples_past_the_greatest_total(rt: HostRuntime) -> Result<(), Fail> {
     let samples =
         b"\x12\x0e\x0a\x01\x01\x12\x09\x80\x80\x80\x80\x80\x80\x80\x80\x40\x12\x0e\x0a\x01\x01\x12\x09\x80\x80\x80\x80\
       \x80\x80\x80\x80\x40";
-    let (written, said) = fold_of(rt.alloc(), samples)?;
+    let (written, said) = fold_of(&rt, rt.alloc(), samples)?;
     assert_eq!(rt; said.as_str(), "flame: B4 Heavy sample 1\n");
     assert!(rt; written.is_empty());
     Ok(())
@@ -195,7 +207,7 @@ fn deep_sample(
 #[test]
 fn the_deepest_sample(rt: HostRuntime) -> Result<(), Fail> {
     let sample = deep_sample(rt.alloc(), b"\x86\x80\x04", b"\xff\xff\x03", 65_535)?;
-    let (written, _) = fold_of(rt.alloc(), sample.as_slice())?;
+    let (written, _) = fold_of(&rt, rt.alloc(), sample.as_slice())?;
     assert_eq!(rt; written.len(), 2 * 65_535 + 2);
     Ok(())
 }
@@ -203,7 +215,7 @@ fn the_deepest_sample(rt: HostRuntime) -> Result<(), Fail> {
 #[test]
 fn a_sample_too_deep(rt: HostRuntime) -> Result<(), Fail> {
     let sample = deep_sample(rt.alloc(), b"\x87\x80\x04", b"\x80\x80\x04", 65_536)?;
-    let (written, said) = fold_of(rt.alloc(), sample.as_slice())?;
+    let (written, said) = fold_of(&rt, rt.alloc(), sample.as_slice())?;
     assert_eq!(rt; said.as_str(), "flame: B3 Depth sample 0\n");
     assert!(rt; written.is_empty());
     Ok(())
@@ -216,7 +228,7 @@ const SYSTEM_NAME: &[u8] =
 
 #[test]
 fn a_name_that_folded_text_cannot_hold(rt: HostRuntime) -> Result<(), Fail> {
-    let (_, written) = run_on(rt.alloc(), FOLD.as_slice(), SYSTEM_NAME, MAX_INPUT);
+    let (_, written) = run_on(&rt, rt.alloc(), FOLD.as_slice(), SYSTEM_NAME, MAX_INPUT);
     assert_eq!(rt; written.as_slice(), b"a:b c 7\n".as_slice());
     Ok(())
 }

@@ -31,7 +31,7 @@ fn top_reports(rt: HostRuntime) {
         ("only_empty_lines", b"\n\r\n\n", b"total 0\n"),
     ];
     for (name, input, report) in cases {
-        let (status, written) = run_on(rt.alloc(), TOP.as_slice(), input, MAX_INPUT);
+        let (status, written) = run_on(&rt, rt.alloc(), TOP.as_slice(), input, MAX_INPUT);
         assert_eq!(rt; status.code, 0, "{name}");
         assert_eq!(rt; written.as_slice(), report, "{name}");
     }
@@ -67,7 +67,7 @@ fn fold_reports(rt: HostRuntime) {
         ),
     ];
     for (name, input, report) in cases {
-        let (status, written) = run_on(rt.alloc(), FOLD.as_slice(), input, MAX_INPUT);
+        let (status, written) = run_on(&rt, rt.alloc(), FOLD.as_slice(), input, MAX_INPUT);
         assert_eq!(rt; status.code, 0, "{name}");
         assert_eq!(rt; written.as_slice(), report, "{name}");
     }
@@ -82,6 +82,7 @@ fn streams_of_one_byte_change_nothing(rt: HostRuntime) {
     };
     let mut writer = Narrow::new(rt.alloc(), 100, 1);
     let status = run(
+        &rt,
         rt.alloc(),
         TOP.as_slice(),
         &mut reader,
@@ -101,7 +102,7 @@ fn twenty_names_at_most(rt: HostRuntime) -> Result<(), Fail> {
         input.push(letter)?;
         input.extend_from_slice(b" 1\n")?;
     }
-    let (status, written) = run_on(alloc, TOP.as_slice(), input.as_slice(), MAX_INPUT);
+    let (status, written) = run_on(&rt, alloc, TOP.as_slice(), input.as_slice(), MAX_INPUT);
     assert_eq!(rt; status.code, 0);
     let lines = written.iter().filter(|byte| **byte == b'\n').count();
     assert_eq!(rt; lines, 21);

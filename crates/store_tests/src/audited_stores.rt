@@ -174,6 +174,27 @@ fn three_sessions_match_their_journal(rt: HostRuntime) -> Result<(), Fail> {
     Ok(())
 }
 
+// A session that asks the same again when another has changed what counts.
+fn turns_around_changes(alloc: Global) -> Result<Vec<Turn>, Fail> {
+    Ok(vec![in alloc;
+        asks(alloc, 0, Kind::Total, false)?,
+        adds(alloc, 1, "a 1\n")?,
+        asks(alloc, 0, Kind::Total, false)?,
+        resets(1),
+        asks(alloc, 0, Kind::Total, false)?,
+    ]?)
+}
+
+#[test]
+fn a_question_is_answered_anew(rt: HostRuntime) -> Result<(), Fail> {
+    let alloc = rt.alloc();
+    let turns = turns_around_changes(alloc)?;
+    let blank = Blank::make(alloc, 10, 2, Width::one())?;
+    let said = audited::<Brand, HostRuntime>(&rt, alloc, blank, 2, turns)?;
+    assert_eq!(rt; said.as_str(), "5: 0.0 1.0 0.1 1.1 0.2 ");
+    Ok(())
+}
+
 // Sessions that each add a row, in order, and then each ask for the total.
 fn turns_of_many(alloc: Global, count: usize) -> Result<Vec<Turn>, Fail> {
     let mut turns = Vec::new(alloc);

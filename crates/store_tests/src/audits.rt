@@ -281,6 +281,35 @@ fn audits_of_an_empty_journal(rt: HostRuntime) -> Result<(), Fail> {
     Ok(())
 }
 
+// So many reports over nothing, all of them right.
+fn reports_over_nothing(alloc: Global, count: usize) -> Result<SessionLog, Fail> {
+    let mut receipts = Vec::new(alloc);
+    for _ in 0..count {
+        receipts
+            .push(receipt_of(alloc, Told::Total(0, 0))?)
+            .ok()
+            .ok_or("no memory")?;
+    }
+    Ok(SessionLog {
+        session: 1,
+        receipts: Items::new(receipts),
+    })
+}
+
+// How many steps the run has.
+fn steps_of(alloc: Global, journal: &Journal, logs: &[SessionLog]) -> Result<usize, Fail> {
+    Ok(audit(alloc, journal, logs)?.steps().len())
+}
+
+#[test]
+fn many_receipts_of_an_empty_journal(rt: HostRuntime) -> Result<(), Fail> {
+    let alloc = rt.alloc();
+    let logs = vec![in alloc; reports_over_nothing(alloc, 100_000)?]?;
+    let journal = empty_journal(alloc)?;
+    assert_eq!(rt; steps_of(alloc, &journal, &logs)?, 100_000);
+    Ok(())
+}
+
 #[test]
 fn reports_around_a_reset(rt: HostRuntime) -> Result<(), Fail> {
     let alloc = rt.alloc();

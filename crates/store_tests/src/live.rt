@@ -1,7 +1,9 @@
 //! What `live` writes of worked examples, by several numbers of workers, and that these succeed.
 
 use crate::helpers::{batch_of, row_of};
-use live_answers::{LiveOptions, live_text};
+use live_answers::{LiveFault, LiveOptions, live_text};
+use live_store::{BookFault, SessionFault, WorkersFault};
+use op_book::AuditFault;
 use stack_text::Batch;
 use std::alloc::Global;
 use std::sync::{Arc, Wait};
@@ -59,5 +61,46 @@ fn each_value_behind_a_warm_start(rt: HostRuntime) -> Result<(), Fail> {
         said.as_str(),
         "value 0\na 1\nvalue 1\na 2\naudited 8 operations\n"
     );
+    Ok(())
+}
+
+#[test]
+fn one_worker_behind_a_warm_start(rt: HostRuntime) -> Result<(), Fail> {
+    let alloc = rt.alloc();
+    let batch = batch_of(alloc, "b 1\na 2\n")?;
+    let options = LiveOptions::new(1, false, true);
+    let said = written(&rt, alloc, &batch, options)?;
+    assert_eq!(rt; said.as_str(), "a 2\nb 1\naudited 6 operations\n");
+    Ok(())
+}
+
+#[test]
+fn faults_are_printed_by_their_causes(rt: HostRuntime) -> Result<(), Fail> {
+    let all_given = SessionFault::AllGiven;
+    let no_session = WorkersFault::Session {
+        worker: 1,
+        fault: all_given,
+    };
+    for (fault, wanted) in [
+        (LiveFault::Start, "E5 Start"),
+        (LiveFault::Warm, "E6 Warm"),
+        (LiveFault::from(all_given), "N1 AllGiven"),
+        (LiveFault::from(no_session), "N1 AllGiven"),
+        (
+            LiveFault::from(BookFault::Full { held: 2 }),
+            "K3 Full held 2",
+        ),
+        (
+            LiveFault::from(AuditFault::Missing { entry: 1 }),
+            "A4 Missing entry 1",
+        ),
+        (LiveFault::from(SessionFault::NoMemory), "E4 NoMemory"),
+        (LiveFault::from(WorkersFault::NoMemory), "E4 NoMemory"),
+        (LiveFault::from(BookFault::NoMemory), "E4 NoMemory"),
+        (LiveFault::from(AuditFault::NoMemory), "E4 NoMemory"),
+    ] {
+        let said = format!(in rt.alloc(); "{fault}")?;
+        assert_eq!(rt; said.as_str(), wanted);
+    }
     Ok(())
 }

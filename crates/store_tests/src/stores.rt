@@ -364,9 +364,83 @@ fn limit_of_each<N: StoreName, R: Wait>(
     add_rows(rt, alloc, session, &rows)
 }
 
+/// What a session does in turn.
+#[derive(Clone, Copy)]
+enum Deed {
+    Add(&'static str),
+    Reset,
+    Total,
+}
+
+// The place that a reset is given, or why it is refused.
+fn reset<N: StoreName, R: Wait>(
+    rt: &R,
+    alloc: Global,
+    session: &mut Session<'_, N>,
+) -> Result<u64, BookFault> {
+    match session.reset(rt, alloc) {
+        Ok(placed) => Ok(placed.place),
+        Err(fault) => Err(fault),
+    }
+}
+
+// What a session is told of one of its deeds.
+fn told_at<N: StoreName, R: Wait>(
+    rt: &R,
+    alloc: Global,
+    session: &mut Session<'_, N>,
+    deed: Deed,
+) -> Result<String, Fail> {
+    let told = match deed {
+        Deed::Add(text) => add(rt, alloc, session, text)?,
+        Deed::Reset => reset(rt, alloc, session),
+        Deed::Total => total(rt, alloc, session)?,
+    };
+    Ok(format!(in alloc; "{told:?}|")?)
+}
+
+fn told_in_turn<N: StoreName, R: Wait>(
+    rt: &R,
+    alloc: Global,
+    session: &mut Session<'_, N>,
+    deeds: &[Deed],
+) -> Result<String, Fail> {
+    let mut text = String::new(alloc);
+    for deed in deeds {
+        text.push_str(told_at(rt, alloc, session, *deed)?.as_str())?;
+    }
+    Ok(text)
+}
+
+const BETWEEN: &[Deed] = &[
+    Deed::Add("a 1\n"),
+    Deed::Reset,
+    Deed::Total,
+    Deed::Add("b 2\n"),
+    Deed::Total,
+];
+
+const HEAVY: &[Deed] = &[
+    Deed::Reset,
+    Deed::Add("a 9223372036854775807\n"),
+    Deed::Add("a 1\n"),
+    Deed::Reset,
+    Deed::Add("a 1\n"),
+    Deed::Total,
+];
+
+const FULL: &[Deed] = &[
+    Deed::Add("a 1\n"),
+    Deed::Reset,
+    Deed::Add("b 1\n"),
+    Deed::Reset,
+    Deed::Total,
+];
+
 // What two sessions do, or one of them.
 #[derive(Clone, Copy)]
 enum Story {
+    InTurn(&'static [Deed]),
     TwoValues,
     LimitOfEach,
     SmallerBatch,
@@ -383,6 +457,7 @@ fn told_in<N: StoreName, R: Wait>(
     let mut first = store.session(rt, alloc)?;
     let mut second = store.session(rt, alloc)?;
     match story {
+        Story::InTurn(deeds) => told_in_turn(rt, alloc, &mut first, deeds),
         Story::SmallerBatch => smaller_batch(rt, alloc, &mut first, &mut second),
         Story::OtherAsks => other_asks(rt, alloc, &mut first, &mut second),
         Story::EachKind => each_kind(rt, alloc, &mut first),
@@ -455,6 +530,39 @@ fn the_limit_of_each_value(rt: HostRuntime) -> Result<(), Fail> {
     assert_eq!(rt;
         told.as_str(),
         "Ok(0)|Ok(1)|Err(Heavy { value: 0, held: 9223372036854775807 })|"
+    );
+    Ok(())
+}
+
+#[test]
+fn a_reset_between_two_additions(rt: HostRuntime) -> Result<(), Fail> {
+    let alloc = rt.alloc();
+    let blank = Blank::make(alloc, 10, 2, Width::one())?;
+    let told = told::<Brand, HostRuntime>(&rt, alloc, blank, Story::InTurn(BETWEEN))?;
+    assert_eq!(rt; told.as_str(), "Ok(0)|Ok(1)|Ok(0)|Ok(2)|Ok(2)|");
+    Ok(())
+}
+
+#[test]
+fn what_stood_before_a_reset_weighs_nothing(rt: HostRuntime) -> Result<(), Fail> {
+    let alloc = rt.alloc();
+    let blank = Blank::make(alloc, 10, 2, Width::one())?;
+    let told = told::<Brand, HostRuntime>(&rt, alloc, blank, Story::InTurn(HEAVY))?;
+    assert_eq!(rt;
+        told.as_str(),
+        "Ok(0)|Ok(1)|Err(Heavy { value: 0, held: 9223372036854775807 })|Ok(2)|Ok(3)|Ok(1)|"
+    );
+    Ok(())
+}
+
+#[test]
+fn a_full_store_takes_no_reset(rt: HostRuntime) -> Result<(), Fail> {
+    let alloc = rt.alloc();
+    let blank = Blank::make(alloc, 2, 2, Width::one())?;
+    let told = told::<Brand, HostRuntime>(&rt, alloc, blank, Story::InTurn(FULL))?;
+    assert_eq!(rt;
+        told.as_str(),
+        "Ok(0)|Ok(1)|Err(Full { held: 2 })|Err(Full { held: 2 })|Ok(0)|"
     );
     Ok(())
 }

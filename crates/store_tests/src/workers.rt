@@ -16,7 +16,7 @@ use std::test::Fail;
 use std::thread;
 use std::thread::Threads;
 
-/// Counts the calls.
+/// Adds up the calls, each by its worker and its step.
 #[derive(Drop)]
 struct Counting {
     before: AtomicU64,
@@ -31,19 +31,30 @@ impl Counting {
         }
     }
 
+    /// The number of calls in the ones, the sum of their steps from the thousands on, that of their workers from the
+    /// millions on.
     fn calls(&self) -> (u64, u64) {
         let before = self.before.load(Ordering::SeqCst);
         (before, self.after.load(Ordering::SeqCst))
     }
 }
 
+// What a call adds.
+fn mark(worker: usize, step: usize) -> u64 {
+    let step = (step as u64).wrapping_mul(1_000);
+    (worker as u64)
+        .wrapping_mul(1_000_000)
+        .wrapping_add(step)
+        .wrapping_add(1)
+}
+
 impl Gate for Counting {
-    fn before<R: Wait>(&self, _rt: &R, _worker: usize, _step: usize) {
-        let _ = self.before.fetch_add(1, Ordering::SeqCst);
+    fn before<R: Wait>(&self, _rt: &R, worker: usize, step: usize) {
+        let _ = self.before.fetch_add(mark(worker, step), Ordering::SeqCst);
     }
 
-    fn after<R: Wait>(&self, _rt: &R, _worker: usize, _step: usize) {
-        let _ = self.after.fetch_add(1, Ordering::SeqCst);
+    fn after<R: Wait>(&self, _rt: &R, worker: usize, step: usize) {
+        let _ = self.after.fetch_add(mark(worker, step), Ordering::SeqCst);
     }
 }
 
@@ -54,10 +65,10 @@ struct Meeting {
     alone: AtomicU64,
 }
 
-// Whether two come, within some turns.
-fn two_come(there: &AtomicU64) -> bool {
+// Whether so many come, within some turns.
+fn come(there: &AtomicU64, count: u64) -> bool {
     for _ in 0..100_000_000 {
-        if there.load(Ordering::SeqCst) == 2 {
+        if there.load(Ordering::SeqCst) >= count {
             return true;
         }
         thread::yield_now();
@@ -69,13 +80,41 @@ impl Gate for Meeting {
     fn before<R: Wait>(&self, _rt: &R, _worker: usize, step: usize) {
         if step == 0 {
             let _ = self.there.fetch_add(1, Ordering::SeqCst);
-            if !two_come(&self.there) {
+            if !come(&self.there, 2) {
                 let _ = self.alone.fetch_add(1, Ordering::SeqCst);
             }
         }
     }
 
     fn after<R: Wait>(&self, _rt: &R, _worker: usize, _step: usize) {}
+}
+
+/// Lets the second worker take its first step, then the first worker, and then the second worker again, while the first
+/// is held behind its step.
+#[derive(Drop)]
+struct Holding {
+    /// Which step the second worker is about to take.
+    second: AtomicU64,
+    /// How many steps the first worker took.
+    first: AtomicU64,
+}
+
+impl Gate for Holding {
+    fn before<R: Wait>(&self, _rt: &R, worker: usize, step: usize) {
+        if worker == 0 {
+            let _ = come(&self.second, 1);
+        } else {
+            self.second.store(step as u64, Ordering::SeqCst);
+            let _ = step == 0 || come(&self.first, 1);
+        }
+    }
+
+    fn after<R: Wait>(&self, _rt: &R, worker: usize, _step: usize) {
+        if worker == 0 {
+            self.first.store(1, Ordering::SeqCst);
+            let _ = come(&self.second, 2);
+        }
+    }
 }
 
 fn adds(alloc: Global, text: &str) -> Result<Op, Fail> {
@@ -161,7 +200,7 @@ fn a_worker_stops_where_it_is_refused(rt: HostRuntime) -> Result<(), Fail> {
         said.as_str(),
         "0 None; 3 Some(Stop { step: 3, cause: Book(Full { held: 2 }) }); 1.0 1.1 1.2 "
     );
-    assert_eq!(rt; gate.calls(), (4, 4));
+    assert_eq!(rt; gate.calls(), (4_006_004, 4_006_004));
     Ok(())
 }
 
@@ -176,6 +215,22 @@ fn no_worker_starts_where_a_session_is_refused(rt: HostRuntime) -> Result<(), Fa
     let said = worked::<Brand, Counting, HostRuntime>(&rt, alloc, blank, lists, &gate)?;
     assert_eq!(rt; said.as_str(), "G1 Session worker 1 fault N1 AllGiven");
     assert_eq!(rt; gate.calls(), (0, 0));
+    Ok(())
+}
+
+#[test]
+fn a_gate_holds_a_worker_around_its_step(rt: HostRuntime) -> Result<(), Fail> {
+    let alloc = rt.alloc();
+    let first = vec![in alloc; adds(alloc, "a 1\n")?]?;
+    let second = vec![in alloc; asks(alloc)?, asks(alloc)?, asks(alloc)?]?;
+    let lists = vec![in alloc; first, second]?;
+    let gate = Holding {
+        second: AtomicU64::new(0),
+        first: AtomicU64::new(0),
+    };
+    let blank = Blank::make(alloc, 10, 2, Width::one())?;
+    let said = worked::<Brand, Holding, HostRuntime>(&rt, alloc, blank, lists, &gate)?;
+    assert_eq!(rt; said.as_str(), "1 None; 3 None; 1.0 0.0 1.1 1.2 ");
     Ok(())
 }
 

@@ -5,5 +5,5 @@ use flame_program::run_on_host;
 use std::process::ExitCode;
 
 fn main(rt: HostRuntime) -> ExitCode {
-    run_on_host(rt)
+    run_on_host(&rt, rt)
 }

@@ -8,6 +8,7 @@ mod id_places;
 pub mod laws;
 mod merged_samples;
 mod sampling;
+mod string_names;
 mod text_table;
 mod unfolding;
 

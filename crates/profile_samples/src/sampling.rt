@@ -8,7 +8,8 @@ ghost use Rattle.profile_rows.specs.Rows.{total_of};
 ghost use Rattle.profile_rows.specs.Values.{single_batch};
 ghost use Rattle.profile_samples.specs.Samples.{AreStacksOf, IsFirstStacksFault, StandsAtSample, IsSampleFault, IsSampleRow, IsValueFault, IsFitFault, chosen_type_of, default_type, frames_of_sample, sample_stack_of, type_named};
 
-use crate::unfolding::{LocationFrames, string_at};
+use crate::string_names::string_at;
+use crate::unfolding::LocationFrames;
 use no_memory::NoMemory;
 use pprof_profile::{Draft, Profile};
 use profile_rows::{MAX_DEPTH, Name, Stack};

@@ -2,25 +2,16 @@
 
 ghost use Rattle.std.specs.Prelude.{◌≡◌, ◌≤◌, ◌++◌, ◌↔◌, IfOk, IsTrue, OnOk, length, map, slice_get};
 ghost use Rattle.pprof_profile.specs.Valid.{IsValidDraft};
-ghost use Rattle.profile_samples.specs.Samples.{address_name, frames_at, frames_of_id, frames_of_ids, function_name, item_with, line_name, location_frames, named_by, string_at};
+ghost use Rattle.profile_samples.specs.Samples.{address_name, frames_at, frames_of_id, frames_of_ids, function_name, item_with, line_name, location_frames, named_by};
 ghost use Rattle.std.specs.Option.{option_map};
 
 use crate::id_places::IdPlaces;
+use crate::string_names::StringNames;
 use no_memory::NoMemory;
 use pprof_profile::{Draft, Function, Items, Line, Location, Profile, Text};
 use profile_rows::{MAX_DEPTH, Name};
 use std::alloc::{AllocError, Global};
 use std::marker::Model;
-
-/// The string at an index; empty where there is none.
-pub(crate) fn string_at(strings: &[Text], index: i64) -> &str
-    ensures { result.now ≡ string_at strings.now index }
-{
-    match usize::try_from(index) {
-        Ok(at) => strings.get(at).map_or("", |text| text.as_str()),
-        Err(_) => "",
-    }
-}
 
 /// The name of an address: `0x` and hexadecimal digits.
 fn address_name(alloc: Global, address: u64) -> Result<Name, NoMemory>
@@ -33,14 +24,15 @@ fn address_name(alloc: Global, address: u64) -> Result<Name, NoMemory>
 /// The name of a function: its `name`, or else its `system_name`.
 fn function_name(
     alloc: Global,
-    strings: &[Text],
+    strings: &mut StringNames,
     function: &Function,
 ) -> Result<Option<Name>, NoMemory>
-    ensures { IfOk result (λ name. name ≡ function_name strings.now function.now) }
+    ensures name { IfOk result (λ name. name ≡ function_name strings.old function.now) }
+    ensures same { strings.new ≡ strings.old }
 {
-    match Name::clean(alloc, string_at(strings, function.name))? {
+    match strings.name_of(alloc, function.name)? {
         Some(name) => Ok(Some(name)),
-        None => Name::clean(alloc, string_at(strings, function.system_name)),
+        None => strings.name_of(alloc, function.system_name),
     }
 }
 
@@ -66,14 +58,15 @@ fn function_names(
 ) -> Result<Vec<Option<Name>>, NoMemory>
     ensures { IfOk result (λ names. names.items ≡ map (function_name strings.now) functions.now) }
 {
+    let mut string_names = StringNames::new(alloc, strings);
     let mut names = Vec::with_capacity(alloc, functions.len())?;
     for function in functions {
-        names.push(function_name(alloc, strings, function)?)?;
+        names.push(function_name(alloc, &mut string_names, function)?)?;
     }
     Ok(names)
 }
 
-/// The names of a profile's functions, cleaned once each. A contract sees the profile.
+/// The names of a profile's functions. A contract sees the profile.
 #[derive(Drop)]
 struct FunctionNames<'a> {
     draft: &'a Draft,

@@ -52,7 +52,7 @@ try_slow() {
 try_long_input() {
     run top < <(yes 'main;work 1' | head -n 5600000)
     if [ "$kind" = quick ]; then
-        judge "a long input" 5 "$nothing" '^flame: this quick build reads less than 64 MiB.*\./build'
+        judge "a long input" 6 "$nothing" '^flame: this quick build reads less than 64 MiB.*\./build'
     else
         printf '%s\n' 'total 5600000' '5600000 5600000 work' '0 5600000 main' >"$work/wanted"
         judge "a long input" 0 "$work/wanted" ''
@@ -64,7 +64,7 @@ try_long_report() {
     seq -f 'main;function_number_%05.0f 1' 40000 >"$work/rows"
     run fold <"$work/rows"
     if [ "$kind" = quick ]; then
-        judge "a long report" 5 "$nothing" '^flame: this quick build writes at most 1 MiB.*\./build'
+        judge "a long report" 6 "$nothing" '^flame: this quick build writes at most 1 MiB.*\./build'
     else
         judge "a long report" 0 "$work/rows" ''
     fi
@@ -111,7 +111,7 @@ echo 'run=no-answer proved=no' >&2
 exit 6
 RT
     PATH=$work/stand_in:$PATH run top <"$three_stacks"
-    judge "a run that takes too long" 5 "$nothing" '^flame: this quick build runs for at most ten minutes.*\./build'
+    judge "a run that takes too long" 6 "$nothing" '^flame: this quick build runs for at most ten minutes.*\./build'
 }
 
 # A signal ends it at once, while it reads and while it runs, and it leaves no file.

@@ -8,6 +8,7 @@ use flame_report::{Answer, Kind};
 use op_book::{Book, BookFault, Entry, Journal, Op, Ready, Receipt, Reply};
 use stack_text::{MAX_TOTAL, Width};
 use std::alloc::Global;
+use std::fmt::Write;
 use std::sync::Arc;
 use std::test::Fail;
 
@@ -274,12 +275,38 @@ fn a_book_keeps_the_limit_of_each_value(rt: HostRuntime) -> Result<(), Fail> {
     };
     let table: [(&[u64], Option<BookFault>); 3] = [
         (&[0, 1], None),
-        (&[1, 1], Some(heavy)),
+        (&[1, 0], Some(heavy)),
         (&[1], Some(BookFault::Width { held: 2 })),
     ];
     for (values, want) in table {
         assert!(rt; refused(rt.alloc(), values)? == want, "{values:?}");
     }
+    Ok(())
+}
+
+// The totals of a book of two values behind a row by each, and why it refuses a row of one value.
+fn totals_of_two_values(alloc: Global, book: &mut Book) -> Result<String, Fail> {
+    let rows: [(&str, &[u64]); 3] = [("a", &[1, 0]), ("b", &[0, 2]), ("c", &[3])];
+    let mut text = String::new(alloc);
+    for (turn, (frame, values)) in rows.iter().enumerate() {
+        let row = row_of(alloc, frame, values)?;
+        let refused = book.add(alloc, 0, turn as u64, row).err();
+        let fault = refused.map(|refused| refused.fault);
+        write!(text, "{:?} {fault:?}; ", book.tree().total().values())?;
+    }
+    Ok(text)
+}
+
+#[test]
+fn a_book_of_two_values(rt: HostRuntime) -> Result<(), Fail> {
+    let alloc = rt.alloc();
+    let width = width_of(2)?;
+    let mut book = Book::new(alloc, 10, 1, width).ok().ok_or("no memory")?;
+    let said = totals_of_two_values(alloc, &mut book)?;
+    assert_eq!(rt;
+        said.as_str(),
+        "[1, 0] None; [1, 2] None; [1, 2] Some(Width { held: 2 }); "
+    );
     Ok(())
 }
 

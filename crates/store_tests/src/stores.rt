@@ -7,7 +7,7 @@ use crate::helpers::{
     KEPT_REPORTS, ROWS, answer_text, batch_of, kept_query, kinds, query_of, row_of, value_query,
     width_of,
 };
-use flame_report::{Answer, Kind, Query, Rank};
+use flame_report::{Answer, Columns, Kind, Query, Rank};
 use live_store::{Blank, BookFault, Session, Store, StoreName};
 use op_book::Journal;
 use stack_text::{Batch, MAX_TOTAL, Width};
@@ -320,11 +320,13 @@ fn answers_by<N: StoreName, R: Wait>(
         rank: Rank::Flat,
         count: 20,
     };
+    let columns = Columns::new(4).ok_or("no such columns")?;
     let mut text = String::new(alloc);
     for (value, kind) in [
         (0, Kind::Total),
         (1, Kind::Total),
         (1, top),
+        (1, Kind::Flame { columns }),
         (1, Kind::Folded),
         (2, Kind::Total),
     ] {
@@ -517,7 +519,11 @@ fn a_session_of_two_values(rt: HostRuntime) -> Result<(), Fail> {
     let told = told::<Brand, HostRuntime>(&rt, alloc, blank, Story::TwoValues)?;
     assert_eq!(rt;
         told.as_str(),
-        "Ok(0)|Ok(1)|Err(Width { held: 2 })|1|2|total 2\n2 2 b\n|b 2\n|Width { held: 2 }|"
+        "Ok(0)|Ok(1)|Err(Width { held: 2 })|1|2|total 2\n2 2 b\n|\
+         {\"columns\":4,\"rects\":[\
+         {\"depth\":0,\"left\":0,\"name\":\"\",\"right\":4,\"weight\":2,\"x\":0},\
+         {\"depth\":1,\"left\":0,\"name\":\"b\",\"right\":4,\"weight\":2,\"x\":0}],\"total\":2}|\
+         b 2\n|Width { held: 2 }|"
     );
     Ok(())
 }

@@ -24,8 +24,8 @@ use std::thread::Threads;
 ///
 /// # Errors
 ///
-/// The first fault of an input that has no rows for the request; for `Live` also what kept the store's sessions from their
-/// work, or the audit from a run; `NoMemory`.
+/// The first fault of an input that has no rows for the request; for `Live` also what kept the store's sessions from
+/// their work, or the audit from a run; `NoMemory`.
 pub fn answer<R: Threads + Wait + Sync>(
     rt: &R,
     alloc: Global,

@@ -100,8 +100,8 @@ impl fmt::Display for Outcome {
 }
 
 impl Status {
-    /// The status of this cause: 0 done, 1 input refused, 2 words refused or help, 3 read or write, 4 memory or threads,
-    /// 5 rows that couldn't be stored or confirmed.
+    /// The status of this cause: 0 done, 1 input refused, 2 words refused or help, 3 read or write, 4 memory or
+    /// threads, 5 rows that couldn't be stored or confirmed.
     pub fn of(cause: Outcome) -> Status
         ensures cause { result.cause ≡ cause }
         ensures code { result.code ≡ code_of cause }

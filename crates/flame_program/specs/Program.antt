@@ -96,8 +96,8 @@ IsUntroubled (Report source query) code = ⊤
 IsUntroubled (Export kind unit) code = ⊤
 IsUntroubled (Live source options) code = code ≢ 5
 
--- where the words ask for something, the input alone decides between 0 and 1, but where the streams or memory failed, or
--- the store of `live`
+-- where the words ask for something, the input alone decides between 0 and 1, but where the streams or memory failed,
+-- or the store of `live`
 abbrev pub InputDecides : List (List ℕ) → ℕ → Option (List ℕ) → ℕ → Type 0
 InputDecides words limit unread code =
     IfSome unread (λ input. (request : Request) → request_of words ≡ Some request

@@ -49,8 +49,8 @@ impl From<NoMemory> for WordsFault {
 /// # Errors
 ///
 /// `Refused` exactly where the command refuses the words, an option has a value that it can't have, or the words ask
-/// for help; `BadName` where only a focus or an ignored name is wrong; `Sessions` where only a session for a warm start is
-/// wanting; `NoMemory`.
+/// for help; `BadName` where only a focus or an ignored name is wrong; `Sessions` where only a session for a warm start
+/// is wanting; `NoMemory`.
 pub fn read_words<'a>(alloc: Global, words: &'a [&'a str]) -> Result<Request, WordsFault>
     ensures { IsReadAs (reading_of (texts_of words.entry.now)) result }
 {

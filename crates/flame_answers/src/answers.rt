@@ -13,6 +13,7 @@ use crate::request::{Format, Request, Source};
 use flame_report::laws::answers_are_by_the_aggregate;
 use flame_report::{Answer, Kind, Query, Rank, flame_json, report_of_stacks, top_list, top_text};
 use folded_text::{FoldedFault, folded_totals, merge_folded};
+use live_answers::Progress;
 use pprof_profile::{ProfileFault, Text, decode};
 use profile_rows::{NoMemory, WeightedStacks};
 use profile_samples::{BatchFault, ValueChoice, export_folded, merge_samples};
@@ -20,15 +21,16 @@ use std::alloc::Global;
 use std::sync::Wait;
 use std::thread::Threads;
 
-/// The whole text that is written for an input.
+/// The whole text that is written for an input. For `Live`, `progress` hears of each row that is in.
 ///
 /// # Errors
 ///
 /// The first fault of an input that has no rows for the request; for `Live` also what kept the store's sessions from
 /// their work, or the audit from a run; `NoMemory`.
-pub fn answer<R: Threads + Wait + Sync>(
+pub fn answer<P: Progress, R: Threads + Wait + Sync>(
     rt: &R,
     alloc: Global,
+    progress: &P,
     request: &Request,
     input: &[u8],
 ) -> Result<Vec<u8>, ToolFault>
@@ -39,7 +41,9 @@ pub fn answer<R: Threads + Wait + Sync>(
     match request {
         Request::Report { source, query } => report_on(alloc, source, query, input),
         Request::Export { kind, unit } => export(alloc, kind, unit, input),
-        Request::Live { source, options } => live_report(rt, alloc, source, *options, input),
+        Request::Live { source, options } => {
+            live_report(rt, alloc, progress, source, *options, input)
+        }
     }
 }
 

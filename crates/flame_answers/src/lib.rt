@@ -9,6 +9,7 @@ mod request;
 mod streams;
 
 pub use answers::answer;
+pub use live_answers::{Progress, Unheard};
 pub use outcomes::{Outcome, Status, ToolFault};
 pub use request::{Format, Request, Source};
 pub use streams::{MAX_INPUT, ReadFault, WriteFault, read_input, write_text};

@@ -8,7 +8,7 @@ use crate::answers::{batch_fault, choice_of, folded_fault, profile_fault};
 use crate::outcomes::ToolFault;
 use crate::request::{Format, Source};
 use folded_text::read_folded;
-use live_answers::{LiveFault, LiveOptions, live_text};
+use live_answers::{LiveFault, LiveOptions, Progress, live_text};
 use pprof_profile::{Text, decode};
 use profile_rows::Batch;
 use profile_samples::{ValueChoice, batch_of};
@@ -17,9 +17,10 @@ use std::sync::{Arc, Wait};
 use std::thread::Threads;
 
 /// The reports of the input's rows out of a store that several threads filled, once it was audited.
-pub(crate) fn live_report<R: Threads + Wait + Sync>(
+pub(crate) fn live_report<P: Progress, R: Threads + Wait + Sync>(
     rt: &R,
     alloc: Global,
+    progress: &P,
     source: &Source,
     options: LiveOptions,
     input: &[u8],
@@ -32,7 +33,7 @@ pub(crate) fn live_report<R: Threads + Wait + Sync>(
     let Ok(batch) = Arc::new(alloc, batch) else {
         return Err(ToolFault::NoMemory);
     };
-    match live_text(rt, alloc, &batch, options) {
+    match live_text(rt, alloc, progress, &batch, options) {
         Ok(text) => Ok(text),
         Err(fault) => Err(store_fault(fault)),
     }

@@ -8,6 +8,7 @@ mod host;
 mod options;
 mod process;
 mod program;
+mod shown_rows;
 mod words;
 
 pub use host::run_on_host;

@@ -10,7 +10,7 @@ ghost use Rattle.flame_program.specs.Program.{InputDecides, IsDone, IsEnd};
 ghost use Rattle.flame_program.specs.Words.{texts_of};
 
 use crate::program::run;
-use flame_answers::{MAX_INPUT, Outcome, Status, ToolFault};
+use flame_answers::{MAX_INPUT, Outcome, Progress, Status, ToolFault};
 use std::alloc::{AllocError, Global};
 use std::env::Args;
 use std::io;
@@ -31,10 +31,11 @@ pub struct End {
 /// The whole program, over the words and the three streams of a process.
 ///
 /// The first word is the program's name. At most 268,435,456 bytes of input are taken. The writer gets the report
-/// alone, and the error writer what there is to say of another end.
-pub fn run_process<T: Threads + Wait + Sync, R: Read, W: Write, E: Write>(
+/// alone, and the error writer what there is to say of another end. For `live`, `progress` hears of each row that is in.
+pub fn run_process<T: Threads + Wait + Sync, P: Progress, R: Read, W: Write, E: Write>(
     rt: &T,
     alloc: Global,
+    progress: &P,
     words: io::Result<Args>,
     reader: &mut R,
     writer: &mut W,
@@ -56,7 +57,7 @@ pub fn run_process<T: Threads + Wait + Sync, R: Read, W: Write, E: Write>(
         (R.remaining reader.old) (R.remaining reader.new) (W.contents writer.old) (W.contents writer.new)
         (exit_status result.code) cause × IsSaid (E.contents errors.old) (E.contents errors.new) cause result.said) }
 {
-    let status = run_words(rt, alloc, words, reader, writer);
+    let status = run_words(rt, alloc, progress, words, reader, writer);
     End {
         code: exit_code(&status),
         said: say(errors, &status.cause),
@@ -78,9 +79,10 @@ fn say<E: Write>(errors: &mut E, cause: &Outcome) -> io::Result<()>
 }
 
 // Runs on the words, where they can be had.
-fn run_words<T: Threads + Wait + Sync, R: Read, W: Write>(
+fn run_words<T: Threads + Wait + Sync, P: Progress, R: Read, W: Write>(
     rt: &T,
     alloc: Global,
+    progress: &P,
     words: io::Result<Args>,
     reader: &mut R,
     writer: &mut W,
@@ -98,15 +100,16 @@ fn run_words<T: Threads + Wait + Sync, R: Read, W: Write>(
         result.code result.cause) }
 {
     match words {
-        Ok(words) => run_args(rt, alloc, words, reader, writer),
+        Ok(words) => run_args(rt, alloc, progress, words, reader, writer),
         Err(error) => unread_words(alloc, &error),
     }
 }
 
 // Runs on all of the words.
-fn run_args<T: Threads + Wait + Sync, R: Read, W: Write>(
+fn run_args<T: Threads + Wait + Sync, P: Progress, R: Read, W: Write>(
     rt: &T,
     alloc: Global,
+    progress: &P,
     words: Args,
     reader: &mut R,
     writer: &mut W,
@@ -120,7 +123,7 @@ fn run_args<T: Threads + Wait + Sync, R: Read, W: Write>(
         result.code }
 {
     match owned_words(alloc, words) {
-        Ok(words) => run_texts(rt, alloc, words.as_slice(), reader, writer),
+        Ok(words) => run_texts(rt, alloc, progress, words.as_slice(), reader, writer),
         Err(_) => no_memory(),
     }
 }
@@ -133,9 +136,10 @@ fn owned_words(alloc: Global, words: Args) -> Result<Vec<String>, AllocError>
 }
 
 // Runs on the texts of the words.
-fn run_texts<T: Threads + Wait + Sync, R: Read, W: Write>(
+fn run_texts<T: Threads + Wait + Sync, P: Progress, R: Read, W: Write>(
     rt: &T,
     alloc: Global,
+    progress: &P,
     words: &[String],
     reader: &mut R,
     writer: &mut W,
@@ -148,7 +152,10 @@ fn run_texts<T: Threads + Wait + Sync, R: Read, W: Write>(
     ensures decided { InputDecides (map string_bytes words.now) 268435456 (R.remaining reader.old) result.code }
 {
     match texts_in(alloc, words) {
-        Ok(texts) => run(rt, alloc, texts.as_slice(), reader, writer, MAX_INPUT),
+        Ok(texts) => {
+            let texts = texts.as_slice();
+            run(rt, alloc, progress, texts, reader, writer, MAX_INPUT)
+        }
         Err(_) => no_memory(),
     }
 }

@@ -8,7 +8,8 @@ ghost use Rattle.flame_program.specs.Words.{IsCrowded, IsMisnamed, IsRefused, re
 
 use crate::words::{WordsFault, read_words};
 use flame_answers::{
-    MAX_INPUT, Outcome, ReadFault, Request, Status, ToolFault, answer, read_input, write_text,
+    MAX_INPUT, Outcome, Progress, ReadFault, Request, Status, ToolFault, answer, read_input,
+    write_text,
 };
 use std::alloc::Global;
 use std::io::{Read, Write};
@@ -18,10 +19,11 @@ use std::thread::Threads;
 /// Reads the words, then the whole input, and writes the whole report on it.
 ///
 /// The first word is the program's name. At most `limit` bytes of input are taken, and one more shows that it is too
-/// long. Nothing is written before the whole text is made.
-pub fn run<'a, T: Threads + Wait + Sync, R: Read, W: Write>(
+/// long. Nothing is written before the whole text is made. For `live`, `progress` hears of each row that is in.
+pub fn run<'a, T: Threads + Wait + Sync, P: Progress, R: Read, W: Write>(
     rt: &T,
     alloc: Global,
+    progress: &P,
     words: &'a [&'a str],
     reader: &mut R,
     writer: &mut W,
@@ -48,13 +50,14 @@ pub fn run<'a, T: Threads + Wait + Sync, R: Read, W: Write>(
         (R.remaining reader.old) (R.remaining reader.new) (W.contents writer.old) (W.contents writer.new) }
     ensures reads_at_most { TakesAtMost (limit + 1) (R.remaining reader.old) (R.remaining reader.new) }
 {
-    Status::of(outcome_of(rt, alloc, words, reader, writer, limit))
+    Status::of(outcome_of(rt, alloc, progress, words, reader, writer, limit))
 }
 
 // How the run ends.
-fn outcome_of<'a, T: Threads + Wait + Sync, R: Read, W: Write>(
+fn outcome_of<'a, T: Threads + Wait + Sync, P: Progress, R: Read, W: Write>(
     rt: &T,
     alloc: Global,
+    progress: &P,
     words: &'a [&'a str],
     reader: &mut R,
     writer: &mut W,
@@ -65,7 +68,7 @@ fn outcome_of<'a, T: Threads + Wait + Sync, R: Read, W: Write>(
         (W.contents writer.old) (W.contents writer.new) result }
 {
     match read_words(alloc, words) {
-        Ok(request) => respond(rt, alloc, request, reader, writer, limit),
+        Ok(request) => respond(rt, alloc, progress, request, reader, writer, limit),
         Err(fault) => unasked(fault),
     }
 }
@@ -83,9 +86,10 @@ fn unasked(fault: WordsFault) -> Outcome
 }
 
 // Reads the input, makes the text, and writes it.
-fn respond<T: Threads + Wait + Sync, R: Read, W: Write>(
+fn respond<T: Threads + Wait + Sync, P: Progress, R: Read, W: Write>(
     rt: &T,
     alloc: Global,
+    progress: &P,
     request: Request,
     reader: &mut R,
     writer: &mut W,
@@ -100,7 +104,7 @@ fn respond<T: Threads + Wait + Sync, R: Read, W: Write>(
         Ok(input) => input,
         Err(fault) => return Outcome::Fault(read_fault(fault)),
     };
-    let text = match answer(rt, alloc, &request, input.as_slice()) {
+    let text = match answer(rt, alloc, progress, &request, input.as_slice()) {
         Ok(text) => text,
         Err(fault) => return Outcome::Fault(fault),
     };

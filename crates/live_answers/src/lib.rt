@@ -5,9 +5,11 @@
 mod dealing;
 mod fault;
 mod options;
+mod progress;
 mod storing;
 mod texts;
 
 pub use fault::LiveFault;
 pub use options::LiveOptions;
+pub use progress::{Progress, Unheard};
 pub use texts::live_text;

@@ -22,22 +22,14 @@ pub(crate) struct Stored {
     pub(crate) logs: Vec<SessionLog>,
 }
 
-/// Holds no worker.
-struct Open;
-
-impl Gate for Open {
-    fn before<R: Wait>(&self, _rt: &R, _worker: usize, _step: usize) {}
-
-    fn after<R: Wait>(&self, _rt: &R, _worker: usize, _step: usize) {}
-}
-
 /// Warms a store where a batch is given for it, then gives each list of operations to a worker, and closes the store.
-pub(crate) fn store<N: StoreName, R: Threads + Wait + Sync>(
+pub(crate) fn store<N: StoreName, G: Gate, R: Threads + Wait + Sync>(
     rt: &R,
     alloc: Global,
     blank: Blank,
     warm: Option<Arc<Batch>>,
     lists: Vec<Vec<Op>>,
+    gate: &G,
 ) -> Result<Stored, LiveFault>
     requires { blank ≡ record { limit = N.limit; sessions = N.sessions; width = N.width } }
     ensures told { IfOk result (λ stored. map (λ log. ops_told log.receipts) stored.logs.items
@@ -45,7 +37,7 @@ pub(crate) fn store<N: StoreName, R: Threads + Wait + Sync>(
     ensures width { IfOk result (λ stored. stored.journal.width ≡ blank.width) }
 {
     let store = Store::<N>::start(blank);
-    let logs = work(rt, alloc, &store, warm, lists);
+    let logs = work(rt, alloc, &store, warm, lists, gate);
     let journal = store.close(rt);
     Ok(Stored {
         journal,
@@ -54,12 +46,13 @@ pub(crate) fn store<N: StoreName, R: Threads + Wait + Sync>(
 }
 
 /// The logs of all sessions, that of the warm start first.
-fn work<N: StoreName, R: Threads + Wait + Sync>(
+fn work<N: StoreName, G: Gate, R: Threads + Wait + Sync>(
     rt: &R,
     alloc: Global,
     store: &Store<N>,
     warm: Option<Arc<Batch>>,
     lists: Vec<Vec<Op>>,
+    gate: &G,
 ) -> Result<Vec<SessionLog>, LiveFault>
     ensures { IfOk result (λ logs. map (λ log. ops_told log.receipts) logs.items
         ≡ warm_lists (option_map arc_value warm) ++ map (λ list. map plain_op list.items) lists.items) }
@@ -68,7 +61,7 @@ fn work<N: StoreName, R: Threads + Wait + Sync>(
     if let Some(batch) = warm {
         logs.push(warm_up(rt, alloc, store, batch)?)?;
     }
-    let worked = run_workers(rt, alloc, store, lists, &Open)?;
+    let worked = run_workers(rt, alloc, store, lists, gate)?;
     push_logs(&mut logs, worked)?;
     Ok(logs)
 }

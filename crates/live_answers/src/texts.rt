@@ -10,6 +10,7 @@ ghost use Rattle.live_answers.specs.Live.{count_line, folded_at, live_text_of, r
 use crate::dealing::deal;
 use crate::fault::LiveFault;
 use crate::options::LiveOptions;
+use crate::progress::{Progress, RowGate};
 use crate::storing::{Stored, is_warm, store};
 use call_tree::CallTree;
 use folded_text::write_stacks;
@@ -24,14 +25,15 @@ use std::sync::{Arc, Wait};
 use std::thread::Threads;
 
 /// Stores the rows of a batch by several workers, audits what these were told, and returns the reports out of the store
-/// with the number of audited operations.
+/// with the number of audited operations. `progress` hears of each row that is in; those of a warm start aren't told.
 ///
 /// # Errors
 ///
 /// What kept a session from its work, or the audit from a run; `NoMemory`.
-pub fn live_text<R: Threads + Wait + Sync>(
+pub fn live_text<P: Progress, R: Threads + Wait + Sync>(
     rt: &R,
     alloc: Global,
+    progress: &P,
     batch: &Arc<Batch>,
     options: LiveOptions,
 ) -> Result<Vec<u8>, LiveFault>
@@ -40,7 +42,12 @@ pub fn live_text<R: Threads + Wait + Sync>(
     let lists = deal(alloc, batch, options.sessions())?;
     let warm = warm_batch(batch, options)?;
     let blank = blank_for(alloc, batch, options)?;
-    let Stored { journal, logs } = store::<Brand, R>(rt, alloc, blank, warm, lists)?;
+    let gate = RowGate {
+        progress,
+        rows: batch.len(),
+        workers: options.sessions() as usize,
+    };
+    let Stored { journal, logs } = store::<Brand, _, _>(rt, alloc, blank, warm, lists, &gate)?;
     let run = audit(alloc, &journal, &logs)?;
     check_warm(options, &logs)?;
     additions_count_since_the_last_reset();

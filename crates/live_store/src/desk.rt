@@ -1,12 +1,13 @@
-//! What a store's lock keeps.
+//! What a store's lock keeps, and what happens under it.
 
-ghost use Rattle.std.specs.Prelude.{◌≡◌, ◌≢◌, ◌+◌, ◌<◌, ◌≤◌, ℕ, IfErr, IfOk, List, MatchOption, OnErr, OnOk, length};
+ghost use Rattle.std.specs.Prelude.{◌≡◌, ◌≢◌, ◌+◌, ◌<◌, ◌≤◌, ◌++◌, ◌∷◌, [], ℕ, IfErr, IfOk, List, MatchOption, OnErr, OnOk, length};
 ghost use Rattle.std.specs.Arc.{arc_value};
 ghost use Rattle.flame_report.specs.declared.answer.Answer.{Answer};
 ghost use Rattle.op_book.specs.Books.{IsAppended, IsFirstBookFault, IsReplay, IsSameBook, change_told, receipt_after};
 ghost use Rattle.op_book.specs.Operations.{PlainEntry, add, answered, ask, reset};
-ghost use Rattle.live_store.specs.Stores.{ShowsCause};
+ghost use Rattle.live_store.specs.Stores.{ShowsCause, changes_told};
 
+use crate::log::{Log, Placed};
 use crate::store::StoreName;
 use call_tree::CallTree;
 use flame_report::{NoMemory, Query, report};
@@ -80,62 +81,87 @@ impl<N: StoreName> Desk<N> {
         Some(number)
     }
 
-    /// The event of an addition.
+    /// The event of an addition: an entry of the book, and its receipt, for which the session's log has memory.
     pub(crate) fn add(
         &mut self,
         alloc: Global,
         session: u32,
-        turn: u64,
+        log: &mut Log,
         batch: Arc<Batch>,
-    ) -> Result<Receipt, Refused<Arc<Batch>>>
-        requires { session < N.sessions }
+    ) -> Result<Placed, Refused<Arc<Batch>>>
+        requires session { session < N.sessions }
+        requires room { length log.old.receipts.items < log.old.receipts.cap }
         ensures appended { OnOk result
-            (IsAppended self.old.book session turn (add (arc_value batch)) self.new.book) }
-        ensures receipt { IfOk result
-            (λ receipt. receipt ≡ receipt_after self.old.book.entries (add (arc_value batch))) }
-        ensures told { IfOk result
-            (λ receipt. (place : ℕ) × (receipt ≡ change_told (add (arc_value batch)) place)) }
+            (IsAppended self.old.book session (changes_told log.old.receipts.items) (add (arc_value batch))
+            self.new.book) }
+        ensures receipt { OnOk result (log.new.receipts.items
+            ≡ log.old.receipts.items ++ receipt_after self.old.book.entries (add (arc_value batch)) ∷ []) }
+        ensures extended { IfOk result (λ placing. log.new.receipts.items
+            ≡ log.old.receipts.items ++ change_told (add (arc_value batch)) placing.place ∷ []) }
         ensures unchanged { OnErr result (IsSameBook self.old.book self.new.book) }
+        ensures untold { OnErr result (log.new.receipts.items ≡ log.old.receipts.items) }
         ensures given { self.new.given ≡ self.old.given }
         ensures back { IfErr result (λ refused. refused.back ≡ batch) }
-        ensures first_fault { IfErr result
-            (λ refused. IsFirstBookFault self.old.book session turn (add (arc_value batch)) refused.fault) }
-        ensures cause { IfErr result
-            (λ refused. ShowsCause N.limit N.width turn (add (arc_value batch)) refused.fault) }
+        ensures first_fault { IfErr result (λ refused. IsFirstBookFault self.old.book session
+            (changes_told log.old.receipts.items) (add (arc_value batch)) refused.fault) }
+        ensures cause { IfErr result (λ refused. ShowsCause N.limit N.width
+            (changes_told log.old.receipts.items) (add (arc_value batch)) refused.fault) }
     {
-        self.book.add(alloc, session, turn, batch)
+        match self.book.add(alloc, session, log.turn(), batch) {
+            Ok(receipt) => Ok(log.keep_change(receipt)),
+            Err(refused) => Err(refused),
+        }
     }
 
-    /// The event of a reset.
+    /// The event of a reset: an entry of the book, and its receipt, for which the session's log has memory.
     pub(crate) fn reset(
         &mut self,
         alloc: Global,
         session: u32,
-        turn: u64,
-    ) -> Result<Receipt, BookFault>
-        requires { session < N.sessions }
-        ensures appended { OnOk result (IsAppended self.old.book session turn reset self.new.book) }
-        ensures receipt { IfOk result (λ receipt. receipt ≡ receipt_after self.old.book.entries reset) }
-        ensures told { IfOk result (λ receipt. (place : ℕ) × (receipt ≡ change_told reset place)) }
+        log: &mut Log,
+    ) -> Result<Placed, BookFault>
+        requires session { session < N.sessions }
+        requires room { length log.old.receipts.items < log.old.receipts.cap }
+        ensures appended { OnOk result
+            (IsAppended self.old.book session (changes_told log.old.receipts.items) reset self.new.book) }
+        ensures receipt { OnOk result (log.new.receipts.items
+            ≡ log.old.receipts.items ++ receipt_after self.old.book.entries reset ∷ []) }
+        ensures extended { IfOk result
+            (λ placing. log.new.receipts.items ≡ log.old.receipts.items ++ change_told reset placing.place ∷ []) }
         ensures unchanged { OnErr result (IsSameBook self.old.book self.new.book) }
+        ensures untold { OnErr result (log.new.receipts.items ≡ log.old.receipts.items) }
         ensures given { self.new.given ≡ self.old.given }
-        ensures first_fault { IfErr result (λ fault. IsFirstBookFault self.old.book session turn reset fault) }
-        ensures cause { IfErr result (ShowsCause N.limit N.width turn reset) }
+        ensures first_fault { IfErr result
+            (λ fault. IsFirstBookFault self.old.book session (changes_told log.old.receipts.items) reset fault) }
+        ensures cause { IfErr result (ShowsCause N.limit N.width (changes_told log.old.receipts.items) reset) }
         ensures light { IfErr result (λ fault. (value held : ℕ) → fault ≢ BookFault.Heavy value held) }
     {
-        self.book.reset(alloc, session, turn)
+        match self.book.reset(alloc, session, log.turn()) {
+            Ok(receipt) => Ok(log.keep_change(receipt)),
+            Err(fault) => Err(fault),
+        }
     }
 
-    /// A report over what counts.
-    pub(crate) fn ask(&self, alloc: Global, query: &Arc<Query>) -> Result<Receipt, NoMemory>
-        requires { (arc_value query.now).value < N.width }
-        ensures receipt { IfOk result
-            (λ receipt. receipt ≡ receipt_after self.now.book.entries (ask (arc_value query.now))) }
-        ensures told { IfOk result (λ receipt. (answer : Answer) × (at : ℕ)
-            × (receipt ≡ record { op = ask (arc_value query.now); reply = answered answer; at = at })) }
+    /// A report over what counts, and its receipt, for which the session's log has memory.
+    pub(crate) fn ask(
+        &self,
+        alloc: Global,
+        log: &mut Log,
+        query: &Arc<Query>,
+    ) -> Result<(), NoMemory>
+        requires value { (arc_value query.now).value < N.width }
+        requires room { length log.old.receipts.items < log.old.receipts.cap }
+        ensures receipt { OnOk result (log.new.receipts.items
+            ≡ log.old.receipts.items ++ receipt_after self.now.book.entries (ask (arc_value query.now)) ∷ []) }
+        ensures extended { OnOk result ((answer : Answer) × (at : ℕ) × (log.new.receipts.items
+            ≡ log.old.receipts.items
+            ++ (record { op = ask (arc_value query.now); reply = answered answer; at = at }) ∷ [])) }
+        ensures untold { OnErr result (log.new.receipts.items ≡ log.old.receipts.items) }
     {
         let changes = self.book.entries().len() as u64;
-        report_over(alloc, self.book.tree(), changes, query)
+        let receipt = report_over(alloc, self.book.tree(), changes, query)?;
+        log.keep_answer(receipt);
+        Ok(())
     }
 
     /// The book closed.

@@ -1,13 +1,14 @@
 //! A session: what one thread asks of a store, and what it was told.
 
-ghost use Rattle.std.specs.Prelude.{◌≡◌, ◌≢◌, ◌<◌, ◌≤◌, ◌⊎◌, ◌++◌, ◌∷◌, [], ℕ, List, length, true, IfErr, IfOk, MatchResult, OnErr, OnOk};
+ghost use Rattle.std.specs.Prelude.{◌≡◌, ◌≢◌, ◌<◌, ◌≤◌, ◌⊎◌, ◌++◌, ◌∷◌, [], ℕ, List, IfErr, IfOk, MatchResult, OnErr, OnOk};
 ghost use Rattle.std.specs.Arc.{arc_value};
 ghost use Rattle.op_book.specs.Books.{change_told};
-ghost use Rattle.op_book.specs.Operations.{PlainOp, PlainReceipt, add, answered, ask, is_change, placed, plain_op, reset};
+ghost use Rattle.op_book.specs.Operations.{PlainOp, PlainReceipt, add, answered, ask, plain_op, reset};
 ghost use Rattle.flame_report.specs.declared.answer.Answer.{Answer};
 ghost use Rattle.live_store.specs.Stores.{ShowsCause, changes_told};
 ghost use Rattle.live_store.specs.Workers.{ops_told};
 
+use crate::log::{Log, Placed};
 use crate::store::{Store, StoreName};
 use flame_report::{Answer, Items, Query};
 use op_book::{BookFault, Op, Receipt, Refused, Reply, SessionLog};
@@ -16,47 +17,23 @@ use std::alloc::Global;
 use std::marker::Model;
 use std::sync::{Arc, Wait};
 
-/// Where a change was placed.
-#[derive(Clone, Copy, Debug, PartialEq, Eq)]
-pub struct Placed {
-    /// How many changes stand before it.
-    pub place: u64,
-}
-
-/// Puts the receipt of a change into a log that has memory for it, and counts the change.
-fn keep_change(log: &mut Vec<Receipt>, turn: &mut u64, receipt: Receipt) -> Placed
-    requires memory { length log.old.items < log.old.cap }
-    requires turn { turn.old ≡ changes_told log.old.items }
-    requires told { (op : PlainOp) × (place : ℕ) × (receipt ≡ change_told op place) × (is_change op ≡ true) }
-    ensures log { log.new.items ≡ log.old.items ++ receipt ∷ [] }
-    ensures turn { turn.new ≡ changes_told log.new.items }
-    ensures placed { receipt.reply ≡ placed result.place }
-{
-    *turn += 1;
-    let place = receipt.at;
-    log.push_reserved(receipt);
-    Placed { place }
-}
-
 /// What one thread asks of a store. It keeps a receipt of each operation that succeeded.
 #[derive(Drop)]
 pub struct Session<'a, N: StoreName> {
     store: &'a Store<N>,
     number: u32,
-    /// How many changes the session made.
-    turn: u64,
-    log: Vec<Receipt>,
+    log: Log,
 }
 
 impl<'a, N: StoreName> Model for Session<'a, N> {
     ghost use Rattle.std.specs.Prelude.{◌≡◌, ◌<◌};
-    ghost use Rattle.live_store.specs.Stores.{SessionState, changes_told};
+    ghost use Rattle.live_store.specs.Stores.{SessionState};
 
     ghost Value = { SessionState };
 
-    ghost view = { λ s. record { number = s.number; log = s.log.items } };
+    ghost view = { λ s. record { number = s.number; log = s.log.receipts.items } };
 
-    ghost invariant = { λ s. (s.number < N.sessions) × (s.turn ≡ changes_told s.log.items) };
+    ghost invariant = { λ s. s.number < N.sessions };
 }
 
 impl<'a, N: StoreName> Session<'a, N> {
@@ -74,8 +51,7 @@ impl<'a, N: StoreName> Session<'a, N> {
         Session {
             store,
             number,
-            turn: 0,
-            log: Vec::new(alloc),
+            log: Log::new(alloc),
         }
     }
 
@@ -91,8 +67,7 @@ impl<'a, N: StoreName> Session<'a, N> {
     pub fn log(&self) -> &[Receipt]
         ensures { result.now ≡ self.now.log }
     {
-        let log: &Vec<Receipt> = &self.log;
-        log.as_slice()
+        self.log.receipts()
     }
 
     /// The session's log. The session ends.
@@ -101,7 +76,7 @@ impl<'a, N: StoreName> Session<'a, N> {
     {
         SessionLog {
             session: self.number,
-            receipts: Items::new(self.log),
+            receipts: Items::new(self.log.into_receipts()),
         }
     }
 
@@ -124,21 +99,14 @@ impl<'a, N: StoreName> Session<'a, N> {
         ensures cause { IfErr result (λ refused.
             ShowsCause N.limit N.width (changes_told self.old.log) (add (arc_value batch)) refused.fault) }
     {
-        if self.log.reserve(1).is_err() {
+        if self.log.make_room().is_err() {
             return Err(Refused {
                 fault: BookFault::NoMemory,
                 back: batch,
             });
         }
-        let added = self
-            .store
-            .desk()
-            .lock(rt)
-            .add(alloc, self.number, self.turn, batch);
-        match added {
-            Ok(receipt) => Ok(keep_change(&mut self.log, &mut self.turn, receipt)),
-            Err(refused) => Err(refused),
-        }
+        let mut desk = self.store.desk().lock(rt);
+        desk.add(alloc, self.number, &mut self.log, batch)
     }
 
     /// Empties the profile, and keeps the receipt: what was added before counts no more.
@@ -154,16 +122,9 @@ impl<'a, N: StoreName> Session<'a, N> {
         ensures cause { IfErr result (ShowsCause N.limit N.width (changes_told self.old.log) reset) }
         ensures light { IfErr result (λ fault. (value held : ℕ) → fault ≢ BookFault.Heavy value held) }
     {
-        self.log.reserve(1)?;
-        let made = self
-            .store
-            .desk()
-            .lock(rt)
-            .reset(alloc, self.number, self.turn);
-        match made {
-            Ok(receipt) => Ok(keep_change(&mut self.log, &mut self.turn, receipt)),
-            Err(fault) => Err(fault),
-        }
+        self.log.make_room()?;
+        let mut desk = self.store.desk().lock(rt);
+        desk.reset(alloc, self.number, &mut self.log)
     }
 
     /// Answers a query over what counts, and keeps the receipt, from which the answer is lent. The query
@@ -239,9 +200,9 @@ impl<'a, N: StoreName> Session<'a, N> {
         if query.value >= held {
             return Err(BookFault::Width { held });
         }
-        self.log.reserve(1)?;
-        let receipt = self.store.desk().lock(rt).ask(alloc, query)?;
-        self.log.push_reserved(receipt);
+        self.log.make_room()?;
+        let desk = self.store.desk().lock(rt);
+        desk.ask(alloc, &mut self.log, query)?;
         Ok(())
     }
 
@@ -253,7 +214,9 @@ impl<'a, N: StoreName> Session<'a, N> {
             → self.now.log ≡ front ++ (record { op = op; reply = answered answer; at = at }) ∷ []
             → result.now ≡ answer }
     {
-        match &self.log[self.log.len() - 1].reply {
+        let receipts = self.log.receipts();
+        let last = &receipts[receipts.len() - 1];
+        match &last.reply {
             Reply::Answered(answer) => answer,
             Reply::Placed(_) => unreachable!(),
         }

@@ -150,7 +150,8 @@ fn work_all<'a, N: StoreName, G: Gate, R: Threads + Wait + Sync>(
 ) -> Vec<Worked>
     requires begun { (begun.items ≡ []) × (length workers.items ≤ vec_capacity begun) }
     requires worked { (worked.items ≡ []) × (length workers.items ≤ vec_capacity worked) }
-    ensures { AreWorkOf N.limit N.width (map (λ worker. map plain_op worker.list.items) workers.entry.items) result.items }
+    ensures { AreWorkOf N.limit N.width
+        (map (λ worker. map plain_op worker.list.items) workers.entry.items) result.items }
 {
     thread::scope(
         thread::scope_env(),

@@ -1,6 +1,6 @@
 //! A reader and a writer that move few bytes at a time and fail once, and a run on given bytes.
 
-use flame_answers::{MAX_INPUT, Status};
+use flame_answers::{MAX_INPUT, Status, Unheard};
 use flame_program::run;
 use std::alloc::{AllocError, Global};
 use std::io;
@@ -109,6 +109,7 @@ pub fn run_on<'a, T: Threads + Wait + Sync>(
     let status = run(
         rt,
         alloc,
+        &Unheard,
         words,
         &mut reader,
         &mut written,

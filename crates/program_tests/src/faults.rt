@@ -1,7 +1,7 @@
 //! The statuses other than 0, and what the program says of them.
 
 use crate::fakes::{Dripping, FOLD, Narrow, TOP, repeated, run_on};
-use flame_answers::MAX_INPUT;
+use flame_answers::{MAX_INPUT, Unheard};
 use flame_program::run;
 use std::io::ErrorKind;
 use std::test::Fail;
@@ -147,7 +147,15 @@ fn input_limit(rt: HostRuntime) -> Result<(), Fail> {
         fault: ErrorKind::Interrupted,
     };
     let mut writer = Narrow::new(rt.alloc(), 100, 100);
-    let status = run(&rt, rt.alloc(), TOP.as_slice(), &mut reader, &mut writer, 3);
+    let status = run(
+        &rt,
+        rt.alloc(),
+        &Unheard,
+        TOP.as_slice(),
+        &mut reader,
+        &mut writer,
+        3,
+    );
     assert_eq!(rt;
         status.cause.to_string(rt.alloc())?.as_str(),
         "flame: E3 TooLong\n",
@@ -173,6 +181,7 @@ fn each_read_failing_in_turn(rt: HostRuntime) -> Result<(), Fail> {
         let status = run(
             &rt,
             rt.alloc(),
+            &Unheard,
             TOP.as_slice(),
             &mut reader,
             &mut writer,
@@ -207,6 +216,7 @@ fn failing_writers(rt: HostRuntime) -> Result<(), Fail> {
         let status = run(
             &rt,
             rt.alloc(),
+            &Unheard,
             TOP.as_slice(),
             &mut reader,
             &mut writer,
@@ -230,6 +240,7 @@ fn failing_flush(rt: HostRuntime) {
     let status = run(
         &rt,
         rt.alloc(),
+        &Unheard,
         TOP.as_slice(),
         &mut reader,
         &mut writer,

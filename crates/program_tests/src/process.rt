@@ -1,6 +1,7 @@
 //! The exit status of a process, and what it says on the standard error.
 
 use crate::fakes::Narrow;
+use flame_answers::Unheard;
 use flame_program::{End, run_process};
 use std::alloc::{AllocError, Global};
 use std::env::Args;
@@ -30,7 +31,15 @@ fn process_on<T: Threads + Wait + Sync>(
     let mut reader = STORED;
     let mut written = Vec::new(alloc);
     let mut said = Vec::new(alloc);
-    let end = run_process(rt, alloc, words, &mut reader, &mut written, &mut said);
+    let end = run_process(
+        rt,
+        alloc,
+        &Unheard,
+        words,
+        &mut reader,
+        &mut written,
+        &mut said,
+    );
     (end, written, said)
 }
 
@@ -94,6 +103,7 @@ fn a_standard_error_that_fails(rt: HostRuntime) -> Result<(), Fail> {
     let end = run_process(
         &rt,
         rt.alloc(),
+        &Unheard,
         Ok(words),
         &mut reader,
         &mut writer,

@@ -1,7 +1,7 @@
 //! The reports of `top` and of `fold`, worked by hand.
 
 use crate::fakes::{Dripping, FOLD, Narrow, TOP, run_on};
-use flame_answers::MAX_INPUT;
+use flame_answers::{MAX_INPUT, Unheard};
 use flame_program::run;
 use std::io::ErrorKind;
 use std::test::Fail;
@@ -84,6 +84,7 @@ fn streams_of_one_byte_change_nothing(rt: HostRuntime) {
     let status = run(
         &rt,
         rt.alloc(),
+        &Unheard,
         TOP.as_slice(),
         &mut reader,
         &mut writer,

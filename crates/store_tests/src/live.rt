@@ -1,12 +1,12 @@
 //! What `live` writes of worked examples, by several numbers of workers, and that these succeed.
 
 use crate::helpers::{batch_of, row_of};
-use live_answers::{LiveFault, LiveOptions, live_text};
+use live_answers::{LiveFault, LiveOptions, Progress, Unheard, live_text};
 use live_store::{BookFault, SessionFault, WorkersFault};
 use op_book::AuditFault;
 use stack_text::Batch;
 use std::alloc::Global;
-use std::sync::{Arc, Wait};
+use std::sync::{Arc, Mutex, Wait};
 use std::test::Fail;
 use std::thread::Threads;
 
@@ -20,7 +20,7 @@ fn written<R: Threads + Wait + Sync>(
     let Some(options) = options else {
         return Ok(format!(in alloc; "no options")?);
     };
-    match live_text(rt, alloc, batch, options) {
+    match live_text(rt, alloc, &Unheard, batch, options) {
         Ok(text) => Ok(String::from_utf8(text)?),
         Err(fault) => Ok(format!(in alloc; "{fault}")?),
     }
@@ -101,6 +101,35 @@ fn faults_are_printed_by_their_causes(rt: HostRuntime) -> Result<(), Fail> {
     ] {
         let said = format!(in rt.alloc(); "{fault}")?;
         assert_eq!(rt; said.as_str(), wanted);
+    }
+    Ok(())
+}
+
+// How many rows were heard of.
+#[derive(Drop)]
+struct Heard {
+    rows: Mutex<u64>,
+}
+
+impl Progress for Heard {
+    fn row_in<R: Wait>(&self, rt: &R) {
+        let mut rows = self.rows.lock(rt);
+        *rows = rows.saturating_add(1);
+    }
+}
+
+#[test]
+fn each_row_is_heard_of_once(rt: HostRuntime) -> Result<(), Fail> {
+    let alloc = rt.alloc();
+    let batch = batch_of(alloc, "a 1\nb 2\na 3\nc 4\na;b 5\n")?;
+    for (sessions, warm) in [(1, false), (2, true), (7, false)] {
+        let heard = Heard {
+            rows: Mutex::new(0),
+        };
+        if let Some(options) = LiveOptions::new(sessions, false, warm) {
+            let _ = live_text(&rt, alloc, &heard, &batch, options);
+        }
+        assert_eq!(rt; *heard.rows.lock(&rt), 5);
     }
     Ok(())
 }

@@ -42,11 +42,7 @@ pub fn live_text<P: Progress, R: Threads + Wait + Sync>(
     let lists = deal(alloc, batch, options.sessions())?;
     let warm = warm_batch(batch, options)?;
     let blank = blank_for(alloc, batch, options)?;
-    let gate = RowGate {
-        progress,
-        rows: batch.len(),
-        workers: options.sessions() as usize,
-    };
+    let gate = gate_for(progress, batch, options);
     let Stored { journal, logs } = store::<Brand, _, _>(rt, alloc, blank, warm, lists, &gate)?;
     let run = audit(alloc, &journal, &logs)?;
     check_warm(options, &logs)?;
@@ -56,6 +52,19 @@ pub fn live_text<P: Progress, R: Threads + Wait + Sync>(
     let operations = run.steps().len();
     push_count(alloc, operations, &mut text)?;
     Ok(text)
+}
+
+/// What tells of the rows of a batch.
+fn gate_for<'a, P: Progress>(
+    progress: &'a P,
+    batch: &Arc<Batch>,
+    options: LiveOptions,
+) -> RowGate<'a, P> {
+    RowGate {
+        progress,
+        rows: batch.len(),
+        workers: options.sessions() as usize,
+    }
 }
 
 /// The batch for a warm start, where there is one.

@@ -7,4 +7,5 @@ pub mod IdPlaces
 pub mod SampleBatches
 pub mod SampleRows
 pub mod MergedSamples
+pub mod NameTallies
 pub mod TextPlaces

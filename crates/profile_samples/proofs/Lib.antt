@@ -2,6 +2,7 @@ pub mod ExportLaws
 pub mod ExportedBatches
 pub mod ExportedRows
 pub mod ExportedValues
+pub mod FrameNumbers
 pub mod ItemsById
 pub mod IdPlaces
 pub mod SampleBatches

@@ -1,7 +1,7 @@
 -- What the names of frames weigh so far, by their numbers.
 use Rattle.std.specs.Prelude.{ℕ, ◌≡◌, ◌+◌, List, [], map, slice_index_or, unwrap_or, if◌then◌else◌}
 use Rattle.std.specs.List.{IsDistinct}
-use Rattle.std.specs.Map.{keys_of, lookup}
+use Rattle.std.specs.Map.{lookup}
 use denote.Ref.{Bor}
 use Rattle.pprof_profile.specs.declared.messages.Draft.{Draft}
 use Rattle.profile_rows.specs.declared.tallies.Tally.{Tally}
@@ -29,9 +29,9 @@ entry_at entries number = slice_index_or entries number zero_entry
 abbrev pub names_of : List Entry → List (List ℕ)
 names_of entries = map (λ (entry : Entry). entry.0.now) entries
 
--- no two entries have one name
-abbrev pub AreSingle : List Entry → Type 0
-AreSingle entries = IsDistinct (λ (a b : Bor (List ℕ)). is_same_name a.now b.now) (keys_of entries)
+-- no two of these names are the same
+abbrev pub AreSingle : List (List ℕ) → Type 0
+AreSingle names = IsDistinct is_same_name names
 
 -- the names of these numbers
 abbrev pub names_at : List (List ℕ) → List ℕ → List (List ℕ)

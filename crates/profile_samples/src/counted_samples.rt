@@ -36,7 +36,7 @@ fn count_name(entries: &mut Vec<(&str, Tally)>, number: usize, row: u64, weight:
 /// Counts the names of these numbers in a row.
 fn count_names(entries: &mut Vec<(&str, Tally)>, numbers: &[usize], row: u64, weight: u64)
     requires inside { All (λ number. number < length entries.old.items) numbers.now }
-    requires single { AreSingle entries.old.items }
+    requires single { AreSingle (names_of entries.old.items) }
     requires fits { (name : List ℕ) → (tally_of entries.old.items name).row ≢ row
         → (tally_of entries.old.items name).cumulative + weight < 2 ^ 63 }
     ensures names { names_of entries.new.items ≡ names_of entries.old.items }
@@ -180,7 +180,7 @@ fn count_samples(
 
 /// The names of cumulative weight above 0 with their weights.
 fn weighted(alloc: Global, entries: &[(&str, Tally)]) -> Result<Vec<FrameTotal>, NoMemory>
-    requires single { AreSingle entries.now }
+    requires single { AreSingle (names_of entries.now) }
     requires counted { (rows : List WeightedStack) × (held : ℕ) × AreTalliesOfNames rows held entries.now }
     ensures { (rows : List WeightedStack) (held : ℕ) → AreTalliesOfNames rows held entries.now
         → IfOk result (λ list. AreSumsOf rows list.items) }

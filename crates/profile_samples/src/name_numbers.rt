@@ -1,7 +1,7 @@
 //! The names of a profile's frames by numbers. Equal names have one number, whether they come of one string, of two or
 //! of an address, so that a sample's frames are told apart without their texts.
 
-ghost use Rattle.std.specs.Prelude.{ℕ, ◌≡◌, ◌≢◌, ◌<◌, ◌≤◌, ◌↔◌, All, IfOk, IsTrue, OnOk, MatchOption, Some, [], ◌∷◌, ◌++◌, length, map, slice_get, slice_index_or};
+ghost use Rattle.std.specs.Prelude.{ℕ, ◌≡◌, ◌<◌, ◌≤◌, ◌↔◌, All, IfOk, IsTrue, List, OnOk, MatchOption, [], ◌∷◌, ◌++◌, length, map, slice_get, slice_index_or};
 ghost use Rattle.std.specs.Option.{option_map};
 ghost use Rattle.pprof_profile.specs.Valid.{IsValidDraft};
 ghost use Rattle.profile_rows.specs.Names.{IsName, cleaned_name_of};
@@ -231,16 +231,16 @@ impl<'a> FunctionNumbers<'a> {
         }
     }
 
-    /// The numbers of the names of a location's lines, by that of its address.
+    /// The numbers of the names of a location's lines, of which there are some, by that of its address.
     fn line_numbers(
         &self,
         alloc: Global,
         location: &Location,
         address: usize,
     ) -> Result<Vec<usize>, AllocError>
-        requires { address ≡ number_of self.now (address_name location.now.address) }
-        ensures { IfOk result
-            (λ numbers. numbers.items ≡ map (line_number self.now location.now.address) location.now.lines) }
+        requires some { 0 < length location.now.lines }
+        requires address { address ≡ number_of self.now (address_name location.now.address) }
+        ensures { IfOk result (λ numbers. numbers.items ≡ numbers_of self.now location.now) }
     {
         let lines = location.lines.as_slice();
         let mut numbers = Vec::with_capacity(alloc, lines.len())?;
@@ -258,8 +258,7 @@ impl<'a> FunctionNumbers<'a> {
         address: usize,
     ) -> Result<Vec<usize>, AllocError>
         requires { address ≡ number_of self.now (address_name location.now.address) }
-        ensures numbers { IfOk result (λ numbers. numbers.items ≡ numbers_of self.now location.now) }
-        ensures some { IfOk result (λ numbers. 0 < length numbers.items) }
+        ensures { IfOk result (λ numbers. numbers.items ≡ numbers_of self.now location.now) }
     {
         if location.lines.is_empty() {
             return Ok(vec![in alloc; address]?);
@@ -287,6 +286,7 @@ fn each_once(
     mark: usize,
 ) -> Result<Vec<usize>, AllocError>
     requires inside { All (λ number. number < length marks.old.items) numbers.now }
+    requires marked { 0 < mark }
     requires fresh { All (λ before. before < mark) marks.old.items }
     ensures once { IfOk result (λ once. once.items ≡ once_of numbers.now) }
     ensures count { OnOk result (length marks.new.items ≡ length marks.old.items) }
@@ -311,6 +311,7 @@ fn frame_numbers(
 ) -> Result<FrameNumbers, AllocError>
     requires some { 0 < length numbers.now }
     requires inside { All (λ number. number < length marks.old.items) numbers.now }
+    requires marked { 0 < mark }
     requires fresh { All (λ before. before < mark) marks.old.items }
     ensures frames { IfOk result (λ frames. frames ≡ frame_numbers_of numbers.now) }
     ensures count { OnOk result (length marks.new.items ≡ length marks.old.items) }
@@ -412,9 +413,17 @@ impl<'a> NumberedFrames<'a> {
         ensures { option_map (λ frames. frames.now) result ≡ numbers_of_id self.now id }
     {
         match self.places.find(id) {
-            Some(at) => self.frames.get(at),
+            Some(at) => self.frames_at(at),
             None => None,
         }
+    }
+
+    /// The frames of the location at a place.
+    fn frames_at(&self, at: usize) -> Option<&FrameNumbers>
+        ensures { option_map (λ frames. frames.now) result
+            ≡ option_map (location_numbers self.now) (slice_get self.now.locations at) }
+    {
+        self.frames.get(at)
     }
 
     /// Whether locations have no more frames together than a stack can hold.

@@ -127,6 +127,11 @@ abbrev pub IsAnswerOfText : List ℕ → Kind → List ℕ → Type 0
 IsAnswerOfText input kind text =
     (rows : List WeightedStack) × IsFoldedText input rows × (text ≡ answer_text (answer_by kind rows))
 
+-- the text is what all rows of a profile's samples answer to a question
+abbrev pub IsAnswerOfProfile : Option (List ℕ) → List ℕ → Kind → List ℕ → Type 0
+IsAnswerOfProfile value input kind text =
+    (rows : List WeightedStack) × AreProfileRows value input rows × (text ≡ answer_text (answer_by kind rows))
+
 -- ---- inputs without rows
 
 -- why a profile has no rows

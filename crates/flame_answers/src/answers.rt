@@ -2,9 +2,10 @@
 
 ghost use Rattle.std.specs.Prelude.{ℕ, ◌≡◌, ◌∷◌, ◌++◌, [], List, MatchResult, IfOk, None, Option};
 ghost use Rattle.profile_rows.specs.declared.weighted_stacks.WeightedStack.{WeightedStack};
-ghost use Rattle.flame_report.specs.Answers.{answer_of};
+ghost use Rattle.profile_rows.specs.TopList.{AreTotalsOf};
+ghost use Rattle.flame_report.specs.Answers.{answer_by, answer_of};
 ghost use Rattle.flame_report.specs.declared.query.Kind.TheVariants.{Top};
-ghost use Rattle.flame_answers.specs.Answers.{AreMergedIn, IsAnswer, IsAnswerOfText, IsChoice, IsExport, IsInputFault, IsRefusedIn, IsReport, answer_text, batch_fault_of, folded_fault_of, profile_fault_of};
+ghost use Rattle.flame_answers.specs.Answers.{AreMergedIn, IsAnswer, IsAnswerOfProfile, IsAnswerOfText, IsChoice, IsExport, IsInputFault, IsRefusedIn, IsReport, answer_text, batch_fault_of, folded_fault_of, profile_fault_of};
 ghost use Rattle.flame_answers.specs.declared.request.Format.TheVariants.{Folded, Pprof};
 
 use crate::live::live_report;
@@ -15,8 +16,8 @@ use flame_report::{Answer, Kind, Query, Rank, flame_json, report_of_stacks, top_
 use folded_text::{FoldedFault, folded_totals, merge_folded};
 use live_answers::Progress;
 use pprof_profile::{ProfileFault, Text, decode};
-use profile_rows::{NoMemory, WeightedStacks};
-use profile_samples::{BatchFault, ValueChoice, export_folded, merge_samples};
+use profile_rows::{FrameTotals, NoMemory, WeightedStacks};
+use profile_samples::{BatchFault, ValueChoice, export_folded, merge_samples, sample_totals};
 use std::alloc::Global;
 use std::sync::Wait;
 use std::thread::Threads;
@@ -62,6 +63,9 @@ fn report_on(
         (Format::Folded, Kind::Top { rank, count }) if query.keeps_all() => {
             folded_top(alloc, rank, count, input)
         }
+        (Format::Pprof, Kind::Top { rank, count }) if query.keeps_all() => {
+            profile_top(alloc, &source.value, rank, count, input)
+        }
         _ => {
             let merged = merged_rows(alloc, source, input)?;
             answers_are_by_the_aggregate();
@@ -82,6 +86,42 @@ fn folded_top(alloc: Global, rank: Rank, count: u32, input: &[u8]) -> Result<Vec
     };
     let top = top_list(totals, rank, count)?;
     Ok(top_text(alloc, &top)?)
+}
+
+/// The text of the top list of the rows of a profile's samples, which aren't made for it.
+fn profile_top(
+    alloc: Global,
+    value: &Option<Text>,
+    rank: Rank,
+    count: u32,
+    input: &[u8],
+) -> Result<Vec<u8>, ToolFault>
+    ensures { MatchResult result
+        (λ text. IsAnswerOfProfile value.now input.now (Top rank count) text.items)
+        (λ fault. IsRefusedIn Pprof value.now input.now fault) }
+{
+    let profile = match decode(alloc, input) {
+        Ok(profile) => profile,
+        Err(fault) => return Err(profile_fault(fault)),
+    };
+    match sample_totals(alloc, &profile, choice_of(value)) {
+        Ok(totals) => Ok(totals_text(alloc, totals, rank, count)?),
+        Err(fault) => Err(batch_fault(fault)),
+    }
+}
+
+/// The text of the top list of rows, by what their names weigh.
+fn totals_text(
+    alloc: Global,
+    totals: FrameTotals,
+    rank: Rank,
+    count: u32,
+) -> Result<Vec<u8>, NoMemory>
+    ensures { (rows : List WeightedStack) → AreTotalsOf rows totals
+        → IfOk result (λ text. text.items ≡ answer_text (answer_by (Top rank count) rows)) }
+{
+    let top = top_list(totals, rank, count)?;
+    top_text(alloc, &top)
 }
 
 /// The bytes of the profile that folded text is exported as.

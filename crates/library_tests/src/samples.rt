@@ -3,10 +3,11 @@
 
 use crate::helpers::{pairs_of, rows_of, text_of};
 use crate::messages::{INLINED_AND_BARE_LOCATIONS, NEGATIVE_VALUE, ONE_SAMPLE, TWO_SAMPLE_TYPES};
+use flame_report::{Rank, top_list, top_text};
 use pprof_profile::{Profile, decode, encode};
 use stack_text::{
     Batch, BatchFault, Name, ValueChoice, ValueUnit, batch_of, export_folded, merge_samples,
-    profile_of, unfold, write_stacks,
+    profile_of, sample_totals, unfold, write_stacks,
 };
 use std::alloc::Global;
 use std::test::Fail;
@@ -235,5 +236,71 @@ fn both_types(alloc: Global, profile: &Profile) -> Result<String, Fail> {
 #[test]
 fn each_value_is_exported_as_a_sample_type(rt: HostRuntime) -> Result<(), Fail> {
     assert_eq!(rt; two_values(rt.alloc())?.as_str(), "f 3\nf 30\n2");
+    Ok(())
+}
+
+fn top_of(alloc: Global, profile: &Profile) -> Result<String, Fail> {
+    let totals = sample_totals(alloc, profile, ValueChoice::Default)?;
+    let top = top_list(totals, Rank::Flat, 20)?;
+    let text = String::from_utf8(top_text(alloc, &top)?);
+    Ok(text.ok().ok_or("no text")?)
+}
+
+// The top list of a profile's samples, which are counted and not kept.
+fn read_top(alloc: Global, bytes: &[u8]) -> Result<String, Fail> {
+    let profile = decode(alloc, bytes)?;
+    top_of(alloc, &profile)
+}
+
+// Two functions of two strings of one text, and a location without lines at 7. Samples at each alone, of 1, 2 and 4, and
+// one at all three, of 8.
+const ONE_NAME_OF_THREE: &[u8] = &[
+    0x0a, 0x04, 0x08, 0x01, 0x10, 0x02, 0x12, 0x06, 0x0a, 0x01, 0x01, 0x12, 0x01, 0x01, 0x12, 0x06,
+    0x0a, 0x01, 0x02, 0x12, 0x01, 0x02, 0x12, 0x06, 0x0a, 0x01, 0x03, 0x12, 0x01, 0x04, 0x12, 0x08,
+    0x0a, 0x03, 0x01, 0x02, 0x03, 0x12, 0x01, 0x08, 0x22, 0x06, 0x08, 0x01, 0x22, 0x02, 0x08, 0x01,
+    0x22, 0x06, 0x08, 0x02, 0x22, 0x02, 0x08, 0x02, 0x22, 0x04, 0x08, 0x03, 0x18, 0x07, 0x2a, 0x04,
+    0x08, 0x01, 0x10, 0x03, 0x2a, 0x04, 0x08, 0x02, 0x10, 0x04, 0x32, 0x00, 0x32, 0x03, 0x63, 0x70,
+    0x75, 0x32, 0x02, 0x6e, 0x73, 0x32, 0x03, 0x30, 0x78, 0x37, 0x32, 0x03, 0x30, 0x78, 0x37,
+];
+
+#[test]
+fn samples_are_counted_by_name(rt: HostRuntime) -> Result<(), Fail> {
+    for (bytes, want) in [
+        (INLINED_AND_BARE_LOCATIONS, "total 2\n2 2 a\n0 2 0xff\n0 2 b\n0 2 c\n"),
+        (TWO_EQUAL_SAMPLES, "total 12\n12 12 f\n"),
+        (ONE_NAME_OF_THREE, "total 15\n15 15 0x7\n"),
+    ] {
+        let top = read_top(rt.alloc(), bytes)?;
+        assert_eq!(rt; top.as_str(), want);
+    }
+    Ok(())
+}
+
+#[test]
+fn a_sample_counts_a_recursive_name_once(rt: HostRuntime) -> Result<(), Fail> {
+    let bytes = exported_text(rt.alloc(), "a;b;a 3\nb 2\nc;b 0\n")?;
+    let top = read_top(rt.alloc(), bytes.as_slice())?;
+    assert_eq!(rt; top.as_str(), "total 5\n3 3 a\n2 5 b\n");
+    Ok(())
+}
+
+// Why the samples of a profile have no totals.
+fn uncounted(alloc: Global, bytes: &[u8]) -> Result<Option<BatchFault>, Fail> {
+    let profile = decode(alloc, bytes)?;
+    Ok(sample_totals(alloc, &profile, ValueChoice::Default).err())
+}
+
+#[test]
+fn counting_stops_at_the_first_fault(rt: HostRuntime) -> Result<(), Fail> {
+    for (bytes, want) in [
+        (NEGATIVE_VALUE, BatchFault::Negative { sample: 0 }),
+        (TWO_HEAVY_SAMPLES, BatchFault::Heavy { sample: 1 }),
+    ] {
+        let fault = uncounted(rt.alloc(), bytes)?;
+        assert_eq!(rt; fault, Some(want));
+    }
+    let deep = deep(rt.alloc(), &[0x87, 0x80, 0x04], &[0x80, 0x80, 0x04], 65_536)?;
+    let fault = uncounted(rt.alloc(), deep.as_slice())?;
+    assert_eq!(rt; fault, Some(BatchFault::Depth { sample: 0 }));
     Ok(())
 }

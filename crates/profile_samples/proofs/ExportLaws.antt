@@ -66,7 +66,7 @@ with_text-own texts text = elim (stands_in texts text) as (λ b. stands_in texts
   | false ↦ λ e. any_push texts text text ∙ or_right (stands_in texts text) (bytes_eq text text) (is_same_name-self text)
 ] refl
 
-with_texts-stands : (texts more : List (List ℕ)) (q : List ℕ) → stands_in texts q ≡ true → stands_in (with_texts texts more) q ≡ true
+pub with_texts-stands : (texts more : List (List ℕ)) (q : List ℕ) → stands_in texts q ≡ true → stands_in (with_texts texts more) q ≡ true
 with_texts-stands texts [] q e = e
 with_texts-stands texts (text ∷ more) q e = with_texts-stands (with_text texts text) more q (with_text-stands texts text q e)
 
@@ -91,7 +91,7 @@ distinct_with_text texts text all = elim (stands_in texts text) as (λ b. stands
   | false ↦ λ e. distinct_push texts text all e
 ] refl
 
-distinct_with_texts : (texts more : List (List ℕ)) → AreDistinct texts → AreDistinct (with_texts texts more)
+pub distinct_with_texts : (texts more : List (List ℕ)) → AreDistinct texts → AreDistinct (with_texts texts more)
 distinct_with_texts texts [] all = all
 distinct_with_texts texts (text ∷ more) all = distinct_with_texts (with_text texts text) more (distinct_with_text texts text all)
 

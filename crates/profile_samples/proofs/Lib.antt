@@ -2,9 +2,11 @@ pub mod ExportLaws
 pub mod ExportedBatches
 pub mod ExportedRows
 pub mod ExportedValues
+pub mod FrameNumbers
 pub mod ItemsById
 pub mod IdPlaces
 pub mod SampleBatches
 pub mod SampleRows
 pub mod MergedSamples
+pub mod NameTallies
 pub mod TextPlaces

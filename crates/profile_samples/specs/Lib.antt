@@ -1,7 +1,9 @@
 pub mod Batches
+pub mod CountedSamples
 pub mod Export
 pub mod IdPlaces
 pub mod MergedSamples
+pub mod NameNumbers
 pub mod Samples
 pub mod TextTables
 pub mod Unfolding

@@ -2,17 +2,20 @@
 #![tactic(auto)]
 
 mod batches;
+mod counted_samples;
 mod exporting;
 mod folded_export;
 mod id_places;
 pub mod laws;
 mod merged_samples;
+mod name_numbers;
 mod sampling;
 mod string_names;
 mod text_table;
 mod unfolding;
 
 pub use batches::batch_of;
+pub use counted_samples::sample_totals;
 pub use exporting::{ValueUnit, profile_of};
 pub use folded_export::export_folded;
 pub use merged_samples::merge_samples;

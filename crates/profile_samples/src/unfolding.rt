@@ -14,7 +14,7 @@ use std::alloc::{AllocError, Global};
 use std::marker::Model;
 
 /// The name of an address: `0x` and hexadecimal digits.
-fn address_name(alloc: Global, address: u64) -> Result<Name, NoMemory>
+pub(crate) fn address_name(alloc: Global, address: u64) -> Result<Name, NoMemory>
     ensures { IfOk result (λ name. name ≡ address_name address) }
 {
     let text = format!(in alloc; "0x{address:x}")?;
@@ -37,14 +37,14 @@ fn function_name(
 }
 
 /// The ids of functions.
-fn function_ids(alloc: Global, functions: &[Function]) -> Result<Vec<u64>, AllocError>
+pub(crate) fn function_ids(alloc: Global, functions: &[Function]) -> Result<Vec<u64>, AllocError>
     ensures { IfOk result (λ ids. ids.items ≡ map (λ function. function.id) functions.now) }
 {
     functions.iter().map(|function| function.id).collect(alloc)
 }
 
 /// The ids of locations.
-fn location_ids(alloc: Global, locations: &[Location]) -> Result<Vec<u64>, AllocError>
+pub(crate) fn location_ids(alloc: Global, locations: &[Location]) -> Result<Vec<u64>, AllocError>
     ensures { IfOk result (λ ids. ids.items ≡ map (λ location. location.id) locations.now) }
 {
     locations.iter().map(|location| location.id).collect(alloc)

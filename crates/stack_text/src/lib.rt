@@ -14,5 +14,6 @@ pub use profile_rows::{
     first_heavy, keeps, kept_totals,
 };
 pub use profile_samples::{
-    BatchFault, ValueChoice, ValueUnit, batch_of, export_folded, merge_samples, profile_of, unfold,
+    BatchFault, ValueChoice, ValueUnit, batch_of, export_folded, merge_samples, profile_of,
+    sample_totals, unfold,
 };

@@ -1,0 +1,45 @@
+-- The next number is marked, where it isn't yet.
+use Rattle.std.proofs.Common.{◌≡◌, ◌+◌, ◌<◌, ◌++◌, ◌∷◌, [], ℕ, List, refl, ap, sym, ◌∙◌, get_or, length, set, subst, take, arith}
+use Rattle.std.proofs.lemmas.List.{get_or_default, take_more}
+use Rattle.std.specs.declared.vec.Vec.{Vec}
+use Rattle.profile_samples.specs.NameNumbers.{has_number}
+use Rattle.profile_samples.proofs.FrameNumbers.{IsOnceSoFar, fresh_mark, once-push, once-same}
+use Rattle.profile_samples.proofs.name_numbers.each_once.Goals as goal
+use Rattle.profile_samples.proofs.name_numbers.each_once.Goals.{then-index-mark+in_ok-push, else-index-mark}
+
+pub loop-number-init : goal.loop-number-init
+loop-number-init c = record {
+  once = c.new-once.ensures.items;
+  count = refl;
+  marked = λ k d lt. let low = c.requires.fresh k d lt in omega (arith, low);
+  seen = λ number. fresh_mark c.args.marks.now.items c.args.mark number c.requires.marked c.requires.fresh ∙ sym (ap (has_number number) c.new-once.ensures.items);
+}
+
+pub loop-number-preserved : goal.loop-number-preserved
+loop-number-preserved c =
+    let numbers = c.args.numbers.now in
+    let at = c.loop-number.number-index in
+    let number = get_or numbers at 0 in
+    let before = take at numbers in
+    let marks = c.loop-number.marks.items in
+    let so_far : IsOnceSoFar before (length c.args.marks.now.items) c.args.mark marks c.loop-number.once.items =
+    record { once_is = c.loop-number.invariant.once; count_is = c.loop-number.invariant.count; marked = c.loop-number.invariant.marked; seen = c.loop-number.invariant.seen } in
+    let next : take (at + 1) numbers ≡ before ++ number ∷ [] = take_more numbers at 0 c.loop-number-test.true in
+    let lt : number < length marks = subst (λ n. number < n) (sym c.loop-number.invariant.count) (c.requires.inside at 0 c.loop-number-test.true) in
+    let read : c.index.result.now ≡ get_or marks number 0 = c.index.ensures ∙ get_or_default marks number c.index.result.now 0 lt in
+    elim c.if-index-mark.branch [
+      | then-index-mark+in_ok-push w ↦
+          let this = once-push before (take (at + 1) numbers) (length c.args.marks.now.items) c.args.mark number marks c.loop-number.once.items so_far next lt (λ same. w.if-index-mark.true (read ∙ same)) in
+          let made : c.if-index-mark.marks.items ≡ set marks number c.args.mark = ap (λ (m : Vec ℕ _). m.items) w.marks-is in
+          let kept : c.if-index-mark.once.items ≡ c.loop-number.once.items ++ number ∷ [] = ap (λ (m : Vec ℕ _). m.items) w.once-is ∙ w.in_ok-push.ensures.items in
+          let all = subst (λ (m : List ℕ). IsOnceSoFar (take (at + 1) numbers) (length c.args.marks.now.items) c.args.mark m c.if-index-mark.once.items) (sym made)
+          (subst (λ (o : List ℕ). IsOnceSoFar (take (at + 1) numbers) (length c.args.marks.now.items) c.args.mark (set marks number c.args.mark) o) (sym kept) this) in
+          record { once = all.once_is; count = all.count_is; marked = all.marked; seen = all.seen }
+      | else-index-mark w ↦
+          let this = once-same before (take (at + 1) numbers) (length c.args.marks.now.items) c.args.mark number marks c.loop-number.once.items so_far next (sym read ∙ w.if-index-mark.false) in
+          let made : c.if-index-mark.marks.items ≡ marks = ap (λ (m : Vec ℕ _). m.items) w.marks-is in
+          let kept : c.if-index-mark.once.items ≡ c.loop-number.once.items = ap (λ (m : Vec ℕ _). m.items) w.once-is in
+          let all = subst (λ (m : List ℕ). IsOnceSoFar (take (at + 1) numbers) (length c.args.marks.now.items) c.args.mark m c.if-index-mark.once.items) (sym made)
+          (subst (λ (o : List ℕ). IsOnceSoFar (take (at + 1) numbers) (length c.args.marks.now.items) c.args.mark marks o) (sym kept) this) in
+          record { once = all.once_is; count = all.count_is; marked = all.marked; seen = all.seen }
+    ]

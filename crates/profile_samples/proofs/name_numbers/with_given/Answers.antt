@@ -1,0 +1,46 @@
+-- The next name is added, where it is there.
+use Rattle.std.proofs.Common.{◌≡◌, ◌+◌, ◌++◌, ◌∷◌, [], ℕ, List, Option, Some, None, ap, sym, ◌∙◌, subst, take, append-nil, All}
+use Rattle.std.proofs.lemmas.List.{take_all, take_more}
+use Rattle.std.proofs.lemmas.List.Elements.{All-push}
+use Rattle.profile_rows.specs.Names.{IsName}
+use Rattle.profile_samples.specs.TextTables.{with_text, with_texts}
+use Rattle.profile_samples.specs.NameNumbers.{given}
+use Rattle.profile_samples.proofs.FrameNumbers.{given-push}
+use Rattle.profile_samples.proofs.TextPlaces.{with_texts-append}
+use Rattle.profile_samples.proofs.name_numbers.with_given.Goals as goal
+use Rattle.profile_samples.proofs.name_numbers.with_given.Goals.{in-Some+in_ok-table, in_default}
+
+IsSoFar : List (List ℕ) → List (List ℕ) → List (Option (List ℕ)) → Type 0
+IsSoFar start table names = (table ≡ with_texts start (given names)) × All IsName (given names)
+
+more : (start table new : List (List ℕ)) (names next : List (Option (List ℕ))) (name : List ℕ) → IsSoFar start table names → next ≡ names ++ Some name ∷ [] → new ≡ with_text table name → IsName name
+    → IsSoFar start new next
+unfolding IsSoFar
+more start table new names next name so_far is added named =
+    let all : given next ≡ given names ++ name ∷ [] = ap given is ∙ given-push names (Some name) in (
+      added ∙ ap (λ t. with_text t name) so_far.0 ∙ sym (with_texts-append start (given names) (name ∷ [])) ∙ ap (with_texts start) (sym all),
+      subst (All IsName) (sym all) (All-push IsName (given names) name so_far.1 named),
+    )
+
+same : (start table : List (List ℕ)) (names next : List (Option (List ℕ))) → IsSoFar start table names → next ≡ names ++ None ∷ [] → IsSoFar start table next
+unfolding IsSoFar
+same start table names next so_far is =
+    let all : given names ≡ given next = sym (ap given is ∙ given-push names None ∙ append-nil (given names)) in
+    (so_far.0 ∙ ap (with_texts start) all, subst (All IsName) all so_far.1)
+
+pub loop-name-preserved : goal.loop-name-preserved
+unfolding IsSoFar
+loop-name-preserved c =
+    let names = c.args.names.now in
+    let before = take c.loop-name.name-index names in
+    let next = take_more names c.loop-name.name-index c.name-item.result c.loop-name-test.true ∙ ap (λ name. before ++ name ∷ []) (sym c.name-item.is) in
+    elim c.match-name.branch [
+      | in-Some+in_ok-table w ↦
+          more c.args.table c.loop-name.table c.match-name.table before (take (c.loop-name.name-index + 1) names) w.in-Some.name c.loop-name.invariant (next ∙ ap (λ name. before ++ name ∷ []) w.in-Some.is)
+          (w.table-is ∙ w.in_ok-table.ensures ∙ ap (with_text c.loop-name.table) w.text.ensures.text) w.text.ensures.name
+      | in_default w ↦ subst (λ table. IsSoFar c.args.table table (take (c.loop-name.name-index + 1) names)) (sym w.table-is)
+          (same c.args.table c.loop-name.table before (take (c.loop-name.name-index + 1) names) c.loop-name.invariant (next ∙ ap (λ name. before ++ name ∷ []) w.in_default.is))
+    ]
+
+pub returns-clause-each : goal.returns-clause-each
+returns-clause-each c = subst (λ names. All IsName (given names)) (take_all c.loop-name.name-index c.args.names.now c.loop-name-test.false) c.loop-name.invariant.1

@@ -1,0 +1,113 @@
+-- The names of a profile's frames by numbers: equal names have one number.
+use Rattle.std.specs.Prelude.{ℕ, ℤ, pos, negsuc, ◌≡◌, ◌==◌, All, Bool, false, Option, Some, None, List, [], ◌∷◌, ◌++◌, length, map, slice_index_or, if◌then◌else◌}
+use Rattle.std.specs.List.{list_any}
+use Rattle.std.specs.Option.{option_map}
+use Rattle.pprof_profile.specs.declared.messages.Draft.{Draft}
+use Rattle.pprof_profile.specs.declared.messages.Function.{Function}
+use Rattle.pprof_profile.specs.declared.messages.Location.{Location}
+use Rattle.pprof_profile.specs.declared.messages.Line.{Line}
+use Rattle.pprof_profile.specs.Valid.{function_ids, has_double, location_ids}
+use Rattle.profile_rows.specs.Names.{IsName, cleaned_name_of}
+use Rattle.profile_samples.specs.declared.name_numbers.FrameNumbers.{FrameNumbers}
+use Rattle.profile_samples.specs.Samples.{address_name, function_name, item_with, line_name, location_frames}
+use Rattle.profile_samples.specs.TextTables.{place_in, with_texts}
+
+-- ---- numbers of names
+
+-- those that are there, in order
+abbrev pub given : List (Option (List ℕ)) → List (List ℕ)
+given [] = []
+given (None ∷ names) = given names
+given (Some name ∷ names) = name ∷ given names
+
+-- the names of a profile's strings
+abbrev pub string_names : Draft → List (Option (List ℕ))
+string_names draft = map cleaned_name_of draft.strings
+
+-- the names of the addresses of a profile's locations
+abbrev pub address_names : Draft → List (List ℕ)
+address_names draft = map (λ (location : Location). address_name location.address) draft.locations
+
+-- every name that a frame of the profile can have, each once
+abbrev pub frame_names : Draft → List (List ℕ)
+frame_names draft = with_texts (with_texts [] (given (string_names draft))) (address_names draft)
+
+-- a name's number is its place among them
+abbrev pub number_of : Draft → List ℕ → ℕ
+number_of draft name = place_in (frame_names draft) name
+
+-- the number of the name of each string, where it has one
+abbrev pub string_numbers : Draft → List (Option ℕ)
+string_numbers draft = map (option_map (number_of draft)) (string_names draft)
+
+-- the number of the name of each location's address
+abbrev pub address_numbers : Draft → List ℕ
+address_numbers draft = map (number_of draft) (address_names draft)
+
+-- the number at an index of strings; where there is no string it has none
+abbrev pub number_at : List (Option ℕ) → ℤ → Option ℕ
+number_at numbers (pos index) = slice_index_or numbers index None
+number_at numbers (negsuc index) = None
+
+-- the first of two numbers that is there
+abbrev pub first_number : Option ℕ → Option ℕ → Option ℕ
+first_number (Some number) other = Some number
+first_number None other = other
+
+-- the number of the name of a function, by those of strings
+abbrev pub number_by : List (Option ℕ) → Function → Option ℕ
+number_by numbers function = first_number (number_at numbers function.name) (number_at numbers function.system_name)
+
+-- the numbers of the names of the profile's functions, whose ids differ
+pub record AreFunctionNumbers (draft : Draft) (ids : List ℕ) (numbers : List (Option ℕ)) : Type 0 where
+  pub ids_are : ids ≡ function_ids draft
+  pub single : has_double ids ≡ false
+  pub numbers_are : numbers ≡ map (λ function. option_map (number_of draft) (function_name draft.strings function)) draft.functions
+
+-- ---- the frames of locations
+
+-- the number of a line's name
+abbrev pub line_number : Draft → ℕ → Line → ℕ
+line_number draft address line = number_of draft (line_name draft.strings draft.functions address line)
+
+-- the numbers of the names of a location's frames, leaf first
+abbrev pub numbers_of : Draft → Location → List ℕ
+numbers_of draft location = map (number_of draft) (location_frames draft location)
+
+-- whether a number is one of these
+abbrev pub has_number : ℕ → List ℕ → Bool
+has_number number numbers = list_any (λ other. other == number) numbers
+
+-- a number that is there isn't added again
+abbrev pub with_number : List ℕ → ℕ → List ℕ
+with_number numbers number = if has_number number numbers then numbers else numbers ++ number ∷ []
+
+-- numbers added in their order
+abbrev pub with_numbers : List ℕ → List ℕ → List ℕ
+with_numbers numbers [] = numbers
+with_numbers numbers (number ∷ more) = with_numbers (with_number numbers number) more
+
+-- numbers, each once
+abbrev pub once_of : List ℕ → List ℕ
+once_of numbers = with_numbers [] numbers
+
+-- how many frames there are, the leaf's number, and the number of each name once
+abbrev pub frame_numbers_of : List ℕ → FrameNumbers
+frame_numbers_of numbers =
+    record { depth = length numbers; leaf = slice_index_or numbers 0 0; names = once_of numbers }
+
+-- the frames of a location by the numbers of their names
+abbrev pub location_numbers : Draft → Location → FrameNumbers
+location_numbers draft location = frame_numbers_of (numbers_of draft location)
+
+-- the location that an id names, by numbers
+abbrev pub numbers_of_id : Draft → ℕ → Option FrameNumbers
+numbers_of_id draft id = option_map (location_numbers draft) (item_with (λ location. location.id) id draft.locations)
+
+-- the frames of the profile's locations by numbers, and what they number
+pub record AreFrameNumbers (draft : Draft) (ids : List ℕ) (frames : List FrameNumbers) (names : List (List ℕ)) : Type 0 where
+  pub ids_are : ids ≡ location_ids draft
+  pub single : has_double ids ≡ false
+  pub frames_are : frames ≡ map (location_numbers draft) draft.locations
+  pub names_are : names ≡ frame_names draft
+  pub each : All IsName (frame_names draft)

@@ -1,0 +1,458 @@
+//! The names of a profile's frames by numbers. Equal names have one number, whether they come of one string, of two or
+//! of an address, so that a sample's frames are told apart without their texts.
+
+ghost use Rattle.std.specs.Prelude.{ℕ, ◌≡◌, ◌<◌, ◌≤◌, ◌↔◌, All, IfOk, IsTrue, List, OnOk, MatchOption, [], ◌∷◌, ◌++◌, length, map, slice_get, slice_index_or};
+ghost use Rattle.std.specs.Option.{option_map};
+ghost use Rattle.pprof_profile.specs.Valid.{IsValidDraft};
+ghost use Rattle.profile_rows.specs.Names.{IsName, cleaned_name_of};
+ghost use Rattle.profile_samples.specs.Samples.{address_name, frames_of_ids, function_name, item_with, named_by, sample_stack_of};
+ghost use Rattle.profile_samples.specs.TextTables.{place_in, with_texts};
+ghost use Rattle.profile_samples.specs.NameNumbers.{address_names, address_numbers, frame_names, frame_numbers_of, given, line_number, location_numbers, number_at, number_by, number_of, numbers_of, numbers_of_id, once_of, string_names, string_numbers};
+
+use crate::exporting::with_names;
+use crate::id_places::IdPlaces;
+use crate::text_table::TextTable;
+use crate::unfolding::{address_name, function_ids, location_ids};
+use no_memory::NoMemory;
+use pprof_profile::{Draft, Function, Items, Line, Location, Profile, Text};
+use profile_rows::{MAX_DEPTH, Name};
+use std::alloc::{AllocError, Global};
+use std::marker::Model;
+
+/// Every name that a frame of a profile can have: those of its strings, of which an empty one has none, and those of
+/// its locations' addresses.
+#[derive(Drop)]
+pub(crate) struct ProfileNames {
+    strings: Vec<Option<Name>>,
+    addresses: Vec<Name>,
+}
+
+impl Model for ProfileNames {
+    ghost use Rattle.std.specs.Prelude.{List, Option, ℕ};
+
+    ghost Value = { List (Option (List ℕ)) × List (List ℕ) };
+
+    ghost view = { λ names. (names.strings.items, names.addresses.items) };
+}
+
+/// The names of strings.
+fn string_names(alloc: Global, strings: &[Text]) -> Result<Vec<Option<Name>>, NoMemory>
+    ensures { IfOk result (λ names. names.items ≡ map cleaned_name_of strings.now) }
+{
+    let mut names = Vec::with_capacity(alloc, strings.len())?;
+    for text in strings {
+        names.push(Name::clean(alloc, text.as_str())?)?;
+    }
+    Ok(names)
+}
+
+/// The names of locations' addresses.
+fn address_names(alloc: Global, locations: &[Location]) -> Result<Vec<Name>, NoMemory>
+    ensures { IfOk result
+        (λ names. names.items ≡ map (λ location. address_name location.address) locations.now) }
+{
+    let mut names = Vec::with_capacity(alloc, locations.len())?;
+    for location in locations {
+        names.push(address_name(alloc, location.address)?)?;
+    }
+    Ok(names)
+}
+
+impl ProfileNames {
+    /// The names of a profile.
+    ///
+    /// # Errors
+    ///
+    /// `NoMemory`.
+    pub fn new(alloc: Global, draft: &Draft) -> Result<ProfileNames, NoMemory>
+        ensures { IfOk result (λ names. names ≡ (string_names draft.now, address_names draft.now)) }
+    {
+        Ok(ProfileNames {
+            strings: string_names(alloc, draft.strings.as_slice())?,
+            addresses: address_names(alloc, draft.locations.as_slice())?,
+        })
+    }
+}
+
+/// The table with the names that are there.
+fn with_given<'a>(
+    mut table: TextTable<'a>,
+    names: &'a [Option<Name>],
+) -> Result<TextTable<'a>, NoMemory>
+    ensures texts { IfOk result (λ more. more ≡ with_texts table.entry (given names.now)) }
+    ensures each { OnOk result (All IsName (given names.now)) }
+{
+    for name in names {
+        if let Some(name) = name {
+            table = table.with(name.text())?;
+        }
+    }
+    Ok(table)
+}
+
+/// The places of the names that are there.
+fn given_places(
+    alloc: Global,
+    table: &TextTable,
+    names: &[Option<Name>],
+) -> Result<Vec<Option<usize>>, AllocError>
+    ensures { IfOk result (λ places. places.items ≡ map (option_map (place_in table.now)) names.now) }
+{
+    let mut places = Vec::with_capacity(alloc, names.len())?;
+    for name in names {
+        let place = match name {
+            Some(name) => Some(table.place_of(name.text())),
+            None => None,
+        };
+        places.push(place)?;
+    }
+    Ok(places)
+}
+
+/// The places of names.
+fn places_of(alloc: Global, table: &TextTable, names: &[Name]) -> Result<Vec<usize>, AllocError>
+    ensures { IfOk result (λ places. places.items ≡ map (place_in table.now) names.now) }
+{
+    let mut places = Vec::with_capacity(alloc, names.len())?;
+    for name in names {
+        places.push(table.place_of(name.text()))?;
+    }
+    Ok(places)
+}
+
+/// The number at an index of strings.
+fn number_at(numbers: &[Option<usize>], index: i64) -> Option<usize>
+    ensures { result ≡ number_at numbers.now index }
+{
+    match usize::try_from(index) {
+        Ok(at) => match numbers.get(at) {
+            Some(number) => *number,
+            None => None,
+        },
+        Err(_) => None,
+    }
+}
+
+/// The number of the name of a function: of its `name`, or else of its `system_name`.
+fn number_by(numbers: &[Option<usize>], function: &Function) -> Option<usize>
+    ensures { result ≡ number_by numbers.now function.now }
+{
+    match number_at(numbers, function.name) {
+        Some(number) => Some(number),
+        None => number_at(numbers, function.system_name),
+    }
+}
+
+/// The numbers of the names of functions.
+fn function_numbers(
+    alloc: Global,
+    numbers: &[Option<usize>],
+    functions: &[Function],
+) -> Result<Vec<Option<usize>>, AllocError>
+    ensures { IfOk result (λ made. made.items ≡ map (number_by numbers.now) functions.now) }
+{
+    let mut made = Vec::with_capacity(alloc, functions.len())?;
+    for function in functions {
+        made.push(number_by(numbers, function))?;
+    }
+    Ok(made)
+}
+
+/// The numbers of the names of a profile's functions. A contract sees the profile.
+#[derive(Drop)]
+struct FunctionNumbers<'a> {
+    draft: &'a Draft,
+    places: IdPlaces,
+    numbers: Vec<Option<usize>>,
+}
+
+impl<'a> Model for FunctionNumbers<'a> {
+    ghost use Rattle.pprof_profile.specs.declared.messages.Draft.{Draft};
+    ghost use Rattle.profile_samples.specs.NameNumbers.{AreFunctionNumbers};
+
+    ghost Value = { Draft };
+
+    ghost view = { λ functions. functions.draft.now };
+
+    ghost invariant = { λ functions. AreFunctionNumbers functions.draft.now functions.places functions.numbers.items };
+}
+
+impl<'a> FunctionNumbers<'a> {
+    /// The numbers of the names of a valid profile's functions, by those of its strings.
+    fn new(
+        alloc: Global,
+        draft: &'a Draft,
+        strings: &[Option<usize>],
+    ) -> Result<FunctionNumbers<'a>, NoMemory>
+        requires valid { IsValidDraft draft.now }
+        requires strings { strings.now ≡ string_numbers draft.now }
+        ensures { IfOk result (λ functions. functions ≡ draft.now) }
+    {
+        let functions = draft.functions.as_slice();
+        let places = IdPlaces::new(alloc, function_ids(alloc, functions)?)?;
+        let numbers = function_numbers(alloc, strings, functions)?;
+        Ok(FunctionNumbers {
+            draft,
+            places,
+            numbers,
+        })
+    }
+
+    /// The number of the name of the function that an id names, where it has one.
+    fn number_of(&self, id: u64) -> Option<usize>
+        ensures { result ≡ option_map (number_of self.now)
+            (named_by self.now.strings (item_with (λ function. function.id) id self.now.functions)) }
+    {
+        match self.places.find(id) {
+            Some(at) => self.number_at(at),
+            None => None,
+        }
+    }
+
+    /// The number of the name of the function at a place, where it has one.
+    fn number_at(&self, at: usize) -> Option<usize>
+        ensures { result ≡ option_map (number_of self.now)
+            (named_by self.now.strings (slice_get self.now.functions at)) }
+    {
+        match self.numbers.get(at) {
+            Some(number) => *number,
+            None => None,
+        }
+    }
+
+    /// The number of a line's name, by that of its address.
+    fn line_number(&self, location: &Location, line: &Line, address: usize) -> usize
+        requires { address ≡ number_of self.now (address_name location.now.address) }
+        ensures { result ≡ line_number self.now location.now.address line.now }
+    {
+        match self.number_of(line.function_id) {
+            Some(number) => number,
+            None => address,
+        }
+    }
+
+    /// The numbers of the names of a location's lines, of which there are some, by that of its address.
+    fn line_numbers(
+        &self,
+        alloc: Global,
+        location: &Location,
+        address: usize,
+    ) -> Result<Vec<usize>, AllocError>
+        requires some { 0 < length location.now.lines }
+        requires address { address ≡ number_of self.now (address_name location.now.address) }
+        ensures { IfOk result (λ numbers. numbers.items ≡ numbers_of self.now location.now) }
+    {
+        let lines = location.lines.as_slice();
+        let mut numbers = Vec::with_capacity(alloc, lines.len())?;
+        for line in lines {
+            numbers.push(self.line_number(location, line, address))?;
+        }
+        Ok(numbers)
+    }
+
+    /// The numbers of the names of a location's frames, leaf first, by that of its address.
+    fn numbers_of(
+        &self,
+        alloc: Global,
+        location: &Location,
+        address: usize,
+    ) -> Result<Vec<usize>, AllocError>
+        requires { address ≡ number_of self.now (address_name location.now.address) }
+        ensures { IfOk result (λ numbers. numbers.items ≡ numbers_of self.now location.now) }
+    {
+        if location.lines.is_empty() {
+            return Ok(vec![in alloc; address]?);
+        }
+        self.line_numbers(alloc, location, address)
+    }
+}
+
+/// A location's frames by the numbers of their names.
+#[derive(Drop)]
+pub(crate) struct FrameNumbers {
+    /// How many frames there are.
+    pub depth: usize,
+    /// The number of the leaf.
+    pub leaf: usize,
+    /// The numbers of the names, each once.
+    pub names: Items<usize>,
+}
+
+/// The numbers of a list, each once. A number's mark is the greatest where it stood before.
+fn each_once(
+    alloc: Global,
+    numbers: &[usize],
+    marks: &mut Vec<usize>,
+    mark: usize,
+) -> Result<Vec<usize>, AllocError>
+    requires inside { All (λ number. number < length marks.old.items) numbers.now }
+    requires marked { 0 < mark }
+    requires fresh { All (λ before. before < mark) marks.old.items }
+    ensures once { IfOk result (λ once. once.items ≡ once_of numbers.now) }
+    ensures count { OnOk result (length marks.new.items ≡ length marks.old.items) }
+    ensures marked { OnOk result (All (λ before. before ≤ mark) marks.new.items) }
+{
+    let mut once = Vec::new(alloc);
+    for number in numbers {
+        if marks[*number] != mark {
+            marks[*number] = mark;
+            once.push(*number)?;
+        }
+    }
+    Ok(once)
+}
+
+/// The frames of a location, whose numbers these are, leaf first.
+fn frame_numbers(
+    alloc: Global,
+    numbers: &[usize],
+    marks: &mut Vec<usize>,
+    mark: usize,
+) -> Result<FrameNumbers, AllocError>
+    requires some { 0 < length numbers.now }
+    requires inside { All (λ number. number < length marks.old.items) numbers.now }
+    requires marked { 0 < mark }
+    requires fresh { All (λ before. before < mark) marks.old.items }
+    ensures frames { IfOk result (λ frames. frames ≡ frame_numbers_of numbers.now) }
+    ensures count { OnOk result (length marks.new.items ≡ length marks.old.items) }
+    ensures marked { OnOk result (All (λ before. before ≤ mark) marks.new.items) }
+{
+    Ok(FrameNumbers {
+        depth: numbers.len(),
+        leaf: numbers[0],
+        names: Items::new(each_once(alloc, numbers, marks, mark)?),
+    })
+}
+
+/// The frames of locations, by the numbers of their addresses. Locations are marked from 1.
+fn all_frames(
+    alloc: Global,
+    functions: &FunctionNumbers,
+    locations: &[Location],
+    addresses: &[usize],
+    mut marks: Vec<usize>,
+) -> Result<Vec<FrameNumbers>, NoMemory>
+    requires addresses { addresses.now
+        ≡ map (λ location. number_of functions.now (address_name location.address)) locations.now }
+    requires count { length marks.items ≡ length (frame_names functions.now) }
+    requires unmarked { All (λ mark. mark ≡ 0) marks.items }
+    requires named { All (λ location. All (λ number. number < length (frame_names functions.now))
+        (numbers_of functions.now location)) locations.now }
+    ensures { IfOk result (λ frames. frames.items ≡ map (location_numbers functions.now) locations.now) }
+{
+    let mut frames = Vec::with_capacity(alloc, locations.len())?;
+    for (at, location) in locations.iter().enumerate() {
+        let numbers = functions.numbers_of(alloc, location, addresses[at])?;
+        frames.push(frame_numbers(alloc, numbers.as_slice(), &mut marks, at + 1)?)?;
+    }
+    Ok(frames)
+}
+
+/// The frames of a profile's locations by the numbers of their names, so that a sample costs a look-up for each location
+/// and a step for each of its names. A contract sees the profile.
+#[derive(Drop)]
+pub(crate) struct NumberedFrames<'a> {
+    draft: &'a Draft,
+    places: IdPlaces,
+    frames: Vec<FrameNumbers>,
+    names: TextTable<'a>,
+}
+
+impl<'a> Model for NumberedFrames<'a> {
+    ghost use Rattle.pprof_profile.specs.declared.messages.Draft.{Draft};
+    ghost use Rattle.profile_samples.specs.NameNumbers.{AreFrameNumbers};
+
+    ghost Value = { Draft };
+
+    ghost view = { λ numbered. numbered.draft.now };
+
+    ghost invariant = { λ numbered. AreFrameNumbers numbered.draft.now numbered.places numbered.frames.items numbered.names };
+}
+
+impl<'a> NumberedFrames<'a> {
+    /// The frames of a profile's locations, of these names.
+    ///
+    /// # Errors
+    ///
+    /// `NoMemory`.
+    pub fn new(
+        alloc: Global,
+        profile: &'a Profile,
+        names: &'a ProfileNames,
+    ) -> Result<NumberedFrames<'a>, NoMemory>
+        requires { names.now ≡ (string_names profile.now, address_names profile.now) }
+        ensures { IfOk result (λ numbered. numbered ≡ profile.now) }
+    {
+        let draft = profile.draft();
+        let table = with_given(TextTable::new(alloc), names.strings.as_slice())?;
+        let table = with_names(table, names.addresses.as_slice())?;
+        let strings = given_places(alloc, &table, names.strings.as_slice())?;
+        let addresses = places_of(alloc, &table, names.addresses.as_slice())?;
+        let functions = FunctionNumbers::new(alloc, draft, strings.as_slice())?;
+        let locations = draft.locations.as_slice();
+        let marks = vec![in alloc; 0; table.texts().len()]?;
+        let frames = all_frames(alloc, &functions, locations, addresses.as_slice(), marks)?;
+        let places = IdPlaces::new(alloc, location_ids(alloc, locations)?)?;
+        Ok(NumberedFrames {
+            draft,
+            places,
+            frames,
+            names: table,
+        })
+    }
+
+    /// The names that have a number, in the order of their numbers.
+    pub fn names(&self) -> &[&'a str]
+        ensures names { map (λ name. name.now) result.now ≡ frame_names self.now }
+    {
+        self.names.texts()
+    }
+
+    /// The frames of the location that an id names.
+    pub fn frames_of(&self, id: u64) -> Option<&FrameNumbers>
+        ensures { option_map (λ frames. frames.now) result ≡ numbers_of_id self.now id }
+    {
+        match self.places.find(id) {
+            Some(at) => self.frames_at(at),
+            None => None,
+        }
+    }
+
+    /// The frames of the location at a place.
+    fn frames_at(&self, at: usize) -> Option<&FrameNumbers>
+        ensures { option_map (λ frames. frames.now) result
+            ≡ option_map (location_numbers self.now) (slice_get self.now.locations at) }
+    {
+        self.frames.get(at)
+    }
+
+    /// Whether locations have no more frames together than a stack can hold.
+    pub fn fit(&self, ids: &[u64]) -> bool
+        ensures { IsTrue result ↔ (length (frames_of_ids self.now ids.now) ≤ MAX_DEPTH) }
+    {
+        let mut room = MAX_DEPTH;
+        for id in ids {
+            if let Some(frames) = self.frames_of(*id) {
+                if frames.depth > room {
+                    return false;
+                }
+                room -= frames.depth;
+            }
+        }
+        true
+    }
+
+    /// The number of the leaf of locations, where they have frames.
+    pub fn leaf_of(&self, ids: &[u64]) -> Option<usize>
+        ensures { MatchOption result (sample_stack_of self.now ids.now ≡ [])
+            (λ leaf. (leaf < length (frame_names self.now)) × (callers : List (List ℕ))
+            × (sample_stack_of self.now ids.now ≡ callers ++ slice_index_or (frame_names self.now) leaf [] ∷ [])) }
+    {
+        for id in ids {
+            if let Some(frames) = self.frames_of(*id) {
+                return Some(frames.leaf);
+            }
+        }
+        None
+    }
+}

@@ -5,7 +5,7 @@ use Rattle.std.specs.List.{AllByRecursion, IsDistinct, list_any}
 use Rattle.std.specs.Map.{keys_of, lookup}
 use Rattle.std.proofs.lemmas.Bool.{eqb-true, false≢true, ne_eqb, eq-eqb}
 use Rattle.std.proofs.lemmas.List.{length-map, reverse-append}
-use Rattle.std.proofs.lemmas.List.Elements.{All-from_recursion, recursion_from_All}
+use Rattle.std.proofs.lemmas.List.Elements.{All-from_get_or, All-from_recursion, recursion_from_All}
 use Rattle.std.proofs.lemmas.List.Folds.{list_any-append}
 use Rattle.std.proofs.lemmas.List.Sums.{sum_by-cons, sum_by_push}
 use Rattle.std.proofs.lemmas.Cmp.{nat_list_eq_equiv}
@@ -15,17 +15,20 @@ use Rattle.pprof_profile.specs.declared.messages.Location.{Location}
 use Rattle.profile_rows.specs.declared.tallies.Tally.{Tally}
 use Rattle.profile_rows.specs.declared.weighted_stacks.WeightedStack.{WeightedStack}
 use Rattle.profile_rows.specs.Names.{IsName, is_same_name}
-use Rattle.profile_rows.specs.Rows.{ends_with_name, has_name, total_of, weight_if, weight_where}
+use Rattle.profile_rows.specs.declared.frame_totals.FrameTotal.{FrameTotal}
+use Rattle.profile_rows.specs.TopList.{AreSumsOf, occurrences, sums_at}
+use Rattle.profile_rows.specs.Rows.{ends_with_name, flat_weight_of, has_name, total_of, weight_if, weight_where}
 use Rattle.profile_rows.specs.Tallies.{IsTallyOf, frame_counted, row_counted}
 use Rattle.profile_rows.proofs.RowLaws.{weight_where-le-total, weight_where-push}
 use Rattle.profile_rows.proofs.SameNames.{same_from_is_same_name, is_same_name-self}
+use Rattle.profile_rows.proofs.Weighted.{weighted_in}
 use Rattle.profile_rows.proofs.TallyLaws.{frame_counted-known, row_counted-empty, same_tally, zero_tally}
 use Rattle.profile_samples.specs.declared.name_numbers.FrameNumbers.{FrameNumbers}
 use Rattle.profile_samples.specs.Samples.{frames_at, frames_of_id, frames_of_ids, item_with, location_frames, sample_stack_of}
 use Rattle.profile_samples.specs.NameNumbers.{frame_names}
 use Rattle.profile_samples.proofs.ExportLaws.{AllStand}
 use Rattle.profile_samples.proofs.FrameNumbers.{AreNumbersOf, frames-more, locations_stand}
-use Rattle.profile_samples.specs.CountedSamples.{AreSingle, AreTalliesOfNames, Entry, entry_at, leaf_counted, names_at, names_counted, names_of, tally_of}
+use Rattle.profile_samples.specs.CountedSamples.{AreSingle, AreTalliesOfNames, Entry, entry_at, leaf_counted, names_at, names_counted, names_of, tally_of, zero_entry}
 
 -- ---- entries of names
 
@@ -447,3 +450,77 @@ inside_entry draft entries number named lt =
     let long = length-map entries (λ (entry : Entry). entry.0.now) in
     let same = ap length named in
     omega (arith, long, same, lt)
+
+-- ---- the names that weigh something
+
+abbrev entry_shown : Entry → FrameTotal
+entry_shown entry = record { name = entry.0.now; flat = entry.1.flat; cum = entry.1.cumulative }
+
+abbrev mark : List ℕ → FrameTotal → ℕ
+mark name sums = cond (is_same_name name sums.name) 1 0
+
+absent : (name : List ℕ) (entries : List Entry) → AllByRecursion (λ (e : Entry). is_key name e.0 ≡ false) entries → occurrences name (weighted_in entries) ≡ 0
+absent name [] none = refl
+absent name (entry ∷ entries) none =
+    let rest = absent name entries none.1 in
+    elim (nat_lt 0 entry.1.cumulative) as (λ b. occurrences name (cond b (entry_shown entry ∷ weighted_in entries) (weighted_in entries)) ≡ 0) [
+      | true ↦
+          let cons : occurrences name (entry_shown entry ∷ weighted_in entries) ≡ mark name (entry_shown entry) + occurrences name (weighted_in entries) = sum_by-cons (mark name) (entry_shown entry) (weighted_in entries) in
+          let here : mark name (entry_shown entry) ≡ 0 = ap (λ b. cond b 1 0) none.0 in
+          omega arith
+      | false ↦ rest
+    ]
+
+others : (name : List ℕ) (entry : Entry) (entries : List Entry) → is_key name entry.0 ≡ true → AllByRecursion (λ (other : List ℕ). is_same_name entry.0.now other ≡ false) (names_of entries) → AllByRecursion (λ (e : Entry). is_key name e.0 ≡ false) entries
+others name entry [] is apart = tt
+others name entry (e ∷ entries) is apart =
+    (ap (λ n. is_same_name n e.0.now) (same_from_is_same_name name entry.0.now is) ∙ apart.0, others name entry entries is apart.1)
+
+shown_once : (name : List ℕ) (entries : List Entry) → AreSingle (names_of entries) → occurrences name (weighted_in entries) ≡ cond (nat_lt 0 (tally_of entries name).cumulative) 1 0
+unfolding IsDistinct
+shown_once name [] distinct = refl
+shown_once name (entry ∷ entries) distinct =
+    let rest = shown_once name entries distinct.1 in
+    elim (is_key name entry.0) as (λ b. is_key name entry.0 ≡ b → occurrences name (weighted_in (entry ∷ entries)) ≡ cond (nat_lt 0 (unwrap_or (cond b (Some entry.1) (lookup (is_key name) entries)) zero_tally).cumulative) 1 0) [
+      | true ↦ λ is.
+          let none = absent name entries (others name entry entries is distinct.0) in
+          elim (nat_lt 0 entry.1.cumulative) as (λ b. occurrences name (cond b (entry_shown entry ∷ weighted_in entries) (weighted_in entries)) ≡ cond b 1 0) [
+            | true ↦
+                let cons : occurrences name (entry_shown entry ∷ weighted_in entries) ≡ mark name (entry_shown entry) + occurrences name (weighted_in entries) = sum_by-cons (mark name) (entry_shown entry) (weighted_in entries) in
+                let here : mark name (entry_shown entry) ≡ 1 = ap (λ b. cond b 1 0) is in
+                omega arith
+            | false ↦ none
+          ]
+      | false ↦ λ isnt.
+          (elim (nat_lt 0 entry.1.cumulative) as (λ b. occurrences name (cond b (entry_shown entry ∷ weighted_in entries) (weighted_in entries)) ≡ occurrences name (weighted_in entries)) [
+            | true ↦
+                let cons : occurrences name (entry_shown entry ∷ weighted_in entries) ≡ mark name (entry_shown entry) + occurrences name (weighted_in entries) = sum_by-cons (mark name) (entry_shown entry) (weighted_in entries) in
+                let here : mark name (entry_shown entry) ≡ 0 = ap (λ b. cond b 1 0) isnt in
+                omega arith
+            | false ↦ refl
+          ]) ∙ rest
+    ] refl
+
+sums_from : (rows : List WeightedStack) (last : ℕ) (entry : Entry) → IsTallyOf rows last entry.0.now entry.1 → entry_shown entry ≡ sums_at rows entry.0.now
+sums_from rows last entry is =
+    ap (λ n. let sums : FrameTotal = record { name = entry.0.now; flat = n; cum = entry.1.cumulative } in sums) is.flat
+    ∙ ap (λ n. let sums : FrameTotal = record { name = entry.0.now; flat = flat_weight_of rows entry.0.now; cum = n } in sums) is.cumulative
+
+shown_weights : (rows : List WeightedStack) (last : ℕ) (all entries : List Entry) → ((name : List ℕ) → IsTallyOf rows last name (tally_of all name)) → AllByRecursion (λ (e : Entry). tally_of all e.0.now ≡ e.1) entries
+    → AllByRecursion (λ sums. sums ≡ sums_at rows sums.name) (weighted_in entries)
+shown_weights rows last all [] tallies each = tt
+shown_weights rows last all (entry ∷ entries) tallies each =
+    let rest = shown_weights rows last all entries tallies each.1 in
+    let here = sums_from rows last entry (subst (IsTallyOf rows last entry.0.now) each.0 (tallies entry.0.now)) in
+    elim (nat_lt 0 entry.1.cumulative) as (λ b. AllByRecursion (λ sums. sums ≡ sums_at rows sums.name) (cond b (entry_shown entry ∷ weighted_in entries) (weighted_in entries))) [
+      | true ↦ (here, rest)
+      | false ↦ rest
+    ]
+
+pub shown_sums : (rows : List WeightedStack) (held : ℕ) (entries : List Entry) → AreTalliesOfNames rows held entries → AreSingle (names_of entries) → AreSumsOf rows (weighted_in entries)
+shown_sums rows held entries are single = record {
+  weights = All-from_recursion (λ sums. sums ≡ sums_at rows sums.name) (weighted_in entries)
+      (shown_weights rows held entries entries are.each (recursion_from_All (λ (e : Entry). tally_of entries e.0.now ≡ e.1) entries
+      (All-from_get_or (λ (e : Entry). tally_of entries e.0.now ≡ e.1) entries zero_entry (λ i lt. entry_found entries i single lt))));
+  once = λ name. shown_once name entries single ∙ ap (λ n. cond (nat_lt 0 n) 1 0) (are.each name).cumulative;
+}

@@ -4,7 +4,7 @@ use Rattle.std.specs.Prelude.{filter, nat_lt, reverse, slice_index_or, unwrap_or
 use Rattle.std.specs.List.{AllByRecursion, IsDistinct, list_any}
 use Rattle.std.specs.Map.{keys_of, lookup}
 use Rattle.std.proofs.lemmas.Bool.{eqb-true, false≢true, ne_eqb, eq-eqb}
-use Rattle.std.proofs.lemmas.List.{length-map, reverse-append}
+use Rattle.std.proofs.lemmas.List.{length-map, map-append, map_more, reverse-append}
 use Rattle.std.proofs.lemmas.List.Elements.{All-from_get_or, All-from_recursion, recursion_from_All}
 use Rattle.std.proofs.lemmas.List.Folds.{list_any-append}
 use Rattle.std.proofs.lemmas.List.Sums.{sum_by-cons, sum_by_push}
@@ -27,6 +27,7 @@ use Rattle.profile_samples.specs.declared.name_numbers.FrameNumbers.{FrameNumber
 use Rattle.profile_samples.specs.Samples.{frames_at, frames_of_id, frames_of_ids, item_with, location_frames, sample_stack_of}
 use Rattle.profile_samples.specs.NameNumbers.{frame_names}
 use Rattle.profile_samples.proofs.ExportLaws.{AllStand}
+use Rattle.profile_samples.proofs.TextPlaces.{no_text}
 use Rattle.profile_samples.proofs.FrameNumbers.{AreNumbersOf, frames-more, locations_stand}
 use Rattle.profile_samples.specs.CountedSamples.{AreSingle, AreTalliesOfNames, Entry, entry_at, leaf_counted, names_at, names_counted, names_of, tally_of, zero_entry}
 
@@ -524,3 +525,9 @@ shown_sums rows held entries are single = record {
       (All-from_get_or (λ (e : Entry). tally_of entries e.0.now ≡ e.1) entries zero_entry (λ i lt. entry_found entries i single lt))));
   once = λ name. shown_once name entries single ∙ ap (λ n. cond (nat_lt 0 n) 1 0) (are.each name).cumulative;
 }
+
+pub entry_added : (entries new : List Entry) (texts : List (Bor (List ℕ))) (i : ℕ) → i < length texts → new ≡ entries ++ (get_or texts i no_text, zero_tally) ∷ [] → names_of entries ≡ map (λ (text : Bor (List ℕ)). text.now) (take i texts)
+    → names_of new ≡ map (λ (text : Bor (List ℕ)). text.now) (take (i + 1) texts)
+entry_added entries new texts i lt is so_far =
+    ap names_of is ∙ map-append (λ (entry : Entry). entry.0.now) entries ((get_or texts i no_text, zero_tally) ∷ []) ∙ ap (λ names. names ++ (get_or texts i no_text).now ∷ []) so_far
+    ∙ sym (map_more (λ (text : Bor (List ℕ)). text.now) texts i no_text lt)

@@ -239,7 +239,7 @@ fn totals_by(
     chosen: usize,
 ) -> Result<FrameTotals, BatchFault>
     requires framed { frames.now ≡ profile.now }
-    requires typed { chosen < length profile.now.sample_types }
+    requires chosen { (choice : ValueChoice) × (chosen_type_of profile.now choice ≡ Some chosen) }
     ensures { (choice : ValueChoice) → chosen_type_of profile.now choice ≡ Some chosen
         → MatchResult result (AreTotalsOfSamples profile.now choice)
         (λ fault. IsFirstStacksFault profile.now choice fault) }

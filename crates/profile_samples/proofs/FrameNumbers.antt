@@ -6,7 +6,7 @@ use Rattle.std.specs.Option.{option_and_then, option_map}
 use Rattle.std.specs.Str.{bytes_eq}
 use Rattle.std.proofs.lemmas.Bool.{cases_eq, cases_lt, false≢true, eqb-true, eq-eqb, ne_eqb}
 use Rattle.std.proofs.lemmas.List.{flat_map_more, get_or-set_other, get_or-set_same, get_or_past, reverse-append, take_more}
-use Rattle.std.proofs.lemmas.List.Elements.{All-from_recursion, All-set}
+use Rattle.std.proofs.lemmas.List.Elements.{All-from_recursion, All-set, All-weaker, recursion_from_All}
 use Rattle.std.proofs.lemmas.List.Folds.{length-flat_map-take}
 use Rattle.std.proofs.lemmas.Grind.{flat_map-append}
 use Rattle.pprof_profile.specs.declared.messages.Draft.{Draft}
@@ -19,7 +19,7 @@ use Rattle.profile_rows.specs.Rows.{has_name}
 use Rattle.profile_rows.proofs.SameNames.{same_from_is_same_name, is_same_name-self}
 use Rattle.profile_samples.specs.declared.name_numbers.FrameNumbers.{FrameNumbers}
 use Rattle.profile_samples.specs.Samples.{address_name, first_name, frames_at, frames_from, frames_of_id, frames_of_ids, function_name, item_with, line_name, location_frames, named_by, sample_stack_of, string_at}
-use Rattle.profile_samples.specs.TextTables.{place_in, with_texts}
+use Rattle.profile_samples.specs.TextTables.{place_in, with_text, with_texts}
 use Rattle.profile_samples.specs.CountedSamples.{AreSingle, names_at}
 use Rattle.profile_samples.specs.NameNumbers.{AreFrameNumbers, AreFunctionNumbers, address_names, first_number, frame_names, frame_numbers_of, given, has_number, line_number, location_numbers, number_at, number_by, number_of, numbers_of, numbers_of_id, once_of, string_names, string_numbers, with_number, with_numbers}
 use Rattle.profile_samples.proofs.ExportLaws.{AllStand, AreDistinct, distinct_with_texts, stand_where, stands_in, with_texts-own, with_texts-stands}
@@ -415,3 +415,28 @@ once-same before next count mark number marks once so_far is here =
       marked = so_far.marked;
       seen = so_far.seen;
     }
+
+-- ---- all locations
+
+pub all_named : (draft : Draft) → All (λ (location : Location). All (λ number. number < length (frame_names draft)) (numbers_of draft location)) draft.locations
+all_named draft =
+    All-weaker (λ (location : Location). AllStand (frame_names draft) (location_frames draft location)) (λ (location : Location). All (λ number. number < length (frame_names draft)) (numbers_of draft location))
+    (λ location stand. numbers_below (frame_names draft) (location_frames draft location) stand) draft.locations
+    (All-from_recursion (λ (location : Location). AllStand (frame_names draft) (location_frames draft location)) draft.locations (locations_stand draft))
+
+pub address_numbers_are : (draft : Draft) (locations : List Location) → map (number_of draft) (map (λ (location : Location). address_name location.address) locations) ≡ map (λ (location : Location). number_of draft (address_name location.address)) locations
+address_numbers_are draft [] = refl
+address_numbers_are draft (location ∷ locations) = ap (λ numbers. number_of draft (address_name location.address) ∷ numbers) (address_numbers_are draft locations)
+
+text_push : (P : List ℕ → Type 0) (texts : List (List ℕ)) (text : List ℕ) → AllByRecursion P texts → P text → AllByRecursion P (texts ++ text ∷ [])
+text_push P [] text all p = (p, tt)
+text_push P (first ∷ texts) text all p = (all.0, text_push P texts text all.1 p)
+
+texts_all : (P : List ℕ → Type 0) (start more : List (List ℕ)) → AllByRecursion P start → AllByRecursion P more → AllByRecursion P (with_texts start more)
+texts_all P start [] all rest = all
+texts_all P start (text ∷ more) all rest = texts_all P (with_text start text) more
+    (elim (stands_in start text) as (λ b. AllByRecursion P (cond b start (start ++ text ∷ []))) [ true ↦ all | false ↦ text_push P start text all rest.0 ]) rest.1
+
+pub texts_named : (P : List ℕ → Type 0) (front back : List (List ℕ)) → All P front → All P back → All P (with_texts (with_texts [] front) back)
+texts_named P front back all rest =
+    All-from_recursion P (with_texts (with_texts [] front) back) (texts_all P (with_texts [] front) back (texts_all P [] front tt (recursion_from_All P front all)) (recursion_from_All P back rest))

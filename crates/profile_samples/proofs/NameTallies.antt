@@ -1,25 +1,35 @@
 -- Tallies of names by their numbers.
-use Rattle.std.proofs.Common.{◌≡◌, ◌≢◌, ℕ, zero, suc, ◌+◌, ◌^◌, ◌<◌, ◌≤◌, Bool, true, false, cond, eqb, ◌||◌, List, [], ◌∷◌, ◌++◌, length, map, get_or, set, Some, None, refl, sym, ap, ◌∙◌, subst, arith, All}
+use Rattle.std.proofs.Common.{◌≡◌, ◌≢◌, ℕ, zero, suc, ◌+◌, ◌^◌, ◌<◌, ◌≤◌, Bool, true, false, cond, eqb, ◌||◌, List, [], ◌∷◌, ◌++◌, length, map, get_or, set, take, append-nil, Some, None, refl, sym, ap, ◌∙◌, subst, arith, All}
 use Rattle.std.specs.Prelude.{filter, nat_lt, reverse, slice_index_or, unwrap_or}
 use Rattle.std.specs.List.{AllByRecursion, IsDistinct, list_any}
 use Rattle.std.specs.Map.{keys_of, lookup}
 use Rattle.std.proofs.lemmas.Bool.{eqb-true, false≢true, ne_eqb, eq-eqb}
-use Rattle.std.proofs.lemmas.List.{length-map, reverse-append}
-use Rattle.std.proofs.lemmas.List.Elements.{All-from_recursion, recursion_from_All}
+use Rattle.std.proofs.lemmas.List.{length-map, map-append, map_more, reverse-append}
+use Rattle.std.proofs.lemmas.List.Elements.{All-from_get_or, All-from_recursion, recursion_from_All}
 use Rattle.std.proofs.lemmas.List.Folds.{list_any-append}
 use Rattle.std.proofs.lemmas.List.Sums.{sum_by-cons, sum_by_push}
 use Rattle.std.proofs.lemmas.Cmp.{nat_list_eq_equiv}
 use denote.Ref.{Bor}
 use Rattle.pprof_profile.specs.declared.messages.Draft.{Draft}
+use Rattle.pprof_profile.specs.declared.messages.Location.{Location}
 use Rattle.profile_rows.specs.declared.tallies.Tally.{Tally}
 use Rattle.profile_rows.specs.declared.weighted_stacks.WeightedStack.{WeightedStack}
 use Rattle.profile_rows.specs.Names.{IsName, is_same_name}
-use Rattle.profile_rows.specs.Rows.{ends_with_name, has_name, total_of, weight_if, weight_where}
+use Rattle.profile_rows.specs.declared.frame_totals.FrameTotal.{FrameTotal}
+use Rattle.profile_rows.specs.TopList.{AreSumsOf, occurrences, sums_at}
+use Rattle.profile_rows.specs.Rows.{ends_with_name, flat_weight_of, has_name, total_of, weight_if, weight_where}
 use Rattle.profile_rows.specs.Tallies.{IsTallyOf, frame_counted, row_counted}
 use Rattle.profile_rows.proofs.RowLaws.{weight_where-le-total, weight_where-push}
 use Rattle.profile_rows.proofs.SameNames.{same_from_is_same_name, is_same_name-self}
+use Rattle.profile_rows.proofs.Weighted.{weighted_in}
 use Rattle.profile_rows.proofs.TallyLaws.{frame_counted-known, row_counted-empty, same_tally, zero_tally}
-use Rattle.profile_samples.specs.CountedSamples.{AreSingle, AreTalliesOfNames, Entry, entry_at, leaf_counted, names_at, names_counted, names_of, tally_of}
+use Rattle.profile_samples.specs.declared.name_numbers.FrameNumbers.{FrameNumbers}
+use Rattle.profile_samples.specs.Samples.{frames_at, frames_of_id, frames_of_ids, item_with, location_frames, sample_stack_of}
+use Rattle.profile_samples.specs.NameNumbers.{frame_names}
+use Rattle.profile_samples.proofs.ExportLaws.{AllStand}
+use Rattle.profile_samples.proofs.TextPlaces.{no_text}
+use Rattle.profile_samples.proofs.FrameNumbers.{AreNumbersOf, frames-more, locations_stand}
+use Rattle.profile_samples.specs.CountedSamples.{AreSingle, AreTalliesOfNames, Entry, entry_at, leaf_counted, names_at, names_counted, names_of, tally_of, zero_entry}
 
 -- ---- entries of names
 
@@ -343,3 +353,181 @@ same_length entries others number same lt =
     let other = length-map others (λ (entry : Entry). entry.0.now) in
     let both = ap length same in
     omega (arith, one, other, both, lt)
+
+-- one location more
+pub location_counted : (draft : Draft) (initial old new : List Entry) (ids : List ℕ) (i : ℕ) (numbers : FrameNumbers) (lent : List ℕ) (row weight : ℕ) → i < length ids → names_of old ≡ frame_names draft → lent ≡ numbers.names
+    → AreNumbersOf (frame_names draft) (frames_of_id draft (get_or ids i 0)) numbers
+    → ((q : List ℕ) → tally_of old q ≡ names_counted (frames_of_ids draft (take i ids)) row weight q (tally_of initial q))
+    → ((q : List ℕ) → tally_of new q ≡ names_counted (names_at (names_of old) lent) row weight q (tally_of old q))
+    → (q : List ℕ) → tally_of new q ≡ names_counted (frames_of_ids draft (take (i + 1) ids)) row weight q (tally_of initial q)
+location_counted draft initial old new ids i numbers lent row weight lt named is this before counted q =
+    counted q
+    ∙ ap (λ ns. names_counted (names_at ns lent) row weight q (tally_of old q)) named
+    ∙ ap (λ ns. names_counted (names_at (frame_names draft) ns) row weight q (tally_of old q)) is
+    ∙ names_counted-same (names_at (frame_names draft) numbers.names) (frames_of_id draft (get_or ids i 0)) row weight q (tally_of old q) (this.same q)
+    ∙ ap (names_counted (frames_of_id draft (get_or ids i 0)) row weight q) (before q)
+    ∙ names_counted-append (frames_of_ids draft (take i ids)) (frames_of_id draft (get_or ids i 0)) row weight q (tally_of initial q)
+    ∙ ap (λ fs. names_counted fs row weight q (tally_of initial q)) (sym (frames-more draft ids i lt))
+
+-- a location without frames
+pub location_missing : (draft : Draft) (initial old : List Entry) (ids : List ℕ) (i : ℕ) (row weight : ℕ) → i < length ids → frames_of_id draft (get_or ids i 0) ≡ []
+    → ((q : List ℕ) → tally_of old q ≡ names_counted (frames_of_ids draft (take i ids)) row weight q (tally_of initial q))
+    → (q : List ℕ) → tally_of old q ≡ names_counted (frames_of_ids draft (take (i + 1) ids)) row weight q (tally_of initial q)
+location_missing draft initial old ids i row weight lt none before q =
+    before q
+    ∙ ap (λ fs. names_counted fs row weight q (tally_of initial q))
+    (sym (frames-more draft ids i lt ∙ ap (λ fs. frames_of_ids draft (take i ids) ++ fs) none ∙ append-nil (frames_of_ids draft (take i ids))))
+
+pub inside_entries : (draft : Draft) (entries : List Entry) (numbers lent : List ℕ) → names_of entries ≡ frame_names draft → lent ≡ numbers → All (λ number. number < length (frame_names draft)) numbers
+    → All (λ number. number < length entries) lent
+inside_entries draft entries numbers lent named is all = subst (All (λ number. number < length entries)) (sym is) (λ k d lt. 
+    let low = all k d lt in
+    let long = length-map entries (λ (entry : Entry). entry.0.now) in
+    let same = ap length named in
+    omega (arith, low, long, same))
+
+-- the row of a sample, whose leaf is counted last
+pub leaf_row : (row : WeightedStack) (frames callers : List (List ℕ)) (leaf number : ℕ) (old mid new : List Entry) → AreSingle (names_of mid) → leaf < length mid
+    → ((q : List ℕ) → tally_of mid q ≡ names_counted frames number row.weight q (tally_of old q))
+    → new ≡ set mid leaf ((entry_at mid leaf).0, leaf_counted (entry_at mid leaf).1 row.weight) → row.stack ≡ reverse frames → row.stack ≡ callers ++ slice_index_or (names_of mid) leaf [] ∷ []
+    → ((q : List ℕ) → (tally_of old q).row < number) → (q : List ℕ) → tally_of new q ≡ row_counted row number q (tally_of old q)
+leaf_row row frames callers leaf number old mid new single lt counted written stack last fresh q =
+    let held = entry_at mid leaf in
+    ap (λ es. tally_of es q) written
+    ∙ tally_of-set mid leaf (leaf_counted held.1 row.weight) q single lt
+    ∙ own (entry_found mid leaf single lt)
+    ∙ ap (λ t. cond (is_same_name q held.0.now) (leaf_counted t row.weight) t) (counted q)
+    ∙ row_counted-leaf row frames callers held.0.now q number (tally_of old q) stack (last ∙ ap (λ name. callers ++ name ∷ []) (name_at mid leaf)) (fresh q)
+  where
+    own : tally_of mid (entry_at mid leaf).0.now ≡ (entry_at mid leaf).1
+        → cond (is_same_name q (entry_at mid leaf).0.now) (leaf_counted (entry_at mid leaf).1 row.weight) (tally_of mid q) ≡ cond (is_same_name q (entry_at mid leaf).0.now) (leaf_counted (tally_of mid q) row.weight) (tally_of mid q)
+    own found = elim (is_same_name q (entry_at mid leaf).0.now) as (λ b. is_same_name q (entry_at mid leaf).0.now ≡ b → cond b (leaf_counted (entry_at mid leaf).1 row.weight) (tally_of mid q) ≡ cond b (leaf_counted (tally_of mid q) row.weight) (tally_of mid q)) [
+      | true ↦ λ is. ap (λ t. leaf_counted t row.weight) (sym found ∙ ap (tally_of mid) (sym (same_from_is_same_name q (entry_at mid leaf).0.now is)))
+      | false ↦ λ is. refl
+    ] refl
+
+pub leaf_fits : (rows : List WeightedStack) (frames : List (List ℕ)) (leaf number held weight : ℕ) (old mid : List Entry) → AreSingle (names_of mid) → leaf < length mid
+    → ((q : List ℕ) → tally_of mid q ≡ names_counted frames number weight q (tally_of old q)) → AreTalliesOfNames rows held old → held + weight < 2 ^ 63
+    → (entry_at mid leaf).1.flat + weight < 2 ^ 63
+leaf_fits rows frames leaf number held weight old mid single lt counted are fits =
+    let name = (entry_at mid leaf).0.now in
+    let same : (entry_at mid leaf).1.flat ≡ (tally_of old name).flat = ap (λ (t : Tally). t.flat) (sym (entry_found mid leaf single lt) ∙ counted name) ∙ names_counted-flat frames number weight name (tally_of old name) in
+    let most = flat-most rows held old name are in
+    omega (arith, same, most, fits)
+
+-- ---- the names of stacks are names
+
+frames_named : (names frames : List (List ℕ)) → AllByRecursion IsName names → AllStand names frames → AllByRecursion IsName frames
+frames_named names [] all stand = tt
+frames_named names (frame ∷ frames) all stand = (named_in frame names all stand.0, frames_named names frames all stand.1)
+
+found_stand : (draft : Draft) (id : ℕ) (locations : List Location) → AllByRecursion (λ (location : Location). AllStand (frame_names draft) (location_frames draft location)) locations
+    → AllStand (frame_names draft) (frames_at draft (item_with (λ location. location.id) id locations))
+found_stand draft id [] all = tt
+found_stand draft id (location ∷ locations) all = elim (eqb location.id id) as (λ b. AllStand (frame_names draft) (frames_at draft (cond b (Some location) (item_with (λ location. location.id) id locations)))) [
+  | true ↦ all.0
+  | false ↦ found_stand draft id locations all.1
+]
+
+all_append : (names more : List (List ℕ)) → AllByRecursion IsName names → AllByRecursion IsName more → AllByRecursion IsName (names ++ more)
+all_append [] more all rest = rest
+all_append (name ∷ names) more all rest = (all.0, all_append names more all.1 rest)
+
+ids_named : (draft : Draft) (ids : List ℕ) → AllByRecursion IsName (frame_names draft) → AllByRecursion IsName (frames_of_ids draft ids)
+ids_named draft [] all = tt
+ids_named draft (id ∷ ids) all =
+    all_append (frames_of_id draft id) (frames_of_ids draft ids) (frames_named (frame_names draft) (frames_of_id draft id) all (found_stand draft id draft.locations (locations_stand draft))) (ids_named draft ids all)
+
+reverse_named : (names : List (List ℕ)) → AllByRecursion IsName names → AllByRecursion IsName (reverse names)
+reverse_named [] all = tt
+reverse_named (name ∷ names) all = subst (AllByRecursion IsName) (sym (reverse-append (name ∷ []) names)) (all_append (reverse names) (name ∷ []) (reverse_named names all.1) (all.0, tt))
+
+pub stack_named : (draft : Draft) (ids : List ℕ) → All IsName (frame_names draft) → All IsName (sample_stack_of draft ids)
+stack_named draft ids all =
+    All-from_recursion IsName (sample_stack_of draft ids) (reverse_named (frames_of_ids draft ids) (ids_named draft ids (recursion_from_All IsName (frame_names draft) all)))
+
+pub inside_entry : (draft : Draft) (entries : List Entry) (number : ℕ) → names_of entries ≡ frame_names draft → number < length (frame_names draft) → number < length entries
+inside_entry draft entries number named lt =
+    let long = length-map entries (λ (entry : Entry). entry.0.now) in
+    let same = ap length named in
+    omega (arith, long, same, lt)
+
+-- ---- the names that weigh something
+
+abbrev entry_shown : Entry → FrameTotal
+entry_shown entry = record { name = entry.0.now; flat = entry.1.flat; cum = entry.1.cumulative }
+
+abbrev mark : List ℕ → FrameTotal → ℕ
+mark name sums = cond (is_same_name name sums.name) 1 0
+
+absent : (name : List ℕ) (entries : List Entry) → AllByRecursion (λ (e : Entry). is_key name e.0 ≡ false) entries → occurrences name (weighted_in entries) ≡ 0
+absent name [] none = refl
+absent name (entry ∷ entries) none =
+    let rest = absent name entries none.1 in
+    elim (nat_lt 0 entry.1.cumulative) as (λ b. occurrences name (cond b (entry_shown entry ∷ weighted_in entries) (weighted_in entries)) ≡ 0) [
+      | true ↦
+          let cons : occurrences name (entry_shown entry ∷ weighted_in entries) ≡ mark name (entry_shown entry) + occurrences name (weighted_in entries) = sum_by-cons (mark name) (entry_shown entry) (weighted_in entries) in
+          let here : mark name (entry_shown entry) ≡ 0 = ap (λ b. cond b 1 0) none.0 in
+          omega arith
+      | false ↦ rest
+    ]
+
+others : (name : List ℕ) (entry : Entry) (entries : List Entry) → is_key name entry.0 ≡ true → AllByRecursion (λ (other : List ℕ). is_same_name entry.0.now other ≡ false) (names_of entries) → AllByRecursion (λ (e : Entry). is_key name e.0 ≡ false) entries
+others name entry [] is apart = tt
+others name entry (e ∷ entries) is apart =
+    (ap (λ n. is_same_name n e.0.now) (same_from_is_same_name name entry.0.now is) ∙ apart.0, others name entry entries is apart.1)
+
+shown_once : (name : List ℕ) (entries : List Entry) → AreSingle (names_of entries) → occurrences name (weighted_in entries) ≡ cond (nat_lt 0 (tally_of entries name).cumulative) 1 0
+unfolding IsDistinct
+shown_once name [] distinct = refl
+shown_once name (entry ∷ entries) distinct =
+    let rest = shown_once name entries distinct.1 in
+    elim (is_key name entry.0) as (λ b. is_key name entry.0 ≡ b → occurrences name (weighted_in (entry ∷ entries)) ≡ cond (nat_lt 0 (unwrap_or (cond b (Some entry.1) (lookup (is_key name) entries)) zero_tally).cumulative) 1 0) [
+      | true ↦ λ is.
+          let none = absent name entries (others name entry entries is distinct.0) in
+          elim (nat_lt 0 entry.1.cumulative) as (λ b. occurrences name (cond b (entry_shown entry ∷ weighted_in entries) (weighted_in entries)) ≡ cond b 1 0) [
+            | true ↦
+                let cons : occurrences name (entry_shown entry ∷ weighted_in entries) ≡ mark name (entry_shown entry) + occurrences name (weighted_in entries) = sum_by-cons (mark name) (entry_shown entry) (weighted_in entries) in
+                let here : mark name (entry_shown entry) ≡ 1 = ap (λ b. cond b 1 0) is in
+                omega arith
+            | false ↦ none
+          ]
+      | false ↦ λ isnt.
+          (elim (nat_lt 0 entry.1.cumulative) as (λ b. occurrences name (cond b (entry_shown entry ∷ weighted_in entries) (weighted_in entries)) ≡ occurrences name (weighted_in entries)) [
+            | true ↦
+                let cons : occurrences name (entry_shown entry ∷ weighted_in entries) ≡ mark name (entry_shown entry) + occurrences name (weighted_in entries) = sum_by-cons (mark name) (entry_shown entry) (weighted_in entries) in
+                let here : mark name (entry_shown entry) ≡ 0 = ap (λ b. cond b 1 0) isnt in
+                omega arith
+            | false ↦ refl
+          ]) ∙ rest
+    ] refl
+
+sums_from : (rows : List WeightedStack) (last : ℕ) (entry : Entry) → IsTallyOf rows last entry.0.now entry.1 → entry_shown entry ≡ sums_at rows entry.0.now
+sums_from rows last entry is =
+    ap (λ n. let sums : FrameTotal = record { name = entry.0.now; flat = n; cum = entry.1.cumulative } in sums) is.flat
+    ∙ ap (λ n. let sums : FrameTotal = record { name = entry.0.now; flat = flat_weight_of rows entry.0.now; cum = n } in sums) is.cumulative
+
+shown_weights : (rows : List WeightedStack) (last : ℕ) (all entries : List Entry) → ((name : List ℕ) → IsTallyOf rows last name (tally_of all name)) → AllByRecursion (λ (e : Entry). tally_of all e.0.now ≡ e.1) entries
+    → AllByRecursion (λ sums. sums ≡ sums_at rows sums.name) (weighted_in entries)
+shown_weights rows last all [] tallies each = tt
+shown_weights rows last all (entry ∷ entries) tallies each =
+    let rest = shown_weights rows last all entries tallies each.1 in
+    let here = sums_from rows last entry (subst (IsTallyOf rows last entry.0.now) each.0 (tallies entry.0.now)) in
+    elim (nat_lt 0 entry.1.cumulative) as (λ b. AllByRecursion (λ sums. sums ≡ sums_at rows sums.name) (cond b (entry_shown entry ∷ weighted_in entries) (weighted_in entries))) [
+      | true ↦ (here, rest)
+      | false ↦ rest
+    ]
+
+pub shown_sums : (rows : List WeightedStack) (held : ℕ) (entries : List Entry) → AreTalliesOfNames rows held entries → AreSingle (names_of entries) → AreSumsOf rows (weighted_in entries)
+shown_sums rows held entries are single = record {
+  weights = All-from_recursion (λ sums. sums ≡ sums_at rows sums.name) (weighted_in entries)
+      (shown_weights rows held entries entries are.each (recursion_from_All (λ (e : Entry). tally_of entries e.0.now ≡ e.1) entries
+      (All-from_get_or (λ (e : Entry). tally_of entries e.0.now ≡ e.1) entries zero_entry (λ i lt. entry_found entries i single lt))));
+  once = λ name. shown_once name entries single ∙ ap (λ n. cond (nat_lt 0 n) 1 0) (are.each name).cumulative;
+}
+
+pub entry_added : (entries new : List Entry) (texts : List (Bor (List ℕ))) (i : ℕ) → i < length texts → new ≡ entries ++ (get_or texts i no_text, zero_tally) ∷ [] → names_of entries ≡ map (λ (text : Bor (List ℕ)). text.now) (take i texts)
+    → names_of new ≡ map (λ (text : Bor (List ℕ)). text.now) (take (i + 1) texts)
+entry_added entries new texts i lt is so_far =
+    ap names_of is ∙ map-append (λ (entry : Entry). entry.0.now) entries ((get_or texts i no_text, zero_tally) ∷ []) ∙ ap (λ names. names ++ (get_or texts i no_text).now ∷ []) so_far
+    ∙ sym (map_more (λ (text : Bor (List ℕ)). text.now) texts i no_text lt)

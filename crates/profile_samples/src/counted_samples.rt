@@ -3,11 +3,12 @@
 ghost use Rattle.std.specs.Prelude.{ℕ, ◌≡◌, ◌≢◌, ◌+◌, ◌^◌, ◌<◌, ◌≤◌, ◌++◌, ◌∷◌, [], All, List, IfErr, IfOk, MatchResult, OnOk, Some, length, map, pos, slice_get, slice_index_or, slice_set};
 ghost use Rattle.profile_rows.specs.declared.weighted_stacks.WeightedStack.{WeightedStack};
 ghost use Rattle.profile_rows.specs.declared.tallies.Tally.{Tally};
+ghost use Rattle.profile_rows.specs.Names.{IsName};
 ghost use Rattle.profile_rows.specs.Rows.{total_of};
 ghost use Rattle.profile_rows.specs.Tallies.{frame_counted};
 ghost use Rattle.profile_rows.specs.TopList.{AreSumsOf, AreTotalsOf};
 ghost use Rattle.profile_samples.specs.declared.sampling.ValueChoice.{ValueChoice};
-ghost use Rattle.profile_samples.specs.Samples.{AreStacksOf, IsFirstStacksFault, IsSampleFault, IsSampleRow, StandsAtSample, chosen_type_of, frames_of_ids, sample_stack_of};
+ghost use Rattle.profile_samples.specs.Samples.{AreStacksOf, IsFirstStacksFault, IsFitFault, IsSampleFault, IsSampleRow, StandsAtSample, chosen_type_of, frames_of_ids, sample_stack_of};
 ghost use Rattle.profile_samples.specs.NameNumbers.{frame_names};
 ghost use Rattle.profile_samples.specs.CountedSamples.{AreRowsCounted, AreSingle, AreTalliesOfNames, AreTotalsOfSamples, entry_at, leaf_counted, names_of, names_at, names_counted, tally_of};
 
@@ -15,7 +16,7 @@ use crate::name_numbers::{NumberedFrames, ProfileNames};
 use crate::sampling::{BatchFault, ValueChoice, chosen_type, weight_of};
 use no_memory::NoMemory;
 use pprof_profile::{Profile, Sample};
-use profile_rows::{FrameTotal, FrameTotals, MAX_TOTAL, Name, Tally};
+use profile_rows::{FrameTotal, FrameTotals, MAX_DEPTH, MAX_TOTAL, Name, Tally};
 use std::alloc::{AllocError, Global};
 
 /// Counts a frame of the name of this number in a row, where it is the row's first of its name.
@@ -92,6 +93,7 @@ fn count_row(
     weight: u64,
 )
     requires named { names_of entries.old.items ≡ frame_names frames.now }
+    requires each { All IsName (frame_names frames.now) }
     requires fits { held + weight < 2 ^ 63 }
     requires counted { (rows : List WeightedStack) × AreTalliesOfNames rows held entries.old.items }
     ensures names { names_of entries.new.items ≡ names_of entries.old.items }
@@ -103,9 +105,43 @@ fn count_row(
         return;
     }
     count_locations(frames, entries, ids, held + weight, weight);
-    if let Some(leaf) = frames.leaf_of(ids) {
-        count_leaf(entries, leaf, weight);
+    match frames.leaf_of(ids) {
+        Some(leaf) => count_leaf(entries, leaf, weight),
+        None => (),
     }
+}
+
+/// Whether a stack can have the frames of these locations.
+fn check_depth(frames: &NumberedFrames, ids: &[u64], number: u64) -> Result<(), BatchFault>
+    ensures depth { OnOk result (length (sample_stack_of frames.now ids.now) ≤ MAX_DEPTH) }
+    ensures fault { IfErr result (λ fault. (fault ≡ BatchFault.Depth number)
+        × (MAX_DEPTH < length (sample_stack_of frames.now ids.now))) }
+{
+    if frames.fit(ids) {
+        Ok(())
+    } else {
+        Err(BatchFault::Depth { sample: number })
+    }
+}
+
+/// Whether a sample at these locations gives a row that can follow rows of the weight `held`.
+fn check_fit(
+    frames: &NumberedFrames,
+    ids: &[u64],
+    weight: u64,
+    held: u64,
+    number: u64,
+) -> Result<(), BatchFault>
+    requires { held < 2 ^ 63 }
+    ensures depth { OnOk result (length (sample_stack_of frames.now ids.now) ≤ MAX_DEPTH) }
+    ensures fits { OnOk result (held + weight < 2 ^ 63) }
+    ensures fault { IfErr result (IsFitFault frames.now held number ids.now weight) }
+{
+    check_depth(frames, ids, number)?;
+    if weight > MAX_TOTAL - held {
+        return Err(BatchFault::Heavy { sample: number });
+    }
+    Ok(())
 }
 
 /// The weight of a sample that gives a row which can follow rows of the weight `held`.
@@ -123,13 +159,9 @@ fn sample_weight(
     ensures fits { IfOk result (λ weight. held + weight < 2 ^ 63) }
     ensures fault { IfErr result (IsSampleFault frames.now chosen held number sample.now) }
 {
+    let ids = sample.location_ids.as_slice();
     let weight = weight_of(sample.values.as_slice(), chosen, number)?;
-    if !frames.fit(sample.location_ids.as_slice()) {
-        return Err(BatchFault::Depth { sample: number });
-    }
-    if weight > MAX_TOTAL - held {
-        return Err(BatchFault::Heavy { sample: number });
-    }
+    check_fit(frames, ids, weight, held, number)?;
     Ok(weight)
 }
 
@@ -160,6 +192,7 @@ fn count_samples(
     requires framed { frames.now ≡ profile.now }
     requires typed { chosen < length profile.now.sample_types }
     requires named { names_of entries.old.items ≡ frame_names profile.now }
+    requires each { All IsName (frame_names profile.now) }
     requires uncounted { AreTalliesOfNames [] 0 entries.old.items }
     ensures names { names_of entries.new.items ≡ names_of entries.old.items }
     ensures counted { (choice : ValueChoice) → chosen_type_of profile.now choice ≡ Some chosen
@@ -209,7 +242,7 @@ fn totals_by(
     chosen: usize,
 ) -> Result<FrameTotals, BatchFault>
     requires framed { frames.now ≡ profile.now }
-    requires typed { chosen < length profile.now.sample_types }
+    requires chosen { (choice : ValueChoice) × (chosen_type_of profile.now choice ≡ Some chosen) }
     ensures { (choice : ValueChoice) → chosen_type_of profile.now choice ≡ Some chosen
         → MatchResult result (AreTotalsOfSamples profile.now choice)
         (λ fault. IsFirstStacksFault profile.now choice fault) }

@@ -404,6 +404,7 @@ impl<'a> NumberedFrames<'a> {
     /// The names that have a number, in the order of their numbers.
     pub fn names(&self) -> &[&'a str]
         ensures names { map (λ name. name.now) result.now ≡ frame_names self.now }
+        ensures each { All IsName (frame_names self.now) }
     {
         self.names.texts()
     }

@@ -1,0 +1,58 @@
+-- The samples are read in order: each is counted, or has the first fault.
+use Rattle.std.proofs.Common.{◌≡◌, ◌+◌, ◌^◌, ◌<◌, ◌≤◌, ◌++◌, ◌∷◌, [], length, get_or, ap, sym, subst, ◌∙◌, refl}
+use Rattle.std.proofs.lemmas.Result.{err_from_is_err_and}
+use Rattle.pprof_profile.specs.declared.messages.Draft.{Draft}
+use Rattle.profile_rows.specs.declared.weighted_stacks.WeightedStack.{WeightedStack}
+use Rattle.profile_rows.specs.Rows.{total_of}
+use Rattle.profile_samples.specs.Samples.{IsSampleRow, IsSampleFault, sample_stack_of}
+use Rattle.profile_samples.specs.CountedSamples.{AreTalliesOfNames}
+use Rattle.profile_samples.proofs.SampleRows.{AreRowsSoFar-row, AreRowsSoFar-end, AreRowsSoFar-stands, has_value}
+use Rattle.profile_samples.proofs.counted_samples.count_samples.Goals as goal
+
+pub sample_weight-requires-clause-values : goal.sample_weight-requires-clause-values
+sample_weight-requires-clause-values c =
+    let samples : c.as_slice-sample-items.result.now ≡ c.args.profile.now.samples = c.as_slice-sample-items.ensures ∙ ap (λ (d : Draft). d.samples) c.draft.ensures.draft in
+    let item = c.sample-item.is ∙ ap (λ ss. get_or ss c.loop-index.index c.sample-item.result) samples in
+    let within = subst (λ ss. c.loop-index.index < length ss) samples c.loop-index-test.true in
+    has_value c.args.profile.now c.args.chosen c.loop-index.index c.sample-item.result c.draft.ensures.valid c.requires.typed within item
+
+pub returns-in_err-weight-clause-counted : goal.returns-in_err-weight-clause-counted
+returns-in_err-weight-clause-counted c = λ choice is_chosen.
+    let samples : c.as_slice-sample-items.result.now ≡ c.args.profile.now.samples = c.as_slice-sample-items.ensures ∙ ap (λ (d : Draft). d.samples) c.draft.ensures.draft in
+    let item = c.sample-item.is ∙ ap (λ ss. get_or ss c.loop-index.index c.sample-item.result) samples in
+    let within = subst (λ ss. c.loop-index.index < length ss) samples c.loop-index-test.true in
+    let p = err_from_is_err_and c.from_residual.result c.from_residual.ensures.1 in
+    let (rows, so_far, counted) = c.loop-index.invariant.0 in
+    let own = subst (λ d. IsSampleFault d c.args.chosen c.loop-index.held c.loop-index.index c.sample-item.result c.in_err-weight.field-0.0) c.requires.framed c.in_err-weight.ensures.fault in
+    let there = subst (λ held. IsSampleFault c.args.profile.now c.args.chosen held c.loop-index.index c.sample-item.result c.in_err-weight.field-0.0) counted.total own in
+    rw (p.1, p.2) (AreRowsSoFar-stands c.args.profile.now choice c.args.chosen c.loop-index.index c.sample-item.result rows c.in_err-weight.field-0.0 is_chosen within item so_far there)
+
+pub loop-index-preserved : goal.loop-index-preserved
+loop-index-preserved c =
+    let samples : c.as_slice-sample-items.result.now ≡ c.args.profile.now.samples = c.as_slice-sample-items.ensures ∙ ap (λ (d : Draft). d.samples) c.draft.ensures.draft in
+    let item = c.sample-item.is ∙ ap (λ ss. get_or ss c.loop-index.index c.sample-item.result) samples in
+    let within = subst (λ ss. c.loop-index.index < length ss) samples c.loop-index-test.true in
+    let weight = c.in_ok-weight.weight in
+    let held = c.loop-index.held in
+    let sample = c.sample-item.result in
+    let row : WeightedStack = record { stack = sample_stack_of c.args.profile.now sample.location_ids; weight = weight } in
+    let (rows, so_far, counted) = c.loop-index.invariant.0 in
+    let own = subst (λ (d : Draft). IsSampleRow d c.args.chosen sample (record { stack = sample_stack_of d sample.location_ids; weight = weight })) c.requires.framed c.in_ok-weight.ensures.row in
+    let fits = subst (λ h. h + weight < 2 ^ 63) counted.total c.in_ok-weight.ensures.fits in
+    let after = c.count_row.ensures.counted rows counted in
+    let framed = subst (λ (d : Draft). AreTalliesOfNames (rows ++ (let r : WeightedStack = record { stack = sample_stack_of d c.as_slice.result.now; weight = weight } in r) ∷ []) (held + weight) c.count_row.new.entries.items) c.requires.framed after in
+    let own_ids = subst (λ ids. AreTalliesOfNames (rows ++ (let r : WeightedStack = record { stack = sample_stack_of c.args.profile.now ids; weight = weight } in r) ∷ []) (held + weight) c.count_row.new.entries.items) c.as_slice.ensures framed in (
+      (
+        rows ++ row ∷ [],
+        AreRowsSoFar-row c.args.profile.now c.args.chosen c.loop-index.index sample rows row (rows ++ row ∷ []) within item so_far own fits refl,
+        own_ids,
+      ),
+      c.count_row.ensures.names ∙ c.loop-index.invariant.1,
+    )
+
+pub returns-clause-counted : goal.returns-clause-counted
+returns-clause-counted c = λ choice is_chosen.
+    let samples : c.as_slice-sample-items.result.now ≡ c.args.profile.now.samples = c.as_slice-sample-items.ensures ∙ ap (λ (d : Draft). d.samples) c.draft.ensures.draft in
+    let whole = subst (λ ss. length ss ≤ c.loop-index.index) samples c.loop-index-test.false in
+    let (rows, so_far, counted) = c.loop-index.invariant.0 in
+    record { rows = rows; sampled = AreRowsSoFar-end c.args.profile.now choice c.args.chosen c.loop-index.index rows is_chosen whole so_far; counted = counted }

@@ -380,7 +380,7 @@ location_missing draft initial old ids i row weight lt none before q =
 
 pub inside_entries : (draft : Draft) (entries : List Entry) (numbers lent : List ℕ) → names_of entries ≡ frame_names draft → lent ≡ numbers → All (λ number. number < length (frame_names draft)) numbers
     → All (λ number. number < length entries) lent
-inside_entries draft entries numbers lent named is all = subst (All (λ number. number < length entries)) (sym is) (λ k d lt. 
+inside_entries draft entries numbers lent named is all = subst (All (λ number. number < length entries)) (sym is) (λ k d lt.
     let low = all k d lt in
     let long = length-map entries (λ (entry : Entry). entry.0.now) in
     let same = ap length named in

@@ -166,10 +166,7 @@ fn sample_weight(
 }
 
 /// Names that no row has yet.
-fn without_rows<'a>(
-    alloc: Global,
-    names: &[&'a str],
-) -> Result<Vec<(&'a str, Tally)>, AllocError>
+fn without_rows<'a>(alloc: Global, names: &[&'a str]) -> Result<Vec<(&'a str, Tally)>, AllocError>
     ensures names { IfOk result (λ entries. names_of entries.items ≡ map (λ name. name.now) names.now) }
     ensures counted { IfOk result (λ entries. AreTalliesOfNames [] 0 entries.items) }
 {
@@ -205,7 +202,13 @@ fn count_samples(
     let mut held = 0;
     for (index, sample) in profile.draft().samples.as_slice().iter().enumerate() {
         let weight = sample_weight(frames, chosen, sample, held, index as u64)?;
-        count_row(frames, entries, sample.location_ids.as_slice(), held, weight);
+        count_row(
+            frames,
+            entries,
+            sample.location_ids.as_slice(),
+            held,
+            weight,
+        );
         held += weight;
     }
     Ok(held)

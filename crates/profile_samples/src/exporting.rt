@@ -26,7 +26,10 @@ pub struct ValueUnit<'a> {
 }
 
 /// The table with the names of a stack.
-pub(crate) fn with_names<'a>(mut table: TextTable<'a>, names: &'a [Name]) -> Result<TextTable<'a>, NoMemory>
+pub(crate) fn with_names<'a>(
+    mut table: TextTable<'a>,
+    names: &'a [Name],
+) -> Result<TextTable<'a>, NoMemory>
     ensures texts { IfOk result (λ more. more ≡ with_texts table.entry names.now) }
     ensures each { OnOk result (All IsName names.now) }
 {

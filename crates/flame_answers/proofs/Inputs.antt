@@ -24,7 +24,7 @@ use Rattle.flame_answers.specs.declared.request.Source.{Source}
 use Rattle.flame_answers.specs.declared.outcomes.ToolFault.{ToolFault}
 use Rattle.flame_answers.specs.declared.outcomes.ToolFault.TheVariants as tool
 use Rattle.flame_answers.specs.declared.request.Format.TheVariants.{Folded, Pprof}
-use Rattle.flame_answers.specs.Answers.{AreRowsIn, AreMergedIn, HasNoRows, IsAnswerOfText, IsChoice, IsFaultIn, IsRefusedIn, IsReport, answer_text, batch_fault_of, folded_fault_of, profile_fault_of}
+use Rattle.flame_answers.specs.Answers.{AreRowsIn, AreMergedIn, HasNoRows, IsAnswerOfProfile, IsAnswerOfText, IsChoice, IsFaultIn, IsRefusedIn, IsReport, answer_text, batch_fault_of, folded_fault_of, profile_fault_of}
 
 -- ---- folded text
 
@@ -62,6 +62,22 @@ pub answered-of_text : {T : Type 0} (bytes : T → List ℕ) (source : Source) (
     → MatchResult outcome (λ text. IsReport source.format source.value query input (bytes text)) (λ fault. IsRefusedIn source.format source.value input fault)
 answered-of_text bytes source query kind input (Ok text) format asked keeps answered = IsReport-of_text source query kind input (bytes text) format asked keeps (answered source.value)
 answered-of_text bytes source query kind input (Err fault) format asked keeps answered = subst (λ f. IsRefusedIn f source.value input fault) (sym format) (answered source.value)
+
+-- a query that keeps every row of a profile's samples is answered by all of them
+IsReport-of_profile : (source : Source) (query : Query) (kind : Kind) (input text : List ℕ) → source.format ≡ Pprof → query.kind ≡ kind → ((rows : List WeightedStack) → kept_by query rows ≡ rows)
+    → IsAnswerOfProfile source.value input kind text → IsReport source.format source.value query input text
+IsReport-of_profile source query kind input text format asked keeps (rows, spelled, whole) = record {
+  rows = rows;
+  spelled = subst (λ f. AreRowsIn f source.value input rows) (sym format) spelled;
+  whole = whole ∙ ap (λ k. answer_text (answer_by k rows)) (sym asked) ∙ ap (λ kept. answer_text (answer_by query.kind kept)) (sym (keeps rows));
+}
+
+pub answered-of_profile : {T : Type 0} (bytes : T → List ℕ) (source : Source) (query : Query) (kind : Kind) (input : List ℕ) (outcome : Result T ToolFault) → source.format ≡ Pprof → query.kind ≡ kind
+    → ((rows : List WeightedStack) → kept_by query rows ≡ rows)
+    → MatchResult outcome (λ text. IsAnswerOfProfile source.value input kind (bytes text)) (λ fault. IsRefusedIn Pprof source.value input fault)
+    → MatchResult outcome (λ text. IsReport source.format source.value query input (bytes text)) (λ fault. IsRefusedIn source.format source.value input fault)
+answered-of_profile bytes source query kind input (Ok text) format asked keeps answered = IsReport-of_profile source query kind input (bytes text) format asked keeps answered
+answered-of_profile bytes source query kind input (Err fault) format asked keeps answered = subst (λ f. IsRefusedIn f source.value input fault) (sym format) answered
 
 -- ---- profiles
 

@@ -1,0 +1,11 @@
+-- The list is that of the rows whose sums were counted.
+use Rattle.std.proofs.Common.{sym, subst}
+use Rattle.flame_answers.specs.Answers.{IsRefusedIn}
+use Rattle.flame_answers.specs.declared.outcomes.ToolFault.{ToolFault}
+use Rattle.flame_answers.specs.declared.request.Format.TheVariants.{Pprof}
+use Rattle.flame_answers.proofs.Inputs.{batch_refused, profile_refused}
+use Rattle.flame_answers.proofs.answers.profile_top.Goals as goal
+
+pub returns-in-Err : goal.returns-in-Err
+returns-in-Err c = subst (λ (fault : ToolFault). IsRefusedIn Pprof c.args.value.now c.args.input.now fault) (sym c.profile_fault.ensures)
+    (profile_refused c.args.value.now c.args.input.now c.in-Err.fault c.in-Err.ensures.fault c.in-Err.ensures.every_profile)

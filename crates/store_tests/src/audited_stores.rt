@@ -227,6 +227,68 @@ fn a_dozen_sessions_match_their_journal(rt: HostRuntime) -> Result<(), Fail> {
     Ok(())
 }
 
+// The steps of so many sessions that each add a row, in order, and then each ask for the total.
+fn steps_of_many(alloc: Global, count: usize) -> Result<String, Fail> {
+    let mut text = String::new(alloc);
+    for session in 0..count {
+        write!(text, "{session}.0 ")?;
+    }
+    for session in 0..count {
+        write!(text, "{session}.1 ")?;
+    }
+    Ok(text)
+}
+
+// As many sessions as a store may have: the last is given too, and the last asks see all 64 rows.
+#[test]
+fn sixty_four_sessions_match_their_journal(rt: HostRuntime) -> Result<(), Fail> {
+    let alloc = rt.alloc();
+    let turns = turns_of_many(alloc, 64)?;
+    let blank = Blank::make(alloc, 64, 64, Width::one())?;
+    let said = audited::<Brand, HostRuntime>(&rt, alloc, blank, 64, turns)?;
+    let steps = steps_of_many(alloc, 64)?;
+    let wanted = format!(in alloc; "128: {}", steps.as_str())?;
+    assert_eq!(rt; said.as_str(), wanted.as_str());
+    Ok(())
+}
+
+// A session that adds a batch of no row, of one row, of two and so on, and resets behind each.
+fn turns_of_sizes(alloc: Global, count: usize) -> Result<Vec<Turn>, Fail> {
+    let mut turns = Vec::new(alloc);
+    let mut text = String::new(alloc);
+    for row in 0..count {
+        turns
+            .push(adds(alloc, 0, text.as_str())?)
+            .ok()
+            .ok_or("no memory")?;
+        turns.push(resets(0)).ok().ok_or("no memory")?;
+        write!(text, "f{row} 1\n")?;
+    }
+    Ok(turns)
+}
+
+// The first steps of the first session.
+fn steps_of_one(alloc: Global, count: usize) -> Result<String, Fail> {
+    let mut text = String::new(alloc);
+    for step in 0..count {
+        write!(text, "0.{step} ")?;
+    }
+    Ok(text)
+}
+
+// Each is taken, whichever its size and whichever the session's turn.
+#[test]
+fn batches_of_each_size_are_taken(rt: HostRuntime) -> Result<(), Fail> {
+    let alloc = rt.alloc();
+    let turns = turns_of_sizes(alloc, 10)?;
+    let blank = Blank::make(alloc, 20, 1, Width::one())?;
+    let said = audited::<Brand, HostRuntime>(&rt, alloc, blank, 1, turns)?;
+    let steps = steps_of_one(alloc, 20)?;
+    let wanted = format!(in alloc; "20: {}", steps.as_str())?;
+    assert_eq!(rt; said.as_str(), wanted.as_str());
+    Ok(())
+}
+
 // Three sessions of a store that takes one change: a change and a reset are refused, and reports go on.
 fn turns_at_the_limit(alloc: Global) -> Result<Vec<Turn>, Fail> {
     Ok(vec![in alloc;

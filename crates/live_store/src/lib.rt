@@ -5,14 +5,13 @@
 mod blank;
 mod desk;
 mod fault;
-mod log;
 mod session;
 mod store;
 mod workers;
 
 pub use blank::{Blank, MAX_SESSIONS};
+pub use desk::Placed;
 pub use fault::{MakeFault, SessionFault, WorkersFault};
-pub use log::Placed;
 pub use op_book::{BookFault, Refused};
 pub use session::Session;
 pub use store::{Store, StoreName};

@@ -8,7 +8,7 @@ ghost use Rattle.flame_report.specs.declared.answer.Answer.{Answer};
 ghost use Rattle.live_store.specs.Stores.{ShowsCause, changes_told};
 ghost use Rattle.live_store.specs.Workers.{ops_told};
 
-use crate::log::{Log, Placed};
+use crate::desk::{Log, Placed};
 use crate::store::{Store, StoreName};
 use flame_report::{Answer, Items, Query};
 use op_book::{BookFault, Op, Receipt, Refused, Reply, SessionLog};
@@ -21,7 +21,6 @@ use std::sync::{Arc, Wait};
 #[derive(Drop)]
 pub struct Session<'a, N: StoreName> {
     store: &'a Store<N>,
-    number: u32,
     log: Log,
 }
 
@@ -31,9 +30,9 @@ impl<'a, N: StoreName> Model for Session<'a, N> {
 
     ghost Value = { SessionState };
 
-    ghost view = { λ s. record { number = s.number; log = s.log.receipts.items } };
+    ghost view = { λ s. record { number = s.log.number; log = s.log.receipts.items } };
 
-    ghost invariant = { λ s. s.number < N.sessions };
+    ghost invariant = { λ s. s.log.number < N.sessions };
 }
 
 impl<'a, N: StoreName> Session<'a, N> {
@@ -43,16 +42,12 @@ impl<'a, N: StoreName> Session<'a, N> {
     ghost use mir.Syntax.{named};
     ghost use Rattle.live_store.specs.contracts.session.Session.{the_row};
 
-    /// A session that was told nothing yet.
-    pub(crate) fn new(store: &'a Store<N>, alloc: Global, number: u32) -> Session<'a, N>
-        requires { number < N.sessions }
-        ensures { result ≡ record { number = number; log = [] } }
+    /// The session of a log.
+    pub(crate) fn new(store: &'a Store<N>, log: Log) -> Session<'a, N>
+        requires { log.number < N.sessions }
+        ensures { result ≡ record { number = log.number; log = log.receipts.items } }
     {
-        Session {
-            store,
-            number,
-            log: Log::new(alloc),
-        }
+        Session { store, log }
     }
 
     /// The session's number, from 0.
@@ -60,7 +55,7 @@ impl<'a, N: StoreName> Session<'a, N> {
         ensures number { result ≡ self.now.number }
         ensures known { self.now.number < N.sessions }
     {
-        self.number
+        self.log.number()
     }
 
     /// The receipts so far, in order.
@@ -75,7 +70,7 @@ impl<'a, N: StoreName> Session<'a, N> {
         ensures { result ≡ record { session = self.entry.number; receipts = self.entry.log } }
     {
         SessionLog {
-            session: self.number,
+            session: self.log.number(),
             receipts: Items::new(self.log.into_receipts()),
         }
     }
@@ -106,7 +101,7 @@ impl<'a, N: StoreName> Session<'a, N> {
             });
         }
         let mut desk = self.store.desk().lock(rt);
-        desk.add(alloc, self.number, &mut self.log, batch)
+        desk.add(alloc, &mut self.log, batch)
     }
 
     /// Empties the profile, and keeps the receipt: what was added before counts no more.
@@ -124,7 +119,7 @@ impl<'a, N: StoreName> Session<'a, N> {
     {
         self.log.make_room()?;
         let mut desk = self.store.desk().lock(rt);
-        desk.reset(alloc, self.number, &mut self.log)
+        desk.reset(alloc, &mut self.log)
     }
 
     /// Answers a query over what counts, and keeps the receipt, from which the answer is lent. The query
@@ -163,6 +158,7 @@ impl<'a, N: StoreName> Session<'a, N> {
         ensures taken { OnOk result
             (ops_told self.new.log ≡ ops_told self.old.log ++ plain_op op ∷ []) }
         ensures unchanged { OnErr result (self.new ≡ self.old) }
+        ensures number { self.new.number ≡ self.old.number }
         ensures cause { IfErr result
             (ShowsCause N.limit N.width (changes_told self.old.log) (plain_op op)) }
     {

@@ -64,8 +64,8 @@ impl<N: StoreName> Store<N> {
     pub fn session<R: Wait>(&self, rt: &R, alloc: Global) -> Result<Session<'_, N>, SessionFault>
         ensures { IfOk result (λ session. (session.number < N.sessions) × (session.log ≡ [])) }
     {
-        match self.desk.lock(rt).give() {
-            Some(number) => Ok(Session::new(self, alloc, number)),
+        match self.desk.lock(rt).give(alloc) {
+            Some(log) => Ok(Session::new(self, log)),
             None => Err(SessionFault::AllGiven),
         }
     }

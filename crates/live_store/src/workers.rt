@@ -62,19 +62,21 @@ struct Worker<'a, N: StoreName> {
     ghost fresh: { session.log ≡ [] },
 }
 
-/// A worker works on this list.
+/// A worker works on this list, by the session of this number.
 #[derive(Drop)]
 struct WorkOn<N: StoreName> {
+    session: u32,
     list: Snapshot<Vec<Op>>,
     of: PhantomData<N>,
 }
 
 impl<N: StoreName> Promise<Worked> for WorkOn<N> {
-    ghost use Rattle.std.specs.Prelude.{map};
+    ghost use Rattle.std.specs.Prelude.{◌≡◌, map};
     ghost use Rattle.op_book.specs.Operations.{plain_op};
     ghost use Rattle.live_store.specs.Workers.{IsWorkOf};
 
-    ghost kept_by = { λ promise worked. IsWorkOf N.limit N.width (map plain_op promise.list.value.items) worked };
+    ghost kept_by = { λ promise worked. IsWorkOf N.limit N.width (map plain_op promise.list.value.items) worked
+        × (worked.log.session ≡ promise.session) };
 }
 
 /// A worker whose thread was started, or couldn't be.
@@ -83,7 +85,8 @@ struct Begun<N: StoreName> {
     session: u32,
     list: Snapshot<Vec<Op>>,
     thread: Option<PromisedHandle<Worked, WorkOn<N>>>,
-    ghost same: { ForSome thread (λ handle. handle.promise.list.value ≡ list.value) },
+    ghost same: { ForSome thread (λ handle. (handle.promise.list.value ≡ list.value)
+        × (handle.promise.session ≡ session)) },
 }
 
 /// Gives each list of operations to a session of its own, in a thread of its own, and returns what each did, in the
@@ -167,6 +170,7 @@ fn work_all<'a, N: StoreName, G: Gate, R: Threads + Wait + Sync>(
                 let session = worker.session.number();
                 let list = Snapshot::of(&worker.list);
                 let promise = WorkOn {
+                    session,
                     list: Snapshot::of(&worker.list),
                     of: PhantomData,
                 };
@@ -201,7 +205,8 @@ fn join_all<N: StoreName, R: Threads + Wait>(
 
 /// What a worker did, once its thread has ended.
 fn join_one<N: StoreName, R: Threads + Wait>(rt: &R, alloc: Global, begun: Begun<N>) -> Worked
-    ensures { IsWorkOf N.limit N.width (map plain_op begun.list.value.items) result }
+    ensures work { IsWorkOf N.limit N.width (map plain_op begun.list.value.items) result }
+    ensures session { result.log.session ≡ begun.session }
 {
     let Begun {
         session,
@@ -230,7 +235,8 @@ fn work<'a, N: StoreName, G: Gate, R: Wait>(
     worker: Worker<'a, N>,
     gate: &G,
 ) -> Worked
-    ensures { IsWorkOf N.limit N.width (map plain_op worker.entry.list.items) result }
+    ensures work { IsWorkOf N.limit N.width (map plain_op worker.entry.list.items) result }
+    ensures session { result.log.session ≡ worker.entry.session.number }
 {
     let Worker {
         mut session,
@@ -254,9 +260,10 @@ fn take_all<'a, N: StoreName, G: Gate, R: Wait>(
     gate: &G,
 ) -> Option<Stop>
     requires { session.old.log ≡ [] }
-    ensures { MatchOption result (ops_told session.new.log ≡ map plain_op list.items)
+    ensures work { MatchOption result (ops_told session.new.log ≡ map plain_op list.items)
         (λ stop. (stop.step ≡ length session.new.log)
         × IsStoppedBy N.limit N.width (map plain_op list.items) session.new.log stop.cause) }
+    ensures number { session.new.number ≡ session.old.number }
 {
     for op in list {
         let step = session.log().len();

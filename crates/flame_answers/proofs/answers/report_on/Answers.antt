@@ -1,5 +1,5 @@
 -- A query that keeps every row is answered by all of them.
-use Rattle.std.proofs.Common.{ℕ}
+use Rattle.std.proofs.Common.{ℕ, refl}
 use Rattle.std.specs.declared.vec.Vec.{Vec}
 use Rattle.flame_report.specs.declared.query.Kind.TheVariants.{Top}
 use Rattle.flame_answers.proofs.Inputs.{answered-of_profile, answered-of_text}
@@ -13,4 +13,4 @@ returns-in-Folded-Top c =
 pub returns-in-Pprof-Top : goal.returns-in-Pprof-Top
 returns-in-Pprof-Top c =
     answered-of_profile (λ (text : Vec ℕ _). text.items) c.args.source.now c.args.query.now (Top c.in-Pprof-Top.rank c.in-Pprof-Top.count) c.args.input.now c.profile_top.result c.in-Pprof-Top.is-0 c.in-Pprof-Top.is-1
-    (c.keeps_all-2.ensures.keeps c.if-keeps_all-2.true) c.profile_top.ensures
+    ((c.if-keeps_all-2.ensures tt).keeps refl) c.profile_top.ensures

@@ -13,4 +13,4 @@ returns-in-Folded-Top c =
 pub returns-in-Pprof-Top : goal.returns-in-Pprof-Top
 returns-in-Pprof-Top c =
     answered-of_profile (λ (text : Vec ℕ _). text.items) c.args.source.now c.args.query.now (Top c.in-Pprof-Top.rank c.in-Pprof-Top.count) c.args.input.now c.profile_top.result c.in-Pprof-Top.is-0 c.in-Pprof-Top.is-1
-    ((c.if-keeps_all-2.ensures tt).keeps refl) c.profile_top.ensures
+    (c.if-keeps_all-2.ensures.keeps refl) c.profile_top.ensures

@@ -266,7 +266,10 @@ const ONE_NAME_OF_THREE: &[u8] = &[
 #[test]
 fn samples_are_counted_by_name(rt: HostRuntime) -> Result<(), Fail> {
     for (bytes, want) in [
-        (INLINED_AND_BARE_LOCATIONS, "total 2\n2 2 a\n0 2 0xff\n0 2 b\n0 2 c\n"),
+        (
+            INLINED_AND_BARE_LOCATIONS,
+            "total 2\n2 2 a\n0 2 0xff\n0 2 b\n0 2 c\n",
+        ),
         (TWO_EQUAL_SAMPLES, "total 12\n12 12 f\n"),
         (ONE_NAME_OF_THREE, "total 15\n15 15 0x7\n"),
     ] {

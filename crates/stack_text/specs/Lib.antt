@@ -11,6 +11,7 @@ pub use Rattle.profile_rows.specs.Rows
 pub use Rattle.profile_rows.specs.TopList
 pub use Rattle.profile_rows.specs.Values
 pub use Rattle.profile_samples.specs.Batches
+pub use Rattle.profile_samples.specs.CountedSamples
 pub use Rattle.profile_samples.specs.Export
 pub use Rattle.profile_samples.specs.Samples
 pub use Rattle.profile_samples.specs.MergedSamples

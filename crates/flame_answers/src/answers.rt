@@ -80,12 +80,10 @@ fn folded_top(alloc: Global, rank: Rank, count: u32, input: &[u8]) -> Result<Vec
         (λ text. IsAnswerOfText input.now (Top rank count) text.items)
         (λ fault. IsRefusedIn Folded value input.now fault) }
 {
-    let totals = match folded_totals(alloc, input) {
-        Ok(totals) => totals,
-        Err(fault) => return Err(folded_fault(fault)),
-    };
-    let top = top_list(totals, rank, count)?;
-    Ok(top_text(alloc, &top)?)
+    match folded_totals(alloc, input) {
+        Ok(totals) => Ok(totals_text(alloc, totals, rank, count)?),
+        Err(fault) => Err(folded_fault(fault)),
+    }
 }
 
 /// The text of the top list of the rows of a profile's samples, which aren't made for it.

@@ -12,7 +12,7 @@ ghost use Rattle.call_tree.specs.Walks.{IsOnPath};
 use crate::tree::CallTree;
 use crate::walk::Walk;
 use indexmap::IndexSet;
-use profile_rows::{Batch, Name, NoMemory, Stack, WeightedStacks, Width};
+use profile_rows::{Batch, Hashing, Name, NoMemory, Stack, WeightedStacks, Width};
 use std::alloc::Global;
 use std::collections::HashMap;
 use std::marker::Model;
@@ -56,9 +56,9 @@ impl Plan {
 pub struct Grower {
     tree: CallTree,
     /// The names in the order of their numbers.
-    numbers: IndexSet<Name>,
+    numbers: IndexSet<Name, Hashing>,
     /// The node below a node by the number of its name.
-    index: HashMap<(u32, u32), u32>,
+    index: HashMap<(u32, u32), u32, Hashing>,
     walk: Walk,
 }
 
@@ -110,12 +110,24 @@ impl Grower {
         ensures width { IfOk result (λ grower. grower.width ≡ width) }
         ensures weights { IfOk result (λ grower. (value : ℕ) → weights_of grower value ≡ map.empty) }
     {
+        Grower::with_hashing(alloc, Hashing::fixed(), width)
+    }
+
+    /// As [`new`](Grower::new), and `hashing` says how names and nodes are hashed.
+    ///
+    /// # Errors
+    ///
+    /// `NoMemory`.
+    pub fn with_hashing(alloc: Global, hashing: Hashing, width: Width) -> Result<Grower, NoMemory>
+        ensures width { IfOk result (λ grower. grower.width ≡ width) }
+        ensures weights { IfOk result (λ grower. (value : ℕ) → weights_of grower value ≡ map.empty) }
+    {
         let tree = CallTree::new(alloc, width)?;
         tree.known();
         Ok(Grower {
             tree,
-            numbers: IndexSet::new(alloc),
-            index: HashMap::new(alloc),
+            numbers: IndexSet::with_hasher(alloc, hashing),
+            index: HashMap::with_hasher(alloc, hashing),
             walk: Walk::new(alloc),
         })
     }

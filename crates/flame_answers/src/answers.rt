@@ -12,17 +12,22 @@ use crate::live::live_report;
 use crate::outcomes::ToolFault;
 use crate::request::{Format, Request, Source};
 use flame_report::laws::answers_are_by_the_aggregate;
-use flame_report::{Answer, Kind, Query, Rank, flame_json, report_of_stacks, top_list, top_text};
-use folded_text::{FoldedFault, folded_totals, merge_folded};
+use flame_report::{
+    Answer, Kind, Query, Rank, flame_json, report_of_stacks_with, top_list, top_text,
+};
+use folded_text::{FoldedFault, folded_totals_with, merge_folded_with};
 use live_answers::Progress;
 use pprof_profile::{ProfileFault, Text, decode};
-use profile_rows::{FrameTotals, NoMemory, WeightedStacks};
-use profile_samples::{BatchFault, ValueChoice, export_folded, merge_samples, sample_totals};
+use profile_rows::{FrameTotals, Hashing, NoMemory, WeightedStacks};
+use profile_samples::{
+    BatchFault, ValueChoice, export_folded_with, merge_samples_with, sample_totals_with,
+};
 use std::alloc::Global;
 use std::sync::Wait;
 use std::thread::Threads;
 
-/// The whole text that is written for an input. For `Live`, `progress` hears of each row that is in.
+/// The whole text that is written for an input; `hashing` says how its names and lists of locations are hashed. For
+/// `Live`, `progress` hears of each row that is in.
 ///
 /// # Errors
 ///
@@ -31,6 +36,7 @@ use std::thread::Threads;
 pub fn answer<P: Progress, R: Threads + Wait + Sync>(
     rt: &R,
     alloc: Global,
+    hashing: Hashing,
     progress: &P,
     request: &Request,
     input: &[u8],
@@ -40,10 +46,10 @@ pub fn answer<P: Progress, R: Threads + Wait + Sync>(
         (λ fault. IsInputFault request.now input.now fault) }
 {
     match request {
-        Request::Report { source, query } => report_on(alloc, source, query, input),
-        Request::Export { kind, unit } => export(alloc, kind, unit, input),
+        Request::Report { source, query } => report_on(alloc, hashing, source, query, input),
+        Request::Export { kind, unit } => export(alloc, hashing, kind, unit, input),
         Request::Live { source, options } => {
-            live_report(rt, alloc, progress, source, *options, input)
+            live_report(rt, alloc, hashing, progress, source, *options, input)
         }
     }
 }
@@ -51,6 +57,7 @@ pub fn answer<P: Progress, R: Threads + Wait + Sync>(
 /// The text of a report on an input.
 fn report_on(
     alloc: Global,
+    hashing: Hashing,
     source: &Source,
     query: &Query,
     input: &[u8],
@@ -61,26 +68,32 @@ fn report_on(
 {
     match (source.format, query.kind) {
         (Format::Folded, Kind::Top { rank, count }) if query.keeps_all() => {
-            folded_top(alloc, rank, count, input)
+            folded_top(alloc, hashing, rank, count, input)
         }
         (Format::Pprof, Kind::Top { rank, count }) if query.keeps_all() => {
-            profile_top(alloc, &source.value, rank, count, input)
+            profile_top(alloc, hashing, &source.value, rank, count, input)
         }
         _ => {
-            let merged = merged_rows(alloc, source, input)?;
+            let merged = merged_rows(alloc, hashing, source, input)?;
             answers_are_by_the_aggregate();
-            Ok(report_text(alloc, merged, query)?)
+            Ok(report_text(alloc, hashing, merged, query)?)
         }
     }
 }
 
 /// The text of the top list of folded text's rows, which aren't kept for it.
-fn folded_top(alloc: Global, rank: Rank, count: u32, input: &[u8]) -> Result<Vec<u8>, ToolFault>
+fn folded_top(
+    alloc: Global,
+    hashing: Hashing,
+    rank: Rank,
+    count: u32,
+    input: &[u8],
+) -> Result<Vec<u8>, ToolFault>
     ensures { (value : Option (List ℕ)) → MatchResult result
         (λ text. IsAnswerOfText input.now (Top rank count) text.items)
         (λ fault. IsRefusedIn Folded value input.now fault) }
 {
-    match folded_totals(alloc, input) {
+    match folded_totals_with(alloc, hashing, input) {
         Ok(totals) => Ok(totals_text(alloc, totals, rank, count)?),
         Err(fault) => Err(folded_fault(fault)),
     }
@@ -89,6 +102,7 @@ fn folded_top(alloc: Global, rank: Rank, count: u32, input: &[u8]) -> Result<Vec
 /// The text of the top list of the rows of a profile's samples, which aren't made for it.
 fn profile_top(
     alloc: Global,
+    hashing: Hashing,
     value: &Option<Text>,
     rank: Rank,
     count: u32,
@@ -102,7 +116,7 @@ fn profile_top(
         Ok(profile) => profile,
         Err(fault) => return Err(profile_fault(fault)),
     };
-    match sample_totals(alloc, &profile, choice_of(value)) {
+    match sample_totals_with(alloc, hashing, &profile, choice_of(value)) {
         Ok(totals) => Ok(totals_text(alloc, totals, rank, count)?),
         Err(fault) => Err(batch_fault(fault)),
     }
@@ -123,36 +137,47 @@ fn totals_text(
 }
 
 /// The bytes of the profile that folded text is exported as.
-fn export(alloc: Global, kind: &Text, unit: &Text, input: &[u8]) -> Result<Vec<u8>, ToolFault>
+fn export(
+    alloc: Global,
+    hashing: Hashing,
+    kind: &Text,
+    unit: &Text,
+    input: &[u8],
+) -> Result<Vec<u8>, ToolFault>
     ensures { MatchResult result
         (λ bytes. IsExport kind.now unit.now input.now bytes.items)
         (λ fault. IsRefusedIn Folded None input.now fault) }
 {
-    match export_folded(alloc, input, kind.as_str(), unit.as_str()) {
+    match export_folded_with(alloc, hashing, input, kind.as_str(), unit.as_str()) {
         Ok(bytes) => Ok(bytes),
         Err(found) => Err(folded_fault(found)),
     }
 }
 
 /// Rows that add up to those of the input.
-fn merged_rows(alloc: Global, source: &Source, input: &[u8]) -> Result<WeightedStacks, ToolFault>
+fn merged_rows(
+    alloc: Global,
+    hashing: Hashing,
+    source: &Source,
+    input: &[u8],
+) -> Result<WeightedStacks, ToolFault>
     ensures { MatchResult result
         (λ merged. AreMergedIn source.now.format source.now.value input.now merged)
         (λ fault. IsRefusedIn source.now.format source.now.value input.now fault) }
 {
     match source.format {
-        Format::Folded => merged_lines(alloc, input),
-        Format::Pprof => merged_samples(alloc, &source.value, input),
+        Format::Folded => merged_lines(alloc, hashing, input),
+        Format::Pprof => merged_samples(alloc, hashing, &source.value, input),
     }
 }
 
 /// Rows that add up to those of folded text.
-fn merged_lines(alloc: Global, input: &[u8]) -> Result<WeightedStacks, ToolFault>
+fn merged_lines(alloc: Global, hashing: Hashing, input: &[u8]) -> Result<WeightedStacks, ToolFault>
     ensures { (value : Option (List ℕ)) → MatchResult result
         (λ merged. AreMergedIn Folded value input.now merged)
         (λ fault. IsRefusedIn Folded value input.now fault) }
 {
-    match merge_folded(alloc, input) {
+    match merge_folded_with(alloc, hashing, input) {
         Ok(merged) => Ok(merged),
         Err(fault) => Err(folded_fault(fault)),
     }
@@ -161,6 +186,7 @@ fn merged_lines(alloc: Global, input: &[u8]) -> Result<WeightedStacks, ToolFault
 /// Rows that add up to those of a profile's samples.
 fn merged_samples(
     alloc: Global,
+    hashing: Hashing,
     value: &Option<Text>,
     input: &[u8],
 ) -> Result<WeightedStacks, ToolFault>
@@ -172,7 +198,7 @@ fn merged_samples(
         Ok(profile) => profile,
         Err(fault) => return Err(profile_fault(fault)),
     };
-    match merge_samples(alloc, &profile, choice_of(value)) {
+    match merge_samples_with(alloc, hashing, &profile, choice_of(value)) {
         Ok(merged) => Ok(merged),
         Err(fault) => Err(batch_fault(fault)),
     }
@@ -189,10 +215,15 @@ pub(crate) fn choice_of<'a>(value: &'a Option<Text>) -> ValueChoice<'a>
 }
 
 /// The text of the answer to a query over the rows.
-fn report_text(alloc: Global, rows: WeightedStacks, query: &Query) -> Result<Vec<u8>, NoMemory>
+fn report_text(
+    alloc: Global,
+    hashing: Hashing,
+    rows: WeightedStacks,
+    query: &Query,
+) -> Result<Vec<u8>, NoMemory>
     ensures { IfOk result (λ text. text.items ≡ answer_text (answer_of rows query.now)) }
 {
-    let answer = report_of_stacks(alloc, rows, query)?;
+    let answer = report_of_stacks_with(alloc, hashing, rows, query)?;
     text_of(alloc, answer)
 }
 

@@ -7,10 +7,10 @@ ghost use Rattle.flame_answers.specs.declared.request.Format.TheVariants.{Folded
 use crate::answers::{batch_fault, choice_of, folded_fault, profile_fault};
 use crate::outcomes::ToolFault;
 use crate::request::{Format, Source};
-use folded_text::read_folded;
+use folded_text::read_folded_with;
 use live_answers::{LiveFault, LiveOptions, Progress, live_text};
 use pprof_profile::{Text, decode};
-use profile_rows::Batch;
+use profile_rows::{Batch, Hashing};
 use profile_samples::{ValueChoice, batch_of};
 use std::alloc::Global;
 use std::sync::{Arc, Wait};
@@ -20,6 +20,7 @@ use std::thread::Threads;
 pub(crate) fn live_report<P: Progress, R: Threads + Wait + Sync>(
     rt: &R,
     alloc: Global,
+    hashing: Hashing,
     progress: &P,
     source: &Source,
     options: LiveOptions,
@@ -29,35 +30,41 @@ pub(crate) fn live_report<P: Progress, R: Threads + Wait + Sync>(
         (λ text. IsLiveText source.now.format source.now.value options input.now text.items)
         (λ fault. IsLiveRefused source.now.format options.all source.now.value input.now fault) }
 {
-    let batch = live_batch(alloc, source, options.all(), input)?;
+    let batch = live_batch(alloc, hashing, source, options.all(), input)?;
     let Ok(batch) = Arc::new(alloc, batch) else {
         return Err(ToolFault::NoMemory);
     };
-    match live_text(rt, alloc, progress, &batch, options) {
+    match live_text(rt, alloc, hashing, progress, &batch, options) {
         Ok(text) => Ok(text),
         Err(fault) => Err(store_fault(fault)),
     }
 }
 
 /// The batch of the input.
-fn live_batch(alloc: Global, source: &Source, all: bool, input: &[u8]) -> Result<Batch, ToolFault>
+fn live_batch(
+    alloc: Global,
+    hashing: Hashing,
+    source: &Source,
+    all: bool,
+    input: &[u8],
+) -> Result<Batch, ToolFault>
     ensures { MatchResult result
         (λ batch. IsBatchIn source.now.format all source.now.value input.now batch)
         (λ fault. IsLiveRefused source.now.format all source.now.value input.now fault) }
 {
     match source.format {
-        Format::Folded => folded_batch(alloc, input),
+        Format::Folded => folded_batch(alloc, hashing, input),
         Format::Pprof => profile_batch(alloc, all, &source.value, input),
     }
 }
 
 /// The batch of folded text.
-fn folded_batch(alloc: Global, input: &[u8]) -> Result<Batch, ToolFault>
+fn folded_batch(alloc: Global, hashing: Hashing, input: &[u8]) -> Result<Batch, ToolFault>
     ensures { (all : Bool) (value : Option (List ℕ)) → MatchResult result
         (λ batch. IsBatchIn Folded all value input.now batch)
         (λ fault. IsLiveRefused Folded all value input.now fault) }
 {
-    match read_folded(alloc, input) {
+    match read_folded_with(alloc, hashing, input) {
         Ok(batch) => Ok(batch),
         Err(fault) => Err(folded_fault(fault)),
     }

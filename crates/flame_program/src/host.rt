@@ -4,6 +4,7 @@ use crate::process::run_process;
 use crate::shown_rows::ShownRows;
 use std::env;
 use std::process::ExitCode;
+use std::random::RandomSource;
 use std::sync::Wait;
 use std::thread::Threads;
 
@@ -13,7 +14,10 @@ use std::thread::Threads;
 ///
 /// It has no clause, since none knows what a process's words and streams are. The stored runs of the programs that call
 /// it show that it takes all of both, and that the status is the cause's.
-pub fn run_on_host<T: Threads + Wait + Sync>(threads: &T, rt: HostRuntime) -> ExitCode {
+pub fn run_on_host<T: Threads + Wait + RandomSource + Sync>(
+    threads: &T,
+    rt: HostRuntime,
+) -> ExitCode {
     let end = run_process(
         threads,
         rt.alloc(),

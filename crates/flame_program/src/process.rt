@@ -16,6 +16,7 @@ use std::env::Args;
 use std::io;
 use std::io::{ErrorKind, Read, Write};
 use std::process::ExitCode;
+use std::random::RandomSource;
 use std::sync::Wait;
 use std::thread::Threads;
 
@@ -31,8 +32,15 @@ pub struct End {
 /// The whole program, over the words and the three streams of a process.
 ///
 /// The first word is the program's name. At most 268,435,456 bytes of input are taken. The writer gets the report
-/// alone, and the error writer what there is to say of another end. For `live`, `progress` hears of each row that is in.
-pub fn run_process<T: Threads + Wait + Sync, P: Progress, R: Read, W: Write, E: Write>(
+/// alone, and the error writer what there is to say of another end. For `live`, `progress` hears of each row that is
+/// in.
+pub fn run_process<
+    T: Threads + Wait + RandomSource + Sync,
+    P: Progress,
+    R: Read,
+    W: Write,
+    E: Write,
+>(
     rt: &T,
     alloc: Global,
     progress: &P,
@@ -79,7 +87,7 @@ fn say<E: Write>(errors: &mut E, cause: &Outcome) -> io::Result<()>
 }
 
 // Runs on the words, where they can be had.
-fn run_words<T: Threads + Wait + Sync, P: Progress, R: Read, W: Write>(
+fn run_words<T: Threads + Wait + RandomSource + Sync, P: Progress, R: Read, W: Write>(
     rt: &T,
     alloc: Global,
     progress: &P,
@@ -106,7 +114,7 @@ fn run_words<T: Threads + Wait + Sync, P: Progress, R: Read, W: Write>(
 }
 
 // Runs on all of the words.
-fn run_args<T: Threads + Wait + Sync, P: Progress, R: Read, W: Write>(
+fn run_args<T: Threads + Wait + RandomSource + Sync, P: Progress, R: Read, W: Write>(
     rt: &T,
     alloc: Global,
     progress: &P,
@@ -136,7 +144,7 @@ fn owned_words(alloc: Global, words: Args) -> Result<Vec<String>, AllocError>
 }
 
 // Runs on the texts of the words.
-fn run_texts<T: Threads + Wait + Sync, P: Progress, R: Read, W: Write>(
+fn run_texts<T: Threads + Wait + RandomSource + Sync, P: Progress, R: Read, W: Write>(
     rt: &T,
     alloc: Global,
     progress: &P,

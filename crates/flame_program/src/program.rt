@@ -11,16 +11,19 @@ use flame_answers::{
     MAX_INPUT, Outcome, Progress, ReadFault, Request, Status, ToolFault, answer, read_input,
     write_text,
 };
+use profile_rows::Hashing;
 use std::alloc::Global;
 use std::io::{Read, Write};
+use std::random::RandomSource;
 use std::sync::Wait;
 use std::thread::Threads;
 
 /// Reads the words, then the whole input, and writes the whole report on it.
 ///
 /// The first word is the program's name. At most `limit` bytes of input are taken, and one more shows that it is too
-/// long. Nothing is written before the whole text is made. For `live`, `progress` hears of each row that is in.
-pub fn run<'a, T: Threads + Wait + Sync, P: Progress, R: Read, W: Write>(
+/// long. Nothing is written before the whole text is made. For `live`, `progress` hears of each row that is in. Maps
+/// begin their hashes at random bytes of the system; where it has none, that is a fault of reading.
+pub fn run<'a, T: Threads + Wait + RandomSource + Sync, P: Progress, R: Read, W: Write>(
     rt: &T,
     alloc: Global,
     progress: &P,
@@ -54,7 +57,7 @@ pub fn run<'a, T: Threads + Wait + Sync, P: Progress, R: Read, W: Write>(
 }
 
 // How the run ends.
-fn outcome_of<'a, T: Threads + Wait + Sync, P: Progress, R: Read, W: Write>(
+fn outcome_of<'a, T: Threads + Wait + RandomSource + Sync, P: Progress, R: Read, W: Write>(
     rt: &T,
     alloc: Global,
     progress: &P,
@@ -86,7 +89,7 @@ fn unasked(fault: WordsFault) -> Outcome
 }
 
 // Reads the input, makes the text, and writes it.
-fn respond<T: Threads + Wait + Sync, P: Progress, R: Read, W: Write>(
+fn respond<T: Threads + Wait + RandomSource + Sync, P: Progress, R: Read, W: Write>(
     rt: &T,
     alloc: Global,
     progress: &P,
@@ -104,7 +107,10 @@ fn respond<T: Threads + Wait + Sync, P: Progress, R: Read, W: Write>(
         Ok(input) => input,
         Err(fault) => return Outcome::Fault(read_fault(fault)),
     };
-    let text = match answer(rt, alloc, progress, &request, input.as_slice()) {
+    let Ok(hashing) = Hashing::random(rt) else {
+        return Outcome::Fault(ToolFault::Read);
+    };
+    let text = match answer(rt, alloc, hashing, progress, &request, input.as_slice()) {
         Ok(text) => text,
         Err(fault) => return Outcome::Fault(fault),
     };

@@ -72,7 +72,8 @@ pub query_eq-decides : (a b : Query) → Decides (query_eq a b) (a ≡ b)
 query_eq-decides a b =
     let names = option_eq-decides is_same_name-decides in
     let parts = both_decide _ _
-    (both_decide _ _ (both_decide _ _ (names a.focus b.focus) (names a.ignore b.ignore)) (unsigned_Decides a.value b.value))
+    (both_decide _ _ (both_decide _ _ (names a.focus b.focus) (names a.ignore b.ignore))
+    (unsigned_Decides a.value b.value))
     (kind_eq-decides a.kind b.kind) in (
       λ e. let same = parts.0 e in
           λ i. record { focus = same.0.0.0 i; ignore = same.0.0.1 i; value = same.0.1 i; kind = same.1 i },

@@ -16,7 +16,9 @@ use crate::query::{Columns, Kind, Query, Rank};
 use crate::top::{kept_total, top_list, top_of_rows};
 use call_tree::CallTree;
 use folded_text::write_stacks;
-use profile_rows::{Batch, FrameTotals, NoMemory, WeightedStack, WeightedStacks, aggregate_stacks};
+use profile_rows::{
+    Batch, FrameTotals, Hashing, NoMemory, WeightedStack, WeightedStacks, aggregate_stacks,
+};
 use std::alloc::Global;
 
 /// The rows of a batch that a query keeps.
@@ -71,7 +73,12 @@ fn folded(alloc: Global, rows: &WeightedStacks) -> Result<Items<u8>, NoMemory>
 }
 
 /// The answer over the rows of an aggregate.
-fn answer(alloc: Global, rows: WeightedStacks, query: &Query) -> Result<Answer, NoMemory>
+fn answer(
+    alloc: Global,
+    hashing: Hashing,
+    rows: WeightedStacks,
+    query: &Query,
+) -> Result<Answer, NoMemory>
     requires ascending { IsAscending rows }
     requires weighty { AreWeighty rows }
     ensures { IfOk result (λ answer. answer ≡ answer_of rows query.now) }
@@ -79,7 +86,7 @@ fn answer(alloc: Global, rows: WeightedStacks, query: &Query) -> Result<Answer, 
     match query.kind {
         Kind::Total => Ok(Answer::Total(kept_total(rows.rows(), query))),
         Kind::Top { rank, count } => {
-            let top = top_of_rows(alloc, &rows, query, rank, count)?;
+            let top = top_of_rows(alloc, hashing, &rows, query, rank, count)?;
             Ok(Answer::Top(top))
         }
         Kind::Flame { columns } => {
@@ -123,7 +130,7 @@ fn held_answer(alloc: Global, tree: &CallTree, query: &Query) -> Result<Answer, 
         }
         _ => {
             let rows = tree.weighted_stacks(alloc, query.value)?;
-            answer(alloc, rows, query)
+            answer(alloc, Hashing::fixed(), rows, query)
         }
     }
 }
@@ -152,17 +159,34 @@ pub fn report_of(alloc: Global, batch: &Batch, query: &Query) -> Result<Answer, 
     requires { query.now.value < batch.now.width }
     ensures { IfOk result (λ answer. answer ≡ value_answer_of batch.now.rows query.now) }
 {
+    report_of_with(alloc, Hashing::fixed(), batch, query)
+}
+
+/// As [`report_of`], and `hashing` says how names are hashed.
+///
+/// # Errors
+///
+/// `NoMemory`.
+pub fn report_of_with(
+    alloc: Global,
+    hashing: Hashing,
+    batch: &Batch,
+    query: &Query,
+) -> Result<Answer, NoMemory>
+    requires { query.now.value < batch.now.width }
+    ensures { IfOk result (λ answer. answer ≡ value_answer_of batch.now.rows query.now) }
+{
     match query.kind {
         Kind::Total if query.value == 0 => {
             Ok(Answer::Total(kept_total(batch.first().rows(), query)))
         }
         Kind::Top { rank, count } if query.value == 0 => {
-            let top = top_of_rows(alloc, batch.first(), query, rank, count)?;
+            let top = top_of_rows(alloc, hashing, batch.first(), query, rank, count)?;
             Ok(Answer::Top(top))
         }
         _ => {
             let rows = batch.weighted_stacks(alloc, query.value)?;
-            report_of_stacks(alloc, rows, query)
+            report_of_stacks_with(alloc, hashing, rows, query)
         }
     }
 }
@@ -180,15 +204,31 @@ pub fn report_of_stacks(
 ) -> Result<Answer, NoMemory>
     ensures { IfOk result (λ answer. answer ≡ answer_of rows query.now) }
 {
+    report_of_stacks_with(alloc, Hashing::fixed(), rows, query)
+}
+
+/// As [`report_of_stacks`], and `hashing` says how names are hashed.
+///
+/// # Errors
+///
+/// `NoMemory`.
+pub fn report_of_stacks_with(
+    alloc: Global,
+    hashing: Hashing,
+    rows: WeightedStacks,
+    query: &Query,
+) -> Result<Answer, NoMemory>
+    ensures { IfOk result (λ answer. answer ≡ answer_of rows query.now) }
+{
     match query.kind {
         Kind::Total => Ok(Answer::Total(kept_total(rows.rows(), query))),
         Kind::Top { rank, count } => {
-            let top = top_of_rows(alloc, &rows, query, rank, count)?;
+            let top = top_of_rows(alloc, hashing, &rows, query, rank, count)?;
             Ok(Answer::Top(top))
         }
         _ => {
             let rows = aggregate_stacks(alloc, rows)?;
-            answer(alloc, rows, query)
+            answer(alloc, hashing, rows, query)
         }
     }
 }

@@ -11,7 +11,9 @@ use crate::answer::Top;
 use crate::items::Items;
 use crate::query::{Query, Rank};
 use profile_rows::laws::top_list_is_front_of_sorted;
-use profile_rows::{FrameTotal, FrameTotals, NoMemory, WeightedStack, WeightedStacks, kept_totals};
+use profile_rows::{
+    FrameTotal, FrameTotals, Hashing, NoMemory, WeightedStack, WeightedStacks, kept_totals_with,
+};
 use std::alloc::{AllocError, Global};
 use std::cmp::Ordering;
 
@@ -109,6 +111,7 @@ pub fn top_list(totals: FrameTotals, rank: Rank, count: u32) -> Result<Top, NoMe
 /// The top list of the rows that a query keeps.
 pub(crate) fn top_of_rows(
     alloc: Global,
+    hashing: Hashing,
     batch: &WeightedStacks,
     query: &Query,
     rank: Rank,
@@ -116,7 +119,8 @@ pub(crate) fn top_of_rows(
 ) -> Result<Top, NoMemory>
     ensures { IfOk result (λ top. top ≡ top_of rank count (kept_by query.now batch.now)) }
 {
-    let totals = kept_totals(alloc, batch, query.focus.as_ref(), query.ignore.as_ref())?;
+    let (focus, ignored) = (query.focus.as_ref(), query.ignore.as_ref());
+    let totals = kept_totals_with(alloc, hashing, batch, focus, ignored)?;
     top_list(totals, rank, count)
 }
 

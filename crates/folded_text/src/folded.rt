@@ -14,7 +14,7 @@ use crate::known_names::KnownNames;
 use crate::stack_frames::Frames;
 use crate::taking::{LineTaker, take_lines};
 use no_memory::NoMemory;
-use profile_rows::{Batch, MAX_DEPTH, MAX_TOTAL, Name, Stack, WeightedStacks};
+use profile_rows::{Batch, Hashing, MAX_DEPTH, MAX_TOTAL, Name, Stack, WeightedStacks};
 use std::alloc::Global;
 use thiserror::Error;
 
@@ -242,7 +242,7 @@ impl<'a> LineTaker<'a> for Reading<'a> {
 }
 
 /// Reads the rows of folded stacks.
-fn read_stacks(alloc: Global, text: &[u8]) -> Result<WeightedStacks, FoldedFault>
+fn read_stacks(alloc: Global, hashing: Hashing, text: &[u8]) -> Result<WeightedStacks, FoldedFault>
     ensures read { MatchResult result (λ rows. IsFoldedText text.now rows) (λ fault. IsFirstFault text.now fault) }
     ensures accepted { (rows : List WeightedStack) → IsFoldedText text.now rows
         → MatchResult result (λ found. found ≡ rows) (λ fault. fault ≡ FoldedFault.NoMemory) }
@@ -251,7 +251,7 @@ fn read_stacks(alloc: Global, text: &[u8]) -> Result<WeightedStacks, FoldedFault
 {
     let mut reading = Reading {
         alloc,
-        names: KnownNames::new(alloc),
+        names: KnownNames::new(alloc, hashing),
         batch: WeightedStacks::new(alloc),
     };
     take_lines(text, &mut reading)?;
@@ -274,7 +274,23 @@ pub fn read_folded(alloc: Global, text: &[u8]) -> Result<Batch, FoldedFault>
     ensures every_fault { (first : FoldedFault) → first ≢ FoldedFault.NoMemory → IsFirstFault text.now first
         → MatchResult result (λ batch. ⊥) (λ fault. (fault ≡ FoldedFault.NoMemory) ⊎ (fault ≡ first)) }
 {
-    match read_stacks(alloc, text) {
+    read_folded_with(alloc, Hashing::fixed(), text)
+}
+
+/// As [`read_folded`], and `hashing` says how names are hashed.
+///
+/// # Errors
+///
+/// Those of [`read_folded`].
+pub fn read_folded_with(alloc: Global, hashing: Hashing, text: &[u8]) -> Result<Batch, FoldedFault>
+    ensures read { MatchResult result (λ batch. IsFoldedBatch text.now batch)
+        (λ fault. IsFirstFault text.now fault) }
+    ensures accepted { (rows : List WeightedStack) → IsFoldedText text.now rows
+        → MatchResult result (λ batch. batch ≡ single_batch rows) (λ fault. fault ≡ FoldedFault.NoMemory) }
+    ensures every_fault { (first : FoldedFault) → first ≢ FoldedFault.NoMemory → IsFirstFault text.now first
+        → MatchResult result (λ batch. ⊥) (λ fault. (fault ≡ FoldedFault.NoMemory) ⊎ (fault ≡ first)) }
+{
+    match read_stacks(alloc, hashing, text) {
         Ok(rows) => Ok(Batch::single(alloc, rows)),
         Err(fault) => Err(fault),
     }

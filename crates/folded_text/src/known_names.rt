@@ -4,7 +4,7 @@ ghost use Rattle.std.specs.Prelude.{◌≡◌, IfOk};
 ghost use Rattle.profile_rows.specs.Names.{IsName};
 
 use no_memory::NoMemory;
-use profile_rows::Name;
+use profile_rows::{Hashing, Name};
 use std::alloc::Global;
 use std::collections::HashMap;
 use std::marker::Model;
@@ -12,7 +12,7 @@ use std::marker::Model;
 /// The names met so far by their texts, so that each text is kept once and a frame costs a lookup and a share.
 #[derive(Drop)]
 pub struct KnownNames<'a> {
-    names: HashMap<&'a str, Name>,
+    names: HashMap<&'a str, Name, Hashing>,
 }
 
 impl<'a> Model for KnownNames<'a> {
@@ -26,10 +26,10 @@ impl<'a> Model for KnownNames<'a> {
 }
 
 impl<'a> KnownNames<'a> {
-    /// No names yet. Takes no memory.
-    pub fn new(alloc: Global) -> KnownNames<'a> {
+    /// No names yet, and `hashing` says how their texts will be hashed. Takes no memory.
+    pub fn new(alloc: Global, hashing: Hashing) -> KnownNames<'a> {
         KnownNames {
-            names: HashMap::new(alloc),
+            names: HashMap::with_hasher(alloc, hashing),
         }
     }
 

@@ -10,9 +10,9 @@ mod taking;
 mod text_totals;
 mod written;
 
-pub use folded::{FoldedFault, Spelled, read_folded, read_line};
-pub use merged_text::merge_folded;
+pub use folded::{FoldedFault, Spelled, read_folded, read_folded_with, read_line};
+pub use merged_text::{merge_folded, merge_folded_with};
 pub use stack_frames::Frames;
 pub use taking::{LineTaker, take_lines};
-pub use text_totals::folded_totals;
+pub use text_totals::{folded_totals, folded_totals_with};
 pub use written::{write_folded, write_stacks};

@@ -12,7 +12,7 @@ use crate::folded::{FoldedFault, Spelled, fitting_depth, push_spelled, stack_and
 use crate::known_names::KnownNames;
 use crate::taking::{LineTaker, take_lines};
 use no_memory::NoMemory;
-use profile_rows::WeightedStacks;
+use profile_rows::{Hashing, WeightedStacks};
 use std::alloc::Global;
 use std::collections::HashMap;
 
@@ -20,7 +20,7 @@ use std::collections::HashMap;
 fn push_merged<'a>(
     alloc: Global,
     names: &mut KnownNames<'a>,
-    known: &mut HashMap<&'a str, usize>,
+    known: &mut HashMap<&'a str, usize, Hashing>,
     merged: &mut WeightedStacks,
     spelled: Spelled<'a>,
 ) -> Result<(), NoMemory>
@@ -62,7 +62,7 @@ fn add_to_row(
 fn merge_line<'a>(
     alloc: Global,
     names: &mut KnownNames<'a>,
-    known: &mut HashMap<&'a str, usize>,
+    known: &mut HashMap<&'a str, usize, Hashing>,
     merged: &mut WeightedStacks,
     line: &'a [u8],
     number: u64,
@@ -94,7 +94,7 @@ struct Merging<'a> {
     alloc: Global,
     names: KnownNames<'a>,
     /// The place of each stack text's row.
-    known: HashMap<&'a str, usize>,
+    known: HashMap<&'a str, usize, Hashing>,
     merged: WeightedStacks,
 }
 
@@ -128,10 +128,29 @@ pub fn merge_folded(alloc: Global, text: &[u8]) -> Result<WeightedStacks, Folded
         → MatchResult result (λ merged. aggregate_of merged ≡ aggregate_of rows)
         (λ fault. fault ≡ FoldedFault.NoMemory) }
 {
+    merge_folded_with(alloc, Hashing::fixed(), text)
+}
+
+/// As [`merge_folded`], and `hashing` says how names and stack texts are hashed.
+///
+/// # Errors
+///
+/// Those of [`read_folded`](crate::read_folded).
+pub fn merge_folded_with(
+    alloc: Global,
+    hashing: Hashing,
+    text: &[u8],
+) -> Result<WeightedStacks, FoldedFault>
+    ensures read { MatchResult result (λ merged. IsMergedText text.now merged)
+        (λ fault. IsFirstFault text.now fault) }
+    ensures accepted { (rows : List WeightedStack) → IsFoldedText text.now rows
+        → MatchResult result (λ merged. aggregate_of merged ≡ aggregate_of rows)
+        (λ fault. fault ≡ FoldedFault.NoMemory) }
+{
     let mut merging = Merging {
         alloc,
-        names: KnownNames::new(alloc),
-        known: HashMap::new(alloc),
+        names: KnownNames::new(alloc, hashing),
+        known: HashMap::with_hasher(alloc, hashing),
         merged: WeightedStacks::new(alloc),
     };
     take_lines(text, &mut merging)?;

@@ -12,7 +12,7 @@ ghost use Rattle.folded_text.specs.TextSums.{AreTotalsOfText};
 use crate::folded::{FoldedFault, fitting, fitting_depth, stack_and_weight};
 use crate::stack_frames::Frames;
 use crate::taking::{LineTaker, take_lines};
-use profile_rows::{CountedRows, FrameTotals};
+use profile_rows::{CountedRows, FrameTotals, Hashing};
 use std::alloc::{AllocError, Global};
 
 /// The frames of a stack text, root first, in the place of others.
@@ -81,8 +81,25 @@ pub fn folded_totals(alloc: Global, text: &[u8]) -> Result<FrameTotals, FoldedFa
     ensures accepted { (rows : List WeightedStack) → IsFoldedText text.now rows
         → MatchResult result (AreTotalsOf rows) (λ fault. fault ≡ FoldedFault.NoMemory) }
 {
+    folded_totals_with(alloc, Hashing::fixed(), text)
+}
+
+/// As [`folded_totals`], and `hashing` says how names are hashed.
+///
+/// # Errors
+///
+/// Those of [`read_folded`](crate::read_folded).
+pub fn folded_totals_with(
+    alloc: Global,
+    hashing: Hashing,
+    text: &[u8],
+) -> Result<FrameTotals, FoldedFault>
+    ensures counted { MatchResult result (AreTotalsOfText text.now) (IsWorkFault text.now) }
+    ensures accepted { (rows : List WeightedStack) → IsFoldedText text.now rows
+        → MatchResult result (AreTotalsOf rows) (λ fault. fault ≡ FoldedFault.NoMemory) }
+{
     let mut counting = Counting {
-        rows: CountedRows::new(alloc),
+        rows: CountedRows::new(alloc, hashing),
         frames: Vec::new(alloc),
     };
     take_lines(text, &mut counting)?;

@@ -252,8 +252,8 @@ fn read_top(alloc: Global, bytes: &[u8]) -> Result<String, Fail> {
     top_of(alloc, &profile)
 }
 
-// Two functions of two strings of one text, and a location without lines at 7. Samples at each alone, of 1, 2 and 4, and
-// one at all three, of 8.
+// Two functions of two strings of one text, and a location without lines at 7. Samples at each alone, of 1, 2 and 4,
+// and one at all three, of 8.
 const ONE_NAME_OF_THREE: &[u8] = &[
     0x0a, 0x04, 0x08, 0x01, 0x10, 0x02, 0x12, 0x06, 0x0a, 0x01, 0x01, 0x12, 0x01, 0x01, 0x12, 0x06,
     0x0a, 0x01, 0x02, 0x12, 0x01, 0x02, 0x12, 0x06, 0x0a, 0x01, 0x03, 0x12, 0x01, 0x04, 0x12, 0x08,

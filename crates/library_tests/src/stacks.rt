@@ -4,11 +4,12 @@
 use crate::helpers::{pairs_of, pairs_text, rows_of, stack_of, text_of, weights_of};
 use profile_rows::CountedRows;
 use stack_text::{
-    Batch, FoldedFault, FrameTotals, MAX_DEPTH, MAX_TOTAL, Name, NameFault, NoMemory, PushFault,
-    Stack, WeightedStacks, Weights, Width, aggregate, folded_totals, kept_totals, merge_folded,
-    read_folded, write_stacks,
+    Batch, FoldedFault, FrameTotals, Hashing, MAX_DEPTH, MAX_TOTAL, Name, NameFault, NoMemory,
+    PushFault, Stack, WeightedStacks, Weights, Width, aggregate, folded_totals, kept_totals,
+    merge_folded, merge_folded_with, read_folded, write_stacks,
 };
 use std::alloc::Global;
+use std::hash::BuildHasher;
 use std::test::Fail;
 
 #[test]
@@ -200,7 +201,7 @@ fn names_of_folded_text_are_counted_once_a_row(rt: HostRuntime) -> Result<(), Fa
 #[test]
 fn a_row_is_counted_by_its_frames(rt: HostRuntime) -> Result<(), Fail> {
     let name = Name::make(rt.alloc(), "a")?;
-    let mut rows = CountedRows::new(rt.alloc());
+    let mut rows = CountedRows::new(rt.alloc(), Hashing::fixed());
     rows.count(&[name.text(), name.text()], 3)?;
     let totals = rows.totals(rt.alloc())?;
     assert_eq!(rt; totals.total, 3);
@@ -358,5 +359,28 @@ fn the_width_comes_before_the_limit_of_each_value(rt: HostRuntime) -> Result<(),
     for (values, want) in table {
         assert!(rt; refusal(rt.alloc(), values)? == want, "{values:?}");
     }
+    Ok(())
+}
+
+#[test]
+fn hashes_begin_where_they_should(rt: HostRuntime) -> Result<(), Fail> {
+    let keyed = Hashing::of_key(7).hash_one("main");
+    assert!(rt; keyed == Hashing::of_key(7).hash_one("main"));
+    assert!(rt; keyed != Hashing::of_key(8).hash_one("main"));
+    assert!(rt; keyed != Hashing::fixed().hash_one("main"));
+    // Two random starts are equal once in 2^64 runs.
+    let (first, second) = (Hashing::random(&rt)?, Hashing::random(&rt)?);
+    assert!(rt; first.hash_one("main") != second.hash_one("main"));
+    Ok(())
+}
+
+#[test]
+fn rows_are_the_same_wherever_hashes_begin(rt: HostRuntime) -> Result<(), Fail> {
+    let hashing = Hashing::random(&rt)?;
+    let merged = merge_folded_with(rt.alloc(), hashing, b"a;b 1\nc 2\na;b 3\n")?;
+    assert_eq!(rt;
+        write_stacks(rt.alloc(), &merged)?.as_slice(),
+        b"a;b 4\nc 2\n".as_slice()
+    );
     Ok(())
 }

@@ -16,9 +16,9 @@ use call_tree::CallTree;
 use folded_text::write_stacks;
 use live_store::Blank;
 use op_book::laws::additions_count_since_the_last_reset;
-use op_book::{SessionLog, audit};
+use op_book::{SessionLog, audit_with};
 use profile_rows::laws::aggregate_is_by_weights;
-use profile_rows::{Batch, NoMemory};
+use profile_rows::{Batch, Hashing, NoMemory};
 use std::alloc::Global;
 use std::marker::Brand;
 use std::sync::{Arc, Wait};
@@ -26,6 +26,7 @@ use std::thread::Threads;
 
 /// Stores the rows of a batch by several workers, audits what these were told, and returns the reports out of the store
 /// with the number of audited operations. `progress` hears of each row that is in; those of a warm start aren't told.
+/// `hashing` says how the store and the audit hash names.
 ///
 /// # Errors
 ///
@@ -33,6 +34,7 @@ use std::thread::Threads;
 pub fn live_text<P: Progress, R: Threads + Wait + Sync>(
     rt: &R,
     alloc: Global,
+    hashing: Hashing,
     progress: &P,
     batch: &Arc<Batch>,
     options: LiveOptions,
@@ -41,10 +43,10 @@ pub fn live_text<P: Progress, R: Threads + Wait + Sync>(
 {
     let lists = deal(alloc, batch, options.sessions())?;
     let warm = warm_batch(batch, options)?;
-    let blank = blank_for(alloc, batch, options)?;
+    let blank = blank_for(alloc, hashing, batch, options)?;
     let gate = gate_for(progress, batch, options);
     let Stored { journal, logs } = store::<Brand, _, _>(rt, alloc, blank, warm, lists, &gate)?;
-    let run = audit(alloc, &journal, &logs)?;
+    let run = audit_with(alloc, hashing, &journal, &logs)?;
     check_warm(options, &logs)?;
     additions_count_since_the_last_reset();
     aggregate_is_by_weights();
@@ -91,7 +93,12 @@ fn check_warm(options: LiveOptions, logs: &[SessionLog]) -> Result<(), LiveFault
 }
 
 /// A store for the rows of a batch and for a warm start.
-fn blank_for(alloc: Global, batch: &Batch, options: LiveOptions) -> Result<Blank, LiveFault>
+fn blank_for(
+    alloc: Global,
+    hashing: Hashing,
+    batch: &Batch,
+    options: LiveOptions,
+) -> Result<Blank, LiveFault>
     ensures width { IfOk result (λ blank. blank.width ≡ batch.now.width) }
 {
     let (sessions, more) = if options.warm {
@@ -101,7 +108,7 @@ fn blank_for(alloc: Global, batch: &Batch, options: LiveOptions) -> Result<Blank
     };
     let changes = (batch.len() as u64).saturating_add(u64::from(options.sessions) + more);
     let limit = u32::try_from(changes).unwrap_or(u32::MAX);
-    Ok(Blank::make(alloc, limit, sessions, batch.width())?)
+    Ok(Blank::make_with(alloc, hashing, limit, sessions, batch.width())?)
 }
 
 /// Adds how many operations were audited.

@@ -5,7 +5,7 @@ ghost use Rattle.live_store.specs.Stores.{IsMakeFault};
 
 use crate::fault::MakeFault;
 use op_book::Book;
-use profile_rows::Width;
+use profile_rows::{Hashing, Width};
 use std::alloc::Global;
 use std::marker::Model;
 
@@ -43,10 +43,30 @@ impl Blank {
         ensures sessions { MatchResult result (λ _. (0 < sessions) × (sessions ≤ MAX_SESSIONS))
             (λ fault. IsMakeFault sessions fault) }
     {
+        Blank::make_with(alloc, Hashing::fixed(), limit, sessions, width)
+    }
+
+    /// As [`make`](Blank::make), and `hashing` says how the store hashes names.
+    ///
+    /// # Errors
+    ///
+    /// Those of [`make`](Blank::make).
+    pub fn make_with(
+        alloc: Global,
+        hashing: Hashing,
+        limit: u32,
+        sessions: u32,
+        width: Width,
+    ) -> Result<Blank, MakeFault>
+        ensures made { IfOk result
+            (λ blank. blank ≡ record { limit = limit; sessions = sessions; width = width }) }
+        ensures sessions { MatchResult result (λ _. (0 < sessions) × (sessions ≤ MAX_SESSIONS))
+            (λ fault. IsMakeFault sessions fault) }
+    {
         if sessions == 0 || sessions > MAX_SESSIONS {
             return Err(MakeFault::Sessions);
         }
-        match Book::new(alloc, limit, sessions, width) {
+        match Book::with_hashing(alloc, hashing, limit, sessions, width) {
             Ok(book) => Ok(Blank {
                 book,
                 sessions,

@@ -82,7 +82,8 @@ impl Log {
     /// Keeps the receipt of a change, and counts it.
     fn keep_change(&mut self, receipt: Receipt) -> Placed
         requires room { length self.old.receipts.items < self.old.receipts.cap }
-        requires told { (op : PlainOp) × (place : ℕ) × (receipt ≡ change_told op place) × (is_change op ≡ true) }
+        requires told { (op : PlainOp) × (place : ℕ)
+            × (receipt ≡ change_told op place) × (is_change op ≡ true) }
         ensures log { self.new.receipts.items ≡ self.old.receipts.items ++ receipt ∷ [] }
         ensures number { self.new.number ≡ self.old.number }
         ensures placed { receipt.reply ≡ placed result.place }
@@ -217,8 +218,8 @@ impl<N: StoreName> Desk<N> {
         ensures untold { OnErr result (log.new.receipts.items ≡ log.old.receipts.items) }
         ensures number { log.new.number ≡ log.old.number }
         ensures given { self.new.given ≡ self.old.given }
-        ensures first_fault { IfErr result
-            (λ fault. IsFirstBookFault self.old.book log.old.number (changes_told log.old.receipts.items) reset fault) }
+        ensures first_fault { IfErr result (λ fault. IsFirstBookFault self.old.book log.old.number
+            (changes_told log.old.receipts.items) reset fault) }
         ensures cause { IfErr result (ShowsCause N.limit N.width (changes_told log.old.receipts.items) reset) }
         ensures light { IfErr result (λ fault. (value held : ℕ) → fault ≢ BookFault.Heavy value held) }
     {

@@ -13,8 +13,7 @@ use std::marker::Brand;
 use std::sync::{Mutex, Wait};
 
 /// What a store's contracts speak of: how many operations it takes, how many sessions it has, and how many values a row
-/// has. A type that stands
-/// for a store implements it; it has no calls.
+/// has. A type that stands for a store implements it; it has no calls.
 pub trait StoreName: Send + Sync {
     ghost limit: { ℕ };
 

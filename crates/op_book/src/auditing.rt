@@ -14,6 +14,7 @@ use crate::receipts::{
 };
 use crate::replay::{first_missing, first_wrong};
 use crate::run::{Run, sort_for_run};
+use profile_rows::Hashing;
 use std::alloc::Global;
 
 /// Whether the logs of sessions match a journal, and if they do the run of them: one order of all their operations in
@@ -35,11 +36,42 @@ pub fn audit(alloc: Global, journal: &Journal, logs: &[SessionLog]) -> Result<Ru
     ensures own_order { IfOk result
         (λ run. AllPairs (λ earlier later. earlier.session ≡ later.session → earlier.index < later.index) run) }
 {
-    run_of(alloc, journal, logs)
+    audit_with(alloc, Hashing::fixed(), journal, logs)
+}
+
+/// As [`audit`], and `hashing` says how the tree that follows the journal hashes names.
+///
+/// # Errors
+///
+/// Those of [`audit`].
+pub fn audit_with(
+    alloc: Global,
+    hashing: Hashing,
+    journal: &Journal,
+    logs: &[SessionLog],
+) -> Result<Run, AuditFault>
+    ensures first { MatchResult result
+        (λ run. LogsMatch journal.now logs.now × IsRunOf logs.now run)
+        (λ fault. IsFirstAuditFault journal.now logs.now fault) }
+    ensures accepted { LogsMatch journal.now logs.now
+        → MatchResult result (λ _. Unit {0}) (λ fault. fault ≡ AuditFault.NoMemory) }
+    ensures legal { IfOk result (λ run. IsLegal (λ step. step.op) (λ step. step.reply) run) }
+    ensures changes { IfOk result
+        (λ run. filter is_change (map (λ step. step.op) run) ≡ operations_of journal.now.entries) }
+    ensures each_receipt_once { IfOk result (λ run. IsPermutation (steps_in logs.now) run) }
+    ensures own_order { IfOk result
+        (λ run. AllPairs (λ earlier later. earlier.session ≡ later.session → earlier.index < later.index) run) }
+{
+    run_of(alloc, hashing, journal, logs)
 }
 
 /// The run of logs, where they match.
-fn run_of(alloc: Global, journal: &Journal, logs: &[SessionLog]) -> Result<Run, AuditFault>
+fn run_of(
+    alloc: Global,
+    hashing: Hashing,
+    journal: &Journal,
+    logs: &[SessionLog],
+) -> Result<Run, AuditFault>
     ensures first { MatchResult result
         (λ run. LogsMatch journal.now logs.now × IsRunOf logs.now run)
         (λ fault. IsFirstAuditFault journal.now logs.now fault) }
@@ -53,7 +85,7 @@ fn run_of(alloc: Global, journal: &Journal, logs: &[SessionLog]) -> Result<Run, 
     if let Some(entry) = first_missing(entries.len() as u64, &receipts) {
         return Err(AuditFault::Missing { entry });
     }
-    if let Some(wrong) = first_wrong(alloc, journal.width(), &receipts)? {
+    if let Some(wrong) = first_wrong(alloc, hashing, journal.width(), &receipts)? {
         return Err(AuditFault::WrongAnswer {
             session: wrong.session,
             index: wrong.index,

@@ -17,7 +17,7 @@ use crate::operation::{Op, Reply};
 use call_tree::{CallTree, Grower, Plan};
 use flame_report::NoMemory;
 use profile_rows::laws::{aggregate_of_more_rows, sums_are_those_of_the_aggregate};
-use profile_rows::{Batch, Weights, Width, first_heavy};
+use profile_rows::{Batch, Hashing, Weights, Width, first_heavy};
 use std::alloc::{AllocError, Global};
 use std::marker::Model;
 use std::snapshot::Snapshot;
@@ -145,8 +145,31 @@ impl Book {
         ensures replay { IfOk result (λ book. IsReplay book.entries book.tree) }
         ensures orderly { IfOk result IsOrderly }
     {
+        Book::with_hashing(alloc, Hashing::fixed(), limit, sessions, width)
+    }
+
+    /// As [`new`](Book::new), and `hashing` says how names are hashed.
+    ///
+    /// # Errors
+    ///
+    /// `NoMemory`.
+    pub fn with_hashing(
+        alloc: Global,
+        hashing: Hashing,
+        limit: u32,
+        sessions: u32,
+        width: Width,
+    ) -> Result<Book, NoMemory>
+        requires some { 0 < sessions }
+        requires few { sessions ≤ 64 }
+        ensures entries { IfOk result (λ book. book.entries ≡ []) }
+        ensures limits { IfOk result (λ book. (book.limit ≡ limit) × (book.sessions ≡ sessions)) }
+        ensures width { IfOk result (λ book. book.width ≡ width) }
+        ensures replay { IfOk result (λ book. IsReplay book.entries book.tree) }
+        ensures orderly { IfOk result IsOrderly }
+    {
         let ledger = Ledger::new(alloc, limit, sessions, width)?;
-        let grower = Grower::new(alloc, width)?;
+        let grower = Grower::with_hashing(alloc, hashing, width)?;
         Ok(Book { ledger, grower })
     }
 

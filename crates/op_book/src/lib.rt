@@ -14,7 +14,7 @@ mod receipts;
 mod replay;
 mod run;
 
-pub use auditing::audit;
+pub use auditing::{audit, audit_with};
 pub use book::{Book, Ready};
 pub use entry::{Entry, Receipt, SessionLog};
 pub use fault::{AuditFault, BookFault, Refused};

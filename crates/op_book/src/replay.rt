@@ -12,8 +12,8 @@ use crate::operation::{Op, Reply};
 use crate::receipts::Logged;
 use call_tree::{CallTree, Grower};
 use flame_report::{Answer, NoMemory, report};
-use profile_rows::Width;
 use profile_rows::laws::{aggregate_of_more_rows, sums_are_those_of_the_aggregate};
+use profile_rows::{Hashing, Width};
 use std::alloc::Global;
 
 /// A report with a wrong answer: its number among all receipts, and where it stands.
@@ -49,6 +49,7 @@ pub(crate) fn first_missing(count: u64, ordered: &[Logged]) -> Option<u64>
 /// once, in order, and each report answered in between.
 pub(crate) fn first_wrong(
     alloc: Global,
+    hashing: Hashing,
     width: Width,
     ordered: &[Logged],
 ) -> Result<Option<Wrong>, NoMemory>
@@ -56,7 +57,7 @@ pub(crate) fn first_wrong(
     requires light { AreLight (ops_in ordered.now) }
     ensures { IfOk result (λ lowest. IsLowestOf ordered.now (length ordered.now) lowest) }
 {
-    let mut grower = Grower::new(alloc, width)?;
+    let mut grower = Grower::with_hashing(alloc, hashing, width)?;
     let mut lowest = None;
     for one in ordered {
         let receipt = one.receipt;

@@ -1,5 +1,6 @@
 pub mod Aggregate
 pub mod Equality
+pub mod Hashing
 pub mod Layout
 pub mod LentStacks
 pub mod Names

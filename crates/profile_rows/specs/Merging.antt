@@ -5,9 +5,8 @@ use Rattle.std.specs.HashMap.{HashMap}
 use Rattle.std.specs.Ordering.{is_lt}
 use Rattle.std.specs.declared.cmp.Ordering.{Ordering}
 use Rattle.std.specs.Str.{bytes_eq}
-use Rattle.std.specs.declared.hash.FoldHasher.{FoldHasher}
-use Rattle.std.specs.declared.hash.BuildHasherDefault.{BuildHasherDefault}
 use denote.Ref.{Bor}
+use Rattle.profile_rows.specs.declared.hashing.Hashing.{Hashing}
 use Rattle.profile_rows.specs.declared.weighted_stacks.WeightedStack.{WeightedStack}
 use Rattle.profile_rows.specs.Rows.{is_same_stack, stack_cmp, total_of, weight_if, weight_of}
 
@@ -30,7 +29,7 @@ AreUpTo stack rows = All (λ (row : WeightedStack). is_lt (stack_cmp stack row.s
 
 -- rows by what spells their stacks
 abbrev pub RowsBySpelling : Type 0
-RowsBySpelling = HashMap (Bor (List ℕ)) ℕ (BuildHasherDefault FoldHasher)
+RowsBySpelling = HashMap (Bor (List ℕ)) ℕ Hashing
 
 abbrev pub row_spelled : RowsBySpelling → List ℕ → Option ℕ
 row_spelled known spelling = hash.get_by (λ (key : Bor (List ℕ)). bytes_eq spelling key.now) known

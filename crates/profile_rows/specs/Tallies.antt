@@ -2,16 +2,15 @@
 use Rattle.std.specs.Prelude.{ℕ, ◌≡◌, ◌<◌, ◌≤◌, ◌+◌, ◌==◌, List, unwrap_or, if◌then◌else◌}
 use Rattle.std.specs.HashMap as hash
 use Rattle.std.specs.HashMap.{HashMap}
-use Rattle.std.specs.declared.hash.FoldHasher.{FoldHasher}
-use Rattle.std.specs.declared.hash.BuildHasherDefault.{BuildHasherDefault}
 use denote.Ref.{Bor}
+use Rattle.profile_rows.specs.declared.hashing.Hashing.{Hashing}
 use Rattle.profile_rows.specs.declared.weighted_stacks.WeightedStack.{WeightedStack}
 use Rattle.profile_rows.specs.Names.{IsName, is_same_name}
 use Rattle.profile_rows.specs.Rows.{has_name, ends_with_name, weight_if, total_of, flat_weight_of, cumulative_weight_of}
 use Rattle.profile_rows.specs.declared.tallies.Tally.{Tally}
 
 abbrev pub Tallies : Type 0
-Tallies = HashMap (Bor (List ℕ)) Tally (BuildHasherDefault FoldHasher)
+Tallies = HashMap (Bor (List ℕ)) Tally Hashing
 
 -- the tally of a name, which is 0 where no row so far has it
 abbrev pub tally_at : Tallies → List ℕ → Tally

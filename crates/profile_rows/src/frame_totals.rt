@@ -1,6 +1,7 @@
 //! What the names of rows weigh, without the rows.
 
 ghost use Rattle.std.specs.Prelude.{ℕ, ◌≡◌, ◌+◌, ◌^◌, ◌<◌, ◌++◌, ◌∷◌, [], All, List, IfOk, OnOk, map};
+ghost use Rattle.std.specs.HashMap.{hasher_of};
 ghost use Rattle.std.specs.Option.{option_copied};
 ghost use Rattle.profile_rows.specs.declared.weighted_stacks.WeightedStack.{WeightedStack};
 ghost use Rattle.profile_rows.specs.Names.{IsName};
@@ -8,6 +9,7 @@ ghost use Rattle.profile_rows.specs.Rows.{kept_rows};
 ghost use Rattle.profile_rows.specs.Tallies.{AreTalliesOf};
 ghost use Rattle.profile_rows.specs.TopList.{AreTotalsOf};
 
+use crate::hashing::Hashing;
 use crate::keeping::keeps;
 use crate::name::Name;
 use crate::tallies::{Tally, count_stack, weighted};
@@ -39,18 +41,19 @@ pub struct FrameTotals {
 #[derive(Drop)]
 pub struct CountedRows<'a> {
     /// What each name weighs, by its text.
-    pub tallies: HashMap<&'a str, Tally>,
+    pub tallies: HashMap<&'a str, Tally, Hashing>,
     /// What the rows weigh together.
     pub total: u64,
 }
 
 impl<'a> CountedRows<'a> {
-    /// No row yet. Takes no memory.
-    pub fn new(alloc: Global) -> CountedRows<'a>
-        ensures { AreTalliesOf [] result.total result.tallies }
+    /// No row yet, and `hashing` says how names will be hashed. Takes no memory.
+    pub fn new(alloc: Global, hashing: Hashing) -> CountedRows<'a>
+        ensures counted { AreTalliesOf [] result.total result.tallies }
+        ensures hashing { hasher_of result.tallies ≡ hashing }
     {
         CountedRows {
-            tallies: HashMap::new(alloc),
+            tallies: HashMap::with_hasher(alloc, hashing),
             total: 0,
         }
     }
@@ -135,7 +138,25 @@ pub fn kept_totals(
     ensures { IfOk result
         (AreTotalsOf (kept_rows (option_copied focus.entry) (option_copied ignored.entry) batch.now)) }
 {
-    let mut rows = CountedRows::new(alloc);
+    kept_totals_with(alloc, Hashing::fixed(), batch, focus, ignored)
+}
+
+/// As [`kept_totals`], and `hashing` says how names are hashed.
+///
+/// # Errors
+///
+/// `NoMemory`.
+pub fn kept_totals_with(
+    alloc: Global,
+    hashing: Hashing,
+    batch: &WeightedStacks,
+    focus: Option<&Name>,
+    ignored: Option<&Name>,
+) -> Result<FrameTotals, NoMemory>
+    ensures { IfOk result
+        (AreTotalsOf (kept_rows (option_copied focus.entry) (option_copied ignored.entry) batch.now)) }
+{
+    let mut rows = CountedRows::new(alloc, hashing);
     let mut frames = Vec::new(alloc);
     for row in batch.rows() {
         if keeps(row, focus, ignored) {

@@ -6,6 +6,7 @@
 mod aggregating;
 mod batch;
 mod frame_totals;
+mod hashing;
 mod keeping;
 pub mod laws;
 mod name;
@@ -17,7 +18,8 @@ mod weighted_stacks;
 
 pub use aggregating::aggregate;
 pub use batch::{Batch, Row};
-pub use frame_totals::{CountedRows, FrameTotal, FrameTotals, kept_totals};
+pub use frame_totals::{CountedRows, FrameTotal, FrameTotals, kept_totals, kept_totals_with};
+pub use hashing::Hashing;
 pub use keeping::keeps;
 pub use name::{Name, NameFault};
 pub use no_memory::NoMemory;

@@ -7,6 +7,7 @@ ghost use Rattle.profile_rows.specs.Tallies.{AreTalliesOf, callers_counted, fram
 ghost use Rattle.profile_rows.specs.TopList.{AreSumsOf};
 
 use crate::frame_totals::FrameTotal;
+use crate::hashing::Hashing;
 use crate::name::Name;
 use no_memory::NoMemory;
 use std::alloc::{AllocError, Global};
@@ -23,7 +24,7 @@ pub struct Tally {
 
 /// Counts a frame of a row: the row's weight where it is the row's first of its name, and `own` as the leaf.
 fn count_frame<'a>(
-    tallies: &mut HashMap<&'a str, Tally>,
+    tallies: &mut HashMap<&'a str, Tally, Hashing>,
     name: &'a str,
     row: u64,
     weight: u64,
@@ -59,7 +60,7 @@ fn count_frame<'a>(
 
 /// Counts the callers in a row, each name once.
 fn count_callers<'a>(
-    tallies: &mut HashMap<&'a str, Tally>,
+    tallies: &mut HashMap<&'a str, Tally, Hashing>,
     callers: &[&'a str],
     row: u64,
     weight: u64,
@@ -80,7 +81,7 @@ fn count_callers<'a>(
 
 /// Counts a row: each of its names once, and its leaf.
 fn count_row<'a>(
-    tallies: &mut HashMap<&'a str, Tally>,
+    tallies: &mut HashMap<&'a str, Tally, Hashing>,
     frames: &[&'a str],
     row: u64,
     weight: u64,
@@ -104,7 +105,7 @@ fn count_row<'a>(
 /// Counts a row of these frames to rows of the weight `held`. Its number is the weight up to it, which no other row of
 /// weight above 0 has; a row without weight adds nothing to any name.
 pub(crate) fn count_stack<'a>(
-    tallies: &mut HashMap<&'a str, Tally>,
+    tallies: &mut HashMap<&'a str, Tally, Hashing>,
     frames: &[&'a str],
     weight: u64,
     held: u64,
@@ -126,7 +127,7 @@ pub(crate) fn count_stack<'a>(
 /// The names of cumulative weight above 0 with their weights, in any order.
 pub(crate) fn weighted(
     alloc: Global,
-    tallies: &HashMap<&str, Tally>,
+    tallies: &HashMap<&str, Tally, Hashing>,
 ) -> Result<Vec<FrameTotal>, NoMemory>
     requires { (rows : List WeightedStack) × (held : ℕ) × AreTalliesOf rows held tallies.now }
     ensures { (rows : List WeightedStack) (held : ℕ) → AreTalliesOf rows held tallies.now

@@ -5,8 +5,7 @@ use Rattle.std.specs.List.{list_any}
 use Rattle.std.specs.HashMap as hash
 use Rattle.std.specs.HashMap.{HashMap}
 use Rattle.std.specs.Str.{bytes_eq}
-use Rattle.std.specs.declared.hash.FoldHasher.{FoldHasher}
-use Rattle.std.specs.declared.hash.BuildHasherDefault.{BuildHasherDefault}
+use Rattle.profile_rows.specs.declared.hashing.Hashing.{Hashing}
 use Rattle.std.proofs.lemmas.Bool.{false≢true}
 use Rattle.std.proofs.lemmas.List.{take_more, length-map, map-append}
 use Rattle.std.proofs.lemmas.Map.Text.{hash_map_updates_str}
@@ -85,7 +84,7 @@ other_place texts text q apart =
     ] refl
 
 -- a text that is new, put into the map
-pub AreTextPlaces-push : (texts : List (List ℕ)) (known after : HashMap (Bor (List ℕ)) ℕ (BuildHasherDefault FoldHasher)) (text : List ℕ) (at : ℕ) → at ≡ length texts → list_any (bytes_eq text) texts ≡ false
+pub AreTextPlaces-push : (texts : List (List ℕ)) (known after : HashMap (Bor (List ℕ)) ℕ Hashing) (text : List ℕ) (at : ℕ) → at ≡ length texts → list_any (bytes_eq text) texts ≡ false
     → hash.UpdatesBy (λ x y. bytes_eq x.now y.now) (λ k. bytes_eq text k.now) known after (Some at) → AreTextPlaces texts known → AreTextPlaces (texts ++ text ∷ []) after
 AreTextPlaces-push texts known after text at end none updates places = λ q.
     hash_map_updates_str text known after (Some at) updates q
@@ -94,11 +93,11 @@ AreTextPlaces-push texts known after text at end none updates places = λ q.
       | false ↦ λ e. places q ∙ sym (other_place texts text q (turned text q e))
     ] refl
 
-pub is_there : (texts : List (List ℕ)) (known : HashMap (Bor (List ℕ)) ℕ (BuildHasherDefault FoldHasher)) (text : List ℕ) → AreTextPlaces texts known
+pub is_there : (texts : List (List ℕ)) (known : HashMap (Bor (List ℕ)) ℕ Hashing) (text : List ℕ) → AreTextPlaces texts known
     → is_some (hash.get_by (λ (key : Bor (List ℕ)). bytes_eq text key.now) known) ≡ list_any (bytes_eq text) texts
 is_there texts known text places = ap is_some (places text) ∙ elim (list_any (bytes_eq text) texts) as (λ b. is_some (cond b (Some (place_in texts text)) None) ≡ b) [ true ↦ refl | false ↦ refl ]
 
-pub place_answered : (texts : List (List ℕ)) (known : HashMap (Bor (List ℕ)) ℕ (BuildHasherDefault FoldHasher)) (text : List ℕ) (missing : ℕ) → missing ≡ length texts → AreTextPlaces texts known
+pub place_answered : (texts : List (List ℕ)) (known : HashMap (Bor (List ℕ)) ℕ Hashing) (text : List ℕ) (missing : ℕ) → missing ≡ length texts → AreTextPlaces texts known
     → unwrap_or (hash.get_by (λ (key : Bor (List ℕ)). bytes_eq text key.now) known) missing ≡ place_in texts text
 place_answered texts known text missing is places =
     ap (λ o. unwrap_or o missing) (places text)

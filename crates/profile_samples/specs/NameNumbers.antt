@@ -40,10 +40,6 @@ number_of draft name = place_in (frame_names draft) name
 abbrev pub string_numbers : Draft → List (Option ℕ)
 string_numbers draft = map (option_map (number_of draft)) (string_names draft)
 
--- the number of the name of each location's address
-abbrev pub address_numbers : Draft → List ℕ
-address_numbers draft = map (number_of draft) (address_names draft)
-
 -- the number at an index of strings; where there is no string it has none
 abbrev pub number_at : List (Option ℕ) → ℤ → Option ℕ
 number_at numbers (pos index) = slice_index_or numbers index None
@@ -62,7 +58,8 @@ number_by numbers function = first_number (number_at numbers function.name) (num
 pub record AreFunctionNumbers (draft : Draft) (ids : List ℕ) (numbers : List (Option ℕ)) : Type 0 where
   pub ids_are : ids ≡ function_ids draft
   pub single : has_double ids ≡ false
-  pub numbers_are : numbers ≡ map (λ function. option_map (number_of draft) (function_name draft.strings function)) draft.functions
+  pub numbers_are : numbers
+      ≡ map (λ function. option_map (number_of draft) (function_name draft.strings function)) draft.functions
 
 -- ---- the frames of locations
 
@@ -105,7 +102,8 @@ abbrev pub numbers_of_id : Draft → ℕ → Option FrameNumbers
 numbers_of_id draft id = option_map (location_numbers draft) (item_with (λ location. location.id) id draft.locations)
 
 -- the frames of the profile's locations by numbers, and what they number
-pub record AreFrameNumbers (draft : Draft) (ids : List ℕ) (frames : List FrameNumbers) (names : List (List ℕ)) : Type 0 where
+pub record AreFrameNumbers (draft : Draft) (ids : List ℕ) (frames : List FrameNumbers)
+    (names : List (List ℕ)) : Type 0 where
   pub ids_are : ids ≡ location_ids draft
   pub single : has_double ids ≡ false
   pub frames_are : frames ≡ map (location_numbers draft) draft.locations

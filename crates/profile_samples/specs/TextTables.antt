@@ -4,9 +4,8 @@ use Rattle.std.specs.List.{list_any}
 use Rattle.std.specs.HashMap as hash
 use Rattle.std.specs.HashMap.{HashMap}
 use Rattle.std.specs.Str.{bytes_eq}
-use Rattle.std.specs.declared.hash.FoldHasher.{FoldHasher}
-use Rattle.std.specs.declared.hash.BuildHasherDefault.{BuildHasherDefault}
 use denote.Ref.{Bor}
+use Rattle.profile_rows.specs.declared.hashing.Hashing.{Hashing}
 
 -- the first place of a text; where it is missing, how many texts there are
 abbrev pub place_in : List (List ℕ) → List ℕ → ℕ
@@ -23,7 +22,7 @@ with_texts texts [] = texts
 with_texts texts (text ∷ more) = with_texts (with_text texts text) more
 
 -- the map has the place of each text, and nothing else
-abbrev pub AreTextPlaces : List (List ℕ) → HashMap (Bor (List ℕ)) ℕ (BuildHasherDefault FoldHasher) → Type 0
+abbrev pub AreTextPlaces : List (List ℕ) → HashMap (Bor (List ℕ)) ℕ Hashing → Type 0
 AreTextPlaces texts places = (text : List ℕ)
     → hash.get_by (λ (key : Bor (List ℕ)). bytes_eq text key.now) places
     ≡ (if list_any (bytes_eq text) texts then Some (place_in texts text) else None)

@@ -16,7 +16,7 @@ use crate::name_numbers::{NumberedFrames, ProfileNames};
 use crate::sampling::{BatchFault, ValueChoice, chosen_type, weight_of};
 use no_memory::NoMemory;
 use pprof_profile::{Profile, Sample};
-use profile_rows::{FrameTotal, FrameTotals, MAX_DEPTH, MAX_TOTAL, Name, Tally};
+use profile_rows::{FrameTotal, FrameTotals, Hashing, MAX_DEPTH, MAX_TOTAL, Name, Tally};
 use std::alloc::{AllocError, Global};
 
 /// Counts a frame of the name of this number in a row, where it is the row's first of its name.
@@ -270,10 +270,29 @@ pub fn sample_totals(
     ensures accepted { (rows : List WeightedStack) → AreStacksOf profile.now choice.entry rows
         → MatchResult result (AreTotalsOf rows) (λ fault. fault ≡ BatchFault.NoMemory) }
 {
+    sample_totals_with(alloc, Hashing::fixed(), profile, choice)
+}
+
+/// As [`sample_totals`], and `hashing` says how names are hashed.
+///
+/// # Errors
+///
+/// Those of [`merge_samples`](crate::merge_samples).
+pub fn sample_totals_with(
+    alloc: Global,
+    hashing: Hashing,
+    profile: &Profile,
+    choice: ValueChoice,
+) -> Result<FrameTotals, BatchFault>
+    ensures read { MatchResult result (AreTotalsOfSamples profile.now choice.entry)
+        (λ fault. IsFirstStacksFault profile.now choice.entry fault) }
+    ensures accepted { (rows : List WeightedStack) → AreStacksOf profile.now choice.entry rows
+        → MatchResult result (AreTotalsOf rows) (λ fault. fault ≡ BatchFault.NoMemory) }
+{
     let Some(chosen) = chosen_type(profile.draft(), choice) else {
         return Err(BatchFault::NoValue);
     };
     let names = ProfileNames::new(alloc, profile.draft())?;
-    let frames = NumberedFrames::new(alloc, profile, &names)?;
+    let frames = NumberedFrames::new(alloc, hashing, profile, &names)?;
     totals_by(alloc, profile, &frames, chosen)
 }

@@ -15,7 +15,7 @@ use no_memory::NoMemory;
 use pprof_profile::{
     Draft, Function, Items, Line, Location, Profile, Sample, Text, ValueType, check,
 };
-use profile_rows::{Batch, Name, Stack, WeightedStack, Weights};
+use profile_rows::{Batch, Hashing, Name, Stack, WeightedStack, Weights};
 use std::alloc::Global;
 
 /// What a value counts, and in which unit: as `cpu` and `nanoseconds`.
@@ -40,11 +40,15 @@ pub(crate) fn with_names<'a>(
 }
 
 /// The names of rows as they first stand.
-fn names_of<'a>(alloc: Global, rows: &'a [WeightedStack]) -> Result<TextTable<'a>, NoMemory>
+fn names_of<'a>(
+    alloc: Global,
+    hashing: Hashing,
+    rows: &'a [WeightedStack],
+) -> Result<TextTable<'a>, NoMemory>
     ensures texts { IfOk result (λ names. names ≡ with_texts [] (flat_map (λ row. row.stack) rows.now)) }
     ensures each { OnOk result (All (λ row. All IsName row.stack × (length row.stack ≤ 65535)) rows.now) }
 {
-    let mut names = TextTable::new(alloc);
+    let mut names = TextTable::new(alloc, hashing);
     for row in rows {
         names = with_names(names, row.stack.names())?;
     }
@@ -67,12 +71,13 @@ fn with_units<'a>(
 /// The strings of a profile with these names.
 fn strings_of<'a>(
     alloc: Global,
+    hashing: Hashing,
     units: &[ValueUnit<'a>],
     names: &TextTable<'a>,
 ) -> Result<TextTable<'a>, NoMemory>
     ensures { IfOk result (λ strings. strings ≡ strings_of (pairs_of units.now) names.now) }
 {
-    let mut strings = with_units(TextTable::new(alloc).with("")?, units)?;
+    let mut strings = with_units(TextTable::new(alloc, hashing).with("")?, units)?;
     for name in names.texts() {
         strings = strings.with(*name)?;
     }
@@ -244,13 +249,14 @@ fn draft_of(
 /// The draft of samples whose values are of these kinds and in these units, and of the names that they number.
 pub(crate) fn exported_draft(
     alloc: Global,
+    hashing: Hashing,
     samples: Items<Sample>,
     names: &TextTable,
     units: &[ValueUnit],
 ) -> Result<Draft, NoMemory>
     ensures { IfOk result (λ draft. draft ≡ exported_draft names.now samples (pairs_of units.now)) }
 {
-    let strings = strings_of(alloc, units, names)?;
+    let strings = strings_of(alloc, hashing, units, names)?;
     let sample_types = types_of(alloc, &strings, units)?;
     draft_of(alloc, samples, names, &strings, sample_types)
 }
@@ -268,9 +274,10 @@ pub fn profile_of(alloc: Global, batch: &Batch, units: &[ValueUnit]) -> Result<P
     ensures reads_back { IfOk result (λ profile. IsBatchOf profile choices.All batch.now) }
     ensures default { IfOk result (λ profile. batch.now.width ≡ 1 → IsBatchOf profile Default batch.now) }
 {
-    let names = names_of(alloc, batch.first().rows())?;
+    let hashing = Hashing::fixed();
+    let names = names_of(alloc, hashing, batch.first().rows())?;
     let samples = samples_of(alloc, &names, batch)?;
-    let draft = exported_draft(alloc, samples, &names, units)?;
+    let draft = exported_draft(alloc, hashing, samples, &names, units)?;
     match check(alloc, draft) {
         Ok(profile) => Ok(profile),
         Err(_) => Err(NoMemory),

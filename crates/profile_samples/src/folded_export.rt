@@ -14,6 +14,7 @@ use crate::text_table::TextTable;
 use folded_text::{FoldedFault, Frames, LineTaker, Spelled, read_line, take_lines};
 use no_memory::NoMemory;
 use pprof_profile::{Items, WrittenSamples, encode_around};
+use profile_rows::Hashing;
 use std::alloc::Global;
 
 /// Rows as the samples of the profile that they are exported as: written when they come, their names numbered as they
@@ -71,6 +72,7 @@ impl<'a> LineTaker<'a> for SampledRows<'a> {
 /// The bytes of the profile of the rows.
 fn profile_bytes(
     alloc: Global,
+    hashing: Hashing,
     rows: &SampledRows,
     kind: &str,
     unit: &str,
@@ -81,7 +83,7 @@ fn profile_bytes(
         → IfOk result (λ bytes. IsProfile bytes.items (single_profile_of all kind.now unit.now)) }
 {
     let units = [ValueUnit { kind, unit }];
-    let draft = exported_draft(alloc, Items::empty(alloc), &rows.names, &units)?;
+    let draft = exported_draft(alloc, hashing, Items::empty(alloc), &rows.names, &units)?;
     encode_around(alloc, &draft, &rows.samples)
 }
 
@@ -108,12 +110,36 @@ pub fn export_folded(
     ensures profile { (rows : List WeightedStack) → IsFoldedText text.now rows
         → IfOk result (λ bytes. IsProfile bytes.items (single_profile_of rows kind.now unit.now)) }
 {
+    export_folded_with(alloc, Hashing::fixed(), text, kind, unit)
+}
+
+/// As [`export_folded`], and `hashing` says how names are hashed.
+///
+/// # Errors
+///
+/// Those of [`read_folded`](crate::read_folded).
+pub fn export_folded_with(
+    alloc: Global,
+    hashing: Hashing,
+    text: &[u8],
+    kind: &str,
+    unit: &str,
+) -> Result<Vec<u8>, FoldedFault>
+    ensures exported { MatchResult result (λ bytes. IsExportOfText text.now kind.now unit.now bytes.items)
+        (λ fault. IsWorkFault text.now fault) }
+    ensures accepted { (rows : List WeightedStack) → IsFoldedText text.now rows
+        → MatchResult result
+        (λ bytes. bytes.items ≡ canonical_bytes_of (single_profile_of rows kind.now unit.now))
+        (λ fault. fault ≡ FoldedFault.NoMemory) }
+    ensures profile { (rows : List WeightedStack) → IsFoldedText text.now rows
+        → IfOk result (λ bytes. IsProfile bytes.items (single_profile_of rows kind.now unit.now)) }
+{
     let mut rows = SampledRows {
-        names: TextTable::new(alloc),
+        names: TextTable::new(alloc, hashing),
         samples: WrittenSamples::new(alloc),
         ids: Vec::new(alloc),
         total: 0,
     };
     take_lines(text, &mut rows)?;
-    Ok(profile_bytes(alloc, &rows, kind, unit)?)
+    Ok(profile_bytes(alloc, hashing, &rows, kind, unit)?)
 }

@@ -13,7 +13,7 @@ use crate::sampling::{BatchFault, ValueChoice, check_depth, chosen_type, stack_a
 use crate::unfolding::LocationFrames;
 use no_memory::NoMemory;
 use pprof_profile::{Profile, Sample};
-use profile_rows::{MAX_DEPTH, MAX_TOTAL, WeightedStacks};
+use profile_rows::{Hashing, MAX_DEPTH, MAX_TOTAL, WeightedStacks};
 use std::alloc::Global;
 use std::collections::HashMap;
 
@@ -58,7 +58,7 @@ fn push_row(
 fn push_merged<'a>(
     alloc: Global,
     frames: &LocationFrames,
-    known: &mut HashMap<&'a [u64], usize>,
+    known: &mut HashMap<&'a [u64], usize, Hashing>,
     merged: &mut WeightedStacks,
     ids: &'a [u64],
     weight: u64,
@@ -99,7 +99,7 @@ fn add_to_row(
 fn merge_sample<'a>(
     alloc: Global,
     frames: &LocationFrames,
-    known: &mut HashMap<&'a [u64], usize>,
+    known: &mut HashMap<&'a [u64], usize, Hashing>,
     merged: &mut WeightedStacks,
     chosen: usize,
     sample: &'a Sample,
@@ -129,7 +129,7 @@ fn merged_by<'a>(
     alloc: Global,
     profile: &'a Profile,
     frames: &LocationFrames,
-    mut known: HashMap<&'a [u64], usize>,
+    mut known: HashMap<&'a [u64], usize, Hashing>,
     chosen: usize,
 ) -> Result<WeightedStacks, BatchFault>
     requires framed { frames.now ≡ profile.now }
@@ -171,10 +171,31 @@ pub fn merge_samples(
         → MatchResult result (λ merged. aggregate_of merged ≡ aggregate_of rows)
         (λ fault. fault ≡ BatchFault.NoMemory) }
 {
+    merge_samples_with(alloc, Hashing::fixed(), profile, choice)
+}
+
+/// As [`merge_samples`], and `hashing` says how lists of locations are hashed.
+///
+/// # Errors
+///
+/// Those of [`merge_samples`].
+pub fn merge_samples_with(
+    alloc: Global,
+    hashing: Hashing,
+    profile: &Profile,
+    choice: ValueChoice,
+) -> Result<WeightedStacks, BatchFault>
+    ensures read { MatchResult result (λ merged. IsMergedBatch profile.now choice.entry merged)
+        (λ fault. IsFirstStacksFault profile.now choice.entry fault) }
+    ensures accepted { (rows : List WeightedStack) → AreStacksOf profile.now choice.entry rows
+        → MatchResult result (λ merged. aggregate_of merged ≡ aggregate_of rows)
+        (λ fault. fault ≡ BatchFault.NoMemory) }
+{
     let Some(chosen) = chosen_type(profile.draft(), choice) else {
         return Err(BatchFault::NoValue);
     };
     let frames = LocationFrames::new(alloc, profile)?;
-    let known = HashMap::with_capacity(alloc, profile.draft().samples.len())?;
+    let count = profile.draft().samples.len();
+    let known = HashMap::with_capacity_and_hasher(alloc, count, hashing)?;
     merged_by(alloc, profile, &frames, known, chosen)
 }

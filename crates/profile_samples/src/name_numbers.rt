@@ -7,7 +7,7 @@ ghost use Rattle.pprof_profile.specs.Valid.{IsValidDraft};
 ghost use Rattle.profile_rows.specs.Names.{IsName, cleaned_name_of};
 ghost use Rattle.profile_samples.specs.Samples.{address_name, frames_of_ids, function_name, item_with, named_by, sample_stack_of};
 ghost use Rattle.profile_samples.specs.TextTables.{place_in, with_texts};
-ghost use Rattle.profile_samples.specs.NameNumbers.{address_names, address_numbers, frame_names, frame_numbers_of, given, line_number, location_numbers, number_at, number_by, number_of, numbers_of, numbers_of_id, once_of, string_names, string_numbers};
+ghost use Rattle.profile_samples.specs.NameNumbers.{address_names, frame_names, frame_numbers_of, given, line_number, location_numbers, number_at, number_by, number_of, numbers_of, numbers_of_id, once_of, string_names, string_numbers};
 
 use crate::exporting::with_names;
 use crate::id_places::IdPlaces;
@@ -15,7 +15,7 @@ use crate::text_table::TextTable;
 use crate::unfolding::{address_name, function_ids, location_ids};
 use no_memory::NoMemory;
 use pprof_profile::{Draft, Function, Items, Line, Location, Profile, Text};
-use profile_rows::{MAX_DEPTH, Name};
+use profile_rows::{Hashing, MAX_DEPTH, Name};
 use std::alloc::{AllocError, Global};
 use std::marker::Model;
 
@@ -348,8 +348,8 @@ fn all_frames(
     Ok(frames)
 }
 
-/// The frames of a profile's locations by the numbers of their names, so that a sample costs a look-up for each location
-/// and a step for each of its names. A contract sees the profile.
+/// The frames of a profile's locations by the numbers of their names, so that a sample costs a look-up for each
+/// location and a step for each of its names. A contract sees the profile.
 #[derive(Drop)]
 pub(crate) struct NumberedFrames<'a> {
     draft: &'a Draft,
@@ -366,7 +366,8 @@ impl<'a> Model for NumberedFrames<'a> {
 
     ghost view = { λ numbered. numbered.draft.now };
 
-    ghost invariant = { λ numbered. AreFrameNumbers numbered.draft.now numbered.places numbered.frames.items numbered.names };
+    ghost invariant = { λ numbered.
+        AreFrameNumbers numbered.draft.now numbered.places numbered.frames.items numbered.names };
 }
 
 impl<'a> NumberedFrames<'a> {
@@ -377,6 +378,7 @@ impl<'a> NumberedFrames<'a> {
     /// `NoMemory`.
     pub fn new(
         alloc: Global,
+        hashing: Hashing,
         profile: &'a Profile,
         names: &'a ProfileNames,
     ) -> Result<NumberedFrames<'a>, NoMemory>
@@ -384,7 +386,7 @@ impl<'a> NumberedFrames<'a> {
         ensures { IfOk result (λ numbered. numbered ≡ profile.now) }
     {
         let draft = profile.draft();
-        let table = with_given(TextTable::new(alloc), names.strings.as_slice())?;
+        let table = with_given(TextTable::new(alloc, hashing), names.strings.as_slice())?;
         let table = with_names(table, names.addresses.as_slice())?;
         let strings = given_places(alloc, &table, names.strings.as_slice())?;
         let addresses = places_of(alloc, &table, names.addresses.as_slice())?;

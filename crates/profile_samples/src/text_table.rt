@@ -4,6 +4,7 @@ ghost use Rattle.std.specs.Prelude.{◌≡◌, ◌<◌, ◌^◌, [], IfOk, OnOk,
 ghost use Rattle.profile_samples.specs.TextTables.{place_in, with_text, with_texts};
 
 use no_memory::NoMemory;
+use profile_rows::Hashing;
 use std::alloc::Global;
 use std::collections::HashMap;
 use std::marker::Model;
@@ -11,7 +12,7 @@ use std::marker::Model;
 /// Distinct texts in the order in which they came, each found by its bytes. A contract sees the list of them.
 #[derive(Drop)]
 pub(crate) struct TextTable<'a> {
-    places: HashMap<&'a str, usize>,
+    places: HashMap<&'a str, usize, Hashing>,
     texts: Vec<&'a str>,
 }
 
@@ -27,12 +28,12 @@ impl<'a> Model for TextTable<'a> {
 }
 
 impl<'a> TextTable<'a> {
-    /// No texts yet. Takes no memory.
-    pub fn new(alloc: Global) -> TextTable<'a>
+    /// No texts yet, and `hashing` says how they will be hashed. Takes no memory.
+    pub fn new(alloc: Global, hashing: Hashing) -> TextTable<'a>
         ensures { result ≡ [] }
     {
         TextTable {
-            places: HashMap::new(alloc),
+            places: HashMap::with_hasher(alloc, hashing),
             texts: Vec::new(alloc),
         }
     }
@@ -69,6 +70,7 @@ impl<'a> TextTable<'a> {
         texts.push(text)?;
         Ok(TextTable { places, texts })
     }
+
     /// The place of a text, which is added where it is missing.
     pub fn place_with(&mut self, text: &'a str) -> Result<usize, NoMemory>
         ensures texts { OnOk result (self.new ≡ with_text self.old text.now) }

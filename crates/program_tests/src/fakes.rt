@@ -5,6 +5,7 @@ use flame_program::run;
 use std::alloc::{AllocError, Global};
 use std::io;
 use std::io::{ErrorKind, Read, Write};
+use std::random::RandomSource;
 use std::sync::Wait;
 use std::thread::Threads;
 
@@ -97,7 +98,7 @@ impl Write for Narrow {
 }
 
 /// What a run on these bytes ended with, and what it wrote.
-pub fn run_on<'a, T: Threads + Wait + Sync>(
+pub fn run_on<'a, T: Threads + Wait + RandomSource + Sync>(
     rt: &T,
     alloc: Global,
     words: &'a [&'a str],

@@ -3,6 +3,7 @@
 use crate::fakes::{repeated, run_on};
 use flame_answers::MAX_INPUT;
 use std::alloc::{AllocError, Global};
+use std::random::RandomSource;
 use std::sync::Wait;
 use std::test::Fail;
 use std::thread::Threads;
@@ -46,7 +47,7 @@ fn folded(alloc: Global) -> Result<Vec<u8>, AllocError> {
 }
 
 // The report that these words ask for, of an input of this format.
-fn report_on<'a, T: Threads + Wait + Sync>(
+fn report_on<'a, T: Threads + Wait + RandomSource + Sync>(
     rt: &T,
     alloc: Global,
     words: &'a [&'a str],

@@ -8,6 +8,7 @@ use std::env::Args;
 use std::io;
 use std::io::ErrorKind;
 use std::process::ExitCode;
+use std::random::RandomSource;
 use std::sync::Wait;
 use std::test::Fail;
 use std::thread::Threads;
@@ -23,7 +24,7 @@ fn owned(alloc: Global, words: &[&str]) -> Result<Args, AllocError> {
 }
 
 // How a process with these words ends on the stored input, what it wrote, and what it said.
-fn process_on<T: Threads + Wait + Sync>(
+fn process_on<T: Threads + Wait + RandomSource + Sync>(
     rt: &T,
     alloc: Global,
     words: io::Result<Args>,

@@ -3,6 +3,7 @@
 use crate::fakes::{repeated, run_on};
 use flame_answers::MAX_INPUT;
 use std::alloc::{AllocError, Global};
+use std::random::RandomSource;
 use std::sync::Wait;
 use std::test::Fail;
 use std::thread::Threads;
@@ -155,7 +156,7 @@ fn profile_of(alloc: Global, samples: &[u8]) -> Result<Vec<u8>, AllocError> {
 }
 
 // What is written and said of a folded profile of these samples.
-fn fold_of<T: Threads + Wait + Sync>(
+fn fold_of<T: Threads + Wait + RandomSource + Sync>(
     rt: &T,
     alloc: Global,
     samples: &[u8],

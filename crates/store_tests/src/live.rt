@@ -4,7 +4,7 @@ use crate::helpers::{batch_of, row_of};
 use live_answers::{LiveFault, LiveOptions, Progress, Unheard, live_text};
 use live_store::{BookFault, SessionFault, WorkersFault};
 use op_book::AuditFault;
-use stack_text::Batch;
+use stack_text::{Batch, Hashing};
 use std::alloc::Global;
 use std::sync::{Arc, Mutex, Wait};
 use std::test::Fail;
@@ -20,7 +20,7 @@ fn written<R: Threads + Wait + Sync>(
     let Some(options) = options else {
         return Ok(format!(in alloc; "no options")?);
     };
-    match live_text(rt, alloc, &Unheard, batch, options) {
+    match live_text(rt, alloc, Hashing::fixed(), &Unheard, batch, options) {
         Ok(text) => Ok(String::from_utf8(text)?),
         Err(fault) => Ok(format!(in alloc; "{fault}")?),
     }
@@ -127,7 +127,7 @@ fn each_row_is_heard_of_once(rt: HostRuntime) -> Result<(), Fail> {
             rows: Mutex::new(0),
         };
         if let Some(options) = LiveOptions::new(sessions, false, warm) {
-            let _ = live_text(&rt, alloc, &heard, &batch, options);
+            let _ = live_text(&rt, alloc, Hashing::fixed(), &heard, &batch, options);
         }
         assert_eq!(rt; *heard.rows.lock(&rt), 5);
     }

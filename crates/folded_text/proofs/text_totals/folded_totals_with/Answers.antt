@@ -4,7 +4,7 @@ use Rattle.std.proofs.lemmas.Result.{err_from_is_err_and}
 use Rattle.profile_rows.specs.TopList.{AreTotalsOf}
 use Rattle.folded_text.proofs.Counting.{only_totals}
 use Rattle.folded_text.proofs.Reading.{IsFoldedText-same}
-use Rattle.folded_text.proofs.text_totals.folded_totals.Goals as goal
+use Rattle.folded_text.proofs.text_totals.folded_totals_with.Goals as goal
 
 pub returns-clause-accepted : goal.returns-clause-accepted
 returns-clause-accepted c = λ all folded.

@@ -4,7 +4,7 @@ use Rattle.std.specs.Prelude.{Ok}
 use Rattle.std.proofs.lemmas.Result.{err_from_is_err_and}
 use Rattle.profile_rows.proofs.MergedRows.{AreMergedSoFar-none, AreMergedSoFar-same}
 use Rattle.folded_text.proofs.TextSums.{only_merged_text}
-use Rattle.folded_text.proofs.merged_text.merge_folded.Goals as goal
+use Rattle.folded_text.proofs.merged_text.merge_folded_with.Goals as goal
 
 pub take_lines-requires : goal.take_lines-requires
 take_lines-requires c = λ k. ((refl, tt), (AreMergedSoFar-none _ (search rules), search rules))

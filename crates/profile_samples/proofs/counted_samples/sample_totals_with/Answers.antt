@@ -2,7 +2,7 @@
 use Rattle.std.proofs.Common.{rules, ◌≡◌, Some}
 use Rattle.profile_samples.specs.Samples.{chosen_type_of}
 use Rattle.profile_samples.proofs.MergedSamples.{only_sample_totals}
-use Rattle.profile_samples.proofs.counted_samples.sample_totals.Goals as goal
+use Rattle.profile_samples.proofs.counted_samples.sample_totals_with.Goals as goal
 
 pub totals_by-requires-clause-chosen : goal.totals_by-requires-clause-chosen
 totals_by-requires-clause-chosen c =

@@ -10,7 +10,7 @@ use Rattle.op_book.specs.Matching.{IsRunOf, LoggedReceipt, LogsMatch, PlainStep,
 use Rattle.op_book.proofs.Deciding.{no_fault}
 use Rattle.op_book.proofs.Following.{nobody}
 use Rattle.op_book.proofs.Ordered.{own_order}
-use Rattle.op_book.proofs.auditing.audit.Goals as goal
+use Rattle.op_book.proofs.auditing.audit_with.Goals as goal
 
 pub returns-clause-accepted : goal.returns-clause-accepted
 returns-clause-accepted c = λ logs_match.

@@ -1,6 +1,6 @@
 use Rattle.std.proofs.Common.{arith}
 use Rattle.call_tree.proofs.Growing.{weights-root}
-use Rattle.call_tree.proofs.grower.Grower.new.Goals as goal
+use Rattle.call_tree.proofs.grower.Grower.with_hashing.Goals as goal
 
 pub returns-clause-weights : goal.returns-clause-weights
 returns-clause-weights c =

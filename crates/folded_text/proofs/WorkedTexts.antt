@@ -3,7 +3,6 @@ use Rattle.std.proofs.Common.{◌≡◌, ◌≤◌, ◌<◌, ◌^◌, ℕ, List,
 use Rattle.std.specs.Fmt.{digits}
 use Rattle.std.specs.Str.{IsUtf8}
 use Rattle.std.specs.Str.Parse.{IsNumeral, digits_value}
-use Rattle.profile_rows.specs.declared.weighted_stacks.WeightedStack.{WeightedStack}
 use Rattle.profile_rows.proofs.WorkedAggregate.{mixed, rows_of-computed}
 use Rattle.profile_rows.proofs.WorkedRows.{a, b, row, text}
 use Rattle.folded_text.specs.FoldedText.{IsFoldedText, IsRowLine, folded_text_of, frames_of, rows_text}

@@ -15,6 +15,7 @@ use crate::stack_frames::Frames;
 use crate::taking::{LineTaker, take_lines};
 use no_memory::NoMemory;
 use profile_rows::{Batch, Hashing, MAX_DEPTH, MAX_TOTAL, Name, Stack, WeightedStacks};
+use simdutf8::basic;
 use std::alloc::Global;
 use thiserror::Error;
 
@@ -134,7 +135,7 @@ pub(crate) fn stack_and_weight<'a>(
         × (digits : List ℕ) × HasCount line.now found.0.now digits × (found.1 ≡ digits_value 10 digits)) }
     ensures fault { IfErr result (IsCountFault number line.now) }
 {
-    let Ok(text) = str::from_utf8(line) else {
+    let Ok(text) = basic::from_utf8(line) else {
         return Err(FoldedFault::NotUtf8 { line: number });
     };
     let Some((stack, digits)) = split_count(text) else {

@@ -1,11 +1,11 @@
 -- One row more; and at the end the rows are those of a batch.
-use Rattle.std.proofs.Common.{◌≡◌, ◌≤◌, ◌<◌, ◌++◌, ◌+◌, ℕ, List, length, take, get_or, sym, ap, ◌∙◌, subst, arith}
+use Rattle.std.proofs.Common.{◌≡◌, ◌≤◌, ◌<◌, ◌++◌, length, take, get_or, sym, ap, ◌∙◌, subst, arith}
 use Rattle.std.specs.List.{All}
 use Rattle.std.proofs.lemmas.List.{take_all}
 use Rattle.std.proofs.lemmas.List.Elements.{All-more}
 use Rattle.profile_rows.specs.declared.weighted_stacks.WeightedStack.{WeightedStack}
 use Rattle.profile_rows.specs.Names.{IsName}
-use Rattle.profile_rows.specs.Values.{rows_at, value_of}
+use Rattle.profile_rows.specs.Values.{rows_at}
 use Rattle.folded_text.specs.FoldedText.{IsFoldedText, row_text, rows_text}
 use Rattle.folded_text.proofs.Writing.{length-rows_at, rows_at-row_in, rows_text_more, rows_text-IsFoldedText}
 use Rattle.profile_rows.proofs.BatchRows.{all_batch_rows}

@@ -11,7 +11,7 @@ use folded_text::read_folded_with;
 use live_answers::{LiveFault, LiveOptions, Progress, live_text};
 use pprof_profile::{Text, decode};
 use profile_rows::{Batch, Hashing};
-use profile_samples::{ValueChoice, batch_of};
+use profile_samples::{ValueChoice, batch_of_with};
 use std::alloc::Global;
 use std::sync::{Arc, Wait};
 use std::thread::Threads;
@@ -54,7 +54,7 @@ fn live_batch(
 {
     match source.format {
         Format::Folded => folded_batch(alloc, hashing, input),
-        Format::Pprof => profile_batch(alloc, all, &source.value, input),
+        Format::Pprof => profile_batch(alloc, hashing, all, &source.value, input),
     }
 }
 
@@ -73,6 +73,7 @@ fn folded_batch(alloc: Global, hashing: Hashing, input: &[u8]) -> Result<Batch, 
 /// The batch of a profile's samples.
 fn profile_batch(
     alloc: Global,
+    hashing: Hashing,
     all: bool,
     value: &Option<Text>,
     input: &[u8],
@@ -85,7 +86,7 @@ fn profile_batch(
         Ok(profile) => profile,
         Err(fault) => return Err(profile_fault(fault)),
     };
-    match batch_of(alloc, &profile, live_choice(all, value)) {
+    match batch_of_with(alloc, hashing, &profile, live_choice(all, value)) {
         Ok(batch) => Ok(batch),
         Err(fault) => Err(batch_fault(fault)),
     }

@@ -1,13 +1,14 @@
 -- The frames of a profile's locations by numbers.
-use Rattle.std.proofs.Common.{◌≡◌, ◌≢◌, ℕ, zero, suc, ◌+◌, ◌-◌, ◌<◌, ◌≤◌, inl, inr, drop, take, set, length-append, length-set, take-append-drop, Bool, true, false, cond, eqb, ◌||◌, List, [], ◌∷◌, ◌++◌, length, map, get_or, Option, Some, None, refl, sym, ap, ◌∙◌, subst, arith, All}
+use Rattle.std.proofs.Common.{◌≡◌, ◌≢◌, ℕ, zero, suc, ◌+◌, ◌-◌, ◌*◌, ◌<◌, ◌≤◌, inl, inr, drop, take, set, length-append, length-set, take-append-drop, Bool, true, false, cond, eqb, ◌||◌, List, [], ◌∷◌, ◌++◌, length, map, get_or, Option, Some, None, refl, sym, ap, ◌∙◌, subst, arith, All}
 use Rattle.std.specs.Prelude.{ℤ, pos, negsuc, MatchOption, is_some, reverse, slice_get, slice_index_or, unwrap_or}
 use Rattle.std.specs.List.{AllByRecursion, IsDistinct, list_any}
 use Rattle.std.specs.Option.{option_and_then, option_map}
 use Rattle.std.specs.Str.{bytes_eq}
 use Rattle.std.proofs.lemmas.Bool.{cases_eq, cases_lt, false≢true, eqb-true, eq-eqb, ne_eqb}
-use Rattle.std.proofs.lemmas.List.{flat_map_more, get_or-set_other, get_or-set_same, get_or_past, reverse-append, take_more}
+use Rattle.std.proofs.lemmas.List.{flat_map_more, get_or-set_other, get_or-set_same, get_or_past, length-map, reverse-append, take_more}
 use Rattle.std.proofs.lemmas.List.Elements.{All-from_recursion, All-set, All-weaker, recursion_from_All}
 use Rattle.std.proofs.lemmas.List.Folds.{length-flat_map-take}
+use Rattle.std.proofs.Math.Nat.{mul-suc}
 use Rattle.std.proofs.lemmas.Grind.{flat_map-append}
 use Rattle.pprof_profile.specs.declared.messages.Draft.{Draft}
 use Rattle.pprof_profile.specs.declared.messages.Function.{Function}
@@ -290,10 +291,10 @@ function_numbered draft ids numbers id found this h =
     item_with-found (λ function. function.id) draft.functions id found (subst (λ i. has_double i ≡ false) this.ids_are this.single)
     (subst (λ (i : List ℕ). MatchOption found ((at : ℕ) → slice_get i at ≢ Some id) (λ at. slice_get i at ≡ Some id)) this.ids_are h)
 
-pub location_numbered_at : (draft : Draft) (ids : List ℕ) (frames : List FrameNumbers) (names : List (List ℕ)) (id : ℕ) (found : Option ℕ) → AreFrameNumbers draft ids frames names
+pub location_numbered_at : (draft : Draft) (ids : List ℕ) (frames : List FrameNumbers) (deepest : ℕ) (names : List (List ℕ)) (id : ℕ) (found : Option ℕ) → AreFrameNumbers draft ids frames deepest names
     → MatchOption found ((at : ℕ) → slice_get ids at ≢ Some id) (λ at. slice_get ids at ≡ Some id)
     → item_with (λ location. location.id) id draft.locations ≡ option_and_then (λ at. slice_get draft.locations at) found
-location_numbered_at draft ids frames names id found this h =
+location_numbered_at draft ids frames deepest names id found this h =
     item_with-found (λ location. location.id) draft.locations id found (subst (λ i. has_double i ≡ false) this.ids_are this.single)
     (subst (λ (i : List ℕ). MatchOption found ((at : ℕ) → slice_get i at ≢ Some id) (λ at. slice_get i at ≡ Some id)) this.ids_are h)
 
@@ -440,3 +441,32 @@ texts_all P start (text ∷ more) all rest = texts_all P (with_text start text) 
 pub texts_named : (P : List ℕ → Type 0) (front back : List (List ℕ)) → All P front → All P back → All P (with_texts (with_texts [] front) back)
 texts_named P front back all rest =
     All-from_recursion P (with_texts (with_texts [] front) back) (texts_all P (with_texts [] front) back (texts_all P [] front tt (recursion_from_All P front all)) (recursion_from_All P back rest))
+
+-- ---- the deepest location
+
+deepest_bounds : (draft : Draft) (deepest : ℕ) (locations : List Location) → AllByRecursion (λ (frames : FrameNumbers). frames.depth ≤ deepest) (map (location_numbers draft) locations)
+    → (id : ℕ) → length (frames_at draft (item_with (λ (location : Location). location.id) id locations)) ≤ deepest
+deepest_bounds draft deepest [] all id = omega arith
+deepest_bounds draft deepest (location ∷ locations) all id =
+    elim (eqb location.id id) as (λ b. length (frames_at draft (cond b (Some location) (item_with (λ (location : Location). location.id) id locations))) ≤ deepest) [
+      | true ↦ let depth = length-map (location_frames draft location) (number_of draft) in let low = all.0 in omega (arith, depth, low)
+      | false ↦ deepest_bounds draft deepest locations all.1 id
+    ]
+
+-- a location has no more frames than the deepest
+pub within_deepest : (draft : Draft) (ids : List ℕ) (frames : List FrameNumbers) (deepest : ℕ) (names : List (List ℕ)) → AreFrameNumbers draft ids frames deepest names
+    → (id : ℕ) → length (frames_of_id draft id) ≤ deepest
+within_deepest draft ids frames deepest names this id =
+    deepest_bounds draft deepest draft.locations
+    (recursion_from_All (λ (frames : FrameNumbers). frames.depth ≤ deepest) (map (location_numbers draft) draft.locations)
+    (subst (All (λ (frames : FrameNumbers). frames.depth ≤ deepest)) this.frames_are this.depths)) id
+
+-- so many locations have no more frames than so many of the deepest
+pub all_within : (draft : Draft) (deepest : ℕ) → ((id : ℕ) → length (frames_of_id draft id) ≤ deepest) → (ids : List ℕ) → length (frames_of_ids draft ids) ≤ deepest * length ids
+all_within draft deepest each [] = omega arith
+all_within draft deepest each (id ∷ ids) =
+    let here = each id in
+    let rest = all_within draft deepest each ids in
+    let both = length-append (frames_of_id draft id) (frames_of_ids draft ids) in
+    let product = mul-suc deepest (length ids) in
+    omega (arith, here, rest, both, product)

@@ -1,3 +1,4 @@
+pub mod EqualStrings
 pub mod ExportLaws
 pub mod ExportedBatches
 pub mod ExportedRows

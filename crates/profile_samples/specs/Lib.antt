@@ -1,5 +1,6 @@
 pub mod Batches
 pub mod CountedSamples
+pub mod EqualStrings
 pub mod Export
 pub mod IdPlaces
 pub mod MergedSamples

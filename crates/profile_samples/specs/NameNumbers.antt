@@ -1,5 +1,5 @@
 -- The names of a profile's frames by numbers: equal names have one number.
-use Rattle.std.specs.Prelude.{ℕ, ℤ, pos, negsuc, ◌≡◌, ◌==◌, All, Bool, false, Option, Some, None, List, [], ◌∷◌, ◌++◌, length, map, slice_index_or, if◌then◌else◌}
+use Rattle.std.specs.Prelude.{ℕ, ℤ, pos, negsuc, ◌≡◌, ◌≤◌, ◌==◌, All, Bool, false, Option, Some, None, List, [], ◌∷◌, ◌++◌, length, map, slice_index_or, if◌then◌else◌}
 use Rattle.std.specs.List.{list_any}
 use Rattle.std.specs.Option.{option_map}
 use Rattle.pprof_profile.specs.declared.messages.Draft.{Draft}
@@ -9,6 +9,8 @@ use Rattle.pprof_profile.specs.declared.messages.Line.{Line}
 use Rattle.pprof_profile.specs.Valid.{function_ids, has_double, location_ids}
 use Rattle.profile_rows.specs.Names.{IsName, cleaned_name_of}
 use Rattle.profile_samples.specs.declared.name_numbers.FrameNumbers.{FrameNumbers}
+use Rattle.profile_samples.specs.declared.string_names.StringName.{StringName}
+use Rattle.profile_samples.specs.declared.string_names.StringName.TheVariants.{Missing, Plain, Cleaned}
 use Rattle.profile_samples.specs.Samples.{address_name, function_name, item_with, line_name, location_frames}
 use Rattle.profile_samples.specs.TextTables.{place_in, with_texts}
 
@@ -19,6 +21,12 @@ abbrev pub given : List (Option (List ℕ)) → List (List ℕ)
 given [] = []
 given (None ∷ names) = given names
 given (Some name ∷ names) = name ∷ given names
+
+-- the name that a string gives, where it gives one
+abbrev pub name_in : StringName → Option (List ℕ)
+name_in Missing = None
+name_in (Plain name) = Some name
+name_in (Cleaned name) = Some name
 
 -- the names of a profile's strings
 abbrev pub string_names : Draft → List (Option (List ℕ))
@@ -103,9 +111,10 @@ numbers_of_id draft id = option_map (location_numbers draft) (item_with (λ loca
 
 -- the frames of the profile's locations by numbers, and what they number
 pub record AreFrameNumbers (draft : Draft) (ids : List ℕ) (frames : List FrameNumbers)
-    (names : List (List ℕ)) : Type 0 where
+    (deepest : ℕ) (names : List (List ℕ)) : Type 0 where
   pub ids_are : ids ≡ location_ids draft
   pub single : has_double ids ≡ false
   pub frames_are : frames ≡ map (location_numbers draft) draft.locations
+  pub depths : All (λ (frames : FrameNumbers). frames.depth ≤ deepest) frames
   pub names_are : names ≡ frame_names draft
   pub each : All IsName (frame_names draft)

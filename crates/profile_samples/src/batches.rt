@@ -11,7 +11,7 @@ use crate::sampling::{BatchFault, ValueChoice, check_depth, chosen_type, stack_a
 use crate::unfolding::LocationFrames;
 use no_memory::NoMemory;
 use pprof_profile::{Draft, Profile, Sample};
-use profile_rows::{Batch, MAX_DEPTH, Weights, Width, first_heavy};
+use profile_rows::{Batch, Hashing, MAX_DEPTH, Weights, Width, first_heavy};
 use std::alloc::Global;
 
 /// The values that are taken of each sample: the place of the first, and how many they are.
@@ -59,7 +59,11 @@ fn one_value(first: Option<usize>) -> Result<ChosenValues, BatchFault>
 }
 
 /// The values that a choice takes.
-fn chosen_values(draft: &Draft, choice: ValueChoice) -> Result<ChosenValues, BatchFault>
+fn chosen_values(
+    alloc: Global,
+    draft: &Draft,
+    choice: ValueChoice,
+) -> Result<ChosenValues, BatchFault>
     ensures few { IfOk result (λ chosen. chosen.width ≤ 4) }
     ensures chosen { MatchResult result
         (λ chosen. chosen_types_of draft.now choice.entry ≡ Some (chosen.first, chosen.width))
@@ -67,7 +71,9 @@ fn chosen_values(draft: &Draft, choice: ValueChoice) -> Result<ChosenValues, Bat
 {
     match choice {
         ValueChoice::All => all_values(draft),
-        ValueChoice::Default | ValueChoice::Named(_) => one_value(chosen_type(draft, choice)),
+        ValueChoice::Default | ValueChoice::Named(_) => {
+            one_value(chosen_type(alloc, draft, choice))
+        }
     }
 }
 
@@ -184,7 +190,26 @@ pub fn batch_of(alloc: Global, profile: &Profile, choice: ValueChoice) -> Result
     ensures accepted { (batch : BatchState) → IsBatchOf profile.now choice.entry batch
         → MatchResult result (λ made. made ≡ batch) (λ fault. fault ≡ BatchFault.NoMemory) }
 {
-    let chosen = chosen_values(profile.draft(), choice)?;
-    let frames = LocationFrames::new(alloc, profile)?;
+    batch_of_with(alloc, Hashing::fixed(), profile, choice)
+}
+
+/// As [`batch_of`], and `hashing` says how ids are hashed.
+///
+/// # Errors
+///
+/// Those of [`batch_of`].
+pub fn batch_of_with(
+    alloc: Global,
+    hashing: Hashing,
+    profile: &Profile,
+    choice: ValueChoice,
+) -> Result<Batch, BatchFault>
+    ensures read { MatchResult result (λ batch. IsBatchOf profile.now choice.entry batch)
+        (λ fault. IsFirstBatchFault profile.now choice.entry fault) }
+    ensures accepted { (batch : BatchState) → IsBatchOf profile.now choice.entry batch
+        → MatchResult result (λ made. made ≡ batch) (λ fault. fault ≡ BatchFault.NoMemory) }
+{
+    let chosen = chosen_values(alloc, profile.draft(), choice)?;
+    let frames = LocationFrames::new(alloc, hashing, profile)?;
     batch_by(alloc, profile, &frames, &chosen)
 }

@@ -273,7 +273,7 @@ pub fn sample_totals(
     sample_totals_with(alloc, Hashing::fixed(), profile, choice)
 }
 
-/// As [`sample_totals`], and `hashing` says how names are hashed.
+/// As [`sample_totals`], and `hashing` says how names and ids are hashed.
 ///
 /// # Errors
 ///
@@ -289,7 +289,7 @@ pub fn sample_totals_with(
     ensures accepted { (rows : List WeightedStack) → AreStacksOf profile.now choice.entry rows
         → MatchResult result (AreTotalsOf rows) (λ fault. fault ≡ BatchFault.NoMemory) }
 {
-    let Some(chosen) = chosen_type(profile.draft(), choice) else {
+    let Some(chosen) = chosen_type(alloc, profile.draft(), choice) else {
         return Err(BatchFault::NoValue);
     };
     let names = ProfileNames::new(alloc, profile.draft())?;

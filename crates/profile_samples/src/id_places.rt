@@ -3,8 +3,9 @@
 ghost use Rattle.std.specs.Prelude.{ℕ, ◌≡◌, ◌≢◌, ◌↔◌, IfOk, IsTrue, MatchOption, Some, slice_get};
 
 use no_memory::NoMemory;
+use profile_rows::Hashing;
 use std::alloc::Global;
-use std::collections::BTreeMap;
+use std::collections::HashMap;
 use std::marker::Model;
 
 /// Where each id stands among the ids of items. An id that is one more than its place, as writers mostly give them,
@@ -12,7 +13,7 @@ use std::marker::Model;
 #[derive(Drop)]
 pub(crate) struct IdPlaces {
     ids: Vec<u64>,
-    others: BTreeMap<u64, usize>,
+    others: HashMap<u64, usize, Hashing>,
 }
 
 impl Model for IdPlaces {
@@ -27,15 +28,15 @@ impl Model for IdPlaces {
 }
 
 impl IdPlaces {
-    /// The places of these ids.
+    /// The places of these ids, and `hashing` says how they are hashed.
     ///
     /// # Errors
     ///
     /// `NoMemory`.
-    pub fn new(alloc: Global, ids: Vec<u64>) -> Result<IdPlaces, NoMemory>
+    pub fn new(alloc: Global, hashing: Hashing, ids: Vec<u64>) -> Result<IdPlaces, NoMemory>
         ensures { IfOk result (λ places. places ≡ ids.items) }
     {
-        let mut others = BTreeMap::new(alloc);
+        let mut others = HashMap::with_hasher(alloc, hashing);
         for (at, id) in ids.iter().enumerate() {
             if *id != at as u64 + 1 {
                 others.insert(*id, at)?;

@@ -14,7 +14,7 @@ mod string_names;
 mod text_table;
 mod unfolding;
 
-pub use batches::batch_of;
+pub use batches::{batch_of, batch_of_with};
 pub use counted_samples::{sample_totals, sample_totals_with};
 pub use exporting::{ValueUnit, profile_of};
 pub use folded_export::{export_folded, export_folded_with};

@@ -174,7 +174,7 @@ pub fn merge_samples(
     merge_samples_with(alloc, Hashing::fixed(), profile, choice)
 }
 
-/// As [`merge_samples`], and `hashing` says how lists of locations are hashed.
+/// As [`merge_samples`], and `hashing` says how ids and lists of locations are hashed.
 ///
 /// # Errors
 ///
@@ -191,10 +191,10 @@ pub fn merge_samples_with(
         → MatchResult result (λ merged. aggregate_of merged ≡ aggregate_of rows)
         (λ fault. fault ≡ BatchFault.NoMemory) }
 {
-    let Some(chosen) = chosen_type(profile.draft(), choice) else {
+    let Some(chosen) = chosen_type(alloc, profile.draft(), choice) else {
         return Err(BatchFault::NoValue);
     };
-    let frames = LocationFrames::new(alloc, profile)?;
+    let frames = LocationFrames::new(alloc, hashing, profile)?;
     let count = profile.draft().samples.len();
     let known = HashMap::with_capacity_and_hasher(alloc, count, hashing)?;
     merged_by(alloc, profile, &frames, known, chosen)

@@ -7,10 +7,11 @@ ghost use Rattle.pprof_profile.specs.Valid.{IsValidDraft};
 ghost use Rattle.profile_rows.specs.Names.{IsName, cleaned_name_of};
 ghost use Rattle.profile_samples.specs.Samples.{address_name, frames_of_ids, function_name, item_with, named_by, sample_stack_of};
 ghost use Rattle.profile_samples.specs.TextTables.{place_in, with_texts};
-ghost use Rattle.profile_samples.specs.NameNumbers.{address_names, frame_names, frame_numbers_of, given, line_number, location_numbers, number_at, number_by, number_of, numbers_of, numbers_of_id, once_of, string_names, string_numbers};
+ghost use Rattle.profile_samples.specs.NameNumbers.{address_names, frame_names, frame_numbers_of, given, line_number, location_numbers, name_in, number_at, number_by, number_of, numbers_of, numbers_of_id, once_of, string_names, string_numbers};
 
 use crate::exporting::with_names;
 use crate::id_places::IdPlaces;
+use crate::string_names::StringName;
 use crate::text_table::TextTable;
 use crate::unfolding::{address_name, function_ids, location_ids};
 use no_memory::NoMemory;
@@ -22,26 +23,27 @@ use std::marker::Model;
 /// Every name that a frame of a profile can have: those of its strings, of which an empty one has none, and those of
 /// its locations' addresses.
 #[derive(Drop)]
-pub(crate) struct ProfileNames {
-    strings: Vec<Option<Name>>,
+pub(crate) struct ProfileNames<'a> {
+    strings: Vec<StringName<'a>>,
     addresses: Vec<Name>,
 }
 
-impl Model for ProfileNames {
-    ghost use Rattle.std.specs.Prelude.{List, Option, ℕ};
+impl<'a> Model for ProfileNames<'a> {
+    ghost use Rattle.std.specs.Prelude.{List, Option, ℕ, map};
+    ghost use Rattle.profile_samples.specs.NameNumbers.{name_in};
 
     ghost Value = { List (Option (List ℕ)) × List (List ℕ) };
 
-    ghost view = { λ names. (names.strings.items, names.addresses.items) };
+    ghost view = { λ names. (map name_in names.strings.items, names.addresses.items) };
 }
 
 /// The names of strings.
-fn string_names(alloc: Global, strings: &[Text]) -> Result<Vec<Option<Name>>, NoMemory>
-    ensures { IfOk result (λ names. names.items ≡ map cleaned_name_of strings.now) }
+fn string_names(alloc: Global, strings: &[Text]) -> Result<Vec<StringName>, NoMemory>
+    ensures { IfOk result (λ names. map name_in names.items ≡ map cleaned_name_of strings.now) }
 {
     let mut names = Vec::with_capacity(alloc, strings.len())?;
     for text in strings {
-        names.push(Name::clean(alloc, text.as_str())?)?;
+        names.push(StringName::of(alloc, text.as_str())?)?;
     }
     Ok(names)
 }
@@ -58,13 +60,13 @@ fn address_names(alloc: Global, locations: &[Location]) -> Result<Vec<Name>, NoM
     Ok(names)
 }
 
-impl ProfileNames {
+impl<'a> ProfileNames<'a> {
     /// The names of a profile.
     ///
     /// # Errors
     ///
     /// `NoMemory`.
-    pub fn new(alloc: Global, draft: &Draft) -> Result<ProfileNames, NoMemory>
+    pub fn new(alloc: Global, draft: &'a Draft) -> Result<ProfileNames<'a>, NoMemory>
         ensures { IfOk result (λ names. names ≡ (string_names draft.now, address_names draft.now)) }
     {
         Ok(ProfileNames {
@@ -77,14 +79,14 @@ impl ProfileNames {
 /// The table with the names that are there.
 fn with_given<'a>(
     mut table: TextTable<'a>,
-    names: &'a [Option<Name>],
+    names: &'a [StringName],
 ) -> Result<TextTable<'a>, NoMemory>
-    ensures texts { IfOk result (λ more. more ≡ with_texts table.entry (given names.now)) }
-    ensures each { OnOk result (All IsName (given names.now)) }
+    ensures texts { IfOk result (λ more. more ≡ with_texts table.entry (given (map name_in names.now))) }
+    ensures each { OnOk result (All IsName (given (map name_in names.now))) }
 {
     for name in names {
-        if let Some(name) = name {
-            table = table.with(name.text())?;
+        if let Some(text) = name.text() {
+            table = table.with(text)?;
         }
     }
     Ok(table)
@@ -94,14 +96,15 @@ fn with_given<'a>(
 fn given_places(
     alloc: Global,
     table: &TextTable,
-    names: &[Option<Name>],
+    names: &[StringName],
 ) -> Result<Vec<Option<usize>>, AllocError>
-    ensures { IfOk result (λ places. places.items ≡ map (option_map (place_in table.now)) names.now) }
+    ensures { IfOk result
+        (λ places. places.items ≡ map (option_map (place_in table.now)) (map name_in names.now)) }
 {
     let mut places = Vec::with_capacity(alloc, names.len())?;
     for name in names {
-        let place = match name {
-            Some(name) => Some(table.place_of(name.text())),
+        let place = match name.text() {
+            Some(text) => Some(table.place_of(text)),
             None => None,
         };
         places.push(place)?;
@@ -181,6 +184,7 @@ impl<'a> FunctionNumbers<'a> {
     /// The numbers of the names of a valid profile's functions, by those of its strings.
     fn new(
         alloc: Global,
+        hashing: Hashing,
         draft: &'a Draft,
         strings: &[Option<usize>],
     ) -> Result<FunctionNumbers<'a>, NoMemory>
@@ -189,7 +193,7 @@ impl<'a> FunctionNumbers<'a> {
         ensures { IfOk result (λ functions. functions ≡ draft.now) }
     {
         let functions = draft.functions.as_slice();
-        let places = IdPlaces::new(alloc, function_ids(alloc, functions)?)?;
+        let places = IdPlaces::new(alloc, hashing, function_ids(alloc, functions)?)?;
         let numbers = function_numbers(alloc, strings, functions)?;
         Ok(FunctionNumbers {
             draft,
@@ -348,6 +352,19 @@ fn all_frames(
     Ok(frames)
 }
 
+/// The most frames that a location has.
+fn deepest_of(frames: &[FrameNumbers]) -> usize
+    ensures { All (λ frames. frames.depth ≤ result) frames.now }
+{
+    let mut deepest = 0;
+    for frames in frames {
+        if frames.depth > deepest {
+            deepest = frames.depth;
+        }
+    }
+    deepest
+}
+
 /// The frames of a profile's locations by the numbers of their names, so that a sample costs a look-up for each
 /// location and a step for each of its names. A contract sees the profile.
 #[derive(Drop)]
@@ -355,6 +372,7 @@ pub(crate) struct NumberedFrames<'a> {
     draft: &'a Draft,
     places: IdPlaces,
     frames: Vec<FrameNumbers>,
+    deepest: usize,
     names: TextTable<'a>,
 }
 
@@ -367,7 +385,7 @@ impl<'a> Model for NumberedFrames<'a> {
     ghost view = { λ numbered. numbered.draft.now };
 
     ghost invariant = { λ numbered.
-        AreFrameNumbers numbered.draft.now numbered.places numbered.frames.items numbered.names };
+        AreFrameNumbers numbered.draft.now numbered.places numbered.frames.items numbered.deepest numbered.names };
 }
 
 impl<'a> NumberedFrames<'a> {
@@ -390,15 +408,17 @@ impl<'a> NumberedFrames<'a> {
         let table = with_names(table, names.addresses.as_slice())?;
         let strings = given_places(alloc, &table, names.strings.as_slice())?;
         let addresses = places_of(alloc, &table, names.addresses.as_slice())?;
-        let functions = FunctionNumbers::new(alloc, draft, strings.as_slice())?;
+        let functions = FunctionNumbers::new(alloc, hashing, draft, strings.as_slice())?;
         let locations = draft.locations.as_slice();
         let marks = vec![in alloc; 0; table.texts().len()]?;
         let frames = all_frames(alloc, &functions, locations, addresses.as_slice(), marks)?;
-        let places = IdPlaces::new(alloc, location_ids(alloc, locations)?)?;
+        let places = IdPlaces::new(alloc, hashing, location_ids(alloc, locations)?)?;
+        let deepest = deepest_of(frames.as_slice());
         Ok(NumberedFrames {
             draft,
             places,
             frames,
+            deepest,
             names: table,
         })
     }
@@ -429,8 +449,27 @@ impl<'a> NumberedFrames<'a> {
         self.frames.get(at)
     }
 
-    /// Whether locations have no more frames together than a stack can hold.
+    /// Whether locations have no more frames together than a stack can hold. So few that none can have more aren't
+    /// looked up.
     pub fn fit(&self, ids: &[u64]) -> bool
+        ensures { IsTrue result ↔ (length (frames_of_ids self.now ids.now) ≤ MAX_DEPTH) }
+    {
+        self.fit_all(ids.len()) || self.fit_these(ids)
+    }
+
+    /// Whether any so many locations fit.
+    fn fit_all(&self, count: usize) -> bool
+        ensures { IsTrue result → (ids : List ℕ) → length ids ≡ count
+            → length (frames_of_ids self.now ids) ≤ MAX_DEPTH }
+    {
+        match self.deepest.checked_mul(count) {
+            Some(most) => most <= MAX_DEPTH,
+            None => false,
+        }
+    }
+
+    /// Whether these locations fit, by the frames of each.
+    fn fit_these(&self, ids: &[u64]) -> bool
         ensures { IsTrue result ↔ (length (frames_of_ids self.now ids.now) ≤ MAX_DEPTH) }
     {
         let mut room = MAX_DEPTH;

@@ -1,18 +1,20 @@
 //! A profile's samples as rows: the value that is chosen, a row for each sample, and why there is none.
 
 ghost use Rattle.std.specs.Prelude.{◌≡◌, ◌+◌, ◌^◌, ◌<◌, ◌∷◌, ◌++◌, [], ◌≤◌, IfErr, IfOk, List, MatchResult, OnOk, Some, ℕ, pos, length, slice_get};
+ghost use Rattle.std.specs.List.{position};
 ghost use Rattle.pprof_profile.specs.declared.messages.ValueType.{ValueType};
 ghost use Rattle.profile_rows.specs.declared.weighted_stacks.WeightedStack.{WeightedStack};
 ghost use Rattle.profile_samples.specs.declared.sampling.ValueChoice.{ValueChoice};
 ghost use Rattle.profile_rows.specs.Rows.{total_of};
 ghost use Rattle.profile_rows.specs.Values.{single_batch};
 ghost use Rattle.profile_samples.specs.Samples.{AreStacksOf, IsFirstStacksFault, StandsAtSample, IsSampleFault, IsSampleRow, IsValueFault, IsFitFault, chosen_type_of, default_type, frames_of_sample, sample_stack_of, type_named};
+ghost use Rattle.profile_samples.specs.EqualStrings.{equal_at, equal_strings};
 
 use crate::string_names::string_at;
 use crate::unfolding::LocationFrames;
 use no_memory::NoMemory;
-use pprof_profile::{Draft, Profile};
-use profile_rows::{MAX_DEPTH, Name, Stack};
+use pprof_profile::{Draft, Profile, Text, ValueType};
+use profile_rows::{Hashing, MAX_DEPTH, Name, Stack};
 use std::alloc::{AllocError, Global};
 use thiserror::Error;
 
@@ -73,18 +75,53 @@ impl From<AllocError> for BatchFault {
     }
 }
 
-/// The first sample type of this name.
-fn type_named(draft: &Draft, text: &str) -> Option<usize>
+/// For each string whether it is this text.
+fn equal_strings(alloc: Global, strings: &[Text], text: &str) -> Result<Vec<bool>, AllocError>
+    ensures { IfOk result (λ equal. equal.items ≡ equal_strings strings.now text.now) }
+{
+    strings
+        .iter()
+        .map(|string| string.as_str() == text)
+        .collect(alloc)
+}
+
+/// Whether the string at an index is this text, by what is known of each string.
+fn is_equal_at(equal: &[bool], index: i64, text: &str) -> bool
+    ensures { result ≡ equal_at equal.now text.now index }
+{
+    let missing = "" == text;
+    match usize::try_from(index) {
+        Ok(at) => equal.get(at).copied().unwrap_or(missing),
+        Err(_) => missing,
+    }
+}
+
+/// The first sample type of this name, by what is known of each string.
+fn type_by_strings(kinds: &[ValueType], equal: &[bool], text: &str) -> Option<usize>
+    ensures { result ≡ position (λ kind. equal_at equal.now text.now kind.kind) kinds.now }
+{
+    kinds
+        .iter()
+        .position(|kind| is_equal_at(equal, kind.kind, text))
+}
+
+/// The first sample type of this name. Many types can name one long string: each string is compared once. Where memory
+/// is wanting, it is compared for each type.
+fn type_named(alloc: Global, draft: &Draft, text: &str) -> Option<usize>
     ensures { result ≡ type_named draft.now text.now }
 {
-    draft.sample_types.as_slice().iter().position(|kind| string_at(
-        draft.strings.as_slice(),
-        kind.kind,
-    ) == text)
+    let strings = draft.strings.as_slice();
+    let kinds = draft.sample_types.as_slice();
+    match equal_strings(alloc, strings, text) {
+        Ok(equal) => type_by_strings(kinds, equal.as_slice(), text),
+        Err(_) => kinds
+            .iter()
+            .position(|kind| string_at(strings, kind.kind) == text),
+    }
 }
 
 /// The sample type that the profile itself chooses.
-fn default_type(draft: &Draft) -> Option<usize>
+fn default_type(alloc: Global, draft: &Draft) -> Option<usize>
     ensures { result ≡ default_type draft.now }
 {
     let last = draft.sample_types.len().checked_sub(1);
@@ -92,6 +129,7 @@ fn default_type(draft: &Draft) -> Option<usize>
         return last;
     }
     type_named(
+        alloc,
         draft,
         string_at(draft.strings.as_slice(), draft.default_sample_type),
     )
@@ -99,12 +137,12 @@ fn default_type(draft: &Draft) -> Option<usize>
 }
 
 /// The place of the chosen value among those of a sample, where the choice is of one.
-pub(crate) fn chosen_type(draft: &Draft, choice: ValueChoice) -> Option<usize>
+pub(crate) fn chosen_type(alloc: Global, draft: &Draft, choice: ValueChoice) -> Option<usize>
     ensures { result ≡ chosen_type_of draft.now choice.entry }
 {
     match choice {
-        ValueChoice::Default => default_type(draft),
-        ValueChoice::Named(text) => type_named(draft, text),
+        ValueChoice::Default => default_type(alloc, draft),
+        ValueChoice::Named(text) => type_named(alloc, draft, text),
         ValueChoice::All => None,
     }
 }
@@ -158,7 +196,7 @@ pub fn unfold(alloc: Global, profile: &Profile, sample: usize) -> Result<Vec<Nam
     requires { sample < length profile.now.samples }
     ensures { IfOk result (λ names. names.items ≡ frames_of_sample profile.now sample) }
 {
-    let frames = LocationFrames::new(alloc, profile)?;
+    let frames = LocationFrames::new(alloc, Hashing::fixed(), profile)?;
     let samples = profile.draft().samples.as_slice();
     frames.leaf_first(alloc, samples[sample].location_ids.as_slice())
 }

@@ -9,7 +9,7 @@ use crate::id_places::IdPlaces;
 use crate::string_names::StringNames;
 use no_memory::NoMemory;
 use pprof_profile::{Draft, Function, Items, Line, Location, Profile, Text};
-use profile_rows::{MAX_DEPTH, Name};
+use profile_rows::{Hashing, MAX_DEPTH, Name};
 use std::alloc::{AllocError, Global};
 use std::marker::Model;
 
@@ -86,12 +86,12 @@ impl<'a> Model for FunctionNames<'a> {
 }
 
 impl<'a> FunctionNames<'a> {
-    fn new(alloc: Global, draft: &'a Draft) -> Result<FunctionNames<'a>, NoMemory>
+    fn new(alloc: Global, hashing: Hashing, draft: &'a Draft) -> Result<FunctionNames<'a>, NoMemory>
         requires { IsValidDraft draft.now }
         ensures { IfOk result (λ functions. functions ≡ draft.now) }
     {
         let functions = draft.functions.as_slice();
-        let places = IdPlaces::new(alloc, function_ids(alloc, functions)?)?;
+        let places = IdPlaces::new(alloc, hashing, function_ids(alloc, functions)?)?;
         let names = function_names(alloc, draft.strings.as_slice(), functions)?;
         Ok(FunctionNames {
             draft,
@@ -198,17 +198,22 @@ impl<'a> Model for LocationFrames<'a> {
 }
 
 impl<'a> LocationFrames<'a> {
-    /// The frames of a profile's locations.
+    /// The frames of a profile's locations, and `hashing` says how ids are hashed.
     ///
     /// # Errors
     ///
     /// `NoMemory`.
-    pub fn new(alloc: Global, profile: &'a Profile) -> Result<LocationFrames<'a>, NoMemory>
+    pub fn new(
+        alloc: Global,
+        hashing: Hashing,
+        profile: &'a Profile,
+    ) -> Result<LocationFrames<'a>, NoMemory>
         ensures { IfOk result (λ locations. locations ≡ profile.now) }
     {
         let draft = profile.draft();
-        let functions = FunctionNames::new(alloc, draft)?;
-        let places = IdPlaces::new(alloc, location_ids(alloc, draft.locations.as_slice())?)?;
+        let functions = FunctionNames::new(alloc, hashing, draft)?;
+        let ids = location_ids(alloc, draft.locations.as_slice())?;
+        let places = IdPlaces::new(alloc, hashing, ids)?;
         let frames = functions.all_frames(alloc, draft.locations.as_slice())?;
         Ok(LocationFrames {
             draft,

@@ -15,6 +15,6 @@ pub use profile_rows::{
     aggregate, first_heavy, keeps, kept_totals, kept_totals_with,
 };
 pub use profile_samples::{
-    BatchFault, ValueChoice, ValueUnit, batch_of, export_folded, export_folded_with, merge_samples,
-    merge_samples_with, profile_of, sample_totals, sample_totals_with, unfold,
+    BatchFault, ValueChoice, ValueUnit, batch_of, batch_of_with, export_folded, export_folded_with,
+    merge_samples, merge_samples_with, profile_of, sample_totals, sample_totals_with, unfold,
 };

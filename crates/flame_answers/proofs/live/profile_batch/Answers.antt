@@ -11,5 +11,5 @@ returns-in-Err c = subst (λ (fault : ToolFault). IsLiveRefused Pprof c.args.all
 
 pub returns : goal.returns
 returns c = subst (λ (fault : ToolFault). IsLiveRefused Pprof c.args.all c.args.value.now c.args.input.now fault) (sym c.batch_fault.ensures)
-    (samples_refused c.args.all c.args.value.now c.args.input.now c.in-Ok.profile c.live_choice.result c.in-Err-batch_of.fault c.in-Ok.ensures.read (λ other is. c.in-Ok.ensures.every_profile other is) c.live_choice.ensures
-    c.in-Err-batch_of.ensures.read c.in-Err-batch_of.ensures.accepted)
+    (samples_refused c.args.all c.args.value.now c.args.input.now c.in-Ok.profile c.live_choice.result c.in-Err-batch_of_with.fault c.in-Ok.ensures.read (λ other is. c.in-Ok.ensures.every_profile other is) c.live_choice.ensures
+    c.in-Err-batch_of_with.ensures.read c.in-Err-batch_of_with.ensures.accepted)

@@ -5,7 +5,7 @@ use Rattle.std.proofs.lemmas.Result.{err_from_is_err_and}
 use Rattle.profile_samples.specs.declared.sampling.BatchFault.TheVariants.{NoMemory}
 use Rattle.profile_samples.specs.Batches.{IsBatchOf, IsFirstBatchFault, chosen_types_of}
 use Rattle.profile_samples.proofs.SampleBatches.{IsFirstBatchFault-batch, chosen_types_within, first_of_standing, only_batch}
-use Rattle.profile_samples.proofs.batches.batch_of.Goals as goal
+use Rattle.profile_samples.proofs.batches.batch_of_with.Goals as goal
 
 pub returns-in_err-chosen-clause-accepted : goal.returns-in_err-chosen-clause-accepted
 returns-in_err-chosen-clause-accepted c = λ batch this.

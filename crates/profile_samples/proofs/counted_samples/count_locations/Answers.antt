@@ -1,9 +1,9 @@
 -- The names of the next location are counted.
-use Rattle.std.proofs.Common.{◌≡◌, ◌≢◌, ◌+◌, ◌^◌, ◌<◌, ℕ, List, Some, None, ap, sym, ◌∙◌, get_or, subst, take}
+use Rattle.std.proofs.Common.{◌≢◌, ◌+◌, ◌^◌, ◌<◌, Some, None, ap, sym, ◌∙◌, get_or, subst, take}
 use Rattle.std.specs.declared.vec.Vec.{Vec}
 use Rattle.profile_rows.specs.declared.tallies.Tally.{Tally}
 use Rattle.profile_samples.specs.Samples.{frames_of_ids}
-use Rattle.profile_samples.specs.CountedSamples.{AreSingle, Entry, names_counted, names_of, tally_of}
+use Rattle.profile_samples.specs.CountedSamples.{AreSingle, Entry, names_of, tally_of}
 use Rattle.profile_samples.proofs.FrameNumbers.{found_numbers, frame_names-single}
 use Rattle.profile_samples.proofs.NameTallies.{inside_entries, location_counted, location_missing, names_counted-fits}
 use Rattle.profile_samples.proofs.counted_samples.count_locations.Goals as goal

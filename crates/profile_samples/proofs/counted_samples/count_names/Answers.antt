@@ -1,8 +1,6 @@
 -- The next name is counted.
-use Rattle.std.proofs.Common.{◌≡◌, ◌<◌, ap, sym, ◌∙◌, get_or, length, subst, take}
+use Rattle.std.proofs.Common.{get_or, take}
 use Rattle.std.proofs.lemmas.List.{take_more}
-use denote.Ref.{Bor}
-use Rattle.profile_samples.specs.CountedSamples.{Entry, names_of}
 use Rattle.profile_samples.proofs.NameTallies.{number_counted, number_fits, same_length}
 use Rattle.profile_samples.proofs.counted_samples.count_names.Goals as goal
 

@@ -1,5 +1,5 @@
 -- The names of the row, and then its leaf.
-use Rattle.std.proofs.Common.{◌≡◌, ◌+◌, ◌<◌, ◌++◌, ◌∷◌, [], ℕ, List, ap, sym, ◌∙◌, length, refl, subst, arith}
+use Rattle.std.proofs.Common.{◌≡◌, ◌+◌, ◌<◌, ◌++◌, ◌∷◌, [], ℕ, List, ap, sym, ◌∙◌, refl, subst, arith}
 use Rattle.std.specs.Prelude.{slice_index_or}
 use Rattle.profile_rows.specs.declared.weighted_stacks.WeightedStack.{WeightedStack}
 use Rattle.profile_samples.specs.Samples.{frames_of_ids, sample_stack_of}

@@ -1,11 +1,11 @@
 -- What was counted is what the names of the samples' rows weigh.
-use Rattle.std.proofs.Common.{◌≡◌, ℕ, All, ap, sym, ◌∙◌, refl, subst}
-use Rattle.std.specs.Prelude.{Err, MatchResult}
+use Rattle.std.proofs.Common.{◌≡◌, ℕ, All, ap, sym, ◌∙◌, subst}
+use Rattle.std.specs.Prelude.{Err}
 use Rattle.std.proofs.lemmas.Result.{err_from_is_err_and}
 use Rattle.pprof_profile.specs.declared.messages.Draft.{Draft}
 use Rattle.profile_rows.specs.Names.{IsName}
 use Rattle.profile_samples.specs.NameNumbers.{frame_names}
-use Rattle.profile_samples.specs.CountedSamples.{AreSingle, AreTalliesOfNames, Entry, names_of}
+use Rattle.profile_samples.specs.CountedSamples.{AreSingle, AreTalliesOfNames, names_of}
 use Rattle.profile_samples.proofs.FrameNumbers.{frame_names-single}
 use Rattle.profile_samples.proofs.SampleRows.{chosen_within, first_of_standing}
 use Rattle.profile_samples.proofs.counted_samples.totals_by.Goals as goal

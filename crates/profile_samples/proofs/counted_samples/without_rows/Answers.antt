@@ -1,5 +1,5 @@
 -- The next name has no row.
-use Rattle.std.proofs.Common.{◌≡◌, List, ℕ, ap, sym, ◌∙◌, map, refl, subst}
+use Rattle.std.proofs.Common.{List, ℕ, ap, sym, ◌∙◌, map, refl, subst}
 use Rattle.std.proofs.lemmas.List.{take_all}
 use denote.Ref.{Bor}
 use Rattle.profile_samples.proofs.NameTallies.{are_zero, are_zero-push, entry_added, none_counted}

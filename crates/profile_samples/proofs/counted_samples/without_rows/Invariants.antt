@@ -1,5 +1,5 @@
-use Rattle.std.proofs.Common.{◌≡◌, ℕ, List, map, take}
-use Rattle.profile_samples.specs.CountedSamples.{names_of, tally_of}
+use Rattle.std.proofs.Common.{◌≡◌, map, take}
+use Rattle.profile_samples.specs.CountedSamples.{names_of}
 use Rattle.profile_samples.proofs.NameTallies.{are_zero}
 use Rattle.profile_samples.proofs.counted_samples.without_rows.Given as goal
 

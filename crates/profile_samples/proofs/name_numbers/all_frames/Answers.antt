@@ -1,5 +1,5 @@
 -- The frames of the next location.
-use Rattle.std.proofs.Common.{◌≡◌, ◌+◌, ◌<◌, ◌≤◌, ◌++◌, ◌∷◌, [], All, ap, sym, ◌∙◌, get_or, length, map, subst, take, arith}
+use Rattle.std.proofs.Common.{◌≡◌, ◌<◌, ◌++◌, ◌∷◌, [], All, ap, sym, ◌∙◌, get_or, length, map, subst, take, arith}
 use Rattle.std.proofs.lemmas.List.{get_or-map, map_more}
 use Rattle.pprof_profile.specs.declared.messages.Location.{Location}
 use Rattle.profile_samples.specs.Samples.{address_name}

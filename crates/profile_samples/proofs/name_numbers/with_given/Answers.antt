@@ -1,10 +1,11 @@
 -- The next name is added, where it is there.
-use Rattle.std.proofs.Common.{◌≡◌, ◌+◌, ◌++◌, ◌∷◌, [], ℕ, List, Option, Some, None, ap, sym, ◌∙◌, subst, take, append-nil, All}
-use Rattle.std.proofs.lemmas.List.{take_all, take_more}
+use Rattle.std.proofs.Common.{◌≡◌, ◌+◌, ◌++◌, ◌∷◌, [], ℕ, List, Option, Some, None, ap, sym, ◌∙◌, subst, take, append-nil, map, All}
+use Rattle.std.proofs.lemmas.List.{map-append, take_all, take_more}
 use Rattle.std.proofs.lemmas.List.Elements.{All-push}
 use Rattle.profile_rows.specs.Names.{IsName}
+use Rattle.profile_samples.specs.declared.string_names.StringName.{StringName}
 use Rattle.profile_samples.specs.TextTables.{with_text, with_texts}
-use Rattle.profile_samples.specs.NameNumbers.{given}
+use Rattle.profile_samples.specs.NameNumbers.{given, name_in}
 use Rattle.profile_samples.proofs.FrameNumbers.{given-push}
 use Rattle.profile_samples.proofs.TextPlaces.{with_texts-append}
 use Rattle.profile_samples.proofs.name_numbers.with_given.Goals as goal
@@ -12,6 +13,12 @@ use Rattle.profile_samples.proofs.name_numbers.with_given.Goals.{in-Some+in_ok-t
 
 IsSoFar : List (List ℕ) → List (List ℕ) → List (Option (List ℕ)) → Type 0
 IsSoFar start table names = (table ≡ with_texts start (given names)) × All IsName (given names)
+
+-- a name more, as a name in place of a string's
+next_name : (names : List StringName) (name : StringName) (index : ℕ) (found : Option (List ℕ)) → take (index + 1) names ≡ take index names ++ name ∷ [] → found ≡ name_in name
+    → map name_in (take (index + 1) names) ≡ map name_in (take index names) ++ found ∷ []
+next_name names name index found is here =
+    ap (map name_in) is ∙ map-append name_in (take index names) (name ∷ []) ∙ ap (λ option. map name_in (take index names) ++ option ∷ []) (sym here)
 
 more : (start table new : List (List ℕ)) (names next : List (Option (List ℕ))) (name : List ℕ) → IsSoFar start table names → next ≡ names ++ Some name ∷ [] → new ≡ with_text table name → IsName name
     → IsSoFar start new next
@@ -32,15 +39,18 @@ pub loop-name-preserved : goal.loop-name-preserved
 unfolding IsSoFar
 loop-name-preserved c =
     let names = c.args.names.now in
-    let before = take c.loop-name.name-index names in
-    let next = take_more names c.loop-name.name-index c.name-item.result c.loop-name-test.true ∙ ap (λ name. before ++ name ∷ []) (sym c.name-item.is) in
-    elim c.match-name.branch [
+    let before = map name_in (take c.loop-name.name-index names) in
+    let after = map name_in (take (c.loop-name.name-index + 1) names) in
+    let name = c.name-item.result in
+    let taken = take_more names c.loop-name.name-index c.name-item.result c.loop-name-test.true ∙ ap (λ n. take c.loop-name.name-index names ++ n ∷ []) (sym c.name-item.is) in
+    elim c.match-text.branch [
       | in-Some+in_ok-table w ↦
-          more c.args.table c.loop-name.table c.match-name.table before (take (c.loop-name.name-index + 1) names) w.in-Some.name c.loop-name.invariant (next ∙ ap (λ name. before ++ name ∷ []) w.in-Some.is)
-          (w.table-is ∙ w.in_ok-table.ensures ∙ ap (with_text c.loop-name.table) w.text.ensures.text) w.text.ensures.name
-      | in_default w ↦ subst (λ table. IsSoFar c.args.table table (take (c.loop-name.name-index + 1) names)) (sym w.table-is)
-          (same c.args.table c.loop-name.table before (take (c.loop-name.name-index + 1) names) c.loop-name.invariant (next ∙ ap (λ name. before ++ name ∷ []) w.in_default.is))
+          more c.args.table c.loop-name.table c.match-text.table before after w.in-Some.text.now c.loop-name.invariant
+          (next_name names name c.loop-name.name-index (Some w.in-Some.text.now) taken w.in-Some.ensures.text)
+          (w.table-is ∙ w.in_ok-table.ensures) w.in-Some.ensures.name
+      | in_default w ↦ subst (λ table. IsSoFar c.args.table table after) (sym w.table-is)
+          (same c.args.table c.loop-name.table before after c.loop-name.invariant (next_name names name c.loop-name.name-index None taken w.in_default.ensures.text))
     ]
 
 pub returns-clause-each : goal.returns-clause-each
-returns-clause-each c = subst (λ names. All IsName (given names)) (take_all c.loop-name.name-index c.args.names.now c.loop-name-test.false) c.loop-name.invariant.1
+returns-clause-each c = subst (λ names. All IsName (given (map name_in names))) (take_all c.loop-name.name-index c.args.names.now c.loop-name-test.false) c.loop-name.invariant.1

@@ -1,5 +1,5 @@
 -- The numbers of all lines.
-use Rattle.std.proofs.Common.{◌≡◌, ◌∙◌, ap, map, sym, take}
+use Rattle.std.proofs.Common.{◌≡◌, ◌∙◌, ap, map}
 use Rattle.std.proofs.lemmas.List.{take_all}
 use Rattle.profile_samples.specs.NameNumbers.{line_number}
 use Rattle.profile_samples.proofs.FrameNumbers.{numbers_of_lines}

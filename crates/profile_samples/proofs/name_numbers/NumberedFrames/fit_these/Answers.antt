@@ -1,10 +1,10 @@
 -- The next location's frames take room, where there is any.
-use Rattle.std.proofs.Common.{◌≡◌, ◌+◌, Some, None, ap, sym, ◌∙◌, get_or, length, subst, take, arith}
+use Rattle.std.proofs.Common.{◌+◌, Some, None, ap, ◌∙◌, get_or, length, take, arith}
 use Rattle.std.proofs.lemmas.Bool.{false≢true}
 use Rattle.profile_samples.specs.Samples.{frames_of_ids}
 use Rattle.profile_samples.proofs.FrameNumbers.{found_numbers, room_left, room_same, room_short}
-use Rattle.profile_samples.proofs.name_numbers.NumberedFrames.fit.Goals as goal
-use Rattle.profile_samples.proofs.name_numbers.NumberedFrames.fit.Goals.{in-Some+else-frames-room, in_default}
+use Rattle.profile_samples.proofs.name_numbers.NumberedFrames.fit_these.Goals as goal
+use Rattle.profile_samples.proofs.name_numbers.NumberedFrames.fit_these.Goals.{in-Some+else-frames-room, in_default}
 
 pub returns-then-frames-room : goal.returns-then-frames-room
 returns-then-frames-room c =

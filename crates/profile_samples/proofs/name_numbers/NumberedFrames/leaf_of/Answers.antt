@@ -1,5 +1,5 @@
 -- The first location that is there has the leaf.
-use Rattle.std.proofs.Common.{◌≡◌, [], ◌++◌, Some, None, ap, sym, ◌∙◌, get_or}
+use Rattle.std.proofs.Common.{◌++◌, Some, None, ap, sym, ◌∙◌, get_or}
 use Rattle.std.specs.Prelude.{reverse}
 use Rattle.std.proofs.lemmas.List.{take_all}
 use Rattle.profile_samples.specs.Samples.{frames_of_id, frames_of_ids}

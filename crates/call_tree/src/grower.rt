@@ -155,6 +155,39 @@ impl Grower {
         planned
     }
 
+    /// This grower with the rows of a batch in its tree, as wide as the tree. By each value its total and the tree's are
+    /// together at most [`profile_rows::MAX_TOTAL`]. Pages that nobody else owns change in place, so that an addition
+    /// copies none where the tree was never shared.
+    ///
+    /// # Errors
+    ///
+    /// `NoMemory`: then the grower is gone.
+    pub fn with_batch(self, alloc: Global, batch: &Batch) -> Result<Grower, NoMemory>
+        requires width { batch.now.width ≡ self.width }
+        requires fits { (value : ℕ)
+            → total_in (weights_of self value) + total_of (rows_at value batch.now.rows) < 2 ^ 63 }
+        ensures weights { IfOk result (λ grower. (value : ℕ)
+            → weights_of grower value ≡ with_rows (weights_of self value) (rows_at value batch.now.rows)) }
+        ensures width { IfOk result (λ grower. grower.width ≡ self.width) }
+    {
+        let mut grower = self;
+        let mut walk = mem::replace(&mut grower.walk, Walk::new(alloc));
+        let places = grower.places_of(alloc, batch.first(), &mut walk)?;
+        let Grower {
+            tree,
+            numbers,
+            index,
+            walk: _,
+        } = grower;
+        tree.known();
+        Ok(Grower {
+            tree: tree.add_batch(batch, places.as_slice())?,
+            numbers,
+            index,
+            walk,
+        })
+    }
+
     /// The plan of an empty tree of the same width. This tree stays, also where the plan is refused.
     ///
     /// # Errors

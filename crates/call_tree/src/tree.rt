@@ -93,10 +93,20 @@ impl CallTree {
             → total_of (nodes_at self.now value) + total_of (rows_at value batch.now.rows) < 2 ^ 63 }
         ensures { IfOk result (λ next. AreCredited self.now next batch.now.rows self.now.width) }
     {
+        self.share()?.add_batch(batch, places)
+    }
+
+    /// The tree with the rows of a batch, each at its node. Pages that nobody else owns change in place.
+    pub(crate) fn add_batch(self, batch: &Batch, places: &[u32]) -> Result<CallTree, NoMemory>
+        requires width { batch.now.width ≡ self.width }
+        requires places { ArePlaces (plain_at self 0) batch.now.rows places.now }
+        requires fits { (value : ℕ)
+            → total_of (nodes_at self value) + total_of (rows_at value batch.now.rows) < 2 ^ 63 }
+        ensures { IfOk result (λ next. AreCredited self next batch.now.rows self.width) }
+    {
         self.known();
-        let names = self.names.share()?;
-        let mut nodes = self.nodes.share()?;
-        for value in 0..self.nodes.width().get() {
+        let CallTree { names, mut nodes } = self;
+        for value in 0..nodes.width().get() {
             add_rows(&names, &mut nodes, value, batch, places)?;
         }
         Ok(CallTree { names, nodes })

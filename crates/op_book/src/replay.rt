@@ -4,6 +4,8 @@ ghost use Rattle.std.specs.Prelude.{ℕ, ◌≡◌, ◌↔◌, ◌<◌, ◌≤�
 ghost use Rattle.op_book.specs.Matching.{IsFirstMissing, IsReceived};
 ghost use Rattle.op_book.specs.Operations.{FitsWidth, PlainOp, answered, plain_op, plain_reply, profile_after};
 ghost use Rattle.op_book.specs.Replays.{AreLight, AreNumbered, AreRising, IsLowestOf, IsToldPlainly, IsTreeOf, ops_in};
+ghost use Rattle.std.specs.FinMap as map;
+ghost use Rattle.call_tree.specs.State.{weights_of};
 ghost use Rattle.profile_rows.specs.Rows.{total_of};
 ghost use Rattle.profile_rows.specs.Values.{rows_at};
 
@@ -64,7 +66,7 @@ pub(crate) fn first_wrong(
         if !is_right(alloc, grower.tree(), receipt)? {
             lowest = lower(lowest, one);
         }
-        follow(&mut grower, alloc, &receipt.op)?;
+        grower = follow(grower, alloc, &receipt.op)?;
     }
     Ok(lowest)
 }
@@ -113,28 +115,33 @@ fn lower(lowest: Option<Wrong>, one: &Logged) -> Option<Wrong>
     }
 }
 
-/// Makes the tree that of one operation more.
-fn follow(grower: &mut Grower, alloc: Global, op: &Op) -> Result<(), NoMemory>
-    requires fits { FitsWidth grower.old.width (plain_op op.now) }
-    requires light { (operations : List PlainOp) × IsTreeOf operations grower.old × ((value : ℕ)
+/// The grower whose tree is that of one operation more. Nobody else owns its pages, so they change in place.
+fn follow(grower: Grower, alloc: Global, op: &Op) -> Result<Grower, NoMemory>
+    requires fits { FitsWidth grower.width (plain_op op.now) }
+    requires light { (operations : List PlainOp) × IsTreeOf operations grower × ((value : ℕ)
         → total_of (rows_at value (profile_after (operations ++ plain_op op.now ∷ []))) < 2 ^ 63) }
-    ensures tree { (operations : List PlainOp) → IsTreeOf operations grower.old
-        → OnOk result (IsTreeOf (operations ++ plain_op op.now ∷ []) grower.new) }
-    ensures width { OnOk result (grower.new.width ≡ grower.old.width) }
+    ensures tree { (operations : List PlainOp) → IsTreeOf operations grower
+        → IfOk result (IsTreeOf (operations ++ plain_op op.now ∷ [])) }
+    ensures width { IfOk result (λ next. next.width ≡ grower.width) }
 {
     match op {
         Op::Add(batch) => {
             sums_are_those_of_the_aggregate();
-            let plan = grower.plan(alloc, batch)?;
             aggregate_of_more_rows();
-            grower.credit(plan);
-            Ok(())
+            grower.with_batch(alloc, batch)
         }
-        Op::Reset => {
-            let plan = grower.plan_reset(alloc)?;
-            grower.credit(plan);
-            Ok(())
-        }
-        Op::Ask(_) => Ok(()),
+        Op::Reset => emptied(grower, alloc),
+        Op::Ask(_) => Ok(grower),
     }
+}
+
+/// The grower with nothing in its tree.
+fn emptied(grower: Grower, alloc: Global) -> Result<Grower, NoMemory>
+    ensures weights { IfOk result (λ next. (value : ℕ) → weights_of next value ≡ map.empty) }
+    ensures width { IfOk result (λ next. next.width ≡ grower.width) }
+{
+    let mut next = grower;
+    let plan = next.plan_reset(alloc)?;
+    next.credit(plan);
+    Ok(next)
 }

@@ -32,8 +32,8 @@ loop-one-preserved c =
     let tree : IsTreeOf before c.tree.result.now = subst (λ (t : TreeState). IsTreeOf before t) (sym c.tree.ensures) c.loop-one.invariant.1 in
     let right = c.in_ok-is_right.ensures before tree in
     let told = ap (λ (o : LoggedReceipt). o.receipt) c.one.view_is in (
-      c.in_ok-follow.ensures.width ∙ c.loop-one.invariant.0,
-      subst (λ (ops : List PlainOp). IsTreeOf ops c.follow.new.grower) (ap (λ (o : PlainOp). before ++ o ∷ []) op ∙ sym more) (c.in_ok-follow.ensures.tree before c.loop-one.invariant.1),
+      c.in_ok-grower-2.ensures.width ∙ c.loop-one.invariant.0,
+      subst (λ (ops : List PlainOp). IsTreeOf ops c.in_ok-grower-2.grower) (ap (λ (o : PlainOp). before ++ o ∷ []) op ∙ sym more) (c.in_ok-grower-2.ensures.tree before c.loop-one.invariant.1),
       elim c.if-not-branch.branch [
         | then-not-branch w ↦ subst (λ (o : Option Wrong). IsLowestOf all (c.loop-one.one-index + 1) o) (sym w.lowest-is)
             (wrong_more all c.loop-one.one-index one c.loop-one.lowest w.lower-lowest.result c.loop-one-test.true c.one-item.is

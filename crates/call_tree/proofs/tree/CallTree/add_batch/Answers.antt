@@ -7,42 +7,42 @@ use Rattle.call_tree.specs.Nodes.{AreTrees, nodes_of, plain_of, tree_of}
 use Rattle.call_tree.specs.Plans.{ArePlaces, IsCredited}
 use Rattle.call_tree.proofs.Adding.{AreAddedTo-step, places_now, total_now}
 use Rattle.call_tree.proofs.Growing.{ArePlaces-by}
-use Rattle.call_tree.proofs.tree.CallTree.with_batch.Goals as goal
+use Rattle.call_tree.proofs.tree.CallTree.add_batch.Goals as goal
 
 pub add_rows-requires-clause-places : goal.add_rows-requires-clause-places
 add_rows-requires-clause-places c =
-    let tree = c.args.self.now in
+    let tree = c.args.self in
     let value = c.loop-value.value in
     let rows = c.args.batch.now.rows in
     let places = c.args.places.now in
-    let names_are : c.in_ok-names.names ≡ tree.names = c.in_ok-names.ensures ∙ ap (λ t. t.names) c.self.view_is in
-    let tree_is : tree_of tree.names c.in_ok-nodes.nodes ≡ tree =
-    ap (λ ns. tree_of ns c.in_ok-nodes.nodes) (sym (ap (λ t. t.names) c.self.view_is)) ∙ ap (tree_of c.self.inside.names) c.in_ok-nodes.ensures ∙ c.self.view_is in
+    let names_are : c.self.inside.names ≡ tree.names = ap (λ t. t.names) c.self.view_is in
+    let tree_is : tree_of tree.names c.self.inside.nodes ≡ tree =
+    ap (λ ns. tree_of ns c.self.inside.nodes) (sym (ap (λ t. t.names) c.self.view_is)) ∙ c.self.view_is in
     let lt : value < tree.width = omega (arith, c.loop-value-test.true, c.loop-value.auto.value-end, c.width.ensures, ap (λ t. t.width) c.self.view_is) in
     let were = ArePlaces-by tree rows places value c.known.ensures lt c.requires.places in
-    let are = places_now tree.names c.in_ok-nodes.nodes c.loop-value.nodes rows value c.loop-value.invariant places (subst (λ (t : TreeState). ArePlaces (plain_at t value) rows places) (sym tree_is) were) in
+    let are = places_now tree.names c.self.inside.nodes c.loop-value.nodes rows value c.loop-value.invariant places (subst (λ (t : TreeState). ArePlaces (plain_at t value) rows places) (sym tree_is) were) in
     subst (λ ns. ArePlaces (plain_of ns c.loop-value.nodes value) rows places) (sym names_are) are
 
 pub add_rows-requires-clause-fits : goal.add_rows-requires-clause-fits
 add_rows-requires-clause-fits c =
-    let tree = c.args.self.now in
+    let tree = c.args.self in
     let value = c.loop-value.value in
     let rows = c.args.batch.now.rows in
-    let names_are : c.in_ok-names.names ≡ tree.names = c.in_ok-names.ensures ∙ ap (λ t. t.names) c.self.view_is in
-    let tree_is : tree_of tree.names c.in_ok-nodes.nodes ≡ tree =
-    ap (λ ns. tree_of ns c.in_ok-nodes.nodes) (sym (ap (λ t. t.names) c.self.view_is)) ∙ ap (tree_of c.self.inside.names) c.in_ok-nodes.ensures ∙ c.self.view_is in
+    let names_are : c.self.inside.names ≡ tree.names = ap (λ t. t.names) c.self.view_is in
+    let tree_is : tree_of tree.names c.self.inside.nodes ≡ tree =
+    ap (λ ns. tree_of ns c.self.inside.nodes) (sym (ap (λ t. t.names) c.self.view_is)) ∙ c.self.view_is in
     let total = ap (λ ns. total_of (node_rows ns (nodes_of c.loop-value.nodes value))) names_are
-    ∙ total_now tree.names c.in_ok-nodes.nodes c.loop-value.nodes rows value c.loop-value.invariant ∙ ap (λ (t : TreeState). total_of (nodes_at t value)) tree_is in
+    ∙ total_now tree.names c.self.inside.nodes c.loop-value.nodes rows value c.loop-value.invariant ∙ ap (λ (t : TreeState). total_of (nodes_at t value)) tree_is in
     omega (arith, total, c.requires.fits value)
 
 pub loop-value-preserved : goal.loop-value-preserved
 loop-value-preserved c =
-    let tree = c.args.self.now in
+    let tree = c.args.self in
     let value = c.loop-value.value in
     let rows = c.args.batch.now.rows in
-    let names_are : c.in_ok-names.names ≡ tree.names = c.in_ok-names.ensures ∙ ap (λ t. t.names) c.self.view_is in
+    let names_are : c.self.inside.names ≡ tree.names = ap (λ t. t.names) c.self.view_is in
     let added = c.in_ok-add_rows.ensures in
-    AreAddedTo-step tree.names c.in_ok-nodes.nodes c.loop-value.nodes rows value c.loop-value.invariant c.add_rows.new.nodes
+    AreAddedTo-step tree.names c.self.inside.nodes c.loop-value.nodes rows value c.loop-value.invariant c.add_rows.new.nodes
     (subst (λ ns. AreTrees ns c.add_rows.new.nodes) names_are added.trees) added.width
     (subst (λ ns. IsCredited (plain_of ns c.loop-value.nodes value) (plain_of ns c.add_rows.new.nodes value) (rows_at value rows)) names_are added.credited)
     added.others

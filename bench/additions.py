@@ -5,8 +5,9 @@
 
 The rows have 34 frames. They are random walks in a seeded call graph, so that they share their first frames, as stacks
 do. The first rows build the tree, and then as many as --additions says are added one by one, each a row of the tree
-that is drawn at random. Two kinds of additions are timed:
-  alone    a batch is planned and credited;
+that is drawn at random. Three kinds of additions are timed:
+  alone    a batch is added in place (`Grower::with_batch`);
+  planned  a batch is planned and credited, so that the next tree stands beside the one before;
   shared   the same, and a share of the tree after each addition is held until the next.
 
 The program is additions.rattle, in a copy of the crates below it that stands outside the repository: the gate doesn't
@@ -33,7 +34,7 @@ from random_stacks import function_names, tree_stacks, write_folded
 
 NAME = "additions"
 LIBRARIES = ["profile_rows", "folded_text", "call_tree", "anyhow"]
-KINDS = {"alone": "lock", "shared": "paged --page 256"}
+KINDS = {"alone": "lock", "planned": "lock", "shared": "paged --page 256"}
 
 
 def write_rows(folder, options):

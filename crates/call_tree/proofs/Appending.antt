@@ -1,16 +1,32 @@
 -- One more name, and one more node of weight 0.
-use Rattle.std.proofs.Common.{◌≡◌, ℕ, zero, suc, ◌+◌, ◌<◌, ◌≤◌, ◌^◌, Bool, true, false, cond, not, ◌&&◌, List, [], ◌∷◌, ◌++◌, length, map, get_or, refl, sym, ap, ◌∙◌, subst, arith, sum_by, inl, inr, ⊎_elim, ◌⊎◌}
+use Rattle.std.proofs.Common.{◌≡◌, ℕ, zero, suc, ◌+◌, ◌<◌, ◌≤◌, ◌^◌, Bool, not, List, [], ◌∷◌, ◌++◌, length, map, get_or, refl, sym, ap, ◌∙◌, subst, arith, inl, inr, ⊎_elim, ◌⊎◌}
 use Rattle.std.proofs.lemmas.List.{get_or_append_left, get_or_push, length_push}
-use Rattle.std.proofs.lemmas.List.Sums.{sum_by_push, sum_by-cons}
+use Rattle.std.proofs.lemmas.List.Sums.{sum_by_push}
 use Rattle.std.proofs.lemmas.Bool.{cases_eq}
 use Rattle.profile_rows.specs.declared.weighted_stacks.WeightedStack.{WeightedStack}
-use Rattle.profile_rows.specs.Names.{is_same_name}
-use Rattle.profile_rows.specs.Rows.{has_name, total_of, cumulative_weight_of}
-use Rattle.profile_rows.proofs.RowLaws.{weight_where-push}
+use Rattle.profile_rows.specs.Rows.{has_name, total_of}
 use Rattle.call_tree.specs.declared.node.Node.{Node}
 use Rattle.call_tree.specs.State.{name_at, no_row, stack_at}
-use Rattle.call_tree.specs.Shape.{Link, link_of, no_node, next_stack, stacks_from, stacks_of, rows_with, node_rows, at, counted_if, IsTree}
+use Rattle.call_tree.specs.Shape.{Link, link_of, no_node, next_stack, stacks_from, stacks_of, rows_with, node_rows, at, IsTree}
 use Rattle.call_tree.proofs.Shapes.{node_rows-push, node_at-node_rows, length-node_rows, length-stacks_of, length-map_link, get_or-links}
+
+-- ---- the root alone
+
+pub IsTree-root : IsTree [] (no_node ∷ [])
+IsTree-root = record {
+  rooted = omega arith;
+  root = refl;
+  links = λ k pos lt. absurd (omega (arith, pos, lt));
+  counts = λ k pos lt. absurd (omega (arith, pos, lt));
+  deep = deep;
+  apart = λ i j hi hj e. omega (arith, hi, hj);
+  unlike = λ i j hi hj e. absurd (omega (arith, hi));
+  fits = omega arith;
+}
+  where
+    deep : (k : ℕ) → k < 1 → length (stack_at (node_rows [] (no_node ∷ [])) k) ≤ 65535
+    deep zero lt = omega arith
+    deep (suc k) lt = absurd (omega (arith, lt))
 
 -- ---- a name
 
@@ -40,14 +56,6 @@ module _ (names : List (List ℕ)) (nodes : List Node) (added : List ℕ) (tree 
 
   name_kept : (k : ℕ) → 0 < k → k < length nodes → name_at (names ++ added ∷ []) (at nodes k).name ≡ name_at names (at nodes k).name
   name_kept k pos lt = name_at-kept names added (at nodes k).name (tree.links k pos lt).1
-
-  counted_kept : (name : List ℕ) (k : ℕ) → k < length nodes → counted_if (names ++ added ∷ []) name (at nodes k) ≡ counted_if names name (at nodes k)
-  counted_kept name zero lt =
-      let none = tree.root in
-      ap (λ b. cond (b && is_same_name name (name_at (names ++ added ∷ []) (at nodes 0).name)) (at nodes 0).total 0) none
-      ∙ sym (ap (λ b. cond (b && is_same_name name (name_at names (at nodes 0).name)) (at nodes 0).total 0) none)
-  counted_kept name (suc k) lt =
-      ap (λ n. cond ((at nodes (suc k)).counts && is_same_name name n) (at nodes (suc k)).total 0) (name_kept (suc k) (omega arith) lt)
 
   cases_last : (i : ℕ) → i < length (names ++ added ∷ []) → (i < length names) ⊎ (i ≡ length names)
   cases_last i lt = ⊎_elim (λ e. inr e) (λ ne. inl (omega (arith, length_push names added))) (cases_eq i (length names))
@@ -79,19 +87,8 @@ module _ (names : List (List ℕ)) (nodes : List Node) (added : List ℕ) (tree 
     deep = subst (λ rows. (k : ℕ) → k < length nodes → length (stack_at rows k) ≤ 65535) (sym node_rows-named) tree.deep;
     apart = subst (λ rows. (i j : ℕ) → i < length nodes → j < length nodes → stack_at rows i ≡ stack_at rows j → i ≡ j) (sym node_rows-named) tree.apart;
     unlike = unlike_named;
-    sums = λ name. sum_same (counted_if (names ++ added ∷ []) name) (counted_if names name) nodes (counted_kept name) ∙ tree.sums name
-        ∙ ap (λ rows. cumulative_weight_of rows name) (sym node_rows-named);
-    whole = tree.whole ∙ ap total_of (sym node_rows-named);
-    bounds = λ k lt. subst (λ rows. (at nodes k).total ≤ total_of rows) (sym node_rows-named) (tree.bounds k lt);
     fits = subst (λ rows. total_of rows < 2 ^ 63) (sym node_rows-named) tree.fits;
   }
-    where
-      sum_same : (f g : Node → ℕ) (xs : List Node) → ((k : ℕ) → k < length xs → f (at xs k) ≡ g (at xs k)) → sum_by f xs ≡ sum_by g xs
-      sum_same f g [] h = refl
-      sum_same f g (x ∷ xs) h =
-          let rest = sum_same f g xs (λ k lt. h (suc k) (omega arith)) in
-          let here = h 0 (omega arith) in
-          omega (arith, sum_by-cons f x xs, sum_by-cons g x xs, rest, here)
 
 -- ---- a node
 
@@ -106,7 +103,7 @@ module _ (names : List (List ℕ)) (nodes : List Node) (parent name : ℕ) (coun
     (deep : length (stack_at (node_rows names nodes) parent) < 65535)
     (fresh : (k : ℕ) → k < length nodes → stack_at (node_rows names nodes) k ≡ stack_at (node_rows names nodes) parent ++ name_at names name ∷ [] → ⊥) where
   abbrev pub added_node : Node
-  added_node = record { parent = parent; name = name; counts = counts; own = 0; total = 0 }
+  added_node = record { parent = parent; name = name; counts = counts; own = 0 }
 
   abbrev pub added_row : WeightedStack
   added_row = record { stack = stack_at (node_rows names nodes) parent ++ name_at names name ∷ []; weight = 0 }
@@ -140,10 +137,6 @@ module _ (names : List (List ℕ)) (nodes : List Node) (parent name : ℕ) (coun
   by_node : (P : ℕ → Type 0) → ((k : ℕ) → k < length nodes → P k) → P (length nodes) → (k : ℕ) → k < length all → P k
   by_node P old last k lt = ⊎_elim (λ h. old k h) (λ e. subst P (sym e) last) (cases_of k lt)
 
-  zero_if : (b : Bool) → let none : ℕ = 0 in cond b none none ≡ none
-  zero_if true = refl
-  zero_if false = refl
-
   total_kept : total_of (node_rows names all) ≡ total_of (node_rows names nodes)
   total_kept = ap total_of node_rows-added ∙ omega (arith, sum_by_push (λ (row : WeightedStack). row.weight) (node_rows names nodes) added_row)
 
@@ -176,12 +169,5 @@ module _ (names : List (List ℕ)) (nodes : List Node) (parent name : ℕ) (coun
         (let e = ap length stack_last in omega (arith, e, length_push (stack_at (node_rows names nodes) parent) (name_at names name), deep));
     apart = apart_added;
     unlike = tree.unlike;
-    sums = λ f. let more = sum_by_push (counted_if names f) nodes added_node in let none = zero_if (counts && is_same_name f (name_at names name)) in
-        let rows = weight_where-push (has_name f) (node_rows names nodes) added_row in let empty = zero_if (has_name f added_row.stack) in
-        let old = tree.sums f in let e = ap (λ rows. cumulative_weight_of rows f) node_rows-added in omega (arith, more, none, rows, empty, old, e);
-    whole = ap (λ node. node.total) (at_old 0 tree.rooted) ∙ tree.whole ∙ sym total_kept;
-    bounds = λ k lt. by_node (λ k. (at all k).total ≤ total_of (node_rows names all))
-        (λ k h. let e = ap (λ node. node.total) (at_old k h) in let b = tree.bounds k h in let t = total_kept in omega (arith, e, b, t))
-        (let e = ap (λ node. node.total) at_last in omega (arith, e)) k lt;
     fits = let t = total_kept in let f = tree.fits in omega (arith, t, f);
   }

@@ -1,5 +1,5 @@
 -- The names of a tree with their weights: each name of weight is one of the tree's names, and stands there once.
-use Rattle.std.proofs.Common.{◌≡◌, ℕ, zero, suc, ◌+◌, ◌<◌, Bool, true, false, cond, ◌&&◌, List, [], ◌∷◌, ◌++◌, length, map, filter, take, refl, sym, ap, ◌∙◌, subst, arith, sum_by, IsPermutation, All, ◌⊎◌, inl, inr, ⊎_elim}
+use Rattle.std.proofs.Common.{◌≡◌, ℕ, zero, suc, ◌+◌, ◌<◌, Bool, true, false, cond, ◌||◌, List, [], ◌∷◌, ◌++◌, length, map, filter, take, refl, sym, ap, ◌∙◌, subst, arith, IsPermutation, All, ◌⊎◌, inl, inr, ⊎_elim}
 use Rattle.std.specs.Prelude.{nat_lt}
 use Rattle.std.specs.List.{AllByRecursion}
 use Rattle.std.proofs.lemmas.List.{append-nil, take_more, map_push}
@@ -8,7 +8,7 @@ use Rattle.std.proofs.lemmas.List.Sorted.{All-permutation, sum_by-IsPermutation}
 use Rattle.std.proofs.lemmas.List.Sums.{sum_by-cons}
 use Rattle.profile_rows.specs.declared.weighted_stacks.WeightedStack.{WeightedStack}
 use Rattle.profile_rows.specs.Names.{is_same_name}
-use Rattle.profile_rows.specs.Rows.{has_name, ends_with_name, flat_weight_of, cumulative_weight_of}
+use Rattle.profile_rows.specs.Rows.{has_name, ends_with_name, weight_if, flat_weight_of, cumulative_weight_of}
 use Rattle.profile_rows.specs.Aggregate.{aggregate_of, rows_of}
 use Rattle.profile_rows.specs.TopList.{AreSumsOf, occurrences, sums_at}
 use Rattle.profile_rows.proofs.EntryLaws.{weight_where-rows_of}
@@ -16,9 +16,11 @@ use Rattle.profile_rows.proofs.SameNames.{same_from_is_same_name, is_same_name-s
 use borrow.Author.Tests.{lt-ltb}
 use Rattle.call_tree.specs.declared.node.Node.{Node}
 use Rattle.profile_rows.specs.declared.frame_totals.FrameTotal.{FrameTotal}
-use Rattle.call_tree.specs.State.{name_at}
-use Rattle.call_tree.specs.Shape.{node_rows, at, counted_if, IsTree}
+use Rattle.call_tree.specs.State.{name_at, stack_at}
+use Rattle.call_tree.specs.Shape.{node_rows, at, IsTree}
 use Rattle.call_tree.specs.Totals.{names_of_weight}
+use Rattle.call_tree.proofs.Paths.{has_name-next}
+use Rattle.call_tree.proofs.Shapes.{length-node_rows, stack_at-child, stack_at-root}
 
 abbrev mark : List ℕ → FrameTotal → ℕ
 mark name sums = cond (is_same_name name sums.name) 1 0
@@ -140,29 +142,34 @@ search_name name (first ∷ names) =
     later e none zero lt f = let yes : is_same_name name first ≡ true = ap (is_same_name name) f ∙ is_same_name-self name in cc
     later e none (suc k) lt f = none k (omega arith) f
 
-sum_none : (f : Node → ℕ) (xs : List Node) → ((k : ℕ) → k < length xs → f (at xs k) ≡ 0) → sum_by f xs ≡ 0
-sum_none f [] h = refl
-sum_none f (x ∷ xs) h =
-    let rest = sum_none f xs (λ k lt. h (suc k) (omega arith)) in
-    let here = h 0 (omega arith) in
-    omega (arith, sum_by-cons f x xs, rest, here)
-
 module _ (names : List (List ℕ)) (nodes : List Node) (tree : IsTree names nodes) where
-  uncounted : (name : List ℕ) → ((k : ℕ) → k < length names → name_at names k ≡ name → ⊥) → (k : ℕ) → k < length nodes → counted_if names name (at nodes k) ≡ 0
-  uncounted name none zero lt = ap (λ b. cond (b && is_same_name name (name_at names (at nodes 0).name)) (at nodes 0).total 0) tree.root
-  uncounted name none (suc k) lt =
-      elim ((at nodes (suc k)).counts && is_same_name name (name_at names (at nodes (suc k)).name)) as (λ b.
-      ((at nodes (suc k)).counts && is_same_name name (name_at names (at nodes (suc k)).name)) ≡ b → cond b (at nodes (suc k)).total 0 ≡ 0) [
-        | true ↦ λ e. absurd (none (at nodes (suc k)).name (tree.links (suc k) (omega arith) lt).1 (sym (same_from_is_same_name name _ (second _ _ e))))
-        | false ↦ λ e. refl
-      ] refl
+  -- a name that the tree hasn't stands in no stack
+  unnamed_to : (name : List ℕ) → ((k : ℕ) → k < length names → name_at names k ≡ name → ⊥) → (count k : ℕ) → k < count → k < length nodes
+      → has_name name (stack_at (node_rows names nodes) k) ≡ false
+  unnamed_to name none zero k below lt = absurd (omega arith)
+  unnamed_to name none (suc count) zero below lt = ap (has_name name) (stack_at-root names nodes)
+  unnamed_to name none (suc count) (suc k) below lt =
+      let links = tree.links (suc k) (omega arith) lt in
+      let parent = unnamed_to name none count (at nodes (suc k)).parent (omega (arith, links.0, below)) (omega (arith, links.0, lt)) in
+      ap (has_name name) (stack_at-child names nodes (suc k) (omega arith) lt links.0)
+      ∙ has_name-next name (stack_at (node_rows names nodes) (at nodes (suc k)).parent) (name_at names (at nodes (suc k)).name)
+      ∙ (λ i. parent i || is_same_name name (name_at names (at nodes (suc k)).name))
+      ∙ other (is_same_name name (name_at names (at nodes (suc k)).name)) refl links.1
     where
-      second : (a b : Bool) → (a && b) ≡ true → b ≡ true
-      second true b e = e
-      second false b e = cc
+      other : (b : Bool) → is_same_name name (name_at names (at nodes (suc k)).name) ≡ b → (at nodes (suc k)).name < length names → b ≡ false
+      other true e name_lt = absurd (none (at nodes (suc k)).name name_lt (sym (same_from_is_same_name name _ e)))
+      other false e name_lt = refl
 
   nameless : (name : List ℕ) → ((k : ℕ) → k < length names → name_at names k ≡ name → ⊥) → cumulative_weight_of (node_rows names nodes) name ≡ 0
-  nameless name none = sym (tree.sums name) ∙ sum_none (counted_if names name) nodes (uncounted name none)
+  nameless name none = weightless (node_rows names nodes)
+      (λ k lt. unnamed_to name none (length nodes) k (omega (arith, lt, length-node_rows names nodes)) (omega (arith, lt, length-node_rows names nodes)))
+    where
+      weightless : (rows : List WeightedStack) → ((k : ℕ) → k < length rows → has_name name (stack_at rows k) ≡ false) → cumulative_weight_of rows name ≡ 0
+      weightless [] h = refl
+      weightless (row ∷ rows) h =
+          let rest = weightless rows (λ k lt. h (suc k) (omega arith)) in
+          let here = ap (λ b. cond b row.weight 0) (h 0 (omega arith)) in
+          omega (arith, sum_by-cons (weight_if (has_name name)) row rows, rest, here)
 
   once : (name : List ℕ) → occurrences name (names_of_weight (node_rows names nodes) names) ≡ cond (nat_lt 0 (cumulative_weight_of (node_rows names nodes) name)) 1 0
   once name = ⊎_elim

@@ -12,7 +12,6 @@ use Rattle.profile_rows.proofs.SameNames.{same_from_is_same_name, is_same_name-s
 use Rattle.call_tree.specs.State.{PlainTree, IsState, IsGrown, name_at, node_at, stack_at}
 use Rattle.call_tree.specs.Plans.{AreFirstPlaces, IsPlace, place_at}
 use Rattle.call_tree.specs.Walks.{has_number, IsOnPath}
-use Rattle.call_tree.proofs.Raising.{has_name-next}
 
 pub IsOnPath-start : (tree : PlainTree) (frames : List (List ℕ)) → IsState tree → IsOnPath tree [] frames 0 0
 IsOnPath-start tree frames state = record { place_lt = state.rooted; here = state.root; below = λ j lt. absurd (omega arith); seen_is = λ name. refl }
@@ -21,6 +20,14 @@ pub same_bool : (a b : Bool) → (a ≡ true → b ≡ true) → (b ≡ true →
 same_bool true b f g = sym (f refl)
 same_bool false true f g = g refl
 same_bool false false f g = refl
+
+-- has_name of a stack that goes on by one name
+pub has_name-next : (name : List ℕ) (stack : List (List ℕ)) (last : List ℕ) → has_name name (stack ++ last ∷ []) ≡ (has_name name stack || is_same_name name last)
+has_name-next name stack last = list_any-append (is_same_name name) stack (last ∷ []) ∙ ap (λ b. has_name name stack || b) (or_false (is_same_name name last))
+  where
+    or_false : (b : Bool) → (b || false) ≡ b
+    or_false true = refl
+    or_false false = refl
 
 -- equal numbers are equal names
 has_number-own : (names : List (List ℕ)) (n : ℕ) (numbers : List ℕ) → n < length names → ((j : ℕ) → j < length numbers → get_or numbers j 0 < length names)

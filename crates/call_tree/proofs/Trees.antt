@@ -8,10 +8,9 @@ use Rattle.profile_rows.specs.Rows.{has_name}
 use Rattle.call_tree.specs.declared.node.Node.{Node}
 use Rattle.call_tree.specs.State.{TreeState, PlainTree, AreStates, IsState, IsAppended, IsFresh, name_at, nodes_at, plain_at, stack_at}
 use Rattle.call_tree.specs.Shape.{IsTree, link_of, node_rows, stacks_from}
-use Rattle.call_tree.specs.Nodes.{AreAlike, AreTrees, nodes_of, tree_of, without_weights}
+use Rattle.call_tree.specs.Nodes.{AreAlike, AreTrees, nodes_of, tree_of, without_weight}
 use Rattle.call_tree.proofs.Shapes.{IsState-tree, length-node_rows, node_at-node_rows}
 use Rattle.call_tree.proofs.Appending.{IsTree-added, node_rows-added, node_rows-named}
-use Rattle.call_tree.proofs.Raising.{IsRaised, IsRaised-start}
 
 pub nodes_at-tree : (names : List (List ℕ)) (all : List (List Node)) (value : ℕ) → nodes_at (tree_of names all) value ≡ node_rows names (nodes_of all value)
 nodes_at-tree names all value = list.get_or-map (node_rows names) all value []
@@ -43,19 +42,19 @@ nodes_at-past tree value past = nothing_past tree.values value past
 
 -- ---- the same nodes by each value
 
-links-without : (nodes : List Node) → map link_of (map without_weights nodes) ≡ map link_of nodes
+links-without : (nodes : List Node) → map link_of (map without_weight nodes) ≡ map link_of nodes
 links-without [] = refl
 links-without (n ∷ nodes) = ap (λ rest. link_of n ∷ rest) (links-without nodes)
 
-pub stack_at-alike : (names : List (List ℕ)) (nodes others : List Node) (k : ℕ) → map without_weights nodes ≡ map without_weights others
+pub stack_at-alike : (names : List (List ℕ)) (nodes others : List Node) (k : ℕ) → map without_weight nodes ≡ map without_weight others
     → stack_at (node_rows names nodes) k ≡ stack_at (node_rows names others) k
 stack_at-alike names nodes others k e =
     let links : map link_of nodes ≡ map link_of others = sym (links-without nodes) ∙ ap (map link_of) e ∙ links-without others in
     ap (λ row. row.stack) (node_at-node_rows names nodes k) ∙ ap (λ ls. get_or (stacks_from names [] ls) k []) links
     ∙ sym (ap (λ row. row.stack) (node_at-node_rows names others k))
 
-pub length-alike : (nodes others : List Node) → map without_weights nodes ≡ map without_weights others → length nodes ≡ length others
-length-alike nodes others e = sym (length-map nodes without_weights) ∙ ap length e ∙ length-map others without_weights
+pub length-alike : (nodes others : List Node) → map without_weight nodes ≡ map without_weight others → length nodes ≡ length others
+length-alike nodes others e = sym (length-map nodes without_weight) ∙ ap length e ∙ length-map others without_weight
 
 pub AreStates-trees : (names : List (List ℕ)) (all : List (List Node)) → AreAlike all → AreTrees names all → AreStates (tree_of names all)
 AreStates-trees names all alike trees = record {
@@ -83,7 +82,7 @@ values_named names all added trees absent =
 module _ (names : List (List ℕ)) (all next : List (List Node)) (parent name : ℕ) (counts : Bool) (trees : AreTrees names all) (alike : AreAlike all)
     (fresh : IsFresh (plain_at (tree_of names all) 0) parent name counts) (count : length next ≡ length all)
     (pushed : (value : ℕ) → value < length all
-    → nodes_of next value ≡ nodes_of all value ++ (record { parent = parent; name = name; counts = counts; own = 0; total = 0 }) ∷ []) where
+    → nodes_of next value ≡ nodes_of all value ++ (record { parent = parent; name = name; counts = counts; own = 0 }) ∷ []) where
   stack_is : (value k : ℕ) → value < length all → stack_at (node_rows names (nodes_of all value)) k ≡ stack_at (nodes_at (tree_of names all) 0) k
   stack_is value k lt = stack_at-alike names (nodes_of all value) (nodes_of all 0) k (alike.each value lt) ∙ ap (λ rows. stack_at rows k) (sym (nodes_at-tree names all 0))
 
@@ -123,16 +122,6 @@ module _ (names : List (List ℕ)) (all next : List (List Node)) (parent name : 
   }
 
 -- ---- one weight more by one value
-
-pub record AreRaised (names : List (List ℕ)) (all now : List (List Node)) (value start place weight : ℕ) : Type 0 where
-  pub count : length now ≡ length all
-  pub here : IsRaised names (nodes_of all value) (nodes_of now value) start place weight
-  pub others : (other : ℕ) → (other ≡ value → ⊥) → nodes_of now other ≡ nodes_of all other
-
-pub AreRaised-start : (names : List (List ℕ)) (all : List (List Node)) (value start weight : ℕ) → start < length (nodes_of all value)
-    → AreRaised names all all value start start weight
-AreRaised-start names all value start weight lt =
-    record { count = refl; here = IsRaised-start names (nodes_of all value) start weight lt; others = λ other ne. refl }
 
 pub AreTrees-raised : (names : List (List ℕ)) (all now : List (List Node)) (value : ℕ) → AreTrees names all → length now ≡ length all
     → IsTree names (nodes_of now value) → ((other : ℕ) → (other ≡ value → ⊥) → nodes_of now other ≡ nodes_of all other) → AreTrees names now

@@ -5,118 +5,117 @@ use Rattle.std.proofs.Math.Seq.{map-set_same}
 use Rattle.std.proofs.lemmas.List.{get_or-map, length-map, get_or-set_same, get_or-set_other, length-set, length_push}
 use Rattle.std.proofs.lemmas.Bool.{cases_eq}
 use Rattle.call_tree.specs.declared.node.Node.{Node}
-use Rattle.call_tree.specs.declared.node.NodeWeights.{NodeWeights}
 use Rattle.call_tree.specs.Shape.{no_node, at}
-use Rattle.call_tree.specs.Nodes.{no_weights, with_weights, without_weights, weighed, nodes_of, AreTables, AreAlike}
+use Rattle.call_tree.specs.Nodes.{with_weight, without_weight, weighed, nodes_of, AreTables, AreAlike}
 
-pub length-weighed : (nodes : List Node) (table : List NodeWeights) → length (weighed nodes table) ≡ length nodes
+pub length-weighed : (nodes : List Node) (table : List ℕ) → length (weighed nodes table) ≡ length nodes
 length-weighed [] table = refl
 length-weighed (n ∷ nodes) [] = ap (λ k. suc k) (length-weighed nodes [])
 length-weighed (n ∷ nodes) (w ∷ table) = ap (λ k. suc k) (length-weighed nodes table)
 
-pub at-weighed : (nodes : List Node) (table : List NodeWeights) (k : ℕ) → k < length nodes
-    → at (weighed nodes table) k ≡ with_weights (at nodes k) (get_or table k no_weights)
+pub at-weighed : (nodes : List Node) (table : List ℕ) (k : ℕ) → k < length nodes
+    → at (weighed nodes table) k ≡ with_weight (at nodes k) (get_or table k 0)
 at-weighed [] table k lt = absurd (omega arith)
 at-weighed (n ∷ nodes) [] zero lt = refl
 at-weighed (n ∷ nodes) [] (suc k) lt = at-weighed nodes [] k (omega arith)
 at-weighed (n ∷ nodes) (w ∷ table) zero lt = refl
 at-weighed (n ∷ nodes) (w ∷ table) (suc k) lt = at-weighed nodes table k (omega arith)
 
-pub without-weighed : (nodes : List Node) (table : List NodeWeights) → map without_weights (weighed nodes table) ≡ map without_weights nodes
+pub without-weighed : (nodes : List Node) (table : List ℕ) → map without_weight (weighed nodes table) ≡ map without_weight nodes
 without-weighed [] table = refl
-without-weighed (n ∷ nodes) [] = ap (λ rest. without_weights n ∷ rest) (without-weighed nodes [])
-without-weighed (n ∷ nodes) (w ∷ table) = ap (λ rest. without_weights n ∷ rest) (without-weighed nodes table)
+without-weighed (n ∷ nodes) [] = ap (λ rest. without_weight n ∷ rest) (without-weighed nodes [])
+without-weighed (n ∷ nodes) (w ∷ table) = ap (λ rest. without_weight n ∷ rest) (without-weighed nodes table)
 
 -- the weights in the nodes themselves don't count
-weighed-without : (nodes : List Node) (table : List NodeWeights) → weighed (map without_weights nodes) table ≡ weighed nodes table
+weighed-without : (nodes : List Node) (table : List ℕ) → weighed (map without_weight nodes) table ≡ weighed nodes table
 weighed-without [] table = refl
-weighed-without (n ∷ nodes) [] = ap (λ rest. without_weights n ∷ rest) (weighed-without nodes [])
-weighed-without (n ∷ nodes) (w ∷ table) = ap (λ rest. with_weights n w ∷ rest) (weighed-without nodes table)
+weighed-without (n ∷ nodes) [] = ap (λ rest. without_weight n ∷ rest) (weighed-without nodes [])
+weighed-without (n ∷ nodes) (w ∷ table) = ap (λ rest. with_weight n w ∷ rest) (weighed-without nodes table)
 
-pub weighed-alike : (nodes others : List Node) (table : List NodeWeights) → map without_weights nodes ≡ map without_weights others
+pub weighed-alike : (nodes others : List Node) (table : List ℕ) → map without_weight nodes ≡ map without_weight others
     → weighed nodes table ≡ weighed others table
 weighed-alike nodes others table e = sym (weighed-without nodes table) ∙ ap (λ ns. weighed ns table) e ∙ weighed-without others table
 
-pub weighed-longer : (nodes : List Node) (table : List NodeWeights) → weighed nodes (table ++ no_weights ∷ []) ≡ weighed nodes table
+pub weighed-longer : (nodes : List Node) (table : List ℕ) → weighed nodes (table ++ 0 ∷ []) ≡ weighed nodes table
 weighed-longer [] table = refl
 weighed-longer (n ∷ nodes) [] = refl
-weighed-longer (n ∷ nodes) (w ∷ table) = ap (λ rest. with_weights n w ∷ rest) (weighed-longer nodes table)
+weighed-longer (n ∷ nodes) (w ∷ table) = ap (λ rest. with_weight n w ∷ rest) (weighed-longer nodes table)
 
-pub weighed-push : (nodes : List Node) (table : List NodeWeights) (node : Node) → get_or table (length nodes) no_weights ≡ no_weights
-    → weighed (nodes ++ node ∷ []) table ≡ weighed nodes table ++ without_weights node ∷ []
+pub weighed-push : (nodes : List Node) (table : List ℕ) (node : Node) → get_or table (length nodes) 0 ≡ 0
+    → weighed (nodes ++ node ∷ []) table ≡ weighed nodes table ++ without_weight node ∷ []
 weighed-push [] [] node e = refl
-weighed-push [] (w ∷ table) node e = ap (λ weights. with_weights node weights ∷ []) e
-weighed-push (n ∷ nodes) [] node e = ap (λ rest. without_weights n ∷ rest) (weighed-push nodes [] node refl)
-weighed-push (n ∷ nodes) (w ∷ table) node e = ap (λ rest. with_weights n w ∷ rest) (weighed-push nodes table node e)
+weighed-push [] (w ∷ table) node e = ap (λ weights. with_weight node weights ∷ []) e
+weighed-push (n ∷ nodes) [] node e = ap (λ rest. without_weight n ∷ rest) (weighed-push nodes [] node refl)
+weighed-push (n ∷ nodes) (w ∷ table) node e = ap (λ rest. with_weight n w ∷ rest) (weighed-push nodes table node e)
 
-pub weighed-set : (nodes : List Node) (table : List NodeWeights) (k : ℕ) (weights : NodeWeights) → k < length nodes → k < length table
-    → weighed nodes (set table k weights) ≡ set (weighed nodes table) k (with_weights (at nodes k) weights)
+pub weighed-set : (nodes : List Node) (table : List ℕ) (k : ℕ) (weights : ℕ) → k < length nodes → k < length table
+    → weighed nodes (set table k weights) ≡ set (weighed nodes table) k (with_weight (at nodes k) weights)
 weighed-set [] table k weights lt long = absurd (omega arith)
 weighed-set (n ∷ nodes) [] k weights lt long = absurd (omega arith)
 weighed-set (n ∷ nodes) (w ∷ table) zero weights lt long = refl
-weighed-set (n ∷ nodes) (w ∷ table) (suc k) weights lt long = ap (λ rest. with_weights n w ∷ rest) (weighed-set nodes table k weights (omega arith) (omega arith))
+weighed-set (n ∷ nodes) (w ∷ table) (suc k) weights lt long = ap (λ rest. with_weight n w ∷ rest) (weighed-set nodes table k weights (omega arith) (omega arith))
 
 -- ---- by each value
 
-abbrev pub all_of : List Node → List (List NodeWeights) → List (List Node)
+abbrev pub all_of : List Node → List (List ℕ) → List (List Node)
 all_of first tables = first ∷ map (weighed first) tables
 
-abbrev pub table_of : List (List NodeWeights) → ℕ → List NodeWeights
+abbrev pub table_of : List (List ℕ) → ℕ → List ℕ
 table_of tables k = get_or tables k []
 
-pub nodes_of-more : (first : List Node) (tables : List (List NodeWeights)) (k : ℕ) → k < length tables
+pub nodes_of-more : (first : List Node) (tables : List (List ℕ)) (k : ℕ) → k < length tables
     → nodes_of (all_of first tables) (suc k) ≡ weighed first (table_of tables k)
 nodes_of-more first tables k lt = get_or-map (weighed first) tables k [] [] lt
 
-pub length-nodes_of : (first : List Node) (tables : List (List NodeWeights)) (value : ℕ) → value < length (all_of first tables)
+pub length-nodes_of : (first : List Node) (tables : List (List ℕ)) (value : ℕ) → value < length (all_of first tables)
     → length (nodes_of (all_of first tables) value) ≡ length first
 length-nodes_of first tables zero lt = refl
 length-nodes_of first tables (suc k) lt =
     let in_tables : k < length tables = omega (arith, length-map tables (weighed first)) in
     ap length (nodes_of-more first tables k in_tables) ∙ length-weighed first (table_of tables k)
 
-pub AreAlike-all : (first : List Node) (tables : List (List NodeWeights)) → AreAlike (all_of first tables)
+pub AreAlike-all : (first : List Node) (tables : List (List ℕ)) → AreAlike (all_of first tables)
 AreAlike-all first tables = record { some = omega arith; each = each }
   where
-    each : (value : ℕ) → value < length (all_of first tables) → map without_weights (nodes_of (all_of first tables) value) ≡ map without_weights first
+    each : (value : ℕ) → value < length (all_of first tables) → map without_weight (nodes_of (all_of first tables) value) ≡ map without_weight first
     each zero lt = refl
     each (suc k) lt =
         let in_tables : k < length tables = omega (arith, length-map tables (weighed first)) in
-        ap (map without_weights) (nodes_of-more first tables k in_tables) ∙ without-weighed first (table_of tables k)
+        ap (map without_weight) (nodes_of-more first tables k in_tables) ∙ without-weighed first (table_of tables k)
 
 -- a node as it is read: its links, and its weights from the table
-pub read-all : (first : List Node) (tables : List (List NodeWeights)) (value k place : ℕ) (weights : NodeWeights) → suc k ≡ value
-    → k < length tables → place < length first → weights ≡ get_or (table_of tables k) place no_weights
-    → with_weights (at first place) weights ≡ at (nodes_of (all_of first tables) value) place
+pub read-all : (first : List Node) (tables : List (List ℕ)) (value k place : ℕ) (weights : ℕ) → suc k ≡ value
+    → k < length tables → place < length first → weights ≡ get_or (table_of tables k) place 0
+    → with_weight (at first place) weights ≡ at (nodes_of (all_of first tables) value) place
 read-all first tables value k place weights e in_tables within is =
-    ap (with_weights (at first place)) is ∙ sym (at-weighed first (table_of tables k) place within)
+    ap (with_weight (at first place)) is ∙ sym (at-weighed first (table_of tables k) place within)
     ∙ ap (λ nodes. at nodes place) (sym (nodes_of-more first tables k in_tables))
     ∙ ap (λ v. at (nodes_of (all_of first tables) v) place) e
 
 -- a node written by value 0: the other values have the same weights
-pub others-first : (first next : List Node) (tables : List (List NodeWeights)) (place : ℕ) (node : Node)
-    → without_weights node ≡ without_weights (at first place) → next ≡ set first place node
+pub others-first : (first next : List Node) (tables : List (List ℕ)) (place : ℕ) (node : Node)
+    → without_weight node ≡ without_weight (at first place) → next ≡ set first place node
     → (other : ℕ) → (other ≡ 0 → ⊥) → nodes_of (all_of next tables) other ≡ nodes_of (all_of first tables) other
 others-first first next tables place node same next_is zero ne = absurd (ne refl)
 others-first first next tables place node same next_is (suc k) ne =
-    let alike : map without_weights next ≡ map without_weights first =
-    ap (map without_weights) next_is ∙ map-set_same without_weights first place node no_node same in
+    let alike : map without_weight next ≡ map without_weight first =
+    ap (map without_weight) next_is ∙ map-set_same without_weight first place node no_node same in
     λ i. get_or (map (λ table. weighed-alike next first table alike i) tables) k []
 
 -- a node written by a further value
-pub here-all : (first : List Node) (tables : List (List NodeWeights)) (value k place : ℕ) (node : Node) (next : List NodeWeights) → suc k ≡ value
+pub here-all : (first : List Node) (tables : List (List ℕ)) (value k place : ℕ) (node : Node) (next : List ℕ) → suc k ≡ value
     → k < length tables → place < length first → place < length (table_of tables k)
-    → without_weights node ≡ without_weights (at (nodes_of (all_of first tables) value) place)
-    → next ≡ set (table_of tables k) place (record { own = node.own; total = node.total })
+    → without_weight node ≡ without_weight (at (nodes_of (all_of first tables) value) place)
+    → next ≡ set (table_of tables k) place node.own
     → nodes_of (all_of first (set tables k next)) value ≡ set (nodes_of (all_of first tables) value) place node
 here-all first tables value k place node next e in_tables within long same next_is =
     let size = length-set tables k next in
-    let weights : NodeWeights = record { own = node.own; total = node.total } in
+    let weights : ℕ = node.own in
     let old = nodes_of-more first tables k in_tables in
-    let links : without_weights node ≡ without_weights (at first place) =
-    same ∙ ap (λ v. without_weights (at (nodes_of (all_of first tables) v) place)) (sym e)
-    ∙ ap (λ nodes. without_weights (at nodes place)) old ∙ ap without_weights (at-weighed first (table_of tables k) place within) in
-    let written : with_weights (at first place) weights ≡ node = ap (λ n. with_weights n weights) (sym links) in
+    let links : without_weight node ≡ without_weight (at first place) =
+    same ∙ ap (λ v. without_weight (at (nodes_of (all_of first tables) v) place)) (sym e)
+    ∙ ap (λ nodes. without_weight (at nodes place)) old ∙ ap without_weight (at-weighed first (table_of tables k) place within) in
+    let written : with_weight (at first place) weights ≡ node = ap (λ n. with_weight n weights) (sym links) in
     ap (nodes_of (all_of first (set tables k next))) (sym e)
     ∙ nodes_of-more first (set tables k next) k (omega (arith, size, in_tables))
     ∙ ap (weighed first) (get_or-set_same tables k next [] in_tables ∙ next_is)
@@ -124,7 +123,7 @@ here-all first tables value k place node next e in_tables within long same next_
     ∙ (λ i. set (sym old i) place (written i))
     ∙ ap (λ v. set (nodes_of (all_of first tables) v) place node) e
 
-pub AreTables-set : (size : ℕ) (tables : List (List NodeWeights)) (k place : ℕ) (weights : NodeWeights) (next : List NodeWeights) → AreTables size tables
+pub AreTables-set : (size : ℕ) (tables : List (List ℕ)) (k place : ℕ) (weights : ℕ) (next : List ℕ) → AreTables size tables
     → k < length tables → place < size → next ≡ set (table_of tables k) place weights → AreTables size (set tables k next)
 AreTables-set size tables k place weights next are lt within next_is = record {
   long = λ j j_lt. ⊎_elim
@@ -135,39 +134,39 @@ AreTables-set size tables k place weights next are lt within next_is = record {
       (cases_eq j k);
   empty = λ j node past. ⊎_elim
       (λ e. let apart : node ≡ place → ⊥ = λ f. omega (arith, f, past, within) in
-      ap (λ i. get_or (table_of (set tables k next) i) node no_weights) e
-      ∙ ap (λ table. get_or table node no_weights) (get_or-set_same tables k next [] lt ∙ next_is)
-      ∙ get_or-set_other (table_of tables k) place node weights no_weights apart ∙ are.empty k node past)
-      (λ ne. ap (λ table. get_or table node no_weights) (get_or-set_other tables k j next [] ne) ∙ are.empty j node past)
+      ap (λ i. get_or (table_of (set tables k next) i) node 0) e
+      ∙ ap (λ table. get_or table node 0) (get_or-set_same tables k next [] lt ∙ next_is)
+      ∙ get_or-set_other (table_of tables k) place node weights 0 apart ∙ are.empty k node past)
+      (λ ne. ap (λ table. get_or table node 0) (get_or-set_other tables k j next [] ne) ∙ are.empty j node past)
       (cases_eq j k);
 }
 
 -- ---- one node more
 
-pub pushed-all : (first next : List Node) (tables after : List (List NodeWeights)) (node : Node) → node.own ≡ 0 → node.total ≡ 0
+pub pushed-all : (first next : List Node) (tables after : List (List ℕ)) (node : Node) → node.own ≡ 0
     → AreTables (length first) after → length after ≡ length tables → map (weighed first) after ≡ map (weighed first) tables → next ≡ first ++ node ∷ []
     → (value : ℕ) → value < length (all_of first tables)
     → nodes_of (all_of next after) value ≡ nodes_of (all_of first tables) value ++ node ∷ []
-pushed-all first next tables after node own total are count same next_is zero lt = next_is
-pushed-all first next tables after node own total are count same next_is (suc k) lt =
+pushed-all first next tables after node own are count same next_is zero lt = next_is
+pushed-all first next tables after node own are count same next_is (suc k) lt =
     let in_tables : k < length after = omega (arith, length-map tables (weighed first), count) in
-    let light : without_weights node ≡ node = λ i. record node { own = sym own i; total = sym total i } in
+    let light : without_weight node ≡ node = λ i. record node { own = sym own i } in
     nodes_of-more next after k in_tables
     ∙ ap (λ nodes. weighed nodes (table_of after k)) next_is
     ∙ weighed-push first (table_of after k) node (are.empty k (length first) (omega arith))
     ∙ (λ i. (sym (nodes_of-more first after k in_tables) ∙ ap (λ rest. get_or rest k []) same) i ++ light i ∷ [])
 
 -- room for one node more in one table
-pub record HaveRoom (size : ℕ) (before now : List (List NodeWeights)) (index : ℕ) : Type 0 where
+pub record HaveRoom (size : ℕ) (before now : List (List ℕ)) (index : ℕ) : Type 0 where
   pub count : length now ≡ length before
   pub same : (nodes : List Node) → map (weighed nodes) now ≡ map (weighed nodes) before
   pub kept : AreTables size now
   pub longer : (k : ℕ) → k < index → size < length (table_of now k)
 
-pub HaveRoom-start : (size : ℕ) (tables : List (List NodeWeights)) → AreTables size tables → HaveRoom size tables tables 0
+pub HaveRoom-start : (size : ℕ) (tables : List (List ℕ)) → AreTables size tables → HaveRoom size tables tables 0
 HaveRoom-start size tables are = record { count = refl; same = λ nodes. refl; kept = are; longer = λ k lt. absurd (omega arith) }
 
-module _ (size : ℕ) (before now : List (List NodeWeights)) (index : ℕ) (room : HaveRoom size before now index) (lt : index < length now) where
+module _ (size : ℕ) (before now : List (List ℕ)) (index : ℕ) (room : HaveRoom size before now index) (lt : index < length now) where
   pub HaveRoom-had : size < length (table_of now index) → HaveRoom size before now (index + 1)
   HaveRoom-had has = record {
     count = room.count;
@@ -176,7 +175,7 @@ module _ (size : ℕ) (before now : List (List NodeWeights)) (index : ℕ) (room
     longer = λ k h. ⊎_elim (λ e. subst (λ j. size < length (table_of now j)) (sym e) has) (λ ne. room.longer k (omega arith)) (cases_eq k index);
   }
 
-  pub HaveRoom-made : (next : List (List NodeWeights)) (table : List NodeWeights) → length (table_of now index) ≡ size → table ≡ table_of now index ++ no_weights ∷ []
+  pub HaveRoom-made : (next : List (List ℕ)) (table : List ℕ) → length (table_of now index) ≡ size → table ≡ table_of now index ++ 0 ∷ []
       → next ≡ set now index table → HaveRoom size before next (index + 1)
   HaveRoom-made next table short table_is next_is = subst (λ tables. HaveRoom size before tables (index + 1)) (sym next_is) (record {
     count = length-set now index table ∙ room.count;
@@ -187,8 +186,8 @@ module _ (size : ℕ) (before now : List (List NodeWeights)) (index : ℕ) (room
           (λ ne. let is = ap length (get_or-set_other now index j table [] ne) in omega (arith, is, room.kept.long j (omega (arith, j_lt, length-set now index table))))
           (cases_eq j index);
       empty = λ j node past. ⊎_elim
-          (λ e. ap (λ i. get_or (table_of (set now index table) i) node no_weights) e ∙ ap (λ t. get_or t node no_weights) (here ∙ table_is) ∙ nothing (table_of now index) node (room.kept.empty index node past))
-          (λ ne. ap (λ t. get_or t node no_weights) (get_or-set_other now index j table [] ne) ∙ room.kept.empty j node past)
+          (λ e. ap (λ i. get_or (table_of (set now index table) i) node 0) e ∙ ap (λ t. get_or t node 0) (here ∙ table_is) ∙ nothing (table_of now index) node (room.kept.empty index node past))
+          (λ ne. ap (λ t. get_or t node 0) (get_or-set_other now index j table [] ne) ∙ room.kept.empty j node past)
           (cases_eq j index);
     };
     longer = λ k h. ⊎_elim
@@ -201,16 +200,16 @@ module _ (size : ℕ) (before now : List (List NodeWeights)) (index : ℕ) (room
       here = get_or-set_same now index table [] lt
 
       size_here : length table ≡ size + 1
-      size_here = ap length table_is ∙ length_push (table_of now index) no_weights ∙ ap (λ n. n + 1) short
+      size_here = ap length table_is ∙ length_push (table_of now index) 0 ∙ ap (λ n. n + 1) short
 
-      nothing : (t : List NodeWeights) (node : ℕ) → get_or t node no_weights ≡ no_weights → get_or (t ++ no_weights ∷ []) node no_weights ≡ no_weights
+      nothing : (t : List ℕ) (node : ℕ) → get_or t node 0 ≡ 0 → get_or (t ++ 0 ∷ []) node 0 ≡ 0
       nothing [] zero e = refl
       nothing [] (suc node) e = refl
       nothing (w ∷ t) zero e = e
       nothing (w ∷ t) (suc node) e = nothing t node e
 
 -- tables with room serve one node more
-pub AreTables-longer : (size more : ℕ) (tables : List (List NodeWeights)) → more ≡ size + 1 → AreTables size tables
+pub AreTables-longer : (size more : ℕ) (tables : List (List ℕ)) → more ≡ size + 1 → AreTables size tables
     → ((k : ℕ) → k < length tables → size < length (table_of tables k)) → AreTables more tables
 AreTables-longer size more tables more_is are longer = record {
   long = λ k lt. let long = longer k lt in omega (arith, long, more_is);
@@ -218,14 +217,14 @@ AreTables-longer size more tables more_is are longer = record {
 }
 
 -- empty tables serve no nodes
-pub AreTables-none : (tables : List (List NodeWeights)) → ((k : ℕ) → table_of tables k ≡ []) → AreTables 0 tables
-AreTables-none tables none = record { long = λ k lt. omega arith; empty = λ k node past. ap (λ t. get_or t node no_weights) (none k) }
+pub AreTables-none : (tables : List (List ℕ)) → ((k : ℕ) → table_of tables k ≡ []) → AreTables 0 tables
+AreTables-none tables none = record { long = λ k lt. omega arith; empty = λ k node past. ap (λ t. get_or t node 0) (none k) }
 
-pub nodes_of-none : (first : List Node) (tables : List (List NodeWeights)) → first ≡ [] → (value : ℕ) → nodes_of (all_of first tables) value ≡ []
+pub nodes_of-none : (first : List Node) (tables : List (List ℕ)) → first ≡ [] → (value : ℕ) → nodes_of (all_of first tables) value ≡ []
 nodes_of-none first tables none zero = none
 nodes_of-none first tables none (suc k) = ap (λ nodes. get_or (map (weighed nodes) tables) k []) none ∙ nothing tables k
   where
-    nothing : (tables : List (List NodeWeights)) (k : ℕ) → get_or (map (weighed []) tables) k [] ≡ []
+    nothing : (tables : List (List ℕ)) (k : ℕ) → get_or (map (weighed []) tables) k [] ≡ []
     nothing [] k = refl
     nothing (t ∷ tables) zero = refl
     nothing (t ∷ tables) (suc k) = nothing tables k

@@ -1,8 +1,7 @@
 -- The stacks of the nodes, and what a tree keeps true.
-use Rattle.std.specs.Prelude.{ℕ, ◌≡◌, ◌<◌, ◌≤◌, ◌^◌, false, ◌&&◌, not, List, [], ◌∷◌, ◌++◌, length, map, slice_index_or, sum_by, if◌then◌else◌}
+use Rattle.std.specs.Prelude.{ℕ, ◌≡◌, ◌<◌, ◌≤◌, ◌^◌, false, not, List, [], ◌∷◌, ◌++◌, length, map, slice_index_or}
 use Rattle.profile_rows.specs.declared.weighted_stacks.WeightedStack.{WeightedStack}
-use Rattle.profile_rows.specs.Names.{is_same_name}
-use Rattle.profile_rows.specs.Rows.{has_name, total_of, cumulative_weight_of}
+use Rattle.profile_rows.specs.Rows.{has_name, total_of}
 use Rattle.call_tree.specs.declared.node.Node.{Node}
 use Rattle.call_tree.specs.State.{name_at, stack_at}
 
@@ -15,7 +14,7 @@ abbrev pub link_of : Node → Link
 link_of node = record { parent = node.parent; name = node.name }
 
 abbrev pub no_node : Node
-no_node = record { parent = 0; name = 0; counts = false; own = 0; total = 0 }
+no_node = record { parent = 0; name = 0; counts = false; own = 0 }
 
 -- the stack of the next node: none for the first, else its parent's and its name
 abbrev pub next_stack : List (List ℕ) → List (List (List ℕ)) → Link → List (List ℕ)
@@ -39,13 +38,6 @@ rows_with (stack ∷ stacks) (node ∷ nodes) = (record { stack = stack; weight 
 abbrev pub node_rows : List (List ℕ) → List Node → List WeightedStack
 node_rows names nodes = rows_with (stacks_of names nodes) nodes
 
-abbrev pub counted_if : List (List ℕ) → List ℕ → Node → ℕ
-counted_if names name node = if node.counts && is_same_name name (name_at names node.name) then node.total else 0
-
--- the totals that count for a name
-abbrev pub counted_total : List (List ℕ) → List Node → List ℕ → ℕ
-counted_total names nodes name = sum_by (counted_if names name) nodes
-
 abbrev pub at : List Node → ℕ → Node
 at nodes k = slice_index_or nodes k no_node
 
@@ -61,7 +53,4 @@ pub record IsTree (names : List (List ℕ)) (nodes : List Node) : Type 0 where
   pub apart : (i j : ℕ) → i < length nodes → j < length nodes
       → stack_at (node_rows names nodes) i ≡ stack_at (node_rows names nodes) j → i ≡ j
   pub unlike : (i j : ℕ) → i < length names → j < length names → name_at names i ≡ name_at names j → i ≡ j
-  pub sums : (name : List ℕ) → counted_total names nodes name ≡ cumulative_weight_of (node_rows names nodes) name
-  pub whole : (at nodes 0).total ≡ total_of (node_rows names nodes)
-  pub bounds : (k : ℕ) → k < length nodes → (at nodes k).total ≤ total_of (node_rows names nodes)
   pub fits : total_of (node_rows names nodes) < 2 ^ 63

@@ -2,10 +2,10 @@
 
 ghost use Rattle.std.specs.Prelude.{◌≡◌, ◌<◌, ◌++◌, ◌∷◌, ℕ, List, [], length, map, IfOk, OnOk, OnErr, slice_set, slice_index_or};
 ghost use Rattle.call_tree.specs.declared.node.Node.{Node};
-ghost use Rattle.call_tree.specs.Nodes.{AreAlike, AreTables, nodes_of, without_weights, weighed};
+ghost use Rattle.call_tree.specs.Nodes.{AreAlike, AreTables, nodes_of, without_weight, weighed};
 ghost use Rattle.call_tree.specs.Shape.{at};
 
-use crate::node::{Node, NodeWeights};
+use crate::node::Node;
 use profile_rows::Width;
 use shared_pages::Pages;
 use std::alloc::{AllocError, Global};
@@ -18,7 +18,7 @@ pub struct Nodes {
     width: Width,
     first: Pages<Node>,
     /// For each value after the first what each node weighs, and perhaps some zeros more.
-    others: Vec<Pages<NodeWeights>>,
+    others: Vec<Pages<u64>>,
 }
 
 impl Model for Nodes {
@@ -80,22 +80,21 @@ impl Nodes {
         if value == 0 {
             return node;
         }
-        let weights = *self.others[value as usize - 1].read(place);
+        let own = *self.others[value as usize - 1].read(place);
         Node {
             parent: node.parent,
             name: node.name,
             counts: node.counts,
-            own: weights.own,
-            total: weights.total,
+            own,
         }
     }
 
-    /// Puts a node that differs in its weights alone in place of another, for one value. Other owners of the pages keep
+    /// Puts a node that differs in its weight alone in place of another, for one value. Other owners of the pages keep
     /// theirs.
     pub fn replace(&mut self, value: u32, place: usize, node: Node) -> Result<(), AllocError>
         requires value { value < length self.old }
         requires within { place < length (nodes_of self.old value) }
-        requires same { without_weights node ≡ without_weights (at (nodes_of self.old value) place) }
+        requires same { without_weight node ≡ without_weight (at (nodes_of self.old value) place) }
         ensures width { length self.new ≡ length self.old }
         ensures here { OnOk result (nodes_of self.new value ≡ slice_set (nodes_of self.old value) place node) }
         ensures others { OnOk result
@@ -105,13 +104,7 @@ impl Nodes {
             self.first.replace(place, node)?;
         } else {
             let table = &mut self.others[value as usize - 1];
-            table.replace(
-                place,
-                NodeWeights {
-                    own: node.own,
-                    total: node.total,
-                },
-            )?;
+            table.replace(place, node.own)?;
         }
         Ok(())
     }
@@ -129,8 +122,7 @@ impl Nodes {
 
     /// One more node of weight 0, at the end.
     pub fn append(&mut self, node: Node) -> Result<(), AllocError>
-        requires own { node.own ≡ 0 }
-        requires total { node.total ≡ 0 }
+        requires { node.own ≡ 0 }
         ensures width { length self.new ≡ length self.old }
         ensures ok { OnOk result
             ((value : ℕ) → value < length self.old → nodes_of self.new value ≡ nodes_of self.old value ++ node ∷ []) }
@@ -143,7 +135,7 @@ impl Nodes {
 }
 
 /// Room for one more node in each table.
-fn take_room(tables: &mut Vec<Pages<NodeWeights>>, size: usize) -> Result<(), AllocError>
+fn take_room(tables: &mut Vec<Pages<u64>>, size: usize) -> Result<(), AllocError>
     requires { AreTables size tables.old.items }
     ensures count { length tables.new.items ≡ length tables.old.items }
     ensures same { (nodes : List Node) → map (weighed nodes) tables.new.items ≡ map (weighed nodes) tables.old.items }
@@ -154,7 +146,7 @@ fn take_room(tables: &mut Vec<Pages<NodeWeights>>, size: usize) -> Result<(), Al
     for index in 0..tables.len() {
         let table = &mut tables[index];
         if table.len() == size {
-            table.append(NodeWeights { own: 0, total: 0 })?;
+            table.append(0)?;
         }
     }
     Ok(())

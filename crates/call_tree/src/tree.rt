@@ -1,4 +1,4 @@
-//! The call tree: nodes with links to their parents, each with its own weight and a running total.
+//! The call tree: nodes with links to their parents, each with the weight of its stack alone.
 
 ghost use Rattle.std.specs.Prelude.{◌≡◌, ◌<◌, ◌≤◌, ◌+◌, ◌++◌, ◌∷◌, ◌^◌, ℕ, [], filter, length, map, take, MatchOption, IfOk, IfSome, OnOk, OnErr, IsSorted};
 ghost use Rattle.profile_rows.specs.Rows.{total_of};
@@ -33,17 +33,19 @@ struct Sums {
 pub struct CallTree {
     names: Pages<Name>,
     nodes: Nodes,
+    /// The weight of all nodes together by each value.
+    total: Weights,
 }
 
 impl Model for CallTree {
     ghost use Rattle.call_tree.specs.State.{TreeState};
-    ghost use Rattle.call_tree.specs.Nodes.{tree_of, AreTrees};
+    ghost use Rattle.call_tree.specs.Nodes.{tree_of, AreTrees, HasTotal};
 
     ghost Value = { TreeState };
 
     ghost view = { λ t. tree_of t.names t.nodes };
 
-    ghost invariant = { λ t. AreTrees t.names t.nodes };
+    ghost invariant = { λ t. AreTrees t.names t.nodes × HasTotal (tree_of t.names t.nodes) t.total };
 }
 
 impl CallTree {
@@ -63,12 +65,7 @@ impl CallTree {
         ensures fits { (value : ℕ) → total_in (weights_of self.now value) < 2 ^ 63 }
     {
         self.known();
-        let width = self.nodes.width();
-        let mut totals = [0; 4];
-        for value in 0..width.get() {
-            totals[value as usize] = self.nodes.read(value, 0).total;
-        }
-        weights_from(&totals, width)
+        self.total
     }
 
     /// Another owner of this tree: what becomes of one shows in no other.
@@ -82,6 +79,7 @@ impl CallTree {
         Ok(CallTree {
             names: self.names.share()?,
             nodes: self.nodes.share()?,
+            total: self.total,
         })
     }
 
@@ -105,11 +103,19 @@ impl CallTree {
         ensures { IfOk result (λ next. AreCredited self next batch.now.rows self.width) }
     {
         self.known();
-        let CallTree { names, mut nodes } = self;
+        let CallTree {
+            names,
+            mut nodes,
+            total,
+        } = self;
         for value in 0..nodes.width().get() {
             add_rows(&names, &mut nodes, value, batch, places)?;
         }
-        Ok(CallTree { names, nodes })
+        Ok(CallTree {
+            names,
+            nodes,
+            total: sum_of(&total, &batch.total()),
+        })
     }
 
     /// One more name, with the next number.
@@ -140,7 +146,6 @@ impl CallTree {
             name,
             counts,
             own: 0,
-            total: 0,
         })?;
         Ok(())
     }
@@ -220,11 +225,11 @@ impl CallTree {
             name: 0,
             counts: false,
             own: 0,
-            total: 0,
         })?;
         Ok(CallTree {
             names: Pages::new(alloc),
             nodes,
+            total: no_weights(width),
         })
     }
 
@@ -242,19 +247,25 @@ impl CallTree {
         self.nodes.len()
     }
 
-    /// The flat and the cumulative weight of each name, by its number: one pass over the nodes.
+    /// The flat and the cumulative weight of each name, by its number: one pass over the nodes, from the last to the
+    /// first, so that what stands below a node is known before it.
     fn sums(&self, alloc: Global, value: u32) -> Result<Vec<Sums>, AllocError>
         requires { value < self.now.width }
         ensures { IfOk result (λ sums. AreSums (plain_at self.now value) sums.items) }
     {
         self.nodes.known();
         let mut sums = vec![in alloc; Sums { flat: 0, cum: 0 }; self.names.len()]?;
-        for index in 1..self.nodes.len() {
-            let node = self.nodes.read(value, index);
+        let mut below = vec![in alloc; 0u64; self.nodes.len()]?;
+        let mut left = self.nodes.len();
+        while left > 1 {
+            left -= 1;
+            let node = self.nodes.read(value, left);
+            let whole = node.own + below[left];
+            below[node.parent as usize] += whole;
             let sum = &mut sums[node.name as usize];
             sum.flat += node.own;
             if node.counts {
-                sum.cum += node.total;
+                sum.cum += whole;
             }
         }
         Ok(sums)
@@ -399,7 +410,7 @@ fn add_rows(
     Ok(())
 }
 
-/// One more weight of one value at a node: at the node, and in the totals of all above it.
+/// One more weight of one value at a node.
 fn add_weight(
     names: &Pages<Name>,
     nodes: &mut Nodes,
@@ -419,19 +430,9 @@ fn add_weight(
         ((other : ℕ) → (other ≡ value → ⊥) → nodes_of nodes.new other ≡ nodes_of nodes.old other) }
 {
     let _names = names;
-    let mut place = at;
-    while place != 0 {
-        let mut node = nodes.read(value, place as usize);
-        node.total += weight;
-        nodes.replace(value, place as usize, node)?;
-        place = node.parent;
-    }
-    let mut root = nodes.read(value, 0);
-    root.total += weight;
-    nodes.replace(value, 0, root)?;
-    let mut leaf = nodes.read(value, at as usize);
-    leaf.own += weight;
-    nodes.replace(value, at as usize, leaf)?;
+    let mut node = nodes.read(value, at as usize);
+    node.own += weight;
+    nodes.replace(value, at as usize, node)?;
     Ok(())
 }
 
@@ -474,4 +475,28 @@ fn weights_from(places: &[u64; 4], width: Width) -> Weights
         Some(weights) => weights,
         None => unreachable!(),
     }
+}
+
+/// 0 by each value.
+fn no_weights(width: Width) -> Weights
+    ensures width { length result ≡ width }
+    ensures zero { (value : ℕ) → value_of value result ≡ 0 }
+{
+    let _count = width.get();
+    weights_from(&[0; 4], width)
+}
+
+/// The sum of two weights by each value.
+fn sum_of(held: &Weights, more: &Weights) -> Weights
+    requires width { length more.now ≡ length held.now }
+    requires fits { (value : ℕ) → value_of value held.now + value_of value more.now < 2 ^ 63 }
+    ensures width { length result ≡ length held.now }
+    ensures each { (value : ℕ) → value_of value result ≡ value_of value held.now + value_of value more.now }
+{
+    let width = held.width();
+    let mut sums = [0; 4];
+    for value in 0..width.get() {
+        sums[value as usize] = held.value(value) + more.value(value);
+    }
+    weights_from(&sums, width)
 }

@@ -15,7 +15,7 @@ loop-index-preserved c =
     elim c.if-len-size.branch [
       | then-len-size+in_ok-append w ↦
           HaveRoom-made c.args.size c.args.tables.now.items tables index room lt c.if-len-size.tables.items w.append.new.self
-          (ap length (sym table_is) ∙ sym c.len.ensures ∙ w.if-len-size.true) (w.in_ok-append.ensures.ok ∙ ap (λ t. t ++ (record { own = 0; total = 0 }) ∷ []) table_is) (ap (λ v. v.items) w.tables-is)
+          (ap length (sym table_is) ∙ sym c.len.ensures ∙ w.if-len-size.true) (w.in_ok-append.ensures.ok ∙ ap (λ t. t ++ 0 ∷ []) table_is) (ap (λ v. v.items) w.tables-is)
       | else-len-size w ↦
           let long = room.kept.long index lt in
           let same = ap length table_is in

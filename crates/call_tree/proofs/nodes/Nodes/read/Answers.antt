@@ -1,7 +1,7 @@
 use Rattle.std.proofs.Common.{◌≡◌, ◌<◌, ◌-◌, [], length, get_or, arith, ap, ◌∙◌}
 use Rattle.std.proofs.lemmas.List.{get_or_read, length-map}
 use Rattle.call_tree.specs.Shape.{at}
-use Rattle.call_tree.specs.Nodes.{nodes_of, no_weights, with_weights, weighed}
+use Rattle.call_tree.specs.Nodes.{nodes_of, with_weight, weighed}
 use Rattle.call_tree.proofs.Raising.{read_is}
 use Rattle.call_tree.proofs.Weighing.{table_of, length-nodes_of, read-all}
 use Rattle.call_tree.proofs.nodes.Nodes.read.Goals as goal
@@ -13,8 +13,8 @@ read-node-requires c =
     let size = length-nodes_of first tables c.args.value (omega (arith, c.requires.value, ap length c.self.view_is)) in
     omega (arith, size, c.requires.within, ap (λ all. length (nodes_of all c.args.value)) c.self.view_is)
 
-pub read-weights-requires : goal.read-weights-requires
-read-weights-requires c =
+pub read-own-requires : goal.read-own-requires
+read-own-requires c =
     let first = c.self.inside.first in
     let tables = c.self.inside.others.items in
     let within : c.args.place < length first =
@@ -35,8 +35,8 @@ returns c =
     let lt : c.args.value - 1 < length tables = omega (arith, c.requires.value, ap length c.self.view_is, length-map tables (weighed first), c.if-value-eq0.false) in
     let table_is : c.index.result.now ≡ table_of tables (c.args.value - 1) = get_or_read tables (c.args.value - 1) c.index.result.now lt c.index.ensures [] in
     let long = c.self.invariant.1.long (c.args.value - 1) lt in
-    let weights = get_or_read c.index.result.now c.args.place c.read-weights.result.now (omega (arith, within, long, ap length table_is)) c.read-weights.ensures no_weights in
-    ap (λ node. with_weights node c.read-weights.result.now) (read_is first c.args.place c.read-node.result.now within c.read-node.ensures)
-    ∙ read-all first tables c.args.value (c.args.value - 1) c.args.place c.read-weights.result.now (omega (arith, c.if-value-eq0.false)) lt within
-    (weights ∙ ap (λ table. get_or table c.args.place no_weights) table_is)
+    let weights = get_or_read c.index.result.now c.args.place c.read-own.result.now (omega (arith, within, long, ap length table_is)) c.read-own.ensures 0 in
+    ap (λ node. with_weight node c.read-own.result.now) (read_is first c.args.place c.read-node.result.now within c.read-node.ensures)
+    ∙ read-all first tables c.args.value (c.args.value - 1) c.args.place c.read-own.result.now (omega (arith, c.if-value-eq0.false)) lt within
+    (weights ∙ ap (λ table. get_or table c.args.place 0) table_is)
     ∙ ap (λ all. at (nodes_of all c.args.value) c.args.place) c.self.view_is

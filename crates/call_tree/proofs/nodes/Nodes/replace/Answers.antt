@@ -2,7 +2,7 @@ use Rattle.std.proofs.Common.{◌≡◌, ◌<◌, ◌+◌, ◌-◌, [], length, 
 use Rattle.std.proofs.Math.ListN.{set}
 use Rattle.std.proofs.lemmas.List.{get_or_read, length-map, length-set}
 use Rattle.call_tree.specs.Shape.{at}
-use Rattle.call_tree.specs.Nodes.{nodes_of, without_weights, weighed}
+use Rattle.call_tree.specs.Nodes.{nodes_of, without_weight, weighed}
 use Rattle.call_tree.proofs.Weighing.{table_of, length-nodes_of, others-first, here-all, AreTables-set}
 use Rattle.call_tree.proofs.nodes.Nodes.replace.Goals as goal
 
@@ -26,8 +26,8 @@ invariant_of-self-in-Continue-branch-2 c =
     let lt : c.args.value - 1 < length tables = omega (arith, c.requires.value, ap length c.self.view_is, length-map tables (weighed first), c.if-value-eq0.false) in
     let table_is : c.index_mut-table.result.now ≡ table_of tables (c.args.value - 1) = get_or_read tables (c.args.value - 1) c.index_mut-table.result.now lt c.index_mut-table.ensures.value [] in (
       ap (λ n. n + 1) (length-set tables (c.args.value - 1) c.replace-else-value-eq0.new.self) ∙ c.self.invariant.0,
-      AreTables-set (length first) tables (c.args.value - 1) c.args.place (record { own = c.args.node.own; total = c.args.node.total }) c.replace-else-value-eq0.new.self c.self.invariant.1 lt within
-          (c.in_ok-replace-2.ensures.ok ∙ ap (λ table. set table c.args.place (record { own = c.args.node.own; total = c.args.node.total })) table_is),
+      AreTables-set (length first) tables (c.args.value - 1) c.args.place c.args.node.own c.replace-else-value-eq0.new.self c.self.invariant.1 lt within
+          (c.in_ok-replace-2.ensures.ok ∙ ap (λ table. set table c.args.place c.args.node.own) table_is),
     )
 
 pub returns-in_ok-replace-clause-others : goal.returns-in_ok-replace-clause-others
@@ -35,8 +35,8 @@ returns-in_ok-replace-clause-others c =
     let first = c.self.inside.first in
     let tables = c.self.inside.others.items in
     let value = c.if-value-eq0.true in
-    let same : without_weights c.args.node ≡ without_weights (at first c.args.place) =
-    c.requires.same ∙ ap (λ v. without_weights (at (nodes_of c.args.self.now v) c.args.place)) value ∙ ap (λ all. without_weights (at (nodes_of all 0) c.args.place)) (sym c.self.view_is) in
+    let same : without_weight c.args.node ≡ without_weight (at first c.args.place) =
+    c.requires.same ∙ ap (λ v. without_weight (at (nodes_of c.args.self.now v) c.args.place)) value ∙ ap (λ all. without_weight (at (nodes_of all 0) c.args.place)) (sym c.self.view_is) in
     λ other ne. others-first first c.replace.new.self tables c.args.place c.args.node same c.in_ok-replace.ensures.ok other (λ e. ne (e ∙ sym value))
     ∙ ap (λ all. nodes_of all other) c.self.view_is
 
@@ -50,6 +50,6 @@ returns-in_ok-replace-2-clause-here c =
     let table_is : c.index_mut-table.result.now ≡ table_of tables (c.args.value - 1) = get_or_read tables (c.args.value - 1) c.index_mut-table.result.now lt c.index_mut-table.ensures.value [] in
     let long = c.self.invariant.1.long (c.args.value - 1) lt in
     here-all first tables c.args.value (c.args.value - 1) c.args.place c.args.node c.replace-else-value-eq0.new.self (omega (arith, c.if-value-eq0.false)) lt within (omega (arith, within, long))
-    (c.requires.same ∙ ap (λ all. without_weights (at (nodes_of all c.args.value) c.args.place)) (sym c.self.view_is))
-    (c.in_ok-replace-2.ensures.ok ∙ ap (λ table. set table c.args.place (record { own = c.args.node.own; total = c.args.node.total })) table_is)
+    (c.requires.same ∙ ap (λ all. without_weight (at (nodes_of all c.args.value) c.args.place)) (sym c.self.view_is))
+    (c.in_ok-replace-2.ensures.ok ∙ ap (λ table. set table c.args.place c.args.node.own) table_is)
     ∙ ap (λ all. set (nodes_of all c.args.value) c.args.place c.args.node) c.self.view_is

@@ -1,12 +1,13 @@
-use Rattle.std.proofs.Common.{◌≡◌, ◌<◌, arith, sym, ap, ◌∙◌, subst}
+use Rattle.std.proofs.Common.{◌≡◌, ◌<◌, length, arith, sym, ap, ◌∙◌, subst}
 use Rattle.profile_rows.specs.Rows.{total_of}
 use Rattle.profile_rows.specs.Values.{rows_at}
 use Rattle.call_tree.specs.State.{TreeState, nodes_at, plain_at}
 use Rattle.call_tree.specs.Shape.{node_rows}
-use Rattle.call_tree.specs.Nodes.{AreTrees, nodes_of, plain_of, tree_of}
-use Rattle.call_tree.specs.Plans.{ArePlaces, IsCredited}
+use Rattle.call_tree.specs.Nodes.{AreTrees, HasTotal, nodes_of, plain_of, tree_of}
+use Rattle.call_tree.specs.Plans.{AreCredited, ArePlaces, IsCredited}
 use Rattle.call_tree.proofs.Adding.{AreAddedTo-step, places_now, total_now}
 use Rattle.call_tree.proofs.Growing.{ArePlaces-by}
+use Rattle.call_tree.proofs.Totals.{HasTotal-credited}
 use Rattle.call_tree.proofs.tree.CallTree.add_batch.Goals as goal
 
 pub add_rows-requires-clause-places : goal.add_rows-requires-clause-places
@@ -46,3 +47,20 @@ loop-value-preserved c =
     (subst (λ ns. AreTrees ns c.add_rows.new.nodes) names_are added.trees) added.width
     (subst (λ ns. IsCredited (plain_of ns c.loop-value.nodes value) (plain_of ns c.add_rows.new.nodes value) (rows_at value rows)) names_are added.credited)
     added.others
+
+pub invariant_of-result : goal.invariant_of-result
+invariant_of-result c =
+    let tree = c.args.self in
+    let before = c.self.inside.nodes in
+    let now = c.loop-value.nodes in
+    let batch = c.args.batch.now in
+    let names_are : c.self.inside.names ≡ tree.names = ap (λ t. t.names) c.self.view_is in
+    let width_is : length before ≡ tree.width = ap (λ t. t.width) c.self.view_is in
+    let all : c.loop-value.value ≡ length before = omega (arith, c.loop-value-test.false, c.loop-value.auto.value-end, c.get-value-end.ensures.count, c.width.ensures) in
+    let credited = subst (AreCredited (tree_of tree.names before) (tree_of tree.names now) batch.rows) all c.loop-value.invariant.credited in
+    let held = subst (λ ns. HasTotal (tree_of ns before) c.self.inside.total) names_are c.self.invariant.1 in (
+      subst (λ ns. AreTrees ns now) (sym names_are) c.loop-value.invariant.trees,
+      subst (λ ns. HasTotal (tree_of ns now) c.sum_of.result) (sym names_are)
+          (HasTotal-credited (tree_of tree.names before) (tree_of tree.names now) batch c.self.inside.total c.total.result c.sum_of.result held c.total.ensures.totals
+          (c.requires.width ∙ sym width_is) credited c.sum_of.ensures.width c.sum_of.ensures.each),
+    )

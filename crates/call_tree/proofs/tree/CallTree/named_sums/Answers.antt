@@ -37,7 +37,7 @@ returns c =
     let whole_names : take c.loop-number.number names ≡ names = take_all c.loop-number.number names (omega (arith, c.in_ok-sums.ensures.size)) in
     let whole : c.loop-number.totals.items ≡ names_of_weight rows names = c.loop-number.invariant ∙ ap (names_of_weight rows) whole_names in
     let all = c.self.inside.nodes in
-    let tree = c.self.invariant c.args.value (value_lt c.self.inside.names all c.args.self.now c.args.value c.self.view_is c.requires) in
+    let tree = c.self.invariant.0 c.args.value (value_lt c.self.inside.names all c.args.self.now c.args.value c.self.view_is c.requires) in
     let are = subst (λ (t : PlainTree). AreSumsOf t.nodes (names_of_weight t.nodes t.names)) (seen_plain c.self.inside.names all c.args.self.now c.args.value c.self.view_is)
     (AreSumsOf-tree c.self.inside.names (nodes_of all c.args.value) tree) in
     AreSumsOf-aggregate rows c.loop-number.totals.items (subst (AreSumsOf rows) (sym whole) are)

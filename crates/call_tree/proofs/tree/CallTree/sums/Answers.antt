@@ -1,76 +1,231 @@
-use Rattle.std.proofs.Common.{◌≡◌, ◌<◌, ◌+◌, ℕ, cond, length, arith, sym, ap, ◌∙◌, subst}
-use Rattle.std.proofs.Math.ListN.{set}
+-- The sums of all names, from the last node to the first.
+use Rattle.std.proofs.Common.{◌≡◌, ◌<◌, ◌+◌, ◌-◌, ℕ, cond, slice_index_or, arith, sym, ap, ◌∙◌, subst}
+use Rattle.std.proofs.Math.ListN.{set, replicate}
 use Rattle.std.proofs.lemmas.List.{get_or_read}
-use Rattle.call_tree.specs.declared.tree.Sums.{Sums}
-use Rattle.call_tree.specs.Shape.{at}
+use Rattle.call_tree.specs.Shape.{IsTree, at}
 use Rattle.call_tree.specs.Totals.{AreSums, no_sums, sums_at}
 use Rattle.call_tree.specs.Nodes.{nodes_of}
 use Rattle.call_tree.proofs.Trees.{seen_plain, value_lt, length-alike}
-use Rattle.call_tree.proofs.Summing.{AreSums-end, AreSumsTo-next, flat_fits, cum_fits}
+use Rattle.call_tree.proofs.Summing.{AreSumsFrom, AreSumsFrom-end, AreSumsFrom-next, AreSumsFrom-start, cum_fits, flat_fits, name_known, parent_fits, parent_wide, weight_fits}
 use Rattle.call_tree.proofs.tree.CallTree.sums.Goals as goal
-use Rattle.call_tree.proofs.tree.CallTree.sums.Goals.{then-node, else-node}
+
+pub loop-left-init : goal.loop-left-init
+loop-left-init c =
+    let names = c.self.inside.names in
+    let all = c.self.inside.nodes in
+    let lt_value = value_lt names all c.args.self.now c.args.value c.self.view_is c.requires in
+    let nodes = nodes_of all c.args.value in
+    let tree : IsTree names nodes = c.self.invariant.0 c.args.value lt_value in
+    let size = length-alike _ _ (c.known.ensures.each c.args.value lt_value) in
+    let count = c.len-left.ensures ∙ sym size in
+    subst (AreSumsFrom names nodes c.in_ok-sums.sums.items c.in_ok-below.below.items) (sym count)
+    (AreSumsFrom-start names nodes tree c.in_ok-sums.sums.items c.in_ok-below.below.items
+    (c.in_ok-sums.ensures.items_if_clones_equal (λ y e. e) ∙ ap (λ n. replicate n no_sums) c.len.ensures)
+    (c.in_ok-below.ensures.items_if_clones_equal (λ y e. e) ∙ ap (λ n. replicate n 0) (c.len-2.ensures ∙ sym size)))
+
+pub read-node-requires-clause-within : goal.read-node-requires-clause-within
+read-node-requires-clause-within c =
+    let names = c.self.inside.names in
+    let all = c.self.inside.nodes in
+    let lt_value = value_lt names all c.args.self.now c.args.value c.self.view_is c.requires in
+    let nodes = nodes_of all c.args.value in
+    let tree : IsTree names nodes = c.self.invariant.0 c.args.value lt_value in
+    let k = c.loop-left.left - 1 in
+    let more : c.loop-left.left ≡ k + 1 = omega (arith, c.loop-left-test.true) in
+    let pos : 0 < k = omega (arith, c.loop-left-test.true) in
+    let so_far = subst (AreSumsFrom names nodes c.loop-left.sums.items c.loop-left.below.items) more c.loop-left.invariant in
+    omega (arith, so_far.within, more)
+
+pub index-requires : goal.index-requires
+index-requires c =
+    let names = c.self.inside.names in
+    let all = c.self.inside.nodes in
+    let lt_value = value_lt names all c.args.self.now c.args.value c.self.view_is c.requires in
+    let nodes = nodes_of all c.args.value in
+    let tree : IsTree names nodes = c.self.invariant.0 c.args.value lt_value in
+    let k = c.loop-left.left - 1 in
+    let more : c.loop-left.left ≡ k + 1 = omega (arith, c.loop-left-test.true) in
+    let pos : 0 < k = omega (arith, c.loop-left-test.true) in
+    let so_far = subst (AreSumsFrom names nodes c.loop-left.sums.items c.loop-left.below.items) more c.loop-left.invariant in
+    omega (arith, so_far.wide, so_far.within)
+
+pub overflow_add-whole : goal.overflow_add-whole
+overflow_add-whole c =
+    let names = c.self.inside.names in
+    let all = c.self.inside.nodes in
+    let lt_value = value_lt names all c.args.self.now c.args.value c.self.view_is c.requires in
+    let nodes = nodes_of all c.args.value in
+    let tree : IsTree names nodes = c.self.invariant.0 c.args.value lt_value in
+    let k = c.loop-left.left - 1 in
+    let more : c.loop-left.left ≡ k + 1 = omega (arith, c.loop-left-test.true) in
+    let pos : 0 < k = omega (arith, c.loop-left-test.true) in
+    let so_far = subst (AreSumsFrom names nodes c.loop-left.sums.items c.loop-left.below.items) more c.loop-left.invariant in
+    let below_is = get_or_read c.loop-left.below.items k c.index.result.now (omega (arith, so_far.wide, so_far.within)) c.index.ensures 0 in
+    let own_is = ap (λ node. node.own) c.read-node.ensures in
+    let fits = weight_fits names nodes tree c.loop-left.sums.items c.loop-left.below.items k so_far pos in
+    omega (arith, fits, below_is, own_is)
+
+pub index_mut-requires : goal.index_mut-requires
+index_mut-requires c =
+    let names = c.self.inside.names in
+    let all = c.self.inside.nodes in
+    let lt_value = value_lt names all c.args.self.now c.args.value c.self.view_is c.requires in
+    let nodes = nodes_of all c.args.value in
+    let tree : IsTree names nodes = c.self.invariant.0 c.args.value lt_value in
+    let k = c.loop-left.left - 1 in
+    let more : c.loop-left.left ≡ k + 1 = omega (arith, c.loop-left-test.true) in
+    let pos : 0 < k = omega (arith, c.loop-left-test.true) in
+    let so_far = subst (AreSumsFrom names nodes c.loop-left.sums.items c.loop-left.below.items) more c.loop-left.invariant in
+    let parent_is = ap (λ node. node.parent) c.read-node.ensures in
+    let wide = parent_wide names nodes tree c.loop-left.sums.items c.loop-left.below.items k so_far pos in
+    omega (arith, wide, parent_is)
+
+pub overflow_add-index_mut : goal.overflow_add-index_mut
+overflow_add-index_mut c =
+    let names = c.self.inside.names in
+    let all = c.self.inside.nodes in
+    let lt_value = value_lt names all c.args.self.now c.args.value c.self.view_is c.requires in
+    let nodes = nodes_of all c.args.value in
+    let tree : IsTree names nodes = c.self.invariant.0 c.args.value lt_value in
+    let k = c.loop-left.left - 1 in
+    let more : c.loop-left.left ≡ k + 1 = omega (arith, c.loop-left-test.true) in
+    let pos : 0 < k = omega (arith, c.loop-left-test.true) in
+    let so_far = subst (AreSumsFrom names nodes c.loop-left.sums.items c.loop-left.below.items) more c.loop-left.invariant in
+    let below_is = get_or_read c.loop-left.below.items k c.index.result.now (omega (arith, so_far.wide, so_far.within)) c.index.ensures 0 in
+    let own_is = ap (λ node. node.own) c.read-node.ensures in
+    let parent_is = ap (λ node. node.parent) c.read-node.ensures in
+    let wide = parent_wide names nodes tree c.loop-left.sums.items c.loop-left.below.items k so_far pos in
+    let held_is = get_or_read c.loop-left.below.items c.read-node.result.parent c.index_mut.result.now (omega (arith, wide, parent_is)) c.index_mut.ensures.value 0
+    ∙ ap (λ p. slice_index_or c.loop-left.below.items p 0) parent_is in
+    let fits = parent_fits names nodes tree c.loop-left.sums.items c.loop-left.below.items k so_far pos in
+    omega (arith, fits, below_is, own_is, held_is)
+
+pub index_mut-sum-requires : goal.index_mut-sum-requires
+index_mut-sum-requires c =
+    let names = c.self.inside.names in
+    let all = c.self.inside.nodes in
+    let lt_value = value_lt names all c.args.self.now c.args.value c.self.view_is c.requires in
+    let nodes = nodes_of all c.args.value in
+    let tree : IsTree names nodes = c.self.invariant.0 c.args.value lt_value in
+    let k = c.loop-left.left - 1 in
+    let more : c.loop-left.left ≡ k + 1 = omega (arith, c.loop-left-test.true) in
+    let pos : 0 < k = omega (arith, c.loop-left-test.true) in
+    let so_far = subst (AreSumsFrom names nodes c.loop-left.sums.items c.loop-left.below.items) more c.loop-left.invariant in
+    let name_is = ap (λ node. node.name) c.read-node.ensures in
+    let known = name_known names nodes tree c.loop-left.sums.items c.loop-left.below.items k so_far pos in
+    omega (arith, known, name_is)
 
 pub overflow_add-sum : goal.overflow_add-sum
 overflow_add-sum c =
-    let nodes = nodes_of c.self.inside.nodes c.args.value in
-    let trees = c.self.invariant c.args.value (value_lt c.self.inside.names c.self.inside.nodes c.args.self.now c.args.value c.self.view_is c.requires) in
-    let size = length-alike _ _ (c.known.ensures.each c.args.value (value_lt c.self.inside.names c.self.inside.nodes c.args.self.now c.args.value c.self.view_is c.requires)) in
-    let node_is : c.read-node.result ≡ at nodes c.loop-index.index = c.read-node.ensures in
-    let name_lt : c.read-node.result.name < length c.self.inside.names = omega (arith, (trees.links c.loop-index.index (omega (arith, size)) (omega (arith, size))).1, ap (λ node. node.name) node_is) in
-    let sum_is : c.index_mut-sum.result.now ≡ sums_at c.loop-index.sums.items c.read-node.result.name =
-    get_or_read c.loop-index.sums.items c.read-node.result.name c.index_mut-sum.result.now (omega (arith, name_lt, c.loop-index.invariant.size)) c.index_mut-sum.ensures.value no_sums in
-    let fits = flat_fits c.self.inside.names nodes trees c.loop-index.sums.items c.loop-index.index c.read-node.result.name (omega (arith, size)) name_lt c.loop-index.invariant in
-    omega (arith, fits, ap (λ s. s.flat) sum_is, ap (λ node. node.own) node_is)
+    let names = c.self.inside.names in
+    let all = c.self.inside.nodes in
+    let lt_value = value_lt names all c.args.self.now c.args.value c.self.view_is c.requires in
+    let nodes = nodes_of all c.args.value in
+    let tree : IsTree names nodes = c.self.invariant.0 c.args.value lt_value in
+    let k = c.loop-left.left - 1 in
+    let more : c.loop-left.left ≡ k + 1 = omega (arith, c.loop-left-test.true) in
+    let pos : 0 < k = omega (arith, c.loop-left-test.true) in
+    let so_far = subst (AreSumsFrom names nodes c.loop-left.sums.items c.loop-left.below.items) more c.loop-left.invariant in
+    let name_is = ap (λ node. node.name) c.read-node.ensures in
+    let known = name_known names nodes tree c.loop-left.sums.items c.loop-left.below.items k so_far pos in
+    let sum_is : c.index_mut-sum.result.now ≡ sums_at c.loop-left.sums.items (at nodes k).name =
+    get_or_read c.loop-left.sums.items c.read-node.result.name c.index_mut-sum.result.now (omega (arith, known, name_is)) c.index_mut-sum.ensures.value no_sums
+    ∙ ap (sums_at c.loop-left.sums.items) name_is in
+    let own_is = ap (λ node. node.own) c.read-node.ensures in
+    let fits = flat_fits names nodes tree c.loop-left.sums.items c.loop-left.below.items k so_far pos in
+    omega (arith, fits, ap (λ s. s.flat) sum_is, own_is)
 
 pub overflow_add-sum-then-node : goal.overflow_add-sum-then-node
 overflow_add-sum-then-node c =
-    let nodes = nodes_of c.self.inside.nodes c.args.value in
-    let trees = c.self.invariant c.args.value (value_lt c.self.inside.names c.self.inside.nodes c.args.self.now c.args.value c.self.view_is c.requires) in
-    let size = length-alike _ _ (c.known.ensures.each c.args.value (value_lt c.self.inside.names c.self.inside.nodes c.args.self.now c.args.value c.self.view_is c.requires)) in
-    let node_is : c.read-node.result ≡ at nodes c.loop-index.index = c.read-node.ensures in
-    let name_lt : c.read-node.result.name < length c.self.inside.names = omega (arith, (trees.links c.loop-index.index (omega (arith, size)) (omega (arith, size))).1, ap (λ node. node.name) node_is) in
-    let sum_is : c.index_mut-sum.result.now ≡ sums_at c.loop-index.sums.items c.read-node.result.name =
-    get_or_read c.loop-index.sums.items c.read-node.result.name c.index_mut-sum.result.now (omega (arith, name_lt, c.loop-index.invariant.size)) c.index_mut-sum.ensures.value no_sums in
-    let fits = cum_fits c.self.inside.names nodes trees c.loop-index.sums.items c.loop-index.index (omega (arith, size)) (omega (arith, size)) (ap (λ node. node.counts) (sym node_is) ∙ c.if-node.true) c.loop-index.invariant in
-    omega (arith, fits, ap (λ s. s.cum) sum_is ∙ ap (λ node. (sums_at c.loop-index.sums.items node.name).cum) node_is, ap (λ node. node.total) node_is)
+    let names = c.self.inside.names in
+    let all = c.self.inside.nodes in
+    let lt_value = value_lt names all c.args.self.now c.args.value c.self.view_is c.requires in
+    let nodes = nodes_of all c.args.value in
+    let tree : IsTree names nodes = c.self.invariant.0 c.args.value lt_value in
+    let k = c.loop-left.left - 1 in
+    let more : c.loop-left.left ≡ k + 1 = omega (arith, c.loop-left-test.true) in
+    let pos : 0 < k = omega (arith, c.loop-left-test.true) in
+    let so_far = subst (AreSumsFrom names nodes c.loop-left.sums.items c.loop-left.below.items) more c.loop-left.invariant in
+    let below_is = get_or_read c.loop-left.below.items k c.index.result.now (omega (arith, so_far.wide, so_far.within)) c.index.ensures 0 in
+    let own_is = ap (λ node. node.own) c.read-node.ensures in
+    let name_is = ap (λ node. node.name) c.read-node.ensures in
+    let known = name_known names nodes tree c.loop-left.sums.items c.loop-left.below.items k so_far pos in
+    let sum_is : c.index_mut-sum.result.now ≡ sums_at c.loop-left.sums.items (at nodes k).name =
+    get_or_read c.loop-left.sums.items c.read-node.result.name c.index_mut-sum.result.now (omega (arith, known, name_is)) c.index_mut-sum.ensures.value no_sums
+    ∙ ap (sums_at c.loop-left.sums.items) name_is in
+    let fits = cum_fits names nodes tree c.loop-left.sums.items c.loop-left.below.items k so_far pos (ap (λ node. node.counts) (sym c.read-node.ensures) ∙ c.if-node.true) in
+    omega (arith, fits, ap (λ s. s.cum) sum_is, below_is, own_is)
 
-pub loop-index-preserved : goal.loop-index-preserved
-loop-index-preserved c =
-    let nodes = nodes_of c.self.inside.nodes c.args.value in
-    let trees = c.self.invariant c.args.value (value_lt c.self.inside.names c.self.inside.nodes c.args.self.now c.args.value c.self.view_is c.requires) in
-    let size = length-alike _ _ (c.known.ensures.each c.args.value (value_lt c.self.inside.names c.self.inside.nodes c.args.self.now c.args.value c.self.view_is c.requires)) in
-    let index = c.loop-index.index in
-    let sums = c.loop-index.sums.items in
-    let lt : index < length nodes = omega (arith, size) in
-    let node_is : c.read-node.result ≡ at nodes index = c.read-node.ensures in
-    let name_is = ap (λ node. node.name) node_is in
-    let name_lt : (at nodes index).name < length c.self.inside.names = (trees.links index (omega arith) lt).1 in
-    let sum_is : c.index_mut-sum.result.now ≡ sums_at sums (at nodes index).name =
-    get_or_read sums c.read-node.result.name c.index_mut-sum.result.now (omega (arith, name_lt, name_is, c.loop-index.invariant.size)) c.index_mut-sum.ensures.value no_sums ∙ ap (sums_at sums) name_is in
-    let flat_is : c.index_mut-sum.result.now.flat + c.read-node.result.own ≡ (sums_at sums (at nodes index).name).flat + (at nodes index).own = (λ i. (sum_is i).flat + (node_is i).own) in
-    let cum_is : c.index_mut-sum.result.now.cum + c.read-node.result.total ≡ (sums_at sums (at nodes index).name).cum + (at nodes index).total = (λ i. (sum_is i).cum + (node_is i).total) in
-    let flat = c.index_mut-sum.result.now.flat + c.read-node.result.own in
-    let sum_then : Sums = record { flat = flat; cum = c.index_mut-sum.result.now.cum + c.read-node.result.total } in
-    let sum_else : Sums = record { flat = flat; cum = c.index_mut-sum.result.now.cum } in
-    elim c.if-node.branch [
-      | then-node w ↦
-          AreSumsTo-next c.self.inside.names nodes sums c.if-node.sums.items index c.loop-index.invariant lt _ _ flat_is
-          (cum_is ∙ ap (λ b. (sums_at sums (at nodes index).name).cum + cond b (at nodes index).total 0) (sym (ap (λ node. node.counts) (sym node_is) ∙ w.if-node.true)))
-          name_lt (ap (λ v. v.items) w.sums-is ∙ ap (λ n. set sums n sum_then) name_is)
-      | else-node w ↦
-          AreSumsTo-next c.self.inside.names nodes sums c.if-node.sums.items index c.loop-index.invariant lt _ _ flat_is
-          (ap (λ sums. sums.cum) sum_is ∙ add_none _ ∙ ap (λ b. (sums_at sums (at nodes index).name).cum + cond b (at nodes index).total 0) (sym (ap (λ node. node.counts) (sym node_is) ∙ w.if-node.false)))
-          name_lt (ap (λ v. v.items) w.sums-is ∙ ap (λ n. set sums n sum_else) name_is)
-    ]
-  where
-    add_none : (x : ℕ) → x ≡ x + 0
-    add_none x = omega arith
+pub loop-left-preserved-then-node : goal.loop-left-preserved-then-node
+loop-left-preserved-then-node c =
+    let names = c.self.inside.names in
+    let all = c.self.inside.nodes in
+    let lt_value = value_lt names all c.args.self.now c.args.value c.self.view_is c.requires in
+    let nodes = nodes_of all c.args.value in
+    let tree : IsTree names nodes = c.self.invariant.0 c.args.value lt_value in
+    let k = c.loop-left.left - 1 in
+    let more : c.loop-left.left ≡ k + 1 = omega (arith, c.loop-left-test.true) in
+    let pos : 0 < k = omega (arith, c.loop-left-test.true) in
+    let so_far = subst (AreSumsFrom names nodes c.loop-left.sums.items c.loop-left.below.items) more c.loop-left.invariant in
+    let below_is = get_or_read c.loop-left.below.items k c.index.result.now (omega (arith, so_far.wide, so_far.within)) c.index.ensures 0 in
+    let own_is = ap (λ node. node.own) c.read-node.ensures in
+    let parent_is = ap (λ node. node.parent) c.read-node.ensures in
+    let wide = parent_wide names nodes tree c.loop-left.sums.items c.loop-left.below.items k so_far pos in
+    let held_is = get_or_read c.loop-left.below.items c.read-node.result.parent c.index_mut.result.now (omega (arith, wide, parent_is)) c.index_mut.ensures.value 0
+    ∙ ap (λ p. slice_index_or c.loop-left.below.items p 0) parent_is in
+    let name_is = ap (λ node. node.name) c.read-node.ensures in
+    let known = name_known names nodes tree c.loop-left.sums.items c.loop-left.below.items k so_far pos in
+    let sum_is : c.index_mut-sum.result.now ≡ sums_at c.loop-left.sums.items (at nodes k).name =
+    get_or_read c.loop-left.sums.items c.read-node.result.name c.index_mut-sum.result.now (omega (arith, known, name_is)) c.index_mut-sum.ensures.value no_sums
+    ∙ ap (sums_at c.loop-left.sums.items) name_is in
+    let weight_is : c.read-node.result.own + c.index.result.now ≡ (at nodes k).own + slice_index_or c.loop-left.below.items k 0 = λ i. own_is i + below_is i in
+    let flat : ℕ = c.index_mut-sum.result.now.flat + c.read-node.result.own in
+    let cum : ℕ = c.index_mut-sum.result.now.cum + (c.read-node.result.own + c.index.result.now) in
+    AreSumsFrom-next names nodes tree c.loop-left.sums.items c.loop-left.below.items k so_far pos flat cum _ _
+    (λ i. set c.loop-left.below.items (parent_is i) (held_is i + weight_is i))
+    (λ i. (sum_is i).flat + own_is i)
+    ((λ i. (sum_is i).cum + weight_is i) ∙ ap (λ b. (sums_at c.loop-left.sums.items (at nodes k).name).cum + cond b ((at nodes k).own + slice_index_or c.loop-left.below.items k 0) 0)
+    (sym (ap (λ node. node.counts) (sym c.read-node.ensures) ∙ c.if-node.true)))
+    (ap (λ n. set c.loop-left.sums.items n (record { flat = flat; cum = cum })) name_is)
+
+pub loop-left-preserved : goal.loop-left-preserved
+loop-left-preserved c =
+    let names = c.self.inside.names in
+    let all = c.self.inside.nodes in
+    let lt_value = value_lt names all c.args.self.now c.args.value c.self.view_is c.requires in
+    let nodes = nodes_of all c.args.value in
+    let tree : IsTree names nodes = c.self.invariant.0 c.args.value lt_value in
+    let k = c.loop-left.left - 1 in
+    let more : c.loop-left.left ≡ k + 1 = omega (arith, c.loop-left-test.true) in
+    let pos : 0 < k = omega (arith, c.loop-left-test.true) in
+    let so_far = subst (AreSumsFrom names nodes c.loop-left.sums.items c.loop-left.below.items) more c.loop-left.invariant in
+    let below_is = get_or_read c.loop-left.below.items k c.index.result.now (omega (arith, so_far.wide, so_far.within)) c.index.ensures 0 in
+    let own_is = ap (λ node. node.own) c.read-node.ensures in
+    let parent_is = ap (λ node. node.parent) c.read-node.ensures in
+    let wide = parent_wide names nodes tree c.loop-left.sums.items c.loop-left.below.items k so_far pos in
+    let held_is = get_or_read c.loop-left.below.items c.read-node.result.parent c.index_mut.result.now (omega (arith, wide, parent_is)) c.index_mut.ensures.value 0
+    ∙ ap (λ p. slice_index_or c.loop-left.below.items p 0) parent_is in
+    let name_is = ap (λ node. node.name) c.read-node.ensures in
+    let known = name_known names nodes tree c.loop-left.sums.items c.loop-left.below.items k so_far pos in
+    let sum_is : c.index_mut-sum.result.now ≡ sums_at c.loop-left.sums.items (at nodes k).name =
+    get_or_read c.loop-left.sums.items c.read-node.result.name c.index_mut-sum.result.now (omega (arith, known, name_is)) c.index_mut-sum.ensures.value no_sums
+    ∙ ap (sums_at c.loop-left.sums.items) name_is in
+    let weight_is : c.read-node.result.own + c.index.result.now ≡ (at nodes k).own + slice_index_or c.loop-left.below.items k 0 = λ i. own_is i + below_is i in
+    let flat : ℕ = c.index_mut-sum.result.now.flat + c.read-node.result.own in
+    let cum : ℕ = c.index_mut-sum.result.now.cum in
+    AreSumsFrom-next names nodes tree c.loop-left.sums.items c.loop-left.below.items k so_far pos flat cum _ _
+    (λ i. set c.loop-left.below.items (parent_is i) (held_is i + weight_is i))
+    (λ i. (sum_is i).flat + own_is i)
+    (ap (λ s. s.cum) sum_is ∙ omega arith ∙ ap (λ b. (sums_at c.loop-left.sums.items (at nodes k).name).cum + cond b ((at nodes k).own + slice_index_or c.loop-left.below.items k 0) 0)
+    (sym (ap (λ node. node.counts) (sym c.read-node.ensures) ∙ c.if-node.false)))
+    (ap (λ n. set c.loop-left.sums.items n (record { flat = flat; cum = cum })) name_is)
 
 pub returns : goal.returns
 returns c =
     let names = c.self.inside.names in
     let all = c.self.inside.nodes in
-    let trees = c.self.invariant c.args.value (value_lt names all c.args.self.now c.args.value c.self.view_is c.requires) in
-    let size = c.known.ensures.each c.args.value (value_lt names all c.args.self.now c.args.value c.self.view_is c.requires) in
-    subst (λ t. AreSums t c.loop-index.sums.items) (seen_plain names all c.args.self.now c.args.value c.self.view_is)
-    (AreSums-end names (nodes_of all c.args.value) trees c.loop-index.sums.items c.loop-index.index (omega (arith, length-alike _ _ size)) c.loop-index.invariant)
+    let lt_value = value_lt names all c.args.self.now c.args.value c.self.view_is c.requires in
+    let nodes = nodes_of all c.args.value in
+    let tree : IsTree names nodes = c.self.invariant.0 c.args.value lt_value in
+    subst (λ t. AreSums t c.loop-left.sums.items) (seen_plain names all c.args.self.now c.args.value c.self.view_is)
+    (AreSumsFrom-end names nodes tree c.loop-left.sums.items c.loop-left.below.items c.loop-left.left (omega (arith, c.loop-left-test.false)) c.loop-left.invariant)

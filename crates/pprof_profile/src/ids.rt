@@ -2,7 +2,7 @@
 
 ghost use Rattle.std.specs.Prelude.{◌≡◌, ◌≢◌, ◌||◌, ℕ, nat_eq, true, false, not, map, ◌==◌, IfOk, IfErr, OnOk};
 ghost use Rattle.std.specs.List.{list_any};
-ghost use Rattle.pprof_profile.specs.KnownIds.{knows};
+ghost use Rattle.pprof_profile.specs.KnownIds.{is_near, knows};
 ghost use Rattle.pprof_profile.specs.Valid.{is_known, has_double, no_zero_id};
 
 use crate::faults::ProfileFault;
@@ -57,42 +57,104 @@ fn names_zero<T: HasId>(items: &[T]) -> bool
     items.iter().any(|item| item.id() == 0)
 }
 
-/// Ids. Most profiles number their items 1, 2, 3 and on: as far as they do, a look-up compares two numbers.
+/// The numbers from the lowest of some ids to the highest. Most writers give ids that lie close together; then a table
+/// over the range finds each in one step, in whatever order they stand, and nobody can choose them to make it slow. No
+/// answer depends on it.
+#[derive(Clone, Copy, Debug, PartialEq, Eq)]
+pub struct IdRange {
+    /// The lowest id.
+    pub lowest: u64,
+    /// The highest id.
+    pub highest: u64,
+}
+
+impl IdRange {
+    /// The range of no ids.
+    pub fn empty() -> IdRange {
+        IdRange {
+            lowest: u64::MAX,
+            highest: 0,
+        }
+    }
+
+    /// The range with an id more.
+    pub fn with(self, id: u64) -> IdRange {
+        IdRange {
+            lowest: self.lowest.min(id),
+            highest: self.highest.max(id),
+        }
+    }
+
+    /// How long a table over the range of so many ids is: as long as the range where that is at most two numbers for
+    /// each id, else 0.
+    pub fn table_len(self, count: usize) -> usize {
+        let steps = self.highest.saturating_sub(self.lowest) as usize;
+        if steps / 2 < count {
+            steps.saturating_add(1)
+        } else {
+            0
+        }
+    }
+}
+
+/// The range of the items' ids.
+fn range_of<T: HasId>(items: &[T]) -> IdRange {
+    let mut range = IdRange::empty();
+    for item in items {
+        range = range.with(item.id());
+    }
+    range
+}
+
+/// Ids, by a table where they lie close together.
 #[derive(Drop)]
 pub(crate) struct KnownIds {
-    /// All numbers from 1 to this one are ids.
-    counted: u64,
-    /// The ids beside those.
-    others: BTreeSet<u64>,
+    /// The number that the table begins with.
+    lowest: u64,
+    /// Which numbers from there on are ids.
+    near: Vec<bool>,
+    /// The ids outside the table.
+    far: BTreeSet<u64>,
 }
 
 impl KnownIds {
-    /// No ids yet. Takes no memory.
-    fn new(alloc: Global) -> KnownIds
-        ensures { (id : ℕ) → knows result id ≡ false }
+    /// No ids yet, with a table for those of the range.
+    fn new(alloc: Global, range: IdRange, count: usize) -> Result<KnownIds, AllocError>
+        ensures { IfOk result (λ ids. (id : ℕ) → knows ids id ≡ false) }
     {
-        KnownIds {
-            counted: 0,
-            others: BTreeSet::new(alloc),
-        }
+        Ok(KnownIds {
+            lowest: range.lowest,
+            near: vec![in alloc; false; range.table_len(count)]?,
+            far: BTreeSet::new(alloc),
+        })
     }
 
     /// The id is one of these.
     pub(crate) fn contains(&self, id: u64) -> bool
         ensures { result ≡ knows self.now id }
     {
-        (id > 0 && id <= self.counted) || self.others.contains(&id)
+        self.is_near(id) || self.far.contains(&id)
     }
 
-    /// Adds an id that is none of these.
+    /// The table has the id.
+    fn is_near(&self, id: u64) -> bool
+        ensures { result ≡ is_near self.now id }
+    {
+        match id.checked_sub(self.lowest) {
+            Some(place) => self.near.get(place as usize).copied().unwrap_or(false),
+            None => false,
+        }
+    }
+
+    /// Adds an id.
     fn add(&mut self, id: u64) -> Result<(), AllocError>
-        requires { knows self.now id ≡ false }
         ensures { OnOk result ((other : ℕ) → knows self.new other ≡ (nat_eq other id || knows self.old other)) }
     {
-        if id > 0 && id - 1 == self.counted {
-            self.counted = id;
-        } else {
-            self.others.insert(id)?;
+        match id.checked_sub(self.lowest) {
+            Some(place) if (place as usize) < self.near.len() => self.near[place as usize] = true,
+            _ => {
+                self.far.insert(id)?;
+            }
         }
         Ok(())
     }
@@ -105,7 +167,7 @@ pub(crate) fn unique_ids<T: HasId>(alloc: Global, items: &[T]) -> Result<KnownId
     ensures double { IfErr result (λ fault. fault ≢ ProfileFault.NoMemory
         → (fault ≡ ProfileFault.DoubleId) × (has_double (map T.id_of items.now) ≡ true)) }
 {
-    let mut ids = KnownIds::new(alloc);
+    let mut ids = KnownIds::new(alloc, range_of(items), items.len())?;
     for item in items {
         let id = item.id();
         if ids.contains(id) {

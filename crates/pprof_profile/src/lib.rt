@@ -19,6 +19,7 @@ mod writing;
 mod written_samples;
 
 pub use faults::{ProfileFault, Refused};
+pub use ids::IdRange;
 pub use items::{Items, Text};
 pub use messages::{Draft, Function, Label, Line, Location, Mapping, Sample, ValueType};
 pub use pprof_wire::{NoMemory, WireFault};

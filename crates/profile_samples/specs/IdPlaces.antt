@@ -1,10 +1,28 @@
 -- Where ids stand.
-use Rattle.std.specs.Prelude.{ℕ, ◌≡◌, ◌+◌, ◌==◌, ◌⊎◌, List, Some, IfSome, IsSome, slice_get}
+use Rattle.std.specs.Prelude.{ℕ, zero, suc, ◌≡◌, ◌≢◌, ◌-◌, ◌==◌, List, Option, Some, None, MatchOption, cond, nat_lt, slice_get, slice_index_or}
 use Rattle.std.specs.HashMap as hash
-use Rattle.std.specs.HashMap.{HashMap}
-use Rattle.profile_rows.specs.declared.hashing.Hashing.{Hashing}
+use Rattle.profile_samples.specs.declared.id_places.PlaceTable.{PlaceTable}
 
--- the entries are places of their ids, and each id has one but where it is one more than its place
-pub record AreIdPlaces (ids : List ℕ) (others : HashMap ℕ ℕ Hashing) : Type 0 where
-  pub right : (id : ℕ) → IfSome (hash.get ◌==◌ others id) (λ at. slice_get ids at ≡ Some id)
-  pub whole : (at id : ℕ) → slice_get ids at ≡ Some id → (id ≡ at + 1) ⊎ IsSome (hash.get ◌==◌ others id)
+-- a number that is one more than a place, or 0 where there is none
+abbrev pub place_before : ℕ → Option ℕ
+place_before zero = None
+place_before (suc place) = Some place
+
+-- the place that the table has for an id
+abbrev pub place_near : PlaceTable → ℕ → Option ℕ
+place_near places id =
+    cond (nat_lt id places.lowest) None (place_before (slice_index_or places.near.items (id - places.lowest) 0))
+
+-- the first of two that is there
+abbrev pub or_else : Option ℕ → Option ℕ → Option ℕ
+or_else (Some place) other = Some place
+or_else None other = other
+
+-- the place of an id
+abbrev pub place_found : PlaceTable → ℕ → Option ℕ
+place_found places id = or_else (place_near places id) (hash.get ◌==◌ places.far id)
+
+-- what is found for an id is a place at which it stands, and where none is found it stands nowhere
+abbrev pub AreIdPlaces : List ℕ → (ℕ → Option ℕ) → Type 0
+AreIdPlaces ids find =
+    (id : ℕ) → MatchOption (find id) ((at : ℕ) → slice_get ids at ≢ Some id) (λ at. slice_get ids at ≡ Some id)

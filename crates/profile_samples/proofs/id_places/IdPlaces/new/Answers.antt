@@ -1,10 +1,10 @@
--- An id that isn't one more than its place becomes an entry.
-use Rattle.std.proofs.Common.{◌≡◌, ◌+◌, ◌<◌, ◌∙◌, ℕ, Some, ap, arith, length, slice_index_or, subst, sym}
+-- Each id gets its place.
+use Rattle.std.proofs.Common.{◌≡◌, ◌<◌, ◌≤◌, ◌∙◌, Some, ap, arith, length, slice_index_or, subst, sym}
 use Rattle.std.specs.Prelude.{slice_get}
-use Rattle.std.proofs.lemmas.Option.{slice_get_within, slice_get-get_or}
-use Rattle.profile_samples.proofs.IdPlaces.{ArePlacesOfFirst, places_more, places_next}
+use Rattle.std.proofs.lemmas.Option.{slice_get-get_or}
+use Rattle.profile_samples.specs.IdPlaces.{AreIdPlaces, place_found}
+use Rattle.profile_samples.proofs.IdPlaces.{places_all, places_more}
 use Rattle.profile_samples.proofs.id_places.IdPlaces.new.Goals as goal
-use Rattle.profile_samples.proofs.id_places.IdPlaces.new.Goals.{then-id-at+in_ok-insert, else-id-at}
 
 pub loop-at-preserved : goal.loop-at-preserved
 loop-at-preserved c =
@@ -13,18 +13,12 @@ loop-at-preserved c =
     let lt : c.loop-at.at < length ids = subst (λ items. c.loop-at.at < length items) c.deref-id-items.ensures.value c.loop-at-test.true in
     let same : id ≡ slice_index_or ids c.loop-at.at 0 = ap (λ items. slice_index_or items c.loop-at.at 0) c.deref-id-items.ensures.value in
     let stands : slice_get ids c.loop-at.at ≡ Some id = slice_get-get_or ids c.loop-at.at 0 lt ∙ ap Some (sym same) in
-    elim c.if-id-at.branch [
-      | then-id-at+in_ok-insert w ↦ subst (λ others. ArePlacesOfFirst ids others (c.loop-at.at + 1)) (sym w.others-is)
-          (places_more ids c.loop-at.others w.insert.new.self c.loop-at.at id stands w.in_ok-insert.ensures.updates.0 c.loop-at.invariant)
-      | else-id-at w ↦ subst (λ others. ArePlacesOfFirst ids others (c.loop-at.at + 1)) (sym w.others-is)
-          (places_next ids c.loop-at.others c.loop-at.at id stands w.if-id-at.false c.loop-at.invariant)
-    ]
+    places_more ids (place_found c.loop-at.places) (place_found c.put.new.self) c.loop-at.at id stands c.in_ok-put.ensures c.loop-at.invariant
 
 pub invariant_of-result : goal.invariant_of-result
 invariant_of-result c =
-    let ids = c.args.ids.items in
-    let (right, whole) = c.loop-at.invariant in
-    let past = c.loop-at-test.false in
-    let count = ap length c.deref-id-items.ensures.value in
-    let inside : (at id : ℕ) → slice_get ids at ≡ Some id → at < c.loop-at.at = λ at id there. let lt = slice_get_within ids at id there in omega (arith, lt, past, count) in
-    record { right = right; whole = λ at id there. whole at id (inside at id there) there }
+    let all : length c.args.ids.items ≤ c.loop-at.at =
+    (let past = c.loop-at-test.false in let count = ap length c.deref-id-items.ensures.value in omega (arith, past, count)) in
+    let places : AreIdPlaces c.args.ids.items (place_found c.loop-at.places) =
+    places_all c.args.ids.items (place_found c.loop-at.places) c.loop-at.at all c.loop-at.invariant in
+    subst (λ ids. AreIdPlaces ids (place_found c.loop-at.places)) (ap (λ ids. ids.items) (sym c.of.ensures)) places

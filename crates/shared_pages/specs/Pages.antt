@@ -1,4 +1,4 @@
--- Items in pages, and pages in groups.
+-- Items in pages, pages in groups, and groups on shelves.
 use Rattle.std.specs.Prelude.{ℕ, ◌≡◌, ◌<◌, ◌≤◌, ◌+◌, List, [], ◌∷◌, ◌++◌, length, map, flat_map, nat_lt, slice_index_or, slice_set, if◌then◌else◌}
 use Rattle.std.specs.Arc.{arc_value}
 use Rattle.std.specs.declared.sync.Arc.{Arc}
@@ -26,11 +26,16 @@ module _ {X : Type 0} where
     pub few : (k : ℕ) → k < length chunks → length (chunk_at chunks k) ≤ size
     pub full : (k : ℕ) → k + 1 < length chunks → length (chunk_at chunks k) ≡ size
 
-  -- groups of 64 pages of 256 items, so many items together
+  -- groups of 16 pages of 256 items, so many items together
   pub record ArePages (all : List (List (List X))) (size : ℕ) : Type 0 where
     pub count : length (items_in all) ≡ size
-    pub groups : AreChunks 16384 (map joined all)
+    pub groups : AreChunks 4096 (map joined all)
     pub pages : (k : ℕ) → k < length all → AreChunks 256 (slice_index_or all k [])
+
+  -- shelves of 65,536 items, so many items together
+  pub record AreShelves (all : List (List X)) (size : ℕ) : Type 0 where
+    pub count : length (joined all) ≡ size
+    pub shelves : AreChunks 65536 all
 
 module _ {X Z : Type 0} where
   -- the items of a page
@@ -47,3 +52,7 @@ module _ {X Z : Type 0} where
   -- the groups with their pages
   abbrev pub groups_of : List (Arc (Vec (Arc (Vec X Z) Z) Z) Z) → List (List (List X))
   groups_of groups = map group_pages groups
+
+  -- the items of each shelf
+  abbrev pub shelves_of : List (Arc (List X) Z) → List (List X)
+  shelves_of shelves = map (λ (shelf : Arc (List X) Z). arc_value {X = List X} shelf) shelves

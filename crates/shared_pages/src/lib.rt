@@ -3,5 +3,6 @@
 #![tactic(auto)]
 
 mod pages;
+mod shelf;
 
 pub use pages::Pages;

@@ -1,39 +1,37 @@
-//! Pages of items, in groups.
+//! Pages of items, on shelves.
 
-ghost use Rattle.std.specs.Prelude.{◌≡◌, ◌<◌, ◌≤◌, ◌++◌, ◌∷◌, ℕ, List, [], length, map, IfOk, OnOk, OnErr, slice_set, slice_index_or};
-ghost use Rattle.std.specs.Arc.{arc_value};
-ghost use Rattle.shared_pages.specs.Pages.{AreChunks, ArePages, groups_of, items_in, joined, pages_of, with_item};
+ghost use Rattle.std.specs.Prelude.{◌≡◌, ◌<◌, ◌≤◌, ◌++◌, ◌∷◌, ℕ, [], length, IfOk, OnOk, OnErr, slice_set, slice_index_or};
+ghost use Rattle.shared_pages.specs.Pages.{AreChunks, joined, shelves_of, with_item};
 
+use crate::shelf::Shelf;
 use std::alloc::{AllocError, Global};
 use std::clone::Clone;
 use std::marker::Model;
 use std::sync::Arc;
 
-/// How many items a page takes.
-const PAGE: usize = 256;
+/// How many items a shelf takes: 16 groups of 16 pages.
+const SHELF: usize = 65536;
 
-/// How many items a group takes: 64 pages.
-const GROUP: usize = 16384;
-
-/// A list that only grows. Its items stand in pages of 256, the pages in groups of 64, and each page and each group
-/// may have several owners: [`share`](Pages::share) copies only the table of groups. An item that is replaced or
-/// appended has its page and its group copied before, unless nobody else owns them.
+/// A list that only grows. Its items stand in pages of 256, the pages in groups of 16, the groups on shelves of 16, and
+/// each page, each group and each shelf may have several owners: [`share`](Pages::share) copies only the table of
+/// shelves. An item that is replaced or appended has its page, its group and its shelf copied before, unless nobody else
+/// owns them.
 #[derive(Drop)]
 pub struct Pages<T> {
     alloc: Global,
-    groups: Vec<Arc<Vec<Arc<Vec<T>>>>>,
+    shelves: Vec<Arc<Shelf<T>>>,
     len: usize,
 }
 
 impl<T> Model for Pages<T> {
     ghost use Rattle.std.specs.Prelude.{List};
-    ghost use Rattle.shared_pages.specs.Pages.{ArePages, items_in, groups_of};
+    ghost use Rattle.shared_pages.specs.Pages.{AreShelves, joined, shelves_of};
 
     ghost Value = { List T };
 
-    ghost view = { λ p. items_in (groups_of p.groups.items) };
+    ghost view = { λ p. joined (shelves_of p.shelves.items) };
 
-    ghost invariant = { λ p. ArePages (groups_of p.groups.items) p.len };
+    ghost invariant = { λ p. AreShelves (shelves_of p.shelves.items) p.len };
 }
 
 impl<T> Pages<T> {
@@ -43,7 +41,7 @@ impl<T> Pages<T> {
     {
         Pages {
             alloc,
-            groups: Vec::new(alloc),
+            shelves: Vec::new(alloc),
             len: 0,
         }
     }
@@ -60,8 +58,7 @@ impl<T> Pages<T> {
         requires { at < length self.now }
         ensures { result.now ≡ slice_index_or self.now at result.now }
     {
-        let within = at % GROUP;
-        &self.groups[at / GROUP][within / PAGE][within % PAGE]
+        self.shelves[at / SHELF].read(at % SHELF)
     }
 
     /// Another owner of the same pages.
@@ -76,7 +73,7 @@ impl<T> Pages<T> {
     {
         Ok(Pages {
             alloc: self.alloc,
-            groups: self.groups.clone()?,
+            shelves: self.shelves.clone()?,
             len: self.len,
         })
     }
@@ -94,7 +91,7 @@ impl<T: Clone + Drop> Pages<T> {
         ensures ok { OnOk result (self.new ≡ slice_set self.old at item) }
         ensures err { OnErr result (self.new ≡ self.old) }
     {
-        put_in_groups(self.alloc, &mut self.groups, at, item)
+        put_on_shelves(self.alloc, &mut self.shelves, at, item)
     }
 
     /// One more item, at the end. What other owners hold stays.
@@ -110,7 +107,7 @@ impl<T: Clone + Drop> Pages<T> {
         let Some(len) = self.len.checked_add(1) else {
             return Err(AllocError);
         };
-        put_in_groups(self.alloc, &mut self.groups, self.len, item)?;
+        put_on_shelves(self.alloc, &mut self.shelves, self.len, item)?;
         self.len = len;
         Ok(())
     }
@@ -126,89 +123,28 @@ impl<T: Drop> Clone for Pages<T> {
     }
 }
 
-/// Puts an item at its place in its group, or in a new group behind the last.
-fn put_in_groups<T: Clone + Drop>(
+/// Puts an item at its place on its shelf, or on a new shelf behind the last.
+fn put_on_shelves<T: Clone + Drop>(
     alloc: Global,
-    groups: &mut Vec<Arc<Vec<Arc<Vec<T>>>>>,
+    shelves: &mut Vec<Arc<Shelf<T>>>,
     at: usize,
     item: T,
 ) -> Result<(), AllocError>
     requires exact { (x y : T) → T.is_clone x y → y ≡ x }
-    requires pages { ArePages (groups_of groups.old.items) (length (items_in (groups_of groups.old.items))) }
-    requires within { at ≤ length (items_in (groups_of groups.old.items)) }
+    requires chunks { AreChunks 65536 (shelves_of shelves.old.items) }
+    requires within { at ≤ length (joined (shelves_of shelves.old.items)) }
     ensures ok { OnOk result
-        (items_in (groups_of groups.new.items) ≡ with_item at item (items_in (groups_of groups.old.items))) }
-    ensures pages { OnOk result
-        (ArePages (groups_of groups.new.items) (length (items_in (groups_of groups.new.items)))) }
-    ensures err { OnErr result (groups_of groups.new.items ≡ groups_of groups.old.items) }
+        (joined (shelves_of shelves.new.items) ≡ with_item at item (joined (shelves_of shelves.old.items))) }
+    ensures chunks { OnOk result (AreChunks 65536 (shelves_of shelves.new.items)) }
+    ensures err { OnErr result (shelves_of shelves.new.items ≡ shelves_of shelves.old.items) }
 {
-    let index = at / GROUP;
-    if index < groups.len() {
-        return put_in_group(alloc, &mut groups[index], at % GROUP, item);
+    let index = at / SHELF;
+    if index < shelves.len() {
+        let shelf = Arc::make_mut(&mut shelves[index])?;
+        return shelf.put(at % SHELF, item);
     }
-    let mut pages = Vec::new(alloc);
-    put_in_pages(alloc, &mut pages, 0, item)?;
-    groups.push(Arc::new(alloc, pages)?)?;
-    Ok(())
-}
-
-/// Puts an item at its place in a group, which is copied before where it has other owners.
-fn put_in_group<T: Clone + Drop>(
-    alloc: Global,
-    group: &mut Arc<Vec<Arc<Vec<T>>>>,
-    at: usize,
-    item: T,
-) -> Result<(), AllocError>
-    requires exact { (x y : T) → T.is_clone x y → y ≡ x }
-    requires chunks { AreChunks 256 (pages_of (arc_value group.old).items) }
-    requires within { at ≤ length (joined (pages_of (arc_value group.old).items)) }
-    ensures ok { OnOk result (joined (pages_of (arc_value group.new).items)
-        ≡ with_item at item (joined (pages_of (arc_value group.old).items))) }
-    ensures chunks { OnOk result (AreChunks 256 (pages_of (arc_value group.new).items)) }
-    ensures err { OnErr result
-        (pages_of (arc_value group.new).items ≡ pages_of (arc_value group.old).items) }
-{
-    let pages = Arc::make_mut(group)?;
-    put_in_pages(alloc, pages, at, item)
-}
-
-/// Puts an item at its place in its page, which is copied before where it has other owners, or in a new page behind
-/// the last.
-fn put_in_pages<T: Clone + Drop>(
-    alloc: Global,
-    pages: &mut Vec<Arc<Vec<T>>>,
-    at: usize,
-    item: T,
-) -> Result<(), AllocError>
-    requires exact { (x y : T) → T.is_clone x y → y ≡ x }
-    requires chunks { AreChunks 256 (pages_of pages.old.items) }
-    requires within { at ≤ length (joined (pages_of pages.old.items)) }
-    ensures ok { OnOk result
-        (joined (pages_of pages.new.items) ≡ with_item at item (joined (pages_of pages.old.items))) }
-    ensures chunks { OnOk result (AreChunks 256 (pages_of pages.new.items)) }
-    ensures err { OnErr result (pages_of pages.new.items ≡ pages_of pages.old.items) }
-{
-    let index = at / PAGE;
-    if index < pages.len() {
-        let page = Arc::make_mut(&mut pages[index])?;
-        return put_in_page(page, at % PAGE, item);
-    }
-    let mut page = Vec::with_capacity(alloc, PAGE)?;
-    page.push(item)?;
-    pages.push(Arc::new(alloc, page)?)?;
-    Ok(())
-}
-
-/// Puts an item at its place in a page: in place of another, or behind the last.
-fn put_in_page<T: Drop>(page: &mut Vec<T>, at: usize, item: T) -> Result<(), AllocError>
-    requires { at ≤ length page.old.items }
-    ensures ok { OnOk result (page.new.items ≡ with_item at item page.old.items) }
-    ensures err { OnErr result (page.new.items ≡ page.old.items) }
-{
-    if at < page.len() {
-        page[at] = item;
-    } else {
-        page.push(item)?;
-    }
+    let mut shelf = Shelf::new(alloc);
+    shelf.put(0, item)?;
+    shelves.push(Arc::new(alloc, shelf)?)?;
     Ok(())
 }

@@ -4,7 +4,7 @@ use Rattle.std.specs.Result.{is_ok}
 use Rattle.std.proofs.lemmas.Result.{on_ok_weaker, on_err_weaker}
 use Rattle.shared_pages.specs.Pages.{AreChunks, page_items, pages_of, joined, with_item}
 use Rattle.shared_pages.proofs.Cloning.{copied_by, from_err, on_err}
-use Rattle.shared_pages.proofs.pages.put_in_group.Goals as goal
+use Rattle.shared_pages.proofs.shelf.put_in_group.Goals as goal
 
 pub returns-in_err-pages-clause-err : goal.returns-in_err-pages-clause-err
 returns-in_err-pages-clause-err g c =

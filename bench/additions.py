@@ -13,7 +13,7 @@ that is drawn at random. Three kinds of additions are timed:
 The program is additions.rattle, in a copy of the crates below it that stands outside the repository: the gate doesn't
 know of it. It is proved and linked there, about ten minutes for each page size from nothing on one core. --work keeps
 the copies, so that the next run proves only what changed. --pages and --group build it with other constants of
-shared_pages: items in a page, and pages in a group.
+shared_pages: items in a page, and pages in a group, which are as many as the groups on a shelf.
 
 --peers, or PEERS in the environment, is a folder with two Rust programs, of which any may lack:
   live     the whole addition, with names and child index. `lock`: a tree in one Vec, changed in place. `paged`: pages
@@ -49,10 +49,10 @@ def write_rows(folder, options):
 
 
 def set_pages(crate, page, group):
-    """Writes other numbers of items in a page and in a group wherever the crate's sources and proofs have them."""
-    text = (crate / "src/pages.rt").read_text(encoding="utf-8")
-    had = [re.search(rf"^const {name}: usize = (\d+);", text, re.M)[1] for name in ("PAGE", "GROUP")]
-    wanted = dict(zip(had, (str(page), str(page * group))))
+    """Writes other numbers of items in a page, a group and a shelf wherever the sources and proofs have them."""
+    text = "".join((crate / "src" / name).read_text(encoding="utf-8") for name in ("pages.rt", "shelf.rt"))
+    had = [re.search(rf"^const {name}: usize = (\d+);", text, re.M)[1] for name in ("PAGE", "GROUP", "SHELF")]
+    wanted = dict(zip(had, (str(page), str(page * group), str(page * group * group))))
     for part in ("src", "specs", "proofs"):
         for file in (crate / part).rglob("*.*t"):
             text = file.read_text(encoding="utf-8")
@@ -65,7 +65,7 @@ def build(folder, page, group):
     """Proves and links the program with pages of this size, and returns its file."""
     crates = copy_program(NAME, LIBRARIES, folder)
     set_pages(crates / "shared_pages", page, group)
-    print(f"proves and links {NAME} with pages of {page} and groups of {group} pages", flush=True)
+    print(f"proves and links {NAME} with pages of {page}, groups of {group} pages and shelves of {group} groups", flush=True)
     return link(NAME, folder, ["alone", "0"], "")
 
 
@@ -120,7 +120,7 @@ def print_pages(program, nodes, file):
 def read_options():
     reader = argparse.ArgumentParser(description=__doc__, formatter_class=argparse.RawDescriptionHelpFormatter)
     reader.add_argument("--pages", default="256", help="numbers of items in a page, with commas")
-    reader.add_argument("--group", type=int, default=64, help="how many pages a group has")
+    reader.add_argument("--group", type=int, default=16, help="how many pages a group has")
     reader.add_argument("--nodes", type=int, default=1_000_000, help="how many nodes the tree has")
     reader.add_argument("--names", type=int, default=20_000, help="how many functions there are")
     reader.add_argument("--additions", type=int, default=40_000, help="how many are timed")

@@ -65,7 +65,7 @@ def build(folder, page, group):
     """Proves and links the program with pages of this size, and returns its file."""
     crates = copy_program(NAME, LIBRARIES, folder)
     set_pages(crates / "shared_pages", page, group)
-    print(f"proves and links {NAME} with pages of {page}, groups of {group} pages and shelves of {group} groups", flush=True)
+    print(f"proves and links {NAME}: pages of {page}, {group} to a group, {group} groups to a shelf", flush=True)
     return link(NAME, folder, ["alone", "0"], "")
 
 

@@ -5,7 +5,7 @@ use Rattle.std.specs.List.{AllByRecursion, IsDistinct}
 use Rattle.std.specs.Map.{lookup}
 use Rattle.std.proofs.lemmas.Bool.{eqb-true, false≢true, ne_eqb}
 use Rattle.std.proofs.lemmas.List.{length-map, map-append, map_more, reverse-append}
-use Rattle.std.proofs.lemmas.List.Elements.{All-from_get_or, All-from_recursion, recursion_from_All}
+use Rattle.std.proofs.lemmas.List.Elements.{All-append, All-nil, All-from_get_or, All-from_recursion, recursion_from_All}
 use Rattle.std.proofs.lemmas.List.Folds.{list_any-append}
 use Rattle.std.proofs.lemmas.List.Sums.{sum_by-cons, sum_by_push}
 use Rattle.std.proofs.lemmas.Cmp.{nat_list_eq_equiv}
@@ -29,7 +29,7 @@ use Rattle.profile_samples.specs.NameNumbers.{frame_names}
 use Rattle.profile_samples.proofs.ExportLaws.{AllStand}
 use Rattle.profile_samples.proofs.TextPlaces.{no_text}
 use Rattle.profile_samples.proofs.FrameNumbers.{AreNumbersOf, frames-more, locations_stand}
-use Rattle.profile_samples.specs.CountedSamples.{AreSingle, AreTalliesOfNames, Entry, entry_at, leaf_counted, names_at, names_counted, names_of, tally_of, zero_entry}
+use Rattle.profile_samples.specs.CountedSamples.{AreNumbersOfIds, AreSingle, AreTalliesOfNames, Entry, entry_at, leaf_counted, names_at, names_counted, names_of, tally_of, zero_entry}
 
 -- ---- entries of names
 
@@ -355,28 +355,44 @@ same_length entries others number same lt =
     omega (arith, one, other, both, lt)
 
 -- one location more
-pub location_counted : (draft : Draft) (initial old new : List Entry) (ids : List ℕ) (i : ℕ) (numbers : FrameNumbers) (lent : List ℕ) (row weight : ℕ) → i < length ids → names_of old ≡ frame_names draft → lent ≡ numbers.names
+pub numbers_more : (draft : Draft) (ids : List ℕ) (i : ℕ) (numbers : FrameNumbers) (before lent after : List ℕ) → i < length ids → lent ≡ numbers.names
     → AreNumbersOf (frame_names draft) (frames_of_id draft (get_or ids i 0)) numbers
-    → ((q : List ℕ) → tally_of old q ≡ names_counted (frames_of_ids draft (take i ids)) row weight q (tally_of initial q))
-    → ((q : List ℕ) → tally_of new q ≡ names_counted (names_at (names_of old) lent) row weight q (tally_of old q))
-    → (q : List ℕ) → tally_of new q ≡ names_counted (frames_of_ids draft (take (i + 1) ids)) row weight q (tally_of initial q)
-location_counted draft initial old new ids i numbers lent row weight lt named is this before counted q =
-    counted q
-    ∙ ap (λ ns. names_counted (names_at ns lent) row weight q (tally_of old q)) named
-    ∙ ap (λ ns. names_counted (names_at (frame_names draft) ns) row weight q (tally_of old q)) is
-    ∙ names_counted-same (names_at (frame_names draft) numbers.names) (frames_of_id draft (get_or ids i 0)) row weight q (tally_of old q) (this.same q)
-    ∙ ap (names_counted (frames_of_id draft (get_or ids i 0)) row weight q) (before q)
-    ∙ names_counted-append (frames_of_ids draft (take i ids)) (frames_of_id draft (get_or ids i 0)) row weight q (tally_of initial q)
-    ∙ ap (λ fs. names_counted fs row weight q (tally_of initial q)) (sym (frames-more draft ids i lt))
+    → AreNumbersOfIds draft (take i ids) before → after ≡ before ++ lent → AreNumbersOfIds draft (take (i + 1) ids) after
+numbers_more draft ids i numbers before lent after lt lent_is this so_far more =
+    let names = frame_names draft in
+    let is : after ≡ before ++ numbers.names = more ∙ ap (λ ns. before ++ ns) lent_is in
+    record {
+      inside = subst (All (λ number. number < length names)) (sym is) (All-append (λ number. number < length names) before numbers.names so_far.inside this.inside);
+      same = λ q.
+          ap (λ ns. has_name q (names_at names ns)) is
+          ∙ ap (has_name q) (map-append (λ number. slice_index_or names number []) before numbers.names)
+          ∙ list_any-append (is_same_name q) (names_at names before) (names_at names numbers.names)
+          ∙ ap (λ b. b || has_name q (names_at names numbers.names)) (so_far.same q)
+          ∙ ap (λ b. has_name q (frames_of_ids draft (take i ids)) || b) (this.same q)
+          ∙ sym (list_any-append (is_same_name q) (frames_of_ids draft (take i ids)) (frames_of_id draft (get_or ids i 0)))
+          ∙ sym (ap (has_name q) (frames-more draft ids i lt));
+    }
 
 -- a location without frames
-pub location_missing : (draft : Draft) (initial old : List Entry) (ids : List ℕ) (i : ℕ) (row weight : ℕ) → i < length ids → frames_of_id draft (get_or ids i 0) ≡ []
-    → ((q : List ℕ) → tally_of old q ≡ names_counted (frames_of_ids draft (take i ids)) row weight q (tally_of initial q))
-    → (q : List ℕ) → tally_of old q ≡ names_counted (frames_of_ids draft (take (i + 1) ids)) row weight q (tally_of initial q)
-location_missing draft initial old ids i row weight lt none before q =
-    before q
-    ∙ ap (λ fs. names_counted fs row weight q (tally_of initial q))
-    (sym (frames-more draft ids i lt ∙ ap (λ fs. frames_of_ids draft (take i ids) ++ fs) none ∙ append-nil (frames_of_ids draft (take i ids))))
+pub numbers_missing : (draft : Draft) (ids : List ℕ) (i : ℕ) (before after : List ℕ) → i < length ids → frames_of_id draft (get_or ids i 0) ≡ []
+    → AreNumbersOfIds draft (take i ids) before → after ≡ before → AreNumbersOfIds draft (take (i + 1) ids) after
+numbers_missing draft ids i before after lt none so_far same =
+    let frames : frames_of_ids draft (take (i + 1) ids) ≡ frames_of_ids draft (take i ids) =
+    frames-more draft ids i lt ∙ ap (λ fs. frames_of_ids draft (take i ids) ++ fs) none ∙ append-nil (frames_of_ids draft (take i ids)) in
+    subst (AreNumbersOfIds draft (take (i + 1) ids)) (sym same) (record { inside = so_far.inside; same = λ q. so_far.same q ∙ sym (ap (has_name q) frames) })
+
+-- no location
+pub no_numbers : (draft : Draft) → AreNumbersOfIds draft [] []
+no_numbers draft = record { inside = All-nil (λ number. number < length (frame_names draft)); same = λ q. refl }
+
+-- the names of a row's numbers, as its frames
+pub numbers_counted : (draft : Draft) (ids numbers : List ℕ) (old new : List Entry) (row weight : ℕ) → names_of old ≡ frame_names draft → AreNumbersOfIds draft ids numbers
+    → ((q : List ℕ) → tally_of new q ≡ names_counted (names_at (names_of old) numbers) row weight q (tally_of old q))
+    → (q : List ℕ) → tally_of new q ≡ names_counted (frames_of_ids draft ids) row weight q (tally_of old q)
+numbers_counted draft ids numbers old new row weight named are counted q =
+    counted q
+    ∙ ap (λ ns. names_counted (names_at ns numbers) row weight q (tally_of old q)) named
+    ∙ names_counted-same (names_at (frame_names draft) numbers) (frames_of_ids draft ids) row weight q (tally_of old q) (are.same q)
 
 pub inside_entries : (draft : Draft) (entries : List Entry) (numbers lent : List ℕ) → names_of entries ≡ frame_names draft → lent ≡ numbers → All (λ number. number < length (frame_names draft)) numbers
     → All (λ number. number < length entries) lent

@@ -1,5 +1,5 @@
 -- What the names of frames weigh so far, by their numbers.
-use Rattle.std.specs.Prelude.{ℕ, ◌≡◌, ◌+◌, List, [], map, slice_index_or, unwrap_or, if◌then◌else◌}
+use Rattle.std.specs.Prelude.{ℕ, ◌≡◌, ◌+◌, ◌<◌, All, List, [], length, map, slice_index_or, unwrap_or, if◌then◌else◌}
 use Rattle.std.specs.List.{IsDistinct}
 use Rattle.std.specs.Map.{lookup}
 use denote.Ref.{Bor}
@@ -12,7 +12,8 @@ use Rattle.profile_rows.specs.Tallies.{IsTallyOf, frame_counted}
 use Rattle.profile_rows.specs.declared.frame_totals.FrameTotals.{FrameTotals}
 use Rattle.profile_rows.specs.TopList.{AreTotalsOf}
 use Rattle.profile_samples.specs.declared.sampling.ValueChoice.{ValueChoice}
-use Rattle.profile_samples.specs.Samples.{AreStacksOf}
+use Rattle.profile_samples.specs.NameNumbers.{frame_names}
+use Rattle.profile_samples.specs.Samples.{AreStacksOf, frames_of_ids}
 
 -- a name with what it weighs so far; its place in a list is its number
 abbrev pub Entry : Type 0
@@ -48,6 +49,12 @@ tally_of entries name =
 abbrev pub names_counted : List (List ℕ) → ℕ → ℕ → List ℕ → Tally → Tally
 names_counted names row weight name tally =
     if has_name name names then frame_counted tally row weight 0 else tally
+
+-- the numbers of the names of locations, which names stand in their frames
+pub record AreNumbersOfIds (draft : Draft) (ids numbers : List ℕ) : Type 0 where
+  pub inside : All (λ number. number < length (frame_names draft)) numbers
+  pub same : (name : List ℕ)
+      → has_name name (names_at (frame_names draft) numbers) ≡ has_name name (frames_of_ids draft ids)
 
 -- the leaf of a row adds the row's weight as the leaf
 abbrev pub leaf_counted : Tally → ℕ → Tally

@@ -8,9 +8,9 @@ ghost use Rattle.profile_rows.specs.Rows.{total_of};
 ghost use Rattle.profile_rows.specs.Tallies.{frame_counted};
 ghost use Rattle.profile_rows.specs.TopList.{AreSumsOf, AreTotalsOf};
 ghost use Rattle.profile_samples.specs.declared.sampling.ValueChoice.{ValueChoice};
-ghost use Rattle.profile_samples.specs.Samples.{AreStacksOf, IsFirstStacksFault, IsFitFault, IsSampleFault, IsSampleRow, StandsAtSample, chosen_type_of, frames_of_ids, sample_stack_of};
+ghost use Rattle.profile_samples.specs.Samples.{AreStacksOf, IsFirstStacksFault, IsFitFault, IsSampleFault, IsSampleRow, StandsAtSample, chosen_type_of, sample_stack_of};
 ghost use Rattle.profile_samples.specs.NameNumbers.{frame_names};
-ghost use Rattle.profile_samples.specs.CountedSamples.{AreRowsCounted, AreSingle, AreTalliesOfNames, AreTotalsOfSamples, entry_at, leaf_counted, names_of, names_at, names_counted, tally_of};
+ghost use Rattle.profile_samples.specs.CountedSamples.{AreNumbersOfIds, AreRowsCounted, AreSingle, AreTalliesOfNames, AreTotalsOfSamples, entry_at, leaf_counted, names_of, names_at, names_counted, tally_of};
 
 use crate::name_numbers::{NumberedFrames, ProfileNames};
 use crate::sampling::{BatchFault, ValueChoice, chosen_type, weight_of};
@@ -61,38 +61,36 @@ fn count_leaf(entries: &mut Vec<(&str, Tally)>, leaf: usize, weight: u64)
     tally.flat += weight;
 }
 
-/// Counts the names of these locations in a row.
-fn count_locations(
+/// Puts the numbers of the names of these locations into a list, those of each location once. They are gathered before
+/// they are counted, so that waits for memory overlap where locations stand far apart.
+fn gather_numbers(
     frames: &NumberedFrames,
-    entries: &mut Vec<(&str, Tally)>,
     ids: &[u64],
-    row: u64,
-    weight: u64,
-)
-    requires named { names_of entries.old.items ≡ frame_names frames.now }
-    requires fits { (name : List ℕ) → (tally_of entries.old.items name).row ≢ row
-        → (tally_of entries.old.items name).cumulative + weight < 2 ^ 63 }
-    ensures names { names_of entries.new.items ≡ names_of entries.old.items }
-    ensures tallies { (name : List ℕ) → tally_of entries.new.items name
-        ≡ names_counted (frames_of_ids frames.now ids.now) row weight name (tally_of entries.old.items name) }
+    numbers: &mut Vec<usize>,
+) -> Result<(), AllocError>
+    ensures { OnOk result (AreNumbersOfIds frames.now ids.now numbers.new.items) }
 {
+    numbers.clear();
     for id in ids {
         if let Some(found) = frames.frames_of(*id) {
-            count_names(entries, found.names.as_slice(), row, weight);
+            numbers.extend_from_slice(found.names.as_slice())?;
         }
     }
+    Ok(())
 }
 
-/// Counts a row of the stack at these locations to rows of the weight `held`. Its number is the weight up to it, which
-/// no other row of weight above 0 has; a row without weight adds nothing to any name.
+/// Counts a row of the stack at these locations, with these numbers of names, to rows of the weight `held`. Its number
+/// is the weight up to it, which no other row of weight above 0 has; a row without weight adds nothing to any name.
 fn count_row(
     frames: &NumberedFrames,
     entries: &mut Vec<(&str, Tally)>,
     ids: &[u64],
+    numbers: &[usize],
     held: u64,
     weight: u64,
 )
     requires named { names_of entries.old.items ≡ frame_names frames.now }
+    requires numbers { AreNumbersOfIds frames.now ids.now numbers.now }
     requires each { All IsName (frame_names frames.now) }
     requires fits { held + weight < 2 ^ 63 }
     requires counted { (rows : List WeightedStack) × AreTalliesOfNames rows held entries.old.items }
@@ -104,7 +102,7 @@ fn count_row(
     if weight == 0 {
         return;
     }
-    count_locations(frames, entries, ids, held + weight, weight);
+    count_names(entries, numbers, held + weight, weight);
     match frames.leaf_of(ids) {
         Some(leaf) => count_leaf(entries, leaf, weight),
         None => (),
@@ -184,6 +182,7 @@ fn without_rows<'a>(alloc: Global, names: &[&'a str]) -> Result<Vec<(&'a str, Ta
 
 /// Counts the rows of a profile's samples by the values at an index, and gives what they weigh together.
 fn count_samples(
+    alloc: Global,
     profile: &Profile,
     frames: &NumberedFrames,
     entries: &mut Vec<(&str, Tally)>,
@@ -200,15 +199,12 @@ fn count_samples(
         (λ fault. StandsAtSample profile.now choice fault) }
 {
     let mut held = 0;
+    let mut numbers = Vec::new(alloc);
     for (index, sample) in profile.draft().samples.as_slice().iter().enumerate() {
+        let ids = sample.location_ids.as_slice();
         let weight = sample_weight(frames, chosen, sample, held, index as u64)?;
-        count_row(
-            frames,
-            entries,
-            sample.location_ids.as_slice(),
-            held,
-            weight,
-        );
+        gather_numbers(frames, ids, &mut numbers)?;
+        count_row(frames, entries, ids, numbers.as_slice(), held, weight);
         held += weight;
     }
     Ok(held)
@@ -248,7 +244,7 @@ fn totals_by(
         (λ fault. IsFirstStacksFault profile.now choice fault) }
 {
     let mut entries = without_rows(alloc, frames.names())?;
-    let total = count_samples(profile, frames, &mut entries, chosen)?;
+    let total = count_samples(alloc, profile, frames, &mut entries, chosen)?;
     let frames = weighted(alloc, entries.as_slice())?;
     Ok(FrameTotals { total, frames })
 }

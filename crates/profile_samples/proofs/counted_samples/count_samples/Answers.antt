@@ -3,6 +3,8 @@ use Rattle.std.proofs.Common.{◌≡◌, ◌+◌, ◌^◌, ◌<◌, ◌≤◌, �
 use Rattle.std.proofs.lemmas.Result.{err_from_is_err_and}
 use Rattle.pprof_profile.specs.declared.messages.Draft.{Draft}
 use Rattle.profile_rows.specs.declared.weighted_stacks.WeightedStack.{WeightedStack}
+use Rattle.profile_rows.specs.Rows.{total_of}
+use Rattle.profile_samples.specs.declared.sampling.BatchFault.TheVariants.{NoMemory}
 use Rattle.profile_samples.specs.Samples.{IsSampleRow, IsSampleFault, sample_stack_of}
 use Rattle.profile_samples.specs.CountedSamples.{AreTalliesOfNames}
 use Rattle.profile_samples.proofs.SampleRows.{AreRowsSoFar-row, AreRowsSoFar-end, AreRowsSoFar-stands, has_value}
@@ -26,6 +28,21 @@ returns-in_err-weight-clause-counted c = λ choice is_chosen.
     let there = subst (λ held. IsSampleFault c.args.profile.now c.args.chosen held c.loop-index.index c.sample-item.result c.in_err-weight.field-0.0) counted.total own in
     rw (p.1, p.2) (AreRowsSoFar-stands c.args.profile.now choice c.args.chosen c.loop-index.index c.sample-item.result rows c.in_err-weight.field-0.0 is_chosen within item so_far there)
 
+pub returns-in_err-gather_numbers-clause-counted : goal.returns-in_err-gather_numbers-clause-counted
+returns-in_err-gather_numbers-clause-counted c = λ choice is_chosen.
+    let samples : c.as_slice-sample-items.result.now ≡ c.args.profile.now.samples = c.as_slice-sample-items.ensures ∙ ap (λ (d : Draft). d.samples) c.draft.ensures.draft in
+    let item = c.sample-item.is ∙ ap (λ ss. get_or ss c.loop-index.index c.sample-item.result) samples in
+    let within = subst (λ ss. c.loop-index.index < length ss) samples c.loop-index-test.true in
+    let weight = c.in_ok-weight.weight in
+    let sample = c.sample-item.result in
+    let (rows, so_far, counted) = c.loop-index.invariant.0 in
+    let own = subst (λ (d : Draft). IsSampleRow d c.args.chosen sample (record { stack = sample_stack_of d sample.location_ids; weight = weight })) c.requires.framed c.in_ok-weight.ensures.row in
+    let fits = subst (λ h. h + weight < 2 ^ 63) counted.total c.in_ok-weight.ensures.fits in
+    let there : IsSampleFault c.args.profile.now c.args.chosen (total_of rows) c.loop-index.index sample NoMemory =
+    (record { stack = sample_stack_of c.args.profile.now sample.location_ids; weight = weight }, own, fits) in
+    let p = err_from_is_err_and c.from_residual-in_err-gather_numbers.result c.from_residual-in_err-gather_numbers.ensures.1 in
+    rw (p.1, p.2) (AreRowsSoFar-stands c.args.profile.now choice c.args.chosen c.loop-index.index sample rows NoMemory is_chosen within item so_far there)
+
 pub loop-index-preserved : goal.loop-index-preserved
 loop-index-preserved c =
     let samples : c.as_slice-sample-items.result.now ≡ c.args.profile.now.samples = c.as_slice-sample-items.ensures ∙ ap (λ (d : Draft). d.samples) c.draft.ensures.draft in
@@ -39,8 +56,8 @@ loop-index-preserved c =
     let own = subst (λ (d : Draft). IsSampleRow d c.args.chosen sample (record { stack = sample_stack_of d sample.location_ids; weight = weight })) c.requires.framed c.in_ok-weight.ensures.row in
     let fits = subst (λ h. h + weight < 2 ^ 63) counted.total c.in_ok-weight.ensures.fits in
     let after = c.count_row.ensures.counted rows counted in
-    let framed = subst (λ (d : Draft). AreTalliesOfNames (rows ++ (let r : WeightedStack = record { stack = sample_stack_of d c.as_slice.result.now; weight = weight } in r) ∷ []) (held + weight) c.count_row.new.entries.items) c.requires.framed after in
-    let own_ids = subst (λ ids. AreTalliesOfNames (rows ++ (let r : WeightedStack = record { stack = sample_stack_of c.args.profile.now ids; weight = weight } in r) ∷ []) (held + weight) c.count_row.new.entries.items) c.as_slice.ensures framed in (
+    let framed = subst (λ (d : Draft). AreTalliesOfNames (rows ++ (let r : WeightedStack = record { stack = sample_stack_of d c.as_slice-ids.result.now; weight = weight } in r) ∷ []) (held + weight) c.count_row.new.entries.items) c.requires.framed after in
+    let own_ids = subst (λ ids. AreTalliesOfNames (rows ++ (let r : WeightedStack = record { stack = sample_stack_of c.args.profile.now ids; weight = weight } in r) ∷ []) (held + weight) c.count_row.new.entries.items) c.as_slice-ids.ensures framed in (
       (
         rows ++ row ∷ [],
         AreRowsSoFar-row c.args.profile.now c.args.chosen c.loop-index.index sample rows row (rows ++ row ∷ []) within item so_far own fits refl,

@@ -61,6 +61,16 @@ fn count_leaf(entries: &mut Vec<(&str, Tally)>, leaf: usize, weight: u64)
     tally.flat += weight;
 }
 
+/// Adds numbers to a list one by one: most locations have one, and a processor waits for a copy of unknown length.
+fn push_numbers(numbers: &mut Vec<usize>, more: &[usize]) -> Result<(), AllocError>
+    ensures { OnOk result (numbers.new.items ≡ numbers.old.items ++ more.now) }
+{
+    for number in more {
+        numbers.push(*number)?;
+    }
+    Ok(())
+}
+
 /// Puts the numbers of the names of these locations into a list, those of each location once. They are gathered before
 /// they are counted, so that waits for memory overlap where locations stand far apart.
 fn gather_numbers(
@@ -73,7 +83,7 @@ fn gather_numbers(
     numbers.clear();
     for id in ids {
         if let Some(found) = frames.frames_of(*id) {
-            numbers.extend_from_slice(found.names.as_slice())?;
+            push_numbers(numbers, found.names.as_slice())?;
         }
     }
     Ok(())

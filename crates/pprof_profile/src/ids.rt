@@ -1,6 +1,6 @@
 //! The ids of mappings, locations and functions: none is 0, none stands twice, and which are known.
 
-ghost use Rattle.std.specs.Prelude.{◌≡◌, ◌≢◌, ◌||◌, ℕ, nat_eq, true, false, not, map, ◌==◌, IfOk, IfErr, OnOk};
+ghost use Rattle.std.specs.Prelude.{◌≡◌, ◌≢◌, ◌⊎◌, ◌+◌, ◌-◌, ◌*◌, ◌^◌, ◌<◌, ◌≤◌, ◌||◌, ℕ, nat_eq, true, false, not, map, ◌==◌, IfOk, IfErr, OnOk};
 ghost use Rattle.std.specs.List.{list_any};
 ghost use Rattle.pprof_profile.specs.KnownIds.{is_near, knows};
 ghost use Rattle.pprof_profile.specs.Valid.{is_known, has_double, no_zero_id};
@@ -59,7 +59,7 @@ fn names_zero<T: HasId>(items: &[T]) -> bool
 
 /// The numbers from the lowest of some ids to the highest. Most writers give ids that lie close together; then a table
 /// over the range finds each in one step, in whatever order they stand, and nobody can choose them to make it slow. No
-/// answer depends on it.
+/// answer depends on how wide a range is.
 #[derive(Clone, Copy, Debug, PartialEq, Eq)]
 pub struct IdRange {
     /// The lowest id.
@@ -69,8 +69,10 @@ pub struct IdRange {
 }
 
 impl IdRange {
-    /// The range of no ids.
-    pub fn empty() -> IdRange {
+    /// The range of no ids: from the greatest number down to 0.
+    pub fn empty() -> IdRange
+        ensures { result ≡ record { lowest = 2 ^ 64 - 1; highest = 0 } }
+    {
         IdRange {
             lowest: u64::MAX,
             highest: 0,
@@ -78,7 +80,12 @@ impl IdRange {
     }
 
     /// The range with an id more.
-    pub fn with(self, id: u64) -> IdRange {
+    pub fn with(self, id: u64) -> IdRange
+        ensures id { (result.lowest ≤ id) × (id ≤ result.highest) }
+        ensures all { (result.lowest ≤ self.lowest) × (self.highest ≤ result.highest) }
+        ensures tight { ((result.lowest ≡ self.lowest) ⊎ (result.lowest ≡ id))
+            × ((result.highest ≡ self.highest) ⊎ (result.highest ≡ id)) }
+    {
         IdRange {
             lowest: self.lowest.min(id),
             highest: self.highest.max(id),
@@ -87,7 +94,11 @@ impl IdRange {
 
     /// How long a table over the range of so many ids is: as long as the range where that is at most two numbers for
     /// each id, else 0.
-    pub fn table_len(self, count: usize) -> usize {
+    pub fn table_len(self, count: usize) -> usize
+        ensures wide { 2 * count ≤ self.highest - self.lowest → result ≡ 0 }
+        ensures close { self.highest - self.lowest < 2 * count → self.highest - self.lowest + 1 < 2 ^ 64
+            → result ≡ self.highest - self.lowest + 1 }
+    {
         let steps = self.highest.saturating_sub(self.lowest) as usize;
         if steps / 2 < count {
             steps.saturating_add(1)

@@ -22,7 +22,7 @@ use Rattle.profile_samples.specs.declared.name_numbers.FrameNumbers.{FrameNumber
 use Rattle.profile_samples.specs.Samples.{address_name, first_name, frames_at, frames_from, frames_of_id, frames_of_ids, function_name, item_with, line_name, location_frames, named_by, sample_stack_of, string_at}
 use Rattle.profile_samples.specs.TextTables.{place_in, with_text, with_texts}
 use Rattle.profile_samples.specs.CountedSamples.{AreSingle, names_at}
-use Rattle.profile_samples.specs.NameNumbers.{AreFrameNumbers, AreFunctionNumbers, address_names, first_number, frame_names, frame_numbers_of, given, has_number, line_number, location_numbers, number_at, number_by, number_of, numbers_of, numbers_of_id, once_of, string_names, string_numbers, with_number, with_numbers}
+use Rattle.profile_samples.specs.NameNumbers.{AreFrameNumbers, AreFunctionNumbers, address_names, frame_names, frame_numbers_of, given, has_number, line_number, location_numbers, number_at, number_by, number_of, numbers_of, numbers_of_id, once_of, string_names, string_numbers, with_number, with_numbers}
 use Rattle.profile_samples.proofs.ExportLaws.{AllStand, AreDistinct, distinct_with_texts, stand_where, stands_in, with_texts-own, with_texts-stands}
 use Rattle.profile_samples.proofs.ItemsById.{item_with-found}
 use Rattle.profile_samples.proofs.TextPlaces.{place_in-lt}
@@ -40,15 +40,15 @@ string_number : (draft : Draft) (index : ℤ) → number_at (string_numbers draf
 string_number draft (pos index) = number_at-map (number_of draft) draft.strings index
 string_number draft (negsuc index) = refl
 
-first_number-map : (f : List ℕ → ℕ) (a b : Option (List ℕ)) → first_number (option_map f a) (option_map f b) ≡ option_map f (first_name a b)
-first_number-map f (Some name) b = refl
-first_number-map f None b = refl
+option_or-map : (f : List ℕ → ℕ) (a b : Option (List ℕ)) → option_or (option_map f a) (option_map f b) ≡ option_map f (first_name a b)
+option_or-map f (Some name) b = refl
+option_or-map f None b = refl
 
 pub number_by-name : (draft : Draft) (function : Function) → number_by (string_numbers draft) function ≡ option_map (number_of draft) (function_name draft.strings function)
 number_by-name draft function =
-    ap (λ n. first_number n (number_at (string_numbers draft) function.system_name)) (string_number draft function.name)
-    ∙ ap (first_number (option_map (number_of draft) (cleaned_name_of (string_at draft.strings function.name)))) (string_number draft function.system_name)
-    ∙ first_number-map (number_of draft) (cleaned_name_of (string_at draft.strings function.name)) (cleaned_name_of (string_at draft.strings function.system_name))
+    ap (λ n. option_or n (number_at (string_numbers draft) function.system_name)) (string_number draft function.name)
+    ∙ ap (option_or (option_map (number_of draft) (cleaned_name_of (string_at draft.strings function.name)))) (string_number draft function.system_name)
+    ∙ option_or-map (number_of draft) (cleaned_name_of (string_at draft.strings function.name)) (cleaned_name_of (string_at draft.strings function.system_name))
 
 -- the number of a line's name is that of its function's, or of the address
 pub line_numbered : (f : List ℕ → ℕ) (name : Option (List ℕ)) (address : List ℕ) → unwrap_or (option_map f name) (f address) ≡ f (unwrap_or name address)

@@ -1,6 +1,7 @@
 -- Where ids stand.
 use Rattle.std.specs.Prelude.{ℕ, zero, suc, ◌≡◌, ◌≢◌, ◌-◌, ◌==◌, List, Option, Some, None, MatchOption, cond, nat_lt, slice_get, slice_index_or}
 use Rattle.std.specs.HashMap as hash
+use Rattle.std.specs.Option.{option_or}
 use Rattle.profile_samples.specs.declared.id_places.PlaceTable.{PlaceTable}
 
 -- a number that is one more than a place, or 0 where there is none
@@ -13,14 +14,9 @@ abbrev pub place_near : PlaceTable → ℕ → Option ℕ
 place_near places id =
     cond (nat_lt id places.lowest) None (place_before (slice_index_or places.near.items (id - places.lowest) 0))
 
--- the first of two that is there
-abbrev pub or_else : Option ℕ → Option ℕ → Option ℕ
-or_else (Some place) other = Some place
-or_else None other = other
-
 -- the place of an id
 abbrev pub place_found : PlaceTable → ℕ → Option ℕ
-place_found places id = or_else (place_near places id) (hash.get ◌==◌ places.far id)
+place_found places id = option_or (place_near places id) (hash.get ◌==◌ places.far id)
 
 -- what is found for an id is a place at which it stands, and where none is found it stands nowhere
 abbrev pub AreIdPlaces : List ℕ → (ℕ → Option ℕ) → Type 0

@@ -1,7 +1,7 @@
 -- The names of a profile's frames by numbers: equal names have one number.
 use Rattle.std.specs.Prelude.{ℕ, ℤ, pos, negsuc, ◌≡◌, ◌≤◌, ◌==◌, All, Bool, false, Option, Some, None, List, [], ◌∷◌, ◌++◌, length, map, slice_index_or, if◌then◌else◌}
 use Rattle.std.specs.List.{list_any}
-use Rattle.std.specs.Option.{option_map}
+use Rattle.std.specs.Option.{option_map, option_or}
 use Rattle.pprof_profile.specs.declared.messages.Draft.{Draft}
 use Rattle.pprof_profile.specs.declared.messages.Function.{Function}
 use Rattle.pprof_profile.specs.declared.messages.Location.{Location}
@@ -53,14 +53,9 @@ abbrev pub number_at : List (Option ℕ) → ℤ → Option ℕ
 number_at numbers (pos index) = slice_index_or numbers index None
 number_at numbers (negsuc index) = None
 
--- the first of two numbers that is there
-abbrev pub first_number : Option ℕ → Option ℕ → Option ℕ
-first_number (Some number) other = Some number
-first_number None other = other
-
 -- the number of the name of a function, by those of strings
 abbrev pub number_by : List (Option ℕ) → Function → Option ℕ
-number_by numbers function = first_number (number_at numbers function.name) (number_at numbers function.system_name)
+number_by numbers function = option_or (number_at numbers function.name) (number_at numbers function.system_name)
 
 -- the numbers of the names of the profile's functions, whose ids differ
 pub record AreFunctionNumbers (draft : Draft) (ids : List ℕ) (numbers : List (Option ℕ)) : Type 0 where

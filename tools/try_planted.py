@@ -20,7 +20,9 @@ import sys
 import tempfile
 
 ROOT = pathlib.Path(__file__).resolve().parent.parent
-FUNCTION = re.compile(r"^ *(?:pub(?:\([a-z]+\))? )?(?:const )?fn (\w+)", re.MULTILINE)
+FUNCTION = re.compile(r"^( *)(?:pub(?:\([a-z]+\))? )?(?:const )?fn (\w+)", re.MULTILINE)
+# The type of an `impl`, whose functions a check names by it, or by it with the trait's name behind.
+TYPE = re.compile(r"^impl(?:<[^>]*>)? (?:.* for )?(\w+)", re.MULTILINE)
 # What a check says at its end of a function that has a goal which isn't proved. Where it names a callee too, that may be why.
 UNPROVED = re.compile(r"^fn (\S+): (?:not proved|no proof: expected answers in [^;]+; `search` did not prove [^;]+)$", re.MULTILINE)
 
@@ -52,19 +54,26 @@ class Edit:
 
 
 def function_at(text, place):
-    """The name of the function whose text a place of a source stands in: the last one that begins before it."""
-    end = text.find("\n", place)
-    found = [it for it in FUNCTION.finditer(text) if it.start() <= end]
-    return found[-1][1] if found else ""
+    """The function whose text a place of a source stands in, the last one that begins before it, and its type, or empty texts."""
+    before = text[: text.find("\n", place)]
+    found = FUNCTION.findall(before)
+    if not found:
+        return "", ""
+    indent, name = found[-1]
+    return (TYPE.findall(before)[-1] if indent else ""), name
 
 
 def refused(edit, output):
     """Whether the check says that a function which the edit changes isn't proved, by a goal of its own. Where it changes none, it was alone
     in the check, and any function will do."""
-    if not any(edit.functions):
+    if ("", "") in edit.functions:
         return bool(UNPROVED.search(output))
     paths = [it.split("::") for it in UNPROVED.findall(output)]
-    return any((path[1], path[-1]) == (edit.module, name) for path in paths for name in edit.functions)
+    return any(
+        path[-1] == name and (path[-2].startswith(kind) if kind else path[1:-1] == [edit.module])
+        for path in paths
+        for kind, name in edit.functions
+    )
 
 
 def checked(room, crate, edits):
@@ -82,7 +91,7 @@ def checked(room, crate, edits):
 
 def apart(edits):
     """The first edits for each function that any changes, or one that changes none."""
-    outside = [it for it in edits if not any(it.functions)]
+    outside = [it for it in edits if ("", "") in it.functions]
     if outside:
         return outside[:1]
     chosen, functions = [], set()

@@ -93,44 +93,82 @@ fn book_of(alloc: Global) -> Result<Book, Fail> {
     )
 }
 
-fn add(alloc: Global, book: &mut Book, session: u32, turn: u64, text: &str) -> Result<(), Fail> {
-    book.add(alloc, session, turn, batch_of(alloc, text)?)
-        .ok()
-        .ok_or("refused")?;
-    Ok(())
+/// A change of a session, in its turn.
+#[derive(Clone, Copy)]
+enum Change {
+    Add(&'static str),
+    Reset,
 }
 
-fn empty_journal(alloc: Global) -> Result<Journal, Fail> {
-    Ok(book_of(alloc)?.into_journal())
+/// A session's number, its turn, and its change.
+type Turn = (u32, u64, Change);
+
+fn make_change(alloc: Global, book: &mut Book, turn: Turn) -> Result<(), Fail> {
+    let (session, turn, change) = turn;
+    let made = match change {
+        Change::Add(text) => book
+            .add(alloc, session, turn, batch_of(alloc, text)?)
+            .is_ok(),
+        Change::Reset => book.reset(alloc, session, turn).is_ok(),
+    };
+    if made { Ok(()) } else { Err("refused".into()) }
 }
 
-// Three additions, of which the first is session 0's and the others session 1's.
-fn three_additions(alloc: Global) -> Result<Journal, Fail> {
-    let mut book = book_of(alloc)?;
-    add(alloc, &mut book, 0, 0, "a 1\n")?;
-    add(alloc, &mut book, 1, 0, "b 2\n")?;
-    add(alloc, &mut book, 1, 1, "c 4\n")?;
-    Ok(book.into_journal())
-}
-
-fn a_reset_between(alloc: Global) -> Result<Journal, Fail> {
-    let mut book = book_of(alloc)?;
-    add(alloc, &mut book, 0, 0, "a 1\n")?;
-    book.reset(alloc, 0, 1).ok().ok_or("refused")?;
-    add(alloc, &mut book, 0, 2, "b 2\n")?;
-    Ok(book.into_journal())
-}
-
-// What an audit of three additions says of each of these logs.
-fn check_table(alloc: Global, table: &[(&[Log], &str)]) -> Result<(), Fail> {
-    let journal = three_additions(alloc)?;
-    for (logs, want) in table {
-        let said = audited(alloc, &journal, logs)?;
-        if said.as_str() != *want {
-            return Err("another verdict".into());
-        }
+fn make_changes(alloc: Global, book: &mut Book, turns: &[Turn]) -> Result<(), Fail> {
+    for turn in turns {
+        make_change(alloc, book, *turn)?;
     }
     Ok(())
+}
+
+fn journal_of(alloc: Global, turns: &[Turn]) -> Result<Journal, Fail> {
+    let mut book = book_of(alloc)?;
+    match make_changes(alloc, &mut book, turns) {
+        Ok(()) => Ok(book.into_journal()),
+        Err(fail) => Err(fail),
+    }
+}
+
+/// Three additions, of which the first is session 0's and the others session 1's.
+const THREE_ADDITIONS: &[Turn] = &[
+    (0, 0, Change::Add("a 1\n")),
+    (1, 0, Change::Add("b 2\n")),
+    (1, 1, Change::Add("c 4\n")),
+];
+
+const A_RESET_BETWEEN: &[Turn] = &[
+    (0, 0, Change::Add("a 1\n")),
+    (0, 1, Change::Reset),
+    (0, 2, Change::Add("b 2\n")),
+];
+
+/// Logs, and what an audit says of them.
+type Case<'a> = (&'a [Log<'a>], &'a str);
+
+fn check_case(alloc: Global, journal: &Journal, case: Case) -> Result<(), Fail> {
+    let said = audited(alloc, journal, case.0)?;
+    if said.as_str() == case.1 {
+        Ok(())
+    } else {
+        Err("another verdict".into())
+    }
+}
+
+fn check_cases(alloc: Global, journal: &Journal, cases: &[Case]) -> Result<(), Fail> {
+    for case in cases {
+        check_case(alloc, journal, *case)?;
+    }
+    Ok(())
+}
+
+// What an audit of the journal of some changes says of each of these logs.
+fn check_audits(alloc: Global, turns: &[Turn], cases: &[Case]) -> Result<(), Fail> {
+    let journal = journal_of(alloc, turns)?;
+    check_cases(alloc, &journal, cases)
+}
+
+fn check_table(alloc: Global, cases: &[Case]) -> Result<(), Fail> {
+    check_audits(alloc, THREE_ADDITIONS, cases)
 }
 
 const A: Told = Told::Added("a 1\n", 0);
@@ -265,20 +303,17 @@ fn the_first_wrong_answer_is_told(rt: HostRuntime) -> Result<(), Fail> {
     )
 }
 
-fn said_of_nothing(alloc: Global, logs: &[Log]) -> Result<String, Fail> {
-    audited(alloc, &empty_journal(alloc)?, logs)
-}
-
 #[test]
 fn audits_of_an_empty_journal(rt: HostRuntime) -> Result<(), Fail> {
-    let alloc = rt.alloc();
-    assert_eq!(rt; said_of_nothing(alloc, &[])?.as_str(), "");
-    assert_eq!(rt; said_of_nothing(alloc, &[(7, &[])])?.as_str(), "");
-    assert_eq!(rt;
-        said_of_nothing(alloc, &[(0, &[]), (0, &[])])?.as_str(),
-        "A1 TwoLogs session 0"
-    );
-    Ok(())
+    check_audits(
+        rt.alloc(),
+        &[],
+        &[
+            (&[], ""),
+            (&[(7, &[])], ""),
+            (&[(0, &[]), (0, &[])], "A1 TwoLogs session 0"),
+        ],
+    )
 }
 
 // So many reports over nothing, all of them right.
@@ -301,30 +336,54 @@ fn steps_of(alloc: Global, journal: &Journal, logs: &[SessionLog]) -> Result<usi
     Ok(audit(alloc, journal, logs)?.steps().len())
 }
 
-#[test]
-fn many_receipts_of_an_empty_journal(rt: HostRuntime) -> Result<(), Fail> {
-    let alloc = rt.alloc();
-    let logs = vec![in alloc; reports_over_nothing(alloc, 100_000)?]?;
-    let journal = empty_journal(alloc)?;
-    assert_eq!(rt; steps_of(alloc, &journal, &logs)?, 100_000);
-    Ok(())
+fn steps_over(alloc: Global, journal: &Journal, count: usize) -> Result<usize, Fail> {
+    let logs = vec![in alloc; reports_over_nothing(alloc, count)?]?;
+    steps_of(alloc, journal, &logs)
+}
+
+fn steps_over_nothing(alloc: Global, count: usize) -> Result<usize, Fail> {
+    let journal = journal_of(alloc, &[])?;
+    steps_over(alloc, &journal, count)
 }
 
 #[test]
-fn reports_around_a_reset(rt: HostRuntime) -> Result<(), Fail> {
-    let alloc = rt.alloc();
-    let journal = a_reset_between(alloc)?;
-    let b = Told::Added("b 2\n", 2);
-    let log = [A, Told::Reset(1), Told::Total(0, 2), b, Told::Total(2, 3)];
-    assert_eq!(rt;
-        audited(alloc, &journal, &[(0, &log)])?.as_str(),
-        "0.0 0.1 0.2 0.3 0.4 "
-    );
-    let log = [A, Told::Reset(1), Told::Total(1, 2), b, Told::Total(3, 3)];
-    assert_eq!(rt;
-        audited(alloc, &journal, &[(0, &log)])?.as_str(),
-        "A5 WrongAnswer session 0 index 2"
-    );
-    assert_eq!(rt; journal.tree().total().values()[0], 2);
+fn many_receipts_of_an_empty_journal(rt: HostRuntime) -> Result<(), Fail> {
+    assert_eq!(rt; steps_over_nothing(rt.alloc(), 100_000)?, 100_000);
     Ok(())
+}
+
+const B_BEHIND: Told = Told::Added("b 2\n", 2);
+
+const RIGHT_TOTALS: Log = (
+    0,
+    &[
+        A,
+        Told::Reset(1),
+        Told::Total(0, 2),
+        B_BEHIND,
+        Told::Total(2, 3),
+    ],
+);
+
+const TOTALS_OF_ALL: Log = (
+    0,
+    &[
+        A,
+        Told::Reset(1),
+        Told::Total(1, 2),
+        B_BEHIND,
+        Told::Total(3, 3),
+    ],
+);
+
+#[test]
+fn reports_around_a_reset(rt: HostRuntime) -> Result<(), Fail> {
+    check_audits(
+        rt.alloc(),
+        A_RESET_BETWEEN,
+        &[
+            (&[RIGHT_TOTALS], "0.0 0.1 0.2 0.3 0.4 "),
+            (&[TOTALS_OF_ALL], "A5 WrongAnswer session 0 index 2"),
+        ],
+    )
 }

@@ -215,7 +215,12 @@ fn prepared_reset(alloc: Global, book: &mut Book, turn: u64) -> Result<String, F
     }
 }
 
-fn prepared_in_turn(alloc: Global, book: &mut Book) -> Result<String, Fail> {
+fn prepared_in_turn(alloc: Global) -> Result<String, Fail> {
+    let mut book = book_of(alloc, 3)?;
+    prepared_and_settled(alloc, &mut book)
+}
+
+fn prepared_and_settled(alloc: Global, book: &mut Book) -> Result<String, Fail> {
     let mut text = prepared(alloc, book, 0, "a 1\n")?;
     text.push_str(prepared(alloc, book, 1, "b 2\n")?.as_str())?;
     text.push_str(prepared_reset(alloc, book, 2)?.as_str())?;
@@ -224,8 +229,7 @@ fn prepared_in_turn(alloc: Global, book: &mut Book) -> Result<String, Fail> {
 
 #[test]
 fn a_prepared_change_is_made_when_it_is_settled(rt: HostRuntime) -> Result<(), Fail> {
-    let mut book = book_of(rt.alloc(), 3)?;
-    let told = prepared_in_turn(rt.alloc(), &mut book)?;
+    let told = prepared_in_turn(rt.alloc())?;
     assert_eq!(rt; told.as_str(), "0 1 1 at 0; 1 3 3 at 1; 3 0 0 at 2; ");
     Ok(())
 }
@@ -238,11 +242,20 @@ fn let_go(alloc: Global, book: &mut Book, text: &str) -> Result<u64, Fail> {
     }
 }
 
+// What a book would weigh after a change that is let go, and its entries and its weight then.
+fn left_by(alloc: Global, book: &mut Book, text: &str) -> Result<(u64, usize, u64), Fail> {
+    let next = let_go(alloc, book, text)?;
+    Ok((next, book.entries().len(), total_of(book.tree())))
+}
+
+fn left_in_a_new_book(alloc: Global, text: &str) -> Result<(u64, usize, u64), Fail> {
+    let mut book = book_of(alloc, 3)?;
+    left_by(alloc, &mut book, text)
+}
+
 #[test]
 fn a_prepared_change_that_is_let_go_changes_nothing(rt: HostRuntime) -> Result<(), Fail> {
-    let mut book = book_of(rt.alloc(), 3)?;
-    assert_eq!(rt; let_go(rt.alloc(), &mut book, "a 1\n")?, 1);
-    assert_eq!(rt; (book.entries().len(), total_of(book.tree())), (0, 0));
+    assert_eq!(rt; left_in_a_new_book(rt.alloc(), "a 1\n")?, (1, 0, 0));
     Ok(())
 }
 
@@ -297,12 +310,15 @@ fn totals_of_two_values(alloc: Global, book: &mut Book) -> Result<String, Fail> 
     Ok(text)
 }
 
-#[test]
-fn a_book_of_two_values(rt: HostRuntime) -> Result<(), Fail> {
-    let alloc = rt.alloc();
+fn told_of_two_values(alloc: Global) -> Result<String, Fail> {
     let width = width_of(2)?;
     let mut book = Book::new(alloc, 10, 1, width).ok().ok_or("no memory")?;
-    let said = totals_of_two_values(alloc, &mut book)?;
+    totals_of_two_values(alloc, &mut book)
+}
+
+#[test]
+fn a_book_of_two_values(rt: HostRuntime) -> Result<(), Fail> {
+    let said = told_of_two_values(rt.alloc())?;
     assert_eq!(rt;
         said.as_str(),
         "[1, 0] None; [1, 2] None; [1, 2] Some(Width { held: 2 }); "

@@ -116,6 +116,21 @@ fn two_sessions<N: StoreName, R: Wait>(
     Ok(format!(in alloc; "{} {third:?} {receipts} {others}", told?)?)
 }
 
+// What was told, and the sessions of the entries, the total and the number of sessions.
+fn with_sessions(
+    alloc: Global,
+    told: Result<String, Fail>,
+    journal: &Journal,
+) -> Result<String, Fail> {
+    let told = told?;
+    let sessions = sessions_of(alloc, journal)?;
+    Ok(format!(in alloc;
+        "{told}; {sessions}{} {}",
+        journal.tree().total().values()[0],
+        journal.sessions()
+    )?)
+}
+
 // What two sessions are told, and what the closed store leaves.
 fn closed<N: StoreName, R: Wait>(rt: &R, alloc: Global, blank: Blank) -> Result<String, Fail>
     requires { blank ≡ record { limit = N.limit; sessions = N.sessions; width = N.width } }
@@ -123,13 +138,7 @@ fn closed<N: StoreName, R: Wait>(rt: &R, alloc: Global, blank: Blank) -> Result<
     let store = Store::<N>::start(blank);
     let told = two_sessions(rt, alloc, &store);
     let journal = store.close(rt);
-    let told = told?;
-    let sessions = sessions_of(alloc, &journal)?;
-    Ok(format!(in alloc;
-        "{told}; {sessions}{} {}",
-        journal.tree().total().values()[0],
-        journal.sessions()
-    )?)
+    with_sessions(alloc, told, &journal)
 }
 
 #[test]
@@ -175,9 +184,8 @@ fn refused<N: StoreName, R: Wait>(rt: &R, alloc: Global, blank: Blank) -> Result
 {
     let store = Store::<N>::start(blank);
     let told = refused_session(rt, alloc, &store);
-    let journal = store.close(rt);
-    let told = told?;
-    Ok(format!(in alloc; "{told}; {}", journal.entries().len())?)
+    let count = store.close(rt).entries().len();
+    Ok(format!(in alloc; "{}; {count}", told?)?)
 }
 
 #[test]
@@ -608,6 +616,11 @@ fn two_threads<N: StoreName, R: Threads + Wait + Sync>(
     ))
 }
 
+// How many entries a journal has, and what they weigh.
+fn weight_of(journal: &Journal) -> (usize, u64) {
+    (journal.entries().len(), journal.tree().total().values()[0])
+}
+
 // What two threads at once leave in a store.
 fn threaded<N: StoreName, R: Threads + Wait + Sync>(
     rt: &R,
@@ -619,13 +632,9 @@ fn threaded<N: StoreName, R: Threads + Wait + Sync>(
 {
     let store = Store::<N>::start(blank);
     let counts = two_threads(rt, alloc, &store, batch);
-    let journal = store.close(rt);
+    let (count, total) = weight_of(&store.close(rt));
     let (a, b) = counts?;
-    Ok(format!(in alloc;
-        "{a} {b}; {} {}",
-        journal.entries().len(),
-        journal.tree().total().values()[0]
-    )?)
+    Ok(format!(in alloc; "{a} {b}; {count} {total}")?)
 }
 
 #[test]

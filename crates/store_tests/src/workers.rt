@@ -5,7 +5,7 @@ ghost use Rattle.std.specs.Prelude.{◌≡◌};
 
 use crate::helpers::{batch_of, query_of, steps_text};
 use flame_report::Kind;
-use live_store::{Blank, Gate, Store, StoreName, Worked, run_workers};
+use live_store::{Blank, Gate, Store, StoreName, Worked, WorkersFault, run_workers};
 use op_book::{Journal, Op, SessionLog, audit};
 use stack_text::Width;
 use std::alloc::Global;
@@ -140,6 +140,18 @@ fn told(alloc: Global, journal: &Journal, all: Vec<Worked>) -> Result<String, Fa
     }
 }
 
+// The same, or why none started.
+fn told_of(
+    alloc: Global,
+    journal: &Journal,
+    all: Result<Vec<Worked>, WorkersFault>,
+) -> Result<String, Fail> {
+    match all {
+        Ok(all) => told(alloc, journal, all),
+        Err(fault) => Ok(format!(in alloc; "{fault}")?),
+    }
+}
+
 // What workers of a store did, or why none started.
 fn worked<N: StoreName, G: Gate, R: Threads + Wait + Sync>(
     rt: &R,
@@ -153,10 +165,7 @@ fn worked<N: StoreName, G: Gate, R: Threads + Wait + Sync>(
     let store = Store::<N>::start(blank);
     let all = run_workers(rt, alloc, &store, lists, gate);
     let journal = store.close(rt);
-    match all {
-        Ok(all) => told(alloc, &journal, all),
-        Err(fault) => Ok(format!(in alloc; "{fault}")?),
-    }
+    told_of(alloc, &journal, all)
 }
 
 #[test]

@@ -5,7 +5,7 @@ ghost use Rattle.std.specs.Prelude.{◌≡◌};
 use crate::helpers::{ROWS, batch_of, kept_query, kinds, query_of, steps_text};
 use flame_report::{Kind, Query};
 use live_store::{Blank, Session, Store, StoreName};
-use op_book::{SessionLog, audit};
+use op_book::{Journal, Run, SessionLog, audit};
 use stack_text::{Batch, Width};
 use std::alloc::Global;
 use std::marker::Brand;
@@ -13,41 +13,53 @@ use std::sync::{Arc, Wait};
 use std::test::Fail;
 
 /// What a session does.
-#[derive(Drop)]
+#[derive(Clone, Copy)]
 enum Deed {
-    Add(Arc<Batch>),
+    /// An addition of folded text.
+    Add(&'static str),
+    /// An addition of so many rows.
+    Rows(usize),
     Reset,
-    Ask(Arc<Query>),
+    Total,
+    Folded,
+    /// A question for the report of this number among [`kinds`], on what a focus and an ignored name leave.
+    Kept(usize),
 }
 
-/// A deed of the session of this number.
-#[derive(Drop)]
-struct Turn {
-    session: usize,
-    deed: Deed,
-}
+/// A session's number, and what it does.
+type Turn = (usize, Deed);
 
-fn adds(alloc: Global, session: usize, text: &str) -> Result<Turn, Fail> {
-    let deed = Deed::Add(batch_of(alloc, text)?);
-    Ok(Turn { session, deed })
-}
-
-fn resets(session: usize) -> Turn {
-    Turn {
-        session,
-        deed: Deed::Reset,
+// So many rows, each of another stack.
+fn rows_of(alloc: Global, count: usize) -> Result<Arc<Batch>, Fail> {
+    let mut text = String::new(alloc);
+    for row in 0..count {
+        write!(text, "f{row} 1\n")?;
     }
+    batch_of(alloc, text.as_str())
 }
 
-// A question for all rows, or for those that a focus and an ignored name leave.
-fn asks(alloc: Global, session: usize, kind: Kind, kept: bool) -> Result<Turn, Fail> {
-    let query = if kept {
-        kept_query(alloc, kind)?
-    } else {
-        query_of(alloc, kind)?
-    };
-    let deed = Deed::Ask(query);
-    Ok(Turn { session, deed })
+fn kept(alloc: Global, number: usize) -> Result<Arc<Query>, Fail> {
+    let kind = kinds()?.get(number).copied().ok_or("no such kind")?;
+    kept_query(alloc, kind)
+}
+
+fn adds<N: StoreName, R: Wait>(
+    rt: &R,
+    alloc: Global,
+    session: &mut Session<'_, N>,
+    batch: Result<Arc<Batch>, Fail>,
+) -> Result<bool, Fail> {
+    Ok(session.add(rt, alloc, batch?).is_ok())
+}
+
+fn asks<N: StoreName, R: Wait>(
+    rt: &R,
+    alloc: Global,
+    session: &mut Session<'_, N>,
+    query: Result<Arc<Query>, Fail>,
+) -> Result<bool, Fail> {
+    let query = query?;
+    Ok(session.ask(rt, alloc, &query).is_ok())
 }
 
 // Whether the session was told what it asked for.
@@ -56,11 +68,14 @@ fn is_told<N: StoreName, R: Wait>(
     alloc: Global,
     session: &mut Session<'_, N>,
     deed: Deed,
-) -> bool {
+) -> Result<bool, Fail> {
     match deed {
-        Deed::Add(batch) => session.add(rt, alloc, batch).is_ok(),
-        Deed::Reset => session.reset(rt, alloc).is_ok(),
-        Deed::Ask(query) => session.ask(rt, alloc, &query).is_ok(),
+        Deed::Add(text) => adds(rt, alloc, session, batch_of(alloc, text)),
+        Deed::Rows(count) => adds(rt, alloc, session, rows_of(alloc, count)),
+        Deed::Reset => Ok(session.reset(rt, alloc).is_ok()),
+        Deed::Total => asks(rt, alloc, session, query_of(alloc, Kind::Total)),
+        Deed::Folded => asks(rt, alloc, session, query_of(alloc, Kind::Folded)),
+        Deed::Kept(number) => asks(rt, alloc, session, kept(alloc, number)),
     }
 }
 
@@ -69,18 +84,17 @@ fn take_turns<N: StoreName, R: Wait>(
     rt: &R,
     alloc: Global,
     sessions: &mut [Session<'_, N>],
-    turns: Vec<Turn>,
-) -> usize {
+    turns: &[Turn],
+) -> Result<usize, Fail> {
     let mut taken = 0;
-    for turn in turns {
-        let Turn { session, deed } = turn;
-        if let Some(session) = sessions.get_mut(session) {
-            if is_told(rt, alloc, session, deed) {
+    for (session, deed) in turns {
+        if let Some(session) = sessions.get_mut(*session) {
+            if is_told(rt, alloc, session, *deed)? {
                 taken += 1;
             }
         }
     }
-    taken
+    Ok(taken)
 }
 
 fn open<'a, N: StoreName, R: Wait>(
@@ -108,65 +122,84 @@ fn close<N: StoreName>(
     Ok(logs)
 }
 
-// The logs of so many sessions that take these turns, and how many were taken.
+/// The logs of some sessions, and how many turns were taken.
+type Logs = (Vec<SessionLog>, usize);
+
+// The logs of so many sessions that take these turns.
 fn logs_of<N: StoreName, R: Wait>(
     rt: &R,
     alloc: Global,
     store: &Store<N>,
     count: usize,
-    turns: Vec<Turn>,
-) -> Result<(Vec<SessionLog>, usize), Fail> {
+    turns: &[Turn],
+) -> Result<Logs, Fail> {
     let mut sessions = open(rt, alloc, store, count)?;
-    let taken = take_turns(rt, alloc, &mut sessions, turns);
-    Ok((close(alloc, sessions)?, taken))
+    match take_turns(rt, alloc, &mut sessions, turns) {
+        Ok(taken) => Ok((close(alloc, sessions)?, taken)),
+        Err(fail) => Err(fail),
+    }
+}
+
+fn with_steps(alloc: Global, taken: usize, run: &Run) -> Result<String, Fail> {
+    let steps = steps_text(alloc, run)?;
+    Ok(format!(in alloc; "{taken}: {steps}")?)
 }
 
 // How many turns were taken, and the steps of the run, or why the logs don't match the journal.
+fn verdict(
+    alloc: Global,
+    journal: &Journal,
+    logs: &[SessionLog],
+    taken: usize,
+) -> Result<String, Fail> {
+    match audit(alloc, journal, logs) {
+        Ok(run) => with_steps(alloc, taken, &run),
+        Err(fault) => Ok(format!(in alloc; "{taken}: {fault}")?),
+    }
+}
+
+fn verdict_on(alloc: Global, journal: &Journal, logs: Result<Logs, Fail>) -> Result<String, Fail> {
+    let (logs, taken) = logs?;
+    verdict(alloc, journal, &logs, taken)
+}
+
+// The same of a store whose sessions take these turns.
 fn audited<N: StoreName, R: Wait>(
     rt: &R,
     alloc: Global,
     blank: Blank,
     count: usize,
-    turns: Vec<Turn>,
+    turns: &[Turn],
 ) -> Result<String, Fail>
     requires { blank ≡ record { limit = N.limit; sessions = N.sessions; width = N.width } }
 {
     let store = Store::<N>::start(blank);
     let logs = logs_of(rt, alloc, &store, count, turns);
     let journal = store.close(rt);
-    let (logs, taken) = logs?;
-    match audit(alloc, &journal, &logs) {
-        Ok(run) => Ok(format!(in alloc; "{taken}: {}", steps_text(alloc, &run)?)?),
-        Err(fault) => Ok(format!(in alloc; "{taken}: {fault}")?),
-    }
+    verdict_on(alloc, &journal, logs)
 }
 
-// Three sessions that add, reset and ask, at last for each kind of report on what a focus and an ignored name leave.
-fn turns_of_three(alloc: Global) -> Result<Vec<Turn>, Fail> {
-    let mut turns = vec![in alloc;
-        adds(alloc, 0, ROWS)?,
-        adds(alloc, 1, "x 1\n")?,
-        asks(alloc, 2, Kind::Total, false)?,
-        resets(0),
-        asks(alloc, 1, Kind::Folded, false)?,
-        adds(alloc, 1, "")?,
-        adds(alloc, 2, ROWS)?,
-    ]?;
-    for kind in kinds()? {
-        turns
-            .push(asks(alloc, 0, kind, true)?)
-            .ok()
-            .ok_or("no memory")?;
-    }
-    Ok(turns)
-}
+/// Three sessions that add, reset and ask, at last for each kind of report on what a focus and an ignored name leave.
+const TURNS_OF_THREE: &[Turn] = &[
+    (0, Deed::Add(ROWS)),
+    (1, Deed::Add("x 1\n")),
+    (2, Deed::Total),
+    (0, Deed::Reset),
+    (1, Deed::Folded),
+    (1, Deed::Add("")),
+    (2, Deed::Add(ROWS)),
+    (0, Deed::Kept(0)),
+    (0, Deed::Kept(1)),
+    (0, Deed::Kept(2)),
+    (0, Deed::Kept(3)),
+    (0, Deed::Kept(4)),
+];
 
 #[test]
 fn three_sessions_match_their_journal(rt: HostRuntime) -> Result<(), Fail> {
     let alloc = rt.alloc();
-    let turns = turns_of_three(alloc)?;
     let blank = Blank::make(alloc, 10, 3, Width::one())?;
-    let said = audited::<Brand, HostRuntime>(&rt, alloc, blank, 3, turns)?;
+    let said = audited::<Brand, HostRuntime>(&rt, alloc, blank, 3, TURNS_OF_THREE)?;
     assert_eq!(rt;
         said.as_str(),
         "12: 0.0 1.0 2.0 0.1 1.1 1.2 2.1 0.2 0.3 0.4 0.5 0.6 "
@@ -174,23 +207,20 @@ fn three_sessions_match_their_journal(rt: HostRuntime) -> Result<(), Fail> {
     Ok(())
 }
 
-// A session that asks the same again when another has changed what counts.
-fn turns_around_changes(alloc: Global) -> Result<Vec<Turn>, Fail> {
-    Ok(vec![in alloc;
-        asks(alloc, 0, Kind::Total, false)?,
-        adds(alloc, 1, "a 1\n")?,
-        asks(alloc, 0, Kind::Total, false)?,
-        resets(1),
-        asks(alloc, 0, Kind::Total, false)?,
-    ]?)
-}
+/// A session that asks the same again when another has changed what counts.
+const TURNS_AROUND_CHANGES: &[Turn] = &[
+    (0, Deed::Total),
+    (1, Deed::Add("a 1\n")),
+    (0, Deed::Total),
+    (1, Deed::Reset),
+    (0, Deed::Total),
+];
 
 #[test]
 fn a_question_is_answered_anew(rt: HostRuntime) -> Result<(), Fail> {
     let alloc = rt.alloc();
-    let turns = turns_around_changes(alloc)?;
     let blank = Blank::make(alloc, 10, 2, Width::one())?;
-    let said = audited::<Brand, HostRuntime>(&rt, alloc, blank, 2, turns)?;
+    let said = audited::<Brand, HostRuntime>(&rt, alloc, blank, 2, TURNS_AROUND_CHANGES)?;
     assert_eq!(rt; said.as_str(), "5: 0.0 1.0 0.1 1.1 0.2 ");
     Ok(())
 }
@@ -199,32 +229,12 @@ fn a_question_is_answered_anew(rt: HostRuntime) -> Result<(), Fail> {
 fn turns_of_many(alloc: Global, count: usize) -> Result<Vec<Turn>, Fail> {
     let mut turns = Vec::new(alloc);
     for session in 0..count {
-        turns
-            .push(adds(alloc, session, "main;a 1\n")?)
-            .ok()
-            .ok_or("no memory")?;
+        turns.push((session, Deed::Add("main;a 1\n")))?;
     }
     for session in 0..count {
-        turns
-            .push(asks(alloc, session, Kind::Total, false)?)
-            .ok()
-            .ok_or("no memory")?;
+        turns.push((session, Deed::Total))?;
     }
     Ok(turns)
-}
-
-#[test]
-fn a_dozen_sessions_match_their_journal(rt: HostRuntime) -> Result<(), Fail> {
-    let alloc = rt.alloc();
-    let turns = turns_of_many(alloc, 12)?;
-    let blank = Blank::make(alloc, 12, 12, Width::one())?;
-    let said = audited::<Brand, HostRuntime>(&rt, alloc, blank, 12, turns)?;
-    assert_eq!(rt;
-        said.as_str(),
-        "24: 0.0 1.0 2.0 3.0 4.0 5.0 6.0 7.0 8.0 9.0 10.0 11.0 \
-         0.1 1.1 2.1 3.1 4.1 5.1 6.1 7.1 8.1 9.1 10.1 11.1 "
-    );
-    Ok(())
 }
 
 // The steps of so many sessions that each add a row, in order, and then each ask for the total.
@@ -245,7 +255,7 @@ fn sixty_four_sessions_match_their_journal(rt: HostRuntime) -> Result<(), Fail> 
     let alloc = rt.alloc();
     let turns = turns_of_many(alloc, 64)?;
     let blank = Blank::make(alloc, 64, 64, Width::one())?;
-    let said = audited::<Brand, HostRuntime>(&rt, alloc, blank, 64, turns)?;
+    let said = audited::<Brand, HostRuntime>(&rt, alloc, blank, 64, &turns)?;
     let steps = steps_of_many(alloc, 64)?;
     let wanted = format!(in alloc; "128: {}", steps.as_str())?;
     assert_eq!(rt; said.as_str(), wanted.as_str());
@@ -255,14 +265,9 @@ fn sixty_four_sessions_match_their_journal(rt: HostRuntime) -> Result<(), Fail> 
 // A session that adds a batch of no row, of one row, of two and so on, and resets behind each.
 fn turns_of_sizes(alloc: Global, count: usize) -> Result<Vec<Turn>, Fail> {
     let mut turns = Vec::new(alloc);
-    let mut text = String::new(alloc);
-    for row in 0..count {
-        turns
-            .push(adds(alloc, 0, text.as_str())?)
-            .ok()
-            .ok_or("no memory")?;
-        turns.push(resets(0)).ok().ok_or("no memory")?;
-        write!(text, "f{row} 1\n")?;
+    for rows in 0..count {
+        turns.push((0, Deed::Rows(rows)))?;
+        turns.push((0, Deed::Reset))?;
     }
     Ok(turns)
 }
@@ -282,30 +287,27 @@ fn batches_of_each_size_are_taken(rt: HostRuntime) -> Result<(), Fail> {
     let alloc = rt.alloc();
     let turns = turns_of_sizes(alloc, 10)?;
     let blank = Blank::make(alloc, 20, 1, Width::one())?;
-    let said = audited::<Brand, HostRuntime>(&rt, alloc, blank, 1, turns)?;
+    let said = audited::<Brand, HostRuntime>(&rt, alloc, blank, 1, &turns)?;
     let steps = steps_of_one(alloc, 20)?;
     let wanted = format!(in alloc; "20: {}", steps.as_str())?;
     assert_eq!(rt; said.as_str(), wanted.as_str());
     Ok(())
 }
 
-// Three sessions of a store that takes one change: a change and a reset are refused, and reports go on.
-fn turns_at_the_limit(alloc: Global) -> Result<Vec<Turn>, Fail> {
-    Ok(vec![in alloc;
-        adds(alloc, 2, "a 1\n")?,
-        adds(alloc, 1, "b 1\n")?,
-        resets(2),
-        asks(alloc, 0, Kind::Total, false)?,
-        asks(alloc, 2, Kind::Folded, false)?,
-    ]?)
-}
+/// Three sessions of a store that takes one change: a change and a reset are refused, and reports go on.
+const TURNS_AT_THE_LIMIT: &[Turn] = &[
+    (2, Deed::Add("a 1\n")),
+    (1, Deed::Add("b 1\n")),
+    (2, Deed::Reset),
+    (0, Deed::Total),
+    (2, Deed::Folded),
+];
 
 #[test]
 fn refused_sessions_match_their_journal(rt: HostRuntime) -> Result<(), Fail> {
     let alloc = rt.alloc();
-    let turns = turns_at_the_limit(alloc)?;
     let blank = Blank::make(alloc, 1, 3, Width::one())?;
-    let said = audited::<Brand, HostRuntime>(&rt, alloc, blank, 3, turns)?;
+    let said = audited::<Brand, HostRuntime>(&rt, alloc, blank, 3, TURNS_AT_THE_LIMIT)?;
     assert_eq!(rt; said.as_str(), "3: 2.0 0.0 2.1 ");
     Ok(())
 }
@@ -314,15 +316,9 @@ fn refused_sessions_match_their_journal(rt: HostRuntime) -> Result<(), Fail> {
 fn turns_of_a_thousand(alloc: Global) -> Result<Vec<Turn>, Fail> {
     let mut turns = Vec::new(alloc);
     for _ in 0..1_000 {
-        turns
-            .push(adds(alloc, 1, "main;a 1\n")?)
-            .ok()
-            .ok_or("no memory")?;
+        turns.push((1, Deed::Add("main;a 1\n")))?;
     }
-    turns
-        .push(asks(alloc, 0, Kind::Total, false)?)
-        .ok()
-        .ok_or("no memory")?;
+    turns.push((0, Deed::Total))?;
     Ok(turns)
 }
 
@@ -331,7 +327,7 @@ fn a_thousand_entries_match_their_journal(rt: HostRuntime) -> Result<(), Fail> {
     let alloc = rt.alloc();
     let turns = turns_of_a_thousand(alloc)?;
     let blank = Blank::make(alloc, 1_000, 2, Width::one())?;
-    let said = audited::<Brand, HostRuntime>(&rt, alloc, blank, 2, turns)?;
+    let said = audited::<Brand, HostRuntime>(&rt, alloc, blank, 2, &turns)?;
     assert!(rt;
         said.as_str().starts_with("1001: 1.0 1.1 ") && said.as_str().ends_with(" 1.999 0.0 ")
     );

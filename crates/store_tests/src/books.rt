@@ -61,18 +61,28 @@ fn told_at(alloc: Global, book: &mut Book, step: &Step) -> Result<String, Fail> 
     }
 }
 
-// What the sessions are told in turn, and then how many entries the journal has and what counts weighs.
-fn told_in_turn(alloc: Global, book: Book, steps: &[Step]) -> Result<String, Fail> {
-    let mut book = book;
+// What the sessions are told in turn.
+fn told_of_steps(alloc: Global, book: &mut Book, steps: &[Step]) -> Result<String, Fail> {
     let mut text = String::new(alloc);
     for step in steps {
-        let told = told_at(alloc, &mut book, step)?;
-        text.push_str(told.as_str()).ok().ok_or("no memory")?;
+        let told = told_at(alloc, book, step)?;
+        text.push_str(told.as_str())?;
     }
-    let journal = book.into_journal();
+    Ok(text)
+}
+
+// What was told, how many entries the journal has and what counts weighs.
+fn told_with(alloc: Global, told: Result<String, Fail>, journal: &Journal) -> Result<String, Fail> {
+    let told = told?;
     let (entries, total) = (journal.entries().len(), journal.tree().total().values()[0]);
-    let text = format!(in alloc; "{text}{entries} entries, {total}");
-    Ok(text.ok().ok_or("no memory")?)
+    Ok(format!(in alloc; "{told}{entries} entries, {total}")?)
+}
+
+// What the sessions are told in turn, and what that leaves.
+fn told_in_turn(alloc: Global, book: Book, steps: &[Step]) -> Result<String, Fail> {
+    let mut book = book;
+    let told = told_of_steps(alloc, &mut book, steps);
+    told_with(alloc, told, &book.into_journal())
 }
 
 fn book_of(alloc: Global, limit: u32) -> Result<Book, Fail> {

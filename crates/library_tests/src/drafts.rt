@@ -40,13 +40,20 @@ fn fill_sample(sample: &mut Sample) -> Result<(), Fail> {
     Ok(())
 }
 
-fn add_sample(alloc: Global, draft: &mut Draft) -> Result<(), Fail> {
+fn made_sample(alloc: Global) -> Result<Sample, Fail> {
     let mut sample = Sample {
         location_ids: Items::empty(alloc),
         values: Items::empty(alloc),
         labels: Items::empty(alloc),
     };
-    fill_sample(&mut sample)?;
+    match fill_sample(&mut sample) {
+        Ok(()) => Ok(sample),
+        Err(fail) => Err(fail),
+    }
+}
+
+fn add_sample(alloc: Global, draft: &mut Draft) -> Result<(), Fail> {
+    let sample = made_sample(alloc)?;
     draft.samples.push(sample).ok().ok_or("no memory")?;
     Ok(())
 }
@@ -181,19 +188,29 @@ fn handed_back(alloc: Global) -> Result<Refused<Draft>, Fail> {
     Ok(check(alloc, draft).err().ok_or("an index is too large")?)
 }
 
+// The fault of such a draft, and the index that it has still.
+fn fault_and_index(alloc: Global) -> Result<(ProfileFault, i64), Fail> {
+    let refused = handed_back(alloc)?;
+    Ok((refused.fault, refused.back.default_sample_type))
+}
+
 #[test]
 fn drafts_are_handed_back(rt: HostRuntime) -> Result<(), Fail> {
-    let refused = handed_back(rt.alloc())?;
-    assert_eq!(rt; refused.fault, ProfileFault::StringIndex);
-    assert_eq!(rt; refused.back.default_sample_type, 4);
+    let told = fault_and_index(rt.alloc())?;
+    assert_eq!(rt; told, (ProfileFault::StringIndex, 4));
     Ok(())
+}
+
+// The bytes of such a draft with the index 0 in place of the other.
+fn mended(alloc: Global) -> Result<Vec<u8>, Fail> {
+    let mut draft = handed_back(alloc)?.back;
+    draft.default_sample_type = 0;
+    encoded(alloc, draft)
 }
 
 #[test]
 fn drafts_that_were_handed_back_can_be_mended(rt: HostRuntime) -> Result<(), Fail> {
-    let mut draft = handed_back(rt.alloc())?.back;
-    draft.default_sample_type = 0;
-    let written = encoded(rt.alloc(), draft)?;
+    let written = mended(rt.alloc())?;
     assert_eq!(rt; written.as_slice(), ONE_SAMPLE);
     Ok(())
 }

@@ -253,21 +253,25 @@ fn a_million_empty_messages(rt: HostRuntime) -> Result<(), Fail> {
     Ok(())
 }
 
+/// Empty sample types, mappings, locations and functions, and why a profile with them is refused.
+const EMPTY_MESSAGES: &[(&[u8], ProfileFault)] = &[
+    (&[0x0a, 0x00], ProfileFault::ValueCount),
+    (&[0x1a, 0x00], ProfileFault::ZeroId),
+    (&[0x22, 0x00], ProfileFault::ZeroId),
+    (&[0x2a, 0x00], ProfileFault::ZeroId),
+];
+
+// Why a profile with so many such messages is refused.
+fn fault_behind(alloc: Global, more: &[u8], times: usize) -> Result<Option<ProfileFault>, Fail> {
+    let bytes = followed(alloc, more, times)?;
+    Ok(decode(alloc, bytes.as_slice()).err())
+}
+
 #[test]
 fn many_empty_messages(rt: HostRuntime) -> Result<(), Fail> {
-    let rows: [(&str, &[u8], ProfileFault); 4] = [
-        ("sample types", &[0x0a, 0x00], ProfileFault::ValueCount),
-        ("mappings", &[0x1a, 0x00], ProfileFault::ZeroId),
-        ("locations", &[0x22, 0x00], ProfileFault::ZeroId),
-        ("functions", &[0x2a, 0x00], ProfileFault::ZeroId),
-    ];
-    for (name, more, want) in rows {
-        let bytes = followed(rt.alloc(), more, 100_000)?;
-        assert_eq!(rt;
-            decode(rt.alloc(), bytes.as_slice()).err(),
-            Some(want),
-            "{name}"
-        );
+    for (more, want) in EMPTY_MESSAGES {
+        let fault = fault_behind(rt.alloc(), more, 100_000)?;
+        assert_eq!(rt; fault, Some(*want));
     }
     Ok(())
 }

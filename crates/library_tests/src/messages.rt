@@ -64,20 +64,22 @@ pub(crate) fn encoded_again(alloc: Global, bytes: &[u8]) -> Result<Vec<u8>, Fail
     written(alloc, &profile)
 }
 
+/// Profiles, and their canonical bytes.
+const VECTORS: &[(&[u8], &[u8])] = &[
+    (ONE_SAMPLE, ONE_SAMPLE),
+    (UNPACKED_NUMBERS, ONE_SAMPLE),
+    (LONG_VARINT_ID, ONE_SAMPLE),
+    (NEGATIVE_VALUE, NEGATIVE_VALUE),
+    (INLINED_AND_BARE_LOCATIONS, INLINED_AND_BARE_LOCATIONS),
+    (SEMICOLON_IN_NAME, SEMICOLON_IN_NAME),
+    (TWO_SAMPLE_TYPES, TWO_SAMPLE_TYPES),
+];
+
 #[test]
 fn vectors_are_read_and_written(rt: HostRuntime) -> Result<(), Fail> {
-    let rows: [(&[u8], &[u8]); 7] = [
-        (ONE_SAMPLE, ONE_SAMPLE),
-        (UNPACKED_NUMBERS, ONE_SAMPLE),
-        (LONG_VARINT_ID, ONE_SAMPLE),
-        (NEGATIVE_VALUE, NEGATIVE_VALUE),
-        (INLINED_AND_BARE_LOCATIONS, INLINED_AND_BARE_LOCATIONS),
-        (SEMICOLON_IN_NAME, SEMICOLON_IN_NAME),
-        (TWO_SAMPLE_TYPES, TWO_SAMPLE_TYPES),
-    ];
-    for (bytes, want) in rows {
+    for (bytes, want) in VECTORS {
         let written = encoded_again(rt.alloc(), bytes)?;
-        assert_eq!(rt; written.as_slice(), want);
+        assert_eq!(rt; written.as_slice(), *want);
     }
     Ok(())
 }

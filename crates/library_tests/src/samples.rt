@@ -2,12 +2,12 @@
 //! from the format's description.
 
 use crate::helpers::{pairs_of, rows_of, text_of};
-use crate::messages::{INLINED_AND_BARE_LOCATIONS, NEGATIVE_VALUE, ONE_SAMPLE, TWO_SAMPLE_TYPES};
-use flame_report::{Rank, top_list, top_text};
+use crate::messages::{INLINED_AND_BARE_LOCATIONS, ONE_SAMPLE, TWO_SAMPLE_TYPES};
+use flame_report::{Rank, Top, top_list, top_text};
 use pprof_profile::{Profile, decode, encode};
 use stack_text::{
-    Batch, BatchFault, Name, ValueChoice, ValueUnit, batch_of, export_folded, merge_samples,
-    profile_of, sample_totals, unfold, write_stacks,
+    Batch, Name, ValueChoice, ValueUnit, batch_of, export_folded, merge_samples, profile_of,
+    sample_totals, unfold, write_stacks,
 };
 use std::alloc::Global;
 use std::test::Fail;
@@ -73,41 +73,6 @@ fn the_value_of_a_sample_is_that_of_the_type_asked_for(rt: HostRuntime) -> Resul
     Ok(())
 }
 
-// Why the samples of a profile are no batch.
-fn fault_of(alloc: Global, bytes: &[u8], choice: ValueChoice) -> Result<Option<BatchFault>, Fail> {
-    let profile = decode(alloc, bytes)?;
-    Ok(batch_of(alloc, &profile, choice).err())
-}
-
-#[test]
-fn a_type_that_is_not_there_has_no_value(rt: HostRuntime) -> Result<(), Fail> {
-    let fault = fault_of(rt.alloc(), TWO_SAMPLE_TYPES, ValueChoice::Named("wall"))?;
-    assert_eq!(rt; fault, Some(BatchFault::NoValue));
-    Ok(())
-}
-
-#[test]
-fn a_value_below_0_is_refused(rt: HostRuntime) -> Result<(), Fail> {
-    let fault = fault_of(rt.alloc(), NEGATIVE_VALUE, ValueChoice::Default)?;
-    assert_eq!(rt; fault, Some(BatchFault::Negative { sample: 0 }));
-    Ok(())
-}
-
-// Two samples, of the values 2^63 - 1 and 1.
-const TWO_HEAVY_SAMPLES: &[u8] = &[
-    0x0a, 0x04, 0x08, 0x01, 0x10, 0x02, 0x12, 0x0e, 0x0a, 0x01, 0x01, 0x12, 0x09, 0xff, 0xff, 0xff,
-    0xff, 0xff, 0xff, 0xff, 0xff, 0x7f, 0x12, 0x06, 0x0a, 0x01, 0x01, 0x12, 0x01, 0x01, 0x22, 0x06,
-    0x08, 0x01, 0x22, 0x02, 0x08, 0x01, 0x2a, 0x04, 0x08, 0x01, 0x10, 0x03, 0x32, 0x00, 0x32, 0x03,
-    0x63, 0x70, 0x75, 0x32, 0x02, 0x6e, 0x73, 0x32, 0x01, 0x66,
-];
-
-#[test]
-fn values_above_the_greatest_total_are_refused(rt: HostRuntime) -> Result<(), Fail> {
-    let fault = fault_of(rt.alloc(), TWO_HEAVY_SAMPLES, ValueChoice::Default)?;
-    assert_eq!(rt; fault, Some(BatchFault::Heavy { sample: 1 }));
-    Ok(())
-}
-
 // A profile of one sample, which names one location without lines again and again. The lengths of the sample and of its
 // ids are given.
 fn deep(alloc: Global, sample: &[u8], ids: &[u8], depth: usize) -> Result<Vec<u8>, Fail> {
@@ -123,14 +88,6 @@ fn deep(alloc: Global, sample: &[u8], ids: &[u8], depth: usize) -> Result<Vec<u8
         0x32, 0x00, 0x32, 0x03, 0x63, 0x70, 0x75, 0x32, 0x02, 0x6e, 0x73,
     ])?;
     Ok(bytes)
-}
-
-#[test]
-fn a_sample_of_65536_frames_is_refused(rt: HostRuntime) -> Result<(), Fail> {
-    let bytes = deep(rt.alloc(), &[0x87, 0x80, 0x04], &[0x80, 0x80, 0x04], 65_536)?;
-    let fault = fault_of(rt.alloc(), bytes.as_slice(), ValueChoice::Default)?;
-    assert_eq!(rt; fault, Some(BatchFault::Depth { sample: 0 }));
-    Ok(())
 }
 
 #[test]
@@ -189,6 +146,16 @@ fn first_unfolded(alloc: Global, profile: &Profile) -> Result<Vec<Name>, Fail> {
     Ok(unfold(alloc, profile, 0)?)
 }
 
+// The names, each with a space behind it.
+fn joined(alloc: Global, names: &[Name]) -> Result<String, Fail> {
+    let mut text = String::new(alloc);
+    for name in names {
+        text.push_str(name.text())?;
+        text.push(' ')?;
+    }
+    Ok(text)
+}
+
 fn unfolded(alloc: Global, bytes: &[u8]) -> Result<Vec<Name>, Fail> {
     let profile = decode(alloc, bytes)?;
     first_unfolded(alloc, &profile)
@@ -197,10 +164,7 @@ fn unfolded(alloc: Global, bytes: &[u8]) -> Result<Vec<Name>, Fail> {
 #[test]
 fn the_leaf_is_unfolded_first(rt: HostRuntime) -> Result<(), Fail> {
     let names = unfolded(rt.alloc(), INLINED_AND_BARE_LOCATIONS)?;
-    assert_eq!(rt; names.len(), 4);
-    for (name, want) in names.iter().zip(["a", "b", "c", "0xff"]) {
-        assert_eq!(rt; name.text(), want);
-    }
+    assert_eq!(rt; joined(rt.alloc(), &names)?.as_str(), "a b c 0xff ");
     Ok(())
 }
 
@@ -239,11 +203,14 @@ fn each_value_is_exported_as_a_sample_type(rt: HostRuntime) -> Result<(), Fail> 
     Ok(())
 }
 
+fn text_of_top(alloc: Global, top: &Top) -> Result<String, Fail> {
+    let text = String::from_utf8(top_text(alloc, top)?);
+    Ok(text.ok().ok_or("no text")?)
+}
+
 fn top_of(alloc: Global, profile: &Profile) -> Result<String, Fail> {
     let totals = sample_totals(alloc, profile, ValueChoice::Default)?;
-    let top = top_list(totals, Rank::Flat, 20)?;
-    let text = String::from_utf8(top_text(alloc, &top)?);
-    Ok(text.ok().ok_or("no text")?)
+    text_of_top(alloc, &top_list(totals, Rank::Flat, 20)?)
 }
 
 // The top list of a profile's samples, which are counted and not kept.
@@ -284,26 +251,5 @@ fn a_sample_counts_a_recursive_name_once(rt: HostRuntime) -> Result<(), Fail> {
     let bytes = exported_text(rt.alloc(), "a;b;a 3\nb 2\nc;b 0\n")?;
     let top = read_top(rt.alloc(), bytes.as_slice())?;
     assert_eq!(rt; top.as_str(), "total 5\n3 3 a\n2 5 b\n");
-    Ok(())
-}
-
-// Why the samples of a profile have no totals.
-fn uncounted(alloc: Global, bytes: &[u8]) -> Result<Option<BatchFault>, Fail> {
-    let profile = decode(alloc, bytes)?;
-    Ok(sample_totals(alloc, &profile, ValueChoice::Default).err())
-}
-
-#[test]
-fn counting_stops_at_the_first_fault(rt: HostRuntime) -> Result<(), Fail> {
-    for (bytes, want) in [
-        (NEGATIVE_VALUE, BatchFault::Negative { sample: 0 }),
-        (TWO_HEAVY_SAMPLES, BatchFault::Heavy { sample: 1 }),
-    ] {
-        let fault = uncounted(rt.alloc(), bytes)?;
-        assert_eq!(rt; fault, Some(want));
-    }
-    let deep = deep(rt.alloc(), &[0x87, 0x80, 0x04], &[0x80, 0x80, 0x04], 65_536)?;
-    let fault = uncounted(rt.alloc(), deep.as_slice())?;
-    assert_eq!(rt; fault, Some(BatchFault::Depth { sample: 0 }));
     Ok(())
 }

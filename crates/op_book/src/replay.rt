@@ -41,8 +41,8 @@ pub(crate) fn first_missing(count: u64, ordered: &[Logged]) -> Option<u64>
     if done < count { Some(done) } else { None }
 }
 
-/// The report of the lowest number whose answer isn't the plain one after the changes before it. Each change is made
-/// once, in order, and each report answered in between.
+/// The report of the lowest number whose answer isn't the plain one after the changes before it. The receipts are
+/// followed in order, and each report is answered again in between.
 pub(crate) fn first_wrong(
     alloc: Global,
     hashing: Hashing,
@@ -66,7 +66,7 @@ pub(crate) fn first_wrong(
 }
 
 /// Whether the receipt at a place is of a change, or its reply the plain answer after those before it, which were
-/// followed.
+/// followed; with these, as the answer left them.
 fn is_right(
     followed: Followed,
     alloc: Global,

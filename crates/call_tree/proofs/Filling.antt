@@ -10,9 +10,6 @@ pub record IsFilled (value_at : ℕ → ℕ) (count : ℕ) (places : List ℕ) :
   pub size : length places ≡ 4
   pub each : (k : ℕ) → k < count → get_or places k 0 ≡ value_at k
 
-pub IsFilled-start : (value_at : ℕ → ℕ) → IsFilled value_at 0 (0 ∷ 0 ∷ 0 ∷ 0 ∷ [])
-IsFilled-start value_at = record { size = refl; each = λ k lt. absurd (omega arith) }
-
 pub IsFilled-step : (value_at : ℕ → ℕ) (count value : ℕ) (places next : List ℕ) → IsFilled value_at count places → count < 4 → value ≡ value_at count
     → next ≡ set places count value → IsFilled value_at (count + 1) next
 IsFilled-step value_at count value places next filled lt value_is next_is = subst (IsFilled value_at (count + 1)) (sym next_is) (record {

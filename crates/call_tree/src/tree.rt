@@ -114,7 +114,7 @@ impl CallTree {
         Ok(CallTree {
             names,
             nodes,
-            total: sum_of(&total, &batch.total()),
+            total: total.plus(&batch.total()),
         })
     }
 
@@ -229,7 +229,7 @@ impl CallTree {
         Ok(CallTree {
             names: Pages::new(alloc),
             nodes,
-            total: no_weights(width),
+            total: Weights::zero(width),
         })
     }
 
@@ -475,28 +475,4 @@ fn weights_from(places: &[u64; 4], width: Width) -> Weights
         Some(weights) => weights,
         None => unreachable!(),
     }
-}
-
-/// 0 by each value.
-fn no_weights(width: Width) -> Weights
-    ensures width { length result ≡ width }
-    ensures zero { (value : ℕ) → value_of value result ≡ 0 }
-{
-    let _count = width.get();
-    weights_from(&[0; 4], width)
-}
-
-/// The sum of two weights by each value.
-fn sum_of(held: &Weights, more: &Weights) -> Weights
-    requires width { length more.now ≡ length held.now }
-    requires fits { (value : ℕ) → value_of value held.now + value_of value more.now < 2 ^ 63 }
-    ensures width { length result ≡ length held.now }
-    ensures each { (value : ℕ) → value_of value result ≡ value_of value held.now + value_of value more.now }
-{
-    let width = held.width();
-    let mut sums = [0; 4];
-    for value in 0..width.get() {
-        sums[value as usize] = held.value(value) + more.value(value);
-    }
-    weights_from(&sums, width)
 }

@@ -77,13 +77,19 @@ pub profile_at-push : (value : ℕ) (operations : List PlainOp) (op : PlainOp) �
 profile_at-push value operations op kept =
     ap (rows_at value) (profile_after-push operations op kept) ∙ map-append (weighing value) (profile_after operations) (rows_added op)
 
+-- what counts then weighs what counted before and what is added
+pub total_at-push : (value : ℕ) (operations : List PlainOp) (op : PlainOp) → is_reset op ≡ false
+    → total_of (rows_at value (profile_after (operations ++ op ∷ []))) ≡ total_of (rows_at value (profile_after operations)) + total_of (rows_at value (rows_added op))
+total_at-push value operations op kept =
+    ap total_of (profile_at-push value operations op kept)
+    ∙ sum_by-append (λ (row : WeightedStack). row.weight) (rows_at value (profile_after operations)) (rows_at value (rows_added op))
+
 -- what counts after one operation more weighs no more than before and what it adds
 pub profile_at-le : (value : ℕ) (operations : List PlainOp) (op : PlainOp)
     → total_of (rows_at value (profile_after (operations ++ op ∷ []))) ≤ total_of (rows_at value (profile_after operations)) + total_of (rows_at value (rows_added op))
 profile_at-le value operations (add batch) =
-    let whole = ap total_of (profile_at-push value operations (add batch) refl) in
-    let parts = sum_by-append (λ (row : WeightedStack). row.weight) (rows_at value (profile_after operations)) (rows_at value batch.rows) in
-    omega (arith, whole, parts)
+    let whole = total_at-push value operations (add batch) refl in
+    omega (arith, whole)
 profile_at-le value operations reset =
     let whole : total_of (rows_at value (profile_after (operations ++ reset ∷ []))) ≡ 0 = ap (λ rows. total_of (rows_at value rows)) (profile_after-reset operations) in
     omega (arith, whole)

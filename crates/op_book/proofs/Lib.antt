@@ -11,3 +11,4 @@ pub mod Readiness
 pub mod Replaying
 pub mod Rising
 pub mod Sorting
+pub mod Totals

@@ -1,12 +1,13 @@
 -- What an audit finds when it goes through the receipts in the order of a run.
-use Rattle.std.specs.Prelude.{ℕ, ◌≡◌, ◌<◌, ◌^◌, Option, Some, None, false, List, AllPairs, get_or, map, take}
+use Rattle.std.specs.Prelude.{ℕ, ◌≡◌, ◌<◌, ◌≤◌, ◌^◌, Option, Some, None, false, List, AllPairs, get_or, length, map, take}
 use Rattle.profile_rows.specs.Aggregate.{aggregates_of}
 use Rattle.profile_rows.specs.Rows.{total_of}
-use Rattle.profile_rows.specs.Values.{rows_at}
+use Rattle.profile_rows.specs.Values.{rows_at, value_of}
 use Rattle.call_tree.specs.State.{TreeState, weights_of}
 use Rattle.op_book.specs.Matching.{LoggedReceipt, Precedes}
 use Rattle.op_book.specs.Operations.{PlainOp, PlainReceipt, changes_in, is_change, plain_answer, profile_after}
 use Rattle.op_book.specs.Runs.{EachAfter}
+use Rattle.op_book.specs.declared.followed.Followed.{Followed}
 use Rattle.op_book.specs.declared.replay.Wrong.{Wrong}
 
 -- what the receipts are of
@@ -28,6 +29,18 @@ IsTreeOf operations tree = (value : ℕ) → weights_of tree value ≡ aggregate
 -- after each number of operations, what counts keeps the limit of each value
 abbrev pub AreLight : List PlainOp → Type 0
 AreLight operations = (count value : ℕ) → total_of (rows_at value (profile_after (take count operations))) < 2 ^ 63
+
+-- what counts after so many of the receipts weighs by this value
+abbrev pub total_after : List LoggedReceipt → ℕ → ℕ → ℕ
+total_after all count value = total_of (rows_at value (profile_after (ops_in (take count all))))
+
+-- what an audit keeps after so many of the receipts: the totals of what counts after them, and a tree of what counts
+-- after the first of them
+pub record IsFollowed (all : List LoggedReceipt) (count : ℕ) (followed : Followed) : Type 0 where
+  pub totals : (value : ℕ) → value_of value followed.totals ≡ total_after all count value
+  pub width : length followed.totals ≡ followed.grower.width
+  pub grown : followed.grown ≤ count
+  pub tree : IsTreeOf (ops_in (take followed.grown all)) followed.grower
 
 -- the receipt is of a change, or its reply the plain answer after these operations
 abbrev pub IsToldPlainly : List PlainOp → PlainReceipt → Type 0

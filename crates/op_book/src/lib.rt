@@ -6,6 +6,7 @@ mod auditing;
 mod book;
 mod entry;
 mod fault;
+mod followed;
 mod journal;
 pub mod laws;
 mod ledger;

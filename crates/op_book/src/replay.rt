@@ -1,20 +1,14 @@
 //! The receipts in the order of a run, gone through once: which change is missing, and which answer is wrong.
 
-ghost use Rattle.std.specs.Prelude.{ℕ, ◌≡◌, ◌↔◌, ◌<◌, ◌≤◌, ◌+◌, ◌^◌, ◌++◌, ◌∷◌, [], ◌⊎◌, Some, None, true, IsTrue, All, List, length, IfOk, OnErr, OnOk, MatchOption};
-ghost use Rattle.op_book.specs.Matching.{IsFirstMissing, IsReceived};
-ghost use Rattle.op_book.specs.Operations.{FitsWidth, PlainOp, answered, plain_op, plain_reply, profile_after};
-ghost use Rattle.op_book.specs.Replays.{AreLight, AreNumbered, AreRising, IsLowestOf, IsToldPlainly, IsTreeOf, ops_in};
-ghost use Rattle.std.specs.FinMap as map;
-ghost use Rattle.call_tree.specs.State.{weights_of};
-ghost use Rattle.profile_rows.specs.Rows.{total_of};
-ghost use Rattle.profile_rows.specs.Values.{rows_at};
+ghost use Rattle.std.specs.Prelude.{ℕ, ◌≡◌, ◌↔◌, ◌<◌, ◌≤◌, ◌⊎◌, Some, None, true, IsTrue, All, List, length, IfOk, OnErr, OnOk, MatchOption};
+ghost use Rattle.op_book.specs.Matching.{IsFirstMissing, IsReceived, LoggedReceipt};
+ghost use Rattle.op_book.specs.Operations.{FitsWidth, answered, plain_reply};
+ghost use Rattle.op_book.specs.Replays.{AreLight, AreNumbered, AreRising, IsFollowed, IsLowestOf, IsPlainAt, ops_in};
 
-use crate::entry::Receipt;
+use crate::followed::Followed;
 use crate::operation::{Op, Reply};
 use crate::receipts::Logged;
-use call_tree::{CallTree, Grower};
-use flame_report::{Answer, NoMemory, report};
-use profile_rows::laws::{aggregate_of_more_rows, sums_are_those_of_the_aggregate};
+use flame_report::{Answer, NoMemory};
 use profile_rows::{Hashing, Width};
 use std::alloc::Global;
 
@@ -47,8 +41,8 @@ pub(crate) fn first_missing(count: u64, ordered: &[Logged]) -> Option<u64>
     if done < count { Some(done) } else { None }
 }
 
-/// The report of the lowest number whose answer isn't the plain one after the changes before it. Each change is made
-/// once, in order, and each report answered in between.
+/// The report of the lowest number whose answer isn't the plain one after the changes before it. The receipts are
+/// followed in order, and each report is answered again in between.
 pub(crate) fn first_wrong(
     alloc: Global,
     hashing: Hashing,
@@ -59,31 +53,44 @@ pub(crate) fn first_wrong(
     requires light { AreLight (ops_in ordered.now) }
     ensures { IfOk result (λ lowest. IsLowestOf ordered.now (length ordered.now) lowest) }
 {
-    let mut grower = Grower::with_hashing(alloc, hashing, width)?;
+    let mut followed = Followed::new(alloc, hashing, width)?;
     let mut lowest = None;
-    for one in ordered {
-        let receipt = one.receipt;
-        if !is_right(alloc, grower.tree(), receipt)? {
+    for (at, one) in ordered.iter().enumerate() {
+        let (same, right) = is_right(followed, alloc, ordered, at)?;
+        if !right {
             lowest = lower(lowest, one);
         }
-        grower = follow(grower, alloc, &receipt.op)?;
+        followed = same.after(alloc, ordered, at)?;
     }
     Ok(lowest)
 }
 
-/// Whether a receipt is of a change, or its reply the answer over a tree.
-fn is_right(alloc: Global, tree: &CallTree, receipt: &Receipt) -> Result<bool, NoMemory>
-    requires { FitsWidth tree.now.width receipt.now.op }
-    ensures { (operations : List PlainOp) → IsTreeOf operations tree.now
-        → IfOk result (λ right. IsTrue right ↔ IsToldPlainly operations receipt.now) }
+/// Whether the receipt at a place is of a change, or its reply the plain answer after those before it, which were
+/// followed; with these, as the answer left them.
+fn is_right(
+    followed: Followed,
+    alloc: Global,
+    ordered: &[Logged],
+    at: usize,
+) -> Result<(Followed, bool), NoMemory>
+    requires fitted { All (λ one. FitsWidth followed.grower.width one.receipt.op) ordered.now }
+    requires light { AreLight (ops_in ordered.now) }
+    requires within { at < length ordered.now }
+    requires followed { IsFollowed ordered.now at followed }
+    ensures right { (otherwise : LoggedReceipt)
+        → IfOk result (λ told. IsTrue told.1 ↔ IsPlainAt ordered.now at otherwise) }
+    ensures followed { IfOk result (λ told. IsFollowed ordered.now at told.0) }
+    ensures width { IfOk result (λ told. told.0.grower.width ≡ followed.grower.width) }
 {
+    let one = &ordered[at];
+    let receipt = one.receipt;
     match &receipt.op {
         Op::Ask(query) => {
-            let answer = report(alloc, tree, query)?;
-            Ok(is_told(&receipt.reply, &answer))
+            let (same, answer) = followed.answer(alloc, ordered, at, query)?;
+            Ok((same, is_told(&receipt.reply, &answer)))
         }
-        Op::Add(_) => Ok(true),
-        Op::Reset => Ok(true),
+        Op::Add(_) => Ok((followed, true)),
+        Op::Reset => Ok((followed, true)),
     }
 }
 
@@ -113,35 +120,4 @@ fn lower(lowest: Option<Wrong>, one: &Logged) -> Option<Wrong>
             index: one.index,
         }),
     }
-}
-
-/// The grower whose tree is that of one operation more. Nobody else owns its pages, so they change in place.
-fn follow(grower: Grower, alloc: Global, op: &Op) -> Result<Grower, NoMemory>
-    requires fits { FitsWidth grower.width (plain_op op.now) }
-    requires light { (operations : List PlainOp) × IsTreeOf operations grower × ((value : ℕ)
-        → total_of (rows_at value (profile_after (operations ++ plain_op op.now ∷ []))) < 2 ^ 63) }
-    ensures tree { (operations : List PlainOp) → IsTreeOf operations grower
-        → IfOk result (IsTreeOf (operations ++ plain_op op.now ∷ [])) }
-    ensures width { IfOk result (λ next. next.width ≡ grower.width) }
-{
-    match op {
-        Op::Add(batch) => {
-            sums_are_those_of_the_aggregate();
-            aggregate_of_more_rows();
-            grower.with_batch(alloc, batch)
-        }
-        Op::Reset => emptied(grower, alloc),
-        Op::Ask(_) => Ok(grower),
-    }
-}
-
-/// The grower with nothing in its tree.
-fn emptied(grower: Grower, alloc: Global) -> Result<Grower, NoMemory>
-    ensures weights { IfOk result (λ next. (value : ℕ) → weights_of next value ≡ map.empty) }
-    ensures width { IfOk result (λ next. next.width ≡ grower.width) }
-{
-    let mut next = grower;
-    let plan = next.plan_reset(alloc)?;
-    next.credit(plan);
-    Ok(next)
 }

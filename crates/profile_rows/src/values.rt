@@ -96,7 +96,7 @@ impl Weights {
     }
 
     /// As many zeros as the width says.
-    pub(crate) fn zero(width: Width) -> Weights
+    pub fn zero(width: Width) -> Weights
         ensures width { length result ≡ width }
         ensures zero { (value : ℕ) → value_of value result ≡ 0 }
     {
@@ -121,8 +121,8 @@ impl Weights {
         }
     }
 
-    /// These values and as many others, added one by one.
-    pub(crate) fn plus(&self, more: &Weights) -> Weights
+    /// These values and as many others, added one by one: each sum is at most [`MAX_TOTAL`].
+    pub fn plus(&self, more: &Weights) -> Weights
         requires width { length self.now ≡ length more.now }
         requires fits { (value : ℕ) → value_of value self.now + value_of value more.now < 2 ^ 63 }
         ensures width { length result ≡ length self.now }

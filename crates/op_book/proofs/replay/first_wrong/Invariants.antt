@@ -1,7 +1,7 @@
-use Rattle.std.proofs.Common.{◌≡◌, take}
-use Rattle.op_book.specs.Replays.{IsLowestOf, IsTreeOf, ops_in}
+use Rattle.std.proofs.Common.{◌≡◌}
+use Rattle.op_book.specs.Replays.{IsFollowed, IsLowestOf}
 use Rattle.op_book.proofs.replay.first_wrong.Given as goal
 
-abbrev pub invariant-loop-one : goal.invariant-loop-one
-invariant-loop-one l = (l.grower.width ≡ l.fn.width) × IsTreeOf (ops_in (take l.one-index l.ordered)) l.grower
-    × IsLowestOf l.ordered l.one-index l.lowest
+abbrev pub invariant-loop-at : goal.invariant-loop-at
+invariant-loop-at l = (l.followed.grower.width ≡ l.fn.width) × IsFollowed l.ordered l.at l.followed
+    × IsLowestOf l.ordered l.at l.lowest

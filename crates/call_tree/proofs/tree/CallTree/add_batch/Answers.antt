@@ -60,7 +60,7 @@ invariant_of-result c =
     let credited = subst (AreCredited (tree_of tree.names before) (tree_of tree.names now) batch.rows) all c.loop-value.invariant.credited in
     let held = subst (λ ns. HasTotal (tree_of ns before) c.self.inside.total) names_are c.self.invariant.1 in (
       subst (λ ns. AreTrees ns now) (sym names_are) c.loop-value.invariant.trees,
-      subst (λ ns. HasTotal (tree_of ns now) c.sum_of.result) (sym names_are)
-          (HasTotal-credited (tree_of tree.names before) (tree_of tree.names now) batch c.self.inside.total c.total.result c.sum_of.result held c.total.ensures.totals
-          (c.requires.width ∙ sym width_is) credited c.sum_of.ensures.width c.sum_of.ensures.each),
+      subst (λ ns. HasTotal (tree_of ns now) c.plus.result) (sym names_are)
+          (HasTotal-credited (tree_of tree.names before) (tree_of tree.names now) batch c.self.inside.total c.total.result c.plus.result held c.total.ensures.totals
+          (c.requires.width ∙ sym width_is) credited c.plus.ensures.width c.plus.ensures.each),
     )

@@ -24,6 +24,6 @@ invariant_of-result c =
     let root_is : (value : ℕ) → value < length all → nodes_of all value ≡ no_node ∷ [] =
     λ value lt. c.in_ok-append.ensures.ok value (omega (arith, lt, c.in_ok-append.ensures.width)) ∙ ap (λ ns. ns ++ no_node ∷ []) (c.in_ok-nodes.ensures.1 value) in (
       (λ value lt. subst (IsTree names) (sym (root_is value lt)) (subst (λ ns. IsTree ns (no_node ∷ [])) (sym c.new-2.ensures) IsTree-root)),
-      HasTotal-root (tree_of names all) c.no_weights.result (c.no_weights.ensures.width ∙ sym width_is) (length-map all (node_rows names)) c.no_weights.ensures.zero
+      HasTotal-root (tree_of names all) c.zero.result (c.zero.ensures.width ∙ sym width_is) (length-map all (node_rows names)) c.zero.ensures.zero
           (λ value lt. nodes_at-tree names all value ∙ ap (node_rows names) (root_is value lt)),
     )

@@ -3,16 +3,14 @@ use Rattle.std.proofs.Common.{◌≡◌, ◌<◌, ◌^◌, ◌++◌, ◌∷◌, 
 use Rattle.std.specs.Arc.{arc_value}
 use Rattle.std.proofs.lemmas.List.{append-nil}
 use Rattle.std.proofs.lemmas.Result.{IfOk-weaker}
-use Rattle.std.proofs.lemmas.List.Sums.{sum_by-append}
-use Rattle.profile_rows.specs.declared.weighted_stacks.WeightedStack.{WeightedStack}
 use Rattle.profile_rows.specs.Aggregate.{aggregate_of, aggregates_of, with_rows}
 use Rattle.profile_rows.specs.Rows.{total_of}
 use Rattle.profile_rows.specs.Values.{Row, rows_at}
 use Rattle.call_tree.specs.State.{total_in, weights_of}
 use Rattle.op_book.specs.Operations.{PlainOp, add, ask, plain_op, profile_after}
 use Rattle.op_book.specs.declared.operation.Op.{Op}
-use Rattle.op_book.proofs.EntryLaws.{profile_after-push, profile_after-reset, profile_at-push}
-use Rattle.op_book.proofs.replay.follow.Goals as goal
+use Rattle.op_book.proofs.EntryLaws.{profile_after-push, profile_after-reset, profile_at-push, total_at-push}
+use Rattle.op_book.proofs.followed.with_operation.Goals as goal
 
 pub with_batch-requires-clause-fits : goal.with_batch-requires-clause-fits
 with_batch-requires-clause-fits c = λ value.
@@ -23,9 +21,8 @@ with_batch-requires-clause-fits c = λ value.
     subst (λ (o : PlainOp). total_of (rows_at value (profile_after (operations ++ o ∷ []))) < 2 ^ 63) op (c.requires.light.2 value) in
     let held : total_in (weights_of c.args.grower value) ≡ total_of (rows_at value (profile_after operations)) =
     ap total_in (c.requires.light.1 value) ∙ c.sums_are_those_of_the_aggregate.ensures.rows (λ stack. true) (rows_at value (profile_after operations)) in
-    let whole = ap total_of (profile_at-push value operations (add batch) refl) in
-    let parts = sum_by-append (λ (row : WeightedStack). row.weight) (rows_at value (profile_after operations)) (rows_at value batch.rows) in
-    omega (arith, light, held, whole, parts)
+    let whole = total_at-push value operations (add batch) refl in
+    omega (arith, light, held, whole)
 
 pub returns-in-Add-clause-tree : goal.returns-in-Add-clause-tree
 returns-in-Add-clause-tree c = λ operations tree. IfOk-weaker c.with_batch.result _ _ (λ next weights value.

@@ -279,13 +279,14 @@ impl Grower {
         ensures grown { AreGrown self.old self.new }
     {
         self.tree.known();
-        let guess = walk.guess(place);
-        if let Some(number) = self.tree.number_below(place, guess, &frames[depth]) {
+        let name = &frames[depth];
+        let guess = walk.guess(place, name);
+        if let Some(number) = self.tree.number_below(place, guess, name) {
             let _there = walk.add(number)?;
             return Ok(guess);
         }
         let child = self.look_up(frames, depth, place, walk)?;
-        walk.keep(place, child)?;
+        walk.keep(place, name, child)?;
         Ok(child)
     }
 

@@ -3,8 +3,16 @@
 ghost use Rattle.std.specs.Prelude.{◌≡◌, ◌++◌, ◌∷◌, [], IfOk, OnOk, if◌then◌else◌, nat_eq};
 ghost use Rattle.std.specs.List.{list_any};
 
+use profile_rows::Name;
 use std::alloc::{AllocError, Global};
 use std::marker::Model;
+
+/// A node, and the mark of the name by which it stands below its parent.
+#[derive(Clone, Copy)]
+struct Guess {
+    node: u32,
+    mark: u32,
+}
 
 /// The name numbers on this walk so far, as a sparse set that is emptied, asked and added to in one step each, and the
 /// nodes that the walks before went through.
@@ -14,7 +22,7 @@ pub struct Walk {
     places: Vec<usize>,
     names: Vec<u32>,
     /// For each node the one below it that a walk entered last, or the root.
-    nodes: Vec<u32>,
+    guesses: Vec<Guess>,
 }
 
 impl Model for Walk {
@@ -37,7 +45,7 @@ impl Walk {
         Walk {
             places: Vec::new(alloc),
             names: Vec::new(alloc),
-            nodes: Vec::new(alloc),
+            guesses: Vec::new(alloc),
         }
     }
 
@@ -66,24 +74,37 @@ impl Walk {
         Ok(false)
     }
 
-    /// The node that a walk entered last from this one, or the root. Whether it serves this walk is for the caller to
-    /// see.
-    pub fn guess(&self, parent: u32) -> u32 {
-        match self.nodes.get(parent as usize) {
-            Some(node) => *node,
-            None => 0,
+    /// The node that a walk entered last from this one, if its name may be this one, or the root. Whether it serves this
+    /// walk is for the caller to see.
+    pub fn guess(&self, parent: u32, name: &Name) -> u32 {
+        match self.guesses.get(parent as usize) {
+            Some(guess) if guess.mark == mark_of(name) => guess.node,
+            _ => 0,
         }
     }
 
-    /// Keeps a node as the guess below its parent.
-    pub fn keep(&mut self, parent: u32, node: u32) -> Result<(), AllocError>
+    /// Keeps a node as the guess below its parent by a name.
+    pub fn keep(&mut self, parent: u32, name: &Name, node: u32) -> Result<(), AllocError>
         ensures { OnOk result (self.new ≡ self.old) }
     {
         let at = parent as usize;
-        if at >= self.nodes.len() {
-            self.nodes.resize(at + 1, 0)?;
+        if at >= self.guesses.len() {
+            self.guesses.resize(at + 1, Guess { node: 0, mark: 0 })?;
         }
-        self.nodes[at] = node;
+        self.guesses[at] = Guess {
+            node,
+            mark: mark_of(name),
+        };
         Ok(())
     }
+}
+
+/// The last bytes of a name as a number: names of other marks are other names.
+fn mark_of(name: &Name) -> u32 {
+    let bytes = name.text().as_bytes();
+    let mut mark = 0u32;
+    for byte in &bytes[bytes.len().saturating_sub(4)..] {
+        mark = mark << 8 | u32::from(*byte);
+    }
+    mark
 }

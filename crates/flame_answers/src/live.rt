@@ -34,7 +34,7 @@ pub(crate) fn live_report<P: Progress, R: Threads + Wait + Sync>(
     let Ok(batch) = Arc::new(alloc, batch) else {
         return Err(ToolFault::NoMemory);
     };
-    match live_text(rt, alloc, hashing, progress, &batch, options) {
+    match live_text(rt, alloc, hashing, progress, batch, options) {
         Ok(text) => Ok(text),
         Err(fault) => Err(store_fault(fault)),
     }

@@ -1,26 +1,44 @@
 //! Dealing the rows of a batch to workers.
 
 ghost use Rattle.std.specs.Prelude.{ℕ, ◌≡◌, ◌+◌, ◌<◌, ◌++◌, ◌∷◌, [], length, map, sum_by, IfOk, OnOk};
+ghost use Rattle.std.specs.Arc.{arc_value};
 ghost use Rattle.op_book.specs.Operations.{PlainOp, ask, plain_op};
-ghost use Rattle.profile_rows.specs.Values.{row_in};
+ghost use Rattle.profile_rows.specs.OwnedRows.{plain_row};
 ghost use Rattle.live_answers.specs.Dealing.{AreDealt, addition, total_at, totals_from, weigh};
 
 use flame_report::{Kind, Query};
 use op_book::Op;
-use profile_rows::{Batch, NoMemory, Width};
+use profile_rows::{Batch, NoMemory, OwnedRow, Width};
 use std::alloc::Global;
 use std::sync::Arc;
 
 /// What each of so many workers is to do: row after row goes to the next of them, each as a batch of its own, and at
 /// the end each asks for the total of each value.
-pub(crate) fn deal(alloc: Global, batch: &Batch, sessions: u32) -> Result<Vec<Vec<Op>>, NoMemory>
+pub(crate) fn deal(
+    alloc: Global,
+    batch: Arc<Batch>,
+    sessions: u32,
+) -> Result<Vec<Vec<Op>>, NoMemory>
     requires { 0 < sessions }
     ensures { IfOk result
-        (λ lists. AreDealt batch.now sessions (map (λ list. map plain_op list.items) lists.items)) }
+        (λ lists. AreDealt (arc_value batch) sessions (map (λ list. map plain_op list.items) lists.items)) }
 {
     let mut lists = empty_lists(alloc, sessions)?;
-    deal_rows(alloc, batch, &mut lists)?;
-    with_totals(alloc, batch.width(), lists)
+    let batch = own_batch(alloc, batch)?;
+    let width = batch.width();
+    let rows = batch.into_rows(alloc)?;
+    deal_rows(alloc, width, rows, &mut lists)?;
+    with_totals(alloc, width, lists)
+}
+
+/// The batch itself where it has no other owner, and else one that shares its names.
+fn own_batch(alloc: Global, batch: Arc<Batch>) -> Result<Batch, NoMemory>
+    ensures { IfOk result (λ own. own ≡ arc_value batch) }
+{
+    match Arc::try_unwrap(batch) {
+        Ok(own) => Ok(own),
+        Err(shared) => shared.share(alloc),
+    }
 }
 
 /// So many lists without operations.
@@ -37,31 +55,35 @@ fn empty_lists(alloc: Global, count: u32) -> Result<Vec<Vec<Op>>, NoMemory>
 }
 
 /// Adds row after row to the next of some lists.
-fn deal_rows(alloc: Global, batch: &Batch, lists: &mut Vec<Vec<Op>>) -> Result<(), NoMemory>
+fn deal_rows(
+    alloc: Global,
+    width: Width,
+    rows: Vec<OwnedRow>,
+    lists: &mut Vec<Vec<Op>>,
+) -> Result<(), NoMemory>
     requires { 0 < length lists.old.items }
     ensures count { length lists.new.items ≡ length lists.old.items }
     ensures dealt { OnOk result ((weight : PlainOp → ℕ)
         → weigh weight (map (λ list. map plain_op list.items) lists.new.items)
         ≡ weigh weight (map (λ list. map plain_op list.items) lists.old.items)
-        + sum_by weight (map (addition batch.now.width) batch.now.rows)) }
+        + sum_by weight (map (addition width) (map plain_row rows.items))) }
 {
-    for at in 0..batch.len() {
-        let op = addition_of(alloc, batch, at)?;
-        let worker = at % lists.len();
+    let mut worker = 0;
+    for row in rows {
+        let op = addition_of(alloc, width, row)?;
         lists[worker].push(op)?;
+        worker = (worker + 1) % lists.len();
     }
     Ok(())
 }
 
 /// The addition of a row, as a batch of its own.
-fn addition_of(alloc: Global, batch: &Batch, at: usize) -> Result<Op, NoMemory>
-    requires { at < length batch.now.rows }
-    ensures { IfOk result
-        (λ op. plain_op op ≡ addition batch.now.width (row_in batch.now.rows at)) }
+fn addition_of(alloc: Global, width: Width, row: OwnedRow) -> Result<Op, NoMemory>
+    ensures { IfOk result (λ op. plain_op op ≡ addition width (plain_row row)) }
 {
-    let row = batch.row(at);
-    let mut one = Batch::new(alloc, batch.width());
-    match one.push(row.stack.share(alloc)?, row.weights) {
+    let OwnedRow { stack, weights } = row;
+    let mut one = Batch::with_capacity(alloc, width, 1)?;
+    match one.push(stack, weights) {
         Ok(()) => Ok(Op::Add(Arc::new(alloc, one)?)),
         Err(_) => Err(NoMemory),
     }

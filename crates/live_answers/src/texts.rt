@@ -18,7 +18,7 @@ use live_store::Blank;
 use op_book::laws::additions_count_since_the_last_reset;
 use op_book::{SessionLog, audit_with};
 use profile_rows::laws::aggregate_is_by_weights;
-use profile_rows::{Batch, Hashing, NoMemory};
+use profile_rows::{Batch, Hashing, NoMemory, Width};
 use std::alloc::Global;
 use std::marker::Brand;
 use std::sync::{Arc, Wait};
@@ -36,15 +36,16 @@ pub fn live_text<P: Progress, R: Threads + Wait + Sync>(
     alloc: Global,
     hashing: Hashing,
     progress: &P,
-    batch: &Arc<Batch>,
+    batch: Arc<Batch>,
     options: LiveOptions,
 ) -> Result<Vec<u8>, LiveFault>
-    ensures { IfOk result (λ text. text.items ≡ live_text_of options (arc_value batch.now)) }
+    ensures { IfOk result (λ text. text.items ≡ live_text_of options (arc_value batch)) }
 {
+    let (rows, width) = (batch.len(), batch.width());
+    let warm = warm_batch(&batch, options)?;
     let lists = deal(alloc, batch, options.sessions())?;
-    let warm = warm_batch(batch, options)?;
-    let blank = blank_for(alloc, hashing, batch, options)?;
-    let gate = gate_for(progress, batch, options);
+    let blank = blank_for(alloc, hashing, rows, width, options)?;
+    let gate = gate_for(progress, rows, options);
     let Stored { journal, logs } = store::<Brand, _, _>(rt, alloc, blank, warm, lists, &gate)?;
     let run = audit_with(alloc, hashing, &journal, &logs)?;
     check_warm(options, &logs)?;
@@ -56,15 +57,11 @@ pub fn live_text<P: Progress, R: Threads + Wait + Sync>(
     Ok(text)
 }
 
-/// What tells of the rows of a batch.
-fn gate_for<'a, P: Progress>(
-    progress: &'a P,
-    batch: &Arc<Batch>,
-    options: LiveOptions,
-) -> RowGate<'a, P> {
+/// What tells of so many rows.
+fn gate_for<'a, P: Progress>(progress: &'a P, rows: usize, options: LiveOptions) -> RowGate<'a, P> {
     RowGate {
         progress,
-        rows: batch.len(),
+        rows,
         workers: options.sessions() as usize,
     }
 }
@@ -92,23 +89,24 @@ fn check_warm(options: LiveOptions, logs: &[SessionLog]) -> Result<(), LiveFault
     Ok(())
 }
 
-/// A store for the rows of a batch and for a warm start.
+/// A store for so many rows of this width and for a warm start.
 fn blank_for(
     alloc: Global,
     hashing: Hashing,
-    batch: &Batch,
+    rows: usize,
+    width: Width,
     options: LiveOptions,
 ) -> Result<Blank, LiveFault>
-    ensures width { IfOk result (λ blank. blank.width ≡ batch.now.width) }
+    ensures width { IfOk result (λ blank. blank.width ≡ width) }
 {
     let (sessions, more) = if options.warm {
         (options.sessions + 1, 2)
     } else {
         (options.sessions, 0)
     };
-    let changes = (batch.len() as u64).saturating_add(u64::from(options.sessions) + more);
+    let changes = (rows as u64).saturating_add(u64::from(options.sessions) + more);
     let limit = u32::try_from(changes).unwrap_or(u32::MAX);
-    Ok(Blank::make_with(alloc, hashing, limit, sessions, batch.width())?)
+    Ok(Blank::make_with(alloc, hashing, limit, sessions, width)?)
 }
 
 /// Adds how many operations were audited.

@@ -9,6 +9,7 @@ pub mod Kept
 pub mod LentStacks
 pub mod Members
 pub mod MergedRows
+pub mod OwnedRows
 pub mod Ranking
 pub mod RowLaws
 pub mod RowValues

@@ -49,7 +49,7 @@ drop_none : {X : Type 0} (n : ℕ) → drop {A = X} n [] ≡ []
 drop_none zero = refl
 drop_none (suc n) = refl
 
-drops : {X : Type 0} (a b n : ℕ) (l : List X) → n ≡ a + b → drop b (drop a l) ≡ drop n l
+pub drops : {X : Type 0} (a b n : ℕ) (l : List X) → n ≡ a + b → drop b (drop a l) ≡ drop n l
 drops zero b n l whole = let same : b ≡ n = omega arith in ap (λ n. drop n l) same
 drops (suc a) b n [] whole = drop_none b ∙ sym (drop_none n)
 drops (suc a) b zero (x ∷ l) whole = absurd (omega arith)

@@ -5,6 +5,7 @@ pub mod Layout
 pub mod LentStacks
 pub mod Names
 pub mod Order
+pub mod OwnedRows
 pub mod Paths
 pub mod Pushing
 pub mod Rows

@@ -1,12 +1,13 @@
 //! Batches: rows of one to four values, in order, of which the total of each value keeps the limit.
 
-ghost use Rattle.std.specs.Prelude.{ℕ, ◌≡◌, ◌+◌, ◌-◌, ◌*◌, ◌<◌, ◌≤◌, ◌++◌, ◌∷◌, [], drop, length, take, IfErr, IfOk, OnErr, OnOk};
+ghost use Rattle.std.specs.Prelude.{ℕ, ◌≡◌, ◌+◌, ◌-◌, ◌*◌, ◌<◌, ◌≤◌, ◌++◌, ◌∷◌, [], drop, length, map, take, IfErr, IfOk, OnErr, OnOk};
 ghost use Rattle.profile_rows.specs.Values.{AreTotals, BatchState, HasRoom, IsBatch, row_in, rows_at, single_batch, value_of};
+ghost use Rattle.profile_rows.specs.OwnedRows.{plain_row};
 ghost use Rattle.profile_rows.specs.Pushing.{IsPushFault};
 
 use crate::stack::Stack;
 use crate::values::{Weights, Width, first_heavy};
-use crate::weighted_stacks::{PushFault, Refused, WeightedStacks};
+use crate::weighted_stacks::{PushFault, Refused, WeightedStack, WeightedStacks};
 use no_memory::NoMemory;
 use std::alloc::Global;
 use std::marker::Model;
@@ -15,6 +16,13 @@ use std::marker::Model;
 #[derive(Clone, Copy)]
 pub struct Row<'a> {
     pub stack: &'a Stack,
+    pub weights: Weights,
+}
+
+/// A row of a batch that was taken apart: a stack and its values.
+#[derive(Drop)]
+pub struct OwnedRow {
+    pub stack: Stack,
     pub weights: Weights,
 }
 
@@ -60,6 +68,22 @@ impl Batch {
             first: WeightedStacks::new(alloc),
             others: Vec::new(alloc),
         }
+    }
+
+    /// A batch of this width without rows, with room for so many stacks.
+    ///
+    /// # Errors
+    ///
+    /// `NoMemory`.
+    pub fn with_capacity(alloc: Global, width: Width, rows: usize) -> Result<Batch, NoMemory>
+        ensures { IfOk result (λ batch. batch ≡ record { width = width; rows = [] }) }
+    {
+        let totals = Weights::zero(width);
+        Ok(Batch {
+            totals,
+            first: WeightedStacks::with_capacity(alloc, rows)?,
+            others: Vec::new(alloc),
+        })
     }
 
     /// The batch of one value that has these rows. Takes no memory.
@@ -151,6 +175,45 @@ impl Batch {
             let weight = self.weight(at, value);
             let stack = self.row(at).stack.share(alloc)?;
             rows.push(stack, weight).map_err(|_| NoMemory)?;
+        }
+        Ok(rows)
+    }
+
+    /// The same batch, with a second owner of each name.
+    ///
+    /// # Errors
+    ///
+    /// `NoMemory`.
+    pub fn share(&self, alloc: Global) -> Result<Batch, NoMemory>
+        ensures { IfOk result (λ batch. batch ≡ self.now) }
+    {
+        Ok(Batch {
+            totals: self.totals,
+            first: self.first.share(alloc)?,
+            others: self.others.clone()?,
+        })
+    }
+
+    /// The rows in order, each of them the caller's own. No stack is copied.
+    ///
+    /// # Errors
+    ///
+    /// `NoMemory`.
+    pub fn into_rows(self, alloc: Global) -> Result<Vec<OwnedRow>, NoMemory>
+        ensures { IfOk result (λ rows. map plain_row rows.items ≡ self.rows) }
+    {
+        let width = self.width();
+        let Batch {
+            totals: _,
+            first,
+            others,
+        } = self;
+        let stacks = first.into_rows();
+        let mut rows = Vec::with_capacity(alloc, stacks.len())?;
+        for row in stacks {
+            let WeightedStack { stack, weight } = row;
+            let weights = Weights::join(weight, other_values(&others, rows.len(), width));
+            rows.push(OwnedRow { stack, weights })?;
         }
         Ok(rows)
     }

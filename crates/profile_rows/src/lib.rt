@@ -17,7 +17,7 @@ mod values;
 mod weighted_stacks;
 
 pub use aggregating::aggregate;
-pub use batch::{Batch, Row};
+pub use batch::{Batch, OwnedRow, Row};
 pub use frame_totals::{CountedRows, FrameTotal, FrameTotals, kept_totals, kept_totals_with};
 pub use hashing::Hashing;
 pub use keeping::keeps;

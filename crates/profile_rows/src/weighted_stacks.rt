@@ -1,11 +1,12 @@
 //! Rows of one value, in order, whose total keeps the limit.
 
-ghost use Rattle.std.specs.Prelude.{◌≡◌, ◌≤◌, ◌+◌, ◌^◌, ◌<◌, ◌++◌, ◌∷◌, [], length, IfErr, OnErr, OnOk};
+ghost use Rattle.std.specs.Prelude.{◌≡◌, ◌≤◌, ◌+◌, ◌^◌, ◌<◌, ◌++◌, ◌∷◌, [], length, IfErr, IfOk, OnErr, OnOk};
 ghost use Rattle.profile_rows.specs.Rows.{total_of};
 ghost use Rattle.profile_rows.specs.Pushing.{IsWeightFault};
 ghost use Rattle.profile_rows.specs.Merging.{with_added_at};
 
 use crate::stack::Stack;
+use no_memory::NoMemory;
 use std::alloc::Global;
 use std::marker::Model;
 use thiserror::Error;
@@ -70,6 +71,42 @@ impl WeightedStacks {
             rows: Vec::new(alloc),
             total: 0,
         }
+    }
+
+    /// No rows, with room for so many.
+    ///
+    /// # Errors
+    ///
+    /// `NoMemory`.
+    pub fn with_capacity(alloc: Global, rows: usize) -> Result<WeightedStacks, NoMemory>
+        ensures { IfOk result (λ stacks. stacks ≡ []) }
+    {
+        Ok(WeightedStacks {
+            rows: Vec::with_capacity(alloc, rows)?,
+            total: 0,
+        })
+    }
+
+    /// The same rows, with a second owner of each name.
+    ///
+    /// # Errors
+    ///
+    /// `NoMemory`.
+    pub fn share(&self, alloc: Global) -> Result<WeightedStacks, NoMemory>
+        ensures { IfOk result (λ stacks. stacks ≡ self.now) }
+    {
+        let mut shares = Vec::with_capacity(alloc, self.rows.len())?;
+        for row in self.rows.as_slice() {
+            let stack = row.stack.share(alloc)?;
+            shares.push(WeightedStack {
+                stack,
+                weight: row.weight,
+            })?;
+        }
+        Ok(WeightedStacks {
+            rows: shares,
+            total: self.total,
+        })
     }
 
     /// The rows, in the order in which they were added.

@@ -142,7 +142,34 @@ fn put_in_group<T: Clone + Drop>(
         (pages_of (arc_value group.new).items ≡ pages_of (arc_value group.old).items) }
 {
     let pages = Arc::make_mut(group)?;
+    make_room(alloc, pages, at / PAGE)?;
     put_in_pages(alloc, pages, at, item)
+}
+
+/// Copies a page that is there and has other owners, with room for all the items that a page takes.
+fn make_room<T: Clone + Drop>(
+    alloc: Global,
+    pages: &mut Vec<Arc<Vec<T>>>,
+    index: usize,
+) -> Result<(), AllocError>
+    requires exact { (x y : T) → T.is_clone x y → y ≡ x }
+    ensures { pages_of pages.new.items ≡ pages_of pages.old.items }
+{
+    if index < pages.len() && Arc::strong_count(&pages[index]) > 1 {
+        let copy = copy_of(alloc, &pages[index])?;
+        pages[index] = Arc::new(alloc, copy)?;
+    }
+    Ok(())
+}
+
+/// The items of a page, with room for as many as a page takes.
+fn copy_of<T: Clone + Drop>(alloc: Global, page: &[T]) -> Result<Vec<T>, AllocError>
+    requires exact { (x y : T) → T.is_clone x y → y ≡ x }
+    ensures { IfOk result (λ copy. copy.items ≡ page.now) }
+{
+    let mut copy = Vec::with_capacity(alloc, PAGE)?;
+    VecCloneMethods::extend_from_slice(&mut copy, page)?;
+    Ok(copy)
 }
 
 /// Puts an item at its place in its page, which is copied before where it has other owners, or in a new page behind

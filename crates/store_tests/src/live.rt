@@ -14,7 +14,7 @@ use std::thread::Threads;
 fn written<R: Threads + Wait + Sync>(
     rt: &R,
     alloc: Global,
-    batch: &Arc<Batch>,
+    batch: Arc<Batch>,
     options: Option<LiveOptions>,
 ) -> Result<String, Fail> {
     let Some(options) = options else {
@@ -29,10 +29,10 @@ fn written<R: Threads + Wait + Sync>(
 #[test]
 fn rows_of_several_workers(rt: HostRuntime) -> Result<(), Fail> {
     let alloc = rt.alloc();
-    let batch = batch_of(alloc, "main;a;b 3\nmain;a 2\nmain;c 5\n")?;
     for (sessions, last) in [(1, "4"), (2, "5"), (5, "8"), (63, "66")] {
+        let batch = batch_of(alloc, "main;a;b 3\nmain;a 2\nmain;c 5\n")?;
         let options = LiveOptions::new(sessions, false, false);
-        let said = written(&rt, alloc, &batch, options)?;
+        let said = written(&rt, alloc, batch, options)?;
         let wanted = format!(in alloc;
             "main;a 2\nmain;a;b 3\nmain;c 5\naudited {last} operations\n"
         )?;
@@ -46,7 +46,7 @@ fn no_rows_have_empty_reports(rt: HostRuntime) -> Result<(), Fail> {
     let alloc = rt.alloc();
     let batch = batch_of(alloc, "")?;
     let options = LiveOptions::new(2, false, true);
-    let said = written(&rt, alloc, &batch, options)?;
+    let said = written(&rt, alloc, batch, options)?;
     assert_eq!(rt; said.as_str(), "audited 5 operations\n");
     Ok(())
 }
@@ -56,7 +56,7 @@ fn each_value_behind_a_warm_start(rt: HostRuntime) -> Result<(), Fail> {
     let alloc = rt.alloc();
     let batch = row_of(alloc, "a", &[1, 2])?;
     let options = LiveOptions::new(2, true, true);
-    let said = written(&rt, alloc, &batch, options)?;
+    let said = written(&rt, alloc, batch, options)?;
     assert_eq!(rt;
         said.as_str(),
         "value 0\na 1\nvalue 1\na 2\naudited 8 operations\n"
@@ -69,7 +69,7 @@ fn one_worker_behind_a_warm_start(rt: HostRuntime) -> Result<(), Fail> {
     let alloc = rt.alloc();
     let batch = batch_of(alloc, "b 1\na 2\n")?;
     let options = LiveOptions::new(1, false, true);
-    let said = written(&rt, alloc, &batch, options)?;
+    let said = written(&rt, alloc, batch, options)?;
     assert_eq!(rt; said.as_str(), "a 2\nb 1\naudited 6 operations\n");
     Ok(())
 }
@@ -121,13 +121,13 @@ impl Progress for Heard {
 #[test]
 fn each_row_is_heard_of_once(rt: HostRuntime) -> Result<(), Fail> {
     let alloc = rt.alloc();
-    let batch = batch_of(alloc, "a 1\nb 2\na 3\nc 4\na;b 5\n")?;
     for (sessions, warm) in [(1, false), (2, true), (7, false)] {
+        let batch = batch_of(alloc, "a 1\nb 2\na 3\nc 4\na;b 5\n")?;
         let heard = Heard {
             rows: Mutex::new(0),
         };
         if let Some(options) = LiveOptions::new(sessions, false, warm) {
-            let _ = live_text(&rt, alloc, Hashing::fixed(), &heard, &batch, options);
+            let _ = live_text(&rt, alloc, Hashing::fixed(), &heard, batch, options);
         }
         assert_eq!(rt; *heard.rows.lock(&rt), 5);
     }

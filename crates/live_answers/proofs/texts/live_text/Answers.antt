@@ -18,15 +18,14 @@ use Rattle.live_answers.proofs.texts.live_text.Goals as goal
 pub returns : goal.returns
 returns g c =
     let options = c.args.options in
-    let batch : BatchState = arc_value c.args.batch.now in
+    let batch : BatchState = arc_value c.args.batch in
     let lists : List (List PlainOp) = map (λ list. map plain_op list.items) c.in_ok-lists.lists.items in
     let logs : List SessionLog = c.in_ok-journal.field-0.logs.items in
     let journal : JournalState = c.in_ok-journal.field-0.journal in
     let warm : Option BatchState = option_map arc_value c.in_ok-warm.warm in
     let run : List PlainStep = c.in_ok-run.run' in
-    let given : c.deref.result.now ≡ batch = c.deref.ensures in
     let dealt : AreDealt batch options.sessions lists =
-    subst (λ (n : ℕ). AreDealt batch n lists) c.sessions.ensures (subst (λ (b : BatchState). AreDealt b c.sessions.result lists) given c.in_ok-lists.ensures) in
+    subst (λ (n : ℕ). AreDealt batch n lists) c.sessions.ensures c.in_ok-lists.ensures in
     let told : map (λ (log : SessionLog). ops_told log.receipts) logs ≡ warm_lists warm ++ lists = c.in_ok-journal.ensures.told in
     let warm_is : warm ≡ cond options.warm (Some batch) None = c.in_ok-warm.ensures in
     let matched : LogsMatch journal logs = subst (λ (ls : List SessionLog). LogsMatch journal ls) c.deref-3.ensures.value (c.in_ok-run.ensures.first).0 in
@@ -42,7 +41,7 @@ returns g c =
     (profile_weighs batch options.sessions warm lists logs run (operations_of journal.entries) dealt told once changes warmed c.additions_count_since_the_last_reset.ensures.last c.additions_count_since_the_last_reset.ensures.all value)
     ∙ sym (replay.aggregate value) ∙ ap (λ (t : TreeState). weights_of t value) (sym tree) in
     let width : batch.width ≡ c.tree.result.now.width =
-    ap (λ (b : BatchState). b.width) (sym c.deref-2.ensures) ∙ sym c.in_ok-blank.ensures.width ∙ sym c.in_ok-journal.ensures.width ∙ sym c.tree.ensures.wide in
+    ap (λ (b : BatchState). b.width) (sym c.deref-2.ensures) ∙ sym c.width-width.ensures.width ∙ sym c.in_ok-blank.ensures.width ∙ sym c.in_ok-journal.ensures.width ∙ sym c.tree.ensures.wide in
     let count : length c.steps-operations.result.now ≡ operations_in options batch =
     ap length c.steps-operations.ensures ∙ run_counts batch options warm lists logs run dealt told once warm_is in
     c.in_ok-push_count.ensures

@@ -8,9 +8,10 @@ all of them has --nodes nodes. The batches are added in a circle, by the session
 sessions ask for reports, by turns the total and the top list of ten names: one for each --reports changes. The last
 line is of as many changes without reports.
 
-The audit goes through the receipts of all sessions. It sorts them, makes each change once more, in order, and answers
-each report again where it stands. So beside the reports themselves its time is that of the sorting, (n + m) log (n + m)
-for n changes and m reports, and of n changes.
+The audit goes through the receipts of all sessions. It sorts them, and answers each report again where it stands: a
+total from the totals so far, a top list over a tree, for which each change is made once more, in order. So beside the
+reports themselves its time is that of the sorting, (n + m) log (n + m) for n changes and m reports, and of n changes
+where a top list is asked for.
 
 The times are wall times, and the least of several rounds counts; `busy` is how far the two together are above their
 processor time. The program is audits.rattle. It is proved and linked in a copy of the crates below it that stands

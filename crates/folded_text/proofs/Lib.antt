@@ -5,6 +5,7 @@ pub mod FrameNames
 pub mod Lines
 pub mod Pieces
 pub mod Reading
+pub mod StackOrder
 pub mod TextSums
 pub mod WorkedTexts
 pub mod Writing

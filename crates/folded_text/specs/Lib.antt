@@ -1,3 +1,4 @@
 pub mod FoldedText
 pub mod KnownNames
+pub mod StackOrder
 pub mod TextSums

@@ -1,5 +1,5 @@
 -- Texts without empty frames are in the order of their stacks.
-use Rattle.std.proofs.Common.{◌≡◌, ◌≢◌, ℕ, ◌+◌, ◌<◌, true, false, cond, eqb, List, [], ◌∷◌, ◌++◌, length, filter, refl, sym, ap, ◌∙◌, subst, arith}
+use Rattle.std.proofs.Common.{◌≡◌, ◌≢◌, ℕ, ◌+◌, ◌<◌, true, false, cond, eqb, List, [], ◌∷◌, ◌++◌, length, take, drop, filter, refl, sym, ap, ◌∙◌, subst, arith}
 use Rattle.std.specs.Prelude.{All, ◌==◌, not}
 use Rattle.std.specs.List.{AllByRecursion, join_with_byte, slice_split}
 use Rattle.std.specs.declared.cmp.Ordering.{Ordering}
@@ -8,7 +8,7 @@ use Rattle.std.specs.Ordering.{MatchOrdering, nat_cmp, ordering_then}
 use Rattle.std.specs.Cmp.{IsTotalOrder, nat_cmp_is, ranks}
 use Rattle.std.specs.Cmp.Lexicographic.{slice_cmp}
 use Rattle.std.proofs.lemmas.Cmp.{lists_total, nat_cmp_total, on_total}
-use Rattle.std.proofs.lemmas.List.{append-nil}
+use Rattle.std.proofs.lemmas.List.{append-nil, take-append-drop}
 use Rattle.std.proofs.lemmas.List.Elements.{recursion_from_All}
 use borrow.Author.Tests.{eqb-false, ne_eqb}
 use Rattle.profile_rows.specs.Rows.{stack_cmp}
@@ -129,3 +129,20 @@ joined_texts-cmp text other joined also =
 
 pub stack_text_cmp_total : IsTotalOrder stack_text_cmp
 stack_text_cmp_total = lists_total (on_total place_of nat_cmp_total)
+
+-- ---- what two texts begin with
+
+one_byte : (byte : ℕ) → text_byte_cmp byte byte ≡ Equal
+one_byte byte = sym (nat_cmp_is (place_of byte) (place_of byte) Equal refl)
+
+after_front : (front text other : List ℕ) → stack_text_cmp (front ++ text) (front ++ other) ≡ stack_text_cmp text other
+after_front [] text other = refl
+after_front (byte ∷ front) text other = ap (λ o. ordering_then o (stack_text_cmp (front ++ text) (front ++ other))) (one_byte byte) ∙ after_front front text other
+
+-- texts that begin with the same bytes compare as what follows these
+pub past_front-cmp : (n : ℕ) (text other : List ℕ) → take n text ≡ take n other → stack_text_cmp (drop n text) (drop n other) ≡ stack_text_cmp text other
+past_front-cmp n text other same =
+    sym (after_front (take n text) (drop n text) (drop n other))
+    ∙ ap (λ t. stack_text_cmp t (take n text ++ drop n other)) (take-append-drop n text)
+    ∙ ap (λ front. stack_text_cmp text (front ++ drop n other)) same
+    ∙ ap (stack_text_cmp text) (take-append-drop n other)

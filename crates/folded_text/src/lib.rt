@@ -7,6 +7,7 @@ pub mod laws;
 mod merged_text;
 mod stack_frames;
 mod taking;
+mod text_order;
 mod text_totals;
 mod written;
 

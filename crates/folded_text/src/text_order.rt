@@ -9,11 +9,7 @@ use std::cmp::Ordering;
 fn byte_place(byte: u8) -> u16
     ensures { result ≡ place_of byte }
 {
-    if byte == b';' {
-        0
-    } else {
-        byte as u16 + 1
-    }
+    if byte == b';' { 0 } else { byte as u16 + 1 }
 }
 
 /// What is left of two texts past the chunks with which both begin.

@@ -1,5 +1,5 @@
 -- Equal chunks leave the order to what is behind them.
-use Rattle.std.proofs.Common.{rules, ◌≡◌, true, drop, take, sym, ap, ◌∙◌}
+use Rattle.std.proofs.Common.{rules, ◌≡◌, true, drop, sym, ap, ◌∙◌}
 use Rattle.profile_rows.specs.Names.{is_same_name}
 use Rattle.profile_rows.proofs.SameNames.{same_from_is_same_name}
 use Rattle.folded_text.specs.StackOrder.{stack_text_cmp}

@@ -17,7 +17,6 @@ use Rattle.profile_samples.specs.declared.sampling.ValueChoice.TheVariants.{Defa
 use Rattle.profile_samples.specs.declared.sampling.ValueChoice.TheVariants as choices
 use Rattle.profile_samples.specs.Batches.{IsBatchOf, IsFirstBatchFault, chosen_types_of, one_from}
 use Rattle.profile_samples.specs.Samples.{type_named}
-use Rattle.flame_answers.specs.declared.outcomes.ToolFault.TheVariants as tool
 use Rattle.flame_answers.specs.declared.request.Format.TheVariants.{Folded, Pprof}
 use Rattle.flame_answers.specs.Answers.{HasLiveFault, HasNoBatch, IsLiveChoice, IsLiveRefused, batch_fault_of, folded_fault_of, profile_fault_of}
 

@@ -37,7 +37,6 @@ use Rattle.flame_answers.specs.declared.request.Format.{Format}
 use Rattle.flame_answers.specs.declared.request.Format.TheVariants.{Folded, Pprof}
 use Rattle.flame_answers.specs.declared.request.Request.{Request}
 use Rattle.flame_answers.specs.declared.request.Request.TheVariants.{Report, Export, Live}
-use Rattle.flame_answers.specs.declared.request.Source.{Source}
 
 -- ---- the rows of an input
 

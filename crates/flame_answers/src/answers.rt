@@ -5,6 +5,7 @@ ghost use Rattle.profile_rows.specs.declared.weighted_stacks.WeightedStack.{Weig
 ghost use Rattle.profile_rows.specs.TopList.{AreTotalsOf};
 ghost use Rattle.flame_report.specs.Answers.{answer_by, answer_of};
 ghost use Rattle.flame_report.specs.declared.query.Kind.TheVariants.{Top};
+ghost use Rattle.flame_report.specs.declared.query.Kind.TheVariants as kinds;
 ghost use Rattle.flame_answers.specs.Answers.{AreMergedIn, IsAnswer, IsAnswerOfProfile, IsAnswerOfText, IsChoice, IsExport, IsInputFault, IsRefusedIn, IsReport, answer_text, batch_fault_of, folded_fault_of, profile_fault_of};
 ghost use Rattle.flame_answers.specs.declared.request.Format.TheVariants.{Folded, Pprof};
 
@@ -15,7 +16,7 @@ use flame_report::laws::answers_are_by_the_aggregate;
 use flame_report::{
     Answer, Kind, Query, Rank, flame_json, report_of_stacks_with, top_list, top_text,
 };
-use folded_text::{FoldedFault, folded_totals_with, merge_folded_with};
+use folded_text::{FoldedFault, folded_report_with, folded_totals_with, merge_folded_with};
 use live_answers::Progress;
 use pprof_profile::{ProfileFault, Text, decode};
 use profile_rows::{FrameTotals, Hashing, NoMemory, WeightedStacks};
@@ -73,6 +74,7 @@ fn report_on(
         (Format::Pprof, Kind::Top { rank, count }) if query.keeps_all() => {
             profile_top(alloc, hashing, &source.value, rank, count, input)
         }
+        (Format::Folded, Kind::Folded) if query.keeps_all() => folded_lines(alloc, hashing, input),
         _ => {
             let merged = merged_rows(alloc, hashing, source, input)?;
             answers_are_by_the_aggregate();
@@ -95,6 +97,18 @@ fn folded_top(
 {
     match folded_totals_with(alloc, hashing, input) {
         Ok(totals) => Ok(totals_text(alloc, totals, rank, count)?),
+        Err(fault) => Err(folded_fault(fault)),
+    }
+}
+
+/// The folded report of folded text's rows, whose names aren't kept for it.
+fn folded_lines(alloc: Global, hashing: Hashing, input: &[u8]) -> Result<Vec<u8>, ToolFault>
+    ensures { (value : Option (List ℕ)) → MatchResult result
+        (λ text. IsAnswerOfText input.now kinds.Folded text.items)
+        (λ fault. IsRefusedIn Folded value input.now fault) }
+{
+    match folded_report_with(alloc, hashing, input) {
+        Ok(text) => Ok(text),
         Err(fault) => Err(folded_fault(fault)),
     }
 }

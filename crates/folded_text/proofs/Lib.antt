@@ -3,8 +3,11 @@ pub mod Counts
 pub mod FirstFault
 pub mod FrameNames
 pub mod Lines
+pub mod MergedLines
 pub mod Pieces
 pub mod Reading
+pub mod StackOrder
+pub mod TextRows
 pub mod TextSums
 pub mod WorkedTexts
 pub mod Writing

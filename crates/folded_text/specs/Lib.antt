@@ -1,3 +1,5 @@
 pub mod FoldedText
 pub mod KnownNames
+pub mod StackOrder
+pub mod TextRows
 pub mod TextSums

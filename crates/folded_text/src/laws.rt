@@ -1,12 +1,19 @@
 //! Laws of folded text, each the contract of a function that does nothing. A caller calls one to use its law.
 
-ghost use Rattle.std.specs.Prelude.{◌^◌, ◌<◌, All, List};
+ghost use Rattle.std.specs.Prelude.{ℕ, ◌≡◌, ◌^◌, ◌<◌, All, List};
 ghost use Rattle.profile_rows.specs.declared.weighted_stacks.WeightedStack.{WeightedStack};
-ghost use Rattle.profile_rows.specs.Rows.{IsBatchRow, total_of};
-ghost use Rattle.folded_text.specs.FoldedText.{IsFoldedText, rows_text};
+ghost use Rattle.profile_rows.specs.Rows.{IsBatchRow, stack_cmp, total_of};
+ghost use Rattle.folded_text.specs.FoldedText.{IsFoldedText, frames_of, rows_text};
+ghost use Rattle.folded_text.specs.StackOrder.{IsJoined, stack_text_cmp};
 
 /// The text of rows that a batch can hold is folded text of exactly these rows, also of those of weight 0.
 pub fn written_rows_read_back()
     ensures { (rows : List WeightedStack) → All IsBatchRow rows → total_of rows < 2 ^ 63
         → IsFoldedText (rows_text rows) rows }
+{}
+
+/// Stack texts without empty frames, compared by their bytes with the semicolon lowest, are in the order of their stacks.
+pub fn stack_texts_are_in_the_order_of_stacks()
+    ensures { (text other : List ℕ) → IsJoined text → IsJoined other
+        → stack_text_cmp text other ≡ stack_cmp (frames_of text) (frames_of other) }
 {}

@@ -7,6 +7,8 @@ pub mod laws;
 mod merged_text;
 mod stack_frames;
 mod taking;
+mod text_order;
+mod text_rows;
 mod text_totals;
 mod written;
 
@@ -14,5 +16,6 @@ pub use folded::{FoldedFault, Spelled, read_folded, read_folded_with, read_line}
 pub use merged_text::{merge_folded, merge_folded_with};
 pub use stack_frames::Frames;
 pub use taking::{LineTaker, take_lines};
+pub use text_rows::{folded_report, folded_report_with};
 pub use text_totals::{folded_totals, folded_totals_with};
 pub use written::{write_folded, write_stacks};

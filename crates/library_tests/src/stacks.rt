@@ -5,8 +5,8 @@ use crate::helpers::{pairs_of, pairs_text, rows_of, stack_of, text_of, weights_o
 use profile_rows::CountedRows;
 use stack_text::{
     Batch, FoldedFault, FrameTotals, Hashing, MAX_DEPTH, MAX_TOTAL, Name, NameFault, NoMemory,
-    PushFault, Stack, WeightedStacks, Weights, Width, aggregate, folded_totals, kept_totals,
-    merge_folded, merge_folded_with, read_folded, write_stacks,
+    PushFault, Stack, WeightedStacks, Weights, Width, aggregate, folded_report, folded_totals,
+    kept_totals, merge_folded, merge_folded_with, read_folded, write_stacks,
 };
 use std::alloc::Global;
 use std::hash::BuildHasher;
@@ -172,6 +172,18 @@ fn lines_of_one_stack_are_merged(rt: HostRuntime) -> Result<(), Fail> {
         write_stacks(rt.alloc(), &merged)?.as_slice(),
         b"a;b 4\nc 2\n".as_slice()
     );
+    Ok(())
+}
+
+#[test]
+fn folded_report_is_in_the_order_of_stacks(rt: HostRuntime) -> Result<(), Fail> {
+    for text in [
+        "b;c 1\na!;x 2\na;b 1\nb;c 3\nx 0\n 4\n",
+        ";b;;c; 1\na!;x 2\na;b 1\nb;c 3\nx 0\n 4\n",
+    ] {
+        let report = folded_report(rt.alloc(), text.as_bytes())?;
+        assert_eq!(rt; report.as_slice(), b" 4\na;b 1\na!;x 2\nb;c 4\n".as_slice());
+    }
     Ok(())
 }
 

@@ -1,6 +1,6 @@
 //! Laws of the definitions that the contracts speak of, each the contract of a function that does nothing.
 
-pub use folded_text::laws::written_rows_read_back;
+pub use folded_text::laws::{stack_texts_are_in_the_order_of_stacks, written_rows_read_back};
 pub use profile_rows::laws::{
     aggregate_has_weights, aggregate_is_by_weights, aggregate_of_its_rows, aggregate_of_more_rows,
     kept_rows_are_by_the_aggregate, rectangles_are_by_the_aggregate, rows_at_of_more_rows,

@@ -6,8 +6,8 @@
 pub mod laws;
 
 pub use folded_text::{
-    FoldedFault, folded_totals, folded_totals_with, merge_folded, merge_folded_with, read_folded,
-    read_folded_with, write_folded, write_stacks,
+    FoldedFault, folded_report, folded_report_with, folded_totals, folded_totals_with,
+    merge_folded, merge_folded_with, read_folded, read_folded_with, write_folded, write_stacks,
 };
 pub use profile_rows::{
     Batch, FrameTotal, FrameTotals, Hashing, MAX_DEPTH, MAX_TOTAL, MAX_WIDTH, Name, NameFault,

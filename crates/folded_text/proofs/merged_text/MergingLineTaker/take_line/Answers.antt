@@ -1,13 +1,10 @@
 -- A row more of the text is a row more of the merged.
-use Rattle.std.proofs.Common.{◌+◌, ◌^◌, ◌<◌, ◌++◌, ◌∷◌, [], Result, Ok, Err, refl, subst}
-use Rattle.std.specs.Prelude.{IfErr, OnOk}
+use Rattle.std.proofs.Common.{◌+◌, ◌^◌, ◌<◌, ◌++◌, ◌∷◌, [], refl, subst}
+use Rattle.std.specs.Prelude.{IfErr}
 use Rattle.profile_rows.proofs.MergedRows.{AreMergedSoFar-row}
 use Rattle.folded_text.specs.FoldedText.{IsLineFault}
+use Rattle.folded_text.proofs.MergedLines.{both}
 use Rattle.folded_text.proofs.merged_text.MergingLineTaker.take_line.Goals as goal
-
-both : {T E A B C : Type 0} (result : Result T E) → OnOk result A → OnOk result B → (A → B → C) → OnOk result C
-both (Ok done) a b join = join a b
-both (Err fault) a b join = tt
 
 pub returns-clause-taken : goal.returns-clause-taken
 returns-clause-taken c = λ rows is fits.

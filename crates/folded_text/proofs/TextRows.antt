@@ -1,0 +1,262 @@
+-- Rows by their stack texts, and the report that they make.
+use Rattle.std.proofs.Common.{◌≡◌, ℕ, ◌+◌, ◌<◌, ◌≤◌, ◌^◌, Bool, true, false, cond, eqb, List, [], ◌∷◌, ◌++◌, length, filter, get_or, set, refl, sym, ap, ◌∙◌, subst, inl, inr, arith, length-append}
+use Rattle.std.specs.Prelude.{All, IsPermutation, IsSorted, MatchResult, Option, Some, None, Result, Ok, Err, ◌==◌, not, sum_by}
+use Rattle.std.specs.List.{AllByRecursion, join_with_byte, slice_split}
+use Rattle.std.specs.Fmt.{decimal}
+use Rattle.std.specs.HashMap as hash
+use Rattle.std.specs.Str.{bytes_eq}
+use Rattle.std.specs.declared.cmp.Ordering.{Ordering}
+use Rattle.std.specs.declared.cmp.Ordering.TheVariants.{Less, Equal, Greater}
+use Rattle.std.specs.Ordering.{is_lt, ordering_reverse}
+use Rattle.std.proofs.lemmas.List.{get_or-map, length-map, map-append, map-set}
+use Rattle.std.proofs.lemmas.List.Elements.{All-from_recursion, All-push, All-set, recursion_from_All}
+use Rattle.std.proofs.lemmas.List.Sorted.{All-permutation, IsPermutation-map, ranks_by, sorted_far, sum_by-IsPermutation}
+use Rattle.std.proofs.lemmas.List.Splits.{join_with_byte-slice_split, length-slice_split}
+use Rattle.std.proofs.lemmas.List.Sums.{get_or-le-sum_by, sum_by-cons, sum_by-set, sum_by_push}
+use Rattle.std.proofs.lemmas.Map.Text.{hash_map_updates_str}
+use borrow.Author.Tests.{ne_eqb}
+use Prim.Native.Nat.{zero, suc}
+use Rattle.profile_rows.specs.declared.weighted_stacks.WeightedStack.{WeightedStack}
+use Rattle.profile_rows.specs.Aggregate.{AreWeighty, IsAscending, rows_of}
+use Rattle.profile_rows.specs.Merging.{ArePlacedBy, RowsBySpelling, row_at, row_spelled, with_added_at}
+use Rattle.profile_rows.specs.Rows.{is_same_stack, stack_cmp, total_of, weight_if}
+use Rattle.profile_rows.proofs.InOrder.{rows_of-aggregate}
+use Rattle.profile_rows.proofs.MergedRows.{AddsRow-added, ArePlacedBy-added, ArePlacedBy-push}
+use Rattle.profile_rows.proofs.RowLaws.{aggregate_of-same, stack_cmp_apart, stack_cmp_total}
+use Rattle.profile_rows.proofs.SameNames.{is_same_name-self, same_from_is_same_name}
+use Rattle.folded_text.specs.declared.folded.FoldedFault.{FoldedFault}
+use Rattle.folded_text.specs.declared.folded.FoldedFault.TheVariants.{NoMemory}
+use Rattle.folded_text.specs.FoldedText.{IsFoldedText, IsWorkFault, folded_text_of, frames_of, row_text, rows_text}
+use Rattle.folded_text.specs.StackOrder.{IsJoined, stack_text_cmp}
+use Rattle.folded_text.specs.declared.text_rows.TextRow.{TextRow}
+use Rattle.folded_text.specs.TextRows.{AreKnownTexts, AreTextRows, IsReportOfText, one_if_known, rows_with, spelled_row, spelled_rows, text_lines}
+use Rattle.folded_text.proofs.Reading.{IsFirstFault-folded, IsFoldedText-same}
+use Rattle.folded_text.proofs.StackOrder.{joined_texts-cmp, stack_text_cmp_total}
+
+-- ---- texts that are their frames, joined
+
+abbrev full : List (List ℕ) → List (List ℕ)
+full parts = filter (λ part. not (length part == 0)) parts
+
+length-joined : (part : List ℕ) (parts : List (List ℕ)) → length (join_with_byte 59 (part ∷ parts)) + 1 ≡ sum_by length (part ∷ parts) + length (part ∷ parts)
+length-joined part [] = omega (arith, sum_by-cons length part [])
+length-joined part (next ∷ parts) =
+    omega (arith, sum_by-cons length part (next ∷ parts), length-append part (59 ∷ join_with_byte 59 (next ∷ parts)), length-joined next parts)
+
+length-joined_some : (parts : List (List ℕ)) → 0 < length parts → length (join_with_byte 59 parts) + 1 ≡ sum_by length parts + length parts
+length-joined_some [] some = absurd (omega arith)
+length-joined_some (part ∷ parts) some = length-joined part parts
+
+full-some : (byte : ℕ) (part : List ℕ) (parts : List (List ℕ)) → full ((byte ∷ part) ∷ parts) ≡ (byte ∷ part) ∷ full parts
+full-some byte part parts = ap (λ b. cond (not b) ((byte ∷ part) ∷ full parts) (full parts)) (ne_eqb (length (byte ∷ part)) 0 (λ e. omega (arith, e)))
+
+-- empty parts have no bytes
+full-bytes : (parts : List (List ℕ)) → sum_by length (full parts) ≡ sum_by length parts
+full-bytes [] = refl
+full-bytes ([] ∷ parts) = omega (arith, full-bytes parts, sum_by-cons length [] parts)
+full-bytes ((byte ∷ part) ∷ parts) = omega (arith, ap (sum_by length) (full-some byte part parts), full-bytes parts, sum_by-cons length (byte ∷ part) (full parts), sum_by-cons length (byte ∷ part) parts)
+
+full-fewer : (parts : List (List ℕ)) → length (full parts) ≤ length parts
+full-fewer [] = omega arith
+full-fewer ([] ∷ parts) = let rest = full-fewer parts in omega arith
+full-fewer ((byte ∷ part) ∷ parts) = let rest = full-fewer parts in omega (arith, ap length (full-some byte part parts), rest)
+
+full-all : (parts : List (List ℕ)) → length (full parts) ≡ length parts → full parts ≡ parts
+full-all [] same = refl
+full-all ([] ∷ parts) same = let rest = full-fewer parts in absurd (omega (arith, same))
+full-all ((byte ∷ part) ∷ parts) same =
+    full-some byte part parts ∙ ap (λ rest. (byte ∷ part) ∷ rest) (full-all parts (omega (arith, ap length (full-some byte part parts), same)))
+
+abbrev parts_of : List ℕ → List (List ℕ)
+parts_of text = slice_split (λ byte. eqb byte 59) text
+
+parts-length : (text : List ℕ) → length text + 1 ≡ sum_by length (parts_of text) + length (parts_of text)
+parts-length text =
+    ap (λ t. length t + 1) (sym (join_with_byte-slice_split 59 text))
+    ∙ length-joined_some (parts_of text) (let some = length-slice_split (λ byte. eqb byte 59) text in omega (arith, some))
+
+-- the bytes of the frames, and one for each, are no more than those of the text and one
+pub frames-within : (text : List ℕ) → sum_by length (frames_of text) + length (frames_of text) ≤ length text + 1
+frames-within text = let few = full-fewer (parts_of text) in omega (arith, parts-length text, full-bytes (parts_of text), few)
+
+-- where they are as many, no part was left out
+pub IsJoined-measured : (text : List ℕ) → sum_by length (frames_of text) + length (frames_of text) ≡ length text + 1 → IsJoined text
+IsJoined-measured text whole =
+    let all : full (parts_of text) ≡ parts_of text = full-all (parts_of text) (omega (arith, whole, parts-length text, full-bytes (parts_of text))) in
+    sym (join_with_byte-slice_split 59 text) ∙ ap (join_with_byte 59) (sym all)
+
+-- ---- rows known by their texts
+
+abbrev no_row : WeightedStack
+no_row = record { stack = []; weight = 0 }
+
+abbrev has : List ℕ → TextRow → ℕ
+has text row = cond (bytes_eq row.text.now text) 1 0
+
+module _ (rows : List TextRow) (at weight : ℕ) (found : TextRow) (lt : at < length rows) (is : found ≡ get_or rows at found) where
+  abbrev more : TextRow
+  more = record { text = found.text; weight = found.weight + weight }
+
+  in_rows : at < length (spelled_rows rows)
+  in_rows = omega (arith, length-map rows spelled_row, lt)
+
+  here : row_at (spelled_rows rows) at ≡ spelled_row found
+  here = get_or-map spelled_row rows at found no_row lt ∙ ap spelled_row (sym is)
+
+  pub spelled-added : spelled_rows (set rows at more) ≡ with_added_at (spelled_rows rows) at weight
+  spelled-added = map-set spelled_row rows at more
+      ∙ ap (λ (r : WeightedStack). set (spelled_rows rows) at (let next : WeightedStack = record { stack = r.stack; weight = r.weight + weight } in next)) (sym here)
+
+  pub weight-within : found.weight ≤ total_of (spelled_rows rows)
+  weight-within =
+      let most = get_or-le-sum_by (λ (r : WeightedStack). r.weight) (spelled_rows rows) at no_row in_rows in
+      let same : (row_at (spelled_rows rows) at).weight ≡ found.weight = ap (λ (r : WeightedStack). r.weight) here in
+      omega (arith, most, same)
+
+  pub AreKnownTexts-added : (known : RowsBySpelling) (total : ℕ) (are_joined : Bool) → total + weight < 2 ^ 63 → AreKnownTexts known rows total are_joined → AreKnownTexts known (set rows at more) (total + weight) are_joined
+  AreKnownTexts-added known total are_joined fits so_far =
+      let total_is = so_far.total_is in
+      let row : WeightedStack = record { stack = (row_at (spelled_rows rows) at).stack; weight = weight } in
+      let adds = AddsRow-added (spelled_rows rows) at weight row in_rows (omega (arith, total_is, fits)) refl in
+      record {
+        placed = subst (ArePlacedBy frames_of known) (sym spelled-added) (ArePlacedBy-added frames_of known (spelled_rows rows) at weight in_rows so_far.placed);
+        counted = λ text.
+            let moved = sum_by-set (has text) rows at more found lt in
+            let same : has text (get_or rows at found) ≡ has text more = ap (has text) (sym is) in
+            let before = so_far.counted text in
+            omega (arith, moved, same, before);
+        weighty = All-set (λ (row : TextRow). 0 < row.weight) rows at more
+            (let some : 0 < found.weight = subst (λ (r : TextRow). 0 < r.weight) (sym is) (so_far.weighty at found lt) in omega (arith, some)) so_far.weighty;
+        joined = λ e. All-set (λ (row : TextRow). IsJoined row.text.now) rows at more
+            (subst (λ (r : TextRow). IsJoined r.text.now) (sym is) (so_far.joined e at found lt)) (so_far.joined e);
+        total_is = ap (λ t. t + weight) total_is ∙ sym adds.total ∙ ap total_of (sym spelled-added);
+        fits = fits;
+      }
+
+pub spelled-push : (rows all : List TextRow) (row : TextRow) → all ≡ rows ++ row ∷ [] → spelled_rows all ≡ spelled_rows rows ++ spelled_row row ∷ []
+spelled-push rows all row is = ap spelled_rows is ∙ map-append spelled_row rows (row ∷ [])
+
+pub AreKnownTexts-push : (known after : RowsBySpelling) (rows all : List TextRow) (row : TextRow) (total place : ℕ) (are_joined both : Bool) → place ≡ length rows
+    → hash.UpdatesBy (λ x y. bytes_eq x.now y.now) (λ k. bytes_eq row.text.now k.now) known after (Some place) → all ≡ rows ++ row ∷ [] → row_spelled known row.text.now ≡ None
+    → length (frames_of row.text.now) ≤ 65535 → 0 < row.weight → total + row.weight < 2 ^ 63 → (both ≡ true → (are_joined ≡ true) × IsJoined row.text.now)
+    → AreKnownTexts known rows total are_joined → AreKnownTexts after all (total + row.weight) both
+AreKnownTexts-push known after rows all row total place are_joined both end updates is none deep some fits joins so_far = record {
+  placed = ArePlacedBy-push frames_of known after (spelled_rows rows) (spelled_rows all) row.text.now row.weight place (end ∙ sym (length-map rows spelled_row)) updates (spelled-push rows all row is) deep so_far.placed;
+  counted = λ text.
+      let leads = hash_map_updates_str row.text.now known after (Some place) updates text in
+      let before = so_far.counted text in
+      ap (rows_with text) is ∙ sum_by_push (has text) rows row
+      ∙ elim (bytes_eq row.text.now text) as (λ b. bytes_eq row.text.now text ≡ b → rows_with text rows + cond b 1 0 ≡ one_if_known (cond b (Some place) (row_spelled known text))) [
+        | true ↦ λ e.
+            let unknown : row_spelled known text ≡ None = subst (λ t. row_spelled known t ≡ None) (same_from_is_same_name row.text.now text e) none in
+            let nothing : rows_with text rows ≡ 0 = before ∙ ap one_if_known unknown in
+            omega (arith, nothing)
+        | false ↦ λ e. omega (arith, before)
+      ] refl
+      ∙ ap one_if_known (sym leads);
+  weighty = subst (All (λ (row : TextRow). 0 < row.weight)) (sym is) (All-push (λ (row : TextRow). 0 < row.weight) rows row so_far.weighty some);
+  joined = λ e. subst (All (λ (row : TextRow). IsJoined row.text.now)) (sym is)
+      (All-push (λ (row : TextRow). IsJoined row.text.now) rows row (so_far.joined (joins e).0) (joins e).1);
+  total_is = ap (λ t. t + row.weight) so_far.total_is ∙ sym (sum_by_push (λ (r : WeightedStack). r.weight) (spelled_rows rows) (spelled_row row)) ∙ ap total_of (sym (spelled-push rows all row is));
+  fits = fits;
+}
+
+-- no text stands twice where each is counted by one look-up
+pub AreTextRows-known : (known : RowsBySpelling) (rows : List TextRow) (total : ℕ) (are_joined : Bool) → are_joined ≡ true → AreKnownTexts known rows total are_joined → AreTextRows rows
+AreTextRows-known known rows total are_joined e so_far = record {
+  weighty = so_far.weighty;
+  once = λ text. let count = so_far.counted text in let most = at_most (row_spelled known text) in omega (arith, count, most);
+  joined = so_far.joined e;
+}
+  where
+    at_most : (o : Option ℕ) → one_if_known o ≤ 1
+    at_most None = omega arith
+    at_most (Some at) = omega arith
+
+-- ---- rows in the order of their texts
+
+abbrev pub by_text : TextRow → TextRow → Ordering
+by_text row other = stack_text_cmp row.text.now other.text.now
+
+AreTextRows-moved : (rows sorted : List TextRow) → IsPermutation rows sorted → AreTextRows rows → AreTextRows sorted
+AreTextRows-moved rows sorted moved texts = record {
+  weighty = All-permutation (λ (row : TextRow). 0 < row.weight) rows sorted moved texts.weighty;
+  once = λ text. let same = sum_by-IsPermutation (has text) rows sorted moved in let one = texts.once text in omega (arith, same, one);
+  joined = All-permutation (λ (row : TextRow). IsJoined row.text.now) rows sorted moved texts.joined;
+}
+
+has-own : (text : List ℕ) (row : TextRow) → row.text.now ≡ text → has text row ≡ 1
+has-own text row same = ap (λ b. cond b 1 0) (subst (λ t. bytes_eq row.text.now t ≡ true) same (is_same_name-self row.text.now))
+
+at_least : (text : List ℕ) (rows : List TextRow) (j : ℕ) (d : TextRow) → j < length rows → (get_or rows j d).text.now ≡ text → 1 ≤ rows_with text rows
+at_least text rows j d lt same = let most = get_or-le-sum_by (has text) rows j d lt in omega (arith, most, has-own text (get_or rows j d) same)
+
+apart : (rows : List TextRow) (i j : ℕ) (d : TextRow) → i < j → j < length rows → ((text : List ℕ) → rows_with text rows ≤ 1) → (get_or rows i d).text.now ≡ (get_or rows j d).text.now → ⊥
+apart [] i j d before lt once same = absurd (omega arith)
+apart (row ∷ rows) i zero d before lt once same = absurd (omega arith)
+apart (row ∷ rows) zero (suc j) d before lt once same =
+    let text = row.text.now in
+    let count = sum_by-cons (has text) row rows in
+    let other = at_least text rows j d (omega arith) (sym same) in
+    let one = once text in
+    absurd (omega (arith, count, other, one, has-own text row refl))
+apart (row ∷ rows) (suc i) (suc j) d before lt once same =
+    apart rows i j d (omega arith) (omega arith) (λ text. let count = sum_by-cons (has text) row rows in let one = once text in omega (arith, count, one)) same
+
+strictly : (o p : Ordering) → p ≡ ordering_reverse o → is_lt o ≡ false → (o ≡ Equal → ⊥) → p ≡ Less
+strictly Less p e low other = cc
+strictly Equal p e low other = absurd (other refl)
+strictly Greater p e low other = e
+
+first : (rows : List TextRow) → 0 < length rows → TextRow
+first [] some = absurd (omega arith)
+first (row ∷ rows) some = row
+
+ascending : (rows : List TextRow) → AreTextRows rows → IsSorted by_text rows → IsAscending (spelled_rows rows)
+ascending rows texts sorted = λ i j d lt short.
+    let within : j < length rows = omega (arith, length-map rows spelled_row, short) in
+    let e = first rows (omega (arith, within)) in
+    let row = get_or rows i e in
+    let other = get_or rows j e in
+    let joined : IsJoined row.text.now = texts.joined i e (omega (arith, lt, within)) in
+    let also : IsJoined other.text.now = texts.joined j e within in
+    let low = sorted_far (λ a b. is_lt (by_text a b)) (ranks_by stack_text_cmp_total (λ (row : TextRow). row.text.now)) rows sorted i j e (omega (arith, lt)) within in
+    let less : stack_cmp (frames_of row.text.now) (frames_of other.text.now) ≡ Less =
+    strictly (stack_cmp (frames_of other.text.now) (frames_of row.text.now)) (stack_cmp (frames_of row.text.now) (frames_of other.text.now))
+    (stack_cmp_total.antisymm (frames_of row.text.now) (frames_of other.text.now))
+    (ap is_lt (sym (joined_texts-cmp other.text.now row.text.now also joined)) ∙ low)
+    (λ tie. apart rows i j e lt within texts.once
+    (joined ∙ ap (join_with_byte 59) (sym (stack_cmp_apart (frames_of other.text.now) (frames_of row.text.now) tie)) ∙ sym also)) in
+    ap (λ (r : WeightedStack). stack_cmp r.stack (get_or (spelled_rows rows) j d).stack) (get_or-map spelled_row rows i e d (omega (arith, lt, within)))
+    ∙ ap (λ (r : WeightedStack). stack_cmp (frames_of row.text.now) r.stack) (get_or-map spelled_row rows j e d within)
+    ∙ less
+
+weighty : (rows : List TextRow) → AllByRecursion (λ (row : TextRow). 0 < row.weight) rows → AllByRecursion (λ (row : WeightedStack). 0 < row.weight) (spelled_rows rows)
+weighty [] all = tt
+weighty (row ∷ rows) all = (all.0, weighty rows all.1)
+
+lines-joined : (rows : List TextRow) → AllByRecursion (λ (row : TextRow). IsJoined row.text.now) rows → text_lines rows ≡ rows_text (spelled_rows rows)
+lines-joined [] all = refl
+lines-joined (row ∷ rows) all =
+    ap (λ text. (text ++ 32 ∷ decimal row.weight ++ 10 ∷ []) ++ text_lines rows) all.0
+    ∙ ap (λ rest. row_text (spelled_row row) ++ rest) (lines-joined rows all.1)
+
+-- the lines of the rows in the order of their texts are the folded report
+pub lines-sorted : (rows sorted : List TextRow) → AreTextRows rows → IsPermutation rows sorted → IsSorted by_text sorted → text_lines sorted ≡ folded_text_of (spelled_rows rows)
+lines-sorted rows sorted texts moved up =
+    let after = AreTextRows-moved rows sorted moved texts in
+    let some : AreWeighty (spelled_rows sorted) =
+    All-from_recursion (λ (row : WeightedStack). 0 < row.weight) (spelled_rows sorted) (weighty sorted (recursion_from_All (λ (row : TextRow). 0 < row.weight) sorted after.weighty)) in
+    lines-joined sorted (recursion_from_All (λ (row : TextRow). IsJoined row.text.now) sorted after.joined)
+    ∙ ap rows_text (sym (rows_of-aggregate (spelled_rows sorted) (ascending sorted after up) some))
+    ∙ ap (λ weights. rows_text (rows_of weights)) (aggregate_of-same (spelled_rows sorted) (spelled_rows rows)
+    (λ stack. sum_by-IsPermutation (weight_if (is_same_stack stack)) (spelled_rows rows) (spelled_rows sorted) (IsPermutation-map spelled_row rows sorted moved)))
+
+-- what reporting answers decides the report of the rows that a text is folded text of
+pub only_report : {T : Type 0} (bytes : T → List ℕ) (text : List ℕ) (outcome : Result T FoldedFault) → MatchResult outcome (λ report. IsReportOfText text (bytes report)) (IsWorkFault text)
+    → (rows : List WeightedStack) → IsFoldedText text rows → MatchResult outcome (λ report. bytes report ≡ folded_text_of rows) (λ fault. fault ≡ NoMemory)
+only_report bytes text (Ok report) reported rows folded = reported.whole ∙ ap folded_text_of (IsFoldedText-same text reported.rows rows reported.folded folded)
+only_report bytes text (Err fault) reported rows folded = elim reported [
+  | inl first ↦ IsFirstFault-folded text rows fault folded first
+  | inr late ↦ late.0
+]

@@ -1,0 +1,64 @@
+-- Rows whose stacks are known by their texts.
+use Rattle.std.specs.Prelude.{ℕ, ◌≡◌, ◌<◌, ◌≤◌, ◌^◌, All, Bool, true, List, ◌++◌, ◌∷◌, [], Option, Some, None, flat_map, map, sum_by, if◌then◌else◌}
+use Rattle.std.specs.Fmt.{decimal}
+use Rattle.std.specs.Str.{bytes_eq}
+use Rattle.profile_rows.specs.declared.weighted_stacks.WeightedStack.{WeightedStack}
+use Rattle.profile_rows.specs.Aggregate.{aggregate_of}
+use Rattle.profile_rows.specs.Merging.{ArePlacedBy, RowsBySpelling, row_spelled}
+use Rattle.profile_rows.specs.Rows.{total_of}
+use Rattle.folded_text.specs.declared.text_rows.TextRow.{TextRow}
+use Rattle.folded_text.specs.FoldedText.{IsFoldedText, folded_text_of, frames_of}
+use Rattle.folded_text.specs.StackOrder.{IsJoined}
+
+-- the row that a stack text and a weight spell
+abbrev pub spelled_row : TextRow → WeightedStack
+spelled_row row = record { stack = frames_of row.text.now; weight = row.weight }
+
+abbrev pub spelled_rows : List TextRow → List WeightedStack
+spelled_rows rows = map spelled_row rows
+
+-- how many rows have this stack text
+abbrev pub rows_with : List ℕ → List TextRow → ℕ
+rows_with text rows = sum_by (λ (row : TextRow). if bytes_eq row.text.now text then 1 else 0) rows
+
+-- one row where the text is known, and else none
+abbrev pub one_if_known : Option ℕ → ℕ
+one_if_known None = 0
+one_if_known (Some at) = 1
+
+-- Rows of weight above 0, one for each stack text, whose stack texts have no empty frames: they are in the order of
+-- stacks where their texts are in the order of texts.
+pub record AreTextRows (rows : List TextRow) : Type 0 where
+  pub weighty : All (λ (row : TextRow). 0 < row.weight) rows
+  pub once : (text : List ℕ) → rows_with text rows ≤ 1
+  pub joined : All (λ (row : TextRow). IsJoined row.text.now) rows
+
+-- Rows of weight above 0 so far: each is known by its text, and none stands twice. `are_joined` says that no stack text
+-- has an empty frame.
+pub record AreKnownTexts (known : RowsBySpelling) (rows : List TextRow) (total : ℕ) (are_joined : Bool) : Type 0 where
+  pub placed : ArePlacedBy frames_of known (spelled_rows rows)
+  pub counted : (text : List ℕ) → rows_with text rows ≡ one_if_known (row_spelled known text)
+  pub weighty : All (λ (row : TextRow). 0 < row.weight) rows
+  pub joined : are_joined ≡ true → All (λ (row : TextRow). IsJoined row.text.now) rows
+  pub total_is : total ≡ total_of (spelled_rows rows)
+  pub fits : total < 2 ^ 63
+
+-- the rows add up to what the text is folded text of
+pub record AreRowsOfText (text : List ℕ) (found : List TextRow) : Type 0 where
+  pub texts : AreTextRows found
+  pub rows : List WeightedStack
+  pub folded : IsFoldedText text rows
+  pub same : aggregate_of (spelled_rows found) ≡ aggregate_of rows
+
+-- a row as a line of folded text, its stack as its text has it
+abbrev pub text_line : TextRow → List ℕ
+text_line row = row.text.now ++ 32 ∷ decimal row.weight ++ 10 ∷ []
+
+abbrev pub text_lines : List TextRow → List ℕ
+text_lines rows = flat_map text_line rows
+
+-- the report is that of the rows that the text is folded text of
+pub record IsReportOfText (text report : List ℕ) : Type 0 where
+  pub rows : List WeightedStack
+  pub folded : IsFoldedText text rows
+  pub whole : report ≡ folded_text_of rows

@@ -1,0 +1,63 @@
+//! Stack texts in the order of their stacks.
+
+ghost use Rattle.std.specs.Prelude.{◌≡◌};
+ghost use Rattle.folded_text.specs.StackOrder.{place_of, stack_text_cmp};
+
+use std::cmp::Ordering;
+
+/// Where a byte of a stack text stands: the semicolon before each byte of a name.
+fn byte_place(byte: u8) -> u16
+    ensures { result ≡ place_of byte }
+{
+    if byte == b';' { 0 } else { byte as u16 + 1 }
+}
+
+/// What is left of two texts past the chunks with which both begin.
+fn past_equal_chunks<'a>(left: &'a [u8], right: &'a [u8]) -> (&'a [u8], &'a [u8])
+    ensures { stack_text_cmp result.0.now result.1.now ≡ stack_text_cmp left.now right.now }
+{
+    let (mut rest, mut others) = (left, right);
+    while let Some((chunk, behind)) = rest.split_first_chunk::<32>() {
+        let Some((other, other_behind)) = others.split_first_chunk::<32>() else {
+            return (rest, others);
+        };
+        if *chunk != *other {
+            return (rest, others);
+        }
+        rest = behind;
+        others = other_behind;
+    }
+    (rest, others)
+}
+
+/// Compares texts byte by byte.
+fn cmp_bytes(left: &[u8], right: &[u8]) -> Ordering
+    ensures { result ≡ stack_text_cmp left.now right.now }
+{
+    let (mut rest, mut others) = (left, right);
+    while let Some((byte, behind)) = rest.split_first() {
+        let Some((other, other_behind)) = others.split_first() else {
+            return Ordering::Greater;
+        };
+        let found = byte_place(*byte).cmp(&byte_place(*other));
+        if found.is_ne() {
+            return found;
+        }
+        rest = behind;
+        others = other_behind;
+    }
+    if others.is_empty() {
+        Ordering::Equal
+    } else {
+        Ordering::Less
+    }
+}
+
+/// Compares stack texts byte by byte, the semicolon lowest. Those without empty frames are then in the order of their
+/// stacks.
+pub(crate) fn cmp_stack_texts(left: &str, right: &str) -> Ordering
+    ensures { result ≡ stack_text_cmp left.now right.now }
+{
+    let (left, right) = past_equal_chunks(left.as_bytes(), right.as_bytes());
+    cmp_bytes(left, right)
+}

@@ -12,7 +12,8 @@ pub fn written_rows_read_back()
         → IsFoldedText (rows_text rows) rows }
 {}
 
-/// Stack texts without empty frames, compared by their bytes with the semicolon lowest, are in the order of their stacks.
+/// Stack texts without empty frames, compared by their bytes with the semicolon lowest, are in the order of their
+/// stacks.
 pub fn stack_texts_are_in_the_order_of_stacks()
     ensures { (text other : List ℕ) → IsJoined text → IsJoined other
         → stack_text_cmp text other ≡ stack_cmp (frames_of text) (frames_of other) }

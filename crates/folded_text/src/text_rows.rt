@@ -222,8 +222,8 @@ fn report_of_stacks(alloc: Global, hashing: Hashing, text: &[u8]) -> Result<Vec<
     Ok(write_stacks(alloc, &sums)?)
 }
 
-/// The folded report of the rows that [`read_folded`](crate::read_folded) reads: each stack of weight above 0 once, with
-/// its weight, in the order of stacks. Rows are put together and sorted by their texts, so that no name is kept.
+/// The folded report of the rows that [`read_folded`](crate::read_folded) reads: each stack of weight above 0 once,
+/// with its weight, in the order of stacks. Rows are put together and sorted by their texts, so that no name is kept.
 ///
 /// # Errors
 ///

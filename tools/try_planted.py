@@ -2,11 +2,11 @@
 
     python3 tools/try_planted.py [CRATE..]
 
-An edit is a file with a line 'file: src/NAME.rt' and pairs of lines 'old: TEXT' and 'new: TEXT', as rt reads it. The gate tries those
-of `must-fail/`, each in a check of its own. Most of such a check is loading. Here one check of a copy of the crate has all wrong bodies
-at once, at most one for each function; a wrong body is refused where the check names a goal of its function that isn't proved. Callers
-of a function that isn't proved may be left out of a check, so what isn't refused is tried again without those that are. What no check
-refuses is told, and the exit status is 1.
+An edit is a file with a line 'file: src/NAME.rt' and pairs of lines 'old: TEXT' and 'new: TEXT', as rt reads it. The
+gate tries those of `must-fail/`, each in a check of its own. Most of such a check is loading. Here one check of a copy
+of the crate has all wrong bodies at once, at most one for each function; a wrong body is refused where the check says
+that its function isn't proved, and not for a callee's sake. What isn't refused is tried again without those that are,
+and at last alone. What no check refuses is told, and the exit status is 1.
 
 The crate and those below it should be proved before (`rt check`): what a check kept is taken from there.
 """
@@ -23,8 +23,10 @@ ROOT = pathlib.Path(__file__).resolve().parent.parent
 FUNCTION = re.compile(r"^( *)(?:pub(?:\([a-z]+\))? )?(?:const )?fn (\w+)", re.MULTILINE)
 # The type of an `impl`, whose functions a check names by it, or by it with the trait's name behind.
 TYPE = re.compile(r"^impl(?:<[^>]*>)? (?:.* for )?(\w+)", re.MULTILINE)
-# What a check says at its end of a function that has a goal which isn't proved. Where it names a callee too, that may be why.
-UNPROVED = re.compile(r"^fn (\S+): (?:not proved|no proof: expected answers in [^;]+; `search` did not prove [^;]+)$", re.MULTILINE)
+# What a check says at its end of a function that has a goal which isn't proved. Where it names a callee too, that may
+# be why.
+OPEN = r"not proved|no proof: expected answers in [^;]+; `search` did not prove [^;]+"
+UNPROVED = re.compile(rf"^fn (\S+): (?:{OPEN})$", re.MULTILINE)
 
 
 class Edit:
@@ -54,7 +56,7 @@ class Edit:
 
 
 def function_at(text, place):
-    """The function whose text a place of a source stands in, the last one that begins before it, and its type, or empty texts."""
+    """The type and the name of the function that a place of a source stands in, the last one that begins before it."""
     before = text[: text.find("\n", place)]
     found = FUNCTION.findall(before)
     if not found:
@@ -64,8 +66,8 @@ def function_at(text, place):
 
 
 def refused(edit, output):
-    """Whether the check says that a function which the edit changes isn't proved, by a goal of its own. Where it changes none, it was alone
-    in the check, and any function will do."""
+    """Whether the check says that a function which the edit changes isn't proved, by a goal of its own. Where it changes
+    none, it was alone in the check, and any function will do."""
     if ("", "") in edit.functions:
         return bool(UNPROVED.search(output))
     paths = [it.split("::") for it in UNPROVED.findall(output)]
@@ -85,8 +87,8 @@ def checked(room, crate, edits):
         texts[edit.file] = edit.applied(texts.get(edit.file) or (crate / edit.file).read_text())
     for file, text in texts.items():
         (folder / file).write_text(text)
-    ran = subprocess.run(["rt", "check"], cwd=folder, stdout=subprocess.PIPE, stderr=subprocess.STDOUT, text=True, errors="replace")
-    return ran.stdout
+    both = {"stdout": subprocess.PIPE, "stderr": subprocess.STDOUT}
+    return subprocess.run(["rt", "check"], cwd=folder, text=True, errors="replace", **both).stdout
 
 
 def apart(edits):

@@ -74,8 +74,8 @@ impl Walk {
         Ok(false)
     }
 
-    /// The node that a walk entered last from this one, if its name may be this one, or the root. Whether it serves this
-    /// walk is for the caller to see.
+    /// The node that a walk entered last from this one, if its name may be this one, or the root. Whether it serves
+    /// this walk is for the caller to see.
     pub fn guess(&self, parent: u32, name: &Name) -> u32 {
         match self.guesses.get(parent as usize) {
             Some(guess) if guess.mark == mark_of(name) => guess.node,

@@ -14,8 +14,8 @@ const SHELF: usize = 65536;
 
 /// A list that only grows. Its items stand in pages of 256, the pages in groups of 16, the groups on shelves of 16, and
 /// each page, each group and each shelf may have several owners: [`share`](Pages::share) copies only the table of
-/// shelves. An item that is replaced or appended has its page, its group and its shelf copied before, unless nobody else
-/// owns them.
+/// shelves. An item that is replaced or appended has its page, its group and its shelf copied before, unless nobody
+/// else owns them.
 #[derive(Drop)]
 pub struct Pages<T> {
     alloc: Global,

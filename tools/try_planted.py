@@ -66,8 +66,8 @@ def function_at(text, place):
 
 
 def refused(edit, output):
-    """Whether the check says that a function which the edit changes isn't proved, by a goal of its own. Where it changes
-    none, it was alone in the check, and any function will do."""
+    """Whether the check says that a function of the edit isn't proved, by a goal of its own. An edit of no function was
+    alone in the check, and any function will do."""
     if ("", "") in edit.functions:
         return bool(UNPROVED.search(output))
     paths = [it.split("::") for it in UNPROVED.findall(output)]

@@ -1,15 +1,17 @@
 -- The weights of a batch's rows, added by one value after the other.
-use Rattle.std.proofs.Common.{◌≡◌, ℕ, ◌+◌, List, length, take, refl, sym, ap, ◌∙◌, subst, arith}
-use Rattle.profile_rows.specs.Values.{Row, rows_at}
+use Rattle.std.proofs.Common.{◌≡◌, ℕ, ◌+◌, ◌<◌, ◌^◌, List, [], ◌∷◌, length, take, refl, sym, ap, ◌∙◌, subst, arith}
+use Rattle.std.proofs.lemmas.List.{length-map, take_all}
+use Rattle.profile_rows.specs.Values.{Row, row_in, rows_at, value_of, weighing}
 use Rattle.call_tree.specs.declared.node.Node.{Node}
 use Rattle.profile_rows.specs.Rows.{total_of}
-use Rattle.call_tree.specs.State.{PlainTree, nodes_at, plain_at}
+use Rattle.call_tree.specs.State.{PlainTree, TreeState, credited, nodes_at, plain_at}
 use Rattle.call_tree.specs.Shape.{node_rows}
 use Rattle.call_tree.specs.Nodes.{AreTrees, nodes_of, plain_of, tree_of}
 use Rattle.call_tree.specs.Plans.{AreCredited, ArePlaces, IsCredited}
 use Rattle.call_tree.proofs.Growing.{AreCredited-start, AreCredited-step}
 use Rattle.call_tree.proofs.Trees.{nodes_at-tree, seen_plain}
-use Rattle.call_tree.proofs.Planned.{IsCredited-start}
+use Rattle.call_tree.proofs.Shapes.{length-node_rows}
+use Rattle.call_tree.proofs.Planned.{IsCredited-start, IsCredited-step, credit_within}
 
 pub record AreAdded (names : List (List ℕ)) (before now : List (List Node)) (value : ℕ) (rows : List Row) (count : ℕ) : Type 0 where
   pub trees : AreTrees names now
@@ -59,3 +61,41 @@ module _ (names : List (List ℕ)) (before now : List (List Node)) (batch : List
         (subst (λ (tree : PlainTree). IsCredited (plain_of names now value) tree (rows_at value batch)) (plain_is names next value) here))
         (λ other ne. nodes_at-tree names next other ∙ ap (node_rows names) (others other ne) ∙ sym (nodes_at-tree names now other));
   }
+
+-- ---- one row of one value, at its node
+
+module _ (names : List (List ℕ)) (before : List (List Node)) (old : TreeState) (old_is : tree_of names before ≡ old) (rows : List Row) (place weight : ℕ)
+    (one : length rows ≡ 1) (places : ArePlaces (plain_at old 0) rows (place ∷ [])) (light : total_of (nodes_at old 0) + total_of (rows_at 0 rows) < 2 ^ 63)
+    (weight_is : weight ≡ value_of 0 (row_in rows 0).weights) where
+  abbrev tree : PlainTree
+  tree = plain_of names before 0
+
+  here_is : plain_at old 0 ≡ tree
+  here_is = sym (seen_plain names before old 0 old_is)
+
+  are : ArePlaces tree rows (place ∷ [])
+  are = subst (λ (t : PlainTree). ArePlaces t rows (place ∷ [])) here_is places
+
+  fits : total_of tree.nodes + total_of (rows_at 0 rows) < 2 ^ 63
+  fits = omega (arith, light, ap (λ (t : PlainTree). total_of t.nodes) here_is)
+
+  first_lt : 0 < length rows
+  first_lt = omega (arith, one)
+
+  pub row_within : place < length (nodes_of before 0)
+  row_within =
+      let within = credit_within tree tree 0 rows (place ∷ []) are fits 0 first_lt (IsCredited-start tree) weight weight_is in
+      omega (arith, within, length-node_rows names (nodes_of before 0))
+
+  pub AreCredited-row : (now : List (List Node)) → length now ≡ length before
+      → node_rows names (nodes_of now 0) ≡ credited (node_rows names (nodes_of before 0)) place weight
+      → ((other : ℕ) → (other ≡ 0 → ⊥) → nodes_of now other ≡ nodes_of before other)
+      → AreCredited (tree_of names before) (tree_of names now) rows 1
+  AreCredited-row now width here others =
+      let first = IsCredited-step tree tree 0 rows (place ∷ []) are fits 0 first_lt (IsCredited-start tree) weight weight_is (plain_of names now 0) refl here in
+      let all : take 1 (rows_at 0 rows) ≡ rows_at 0 rows = take_all 1 (rows_at 0 rows) (omega (arith, one, length-map rows (weighing 0))) in
+      let done = subst (IsCredited tree (plain_of names now 0)) all first in
+      AreCredited-step (tree_of names before) (tree_of names before) (tree_of names now) rows 0 (AreCredited-start (tree_of names before) rows) width refl
+      (subst (λ (t : PlainTree). IsCredited t (plain_at (tree_of names now) 0) (rows_at 0 rows)) (plain_is names before 0)
+      (subst (λ (t : PlainTree). IsCredited tree t (rows_at 0 rows)) (plain_is names now 0) done))
+      (λ other ne. nodes_at-tree names now other ∙ ap (node_rows names) (others other ne) ∙ sym (nodes_at-tree names before other))

@@ -132,6 +132,30 @@ impl Grower {
         })
     }
 
+    /// Adds the rows of a batch, as wide as the tree. By each value its total and the tree's are together at most
+    /// [`profile_rows::MAX_TOTAL`]. A row alone, of one value, changes pages that nobody else owns in place, so that an
+    /// addition copies none where the tree was never shared.
+    ///
+    /// # Errors
+    ///
+    /// `NoMemory`: each stack keeps its weights then.
+    pub fn add(&mut self, alloc: Global, batch: &Batch) -> Result<(), NoMemory>
+        requires width { batch.now.width ≡ self.old.width }
+        requires fits { (value : ℕ)
+            → total_in (weights_of self.old value) + total_of (rows_at value batch.now.rows) < 2 ^ 63 }
+        ensures weights { OnOk result ((value : ℕ)
+            → weights_of self.new value ≡ with_rows (weights_of self.old value) (rows_at value batch.now.rows)) }
+        ensures same { OnErr result ((value : ℕ) → weights_of self.new value ≡ weights_of self.old value) }
+        ensures width { self.new.width ≡ self.old.width }
+    {
+        if batch.len() == 1 && self.tree.width().get() == 1 {
+            return self.add_row(alloc, batch);
+        }
+        let plan = self.plan(alloc, batch)?;
+        self.credit(plan);
+        Ok(())
+    }
+
     /// Makes room for the rows of a batch, as wide as the tree. By each value its total and the tree's are together at
     /// most [`profile_rows::MAX_TOTAL`]. Each stack keeps its weights, also where the plan is refused.
     ///
@@ -186,6 +210,27 @@ impl Grower {
             index,
             walk,
         })
+    }
+
+    /// Adds a batch of one row of one value: its node, where there was none, and then its weight in place.
+    fn add_row(&mut self, alloc: Global, batch: &Batch) -> Result<(), NoMemory>
+        requires single { self.old.width ≡ 1 }
+        requires width { batch.now.width ≡ 1 }
+        requires one { length batch.now.rows ≡ 1 }
+        requires fits { (value : ℕ)
+            → total_in (weights_of self.old value) + total_of (rows_at value batch.now.rows) < 2 ^ 63 }
+        ensures weights { OnOk result ((value : ℕ)
+            → weights_of self.new value ≡ with_rows (weights_of self.old value) (rows_at value batch.now.rows)) }
+        ensures same { OnErr result ((value : ℕ) → weights_of self.new value ≡ weights_of self.old value) }
+        ensures width { self.new.width ≡ self.old.width }
+    {
+        let mut walk = mem::replace(&mut self.walk, Walk::new(alloc));
+        let node = self.grow(&batch.first().rows()[0].stack, &mut walk);
+        self.walk = walk;
+        let place = node?;
+        self.tree.known();
+        self.tree.add_row(batch, place)?;
+        Ok(())
     }
 
     /// The plan of an empty tree of the same width. This tree stays, also where the plan is refused.

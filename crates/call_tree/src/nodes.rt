@@ -90,7 +90,7 @@ impl Nodes {
     }
 
     /// Puts a node that differs in its weight alone in place of another, for one value. Other owners of the pages keep
-    /// theirs.
+    /// theirs. Nothing changes where memory runs out.
     pub fn replace(&mut self, value: u32, place: usize, node: Node) -> Result<(), AllocError>
         requires value { value < length self.old }
         requires within { place < length (nodes_of self.old value) }
@@ -99,6 +99,7 @@ impl Nodes {
         ensures here { OnOk result (nodes_of self.new value ≡ slice_set (nodes_of self.old value) place node) }
         ensures others { OnOk result
             ((other : ℕ) → (other ≡ value → ⊥) → nodes_of self.new other ≡ nodes_of self.old other) }
+        ensures err { OnErr result (self.new ≡ self.old) }
     {
         if value == 0 {
             self.first.replace(place, node)?;

@@ -118,6 +118,22 @@ impl CallTree {
         })
     }
 
+    /// Adds a batch of one row of one value, at the row's node. Nothing changes where memory runs out.
+    pub(crate) fn add_row(&mut self, batch: &Batch, place: u32) -> Result<(), AllocError>
+        requires single { self.old.width ≡ 1 }
+        requires width { batch.now.width ≡ 1 }
+        requires one { length batch.now.rows ≡ 1 }
+        requires place { ArePlaces (plain_at self.old 0) batch.now.rows (place ∷ []) }
+        requires fits { total_of (nodes_at self.old 0) + total_of (rows_at 0 batch.now.rows) < 2 ^ 63 }
+        ensures ok { OnOk result (AreCredited self.old self.new batch.now.rows 1) }
+        ensures err { OnErr result (self.new ≡ self.old) }
+    {
+        let weight = batch.weight(0, 0);
+        add_weight(&self.names, &mut self.nodes, 0, place, weight)?;
+        self.total = self.total.plus(&batch.total());
+        Ok(())
+    }
+
     /// One more name, with the next number.
     pub(crate) fn append_name(&mut self, name: Name) -> Result<(), AllocError>
         requires { (k : ℕ) → k < length self.old.names → name_at self.old.names k ≡ name → ⊥ }
@@ -410,7 +426,7 @@ fn add_rows(
     Ok(())
 }
 
-/// One more weight of one value at a node.
+/// One more weight of one value at a node. Nothing changes where memory runs out.
 fn add_weight(
     names: &Pages<Name>,
     nodes: &mut Nodes,
@@ -428,6 +444,7 @@ fn add_weight(
         ≡ credited (node_rows names.now (nodes_of nodes.old value)) at weight) }
     ensures others { OnOk result
         ((other : ℕ) → (other ≡ value → ⊥) → nodes_of nodes.new other ≡ nodes_of nodes.old other) }
+    ensures err { OnErr result (nodes.new ≡ nodes.old) }
 {
     let _names = names;
     let mut node = nodes.read(value, at as usize);

@@ -5,7 +5,7 @@ ghost use Rattle.std.specs.Arc.{arc_value};
 ghost use Rattle.call_tree.specs.State.{total_in, weights_of};
 ghost use Rattle.op_book.specs.Books.{HasSpaceFor, IsAppended, IsFirstBookFault, IsOrderly, IsReplay, IsSameBook, IsSpaceFault, IsTaken, IsTreeAfter, change_told, receipt_after, weight_held};
 ghost use Rattle.op_book.specs.Changes.{change_op};
-ghost use Rattle.op_book.specs.Operations.{add, plain_op, reset};
+ghost use Rattle.op_book.specs.Operations.{add, placed, plain_op, reset};
 ghost use Rattle.profile_rows.specs.Rows.{total_of};
 ghost use Rattle.profile_rows.specs.Values.{rows_at, value_of};
 
@@ -199,9 +199,11 @@ impl Book {
         ensures replay { IsReplay self.new.entries self.new.tree }
         ensures orderly { IsOrderly self.new }
     {
-        match self.prepare(alloc, session, turn, batch) {
-            Ok(ready) => Ok(self.settle(ready)),
-            Err(refused) => Err(refused),
+        let added = self.add_rows(alloc, session, turn, &batch);
+        self.known();
+        match added {
+            Ok(receipt) => Ok(receipt),
+            Err(fault) => Err(Refused { fault, back: batch }),
         }
     }
 
@@ -339,6 +341,36 @@ impl Book {
         Journal::new(self)
     }
 
+    /// Adds the rows of a batch. All memory for the journal is taken before the tree grows, and the entry is made after
+    /// it, so that a change that is refused shows in neither.
+    fn add_rows(
+        &mut self,
+        alloc: Global,
+        session: u32,
+        turn: u64,
+        batch: &Arc<Batch>,
+    ) -> Result<Receipt, BookFault>
+        ensures appended { OnOk result (IsAppended self.old session turn (add (arc_value batch)) self.new) }
+        ensures receipt { IfOk result (λ receipt. receipt ≡ receipt_after self.old.entries (add (arc_value batch))) }
+        ensures told { IfOk result
+            (λ receipt. receipt ≡ change_told (add (arc_value batch)) (length self.old.entries)) }
+        ensures taken { OnOk result (IsTaken self.old session turn (add (arc_value batch))) }
+        ensures unchanged { OnErr result (IsSameBook self.old self.new) }
+        ensures first_fault { IfErr result
+            (λ fault. IsFirstBookFault self.old session turn (add (arc_value batch)) fault) }
+    {
+        self.known();
+        self.ledger.admit(session, turn)?;
+        self.check_batch(batch)?;
+        self.ledger.reserve()?;
+        let place = self.ledger.len();
+        let (entry, receipt) = journalled(session, turn, Change::Add(batch), place)?;
+        aggregate_of_more_rows();
+        self.grower.add(alloc, batch)?;
+        self.ledger.append(entry);
+        Ok(receipt)
+    }
+
     /// What a change needs: the next tree, memory for its entry, and what its session will be told.
     fn ready(
         &mut self,
@@ -361,19 +393,7 @@ impl Book {
         let plan = self.plan(alloc, change)?;
         self.ledger.reserve()?;
         let place = self.ledger.len();
-        let journalled = change.op()?;
-        let entry = Entry {
-            session,
-            turn,
-            op: journalled,
-            reply: Reply::Placed(place),
-        };
-        let told = change.op()?;
-        let receipt = Receipt {
-            op: told,
-            reply: Reply::Placed(place),
-            at: place,
-        };
+        let (entry, receipt) = journalled(session, turn, change, place)?;
         Ok(Ready {
             plan,
             entry,
@@ -464,4 +484,31 @@ impl Book {
         self.known();
         self.ledger.sessions()
     }
+}
+
+/// The entry of a change at this place, and what its session is told of it.
+fn journalled(
+    session: u32,
+    turn: u64,
+    change: Change<'_>,
+    place: u64,
+) -> Result<(Entry, Receipt), AllocError>
+    ensures entry { IfOk result (λ made. made.0 ≡ record
+        { session = session; turn = turn; op = change_op change.entry; reply = placed place }) }
+    ensures receipt { IfOk result (λ made. made.1 ≡ change_told (change_op change.entry) place) }
+{
+    let kept = change.op()?;
+    let entry = Entry {
+        session,
+        turn,
+        op: kept,
+        reply: Reply::Placed(place),
+    };
+    let told = change.op()?;
+    let receipt = Receipt {
+        op: told,
+        reply: Reply::Placed(place),
+        at: place,
+    };
+    Ok((entry, receipt))
 }

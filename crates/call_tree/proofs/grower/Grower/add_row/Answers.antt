@@ -1,0 +1,46 @@
+-- One row of one value in the tree of a grower, in place.
+use Rattle.std.proofs.Common.{rules, ◌≡◌, ℕ, arith, sym, ap, ◌∙◌}
+use Rattle.std.specs.HashMap as hash
+use Rattle.profile_rows.specs.Values.{rows_at}
+use Rattle.profile_rows.specs.Aggregate.{with_rows}
+use Rattle.call_tree.specs.State.{TreeState, plain_at, same_key, total_in, weights_of}
+use Rattle.call_tree.proofs.Growing.{weights-credited, weights-grown}
+use Rattle.call_tree.proofs.Planned.{IsIndex-credited}
+use Rattle.call_tree.proofs.Totals.{total_in-weights_of}
+use Rattle.call_tree.proofs.grower.Grower.add_row.Goals as goal
+
+pub add_row-requires-clause-fits : goal.add_row-requires-clause-fits
+add_row-requires-clause-fits c =
+    let tree = c.self-2.inside.tree in
+    let same : weights_of tree 0 ≡ weights_of c.args.self.now 0 =
+    ap (λ (t : TreeState). weights_of t 0) c.self-2.view_is
+    ∙ weights-grown c.self.inside.tree c.grow-node.new.self c.in_ok-place.ensures.grown 0
+    ∙ ap (λ (t : TreeState). weights_of t 0) c.self.view_is in
+    omega (arith, c.requires.fits 0, total_in-weights_of tree 0, ap total_in same)
+
+pub returns-in_err-add_row-clause-same : goal.returns-in_err-add_row-clause-same
+returns-in_err-add_row-clause-same c =
+    let same : (value : ℕ) → weights_of c.add_row.new.self value ≡ weights_of c.args.self.now value = λ value.
+    ap (λ (t : TreeState). weights_of t value) (c.in_err-add_row.ensures.err ∙ c.self-2.view_is)
+    ∙ weights-grown c.self.inside.tree c.grow-node.new.self c.in_ok-place.ensures.grown value
+    ∙ ap (λ (t : TreeState). weights_of t value) c.self.view_is in
+    search rules
+
+pub invariant_of-self-2 : goal.invariant_of-self-2
+invariant_of-self-2 c =
+    let tree = c.self-2.inside.tree in
+    let credited = c.in_ok-add_row.ensures.ok in
+    let first = credited.done 0 (omega arith) in (
+      c.self-2.invariant.0 ∙ sym credited.names,
+      IsIndex-credited (hash.get same_key c.self-2.inside.index) (plain_at tree 0) (plain_at c.add_row.new.self 0) c.self-2.invariant.1
+          (record { names = first.names; size = first.size; stacks = first.stacks }),
+    )
+
+pub returns-clause-weights : goal.returns-clause-weights
+returns-clause-weights c = λ value.
+    let batch = c.args.batch.now in
+    let tree = c.self-2.inside.tree in
+    weights-credited tree c.add_row.new.self batch 1 c.first.ensures.batch c.requires.width c.in_ok-add_row.ensures.ok value
+    ∙ ap (λ m. with_rows m (rows_at value batch.rows)) (ap (λ (t : TreeState). weights_of t value) c.self-2.view_is
+    ∙ weights-grown c.self.inside.tree c.grow-node.new.self c.in_ok-place.ensures.grown value
+    ∙ ap (λ (t : TreeState). weights_of t value) c.self.view_is)

@@ -350,14 +350,14 @@ impl Book {
         turn: u64,
         batch: &Arc<Batch>,
     ) -> Result<Receipt, BookFault>
-        ensures appended { OnOk result (IsAppended self.old session turn (add (arc_value batch)) self.new) }
-        ensures receipt { IfOk result (λ receipt. receipt ≡ receipt_after self.old.entries (add (arc_value batch))) }
+        ensures appended { OnOk result (IsAppended self.old session turn (add (arc_value batch.now)) self.new) }
+        ensures receipt { IfOk result (λ receipt. receipt ≡ receipt_after self.old.entries (add (arc_value batch.now))) }
         ensures told { IfOk result
-            (λ receipt. receipt ≡ change_told (add (arc_value batch)) (length self.old.entries)) }
-        ensures taken { OnOk result (IsTaken self.old session turn (add (arc_value batch))) }
+            (λ receipt. receipt ≡ change_told (add (arc_value batch.now)) (length self.old.entries)) }
+        ensures taken { OnOk result (IsTaken self.old session turn (add (arc_value batch.now))) }
         ensures unchanged { OnErr result (IsSameBook self.old self.new) }
         ensures first_fault { IfErr result
-            (λ fault. IsFirstBookFault self.old session turn (add (arc_value batch)) fault) }
+            (λ fault. IsFirstBookFault self.old session turn (add (arc_value batch.now)) fault) }
     {
         self.known();
         self.ledger.admit(session, turn)?;

@@ -1,13 +1,14 @@
 -- The next tree is the aggregate of what then counts.
-use Rattle.std.proofs.Common.{rules, ◌≡◌, sym, refl, ap, subst, ◌∙◌, arith}
+use Rattle.std.proofs.Common.{rules, ◌≡◌, sym, ap, subst, ◌∙◌, arith}
 use Rattle.std.specs.Arc.{arc_value}
-use Rattle.profile_rows.specs.Values.{BatchState, rows_at}
-use Rattle.profile_rows.specs.Aggregate.{aggregate_of, aggregates_of, with_rows}
+use Rattle.profile_rows.specs.Values.{BatchState}
+use Rattle.profile_rows.specs.Aggregate.{aggregates_of}
 use Rattle.op_book.specs.Books.{BookState, HasSpaceFor, IsOrderly, IsTreeAfter}
 use Rattle.op_book.specs.Changes.{change_op}
 use Rattle.op_book.specs.declared.book.Change.{Change}
-use Rattle.op_book.specs.Operations.{operations_of, profile_after, add, reset}
-use Rattle.op_book.proofs.EntryLaws.{KeepLimit-whole, profile_after-reset, profile_at-push}
+use Rattle.op_book.specs.Operations.{operations_of, add, reset}
+use Rattle.op_book.proofs.EntryLaws.{KeepLimit-whole, profile_after-reset}
+use Rattle.op_book.proofs.Readiness.{IsTreeAfter-added}
 use Rattle.op_book.proofs.book.Book.plan.Goals as goal
 
 -- a reset adds nothing
@@ -20,19 +21,13 @@ space_for_reset book orderly = record {
 pub returns-in_ok-plan-in-Add-clause-next : goal.returns-in_ok-plan-in-Add-clause-next
 returns-in_ok-plan-in-Add-clause-next c =
     let batch = c.deref-in-Add.result.now in
-    let before = operations_of c.self.inside.ledger.entries in
+    let next = c.in_ok-plan-in-Add.field-0.next in
     let same : batch ≡ arc_value c.in-Add.batch.now = c.deref-in-Add.ensures in
-    let after : IsTreeAfter c.args.self.now (add batch) c.in_ok-plan-in-Add.field-0.next =
-    subst (λ (book : BookState). IsTreeAfter book (add batch) c.in_ok-plan-in-Add.field-0.next) c.self.view_is (record {
-      width = c.in_ok-plan-in-Add.ensures.next_width ∙ c.self.invariant.0;
-      aggregate = λ value.
-          c.in_ok-plan-in-Add.ensures.next value
-          ∙ ap (λ m. with_rows m (rows_at value batch.rows)) (c.self.invariant.1 value)
-          ∙ sym (c.aggregate_of_more_rows.ensures (rows_at value (profile_after before)) (rows_at value batch.rows))
-          ∙ ap aggregate_of (sym (profile_at-push value before (add batch) refl));
-    }) in
-    subst (λ (change : Change). IsTreeAfter c.args.self.now (change_op change) c.in_ok-plan-in-Add.field-0.next) (sym c.in-Add.is)
-    (subst (λ (b : BatchState). IsTreeAfter c.args.self.now (add b) c.in_ok-plan-in-Add.field-0.next) same after)
+    let after : IsTreeAfter c.args.self.now (add batch) next =
+    subst (λ (book : BookState). IsTreeAfter book (add batch) next) c.self.view_is
+    (IsTreeAfter-added _ next batch c.self.invariant.0 c.self.invariant.1 c.aggregate_of_more_rows.ensures c.in_ok-plan-in-Add.ensures.next_width c.in_ok-plan-in-Add.ensures.next) in
+    subst (λ (change : Change). IsTreeAfter c.args.self.now (change_op change) next) (sym c.in-Add.is)
+    (subst (λ (b : BatchState). IsTreeAfter c.args.self.now (add b) next) same after)
 
 pub returns-in_ok-plan_reset-in-Reset-clause-next : goal.returns-in_ok-plan_reset-in-Reset-clause-next
 returns-in_ok-plan_reset-in-Reset-clause-next c =

@@ -3,7 +3,7 @@ use Rattle.std.proofs.Common.{◌≡◌, ◌<◌, length, List, ap, sym, subst, 
 use Rattle.op_book.specs.Books.{BookState, HasTurn}
 use Rattle.op_book.specs.Changes.{change_op}
 use Rattle.op_book.specs.Ledgers.{LedgerState}
-use Rattle.op_book.specs.Operations.{PlainEntry, plain_op}
+use Rattle.op_book.specs.Operations.{PlainEntry}
 use Rattle.op_book.proofs.Readiness.{IsReady-made, change_op-is_change}
 use Rattle.op_book.proofs.book.Book.ready.Goals as goal
 
@@ -22,6 +22,6 @@ invariant_of-result c =
     let place : c.len-place.result ≡ length book.entries = c.len-place.ensures ∙ ap length (ap (λ (l : LedgerState). l.entries) (sym c.of.ensures) ∙ entries) in
     rw (entries, limit, sessions, width)
     (IsReady-made book c.in_ok-plan.plan.before c.of.result.value.capacity c.args.session c.args.turn c.len-place.result
-    (plain_op c.in_ok-journalled.journalled) (plain_op c.in_ok-told.told) (change_op c.args.change) c.in_ok-plan.plan.next
+    c.in_ok-entry.entry c.in_ok-entry.receipt (change_op c.args.change) c.in_ok-plan.plan.next
     c.known.ensures.orderly turn c.in_ok-plan.ensures.space (change_op-is_change c.args.change) memory_is c.in_ok-plan.ensures.next
-    c.in_ok-journalled.ensures c.in_ok-told.ensures place)
+    c.in_ok-entry.ensures.entry c.in_ok-entry.ensures.receipt place)

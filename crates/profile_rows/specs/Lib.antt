@@ -9,6 +9,7 @@ pub mod OwnedRows
 pub mod Paths
 pub mod Pushing
 pub mod Rows
+pub mod StackTexts
 pub mod Merging
 pub mod Tallies
 pub mod TopList

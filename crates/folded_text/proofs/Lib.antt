@@ -7,6 +7,7 @@ pub mod MergedLines
 pub mod Pieces
 pub mod Reading
 pub mod StackOrder
+pub mod StackTexts
 pub mod TextRows
 pub mod TextSums
 pub mod WorkedTexts

@@ -1,6 +1,6 @@
 -- Rows by their stack texts, and the report that they make.
 use Rattle.std.proofs.Common.{◌≡◌, ℕ, ◌+◌, ◌<◌, ◌≤◌, ◌^◌, Bool, true, false, cond, eqb, List, [], ◌∷◌, ◌++◌, length, filter, get_or, set, refl, sym, ap, ◌∙◌, subst, inl, inr, arith, length-append}
-use Rattle.std.specs.Prelude.{All, IsPermutation, IsSorted, MatchResult, Option, Some, None, Result, Ok, Err, ◌==◌, not, sum_by}
+use Rattle.std.specs.Prelude.{All, IfOk, IsPermutation, IsSorted, MatchResult, Option, Some, None, Result, Ok, Err, ◌==◌, not, sum_by}
 use Rattle.std.specs.List.{AllByRecursion, join_with_byte, slice_split}
 use Rattle.std.specs.Fmt.{decimal}
 use Rattle.std.specs.HashMap as hash
@@ -251,6 +251,11 @@ lines-sorted rows sorted texts moved up =
     ∙ ap rows_text (sym (rows_of-aggregate (spelled_rows sorted) (ascending sorted after up) some))
     ∙ ap (λ weights. rows_text (rows_of weights)) (aggregate_of-same (spelled_rows sorted) (spelled_rows rows)
     (λ stack. sum_by-IsPermutation (weight_if (is_same_stack stack)) (spelled_rows rows) (spelled_rows sorted) (IsPermutation-map spelled_row rows sorted moved)))
+
+-- what is written where all is well is another text where the two are the same
+pub as_text : {T E : Type 0} (bytes : T → List ℕ) (outcome : Result T E) (text other : List ℕ) → text ≡ other → IfOk outcome (λ written. bytes written ≡ text) → IfOk outcome (λ written. bytes written ≡ other)
+as_text bytes (Ok written) text other same is = is ∙ same
+as_text bytes (Err fault) text other same is = tt
 
 -- what reporting answers decides the report of the rows that a text is folded text of
 pub only_report : {T : Type 0} (bytes : T → List ℕ) (text : List ℕ) (outcome : Result T FoldedFault) → MatchResult outcome (λ report. IsReportOfText text (bytes report)) (IsWorkFault text)

@@ -61,7 +61,8 @@ kept name parts is =
 uncut : (name : List ℕ) → IsName name → All (λ byte. eqb byte 59 ≡ false) name
 uncut name is k d lt = ne_eqb _ 59 (is.no_separator k d lt)
 
-frames_of-joined : (names : List (List ℕ)) → AllByRecursion IsName names → frames_of (join_with_byte 59 names) ≡ names
+-- cut again, they are the names
+pub frames_of-joined : (names : List (List ℕ)) → AllByRecursion IsName names → frames_of (join_with_byte 59 names) ≡ names
 frames_of-joined [] all = refl
 frames_of-joined (name ∷ []) all =
     ap (filter (λ piece. not (length piece == 0))) (slice_split_none (λ byte. eqb byte 59) name (uncut name all.0)) ∙ kept name [] all.0

@@ -6,6 +6,7 @@ use Rattle.profile_rows.specs.declared.weighted_stacks.WeightedStack.{WeightedSt
 use Rattle.profile_rows.specs.Aggregate.{aggregate_of}
 use Rattle.profile_rows.specs.Merging.{ArePlacedBy, RowsBySpelling, row_spelled}
 use Rattle.profile_rows.specs.Rows.{total_of}
+use Rattle.profile_rows.specs.StackTexts.{TextState}
 use Rattle.folded_text.specs.declared.text_rows.TextRow.{TextRow}
 use Rattle.folded_text.specs.FoldedText.{IsFoldedText, folded_text_of, frames_of}
 use Rattle.folded_text.specs.StackOrder.{IsJoined}
@@ -16,6 +17,10 @@ spelled_row row = record { stack = frames_of row.text.now; weight = row.weight }
 
 abbrev pub spelled_rows : List TextRow → List WeightedStack
 spelled_rows rows = map spelled_row rows
+
+-- a row by its text
+abbrev pub lent_text : TextRow → TextState
+lent_text row = record { text = row.text.now; weight = row.weight }
 
 -- how many rows have this stack text
 abbrev pub rows_with : List ℕ → List TextRow → ℕ

@@ -22,9 +22,9 @@ use std::collections::HashMap;
 
 /// A row whose stack a text spells.
 #[derive(Drop)]
-struct TextRow<'a> {
-    text: &'a str,
-    weight: u64,
+pub(crate) struct TextRow<'a> {
+    pub(crate) text: &'a str,
+    pub(crate) weight: u64,
 }
 
 /// Rows of weight above 0, one for each stack text.
@@ -204,7 +204,7 @@ fn write_text_rows(alloc: Global, rows: &[TextRow]) -> Result<Vec<u8>, NoMemory>
 }
 
 /// The folded report of rows, which are sorted by their texts.
-fn report_of_texts(alloc: Global, rows: Vec<TextRow>) -> Result<Vec<u8>, NoMemory>
+pub(crate) fn report_of_texts(alloc: Global, rows: Vec<TextRow>) -> Result<Vec<u8>, NoMemory>
     requires { AreTextRows rows.items }
     ensures { IfOk result (λ report. report.items ≡ folded_text_of (spelled_rows rows.entry.items)) }
 {

@@ -1,6 +1,5 @@
 -- What the sort makes are the rows in the order of their stacks.
-use Rattle.std.proofs.Common.{rules, ◌≡◌, ℕ, List, ap, ◌∙◌}
-use Rattle.std.specs.Prelude.{IfOk, Result, Ok, Err}
+use Rattle.std.proofs.Common.{rules, ◌≡◌, ℕ, ap, ◌∙◌}
 use Rattle.std.specs.Ordering.{is_lt}
 use Rattle.std.specs.declared.vec.Vec.{Vec}
 use Rattle.std.proofs.lemmas.List.Sorted.{answers_always, ranks_by}
@@ -8,12 +7,8 @@ use Rattle.folded_text.specs.declared.text_rows.TextRow.{TextRow}
 use Rattle.folded_text.specs.StackOrder.{stack_text_cmp}
 use Rattle.folded_text.specs.TextRows.{text_lines}
 use Rattle.folded_text.proofs.StackOrder.{stack_text_cmp_total}
-use Rattle.folded_text.proofs.TextRows.{by_text, lines-sorted}
+use Rattle.folded_text.proofs.TextRows.{as_text, by_text, lines-sorted}
 use Rattle.folded_text.proofs.text_rows.report_of_texts.Goals as goal
-
-as_text : {T E : Type 0} (bytes : T → List ℕ) (outcome : Result T E) (text other : List ℕ) → text ≡ other → IfOk outcome (λ written. bytes written ≡ text) → IfOk outcome (λ written. bytes written ≡ other)
-as_text bytes (Ok written) text other same is = is ∙ same
-as_text bytes (Err fault) text other same is = tt
 
 pub returns : goal.returns
 returns c =

@@ -1,0 +1,40 @@
+//! The folded report of rows whose stacks are texts.
+
+ghost use Rattle.std.specs.Prelude.{◌≡◌, IfOk, map};
+ghost use Rattle.profile_rows.specs.Aggregate.{Weighted, rows_of};
+ghost use Rattle.profile_rows.specs.StackTexts.{AreStackTexts, plain_text};
+ghost use Rattle.folded_text.specs.FoldedText.{rows_text};
+ghost use Rattle.folded_text.specs.TextRows.{lent_text};
+
+use crate::text_rows::{TextRow, report_of_texts};
+use no_memory::NoMemory;
+use profile_rows::StackText;
+use std::alloc::Global;
+
+/// The rows with their texts lent.
+fn lent_rows<'a>(alloc: Global, texts: &'a [StackText]) -> Result<Vec<TextRow<'a>>, NoMemory>
+    ensures { IfOk result (λ rows. map lent_text rows.items ≡ map plain_text texts.now) }
+{
+    let mut rows = Vec::with_capacity(alloc, texts.len())?;
+    for row in texts {
+        rows.push(TextRow {
+            text: row.text.as_str(),
+            weight: row.weight,
+        })?;
+    }
+    Ok(rows)
+}
+
+/// The folded report of rows by the texts of their stacks: a line for each, in the order of stacks.
+///
+/// # Errors
+///
+/// `NoMemory`.
+pub fn report_of_stack_texts(alloc: Global, texts: &[StackText]) -> Result<Vec<u8>, NoMemory>
+    requires { (weights : Weighted) × AreStackTexts weights texts.now }
+    ensures { (weights : Weighted) → AreStackTexts weights texts.now
+        → IfOk result (λ report. report.items ≡ rows_text (rows_of weights)) }
+{
+    let rows = lent_rows(alloc, texts)?;
+    report_of_texts(alloc, rows)
+}

@@ -1,7 +1,10 @@
 //! The call tree: nodes with links to their parents, each with the weight of its stack alone.
 
-ghost use Rattle.std.specs.Prelude.{◌≡◌, ◌<◌, ◌≤◌, ◌+◌, ◌++◌, ◌∷◌, ◌^◌, ℕ, [], filter, length, map, take, MatchOption, IfOk, IfSome, OnOk, OnErr, IsSorted};
+ghost use Rattle.std.specs.Prelude.{◌≡◌, ◌<◌, ◌≤◌, ◌+◌, ◌++◌, ◌∷◌, ◌^◌, ℕ, [], filter, length, map, string_bytes, take, All, MatchOption, IfOk, IfSome, OnOk, OnErr, IsSorted};
+ghost use Rattle.std.specs.List.{join_with_byte};
 ghost use Rattle.profile_rows.specs.Rows.{total_of};
+ghost use Rattle.profile_rows.specs.Names.{IsName};
+ghost use Rattle.profile_rows.specs.StackTexts.{AreStackTexts};
 ghost use Rattle.profile_rows.specs.Aggregate.{AreRowsOf, aggregates_of, weight_in, with_rows, rows_of};
 ghost use Rattle.profile_rows.specs.TopList.{AreSumsOf};
 ghost use Rattle.profile_rows.specs.Values.{value_of, rows_at};
@@ -13,8 +16,8 @@ ghost use Rattle.call_tree.specs.Plans.{ArePlaces, AreCredited, IsCredited};
 use crate::node::Node;
 use crate::nodes::Nodes;
 use profile_rows::{
-    Batch, FrameTotal, MAX_DEPTH, Name, NoMemory, Stack, WeightedStack, WeightedStacks, Weights,
-    Width, aggregate, aggregate_stacks,
+    Batch, FrameTotal, MAX_DEPTH, Name, NoMemory, Stack, StackText, WeightedStack, WeightedStacks,
+    Weights, Width, aggregate, aggregate_stacks,
 };
 use shared_pages::Pages;
 use std::alloc::{AllocError, Global};
@@ -378,6 +381,67 @@ impl CallTree {
         aggregate_stacks(alloc, rows)
     }
 
+    /// The frames of a node, root first, in the place of others: its names on the way to the root, turned round.
+    fn replace_frames<'a>(&'a self, frames: &mut Vec<&'a str>, at: usize) -> Result<(), AllocError>
+        requires { at < length (nodes_at self.now 0) }
+        ensures frames { OnOk result
+            (map (λ frame. frame.now) frames.new.items ≡ stack_at (nodes_at self.now 0) at) }
+        ensures names { OnOk result (All IsName (stack_at (nodes_at self.now 0) at)) }
+    {
+        self.nodes.known();
+        frames.clear();
+        let mut place = at;
+        while place != 0 {
+            let node = self.nodes.read(0, place);
+            frames.push(self.names.read(node.name as usize).text())?;
+            place = node.parent as usize;
+        }
+        frames.reverse();
+        Ok(())
+    }
+
+    /// The text of a node's stack. The buffers' room is used again from node to node.
+    fn stack_text<'a>(
+        &'a self,
+        alloc: Global,
+        frames: &mut Vec<&'a str>,
+        joined: &mut String,
+        at: usize,
+    ) -> Result<String, NoMemory>
+        requires { at < length (nodes_at self.now 0) }
+        ensures text { IfOk result
+            (λ text. string_bytes text ≡ join_with_byte 59 (stack_at (nodes_at self.now 0) at)) }
+        ensures names { OnOk result (All IsName (stack_at (nodes_at self.now 0) at)) }
+    {
+        self.replace_frames(frames, at)?;
+        replace_joined(joined, frames.as_slice())?;
+        Ok(String::from_str(alloc, joined.as_str())?)
+    }
+
+    /// Each stack of weight above 0 by a value once, as a text, with its weight, in the order of the nodes. No name is
+    /// shared for it.
+    ///
+    /// # Errors
+    ///
+    /// `NoMemory`.
+    pub fn stack_texts(&self, alloc: Global, value: u32) -> Result<Vec<StackText>, NoMemory>
+        requires { value < self.now.width }
+        ensures { IfOk result (λ texts. AreStackTexts (weights_of self.now value) texts.items) }
+    {
+        self.known();
+        let mut texts = Vec::new(alloc);
+        let mut frames = Vec::new(alloc);
+        let mut joined = String::new(alloc);
+        for at in 0..self.nodes.len() {
+            let weight = self.nodes.read(value, at).own;
+            if weight > 0 {
+                let text = self.stack_text(alloc, &mut frames, &mut joined, at)?;
+                texts.push(StackText { text, weight })?;
+            }
+        }
+        Ok(texts)
+    }
+
     /// Each stack that weighs something by some value once, in the order of stacks, with all its values.
     ///
     /// # Errors
@@ -396,6 +460,20 @@ impl CallTree {
         }
         aggregate(alloc, &batch)
     }
+}
+
+/// Frames with a semicolon between each two, in the place of another text.
+fn replace_joined(text: &mut String, frames: &[&str]) -> Result<(), AllocError>
+    ensures { OnOk result (string_bytes text.new ≡ join_with_byte 59 (map (λ frame. frame.now) frames.now)) }
+{
+    text.clear();
+    for (index, frame) in frames.iter().enumerate() {
+        if index > 0 {
+            text.push(';')?;
+        }
+        text.push_str(frame)?;
+    }
+    Ok(())
 }
 
 /// The weights of a batch's rows by one value, each at its node.

@@ -13,7 +13,7 @@ use crate::options::LiveOptions;
 use crate::progress::{Progress, RowGate};
 use crate::storing::{Stored, is_warm, store};
 use call_tree::CallTree;
-use folded_text::write_stacks;
+use folded_text::report_of_stack_texts;
 use live_store::Blank;
 use op_book::laws::additions_count_since_the_last_reset;
 use op_book::{SessionLog, audit_with};
@@ -169,6 +169,6 @@ fn folded_report(alloc: Global, tree: &CallTree, value: u32) -> Result<Vec<u8>, 
     ensures { (rows : List Row) → aggregate_of (rows_at value rows) ≡ weights_of tree.now value
         → IfOk result (λ text. text.items ≡ folded_at value rows) }
 {
-    let rows = tree.weighted_stacks(alloc, value)?;
-    write_stacks(alloc, &rows)
+    let texts = tree.stack_texts(alloc, value)?;
+    report_of_stack_texts(alloc, texts.as_slice())
 }

@@ -7,7 +7,7 @@ use Rattle.call_tree.specs.State.{TreeState, weights_of}
 use Rattle.op_book.specs.Operations.{FitsWidth, MissesWidth, PlainOp, PlainEntry, PlainReceipt, is_change, operations_of, placed, plain_answer, profile_after, rows_added}
 use Rattle.op_book.specs.Runs.{AreChanges, AreOfSessions, AreOfWidth, AreTurnsInOrder, IsLegalRun, KeepLimit, turns_of}
 use Rattle.op_book.specs.declared.fault.BookFault.{BookFault}
-use Rattle.op_book.specs.declared.fault.BookFault.TheVariants.{Session, Turn, Full, Width, Heavy, NoMemory}
+use Rattle.op_book.specs.declared.fault.BookFault.TheVariants.{Session, Turn, Full, Width, Heavy, NoMemory, Version}
 
 -- the entries in order, the tree that they made, how many entries and sessions there may be, how many values a row has,
 -- and for how many entries there is memory
@@ -93,6 +93,7 @@ IsTurnFault entries limit sessions session turn (Full held) = (session < session
 IsTurnFault entries limit sessions session turn (Width held) = ⊥
 IsTurnFault entries limit sessions session turn (Heavy value held) = ⊥
 IsTurnFault entries limit sessions session turn NoMemory = ⊥
+IsTurnFault entries limit sessions session turn Version = ⊥
 
 -- what all rows that count weigh, by a value
 abbrev pub weight_held : BookState → ℕ → ℕ

@@ -230,6 +230,7 @@ impl Book {
     }
 
     /// Takes all memory that an addition needs, which [`settle`](Book::settle) then makes. What the book holds stays.
+    /// The batch is shared, so that a caller still has it where it doesn't go on to settle.
     ///
     /// # Errors
     ///
@@ -239,26 +240,23 @@ impl Book {
         alloc: Global,
         session: u32,
         turn: u64,
-        batch: Arc<Batch>,
-    ) -> Result<Ready, Refused<Arc<Batch>>>
+        batch: &Arc<Batch>,
+    ) -> Result<Ready, BookFault>
         ensures before { IfOk result (λ ready. ready.before ≡ self.new) }
         ensures change { IfOk result (λ ready. (ready.session ≡ session) × (ready.turn ≡ turn)
-            × (ready.op ≡ add (arc_value batch))) }
-        ensures next { IfOk result (λ ready. IsTreeAfter self.old (add (arc_value batch)) ready.next) }
-        ensures taken { OnOk result (IsTaken self.old session turn (add (arc_value batch))) }
+            × (ready.op ≡ add (arc_value batch.now))) }
+        ensures next { IfOk result (λ ready. IsTreeAfter self.old (add (arc_value batch.now)) ready.next) }
+        ensures taken { OnOk result (IsTaken self.old session turn (add (arc_value batch.now))) }
         ensures unchanged { IsSameBook self.old self.new }
-        ensures back { IfErr result (λ refused. refused.back ≡ batch) }
         ensures first_fault { IfErr result
-            (λ refused. IsFirstBookFault self.old session turn (add (arc_value batch)) refused.fault) }
+            (λ fault. IsFirstBookFault self.old session turn (add (arc_value batch.now)) fault) }
         ensures replay { IsReplay self.new.entries self.new.tree }
         ensures orderly { IsOrderly self.new }
     {
-        let ready = self.ready(alloc, session, turn, Change::Add(&batch));
         self.known();
-        match ready {
-            Ok(ready) => Ok(ready),
-            Err(fault) => Err(Refused { fault, back: batch }),
-        }
+        let ready = self.ready(alloc, session, turn, Change::Add(batch));
+        self.known();
+        ready
     }
 
     /// Takes all memory that a reset needs, which [`settle`](Book::settle) then makes. What the book holds stays.

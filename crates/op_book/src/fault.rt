@@ -4,7 +4,7 @@ use flame_report::NoMemory;
 use std::alloc::{AllocError, AllocFailed};
 use thiserror::Error;
 
-/// Why a book refuses a change. The first cause in this order is told.
+/// Why a book, or a session of a store, refuses an operation. A book tells the first cause in this order.
 #[derive(Clone, Copy, Debug, PartialEq, Eq, Error)]
 pub enum BookFault {
     /// The book has no session of this number.
@@ -26,6 +26,10 @@ pub enum BookFault {
     /// Memory ran out.
     #[error("K5 NoMemory")]
     NoMemory,
+    /// No version of the tree could be entered or shown. No book answers it: a session of a store that publishes
+    /// versions does.
+    #[error("K7 Version")]
+    Version,
 }
 
 impl From<NoMemory> for BookFault {

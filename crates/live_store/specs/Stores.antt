@@ -1,28 +1,41 @@
 -- What contracts see of a store and of a session.
-use Rattle.std.specs.Prelude.{ℕ, ◌≡◌, ◌≢◌, ◌<◌, ◌≤◌, ◌+◌, ◌^◌, ◌⊎◌, List, map}
+use Rattle.std.specs.Prelude.{ℕ, ◌≡◌, ◌≢◌, ◌<◌, ◌≤◌, ◌+◌, ◌^◌, ◌⊎◌, true, List, length, map}
+use Rattle.logbook.specs.Pages.{Book}
 use Rattle.profile_rows.specs.Rows.{total_of}
 use Rattle.profile_rows.specs.Values.{rows_at}
-use Rattle.op_book.specs.Operations.{MissesWidth, PlainOp, PlainReceipt, changes_in, rows_added}
+use Rattle.op_book.specs.Operations.{MissesWidth, PlainEntry, PlainOp, PlainReceipt, changes_in, is_change, operations_of, profile_after, rows_added}
+use Rattle.op_book.specs.Runs.{turns_of}
 use Rattle.op_book.specs.declared.fault.BookFault.{BookFault}
 use Rattle.op_book.specs.declared.fault.BookFault.TheVariants as book
 use Rattle.live_store.specs.declared.fault.MakeFault.{MakeFault}
 use Rattle.live_store.specs.declared.fault.MakeFault.TheVariants as make
+use Rattle.live_store.specs.declared.fault.SessionFault.{SessionFault}
+use Rattle.live_store.specs.declared.fault.SessionFault.TheVariants as session
 
--- how many entries and sessions a store may have, and how many values a row has
+-- how many entries and sessions a store may have, how many values a row has, and which history is its own
 pub record StoreLimits : Type 0 where
   pub limit : ℕ
   pub sessions : ℕ
   pub width : ℕ
+  pub history : Book
 
 -- why no store of so many sessions is made
 abbrev pub IsMakeFault : ℕ → MakeFault → Type 0
 IsMakeFault sessions make.Sessions = (sessions ≡ 0) ⊎ (64 < sessions)
+IsMakeFault sessions make.Place = (0 < sessions) × (sessions ≤ 64)
 IsMakeFault sessions make.NoMemory = (0 < sessions) × (sessions ≤ 64)
 
--- a session's number, and what it was told so far
+-- why a store of so many sessions gives none, when so many were given
+abbrev pub IsGiveFault : ℕ → ℕ → SessionFault → Type 0
+IsGiveFault given sessions session.AllGiven = given ≡ sessions
+IsGiveFault given sessions session.Place = given < sessions
+IsGiveFault given sessions session.NoMemory = given < sessions
+
+-- a session's number, what it was told so far, and the changes that it knows of
 pub record SessionState : Type 0 where
   pub number : ℕ
   pub log : List PlainReceipt
+  pub seen : List PlainEntry
 
 -- how many changes a session made, by what it was told
 abbrev pub changes_told : List PlainReceipt → ℕ
@@ -31,9 +44,25 @@ changes_told log = changes_in (map (λ (receipt : PlainReceipt). receipt.op) log
 -- what a refusal tells of its cause, in a store of this limit and width, to a session that took a turn for an operation
 abbrev pub ShowsCause : ℕ → ℕ → ℕ → PlainOp → BookFault → Type 0
 ShowsCause limit width turn op book.Session = ⊥
-ShowsCause limit width turn op (book.Turn held) = held ≢ turn
-ShowsCause limit width turn op (book.Full held) = held ≡ limit
+ShowsCause limit width turn op (book.Turn held) = (is_change op ≡ true) × (held ≢ turn)
+ShowsCause limit width turn op (book.Full held) = (is_change op ≡ true) × (held ≡ limit)
 ShowsCause limit width turn op (book.Width held) = (held ≡ width) × MissesWidth width op
 ShowsCause limit width turn op (book.Heavy value held) = (value < width) × (held < 2 ^ 63)
     × (2 ^ 63 ≤ held + total_of (rows_at value (rows_added op)))
 ShowsCause limit width turn op book.NoMemory = Unit {0}
+ShowsCause limit width turn op book.Version = Unit {0}
+
+-- what a session knows of shows the cause of its refusal
+abbrev pub IsShownBy : List PlainEntry → ℕ → BookFault → Type 0
+IsShownBy seen session (book.Turn held) = held ≡ turns_of seen session
+IsShownBy seen session (book.Full held) = held ≡ length seen
+IsShownBy seen session (book.Heavy value held) =
+    held ≡ total_of (rows_at value (profile_after (operations_of seen)))
+IsShownBy seen session book.Session = Unit {0}
+IsShownBy seen session (book.Width held) = Unit {0}
+IsShownBy seen session book.NoMemory = Unit {0}
+IsShownBy seen session book.Version = Unit {0}
+
+-- memory was wanting, or no version was shown
+abbrev pub IsUnseen : BookFault → Type 0
+IsUnseen fault = (fault ≡ book.NoMemory) ⊎ (fault ≡ book.Version)

@@ -1,13 +1,17 @@
 //! A store before any thread uses it.
 
-ghost use Rattle.std.specs.Prelude.{◌≡◌, ◌<◌, ◌≤◌, ◌⊎◌, IfOk, MatchResult};
+ghost use Rattle.std.specs.Prelude.{◌≡◌, ◌<◌, ◌≤◌, ◌⊎◌, [], length, IfOk, MatchResult};
 ghost use Rattle.live_store.specs.Stores.{IsMakeFault};
 
 use crate::fault::MakeFault;
-use op_book::Book;
-use profile_rows::{Hashing, Width};
+use change_history::{HistoryRule, NewHistory, Reached};
+use logbook::Word;
+use op_book::{Book, Entry};
+use profile_rows::{Hashing, NoMemory, Width};
+use shown_versions::{Version, VersionWriter, new_writer};
 use std::alloc::Global;
 use std::marker::Model;
+use std::sync::Arc;
 
 /// The most sessions of a store.
 pub const MAX_SESSIONS: u32 = 64;
@@ -17,29 +21,52 @@ pub struct Blank {
     pub(crate) book: Book,
     pub(crate) sessions: u32,
     pub(crate) width: Width,
+    pub(crate) word: Word<Entry, u64, HistoryRule>,
+    pub(crate) seen: Reached,
+    pub(crate) versions: VersionWriter,
 }
 
 impl Model for Blank {
     ghost use Rattle.std.specs.Prelude.{◌≡◌, ◌≤◌, []};
+    ghost use Rattle.left_right.specs.Sides.{view as known};
+    ghost use Rattle.change_history.specs.Histories.{head_of};
+    ghost use Rattle.shown_versions.specs.Views.{listed};
     ghost use Rattle.live_store.specs.Stores.{StoreLimits};
 
     ghost Value = { StoreLimits };
 
-    ghost view = { λ b. record { limit = b.book.limit; sessions = b.sessions; width = b.width } };
+    ghost view = { λ b. record
+        { limit = b.book.limit; sessions = b.sessions; width = b.width; history = b.seen.book } };
 
     ghost invariant = { λ b. (b.book.entries ≡ []) × (b.book.sessions ≡ b.sessions) × (b.sessions ≤ 64)
-        × (b.book.width ≡ b.width) };
+        × (b.book.width ≡ b.width) × (b.word ≡ head_of b.seen.book) × (b.seen.log ≡ [])
+        × (b.versions.desk.shown.value.seen.log ≡ []) × (b.versions.desk.shown.value.seen.book ≡ b.seen.book)
+        × (b.versions.desk.shown.value.width ≡ b.width)
+        × (listed (known b.versions.desk.place) ≡ []) };
+}
+
+/// The version of no changes.
+fn first_version(alloc: Global, book: &Book, seen: &Reached) -> Result<Version, NoMemory>
+    requires nothing { book.now.entries ≡ [] }
+    requires fresh { seen.now.log ≡ [] }
+    ensures seen { IfOk result (λ version. version.seen ≡ seen.now) }
+    ensures width { IfOk result (λ version. version.width ≡ book.now.width) }
+{
+    let _ = book.entries();
+    let tree = book.tree().share()?;
+    Ok(Version::new(0, Arc::new(alloc, tree)?, seen.again()))
 }
 
 impl Blank {
-    /// An empty store of at most `limit` operations, of 1 to [`MAX_SESSIONS`] sessions, and of rows of so many values.
+    /// An empty store of at most `limit` changes, of 1 to [`MAX_SESSIONS`] sessions, and of rows of so many values.
     ///
     /// # Errors
     ///
-    /// `Sessions` exactly where it can't have so many sessions; `NoMemory`.
+    /// `Sessions` exactly where it can't have so many sessions; `Place` where there is no memory for its versions;
+    /// `NoMemory`.
     pub fn make(alloc: Global, limit: u32, sessions: u32, width: Width) -> Result<Blank, MakeFault>
         ensures made { IfOk result
-            (λ blank. blank ≡ record { limit = limit; sessions = sessions; width = width }) }
+            (λ blank. (blank.limit ≡ limit) × (blank.sessions ≡ sessions) × (blank.width ≡ width)) }
         ensures sessions { MatchResult result (λ _. (0 < sessions) × (sessions ≤ MAX_SESSIONS))
             (λ fault. IsMakeFault sessions fault) }
     {
@@ -59,20 +86,30 @@ impl Blank {
         width: Width,
     ) -> Result<Blank, MakeFault>
         ensures made { IfOk result
-            (λ blank. blank ≡ record { limit = limit; sessions = sessions; width = width }) }
+            (λ blank. (blank.limit ≡ limit) × (blank.sessions ≡ sessions) × (blank.width ≡ width)) }
         ensures sessions { MatchResult result (λ _. (0 < sessions) × (sessions ≤ MAX_SESSIONS))
             (λ fault. IsMakeFault sessions fault) }
     {
         if sessions == 0 || sessions > MAX_SESSIONS {
             return Err(MakeFault::Sessions);
         }
-        match Book::with_hashing(alloc, hashing, limit, sessions, width) {
-            Ok(book) => Ok(Blank {
-                book,
-                sessions,
-                width,
-            }),
-            Err(_) => Err(MakeFault::NoMemory),
-        }
+        let Ok(book) = Book::with_hashing(alloc, hashing, limit, sessions, width) else {
+            return Err(MakeFault::NoMemory);
+        };
+        let NewHistory { word, seen } = NewHistory::new();
+        let Ok(first) = first_version(alloc, &book, &seen) else {
+            return Err(MakeFault::NoMemory);
+        };
+        let Ok(versions) = new_writer(alloc, first, sessions as usize) else {
+            return Err(MakeFault::Place);
+        };
+        Ok(Blank {
+            book,
+            sessions,
+            width,
+            word,
+            seen,
+            versions,
+        })
     }
 }

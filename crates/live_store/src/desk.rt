@@ -1,151 +1,101 @@
 //! What a store's lock keeps, and what happens under it.
 
-ghost use Rattle.std.specs.Prelude.{◌≡◌, ◌≢◌, ◌+◌, ◌<◌, ◌≤◌, ◌++◌, ◌∷◌, [], ℕ, IfErr, IfOk, List, MatchOption, OnErr, OnOk, false, length, true};
+ghost use Rattle.std.specs.Prelude.{◌≡◌, ◌≢◌, ◌+◌, ◌<◌, ◌≤◌, ◌^◌, ◌⊎◌, ◌++◌, ◌∷◌, [], ℕ, IfErr, IfOk, List, MatchResult, OnErr, OnOk, false, length, true};
 ghost use Rattle.std.specs.Arc.{arc_value};
-ghost use Rattle.flame_report.specs.declared.answer.Answer.{Answer};
-ghost use Rattle.op_book.specs.Books.{IsAppended, IsFirstBookFault, IsReplay, IsSameBook, change_told, receipt_after};
-ghost use Rattle.op_book.specs.Operations.{PlainEntry, PlainOp, add, answered, ask, is_change, placed, reset};
-ghost use Rattle.live_store.specs.Stores.{ShowsCause, changes_told};
+ghost use mathlib.Core.List.{IsPrefix};
+ghost use Rattle.left_right.specs.Sides.{view as known};
+ghost use Rattle.op_book.specs.Books.{IsAppended, IsFirstBookFault, IsSameBook, IsTreeAfter, change_told, receipt_after};
+ghost use Rattle.op_book.specs.Operations.{PlainOp, add, is_change, placed, reset};
+ghost use Rattle.op_book.specs.Runs.{turns_of};
+ghost use Rattle.change_history.specs.Histories.{entry_made};
+ghost use Rattle.shown_versions.specs.Views.{IsOf, listed};
+ghost use Rattle.live_store.specs.Sessions.{IsPlaced};
+ghost use Rattle.live_store.specs.Stores.{IsGiveFault, IsShownBy, ShowsCause, changes_told};
 
-use crate::store::StoreName;
+use crate::fault::SessionFault;
+use crate::told::{Placed, Told};
 use call_tree::CallTree;
-use flame_report::{NoMemory, Query, report};
-use op_book::{Book, BookFault, Journal, Op, Receipt, Refused, Reply};
+use change_history::{Front, Head, StoreName};
+use op_book::{Book, BookFault, Journal, Ready, Refused};
 use profile_rows::Batch;
+use shown_versions::{Version, VersionReader, VersionWriter, make_room, new_reader, publish};
 use std::alloc::{AllocError, Global};
-use std::marker::PhantomData;
-use std::sync::Arc;
+use std::sync::{Arc, Wait};
 
-/// Where a change was placed.
-#[derive(Clone, Copy, Debug, PartialEq, Eq)]
-pub struct Placed {
-    /// How many changes stand before it.
-    pub place: u64,
-}
+mod log;
 
-/// What a session was told, in order, and how many changes it made by that. Only the desk makes a log, for a session to
-/// which it gives a number, and only the desk adds to it, in the event that a receipt tells of. Nothing is ever taken
-/// out.
-#[derive(Drop)]
-pub(crate) struct Log {
-    /// The session's number.
-    number: u32,
-    receipts: Vec<Receipt>,
-    /// How many changes the session made.
-    turn: u64,
-    ghost counted: { turn ≡ changes_told receipts.items },
-}
+pub(crate) use log::Log;
 
-impl Log {
-    /// Nothing told yet to the session of this number. Takes no memory.
-    fn new(alloc: Global, number: u32) -> Log
-        ensures number { result.number ≡ number }
-        ensures nothing { result.receipts.items ≡ [] }
-    {
-        Log {
-            number,
-            receipts: Vec::new(alloc),
-            turn: 0,
-        }
-    }
-
-    /// The session's number.
-    pub(crate) fn number(&self) -> u32
-        ensures { result ≡ self.now.number }
-    {
-        self.number
-    }
-
-    /// The receipts so far.
-    pub(crate) fn receipts(&self) -> &[Receipt]
-        ensures { result.now ≡ self.now.receipts.items }
-    {
-        self.receipts.as_slice()
-    }
-
-    /// All receipts.
-    pub(crate) fn into_receipts(self) -> Vec<Receipt>
-        ensures { result.items ≡ self.receipts.items }
-    {
-        self.receipts
-    }
-
-    /// Takes memory for a receipt more.
-    pub(crate) fn make_room(&mut self) -> Result<(), AllocError>
-        ensures room { OnOk result (length self.new.receipts.items < self.new.receipts.cap) }
-        ensures same { self.new.receipts.items ≡ self.old.receipts.items }
-        ensures number { self.new.number ≡ self.old.number }
-    {
-        self.receipts.reserve(1)
-    }
-
-    /// Keeps the receipt of a change, and counts it.
-    fn keep_change(&mut self, receipt: Receipt) -> Placed
-        requires room { length self.old.receipts.items < self.old.receipts.cap }
-        requires told { (op : PlainOp) × (place : ℕ)
-            × (receipt ≡ change_told op place) × (is_change op ≡ true) }
-        ensures log { self.new.receipts.items ≡ self.old.receipts.items ++ receipt ∷ [] }
-        ensures number { self.new.number ≡ self.old.number }
-        ensures placed { receipt.reply ≡ placed result.place }
-    {
-        self.turn += 1;
-        let place = receipt.at;
-        self.receipts.push_reserved(receipt);
-        Placed { place }
-    }
-
-    /// Keeps the receipt of a report.
-    fn keep_answer(&mut self, receipt: Receipt)
-        requires room { length self.old.receipts.items < self.old.receipts.cap }
-        requires told { is_change receipt.op ≡ false }
-        ensures log { self.new.receipts.items ≡ self.old.receipts.items ++ receipt ∷ [] }
-        ensures number { self.new.number ≡ self.old.number }
-    {
-        self.receipts.push_reserved(receipt);
-    }
-}
-
-/// The book of a store, and how many sessions were given. Both keep the numbers of the store's name.
+/// The book of a store, how many sessions were given, the evidence of what the history is, and the writer of the
+/// versions. All keep the numbers of the store's name, and all have the same list of changes: that of the book, that of
+/// the history, that of the version that is shown, and that which the writer knows of.
 pub(crate) struct Desk<N: StoreName> {
     book: Book,
     sessions: u32,
     given: u32,
-    of: PhantomData<N>,
+    front: Front<N>,
+    versions: VersionWriter,
+    /// Whether a version was shown since the store has its name.
+    named: bool,
     ghost limit: { book.limit ≡ N.limit },
     ghost all: { book.sessions ≡ N.sessions },
     ghost wide: { book.width ≡ N.width },
     ghost many: { sessions ≡ N.sessions },
     ghost few: { given ≤ N.sessions },
+    ghost whole: { front ≡ book.entries },
+    ghost shown: { versions.desk.shown.value.seen.log ≡ book.entries },
+    ghost history: { versions.desk.shown.value.seen.book ≡ N.history },
+    ghost shown_wide: { versions.desk.shown.value.width ≡ N.width },
+    ghost writer: { listed (known versions.desk.place) ≡ book.entries },
+    ghost name: { named ≡ true → IsOf (known versions.desk.place) N.history N.width },
 }
 
-/// What a session is told of a report over the tree of so many changes.
-fn report_over(
-    alloc: Global,
-    tree: &CallTree,
-    changes: u64,
-    query: &Arc<Query>,
-) -> Result<Receipt, NoMemory>
-    requires { (arc_value query.now).value < tree.now.width }
-    ensures receipt { (entries : List PlainEntry) → IsReplay entries tree.now → changes ≡ length entries
-        → IfOk result (λ receipt. receipt ≡ receipt_after entries (ask (arc_value query.now))) }
-    ensures told { IfOk result (λ receipt. (answer : Answer)
-        × (receipt ≡ record { op = ask (arc_value query.now); reply = answered answer; at = changes })) }
+/// The tree after a change, shared.
+fn next_tree(alloc: Global, ready: &Ready) -> Result<Arc<CallTree>, BookFault>
+    ensures tree { IfOk result (λ tree. IsTreeAfter ready.now.before ready.now.op (arc_value tree)) }
+    ensures fault { IfErr result (λ fault. fault ≡ BookFault.NoMemory) }
 {
-    let answer = report(alloc, tree, query)?;
-    Ok(Receipt {
-        op: Op::Ask(Arc::try_clone(query)?),
-        reply: Reply::Answered(Arc::new(alloc, answer)?),
-        at: changes,
-    })
+    let tree = ready.next().share()?;
+    Ok(Arc::new(alloc, tree)?)
+}
+
+/// The version after a change that the history has.
+fn version_after<N: StoreName>(
+    book: &Book,
+    ready: &Ready,
+    front: &Front<N>,
+    tree: Arc<CallTree>,
+) -> Version
+    requires before { ready.now.before ≡ book.now }
+    requires change { is_change ready.now.op ≡ true }
+    requires turn { ready.now.turn ≡ turns_of book.now.entries ready.now.session }
+    requires front { front.now ≡ book.now.entries ++ entry_made ready.now ∷ [] }
+    requires tree { IsTreeAfter ready.now.before ready.now.op (arc_value tree) }
+    ensures log { result.seen.log ≡ front.now }
+    ensures history { result.seen.book ≡ N.history }
+    ensures width { result.width ≡ book.now.width }
+{
+    let _ = book.entries();
+    Version::new(front.len(), tree, front.reached())
 }
 
 impl<N: StoreName> Desk<N> {
-    /// The desk of a book of which no session was given.
-    pub(crate) fn new(book: Book, sessions: u32) -> Desk<N>
+    /// The desk of a book of which no session was given, and of the writer of its first version.
+    pub(crate) fn new(
+        book: Book,
+        sessions: u32,
+        front: Front<N>,
+        versions: VersionWriter,
+    ) -> Desk<N>
         requires limit { book.limit ≡ N.limit }
         requires all { book.sessions ≡ N.sessions }
         requires wide { book.width ≡ N.width }
         requires many { sessions ≡ N.sessions }
+        requires whole { front ≡ book.entries }
+        requires shown { versions.desk.shown.value.seen.log ≡ book.entries }
+        requires history { versions.desk.shown.value.seen.book ≡ N.history }
+        requires shown_wide { versions.desk.shown.value.width ≡ N.width }
+        requires writer { listed (known versions.desk.place) ≡ book.entries }
         ensures given { result.given ≡ 0 }
         ensures book { result.book ≡ book }
     {
@@ -153,32 +103,69 @@ impl<N: StoreName> Desk<N> {
             book,
             sessions,
             given: 0,
-            of: PhantomData,
+            front,
+            versions,
+            named: false,
         }
     }
 
-    /// The log of the next session, where not all were given. Sessions are numbered from 0.
-    pub(crate) fn give(&mut self, alloc: Global) -> Option<Log>
-        ensures number { MatchOption result ((self.old.given ≡ N.sessions) × (self.new.given ≡ self.old.given))
-            (λ log. (log.number ≡ self.old.given) × (log.number < N.sessions) × (self.new.given ≡ log.number + 1)
-            × (log.receipts.items ≡ [])) }
+    /// The log of the next session, where not all were given, and its reader. Sessions are numbered from 0.
+    pub(crate) fn give<R: Wait>(
+        &mut self,
+        rt: &R,
+        alloc: Global,
+    ) -> Result<(Log, VersionReader<N>), SessionFault>
+        ensures number { MatchResult result (λ given. (given.0.number ≡ self.old.given)
+            × (given.0.number < N.sessions) × (self.new.given ≡ given.0.number + 1)
+            × (given.0.receipts.items ≡ []))
+            (λ fault. IsGiveFault self.old.given N.sessions fault × (self.new.given ≡ self.old.given)) }
         ensures book { self.new.book ≡ self.old.book }
     {
         let number = self.given;
         if number >= self.sessions {
-            return None;
+            return Err(SessionFault::AllGiven);
         }
-        self.given = number + 1;
-        Some(Log::new(alloc, number))
+        if self.show_name(rt).is_err() {
+            return Err(SessionFault::NoMemory);
+        }
+        match new_reader::<N>(&mut self.versions) {
+            Ok(reader) => {
+                self.given = number + 1;
+                Ok((Log::new(alloc, number), reader))
+            }
+            Err(_) => Err(SessionFault::Place),
+        }
     }
 
-    /// The event of an addition: an entry of the book, and its receipt, for which the session's log has memory.
-    pub(crate) fn add(
+    /// Gives the writer its room, and shows the version once more, so that the writer knows of which history it is.
+    fn show_name<R: Wait>(&mut self, rt: &R) -> Result<(), AllocError>
+        ensures named { OnOk result (self.new.named ≡ true) }
+        ensures given { self.new.given ≡ self.old.given }
+        ensures sessions { self.new.sessions ≡ self.old.sessions }
+        ensures book { self.new.book ≡ self.old.book }
+    {
+        if !self.named {
+            if !make_room(&mut self.versions) {
+                return Err(AllocError);
+            }
+            let version = self.versions.published().share()?;
+            publish(rt, &mut self.versions, version);
+            self.named = true;
+        }
+        Ok(())
+    }
+
+    /// The event of an addition: an entry of the book, its version, and its receipt, for which the session's log has
+    /// memory. A refusal tells the front what the book has.
+    pub(crate) fn add<R: Wait>(
         &mut self,
+        rt: &R,
         alloc: Global,
+        head: &Head<N>,
+        front: &mut Front<N>,
         log: &mut Log,
         batch: Arc<Batch>,
-    ) -> Result<Placed, Refused<Arc<Batch>>>
+    ) -> Result<Placed<N>, Refused<Arc<Batch>>>
         requires session { log.old.number < N.sessions }
         requires room { length log.old.receipts.items < log.old.receipts.cap }
         ensures appended { OnOk result
@@ -186,83 +173,188 @@ impl<N: StoreName> Desk<N> {
             self.new.book) }
         ensures receipt { OnOk result (log.new.receipts.items
             ≡ log.old.receipts.items ++ receipt_after self.old.book.entries (add (arc_value batch)) ∷ []) }
+        ensures placed { IfOk result (λ placing. IsPlaced front.old log.old.number
+            (changes_told log.old.receipts.items) (add (arc_value batch)) placing.place front.new) }
+        ensures told { IfOk result (λ placing. placing.told ≡ front.new) }
         ensures extended { IfOk result (λ placing. log.new.receipts.items
             ≡ log.old.receipts.items ++ change_told (add (arc_value batch)) placing.place ∷ []) }
         ensures unchanged { OnErr result (IsSameBook self.old.book self.new.book) }
         ensures untold { OnErr result (log.new.receipts.items ≡ log.old.receipts.items) }
         ensures number { log.new.number ≡ log.old.number }
         ensures given { self.new.given ≡ self.old.given }
+        ensures seen { IsPrefix front.old front.new }
         ensures back { IfErr result (λ refused. refused.back ≡ batch) }
-        ensures first_fault { IfErr result (λ refused. IsFirstBookFault self.old.book log.old.number
+        ensures first_fault { IfErr result (λ refused. ((refused.fault ≡ BookFault.Version)
+            × (length self.old.book.entries < length front.new)) ⊎ IsFirstBookFault self.old.book log.old.number
             (changes_told log.old.receipts.items) (add (arc_value batch)) refused.fault) }
         ensures cause { IfErr result (λ refused. ShowsCause N.limit N.width
             (changes_told log.old.receipts.items) (add (arc_value batch)) refused.fault) }
+        ensures shown { IfErr result (λ refused. IsShownBy front.new log.old.number refused.fault) }
     {
-        match self.book.add(alloc, log.number, log.turn, batch) {
-            Ok(receipt) => Ok(log.keep_change(receipt)),
-            Err(refused) => Err(refused),
+        match self.try_add(rt, alloc, head, front, log, &batch) {
+            Ok(placed) => Ok(placed),
+            Err(fault) => Err(Refused { fault, back: batch }),
         }
     }
 
-    /// The event of a reset: an entry of the book, and its receipt, for which the session's log has memory.
-    pub(crate) fn reset(&mut self, alloc: Global, log: &mut Log) -> Result<Placed, BookFault>
+    /// The same of a batch that is lent.
+    fn try_add<R: Wait>(
+        &mut self,
+        rt: &R,
+        alloc: Global,
+        head: &Head<N>,
+        front: &mut Front<N>,
+        log: &mut Log,
+        batch: &Arc<Batch>,
+    ) -> Result<Placed<N>, BookFault>
+        requires session { log.old.number < N.sessions }
+        requires room { length log.old.receipts.items < log.old.receipts.cap }
+        ensures appended { OnOk result
+            (IsAppended self.old.book log.old.number (changes_told log.old.receipts.items)
+            (add (arc_value batch.now)) self.new.book) }
+        ensures receipt { OnOk result (log.new.receipts.items
+            ≡ log.old.receipts.items ++ receipt_after self.old.book.entries (add (arc_value batch.now)) ∷ []) }
+        ensures placed { IfOk result (λ placing. IsPlaced front.old log.old.number
+            (changes_told log.old.receipts.items) (add (arc_value batch.now)) placing.place front.new) }
+        ensures told { IfOk result (λ placing. placing.told ≡ front.new) }
+        ensures extended { IfOk result (λ placing. log.new.receipts.items
+            ≡ log.old.receipts.items ++ change_told (add (arc_value batch.now)) placing.place ∷ []) }
+        ensures unchanged { OnErr result (IsSameBook self.old.book self.new.book) }
+        ensures untold { OnErr result (log.new.receipts.items ≡ log.old.receipts.items) }
+        ensures number { log.new.number ≡ log.old.number }
+        ensures given { self.new.given ≡ self.old.given }
+        ensures seen { IsPrefix front.old front.new }
+        ensures first_fault { IfErr result (λ fault. ((fault ≡ BookFault.Version)
+            × (length self.old.book.entries < length front.new)) ⊎ IsFirstBookFault self.old.book log.old.number
+            (changes_told log.old.receipts.items) (add (arc_value batch.now)) fault) }
+        ensures cause { IfErr result (ShowsCause N.limit N.width
+            (changes_told log.old.receipts.items) (add (arc_value batch.now))) }
+        ensures shown { IfErr result (IsShownBy front.new log.old.number) }
+    {
+        let _ = self.book.entries();
+        if !front.catch_up(&self.front) {
+            return Err(BookFault::Version);
+        }
+        match self.book.prepare(alloc, log.number(), log.turn(), batch) {
+            Ok(ready) => self.make(rt, alloc, head, front, log, ready),
+            Err(fault) => Err(fault),
+        }
+    }
+
+    /// The event of a reset: an entry of the book, its version, and its receipt, for which the session's log has
+    /// memory. A refusal tells the front what the book has.
+    pub(crate) fn reset<R: Wait>(
+        &mut self,
+        rt: &R,
+        alloc: Global,
+        head: &Head<N>,
+        front: &mut Front<N>,
+        log: &mut Log,
+    ) -> Result<Placed<N>, BookFault>
         requires session { log.old.number < N.sessions }
         requires room { length log.old.receipts.items < log.old.receipts.cap }
         ensures appended { OnOk result
             (IsAppended self.old.book log.old.number (changes_told log.old.receipts.items) reset self.new.book) }
         ensures receipt { OnOk result (log.new.receipts.items
             ≡ log.old.receipts.items ++ receipt_after self.old.book.entries reset ∷ []) }
+        ensures placed { IfOk result (λ placing. IsPlaced front.old log.old.number
+            (changes_told log.old.receipts.items) reset placing.place front.new) }
+        ensures told { IfOk result (λ placing. placing.told ≡ front.new) }
         ensures extended { IfOk result
             (λ placing. log.new.receipts.items ≡ log.old.receipts.items ++ change_told reset placing.place ∷ []) }
         ensures unchanged { OnErr result (IsSameBook self.old.book self.new.book) }
         ensures untold { OnErr result (log.new.receipts.items ≡ log.old.receipts.items) }
         ensures number { log.new.number ≡ log.old.number }
         ensures given { self.new.given ≡ self.old.given }
-        ensures first_fault { IfErr result (λ fault. IsFirstBookFault self.old.book log.old.number
+        ensures seen { IsPrefix front.old front.new }
+        ensures first_fault { IfErr result (λ fault. ((fault ≡ BookFault.Version)
+            × (length self.old.book.entries < length front.new)) ⊎ IsFirstBookFault self.old.book log.old.number
             (changes_told log.old.receipts.items) reset fault) }
         ensures cause { IfErr result (ShowsCause N.limit N.width (changes_told log.old.receipts.items) reset) }
         ensures light { IfErr result (λ fault. (value held : ℕ) → fault ≢ BookFault.Heavy value held) }
+        ensures shown { IfErr result (IsShownBy front.new log.old.number) }
     {
-        match self.book.reset(alloc, log.number, log.turn) {
-            Ok(receipt) => Ok(log.keep_change(receipt)),
+        let _ = self.book.entries();
+        if !front.catch_up(&self.front) {
+            return Err(BookFault::Version);
+        }
+        match self.book.prepare_reset(alloc, log.number(), log.turn()) {
+            Ok(ready) => self.make(rt, alloc, head, front, log, ready),
             Err(fault) => Err(fault),
         }
     }
 
-    /// A report over what counts, and its receipt, for which the session's log has memory.
-    pub(crate) fn ask(
-        &self,
+    /// Makes the change that the book is ready for: the history has it, then the version that is shown, then the book.
+    /// All that may be refused stands before the history's step. It tells `Version` only where the history is longer
+    /// than the book, and the front then has that longer list.
+    fn make<R: Wait>(
+        &mut self,
+        rt: &R,
         alloc: Global,
+        head: &Head<N>,
+        front: &mut Front<N>,
         log: &mut Log,
-        query: &Arc<Query>,
-    ) -> Result<(), NoMemory>
-        requires value { (arc_value query.now).value < N.width }
+        ready: Ready,
+    ) -> Result<Placed<N>, BookFault>
+        requires before { ready.before ≡ self.old.book }
+        requires known { front.old ≡ self.old.book.entries }
+        requires change { is_change ready.op ≡ true }
+        requires mine { ready.session ≡ log.old.number }
+        requires taken { ready.turn ≡ changes_told log.old.receipts.items }
+        requires turn { ready.turn ≡ turns_of self.old.book.entries ready.session }
         requires room { length log.old.receipts.items < log.old.receipts.cap }
+        ensures appended { OnOk result
+            (IsAppended self.old.book ready.session ready.turn ready.op self.new.book) }
         ensures receipt { OnOk result (log.new.receipts.items
-            ≡ log.old.receipts.items ++ receipt_after self.now.book.entries (ask (arc_value query.now)) ∷ []) }
-        ensures extended { OnOk result ((answer : Answer) × (at : ℕ) × (log.new.receipts.items
-            ≡ log.old.receipts.items
-            ++ (record { op = ask (arc_value query.now); reply = answered answer; at = at }) ∷ [])) }
+            ≡ log.old.receipts.items ++ receipt_after self.old.book.entries ready.op ∷ []) }
+        ensures placed { IfOk result (λ placing. IsPlaced front.old log.old.number
+            (changes_told log.old.receipts.items) ready.op placing.place front.new) }
+        ensures told { IfOk result (λ placing. placing.told ≡ front.new) }
+        ensures extended { IfOk result
+            (λ placing. log.new.receipts.items ≡ log.old.receipts.items ++ change_told ready.op placing.place ∷ []) }
+        ensures unchanged { OnErr result (self.new.book ≡ self.old.book) }
         ensures untold { OnErr result (log.new.receipts.items ≡ log.old.receipts.items) }
         ensures number { log.new.number ≡ log.old.number }
+        ensures given { self.new.given ≡ self.old.given }
+        ensures seen { IsPrefix front.old front.new }
+        ensures fault { IfErr result (λ fault. (fault ≡ BookFault.NoMemory)
+            ⊎ ((fault ≡ BookFault.Version) × (length self.old.book.entries < length front.new))) }
     {
-        let changes = self.book.entries().len() as u64;
-        let receipt = report_over(alloc, self.book.tree(), changes, query)?;
-        log.keep_answer(receipt);
-        Ok(())
+        let tree = next_tree(alloc, &ready)?;
+        let _ = self.book.entries();
+        let mut next = self.front.again();
+        if !next.add(head, &ready) {
+            *front = next;
+            return Err(BookFault::Version);
+        }
+        let version = version_after(&self.book, &ready, &next, tree);
+        publish(rt, &mut self.versions, version);
+        let receipt = self.book.settle(ready);
+        *front = next.again();
+        self.front = next.again();
+        let place = log.keep_change(receipt);
+        Ok(Placed {
+            place,
+            told: Told { front: next },
+        })
     }
 
-    /// The book closed.
-    pub(crate) fn close(self) -> Journal
+    /// The book closed, and the versions ended.
+    pub(crate) fn close<R: Wait>(self, rt: &R) -> Journal
         ensures sessions { result.sessions ≡ N.sessions }
         ensures width { result.width ≡ N.width }
+        ensures few { length result.entries ≤ N.limit }
     {
         let Desk {
             book,
             sessions: _,
             given: _,
-            of: _,
+            front: _,
+            versions,
+            named: _,
         } = self;
+        drop(versions.take(rt));
+        let _ = book.entries();
         book.into_journal()
     }
 }

@@ -9,6 +9,9 @@ pub enum MakeFault {
     /// The number of sessions isn't 1 to 64.
     #[error("S1 Sessions")]
     Sessions,
+    /// There is no memory for the places of versions and their readers.
+    #[error("S2 Place")]
+    Place,
     /// Memory ran out.
     #[error("S3 NoMemory")]
     NoMemory,
@@ -20,6 +23,9 @@ pub enum SessionFault {
     /// All sessions were given.
     #[error("N1 AllGiven")]
     AllGiven,
+    /// No place for a reader of versions is free.
+    #[error("N2 Place")]
+    Place,
     /// Memory ran out.
     #[error("N3 NoMemory")]
     NoMemory,

@@ -1,5 +1,5 @@
-//! A profile store of many threads: a book behind a lock, and a session for each thread, which keeps a log of its
-//! receipts.
+//! A profile store of many threads: a book behind a lock, versions of its tree that need none, and a session for each
+//! thread, which keeps a log of its receipts and knows which changes it has seen.
 #![tactic(auto)]
 
 mod blank;
@@ -7,12 +7,14 @@ mod desk;
 mod fault;
 mod session;
 mod store;
+mod told;
 mod workers;
 
 pub use blank::{Blank, MAX_SESSIONS};
-pub use desk::Placed;
+pub use change_history::StoreName;
 pub use fault::{MakeFault, SessionFault, WorkersFault};
 pub use op_book::{BookFault, Refused};
 pub use session::Session;
-pub use store::{Store, StoreName};
+pub use store::Store;
+pub use told::{Placed, Told};
 pub use workers::{Cause, Gate, Stop, Worked, run_workers};

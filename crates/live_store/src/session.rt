@@ -1,38 +1,48 @@
 //! A session: what one thread asks of a store, and what it was told.
 
-ghost use Rattle.std.specs.Prelude.{◌≡◌, ◌≢◌, ◌<◌, ◌≤◌, ◌⊎◌, ◌++◌, ◌∷◌, [], ℕ, List, IfErr, IfOk, MatchResult, OnErr, OnOk};
+ghost use Rattle.std.specs.Prelude.{◌≡◌, ◌≢◌, ◌<◌, ◌≤◌, ◌⊎◌, ◌++◌, ◌∷◌, [], ℕ, List, IfErr, IfOk, MatchResult, OnErr, OnOk, length};
 ghost use Rattle.std.specs.Arc.{arc_value};
-ghost use Rattle.op_book.specs.Books.{change_told};
+ghost use mathlib.Core.List.{IsPrefix};
+ghost use Rattle.op_book.specs.Books.{change_told, receipt_after};
 ghost use Rattle.op_book.specs.Operations.{PlainOp, PlainReceipt, add, answered, ask, plain_op, reset};
 ghost use Rattle.flame_report.specs.declared.answer.Answer.{Answer};
-ghost use Rattle.live_store.specs.Stores.{ShowsCause, changes_told};
+ghost use Rattle.live_store.specs.Sessions.{IsBorneOut, IsPlaced, changes_by, changes_of};
+ghost use Rattle.live_store.specs.Stores.{IsShownBy, IsUnseen, ShowsCause, changes_told};
 ghost use Rattle.live_store.specs.Workers.{ops_told};
 
-use crate::desk::{Log, Placed};
-use crate::store::{Store, StoreName};
+use crate::desk::Log;
+use crate::store::Store;
+use crate::told::{Placed, Told};
+use change_history::{Front, StoreName};
 use flame_report::{Answer, Items, Query};
 use op_book::{BookFault, Op, Receipt, Refused, Reply, SessionLog};
 use profile_rows::Batch;
+use shown_versions::VersionReader;
 use std::alloc::Global;
 use std::marker::Model;
-use std::sync::{Arc, Wait};
+use std::sync::{Arc, MutexGuard, Wait};
 
-/// What one thread asks of a store. It keeps a receipt of each operation that succeeded.
+/// What one thread asks of a store. It keeps a receipt of each operation that succeeded, and the changes of the store
+/// that it knows of, which bear out its log.
 #[derive(Drop)]
 pub struct Session<'a, N: StoreName> {
     store: &'a Store<N>,
     log: Log,
+    front: Front<N>,
+    reader: VersionReader<N>,
 }
 
 impl<'a, N: StoreName> Model for Session<'a, N> {
     ghost use Rattle.std.specs.Prelude.{◌≡◌, ◌<◌};
+    ghost use Rattle.live_store.specs.Sessions.{IsBorneOut};
     ghost use Rattle.live_store.specs.Stores.{SessionState};
 
     ghost Value = { SessionState };
 
-    ghost view = { λ s. record { number = s.log.number; log = s.log.receipts.items } };
+    ghost view = { λ s. record { number = s.log.number; log = s.log.receipts.items; seen = s.front } };
 
-    ghost invariant = { λ s. s.log.number < N.sessions };
+    ghost invariant = { λ s. (s.log.number < N.sessions)
+        × IsBorneOut s.log.number s.log.receipts.items s.front };
 }
 
 impl<'a, N: StoreName> Session<'a, N> {
@@ -42,12 +52,24 @@ impl<'a, N: StoreName> Session<'a, N> {
     ghost use mir.Syntax.{named};
     ghost use Rattle.live_store.specs.contracts.session.Session.{the_row};
 
-    /// The session of a log.
-    pub(crate) fn new(store: &'a Store<N>, log: Log) -> Session<'a, N>
-        requires { log.number < N.sessions }
-        ensures { result ≡ record { number = log.number; log = log.receipts.items } }
+    /// The session of an empty log, which knows of no change.
+    pub(crate) fn new(
+        store: &'a Store<N>,
+        log: Log,
+        front: Front<N>,
+        reader: VersionReader<N>,
+    ) -> Session<'a, N>
+        requires number { log.number < N.sessions }
+        requires nothing { log.receipts.items ≡ [] }
+        requires fresh { front ≡ [] }
+        ensures { result ≡ record { number = log.number; log = []; seen = [] } }
     {
-        Session { store, log }
+        Session {
+            store,
+            log,
+            front,
+            reader,
+        }
     }
 
     /// The session's number, from 0.
@@ -60,7 +82,8 @@ impl<'a, N: StoreName> Session<'a, N> {
 
     /// The receipts so far, in order.
     pub fn log(&self) -> &[Receipt]
-        ensures { result.now ≡ self.now.log }
+        ensures log { result.now ≡ self.now.log }
+        ensures sound { IsBorneOut self.now.number self.now.log self.now.seen }
     {
         self.log.receipts()
     }
@@ -75,24 +98,43 @@ impl<'a, N: StoreName> Session<'a, N> {
         }
     }
 
+    /// From now on the session knows of what was told: its answers take in that change and all before it.
+    pub fn hear(&mut self, told: &Told<N>)
+        ensures number { self.new.number ≡ self.old.number }
+        ensures log { self.new.log ≡ self.old.log }
+        ensures longer { length self.old.seen < length told.now → self.new.seen ≡ told.now }
+        ensures same { length told.now ≤ length self.old.seen → self.new.seen ≡ self.old.seen }
+        ensures begins { IsPrefix self.old.seen self.new.seen }
+        ensures begins_told { IsPrefix told.now self.new.seen }
+    {
+        self.front = self.front.longer(&told.front);
+    }
+
     /// Adds the rows of a batch, and keeps the receipt.
     ///
     /// # Errors
     ///
-    /// The book's first [`BookFault`]. The log is then as it was, and the batch is handed back.
+    /// A [`BookFault`]. The log is then as it was, the batch is handed back, and the session knows of the changes that
+    /// were the cause.
     pub fn add<R: Wait>(
         &mut self,
         rt: &R,
         alloc: Global,
         batch: Arc<Batch>,
-    ) -> Result<Placed, Refused<Arc<Batch>>>
+    ) -> Result<Placed<N>, Refused<Arc<Batch>>>
+        ensures number { self.new.number ≡ self.old.number }
+        ensures seen { IsPrefix self.old.seen self.new.seen }
+        ensures placed { IfOk result (λ placing. IsPlaced self.old.seen self.old.number
+            (changes_told self.old.log) (add (arc_value batch)) placing.place self.new.seen) }
+        ensures told { IfOk result (λ placing. placing.told ≡ self.new.seen) }
         ensures extended { IfOk result
             (λ placing. self.new.log ≡ self.old.log ++ change_told (add (arc_value batch)) placing.place ∷ []) }
-        ensures unchanged { OnErr result (self.new ≡ self.old) }
-        ensures number { self.new.number ≡ self.old.number }
+        ensures own { OnOk result (changes_by self.new.number self.new.seen ≡ changes_of self.new.log) }
+        ensures unchanged { OnErr result (self.new.log ≡ self.old.log) }
         ensures back { IfErr result (λ refused. refused.back ≡ batch) }
         ensures cause { IfErr result (λ refused.
             ShowsCause N.limit N.width (changes_told self.old.log) (add (arc_value batch)) refused.fault) }
+        ensures shown { IfErr result (λ refused. IsShownBy self.new.seen self.old.number refused.fault) }
     {
         if self.log.make_room().is_err() {
             return Err(Refused {
@@ -101,55 +143,68 @@ impl<'a, N: StoreName> Session<'a, N> {
             });
         }
         let mut desk = self.store.desk().lock(rt);
-        desk.add(alloc, &mut self.log, batch)
+        let added = desk.add(
+            rt,
+            alloc,
+            self.store.head(),
+            &mut self.front,
+            &mut self.log,
+            batch,
+        );
+        MutexGuard::unlock(desk);
+        added
     }
 
     /// Empties the profile, and keeps the receipt: what was added before counts no more.
     ///
     /// # Errors
     ///
-    /// The book's first [`BookFault`], which is neither `Width` nor `Heavy`. The log is then as it was.
-    pub fn reset<R: Wait>(&mut self, rt: &R, alloc: Global) -> Result<Placed, BookFault>
+    /// A [`BookFault`], which is neither `Width` nor `Heavy`. The log is then as it was, and the session knows of the
+    /// changes that were the cause.
+    pub fn reset<R: Wait>(&mut self, rt: &R, alloc: Global) -> Result<Placed<N>, BookFault>
+        ensures number { self.new.number ≡ self.old.number }
+        ensures seen { IsPrefix self.old.seen self.new.seen }
+        ensures placed { IfOk result (λ placing. IsPlaced self.old.seen self.old.number
+            (changes_told self.old.log) reset placing.place self.new.seen) }
+        ensures told { IfOk result (λ placing. placing.told ≡ self.new.seen) }
         ensures extended { IfOk result
             (λ placing. self.new.log ≡ self.old.log ++ change_told reset placing.place ∷ []) }
-        ensures unchanged { OnErr result (self.new ≡ self.old) }
-        ensures number { self.new.number ≡ self.old.number }
+        ensures own { OnOk result (changes_by self.new.number self.new.seen ≡ changes_of self.new.log) }
+        ensures unchanged { OnErr result (self.new.log ≡ self.old.log) }
         ensures cause { IfErr result (ShowsCause N.limit N.width (changes_told self.old.log) reset) }
         ensures light { IfErr result (λ fault. (value held : ℕ) → fault ≢ BookFault.Heavy value held) }
+        ensures shown { IfErr result (IsShownBy self.new.seen self.old.number) }
     {
         self.log.make_room()?;
         let mut desk = self.store.desk().lock(rt);
-        desk.reset(alloc, &mut self.log)
+        let made = desk.reset(rt, alloc, self.store.head(), &mut self.front, &mut self.log);
+        MutexGuard::unlock(desk);
+        made
     }
 
-    /// Answers a query over what counts, and keeps the receipt, from which the answer is lent. The query
-    /// is shared. The contract speaks of the session once the answer is let go: its log then ends with exactly this
-    /// receipt.
+    /// Answers a query over a version that is shown, and keeps the receipt, from which the answer is lent. It takes no
+    /// lock. The query is shared. The contract speaks of the session once the answer is let go: its log then ends with
+    /// exactly this receipt, which is the plain answer after the changes that the session then knows of.
     ///
     /// # Errors
     ///
-    /// `Width` exactly where the query's value is none of the store's, and before anything is taken; `NoMemory`. The
-    /// log is then as it was.
-    pub fn ask<R: Wait>(
-        &mut self,
-        rt: &R,
-        alloc: Global,
-        query: &Arc<Query>,
-    ) -> Result<&Answer, BookFault>
+    /// `Width` exactly where the query's value is none of the store's, and before anything is taken; `NoMemory`;
+    /// `Version`. The session is then as it was.
+    pub fn ask(&mut self, alloc: Global, query: &Arc<Query>) -> Result<&Answer, BookFault>
         ensures width { MatchResult result (λ _. (arc_value query.now).value < N.width) (λ fault.
             ((N.width ≤ (arc_value query.now).value) × (fault ≡ BookFault.Width N.width))
-            ⊎ (((arc_value query.now).value < N.width) × (fault ≡ BookFault.NoMemory))) }
+            ⊎ (((arc_value query.now).value < N.width) × IsUnseen fault)) }
         ensures* ends { sem 𝓛
             (follows_so (the_row (record { mir = named 1; lft = [] }) N.row N.StoreName)
             (the_row (record { mir = named 1; lft = [] }) N.row N.StoreName)
             self.entry.ghost_name none (λ _ _. ⊤) (λ end. (end.number ≡ self.entry.now.number)
             × IfOk result
-            (λ answer. (at : ℕ)
-            × (end.log ≡ self.entry.now.log
-            ++ (record { op = ask (arc_value query.now); reply = answered answer.now; at = at }) ∷ []))
-            × OnErr result (end.log ≡ self.entry.now.log))) }
+            (λ answer. (end.log ≡ self.entry.now.log ++ receipt_after end.seen (ask (arc_value query.now)) ∷ [])
+            × ((receipt_after end.seen (ask (arc_value query.now))).reply ≡ answered answer.now)
+            × IsPrefix self.entry.now.seen end.seen)
+            × OnErr result ((end.log ≡ self.entry.now.log) × (end.seen ≡ self.entry.now.seen)))) }
     {
-        self.report(rt, alloc, query)?;
+        self.report(alloc, query)?;
         Ok(self.last_answer())
     }
 
@@ -157,7 +212,7 @@ impl<'a, N: StoreName> Session<'a, N> {
     pub(crate) fn take<R: Wait>(&mut self, rt: &R, alloc: Global, op: Op) -> Result<(), BookFault>
         ensures taken { OnOk result
             (ops_told self.new.log ≡ ops_told self.old.log ++ plain_op op ∷ []) }
-        ensures unchanged { OnErr result (self.new ≡ self.old) }
+        ensures unchanged { OnErr result (self.new.log ≡ self.old.log) }
         ensures number { self.new.number ≡ self.old.number }
         ensures cause { IfErr result
             (ShowsCause N.limit N.width (changes_told self.old.log) (plain_op op)) }
@@ -171,34 +226,34 @@ impl<'a, N: StoreName> Session<'a, N> {
                 Ok(_) => Ok(()),
                 Err(fault) => Err(fault),
             },
-            Op::Ask(query) => self.report(rt, alloc, &query),
+            Op::Ask(query) => self.report(alloc, &query),
         }
     }
 
-    /// Answers a query, and keeps the receipt.
-    fn report<R: Wait>(
-        &mut self,
-        rt: &R,
-        alloc: Global,
-        query: &Arc<Query>,
-    ) -> Result<(), BookFault>
-        ensures extended { OnOk result
-            ((answer : Answer) × (at : ℕ)
-            × (self.new.log
-            ≡ self.old.log ++ (record { op = ask (arc_value query.now); reply = answered answer; at = at }) ∷ [])) }
+    /// Answers a query over a version that is shown, and keeps the receipt.
+    fn report(&mut self, alloc: Global, query: &Arc<Query>) -> Result<(), BookFault>
+        ensures extended { OnOk result (self.new.log
+            ≡ self.old.log ++ receipt_after self.new.seen (ask (arc_value query.now)) ∷ []) }
+        ensures seen { OnOk result (IsPrefix self.old.seen self.new.seen) }
         ensures unchanged { OnErr result (self.new ≡ self.old) }
         ensures number { self.new.number ≡ self.old.number }
         ensures width { MatchResult result (λ _. (arc_value query.now).value < N.width) (λ fault.
             ((N.width ≤ (arc_value query.now).value) × (fault ≡ BookFault.Width N.width))
-            ⊎ (((arc_value query.now).value < N.width) × (fault ≡ BookFault.NoMemory))) }
+            ⊎ (((arc_value query.now).value < N.width) × IsUnseen fault)) }
     {
         let held = self.store.width().get();
         if query.value >= held {
             return Err(BookFault::Width { held });
         }
         self.log.make_room()?;
-        let desk = self.store.desk().lock(rt);
-        desk.ask(alloc, &mut self.log, query)?;
+        let made = match self.reader.report(alloc, query) {
+            Ok(made) => made,
+            Err(fault) => return Err(fault),
+        };
+        if !self.front.catch_up(&made.front) {
+            return Err(BookFault::Version);
+        }
+        self.log.keep_report(made.receipt);
         Ok(())
     }
 

@@ -1,82 +1,85 @@
-//! The store: a book behind one lock.
+//! The store: a book behind one lock, and versions of its tree.
 
-ghost use Rattle.std.specs.Prelude.{◌≡◌, ◌<◌, [], ℕ, IfOk};
+ghost use Rattle.std.specs.Prelude.{◌≡◌, ◌<◌, ◌≤◌, [], ℕ, IfOk, length};
 
 use crate::blank::Blank;
 use crate::desk::Desk;
 use crate::fault::SessionFault;
 use crate::session::Session;
+use change_history::{Front, Head, StoreName};
 use op_book::Journal;
 use profile_rows::Width;
 use std::alloc::Global;
-use std::marker::Brand;
-use std::sync::{Mutex, Wait};
-
-/// What a store's contracts speak of: how many operations it takes, how many sessions it has, and how many values a row
-/// has. A type that stands for a store implements it; it has no calls.
-pub trait StoreName: Send + Sync {
-    ghost limit: { ℕ };
-
-    ghost sessions: { ℕ };
-
-    ghost width: { ℕ };
-}
-
-impl StoreName for Brand {
-    ghost limit = { 0 };
-
-    ghost sessions = { 0 };
-
-    ghost width = { 0 };
-}
+use std::sync::{Mutex, MutexGuard, Wait};
 
 /// A profile store that many threads use, each through a session of its own. Whenever its lock is free, its tree is the
-/// aggregate of the additions in its journal that count, and each reply is what the plain profile gives after the
-/// changes before.
+/// aggregate of the additions in its journal that count, each reply is what the plain profile gives after the changes
+/// before, and the version that is shown is of all changes of the journal.
+///
+/// It isn't `Drop`: [`close`](Store::close) ends it.
 pub struct Store<N: StoreName> {
     desk: Mutex<Desk<N>>,
+    head: Head<N>,
+    origin: Front<N>,
     width: Width,
+    ghost fresh: { origin ≡ [] },
     ghost wide: { width ≡ N.width },
 }
 
 impl<N: StoreName> Store<N> {
     /// The store of a blank.
     pub fn start(blank: Blank) -> Store<N>
-        requires { blank ≡ record { limit = N.limit; sessions = N.sessions; width = N.width } }
+        requires { blank
+            ≡ record { limit = N.limit; sessions = N.sessions; width = N.width; history = N.history } }
     {
         let Blank {
             book,
             sessions,
             width,
+            word,
+            seen,
+            versions,
         } = blank;
+        let origin = Front::of(0, &seen);
         Store {
-            desk: Mutex::new(Desk::new(book, sessions)),
+            desk: Mutex::new(Desk::new(book, sessions, origin.again(), versions)),
+            head: Head::new(word),
+            origin,
             width,
         }
     }
 
-    /// The next session, with an empty log. Sessions are numbered from 0.
+    /// The next session, with an empty log, which knows of no change. Sessions are numbered from 0.
     ///
     /// # Errors
     ///
-    /// `AllGiven`; `NoMemory`. A refusal uses up no number.
+    /// `AllGiven`; `Place` where no place for a reader is free; `NoMemory`. A refusal uses up no number.
     pub fn session<R: Wait>(&self, rt: &R, alloc: Global) -> Result<Session<'_, N>, SessionFault>
-        ensures { IfOk result (λ session. (session.number < N.sessions) × (session.log ≡ [])) }
+        ensures { IfOk result
+            (λ session. (session.number < N.sessions) × (session.log ≡ []) × (session.seen ≡ [])) }
     {
-        match self.desk.lock(rt).give(alloc) {
-            Some(log) => Ok(Session::new(self, log)),
-            None => Err(SessionFault::AllGiven),
+        let mut desk = self.desk.lock(rt);
+        let given = desk.give(rt, alloc);
+        MutexGuard::unlock(desk);
+        match given {
+            Ok((log, reader)) => Ok(Session::new(self, log, self.origin.again(), reader)),
+            Err(fault) => Err(fault),
         }
     }
 
-    /// The journal of the store, once all its sessions have ended.
+    /// The journal of the store, once all its sessions have ended, and the end of its versions.
     pub fn close<R: Wait>(self, rt: &R) -> Journal
         ensures sessions { result.sessions ≡ N.sessions }
         ensures width { result.width ≡ N.width }
+        ensures few { length result.entries ≤ N.limit }
     {
-        let _ = rt;
-        let Store { desk, width: _ } = self;
-        desk.into_inner().close()
+        let Store {
+            desk,
+            head: _,
+            origin: _,
+            width: _,
+        } = self;
+        desk.into_inner().close(rt)
     }
 
     /// How many values each row has.
@@ -84,6 +87,11 @@ impl<N: StoreName> Store<N> {
         ensures { result ≡ N.width }
     {
         self.width
+    }
+
+    /// The length of the history.
+    pub(crate) fn head(&self) -> &Head<N> {
+        &self.head
     }
 
     /// The lock.

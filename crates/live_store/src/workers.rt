@@ -1,13 +1,14 @@
 //! Workers: threads of which each takes the operations of a list to a session of its own.
 
-ghost use Rattle.std.specs.Prelude.{◌≡◌, ◌≤◌, [], length, map, vec_capacity, IfOk, MatchOption};
+ghost use Rattle.std.specs.Prelude.{◌≡◌, ◌≤◌, [], length, map, vec_capacity, All, IfOk, MatchOption};
 ghost use Rattle.std.specs.Option.{ForSome};
 ghost use Rattle.op_book.specs.Operations.{plain_op};
-ghost use Rattle.live_store.specs.Workers.{AreWorkOf, IsStoppedBy, IsWorkOf, ops_told};
+ghost use Rattle.live_store.specs.Workers.{AreWorkOf, IsSeen, IsStoppedBy, IsWorkOf, ops_told};
 
 use crate::fault::WorkersFault;
 use crate::session::Session;
-use crate::store::{Store, StoreName};
+use crate::store::Store;
+use change_history::StoreName;
 use flame_report::Items;
 use op_book::{BookFault, Op, SessionLog};
 use std::alloc::Global;
@@ -73,10 +74,10 @@ struct WorkOn<N: StoreName> {
 impl<N: StoreName> Promise<Worked> for WorkOn<N> {
     ghost use Rattle.std.specs.Prelude.{◌≡◌, map};
     ghost use Rattle.op_book.specs.Operations.{plain_op};
-    ghost use Rattle.live_store.specs.Workers.{IsWorkOf};
+    ghost use Rattle.live_store.specs.Workers.{IsSeen, IsWorkOf};
 
     ghost kept_by = { λ promise worked. IsWorkOf N.limit N.width (map plain_op promise.list.value.items) worked
-        × (worked.log.session ≡ promise.session) };
+        × (worked.log.session ≡ promise.session) × IsSeen worked };
 }
 
 /// A worker whose thread was started, or couldn't be.
@@ -90,7 +91,7 @@ struct Begun<N: StoreName> {
 }
 
 /// Gives each list of operations to a session of its own, in a thread of its own, and returns what each did, in the
-/// order of the lists. A worker stops at its first refusal.
+/// order of the lists, with a log that some list of changes bears out. A worker stops at its first refusal.
 ///
 /// # Errors
 ///
@@ -103,8 +104,9 @@ pub fn run_workers<'a, N: StoreName, G: Gate, R: Threads + Wait + Sync>(
     lists: Vec<Vec<Op>>,
     gate: &G,
 ) -> Result<Vec<Worked>, WorkersFault>
-    ensures { IfOk result
+    ensures work { IfOk result
         (λ all. AreWorkOf N.limit N.width (map (λ list. map plain_op list.items) lists.items) all.items) }
+    ensures seen { IfOk result (λ all. All IsSeen all.items) }
 {
     let workers = open(rt, alloc, store, lists)?;
     let begun = Vec::with_capacity(alloc, workers.len())?;
@@ -153,8 +155,9 @@ fn work_all<'a, N: StoreName, G: Gate, R: Threads + Wait + Sync>(
 ) -> Vec<Worked>
     requires begun { (begun.items ≡ []) × (length workers.items ≤ vec_capacity begun) }
     requires worked { (worked.items ≡ []) × (length workers.items ≤ vec_capacity worked) }
-    ensures { AreWorkOf N.limit N.width
+    ensures work { AreWorkOf N.limit N.width
         (map (λ worker. map plain_op worker.list.items) workers.entry.items) result.items }
+    ensures seen { All IsSeen result.items }
 {
     thread::scope(
         thread::scope_env(),
@@ -162,8 +165,9 @@ fn work_all<'a, N: StoreName, G: Gate, R: Threads + Wait + Sync>(
         move |scope| -> Vec<Worked>
             requires { (begun.items ≡ []) × (length workers.items ≤ vec_capacity begun) × (worked.items ≡ [])
                 × (length workers.items ≤ vec_capacity worked) }
-            ensures { AreWorkOf N.limit N.width
+            ensures work { AreWorkOf N.limit N.width
                 (map (λ worker. map plain_op worker.list.items) workers.entry.items) result.items }
+            ensures seen { All IsSeen result.items }
         {
             let mut begun = begun;
             for worker in workers {
@@ -194,7 +198,8 @@ fn join_all<N: StoreName, R: Threads + Wait>(
     worked: Vec<Worked>,
 ) -> Vec<Worked>
     requires { (worked.items ≡ []) × (length begun.items ≤ vec_capacity worked) }
-    ensures { AreWorkOf N.limit N.width (map (λ one. map plain_op one.list.value.items) begun.items) result.items }
+    ensures work { AreWorkOf N.limit N.width (map (λ one. map plain_op one.list.value.items) begun.items) result.items }
+    ensures seen { All IsSeen result.items }
 {
     let mut worked = worked;
     for one in begun {
@@ -207,6 +212,7 @@ fn join_all<N: StoreName, R: Threads + Wait>(
 fn join_one<N: StoreName, R: Threads + Wait>(rt: &R, alloc: Global, begun: Begun<N>) -> Worked
     ensures work { IsWorkOf N.limit N.width (map plain_op begun.list.value.items) result }
     ensures session { result.log.session ≡ begun.session }
+    ensures seen { IsSeen result }
 {
     let Begun {
         session,
@@ -237,6 +243,7 @@ fn work<'a, N: StoreName, G: Gate, R: Wait>(
 ) -> Worked
     ensures work { IsWorkOf N.limit N.width (map plain_op worker.entry.list.items) result }
     ensures session { result.log.session ≡ worker.entry.session.number }
+    ensures seen { IsSeen result }
 {
     let Worker {
         mut session,
@@ -244,6 +251,7 @@ fn work<'a, N: StoreName, G: Gate, R: Wait>(
         list,
     } = worker;
     let stopped = take_all(rt, alloc, &mut session, place, list, gate);
+    let _ = session.log();
     Worked {
         log: session.close(),
         stopped,

@@ -1,0 +1,30 @@
+//! What a session passes on to others: where its change was placed, and what they may be told of it.
+
+use change_history::{Front, StoreName};
+use std::marker::Model;
+
+/// A list of changes that the store of this name has, as a session told it. Contracts see it as the list of entries.
+/// Whoever hears of it, by [`Session::hear`](crate::Session::hear), knows of these changes. It may be passed to any
+/// thread.
+#[derive(Drop)]
+pub struct Told<N: StoreName> {
+    pub(crate) front: Front<N>,
+}
+
+impl<N: StoreName> Model for Told<N> {
+    ghost use Rattle.std.specs.Prelude.{List};
+    ghost use Rattle.op_book.specs.Operations.{PlainEntry};
+
+    ghost Value = { List PlainEntry };
+
+    ghost view = { λ t. t.front };
+}
+
+/// Where a change was placed, and what others may be told of it.
+#[derive(Drop)]
+pub struct Placed<N: StoreName> {
+    /// How many changes stand before it.
+    pub place: u64,
+    /// The change, and all before it.
+    pub told: Told<N>,
+}

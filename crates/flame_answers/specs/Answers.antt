@@ -185,12 +185,16 @@ pub record HasLiveFault (all : Bool) (value : Option (List ℕ)) (input : List �
   pub chosen : IsLiveChoice all value choice
   pub first : IsFirstBatchFault draft choice fault
 
+-- an input of a format with a batch
+abbrev pub HasBatch : Format → Bool → Option (List ℕ) → List ℕ → Type 0
+HasBatch format all value input = (batch : BatchState) × IsBatchIn format all value input batch
+
 -- an input of a format without a batch
 abbrev pub HasNoBatch : Format → Bool → Option (List ℕ) → List ℕ → Type 0
 HasNoBatch format all value input = (batch : BatchState) → IsBatchIn format all value input batch → ⊥
 
--- What keeps `live` from an answer: the first fault of an input that has no batch; or want of memory or what happened
--- to the store, which claim nothing of the input.
+-- What keeps `live` from an answer: the first fault of an input that has no batch; what happened to the store of an
+-- input that has one; or want of memory, which claims nothing of the input.
 abbrev pub IsLiveRefused : Format → Bool → Option (List ℕ) → List ℕ → ToolFault → Type 0
 IsLiveRefused format all value input (tool.Folded fault) = (format ≡ Folded)
     × IsFirstFault input fault × (fault ≢ folded.NoMemory) × HasNoBatch format all value input
@@ -198,7 +202,7 @@ IsLiveRefused format all value input (tool.Profile fault) = (format ≡ Pprof)
     × IsProfileFault input fault × (fault ≢ profile.NoMemory) × HasNoBatch format all value input
 IsLiveRefused format all value input (tool.Batch fault) = (format ≡ Pprof)
     × HasLiveFault all value input fault × (fault ≢ batch.NoMemory) × HasNoBatch format all value input
-IsLiveRefused format all value input (tool.Live fault) = ⊤
+IsLiveRefused format all value input (tool.Live fault) = HasBatch format all value input × (fault ≢ live.NoMemory)
 IsLiveRefused format all value input tool.Name = ⊥
 IsLiveRefused format all value input tool.Sessions = ⊥
 IsLiveRefused format all value input tool.Read = ⊥
@@ -254,6 +258,7 @@ batch_fault_of batch.NoMemory = tool.NoMemory
 
 abbrev pub store_fault_of : LiveFault → ToolFault
 store_fault_of live.Start = tool.Live live.Start
+store_fault_of (live.Make fault) = tool.Live (live.Make fault)
 store_fault_of (live.Session fault) = tool.Live (live.Session fault)
 store_fault_of (live.Book fault) = tool.Live (live.Book fault)
 store_fault_of (live.Audit fault) = tool.Live (live.Audit fault)

@@ -1,20 +1,15 @@
 -- The exit statuses of the program, and what it says of its end.
-use Rattle.std.specs.Prelude.{ℕ, List, [], ◌∷◌, ◌++◌, Option, Some, None, codes, option_map, string_bytes}
+use Rattle.std.specs.Prelude.{ℕ, List, [], ◌∷◌, ◌++◌, Option, Some, None, codes, cond, option_map, string_bytes}
 use Rattle.flame_answers.specs.declared.outcomes.Outcome.{Outcome}
 use Rattle.flame_answers.specs.declared.outcomes.Outcome.TheVariants.{Done, Words, Fault}
 use Rattle.flame_answers.specs.declared.outcomes.ToolFault.{ToolFault}
 use Rattle.flame_answers.specs.declared.outcomes.ToolFault.TheVariants.{Folded, Profile, Batch, Name, Sessions, Live, Read, Write, TooLong, NoMemory}
 use Rattle.live_answers.specs.declared.fault.LiveFault.{LiveFault}
-use Rattle.live_answers.specs.declared.fault.LiveFault.TheVariants as live
+use Rattle.live_answers.specs.Faults.{is_shortage}
 
--- 4: a thread or memory was wanting. 5: the store refused an operation, or the audit refused the logs.
+-- 4: a thread, memory or a place for versions was wanting. 5: the store refused an operation, or the audit the logs.
 abbrev pub live_code_of : LiveFault → ℕ
-live_code_of live.Start = 4
-live_code_of (live.Session fault) = 5
-live_code_of (live.Book fault) = 5
-live_code_of (live.Audit fault) = 5
-live_code_of live.Warm = 5
-live_code_of live.NoMemory = 4
+live_code_of fault = cond (is_shortage fault) 4 5
 
 -- 1: the input is refused. 2: a name of the words can't be one, or there is no session for a warm start. 3: the world
 -- outside failed. 4: memory ran out. Else the rows couldn't be stored or confirmed.

@@ -28,7 +28,8 @@ use std::sync::Wait;
 use std::thread::Threads;
 
 /// The whole text that is written for an input; `hashing` says how its names and lists of locations are hashed. For
-/// `Live`, `progress` hears of each row that is in.
+/// `Live`, `progress` hears of each row that is in; threads and a lock are for `Live` alone, and the other requests are
+/// answered by [`report_on`] and [`export`].
 ///
 /// # Errors
 ///
@@ -55,8 +56,12 @@ pub fn answer<P: Progress, R: Threads + Wait + Sync>(
     }
 }
 
-/// The text of a report on an input.
-fn report_on(
+/// The text of a report on an input, as [`answer`] gives it, and without a way to wait.
+///
+/// # Errors
+///
+/// The first fault of an input that has no rows; `NoMemory`.
+pub fn report_on(
     alloc: Global,
     hashing: Hashing,
     source: &Source,
@@ -150,8 +155,12 @@ fn totals_text(
     top_text(alloc, &top)
 }
 
-/// The bytes of the profile that folded text is exported as.
-fn export(
+/// The bytes of the profile that folded text is exported as, as [`answer`] gives them, and without a way to wait.
+///
+/// # Errors
+///
+/// The first fault of text that isn't folded text; `NoMemory`.
+pub fn export(
     alloc: Global,
     hashing: Hashing,
     kind: &Text,

@@ -8,7 +8,7 @@ mod outcomes;
 mod request;
 mod streams;
 
-pub use answers::answer;
+pub use answers::{answer, export, report_on};
 pub use live_answers::{Progress, Unheard};
 pub use outcomes::{Outcome, Status, ToolFault};
 pub use request::{Format, Request, Source};

@@ -131,12 +131,9 @@ impl Outcome {
     }
 }
 
-// The status of a fault of the store: 4 where a thread or memory was wanting, else 5.
+// The status of a fault of the store: 4 where a thread, memory or a place for versions was wanting, else 5.
 fn live_code(fault: LiveFault) -> u8
     ensures { result ≡ live_code_of fault }
 {
-    match fault {
-        LiveFault::Start | LiveFault::NoMemory => 4,
-        _ => 5,
-    }
+    if fault.is_shortage() { 4 } else { 5 }
 }

@@ -1,6 +1,6 @@
 -- Where the words ask for something, the input decides how a run ends.
 use Rattle.std.proofs.Common.{◌≡◌, ◌≢◌, ◌⊎◌, inl, inr, ◌+◌, ℕ, List, ◌++◌, length, Option, Some, None, refl, sym, ap, ◌∙◌, subst, arith, length-append}
-use Rattle.std.specs.Prelude.{◌↔◌, is_some}
+use Rattle.std.specs.Prelude.{◌↔◌, Bool, true, false, cond, is_some}
 use Rattle.std.proofs.lemmas.Bool.{false≢true}
 use Rattle.std.proofs.lemmas.List.{append-nil}
 use Rattle.pprof_profile.specs.declared.faults.ProfileFault.{ProfileFault}
@@ -19,7 +19,7 @@ use Rattle.flame_answers.specs.declared.outcomes.ToolFault.TheVariants as tool
 use Rattle.flame_answers.specs.declared.request.Request.{Request}
 use Rattle.flame_answers.specs.declared.request.Request.TheVariants.{Report, Export, Live}
 use Rattle.live_answers.specs.declared.fault.LiveFault.{LiveFault}
-use Rattle.live_answers.specs.declared.fault.LiveFault.TheVariants as live
+use Rattle.live_answers.specs.Faults.{is_shortage}
 
 -- the whole input is what was unread
 whole_is : (limit : ℕ) (unread : List ℕ) (left : Option (List ℕ)) (input : List ℕ) → IsWholeInput limit (Some unread) left input → unread ≡ input
@@ -85,13 +85,15 @@ no_samples (Export kind unit) input fault first read = first.1 read.0 read.1
 no_samples (Live source options) input fault first read = first.3 read.0 read.1
 
 -- what happens to a store ends a run of `live` with 4 or 5
+abbrev code_where : Bool → ℕ
+code_where wanting = cond wanting 4 5
+
 live_codes : (fault : LiveFault) → (live_code_of fault ≡ 4) ⊎ (live_code_of fault ≡ 5)
-live_codes live.Start = inl refl
-live_codes (live.Session fault) = inr refl
-live_codes (live.Book fault) = inr refl
-live_codes (live.Audit fault) = inr refl
-live_codes live.Warm = inr refl
-live_codes live.NoMemory = inl refl
+live_codes fault = by (is_shortage fault)
+  where
+    by : (wanting : Bool) → (code_where wanting ≡ 4) ⊎ (code_where wanting ≡ 5)
+    by true = inl refl
+    by false = inr refl
 
 no_store : (request : Request) (input : List ℕ) (fault : LiveFault) (code : ℕ) → IsInputFault request input (tool.Live fault) → IsUntroubled request code → code ≢ 5
 no_store (Report source query) input fault code first calm = absurd first

@@ -1,3 +1,4 @@
 pub mod Dealing
+pub mod Faults
 pub mod Live
 pub mod Options

@@ -5,6 +5,7 @@ ghost use Rattle.std.specs.Arc.{arc_value};
 ghost use Rattle.op_book.specs.Operations.{PlainOp, add, plain_op, reset};
 ghost use Rattle.live_store.specs.Workers.{AreWorkOf, ops_told};
 ghost use Rattle.live_answers.specs.Dealing.{total_at, warm_lists};
+ghost use Rattle.live_answers.specs.Faults.{fault_of_stop};
 
 use crate::dealing::total_query;
 use crate::fault::LiveFault;
@@ -31,7 +32,8 @@ pub(crate) fn store<N: StoreName, G: Gate, R: Threads + Wait + Sync>(
     lists: Vec<Vec<Op>>,
     gate: &G,
 ) -> Result<Stored, LiveFault>
-    requires { blank ≡ record { limit = N.limit; sessions = N.sessions; width = N.width } }
+    requires { blank
+        ≡ record { limit = N.limit; sessions = N.sessions; width = N.width; history = N.history } }
     ensures told { IfOk result (λ stored. map (λ log. ops_told log.receipts) stored.logs.items
         ≡ warm_lists (option_map arc_value warm) ++ map (λ list. map plain_op list.items) lists.items) }
     ensures width { IfOk result (λ stored. stored.journal.width ≡ blank.width) }
@@ -81,7 +83,7 @@ fn warm_up<N: StoreName, R: Wait>(
         return Err(LiveFault::from(refused.fault));
     }
     let query = Arc::new(alloc, total_query(0))?;
-    let _ = session.ask(rt, alloc, &query)?;
+    let _ = session.ask(alloc, &query)?;
     let _ = session.reset(rt, alloc)?;
     Ok(session.close())
 }
@@ -118,7 +120,9 @@ pub(crate) fn is_warm(logs: &[SessionLog]) -> bool
 }
 
 /// The fault of a worker that stopped.
-fn stop_fault(cause: Cause) -> LiveFault {
+fn stop_fault(cause: Cause) -> LiveFault
+    ensures { result ≡ fault_of_stop cause }
+{
     match cause {
         Cause::Book(fault) => LiveFault::from(fault),
         Cause::Start => LiveFault::Start,

@@ -2,10 +2,10 @@
 
 ghost use Rattle.std.specs.Prelude.{◌≡◌};
 
-use crate::helpers::{ROWS, batch_of, kept_query, kinds, query_of, steps_text};
+use crate::helpers::{ROWS, audit_text, batch_of, close, kept_query, kinds, open, query_of};
 use flame_report::{Kind, Query};
 use live_store::{Blank, Session, Store, StoreName};
-use op_book::{Journal, Run, SessionLog, audit};
+use op_book::{Journal, SessionLog};
 use stack_text::{Batch, Width};
 use std::alloc::Global;
 use std::marker::Brand;
@@ -52,14 +52,13 @@ fn adds<N: StoreName, R: Wait>(
     Ok(session.add(rt, alloc, batch?).is_ok())
 }
 
-fn asks<N: StoreName, R: Wait>(
-    rt: &R,
+fn asks<N: StoreName>(
     alloc: Global,
     session: &mut Session<'_, N>,
     query: Result<Arc<Query>, Fail>,
 ) -> Result<bool, Fail> {
     let query = query?;
-    Ok(session.ask(rt, alloc, &query).is_ok())
+    Ok(session.ask(alloc, &query).is_ok())
 }
 
 // Whether the session was told what it asked for.
@@ -73,9 +72,9 @@ fn is_told<N: StoreName, R: Wait>(
         Deed::Add(text) => adds(rt, alloc, session, batch_of(alloc, text)),
         Deed::Rows(count) => adds(rt, alloc, session, rows_of(alloc, count)),
         Deed::Reset => Ok(session.reset(rt, alloc).is_ok()),
-        Deed::Total => asks(rt, alloc, session, query_of(alloc, Kind::Total)),
-        Deed::Folded => asks(rt, alloc, session, query_of(alloc, Kind::Folded)),
-        Deed::Kept(number) => asks(rt, alloc, session, kept(alloc, number)),
+        Deed::Total => asks(alloc, session, query_of(alloc, Kind::Total)),
+        Deed::Folded => asks(alloc, session, query_of(alloc, Kind::Folded)),
+        Deed::Kept(number) => asks(alloc, session, kept(alloc, number)),
     }
 }
 
@@ -97,31 +96,6 @@ fn take_turns<N: StoreName, R: Wait>(
     Ok(taken)
 }
 
-fn open<'a, N: StoreName, R: Wait>(
-    rt: &R,
-    alloc: Global,
-    store: &'a Store<N>,
-    count: usize,
-) -> Result<Vec<Session<'a, N>>, Fail> {
-    let mut sessions = Vec::new(alloc);
-    for _ in 0..count {
-        let session = store.session(rt, alloc)?;
-        sessions.push(session).ok().ok_or("no memory")?;
-    }
-    Ok(sessions)
-}
-
-fn close<N: StoreName>(
-    alloc: Global,
-    sessions: Vec<Session<'_, N>>,
-) -> Result<Vec<SessionLog>, Fail> {
-    let mut logs = Vec::new(alloc);
-    for session in sessions {
-        logs.push(session.close()).ok().ok_or("no memory")?;
-    }
-    Ok(logs)
-}
-
 /// The logs of some sessions, and how many turns were taken.
 type Logs = (Vec<SessionLog>, usize);
 
@@ -140,11 +114,6 @@ fn logs_of<N: StoreName, R: Wait>(
     }
 }
 
-fn with_steps(alloc: Global, taken: usize, run: &Run) -> Result<String, Fail> {
-    let steps = steps_text(alloc, run)?;
-    Ok(format!(in alloc; "{taken}: {steps}")?)
-}
-
 // How many turns were taken, and the steps of the run, or why the logs don't match the journal.
 fn verdict(
     alloc: Global,
@@ -152,10 +121,8 @@ fn verdict(
     logs: &[SessionLog],
     taken: usize,
 ) -> Result<String, Fail> {
-    match audit(alloc, journal, logs) {
-        Ok(run) => with_steps(alloc, taken, &run),
-        Err(fault) => Ok(format!(in alloc; "{taken}: {fault}")?),
-    }
+    let steps = audit_text(alloc, journal, logs)?;
+    Ok(format!(in alloc; "{taken}: {steps}")?)
 }
 
 fn verdict_on(alloc: Global, journal: &Journal, logs: Result<Logs, Fail>) -> Result<String, Fail> {
@@ -171,7 +138,8 @@ fn audited<N: StoreName, R: Wait>(
     count: usize,
     turns: &[Turn],
 ) -> Result<String, Fail>
-    requires { blank ≡ record { limit = N.limit; sessions = N.sessions; width = N.width } }
+    requires { blank
+        ≡ record { limit = N.limit; sessions = N.sessions; width = N.width; history = N.history } }
 {
     let store = Store::<N>::start(blank);
     let logs = logs_of(rt, alloc, &store, count, turns);

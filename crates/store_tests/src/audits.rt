@@ -1,6 +1,6 @@
 //! Audits: journals and logs that match, and logs with one change each.
 
-use crate::helpers::{batch_of, query_of, steps_text, value_query};
+use crate::helpers::{audit_text, batch_of, query_of, value_query};
 use flame_report::{Answer, Items, Kind, Query};
 use op_book::{Book, Journal, Op, Receipt, Reply, SessionLog, audit};
 use stack_text::Width;
@@ -79,10 +79,7 @@ fn logs_of(alloc: Global, logs: &[Log]) -> Result<Vec<SessionLog>, Fail> {
 // The steps of the run, or the fault as it is printed.
 fn audited(alloc: Global, journal: &Journal, logs: &[Log]) -> Result<String, Fail> {
     let logs = logs_of(alloc, logs)?;
-    match audit(alloc, journal, &logs) {
-        Ok(run) => steps_text(alloc, &run),
-        Err(fault) => Ok(format!(in alloc; "{fault}")?),
-    }
+    audit_text(alloc, journal, &logs)
 }
 
 fn book_of(alloc: Global) -> Result<Book, Fail> {

@@ -212,7 +212,8 @@ fn settled(alloc: Global, book: &mut Book, ready: Ready) -> Result<String, Fail>
 }
 
 fn prepared(alloc: Global, book: &mut Book, turn: u64, text: &str) -> Result<String, Fail> {
-    match book.prepare(alloc, 0, turn, batch_of(alloc, text)?) {
+    let batch = batch_of(alloc, text)?;
+    match book.prepare(alloc, 0, turn, &batch) {
         Ok(ready) => settled(alloc, book, ready),
         Err(_) => Err("refused".into()),
     }
@@ -246,7 +247,8 @@ fn a_prepared_change_is_made_when_it_is_settled(rt: HostRuntime) -> Result<(), F
 
 // A change that is prepared and let go.
 fn let_go(alloc: Global, book: &mut Book, text: &str) -> Result<u64, Fail> {
-    match book.prepare(alloc, 0, 0, batch_of(alloc, text)?) {
+    let batch = batch_of(alloc, text)?;
+    match book.prepare(alloc, 0, 0, &batch) {
         Ok(ready) => Ok(total_of(ready.next())),
         Err(_) => Err("refused".into()),
     }

@@ -1,11 +1,14 @@
-//! What the tests are made of: batches of folded text, queries, and answers as text.
+//! What the tests are made of: batches of folded text, queries, sessions, and answers as text.
 
 use flame_report::{Answer, Columns, Kind, Query, Rank, flame_json, top_text};
-use op_book::Run;
+use live_store::{BookFault, Session, Store, StoreName};
+use op_book::{Journal, Run, SessionLog, audit};
 use stack_text::{Batch, Name, Stack, Weights, Width, read_folded};
 use std::alloc::Global;
-use std::sync::Arc;
+use std::sync::atomic::{AtomicU64, Ordering};
+use std::sync::{Arc, Wait};
 use std::test::Fail;
+use std::thread;
 
 pub(crate) fn batch_of(alloc: Global, text: &str) -> Result<Arc<Batch>, Fail> {
     Ok(Arc::new(alloc, read_folded(alloc, text.as_bytes())?)?)
@@ -121,4 +124,109 @@ pub(crate) fn steps_text(alloc: Global, run: &Run) -> Result<String, Fail> {
         text.push_str(place.as_str())?;
     }
     Ok(text)
+}
+
+/// The steps of the run, or the fault as it is printed.
+pub(crate) fn audit_text(
+    alloc: Global,
+    journal: &Journal,
+    logs: &[SessionLog],
+) -> Result<String, Fail> {
+    match audit(alloc, journal, logs) {
+        Ok(run) => steps_text(alloc, &run),
+        Err(fault) => Ok(format!(in alloc; "{fault}")?),
+    }
+}
+
+/// So many sessions of a store.
+pub(crate) fn open<'a, N: StoreName, R: Wait>(
+    rt: &R,
+    alloc: Global,
+    store: &'a Store<N>,
+    count: usize,
+) -> Result<Vec<Session<'a, N>>, Fail> {
+    let mut sessions = Vec::new(alloc);
+    for _ in 0..count {
+        let session = store.session(rt, alloc)?;
+        sessions.push(session).ok().ok_or("no memory")?;
+    }
+    Ok(sessions)
+}
+
+/// The logs of sessions, which end.
+pub(crate) fn close<N: StoreName>(
+    alloc: Global,
+    sessions: Vec<Session<'_, N>>,
+) -> Result<Vec<SessionLog>, Fail> {
+    let mut logs = Vec::new(alloc);
+    for session in sessions {
+        logs.push(session.close()).ok().ok_or("no memory")?;
+    }
+    Ok(logs)
+}
+
+/// The place that a batch is given, or why it is refused.
+pub(crate) fn add_batch<N: StoreName, R: Wait>(
+    rt: &R,
+    alloc: Global,
+    session: &mut Session<'_, N>,
+    batch: Arc<Batch>,
+) -> Result<u64, BookFault> {
+    match session.add(rt, alloc, batch) {
+        Ok(placed) => Ok(placed.place),
+        Err(refused) => Err(refused.fault),
+    }
+}
+
+/// The same of folded text.
+pub(crate) fn add<N: StoreName, R: Wait>(
+    rt: &R,
+    alloc: Global,
+    session: &mut Session<'_, N>,
+    text: &str,
+) -> Result<Result<u64, BookFault>, Fail> {
+    let batch = batch_of(alloc, text)?;
+    Ok(add_batch(rt, alloc, session, batch))
+}
+
+/// A session adds a batch so often. It gives how many receipts it then has.
+pub(crate) fn add_often<N: StoreName, R: Wait>(
+    rt: &R,
+    alloc: Global,
+    session: &mut Session<'_, N>,
+    batch: &Arc<Batch>,
+    times: usize,
+) -> usize {
+    for _ in 0..times {
+        let Ok(shared) = Arc::try_clone(batch) else {
+            break;
+        };
+        if session.add(rt, alloc, shared).is_err() {
+            break;
+        }
+    }
+    session.log().len()
+}
+
+/// What a session answers, or why it refuses the question.
+pub(crate) fn reply_text<N: StoreName>(
+    alloc: Global,
+    session: &mut Session<'_, N>,
+    query: &Arc<Query>,
+) -> Result<String, Fail> {
+    match session.ask(alloc, query) {
+        Ok(answer) => answer_text(alloc, answer),
+        Err(fault) => Ok(format!(in alloc; "{fault:?}")?),
+    }
+}
+
+/// Whether so many come, within some turns.
+pub(crate) fn come(there: &AtomicU64, count: u64) -> bool {
+    for _ in 0..100_000_000 {
+        if there.load(Ordering::SeqCst) >= count {
+            return true;
+        }
+        thread::yield_now();
+    }
+    false
 }

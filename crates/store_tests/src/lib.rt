@@ -14,4 +14,8 @@ mod live;
 #[cfg(test)]
 mod stores;
 #[cfg(test)]
+mod threads;
+#[cfg(test)]
+mod versions;
+#[cfg(test)]
 mod workers;

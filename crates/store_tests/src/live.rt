@@ -2,7 +2,7 @@
 
 use crate::helpers::{batch_of, row_of};
 use live_answers::{LiveFault, LiveOptions, Progress, Unheard, live_text};
-use live_store::{BookFault, SessionFault, WorkersFault};
+use live_store::{BookFault, MakeFault, SessionFault, WorkersFault};
 use op_book::AuditFault;
 use stack_text::{Batch, Hashing};
 use std::alloc::Global;
@@ -74,33 +74,44 @@ fn one_worker_behind_a_warm_start(rt: HostRuntime) -> Result<(), Fail> {
     Ok(())
 }
 
-#[test]
-fn faults_are_printed_by_their_causes(rt: HostRuntime) -> Result<(), Fail> {
+// How faults are printed, each with whether something was wanting, so that the store refused nothing.
+fn printed_faults() -> [(LiveFault, &'static str, bool); 15] {
     let all_given = SessionFault::AllGiven;
     let no_session = WorkersFault::Session {
         worker: 1,
         fault: all_given,
     };
-    for (fault, wanted) in [
-        (LiveFault::Start, "E5 Start"),
-        (LiveFault::Warm, "E6 Warm"),
-        (LiveFault::from(all_given), "N1 AllGiven"),
-        (LiveFault::from(no_session), "N1 AllGiven"),
-        (
-            LiveFault::from(BookFault::Full { held: 2 }),
-            "K3 Full held 2",
-        ),
-        (
-            LiveFault::from(AuditFault::Missing { entry: 1 }),
-            "A4 Missing entry 1",
-        ),
-        (LiveFault::from(SessionFault::NoMemory), "E4 NoMemory"),
-        (LiveFault::from(WorkersFault::NoMemory), "E4 NoMemory"),
-        (LiveFault::from(BookFault::NoMemory), "E4 NoMemory"),
-        (LiveFault::from(AuditFault::NoMemory), "E4 NoMemory"),
-    ] {
+    let no_place = WorkersFault::Session {
+        worker: 0,
+        fault: SessionFault::Place,
+    };
+    let full = BookFault::Full { held: 2 };
+    let missing = AuditFault::Missing { entry: 1 };
+    [
+        (LiveFault::Start, "E5 Start", true),
+        (LiveFault::Warm, "E6 Warm", false),
+        (LiveFault::from(MakeFault::Place), "S2 Place", true),
+        (LiveFault::from(SessionFault::Place), "N2 Place", true),
+        (LiveFault::from(no_place), "N2 Place", true),
+        (LiveFault::from(BookFault::Version), "K7 Version", true),
+        (LiveFault::from(all_given), "N1 AllGiven", false),
+        (LiveFault::from(no_session), "N1 AllGiven", false),
+        (LiveFault::from(full), "K3 Full held 2", false),
+        (LiveFault::from(missing), "A4 Missing entry 1", false),
+        (LiveFault::from(MakeFault::NoMemory), "E4 NoMemory", true),
+        (LiveFault::from(SessionFault::NoMemory), "E4 NoMemory", true),
+        (LiveFault::from(BookFault::NoMemory), "E4 NoMemory", true),
+        (LiveFault::from(WorkersFault::NoMemory), "E4 NoMemory", true),
+        (LiveFault::from(AuditFault::NoMemory), "E4 NoMemory", true),
+    ]
+}
+
+#[test]
+fn faults_are_printed_by_their_causes(rt: HostRuntime) -> Result<(), Fail> {
+    for (fault, wanted, is_shortage) in printed_faults() {
         let said = format!(in rt.alloc(); "{fault}")?;
         assert_eq!(rt; said.as_str(), wanted);
+        assert!(rt; fault.is_shortage() == is_shortage, "{wanted}");
     }
     Ok(())
 }

@@ -1,55 +1,28 @@
-//! What no clause says of stores: that calls succeed with ample memory, what they answer on worked rows, that a closed
-//! store gives its own journal, and that sessions may be used by threads.
+//! What no clause says of stores: that one is made with ample memory, that a closed store gives its own journal, and what
+//! sessions answer to questions of each kind and of several values, and while others make changes or end.
 
 ghost use Rattle.std.specs.Prelude.{◌≡◌};
 
 use crate::helpers::{
-    KEPT_REPORTS, ROWS, answer_text, batch_of, kept_query, kinds, query_of, row_of, value_query,
-    width_of,
+    KEPT_REPORTS, ROWS, add, add_batch, add_often, answer_text, batch_of, kept_query, kinds,
+    query_of, reply_text, row_of, value_query, width_of,
 };
-use flame_report::{Answer, Columns, Kind, Query, Rank};
-use live_store::{Blank, BookFault, Session, Store, StoreName};
-use op_book::Journal;
-use stack_text::{Batch, MAX_TOTAL, Width};
+use flame_report::{Answer, Columns, Kind, Rank};
+use live_store::{Blank, BookFault, MakeFault, Session, Store, StoreName};
+use op_book::{Journal, Receipt, Reply};
+use stack_text::{MAX_TOTAL, Width};
 use std::alloc::Global;
 use std::marker::Brand;
-use std::sync::{Arc, Wait};
+use std::sync::Wait;
 use std::test::Fail;
-use std::thread;
-use std::thread::Threads;
-
-// The place that a batch is given, or why it is refused.
-fn add_batch<N: StoreName, R: Wait>(
-    rt: &R,
-    alloc: Global,
-    session: &mut Session<'_, N>,
-    batch: Arc<Batch>,
-) -> Result<u64, BookFault> {
-    match session.add(rt, alloc, batch) {
-        Ok(placed) => Ok(placed.place),
-        Err(refused) => Err(refused.fault),
-    }
-}
-
-// The same of folded text.
-fn add<N: StoreName, R: Wait>(
-    rt: &R,
-    alloc: Global,
-    session: &mut Session<'_, N>,
-    text: &str,
-) -> Result<Result<u64, BookFault>, Fail> {
-    let batch = batch_of(alloc, text)?;
-    Ok(add_batch(rt, alloc, session, batch))
-}
 
 // The weight of all that was added, or why the question is refused.
-fn total<N: StoreName, R: Wait>(
-    rt: &R,
+fn total<N: StoreName>(
     alloc: Global,
     session: &mut Session<'_, N>,
 ) -> Result<Result<u64, BookFault>, Fail> {
     let query = query_of(alloc, Kind::Total)?;
-    match session.ask(rt, alloc, &query) {
+    match session.ask(alloc, &query) {
         Ok(Answer::Total(total)) => Ok(Ok(*total)),
         Ok(_) => Err("another answer".into()),
         Err(fault) => Ok(Err(fault)),
@@ -74,7 +47,7 @@ fn first_turns<N: StoreName, R: Wait>(
 ) -> Result<String, Fail> {
     let a = add(rt, alloc, first, "a 1\n")?;
     let b = add(rt, alloc, second, "b 2\n")?;
-    let three = total(rt, alloc, first)?;
+    let three = total(alloc, first)?;
     Ok(format!(in alloc; "{a:?} {b:?} {three:?}")?)
 }
 
@@ -85,7 +58,7 @@ fn later_turns<N: StoreName, R: Wait>(
     session: &mut Session<'_, N>,
 ) -> Result<String, Fail> {
     let c = add(rt, alloc, session, "c 4\n")?;
-    let seven = total(rt, alloc, session)?;
+    let seven = total(alloc, session)?;
     Ok(format!(in alloc; "{c:?} {seven:?}")?)
 }
 
@@ -133,12 +106,38 @@ fn with_sessions(
 
 // What two sessions are told, and what the closed store leaves.
 fn closed<N: StoreName, R: Wait>(rt: &R, alloc: Global, blank: Blank) -> Result<String, Fail>
-    requires { blank ≡ record { limit = N.limit; sessions = N.sessions; width = N.width } }
+    requires { blank
+        ≡ record { limit = N.limit; sessions = N.sessions; width = N.width; history = N.history } }
 {
     let store = Store::<N>::start(blank);
     let told = two_sessions(rt, alloc, &store);
     let journal = store.close(rt);
     with_sessions(alloc, told, &journal)
+}
+
+// How many sessions a store has of which none was used.
+fn closed_unused<N: StoreName, R: Wait>(rt: &R, blank: Blank) -> u32
+    requires { blank
+        ≡ record { limit = N.limit; sessions = N.sessions; width = N.width; history = N.history } }
+{
+    Store::<N>::start(blank).close(rt).sessions()
+}
+
+// How many sessions a store has that was asked for so many, or why there is none.
+fn sessions_made<R: Wait>(rt: &R, alloc: Global, sessions: u32) -> Result<u32, MakeFault> {
+    let blank = Blank::make(alloc, 10, sessions, Width::one())?;
+    Ok(closed_unused::<Brand, R>(rt, blank))
+}
+
+#[test]
+fn a_store_has_one_session_to_sixty_four(rt: HostRuntime) {
+    let none = Err(MakeFault::Sessions);
+    for (sessions, wanted) in [(0, none), (1, Ok(1)), (64, Ok(64)), (65, none)] {
+        assert!(rt;
+            sessions_made(&rt, rt.alloc(), sessions) == wanted,
+            "{sessions}"
+        );
+    }
 }
 
 #[test]
@@ -152,90 +151,14 @@ fn closed_store_gives_its_journal(rt: HostRuntime) -> Result<(), Fail> {
     Ok(())
 }
 
-// A session that is refused for want of room and goes on: what it is told.
-fn go_on<N: StoreName, R: Wait>(
-    rt: &R,
-    alloc: Global,
-    session: &mut Session<'_, N>,
-) -> Result<String, Fail> {
-    let most = add(rt, alloc, session, "a 9223372036854775806\n")?;
-    let heavy = add(rt, alloc, session, "b 2\n")?;
-    let last = add(rt, alloc, session, "b 1\n")?;
-    let all = total(rt, alloc, session)?;
-    let full = add(rt, alloc, session, "c 1\n")?;
-    Ok(format!(in alloc; "{most:?} {heavy:?} {last:?} {all:?} {full:?}")?)
-}
-
-// What such a session is told, and how many receipts it has.
-fn refused_session<N: StoreName, R: Wait>(
-    rt: &R,
-    alloc: Global,
-    store: &Store<N>,
-) -> Result<String, Fail> {
-    let mut session = store.session(rt, alloc)?;
-    let told = go_on(rt, alloc, &mut session);
-    let receipts = session.close().receipts.as_slice().len();
-    Ok(format!(in alloc; "{} {receipts}", told?)?)
-}
-
-// What a session of a store of two entries is told.
-fn refused<N: StoreName, R: Wait>(rt: &R, alloc: Global, blank: Blank) -> Result<String, Fail>
-    requires { blank ≡ record { limit = N.limit; sessions = N.sessions; width = N.width } }
-{
-    let store = Store::<N>::start(blank);
-    let told = refused_session(rt, alloc, &store);
-    let count = store.close(rt).entries().len();
-    Ok(format!(in alloc; "{}; {count}", told?)?)
-}
-
-#[test]
-fn store_limits(rt: HostRuntime) -> Result<(), Fail> {
-    let alloc = rt.alloc();
-    let told = refused::<Brand, HostRuntime>(&rt, alloc, Blank::make(alloc, 2, 1, Width::one())?)?;
-    assert_eq!(rt;
-        told.as_str(),
-        "Ok(0) Err(Heavy { value: 0, held: 9223372036854775806 }) Ok(1) Ok(9223372036854775807) \
-         Err(Full { held: 2 }) 3; 2"
-    );
-    Ok(())
-}
-
-// A session beside one that leaves room for a weight of 1: what it is told, and how many receipts it has.
-fn smaller_batch<N: StoreName, R: Wait>(
-    rt: &R,
-    alloc: Global,
-    heavy: &mut Session<'_, N>,
-    session: &mut Session<'_, N>,
-) -> Result<String, Fail> {
-    let most = add(rt, alloc, heavy, "a 9223372036854775806\n")?;
-    let refused = add(rt, alloc, session, "b 2\n")?;
-    let smaller = add(rt, alloc, session, "b 1\n")?;
-    let receipts = session.log().len();
-    Ok(format!(in alloc; "{most:?} {refused:?} {smaller:?} {receipts}")?)
-}
-
-// A session that adds a row and asks for the total, and another that then asks for it: what they are told.
-fn other_asks<N: StoreName, R: Wait>(
-    rt: &R,
-    alloc: Global,
-    first: &mut Session<'_, N>,
-    second: &mut Session<'_, N>,
-) -> Result<String, Fail> {
-    let place = add(rt, alloc, first, "a 1\n")?;
-    let own = total(rt, alloc, first)?;
-    let other = total(rt, alloc, second)?;
-    Ok(format!(in alloc; "{place:?} {own:?} {other:?}")?)
-}
-
 // What a session answers a query of some kind.
-fn report_on<N: StoreName, R: Wait>(
-    rt: &R,
+fn report_on<N: StoreName>(
     alloc: Global,
     session: &mut Session<'_, N>,
     kind: Kind,
 ) -> Result<String, Fail> {
     let query = kept_query(alloc, kind)?;
-    match session.ask(rt, alloc, &query) {
+    match session.ask(alloc, &query) {
         Ok(answer) => answer_text(alloc, answer),
         Err(_) => Err("refused".into()),
     }
@@ -250,7 +173,7 @@ fn each_kind<N: StoreName, R: Wait>(
     add(rt, alloc, session, ROWS)?.ok().ok_or("refused")?;
     let mut text = String::new(alloc);
     for kind in kinds()? {
-        text.push_str(report_on(rt, alloc, session, kind)?.as_str())?;
+        text.push_str(report_on(alloc, session, kind)?.as_str())?;
         text.push('|')?;
     }
     Ok(text)
@@ -293,37 +216,19 @@ fn add_rows<N: StoreName, R: Wait>(
     Ok(text)
 }
 
-// What a session answers, or why it refuses the question.
-fn told_of<N: StoreName, R: Wait>(
-    rt: &R,
-    alloc: Global,
-    session: &mut Session<'_, N>,
-    query: &Arc<Query>,
-) -> Result<String, Fail> {
-    match session.ask(rt, alloc, query) {
-        Ok(answer) => answer_text(alloc, answer),
-        Err(fault) => Ok(format!(in alloc; "{fault:?}")?),
-    }
-}
-
 // What a session answers by a value, or why it refuses the question.
-fn answer_by<N: StoreName, R: Wait>(
-    rt: &R,
+fn answer_by<N: StoreName>(
     alloc: Global,
     session: &mut Session<'_, N>,
     value: u32,
     kind: Kind,
 ) -> Result<String, Fail> {
     let query = value_query(alloc, value, kind)?;
-    told_of(rt, alloc, session, &query)
+    reply_text(alloc, session, &query)
 }
 
 // What a session answers to questions of values and kinds.
-fn answers_by<N: StoreName, R: Wait>(
-    rt: &R,
-    alloc: Global,
-    session: &mut Session<'_, N>,
-) -> Result<String, Fail> {
+fn answers_by<N: StoreName>(alloc: Global, session: &mut Session<'_, N>) -> Result<String, Fail> {
     let top = Kind::Top {
         rank: Rank::Flat,
         count: 20,
@@ -338,7 +243,7 @@ fn answers_by<N: StoreName, R: Wait>(
         (1, Kind::Folded),
         (2, Kind::Total),
     ] {
-        text.push_str(answer_by(rt, alloc, session, value, kind)?.as_str())?;
+        text.push_str(answer_by(alloc, session, value, kind)?.as_str())?;
         text.push('|')?;
     }
     Ok(text)
@@ -356,7 +261,7 @@ fn two_values<N: StoreName, R: Wait>(
         make_row("c", &[3]),
     ];
     let added = add_rows(rt, alloc, session, &rows)?;
-    let answers = answers_by(rt, alloc, session)?;
+    let answers = answers_by(alloc, session)?;
     Ok(format!(in alloc; "{added}{answers}")?)
 }
 
@@ -374,88 +279,79 @@ fn limit_of_each<N: StoreName, R: Wait>(
     add_rows(rt, alloc, session, &rows)
 }
 
-/// What a session does in turn.
-#[derive(Clone, Copy)]
-enum Deed {
-    Add(&'static str),
-    Reset,
-    Total,
-}
-
-// The place that a reset is given, or why it is refused.
-fn reset<N: StoreName, R: Wait>(
-    rt: &R,
-    alloc: Global,
-    session: &mut Session<'_, N>,
-) -> Result<u64, BookFault> {
-    match session.reset(rt, alloc) {
-        Ok(placed) => Ok(placed.place),
-        Err(fault) => Err(fault),
+// The first answer of a session's log.
+fn first_answer(alloc: Global, receipts: &[Receipt]) -> Result<String, Fail> {
+    for receipt in receipts {
+        if let Reply::Answered(answer) = &receipt.reply {
+            return answer_text(alloc, answer);
+        }
     }
+    Err("no answer".into())
 }
 
-// What a session is told of one of its deeds.
-fn told_at<N: StoreName, R: Wait>(
+// An answer that a session holds while another makes so many changes. It is followed by how many receipts that one has.
+fn held_answer<N: StoreName, R: Wait>(
     rt: &R,
     alloc: Global,
-    session: &mut Session<'_, N>,
-    deed: Deed,
+    first: &mut Session<'_, N>,
+    second: &mut Session<'_, N>,
+    changes: usize,
 ) -> Result<String, Fail> {
-    let told = match deed {
-        Deed::Add(text) => add(rt, alloc, session, text)?,
-        Deed::Reset => reset(rt, alloc, session),
-        Deed::Total => total(rt, alloc, session)?,
-    };
-    Ok(format!(in alloc; "{told:?}|")?)
+    let batch = batch_of(alloc, "main;a 1\nb 1\n")?;
+    let query = query_of(alloc, Kind::Folded)?;
+    let answer = first.ask(alloc, &query)?;
+    let made = add_often(rt, alloc, second, &batch, changes);
+    let text = answer_text(alloc, answer)?;
+    Ok(format!(in alloc; "{text}{made}|")?)
 }
 
-fn told_in_turn<N: StoreName, R: Wait>(
+// What is held, what the log then has, and what is answered then.
+fn kept_answer<N: StoreName, R: Wait>(
     rt: &R,
     alloc: Global,
-    session: &mut Session<'_, N>,
-    deeds: &[Deed],
+    first: &mut Session<'_, N>,
+    second: &mut Session<'_, N>,
 ) -> Result<String, Fail> {
-    let mut text = String::new(alloc);
-    for deed in deeds {
-        text.push_str(told_at(rt, alloc, session, *deed)?.as_str())?;
-    }
-    Ok(text)
+    let _place = add(rt, alloc, first, "main;a 7\n")?;
+    let held = held_answer(rt, alloc, first, second, 300)?;
+    let kept = first_answer(alloc, first.log())?;
+    let late = answer_by(alloc, first, 0, Kind::Folded)?;
+    Ok(format!(in alloc; "{held}{kept}|{late}")?)
 }
 
-const BETWEEN: &[Deed] = &[
-    Deed::Add("a 1\n"),
-    Deed::Reset,
-    Deed::Total,
-    Deed::Add("b 2\n"),
-    Deed::Total,
-];
+// The total that the next session answers. It ends with that.
+fn total_once<N: StoreName, R: Wait>(
+    rt: &R,
+    alloc: Global,
+    store: &Store<N>,
+) -> Result<Result<u64, BookFault>, Fail> {
+    let mut session = store.session(rt, alloc)?;
+    total(alloc, &mut session)
+}
 
-const HEAVY: &[Deed] = &[
-    Deed::Reset,
-    Deed::Add("a 9223372036854775807\n"),
-    Deed::Add("a 1\n"),
-    Deed::Reset,
-    Deed::Add("a 1\n"),
-    Deed::Total,
-];
-
-const FULL: &[Deed] = &[
-    Deed::Add("a 1\n"),
-    Deed::Reset,
-    Deed::Add("b 1\n"),
-    Deed::Reset,
-    Deed::Total,
-];
+// A session that goes on, while others end behind their first report: what these are told, and how many receipts it has.
+fn others_end<N: StoreName, R: Wait>(
+    rt: &R,
+    alloc: Global,
+    store: &Store<N>,
+    session: &mut Session<'_, N>,
+) -> Result<String, Fail> {
+    let batch = batch_of(alloc, "main;a 1\n")?;
+    let early = total_once(rt, alloc, store)?;
+    let half = add_often(rt, alloc, session, &batch, 50);
+    let late = total_once(rt, alloc, store)?;
+    let all = add_often(rt, alloc, session, &batch, 50);
+    Ok(format!(in alloc; "{early:?} {half} {late:?} {all}")?)
+}
 
 // What two sessions do, or one of them.
 #[derive(Clone, Copy)]
 enum Story {
-    InTurn(&'static [Deed]),
     TwoValues,
     LimitOfEach,
-    SmallerBatch,
-    OtherAsks,
     EachKind,
+    KeptAnswer,
+    OthersEnd,
 }
 
 fn told_in<N: StoreName, R: Wait>(
@@ -467,12 +363,11 @@ fn told_in<N: StoreName, R: Wait>(
     let mut first = store.session(rt, alloc)?;
     let mut second = store.session(rt, alloc)?;
     match story {
-        Story::InTurn(deeds) => told_in_turn(rt, alloc, &mut first, deeds),
-        Story::SmallerBatch => smaller_batch(rt, alloc, &mut first, &mut second),
-        Story::OtherAsks => other_asks(rt, alloc, &mut first, &mut second),
         Story::EachKind => each_kind(rt, alloc, &mut first),
         Story::TwoValues => two_values(rt, alloc, &mut first),
         Story::LimitOfEach => limit_of_each(rt, alloc, &mut first),
+        Story::KeptAnswer => kept_answer(rt, alloc, &mut first, &mut second),
+        Story::OthersEnd => others_end(rt, alloc, store, &mut first),
     }
 }
 
@@ -482,33 +377,13 @@ fn told<N: StoreName, R: Wait>(
     blank: Blank,
     story: Story,
 ) -> Result<String, Fail>
-    requires { blank ≡ record { limit = N.limit; sessions = N.sessions; width = N.width } }
+    requires { blank
+        ≡ record { limit = N.limit; sessions = N.sessions; width = N.width; history = N.history } }
 {
     let store = Store::<N>::start(blank);
     let told = told_in(rt, alloc, &store, story);
     let _journal = store.close(rt);
     told
-}
-
-#[test]
-fn a_session_that_was_refused_adds_a_smaller_batch(rt: HostRuntime) -> Result<(), Fail> {
-    let alloc = rt.alloc();
-    let blank = Blank::make(alloc, 10, 2, Width::one())?;
-    let told = told::<Brand, HostRuntime>(&rt, alloc, blank, Story::SmallerBatch)?;
-    assert_eq!(rt;
-        told.as_str(),
-        "Ok(0) Err(Heavy { value: 0, held: 9223372036854775806 }) Ok(1) 1"
-    );
-    Ok(())
-}
-
-#[test]
-fn an_addition_is_seen_by_the_other_session(rt: HostRuntime) -> Result<(), Fail> {
-    let alloc = rt.alloc();
-    let blank = Blank::make(alloc, 10, 2, Width::one())?;
-    let told = told::<Brand, HostRuntime>(&rt, alloc, blank, Story::OtherAsks)?;
-    assert_eq!(rt; told.as_str(), "Ok(0) Ok(1) Ok(1)");
-    Ok(())
 }
 
 #[test]
@@ -549,100 +424,22 @@ fn the_limit_of_each_value(rt: HostRuntime) -> Result<(), Fail> {
 }
 
 #[test]
-fn a_reset_between_two_additions(rt: HostRuntime) -> Result<(), Fail> {
+fn an_answer_is_kept_while_others_make_changes(rt: HostRuntime) -> Result<(), Fail> {
     let alloc = rt.alloc();
-    let blank = Blank::make(alloc, 10, 2, Width::one())?;
-    let told = told::<Brand, HostRuntime>(&rt, alloc, blank, Story::InTurn(BETWEEN))?;
-    assert_eq!(rt; told.as_str(), "Ok(0)|Ok(1)|Ok(0)|Ok(2)|Ok(2)|");
-    Ok(())
-}
-
-#[test]
-fn what_stood_before_a_reset_weighs_nothing(rt: HostRuntime) -> Result<(), Fail> {
-    let alloc = rt.alloc();
-    let blank = Blank::make(alloc, 10, 2, Width::one())?;
-    let told = told::<Brand, HostRuntime>(&rt, alloc, blank, Story::InTurn(HEAVY))?;
+    let blank = Blank::make(alloc, 301, 2, Width::one())?;
+    let told = told::<Brand, HostRuntime>(&rt, alloc, blank, Story::KeptAnswer)?;
     assert_eq!(rt;
         told.as_str(),
-        "Ok(0)|Ok(1)|Err(Heavy { value: 0, held: 9223372036854775807 })|Ok(2)|Ok(3)|Ok(1)|"
+        "main;a 7\n300|main;a 7\n|b 300\nmain;a 307\n"
     );
     Ok(())
 }
 
 #[test]
-fn a_full_store_takes_no_reset(rt: HostRuntime) -> Result<(), Fail> {
+fn a_session_that_ends_holds_up_no_other(rt: HostRuntime) -> Result<(), Fail> {
     let alloc = rt.alloc();
-    let blank = Blank::make(alloc, 2, 2, Width::one())?;
-    let told = told::<Brand, HostRuntime>(&rt, alloc, blank, Story::InTurn(FULL))?;
-    assert_eq!(rt;
-        told.as_str(),
-        "Ok(0)|Ok(1)|Err(Full { held: 2 })|Err(Full { held: 2 })|Ok(0)|"
-    );
-    Ok(())
-}
-
-// A session that adds a batch a hundred times. It gives how many receipts it has.
-fn add_often<N: StoreName, R: Wait>(
-    rt: &R,
-    alloc: Global,
-    session: Session<'_, N>,
-    batch: &Arc<Batch>,
-) -> usize {
-    let mut session = session;
-    for _ in 0..100 {
-        let Ok(shared) = Arc::try_clone(batch) else {
-            break;
-        };
-        if session.add(rt, alloc, shared).is_err() {
-            break;
-        }
-    }
-    session.log().len()
-}
-
-// Two threads with a session each.
-fn two_threads<N: StoreName, R: Threads + Wait + Sync>(
-    rt: &R,
-    alloc: Global,
-    store: &Store<N>,
-    batch: &Arc<Batch>,
-) -> Result<(usize, usize), Fail> {
-    let first = store.session(rt, alloc)?;
-    let second = store.session(rt, alloc)?;
-    Ok(thread::join(
-        rt,
-        || add_often(rt, alloc, first, batch),
-        || add_often(rt, alloc, second, batch),
-    ))
-}
-
-// How many entries a journal has, and what they weigh.
-fn weight_of(journal: &Journal) -> (usize, u64) {
-    (journal.entries().len(), journal.tree().total().values()[0])
-}
-
-// What two threads at once leave in a store.
-fn threaded<N: StoreName, R: Threads + Wait + Sync>(
-    rt: &R,
-    alloc: Global,
-    blank: Blank,
-    batch: &Arc<Batch>,
-) -> Result<String, Fail>
-    requires { blank ≡ record { limit = N.limit; sessions = N.sessions; width = N.width } }
-{
-    let store = Store::<N>::start(blank);
-    let counts = two_threads(rt, alloc, &store, batch);
-    let (count, total) = weight_of(&store.close(rt));
-    let (a, b) = counts?;
-    Ok(format!(in alloc; "{a} {b}; {count} {total}")?)
-}
-
-#[test]
-fn two_threads_add_at_once(rt: HostRuntime) -> Result<(), Fail> {
-    let alloc = rt.alloc();
-    let batch = batch_of(alloc, "main;a 1\n")?;
-    let blank = Blank::make(alloc, 200, 2, Width::one())?;
-    let told = threaded::<Brand, HostRuntime>(&rt, alloc, blank, &batch)?;
-    assert_eq!(rt; told.as_str(), "100 100; 200 200");
+    let blank = Blank::make(alloc, 100, 4, Width::one())?;
+    let told = told::<Brand, HostRuntime>(&rt, alloc, blank, Story::OthersEnd)?;
+    assert_eq!(rt; told.as_str(), "Ok(0) 50 Ok(50) 100");
     Ok(())
 }

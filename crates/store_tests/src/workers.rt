@@ -3,10 +3,10 @@
 
 ghost use Rattle.std.specs.Prelude.{◌≡◌};
 
-use crate::helpers::{batch_of, query_of, steps_text};
+use crate::helpers::{audit_text, batch_of, come, query_of, reply_text};
 use flame_report::Kind;
-use live_store::{Blank, Gate, Store, StoreName, Worked, WorkersFault, run_workers};
-use op_book::{Journal, Op, SessionLog, audit};
+use live_store::{Blank, Gate, Session, Store, StoreName, Worked, WorkersFault, run_workers};
+use op_book::{Journal, Op, SessionLog};
 use stack_text::Width;
 use std::alloc::Global;
 use std::marker::Brand;
@@ -63,17 +63,6 @@ impl Gate for Counting {
 struct Meeting {
     there: AtomicU64,
     alone: AtomicU64,
-}
-
-// Whether so many come, within some turns.
-fn come(there: &AtomicU64, count: u64) -> bool {
-    for _ in 0..100_000_000 {
-        if there.load(Ordering::SeqCst) >= count {
-            return true;
-        }
-        thread::yield_now();
-    }
-    false
 }
 
 impl Gate for Meeting {
@@ -134,10 +123,8 @@ fn told(alloc: Global, journal: &Journal, all: Vec<Worked>) -> Result<String, Fa
         write!(text, "{} {stopped:?}; ", log.receipts.as_slice().len())?;
         logs.push(log).ok().ok_or("no memory")?;
     }
-    match audit(alloc, journal, &logs) {
-        Ok(run) => Ok(format!(in alloc; "{text}{}", steps_text(alloc, &run)?)?),
-        Err(fault) => Ok(format!(in alloc; "{text}{fault}")?),
-    }
+    text.push_str(audit_text(alloc, journal, &logs)?.as_str())?;
+    Ok(text)
 }
 
 // The same, or why none started.
@@ -160,7 +147,8 @@ fn worked<N: StoreName, G: Gate, R: Threads + Wait + Sync>(
     lists: Vec<Vec<Op>>,
     gate: &G,
 ) -> Result<String, Fail>
-    requires { blank ≡ record { limit = N.limit; sessions = N.sessions; width = N.width } }
+    requires { blank
+        ≡ record { limit = N.limit; sessions = N.sessions; width = N.width; history = N.history } }
 {
     let store = Store::<N>::start(blank);
     let all = run_workers(rt, alloc, &store, lists, gate);
@@ -271,5 +259,117 @@ fn workers_match_their_journal(rt: HostRuntime) -> Result<(), Fail> {
             .starts_with("51 None; 51 None; 51 None; 51 None; 51 None; ")
     );
     assert_eq!(rt; said.as_str().matches(".").count(), 408);
+    Ok(())
+}
+
+/// Holds workers before their steps until they may go on.
+#[derive(Drop)]
+struct Held {
+    /// How many workers have come.
+    there: AtomicU64,
+    /// 1 once they may go on.
+    open: AtomicU64,
+    /// How many went on.
+    gone: AtomicU64,
+}
+
+impl Gate for Held {
+    fn before<R: Wait>(&self, _rt: &R, _worker: usize, _step: usize) {
+        let _ = self.there.fetch_add(1, Ordering::SeqCst);
+        let _ = come(&self.open, 1);
+        let _ = self.gone.fetch_add(1, Ordering::SeqCst);
+    }
+
+    fn after<R: Wait>(&self, _rt: &R, _worker: usize, _step: usize) {}
+}
+
+// A session that adds and asks, and another that hears of it and asks: what they are told.
+fn other_hears<N: StoreName, R: Wait>(
+    rt: &R,
+    alloc: Global,
+    first: &mut Session<'_, N>,
+    second: &mut Session<'_, N>,
+) -> Result<String, Fail> {
+    let batch = batch_of(alloc, "a 1\n")?;
+    let query = query_of(alloc, Kind::Total)?;
+    let placed = first.add(rt, alloc, batch).ok().ok_or("refused")?;
+    let own = reply_text(alloc, first, &query)?;
+    second.hear(&placed.told);
+    let other = reply_text(alloc, second, &query)?;
+    Ok(format!(in alloc; "{} {own} {other}", placed.place)?)
+}
+
+// The same, beside whether a worker was held before it, and how many had gone on by its end.
+fn told_beside<N: StoreName, R: Wait>(
+    rt: &R,
+    alloc: Global,
+    first: &mut Session<'_, N>,
+    second: &mut Session<'_, N>,
+    gate: &Held,
+) -> Result<String, Fail> {
+    let is_held = come(&gate.there, 1);
+    let told = other_hears(rt, alloc, first, second);
+    let gone = gate.gone.load(Ordering::SeqCst);
+    gate.open.store(1, Ordering::SeqCst);
+    Ok(format!(in alloc; "{is_held} {} {gone}", told?)?)
+}
+
+// How many receipts the one worker has.
+fn receipts_of(all: Result<Vec<Worked>, WorkersFault>) -> Option<usize> {
+    let all = all.ok()?;
+    let [worked] = all.as_slice() else {
+        return None;
+    };
+    Some(worked.log.receipts.as_slice().len())
+}
+
+// What two sessions are told beside a worker that is held, and how many receipts it has in the end.
+fn beside_a_worker<N: StoreName, R: Threads + Wait + Sync>(
+    rt: &R,
+    alloc: Global,
+    store: &Store<N>,
+    lists: Vec<Vec<Op>>,
+    gate: &Held,
+) -> Result<String, Fail> {
+    let mut first = store.session(rt, alloc)?;
+    let mut second = store.session(rt, alloc)?;
+    let (told, receipts) = thread::scope(thread::scope_env(), rt, |scope| {
+        let worker = scope.spawn(move || receipts_of(run_workers(rt, alloc, store, lists, gate)));
+        let told = told_beside(rt, alloc, &mut first, &mut second, gate);
+        (told, worker.ok().and_then(|worker| worker.join(rt)))
+    });
+    Ok(format!(in alloc; "{} {receipts:?}", told?)?)
+}
+
+// The same of a store of three sessions.
+fn held_worker<N: StoreName, R: Threads + Wait + Sync>(
+    rt: &R,
+    alloc: Global,
+    blank: Blank,
+    lists: Vec<Vec<Op>>,
+) -> Result<String, Fail>
+    requires { blank
+        ≡ record { limit = N.limit; sessions = N.sessions; width = N.width; history = N.history } }
+{
+    let gate = Held {
+        there: AtomicU64::new(0),
+        open: AtomicU64::new(0),
+        gone: AtomicU64::new(0),
+    };
+    let store = Store::<N>::start(blank);
+    let told = beside_a_worker(rt, alloc, &store, lists, &gate);
+    let _journal = store.close(rt);
+    told
+}
+
+#[test]
+fn addition_seen_by_other_session(rt: HostRuntime) -> Result<(), Fail> {
+    let alloc = rt.alloc();
+    let asks = Op::Ask(query_of(alloc, Kind::Total)?);
+    let list = vec![in alloc; asks]?;
+    let lists = vec![in alloc; list]?;
+    let blank = Blank::make(alloc, 10, 3, Width::one())?;
+    let told = held_worker::<Brand, HostRuntime>(&rt, alloc, blank, lists)?;
+    assert_eq!(rt; told.as_str(), "true 0 1 1 0 Some(1)");
     Ok(())
 }

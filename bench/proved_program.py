@@ -1,7 +1,8 @@
-"""What the benchmarks of proved programs share: such a program is built outside the repository, and run on a file.
+"""What benchmarks and tools that run a proved program share: it is built outside the repository, and run on a file.
 
-A program NAME is NAME.rattle beside this file. It is proved and linked in a copy of the crates below it, since the gate
-doesn't know of it. Where the copy's folder is kept, the next run proves only what changed.
+A program NAME is NAME.rattle in this folder or another, with what its proof needs in NAME.proofs. It is proved and
+linked in a copy of the crates below it, since the gate doesn't know of it. Where the copy's folder is kept, the next run
+proves only what changed.
 """
 import pathlib
 import shutil
@@ -36,14 +37,25 @@ def copy_crate(name, into):
             shutil.copytree(at, to)
 
 
-def copy_program(name, libraries, folder):
+def copy_proofs(at, into):
+    """Copies a program's proof files, which aren't named as such where the gate would look for their crate."""
+    for file in at.rglob("*.proof"):
+        to = (into / file.relative_to(at)).with_suffix(".antt")
+        to.parent.mkdir(parents=True, exist_ok=True)
+        shutil.copyfile(file, to)
+    if at.is_dir():
+        (into / "Lib.antt").touch()
+
+
+def copy_program(name, libraries, folder, at=TOP / "bench"):
     """Copies a program over these libraries, with all crates below it, and returns the folder of the crates."""
     crates = folder / "crates"
     below = crates_below(libraries)
     for crate in below:
         copy_crate(crate, crates)
     (crates / name / "src").mkdir(parents=True, exist_ok=True)
-    shutil.copyfile(TOP / f"bench/{name}.rattle", crates / name / "src/main.rt")
+    shutil.copyfile(at / f"{name}.rattle", crates / name / "src/main.rt")
+    copy_proofs(at / f"{name}.proofs", crates / name / "proofs")
     below[name] = libraries
     lines = [f"{crate}: {' '.join(uses)}\n" for crate, uses in below.items()]
     (folder / "crates.txt").write_text("".join(lines), encoding="utf-8")

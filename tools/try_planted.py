@@ -5,8 +5,8 @@
 An edit is a file with a line 'file: src/NAME.rt' and pairs of lines 'old: TEXT' and 'new: TEXT', as rt reads it. The
 gate tries those of `must-fail/`, each in a check of its own. Most of such a check is loading. Here one check of a copy
 of the crate has all wrong bodies at once, at most one for each function; a wrong body is refused where the check says
-that its function isn't proved, and not for a callee's sake. What isn't refused is tried again without those that are,
-and at last alone. What no check refuses is told, and the exit status is 1.
+that a goal of its function isn't proved. What isn't refused is tried again without those that are, and at last alone.
+What no check refuses is told, and the exit status is 1.
 
 The crate and those below it should be proved before (`rt check`): what a check kept is taken from there.
 """
@@ -21,12 +21,17 @@ import tempfile
 
 ROOT = pathlib.Path(__file__).resolve().parent.parent
 FUNCTION = re.compile(r"^( *)(?:pub(?:\([a-z]+\))? )?(?:const )?fn (\w+)", re.MULTILINE)
-# The type of an `impl`, whose functions a check names by it, or by it with the trait's name behind.
-TYPE = re.compile(r"^impl(?:<[^>]*>)? (?:.* for )?(\w+)", re.MULTILINE)
-# What a check says at its end of a function that has a goal which isn't proved. Where it names a callee too, that may
-# be why.
-OPEN = r"not proved|no proof: expected answers in [^;]+; `search` did not prove [^;]+"
-UNPROVED = re.compile(rf"^fn (\S+): (?:{OPEN})$", re.MULTILINE)
+# The head of an `impl`: the last word of its trait, if it has one, and its type.
+IMPL = re.compile(r"^impl(?:<[^>\n]*>)? (?:(?:\w+::)*(\w+)(?:<.*>)? for )?(\w+)", re.MULTILINE)
+# What a check says of a function, below what it says of the goals that it didn't prove by itself.
+VERDICT = re.compile(r"^fn [^:]+::(\S+): (.*)")
+OPEN = re.compile(r"^note: src/\S+ (?:it is not proved|`search` found no proof)")
+# What a check says of an answer that a function's proof files give.
+ANSWER = re.compile(r"^\./proofs/(\S+)/\w+\.antt:\S+ error: (.*)")
+# What it says where a wrong body has another name than the answer takes, which shows nothing: a name of a step, and
+# that of the goal itself.
+NO_STEP = re.compile(r"has no field|there is no")
+NO_GOAL = re.compile(r"Goals` has no")
 
 
 class Edit:
@@ -46,7 +51,6 @@ class Edit:
         for old, _ in self.pairs:
             if text.count(old) != 1:
                 sys.exit(f"{path}: its old text stands in {self.file} {text.count(old)} times: {old}")
-        self.module = self.file.removeprefix("src/").removesuffix(".rt")
         self.functions = {function_at(text, text.index(old)) for old, _ in self.pairs}
 
     def applied(self, text):
@@ -56,26 +60,60 @@ class Edit:
 
 
 def function_at(text, place):
-    """The type and the name of the function that a place of a source stands in, the last one that begins before it."""
+    """The `impl` and the name of the function that a place of a source stands in, the last one that begins before it.
+    A check names an `impl` by its type, with a capital, and its trait."""
     before = text[: text.find("\n", place)]
     found = FUNCTION.findall(before)
     if not found:
         return "", ""
     indent, name = found[-1]
-    return (TYPE.findall(before)[-1] if indent else ""), name
+    if not indent:
+        return "", name
+    trait, kind = IMPL.findall(before)[-1]
+    return kind[0].upper() + kind[1:] + trait, name
+
+
+def is_in(path, file, function):
+    """Whether what a check names by this path is the function of the file, or stands in it."""
+    kind, name = function
+    parts = [it for it in path.split("::") if it != "fn"]
+    module = [] if file == "src/lib.rt" else file.removeprefix("src/").removesuffix(".rt").split("/")
+    inside = parts[len(module) :]
+    if parts[: len(module)] != module or not inside:
+        return False
+    # (behind the trait's name may stand what it is of, as in `FromAllocError`)
+    return inside[0] == name if not kind else inside[0].startswith(kind) and inside[1:2] == [name]
+
+
+def unproved(output):
+    """The paths of the functions of which the check didn't prove a goal: not for a callee's sake, since a goal stands
+    on callees' contracts alone, and not for a name that an answer misses. Where an answer misses its goal, one of the
+    open goals may be that under its new name."""
+    wrong, renamed, found, left_open = set(), [], [], 0
+    for line in output.split("\n"):
+        if answer := ANSWER.match(line):
+            path, said = answer[1].replace("/", "::"), answer[2]
+            if NO_GOAL.search(said):
+                renamed.append(path)
+            elif not NO_STEP.search(said):
+                wrong.add(path)
+        elif OPEN.match(line):
+            left_open += 1
+        elif verdict := VERDICT.match(line):
+            path = verdict[1]
+            if not verdict[2].startswith("proved") and (path in wrong or left_open > renamed.count(path)):
+                found.append(path)
+            left_open = 0
+    return found
 
 
 def refused(edit, output):
     """Whether the check says that a function of the edit isn't proved, by a goal of its own. An edit of no function was
     alone in the check, and any function will do."""
+    paths = unproved(output)
     if ("", "") in edit.functions:
-        return bool(UNPROVED.search(output))
-    paths = [it.split("::") for it in UNPROVED.findall(output)]
-    return any(
-        path[-1] == name and (path[-2].startswith(kind) if kind else path[1:-1] == [edit.module])
-        for path in paths
-        for kind, name in edit.functions
-    )
+        return bool(paths)
+    return any(is_in(path, edit.file, it) for path in paths for it in edit.functions)
 
 
 def checked(room, crate, edits):
@@ -105,12 +143,12 @@ def apart(edits):
     return chosen
 
 
-def fill(room, crate):
-    """Copies the sources of the repository, and what a check of the crate kept."""
+def fill(room):
+    """Copies the sources of the repository, and what checks kept."""
     left_out = shutil.ignore_patterns(".git", "out", "must-fail", "planted")
     shutil.copytree(ROOT, room, dirs_exist_ok=True, ignore=left_out, symlinks=True)
-    if (crate / "out").is_dir():
-        shutil.copytree(crate / "out", room / "crates" / crate.name / "out", copy_function=os.link, symlinks=True)
+    for kept in (ROOT / "crates").glob("*/out"):
+        shutil.copytree(kept, room / kept.relative_to(ROOT), copy_function=os.link, symlinks=True)
 
 
 def try_crate(crate, verbose):
@@ -119,7 +157,7 @@ def try_crate(crate, verbose):
     count, checks, missed = len(left), 0, []
     with tempfile.TemporaryDirectory() as name:
         room = pathlib.Path(name)
-        fill(room, crate)
+        fill(room)
         many = True
         while left:
             chosen = apart(left) if many else left[:1]

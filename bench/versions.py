@@ -1,0 +1,102 @@
+#!/usr/bin/env python3
+"""Times sessions over published versions beside a book behind one lock, in one run, and prints both and their ratios.
+
+    bench/versions.py [--nodes 20000] [--rounds 3] [--work FOLDER]
+
+The rows have 34 frames and are random walks in a seeded call graph, as in additions.py. The first are one addition that
+builds a tree of so many nodes; then each case has its own threads add batches or ask for reports. All cases run in turn
+on both stores, several rounds, and the least time of each counts. `rate` is the lock's time by the versions': above 1
+the versions are faster. `longest` is the longest single step, of the round in which it was least.
+
+The program is versions.rattle, proved and linked in a copy of the crates below it that stands outside the repository.
+--work keeps the copy, so that the next run proves only what changed.
+"""
+import argparse
+import os
+import pathlib
+import random
+import re
+
+from proved_program import copy_program, link, output_of, run_outside
+from random_stacks import function_names, tree_stacks, write_folded
+
+NAME = "versions"
+LIBRARIES = ["profile_rows", "folded_text", "call_tree", "flame_report", "op_book", "live_store", "anyhow"]
+STORES = "versions", "lock"
+
+# What is timed: its name, what the threads do, how many they are, the steps of the first, rows in a batch, the report,
+# whether the first thread's time counts or that of the others, and how many sessions the store has.
+CASES = [
+    ("one asks Total", "ask", 1, 200_000, 1, "total", "first", 2),
+    ("four ask Total", "ask", 4, 100_000, 1, "total", "others", 5),
+    ("one adds rows", "add", 1, 20_000, 1, "total", "first", 2),
+    ("one adds rows, in a store of 64 sessions", "add", 1, 20_000, 1, "total", "first", 64),
+    ("one adds batches of 100", "add", 1, 200, 100, "total", "first", 2),
+    ("four add rows", "add", 4, 5_000, 1, "total", "first", 5),
+    ("one adds rows beside one that asks Total", "add_beside_ask", 2, 10_000, 1, "total", "first", 3),
+    ("one adds rows beside four that ask Total", "add_beside_ask", 5, 10_000, 1, "total", "first", 6),
+    ("those four", "add_beside_ask", 5, 10_000, 1, "total", "others", 6),
+    ("one asks Total beside one that adds rows", "ask_beside_add", 2, 50_000, 1, "total", "first", 3),
+    ("one asks Total beside three that add rows", "ask_beside_add", 4, 50_000, 1, "total", "first", 5),
+    ("one adds rows beside one that asks for layouts", "add_beside_ask", 2, 5_000, 1, "flame", "first", 3),
+]
+
+
+def write_rows(folder, options):
+    """Writes the tree's rows and those that are added, and tells how many build the tree."""
+    dice = random.Random(options.seed)
+    names = function_names(dice, options.names)
+    stacks = tree_stacks(dice, options.nodes, len(names))
+    added = [dice.choice(stacks) for _ in range(options.additions)]
+    write_folded(folder / "rows.folded", names, stacks + added)
+    return len(stacks)
+
+
+def times_of(program, store, case, tree_rows, file):
+    """Nanoseconds a step, and the longest step, of the threads that count."""
+    _, work, threads, steps, batch_rows, report, who, sessions = case
+    said = output_of([program, store, work, threads, tree_rows, steps, batch_rows, report, sessions], file)
+    found = re.findall(r"steps (\d+) nanoseconds (\d+) longest (\d+)", said)
+    rows = [tuple(map(int, numbers)) for numbers in found]
+    rows = rows[:1] if who == "first" or len(rows) == 1 else rows[1:]
+    steps = sum(row[0] for row in rows)
+    return sum(row[1] for row in rows) / max(steps, 1), max(row[2] for row in rows)
+
+
+def read_options():
+    reader = argparse.ArgumentParser(description=__doc__, formatter_class=argparse.RawDescriptionHelpFormatter)
+    reader.add_argument("--nodes", type=int, default=20_000, help="how many nodes the tree has")
+    reader.add_argument("--names", type=int, default=3_000, help="how many functions there are")
+    reader.add_argument("--additions", type=int, default=20_000, help="how many rows there are to add")
+    reader.add_argument("--rounds", type=int, default=3)
+    reader.add_argument("--seed", type=int, default=7)
+    reader.add_argument("--work", type=pathlib.Path, help="a folder outside the repository that is kept")
+    return reader.parse_args()
+
+
+def run(options, work):
+    copy_program(NAME, LIBRARIES, work)
+    print(f"proves and links {NAME}", flush=True)
+    program = link(NAME, work, ["versions", "add", "0", "0", "0", "1", "total", "2"], "")
+    tree_rows = write_rows(work, options)
+    print(f"{tree_rows} rows build a tree of {options.nodes} nodes")
+    print(f"load {os.getloadavg()[0]:.1f} on {os.cpu_count()} cores", flush=True)
+    least = {}
+    for _ in range(options.rounds):
+        for case in CASES:
+            for store in STORES:
+                times = times_of(program, store, case, tree_rows, work / "rows.folded")
+                least[case, store] = min(times, least.get((case, store), times))
+    print(f"{'nanoseconds a step':<50}{'versions':>12}{'lock':>12}{'rate':>8}{'longest':>12}{'of lock':>12}")
+    for case in CASES:
+        (ours, longest), (lock, of_lock) = (least[case, store] for store in STORES)
+        print(f"{case[0]:<50}{ours:>12.0f}{lock:>12.0f}{lock / ours:>8.2f}{longest:>12}{of_lock:>12}")
+
+
+def main():
+    options = read_options()
+    run_outside(options.work, NAME, lambda work: run(options, work))
+
+
+if __name__ == "__main__":
+    main()

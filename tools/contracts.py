@@ -1,0 +1,238 @@
+#!/usr/bin/env python3
+"""Writes what each public call promises, out of the sources: `docs/contracts/CRATE.md`, and `docs/CONTRACTS.md` as
+their index.
+
+    python3 tools/contracts.py            writes the files
+    python3 tools/contracts.py --check    says which files aren't current, and ends with 1 if any isn't
+
+Of each public call stand there its comment, its signature with its clauses, and the names of the edits that change it;
+of each `impl` what it says of a trait. Edits of private functions stand at the end of their crate.
+"""
+import pathlib
+import re
+import sys
+import textwrap
+
+from try_planted import Edit
+
+ROOT = pathlib.Path(__file__).resolve().parent.parent
+FOLDER = ROOT / "docs/contracts"
+INDEX = ROOT / "docs/CONTRACTS.md"
+CALL = re.compile(r"^( *)(pub )?(?:pub\([a-z]+\) )?(?:const )?fn (\w+)")
+IMPL = re.compile(r"^impl(?:<[^>]*>)? (?:(\S+(?:<.*>)?) for )?(.+?)(?: where)? \{$")
+TRAIT = re.compile(r"^pub trait (\w+)")
+STRUCT = re.compile(r"^pub struct (\w+).* \{$")
+PROMISE = re.compile(r"^    (?:pub(?:\([a-z]+\))? )?ghost (?!use )\w+")
+# Traits whose `impl` says nothing that a caller reads: what a value is seen as stands in the clauses.
+SILENT = ("Model", "Drop", "Eq")
+
+
+class Item:
+    """A call, or what an `impl` says of a trait: where it stands, its comment, and its lines without a body."""
+
+    def __init__(self, module, owner, name, public, comment, lines):
+        self.module = module
+        self.owner = owner
+        self.name = name
+        self.public = public
+        self.comment = comment
+        self.lines = lines
+        self.edits = []
+
+    def title(self):
+        return f"{self.owner}::{self.name}" if self.owner else self.name
+
+
+def depth_of(line):
+    """By how many braces more a line opens than it closes, text aside."""
+    bare = re.sub(r"'[{}]'|\"[^\"]*\"", "", line)
+    return bare.count("{") - bare.count("}")
+
+
+def head_of(lines, start):
+    """The lines of a function from its `fn` to its body, which begins with a brace that no clause opens, and the index
+    behind them."""
+    head, depth = [], 0
+    for index in range(start, len(lines)):
+        line = lines[index]
+        opens_body = depth == 0 and line.strip() in ("{", "{}")
+        ends_head = depth == 0 and (line.endswith(" {") or line.endswith(";") or line.endswith("{}"))
+        if opens_body:
+            return head, index
+        depth += depth_of(line)
+        if ends_head and not re.search(r"\b(ensures|requires)\b", line):
+            return head + [re.sub(r" ?(\{\}?|;)$", "", line)], index
+        head.append(line)
+    return head, len(lines)
+
+
+def comment_above(lines, start):
+    """The comment of an item, without the marks."""
+    found = []
+    for index in range(start - 1, -1, -1):
+        text = lines[index].strip()
+        if text.startswith("///"):
+            found.append(text[3:].removeprefix(" "))
+        elif not text.startswith("#["):
+            break
+    return found[::-1]
+
+
+def dedented(lines, indent):
+    return [line[indent:] if line[:indent].isspace() else line for line in lines]
+
+
+def promises(lines, start):
+    """What an `impl` says by ghost items, up to the end of each."""
+    found, depth, open_item = [], 1, False
+    for line in lines[start + 1 :]:
+        if depth == 1 and PROMISE.match(line):
+            open_item = True
+        if open_item:
+            found.append(line)
+        depth += depth_of(line)
+        if depth == 1 and line.rstrip().endswith((";", ",")):
+            open_item = False
+        if depth == 0:
+            break
+    return found
+
+
+def items_of(path, module):
+    """The calls of a source file, public or not, and what its `impl`s say of traits."""
+    lines = path.read_text(encoding="utf-8").split("\n")
+    owner, trait, found = "", "", []
+    for index, line in enumerate(lines):
+        if line and not line[0].isspace() and not line.startswith("}"):
+            owner = trait = ""
+        if head := IMPL.match(line):
+            trait, owner = head[1] or "", re.sub(r"<.*", "", head[2])
+            said = promises(lines, index)
+            if trait and trait not in SILENT and said:
+                found.append(Item(module, owner, f"{trait}", True, [], [line[:-2]] + said))
+        elif head := TRAIT.match(line):
+            owner = head[1]
+            said = promises(lines, index)
+            found.append(Item(module, "", f"{owner}", True, comment_above(lines, index), [line[:-2]] + said))
+        elif head := STRUCT.match(line):
+            kept = promises(lines, index)
+            if kept:
+                found.append(Item(module, "", head[1], True, comment_above(lines, index), [line[:-2]] + kept))
+        elif head := CALL.match(line):
+            public = bool(head[2]) or bool(trait)
+            text, _ = head_of(lines, index)
+            said = any(re.search(r"\b(ensures|requires)\b", it) for it in text)
+            if trait and not said:
+                public = False
+            comment = comment_above(lines, index)
+            found.append(Item(module, owner, head[3], public, comment, dedented(text, len(head[1]))))
+    return found
+
+
+def add_edits(crate, items):
+    """Puts the name of each edit of the crate to the call that it changes."""
+    for path in sorted((*crate.glob("must-fail/*.edit"), *crate.glob("planted/*.edit"))):
+        edit = Edit(path, crate)
+        for item in items:
+            if edit.file == f"src/{item.module}.rt" and any(is_function(item, it) for it in edit.functions):
+                item.edits.append(path.stem)
+                break
+
+
+def is_function(item, function):
+    kind, name = function
+    return item.name == name and (not item.owner or kind.startswith(item.owner[0].upper() + item.owner[1:]))
+
+
+def section(item):
+    """What the document says of a call."""
+    text = [f"### `{item.title()}`", ""]
+    for part in re.sub(r"(?m)^# (\w+)\n\n", r"\1: ", "\n".join(item.comment)).split("\n\n"):
+        if part:
+            text += [*(wrapped(part) if part.startswith("Errors: ") else part.split("\n")), ""]
+    text += ["```", *item.lines, "```", ""]
+    if item.edits:
+        text += [*wrapped(f"Edits: {quoted(item.edits)}."), ""]
+    return text
+
+
+def wrapped(text, indent=""):
+    return textwrap.wrap(text, 120, subsequent_indent=indent, break_long_words=False, break_on_hyphens=False)
+
+
+def quoted(names):
+    return ", ".join(f"`{it}`" for it in names)
+
+
+def page_of(crate):
+    """The page of a crate, and how many public calls and edits it has."""
+    items = []
+    for path in sorted((crate / "src").rglob("*.rt")):
+        module = str(path.relative_to(crate / "src"))[:-3]
+        items += items_of(path, module)
+    add_edits(crate, items)
+    public = [it for it in items if it.public]
+    inside = [it for it in items if not it.public and it.edits]
+    text = [f"# {crate.name}", "", f"Made by `tools/contracts.py` out of `crates/{crate.name}/src`.", ""]
+    for module in dict.fromkeys(it.module for it in public):
+        text += [f"## {module}.rt", ""]
+        for item in public:
+            if item.module == module:
+                text += section(item)
+    if inside:
+        text += ["## Edits of functions inside", ""]
+        text += [line for it in inside for line in wrapped(f"- `{it.title()}`: {quoted(it.edits)}.", "  ")]
+        text.append("")
+    edits = sum(len(it.edits) for it in items)
+    return "\n".join(text), len(public), edits
+
+
+def pages():
+    """All files with their texts."""
+    names = re.findall(r"^(\w+):", (ROOT / "crates.txt").read_text(encoding="utf-8"), re.MULTILINE)
+    made, rows = {}, []
+    for name in names:
+        if name.endswith("_tests"):
+            continue
+        text, calls, edits = page_of(ROOT / "crates" / name)
+        if calls:
+            made[FOLDER / f"{name}.md"] = text
+            rows.append(f"| [{name}](contracts/{name}.md) | {calls} | {edits} |")
+    made[INDEX] = INDEX_TEXT + "\n".join(rows) + "\n"
+    return made
+
+
+INDEX_TEXT = """# Contracts
+
+`tools/contracts.py` makes these pages out of the sources: each public call with its comment, its clauses, and the
+names of its edits, the wrong bodies that the prover has to refuse. `OnOk`, `IfOk` and `OnErr`, `IfErr` say what holds
+where the call succeeds or fails; `.old` and `.new` are a value before and after the call, `.now` is what a reference
+leads to. The definitions that clauses cite stand in the `specs/` of their crate, and [MODEL.md](MODEL.md) says how they
+hang together.
+
+No clause can say that memory is asked for only where it is wanted, so a body that always answers `NoMemory` is proved,
+and tests show that calls succeed; nor how long a call takes. `f_with` has the clauses of `f` and takes a `Hashing`; the
+edits of `f` change its body.
+
+| crate | public calls | edits |
+|---|---|---|
+"""
+
+
+def main():
+    made = pages()
+    stale = [path for path, text in made.items() if not path.is_file() or path.read_text(encoding="utf-8") != text]
+    left = [path for path in FOLDER.glob("*.md") if path not in made]
+    if "--check" in sys.argv[1:]:
+        for path in stale + left:
+            print(f"not current: {path.relative_to(ROOT)}")
+        sys.exit(1 if stale or left else 0)
+    FOLDER.mkdir(exist_ok=True)
+    for path in stale:
+        path.write_text(made[path], encoding="utf-8")
+    for path in left:
+        path.unlink()
+
+
+if __name__ == "__main__":
+    main()

@@ -1,15 +1,27 @@
 //! Laws of folded text, each the contract of a function that does nothing. A caller calls one to use its law.
 
-ghost use Rattle.std.specs.Prelude.{ℕ, ◌≡◌, ◌^◌, ◌<◌, All, List};
+ghost use Rattle.std.specs.Prelude.{ℕ, ◌≡◌, ◌^◌, ◌++◌, ◌<◌, All, List};
 ghost use Rattle.profile_rows.specs.declared.weighted_stacks.WeightedStack.{WeightedStack};
 ghost use Rattle.profile_rows.specs.Rows.{IsBatchRow, stack_cmp, total_of};
-ghost use Rattle.folded_text.specs.FoldedText.{IsFoldedText, frames_of, rows_text};
+ghost use Rattle.profile_rows.specs.Aggregate.{aggregate_of, rows_of};
+ghost use Rattle.folded_text.specs.FoldedText.{IsFoldedText, folded_text_of, frames_of, rows_text};
 ghost use Rattle.folded_text.specs.StackOrder.{IsJoined, stack_text_cmp};
 
 /// The text of rows that a batch can hold is folded text of exactly these rows, also of those of weight 0.
 pub fn written_rows_read_back()
     ensures { (rows : List WeightedStack) → All IsBatchRow rows → total_of rows < 2 ^ 63
         → IsFoldedText (rows_text rows) rows }
+{}
+
+/// Folded reports that are put together are folded text of the rows of both (`read`), and their folded report is that of
+/// all rows (`report`): so parts of an input can be folded by themselves, on as many machines as there are, and their
+/// reports folded once more. Totals, top lists and layouts depend on the rows' aggregate alone, which is then the same.
+pub fn reports_of_parts_add_up()
+    ensures read { (rows more : List WeightedStack) → All IsBatchRow (rows ++ more) → total_of (rows ++ more) < 2 ^ 63
+        → IsFoldedText (rows_text rows ++ rows_text more) (rows ++ more) }
+    ensures report { (rows more : List WeightedStack)
+        → folded_text_of (rows_of (aggregate_of rows) ++ rows_of (aggregate_of more))
+        ≡ folded_text_of (rows ++ more) }
 {}
 
 /// Stack texts without empty frames, compared by their bytes with the semicolon lowest, are in the order of their

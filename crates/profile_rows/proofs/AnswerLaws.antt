@@ -1,12 +1,12 @@
 -- Every answer depends on the aggregate of the rows alone.
-use Rattle.std.proofs.Common.{◌≡◌, ℕ, ◌+◌, ◌<◌, Bool, true, false, cond, ◌||◌, ◌&&◌, List, [], ◌∷◌, length, map, filter, Option, refl, sym, ap, ◌∙◌, arith, zero-add}
+use Rattle.std.proofs.Common.{◌≡◌, ℕ, ◌+◌, ◌<◌, Bool, true, false, cond, ◌||◌, ◌&&◌, List, [], ◌∷◌, ◌++◌, length, map, filter, Option, refl, sym, ap, ◌∙◌, arith, zero-add}
 use Rattle.std.specs.Prelude.{nat_lt}
 use Rattle.std.specs.List.{list_any, flat_map}
 use Rattle.std.specs.declared.cmp.Ordering.{Ordering}
 use Rattle.std.specs.declared.cmp.Ordering.TheVariants.{Less, Equal, Greater}
 use Rattle.std.specs.Ordering.{is_eq, match_ordering, ordering_then, ordering_reverse}
 use Rattle.std.proofs.lemmas.List.Folds.{list_any-append}
-use Rattle.std.proofs.lemmas.List.Sums.{sum_by-cons}
+use Rattle.std.proofs.lemmas.List.Sums.{sum_by-append, sum_by-cons}
 use Rattle.std.proofs.lemmas.Bool.{ltb-false}
 use Rattle.std.proofs.lemmas.Cmp.{nat_list_cmp_total}
 use borrow.Author.Tests.{lt-ltb, ltb-true}
@@ -25,6 +25,18 @@ use Rattle.profile_rows.proofs.Ranking.{top_list_of-same}
 -- the rows of the aggregate add up to it again
 pub aggregate_of-rows_of : (rows : List WeightedStack) → aggregate_of (rows_of (aggregate_of rows)) ≡ aggregate_of rows
 aggregate_of-rows_of rows = aggregate_of-same (rows_of (aggregate_of rows)) rows (λ stack. weight_where-rows_of (is_same_stack stack) rows)
+
+-- aggregates of parts, put together, add up to that of all
+pub aggregate_of-parts : (rows more : List WeightedStack)
+    → aggregate_of (rows_of (aggregate_of rows) ++ rows_of (aggregate_of more)) ≡ aggregate_of (rows ++ more)
+aggregate_of-parts rows more =
+    aggregate_of-same (rows_of (aggregate_of rows) ++ rows_of (aggregate_of more)) (rows ++ more) (λ stack.
+      let weighs = weight_if (is_same_stack stack) in
+      let parts = sum_by-append weighs (rows_of (aggregate_of rows)) (rows_of (aggregate_of more)) in
+      let all = sum_by-append weighs rows more in
+      let first = weight_where-rows_of (is_same_stack stack) rows in
+      let second = weight_where-rows_of (is_same_stack stack) more in
+      omega arith)
 
 -- ---- kept rows
 

@@ -35,6 +35,12 @@ pub fn aggregate_of_more_rows()
     ensures { (rows more : List WeightedStack) → aggregate_of (rows ++ more) ≡ with_rows (aggregate_of rows) more }
 {}
 
+/// The rows of aggregates, put together, add up to the aggregate of all rows: so parts can be added up by themselves.
+pub fn aggregates_of_parts_add_up()
+    ensures { (rows more : List WeightedStack)
+        → aggregate_of (rows_of (aggregate_of rows) ++ rows_of (aggregate_of more)) ≡ aggregate_of (rows ++ more) }
+{}
+
 /// A sum over rows, each once, depends on their aggregate alone: total, flat and cumulative weight, widths and starts
 /// of paths.
 pub fn sums_are_those_of_the_aggregate()

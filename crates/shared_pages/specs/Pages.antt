@@ -37,6 +37,14 @@ module _ {X : Type 0} where
     pub count : length (joined all) ≡ size
     pub shelves : AreChunks 65536 all
 
+  -- a list, of which some items stand on shelves, perhaps before others that don't count, and the last ones, 64 at most,
+  -- in pages of their own
+  pub record IsInPages (shelves : List X) (shelved : ℕ) (last : List (List X)) (len : ℕ) : Type 0 where
+    pub within : shelved ≤ length shelves
+    pub chunks : AreChunks 256 last
+    pub count : len ≡ shelved + length (joined last)
+    pub few : length (joined last) ≤ 64
+
 module _ {X Z : Type 0} where
   -- the items of a page
   abbrev pub page_items : Arc (Vec X Z) Z → List X

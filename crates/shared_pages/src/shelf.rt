@@ -147,7 +147,7 @@ fn put_in_group<T: Clone + Drop>(
 }
 
 /// Copies a page that is there and has other owners, with room for all the items that a page takes.
-fn make_room<T: Clone + Drop>(
+pub(crate) fn make_room<T: Clone + Drop>(
     alloc: Global,
     pages: &mut Vec<Arc<Vec<T>>>,
     index: usize,
@@ -174,7 +174,7 @@ fn copy_of<T: Clone + Drop>(alloc: Global, page: &[T]) -> Result<Vec<T>, AllocEr
 
 /// Puts an item at its place in its page, which is copied before where it has other owners, or in a new page behind
 /// the last.
-fn put_in_pages<T: Clone + Drop>(
+pub(crate) fn put_in_pages<T: Clone + Drop>(
     alloc: Global,
     pages: &mut Vec<Arc<Vec<T>>>,
     at: usize,

@@ -1,32 +1,32 @@
 -- Items on shelves, and the last ones behind them.
-use Rattle.std.proofs.Common.{◌≡◌, ℕ, zero, suc, ◌+◌, ◌<◌, ◌≤◌, ◌-◌, List, [], ◌∷◌, ◌++◌, length, get_or, take, sym, ap, ◌∙◌, subst, arith, inl, inr}
+use Rattle.std.proofs.Common.{◌≡◌, ℕ, suc, ◌+◌, ◌<◌, ◌≤◌, ◌-◌, List, [], ◌∷◌, ◌++◌, length, get_or, take, sym, ap, ◌∙◌, subst, arith, inl, inr}
 use Rattle.std.proofs.Math.ListN.{set}
 use Rattle.std.proofs.Math.Seq.{take-length, take-set-lt, take-suc, take-suc-set}
 use Rattle.std.proofs.lemmas.Bool.{cases_lt}
-use Rattle.std.proofs.lemmas.List.{append-nil, append_assoc, length-append, length-set, length_push, length-take-le, set-append_left, set-append_right, take-append-le, take-set-le}
-use Rattle.shared_pages.specs.Pages.{AreChunks, IsInPages, chunk_at, joined, with_item}
+use Rattle.std.proofs.lemmas.List.{append_assoc, length-set, length_push, length-take-le, set-append_left, set-append_right, take-append-le, take-set-le}
+use Rattle.shared_pages.specs.Pages.{IsInPages, with_item}
 use Rattle.shared_pages.proofs.Chunks.{with_item-end, with_item-in}
 
-module _ {X : Type 0} (shelves : List X) (shelved : ℕ) (last : List (List X)) (len at : ℕ) (item : X)
+module _ {X : Type 0} (shelves : List X) (shelved : ℕ) (last : List X) (len at : ℕ) (item : X)
     (are : IsInPages shelves shelved last len) where
   length-first : length (take shelved shelves) ≡ shelved
   length-first = length-take-le shelved shelves are.within
 
   -- an item that stands on shelves is replaced
   pub put_first : (next : List X) → at < shelved → next ≡ with_item at item shelves
-      → take shelved next ++ joined last ≡ set (take shelved shelves ++ joined last) at item
+      → take shelved next ++ last ≡ set (take shelved shelves ++ last) at item
   put_first next lt next_is =
-      ap (λ list. take shelved list ++ joined last) (next_is ∙ with_item-in at item shelves (omega (arith, lt, are.within)))
-      ∙ ap (λ list. list ++ joined last) (take-set-lt shelved shelves at item lt)
-      ∙ sym (set-append_left (take shelved shelves) (joined last) at item (omega (arith, lt, length-first)))
+      ap (λ list. take shelved list ++ last) (next_is ∙ with_item-in at item shelves (omega (arith, lt, are.within)))
+      ∙ ap (λ list. list ++ last) (take-set-lt shelved shelves at item lt)
+      ∙ sym (set-append_left (take shelved shelves) (last) at item (omega (arith, lt, length-first)))
 
   -- one of the last items is replaced
-  pub put_behind : (next : List X) → shelved ≤ at → at < len → next ≡ with_item (at - shelved) item (joined last)
-      → take shelved shelves ++ next ≡ set (take shelved shelves ++ joined last) at item
+  pub put_behind : (next : List X) → shelved ≤ at → at < len → next ≡ with_item (at - shelved) item (last)
+      → take shelved shelves ++ next ≡ set (take shelved shelves ++ last) at item
   put_behind next past within next_is =
       ap (λ list. take shelved shelves ++ list)
-      (next_is ∙ with_item-in (at - shelved) item (joined last) (omega (arith, past, within, are.count)))
-      ∙ sym (set-append_right (take shelved shelves) (joined last) shelved at item length-first past)
+      (next_is ∙ with_item-in (at - shelved) item (last) (omega (arith, past, within, are.count)))
+      ∙ sym (set-append_right (take shelved shelves) (last) shelved at item length-first past)
 
 -- ---- items put on shelves from a place on
 
@@ -80,11 +80,3 @@ module _ {X : Type 0} where
       | inr past ↦ subst (λ list. ArePut before list from items (suc count))
           (sym (next_is ∙ with_item-end (from + count) item shelves past)) (at_end past)
     ]
-
--- at most 64 last items stand in one page
-pub only_page : {X : Type 0} (last : List (List X)) → AreChunks 256 last → length (joined last) ≤ 64 → 0 < length (joined last)
-    → joined last ≡ chunk_at last 0
-only_page [] are few some = absurd (omega (arith, some))
-only_page (page ∷ []) are few some = append-nil page
-only_page (page ∷ more ∷ pages) are few some =
-    absurd (omega (arith, few, are.full 0 (omega arith), length-append page (joined (more ∷ pages))))

@@ -15,7 +15,7 @@ module _ {X A : Type 0} (items_of : A → List X) (size : ℕ) (parts : List A) 
     seen_part_lt = omega (arith, chunk_lt size (map items_of parts) at k j are at_is short within, length-map parts items_of)
 
     module _ (part : A) (part_is : part ≡ get_or parts k part) (items : List X) (items_are : items ≡ items_of part) where
-      pub seen_part : chunk_at (map items_of parts) k ≡ items
+      seen_part : chunk_at (map items_of parts) k ≡ items
       seen_part = get_or-map items_of parts k part [] seen_part_lt ∙ ap items_of (sym part_is) ∙ sym items_are
 
       there_in : k < length (map items_of parts)

@@ -1,9 +1,10 @@
 //! Pages of items.
 
-ghost use Rattle.std.specs.Prelude.{◌≡◌, ◌<◌, ◌≤◌, ◌+◌, ◌^◌, ◌++◌, ◌∷◌, ℕ, [], length, take, IfOk, OnOk, OnErr, slice_set, slice_index_or};
-ghost use Rattle.shared_pages.specs.Pages.{AreChunks, IsInPages, joined, pages_of, with_item};
+ghost use Rattle.std.specs.Prelude.{◌≡◌, ◌<◌, ◌≤◌, ◌+◌, ◌^◌, ◌++◌, ◌∷◌, ℕ, [], length, take, IfOk, OnOk, OnErr, slice_set, slice_index_or, true};
+ghost use Rattle.std.specs.Option.{is_some};
+ghost use Rattle.shared_pages.specs.Pages.{IsInPages, last_items, with_item};
 
-use crate::shelf::{make_room, put_in_pages};
+use crate::shelf::{copy_of, put_in_page};
 use crate::shelves::Shelves;
 use std::alloc::{AllocError, Global};
 use std::clone::Clone;
@@ -24,20 +25,20 @@ pub struct Pages<T> {
     shelves: Shelves<T>,
     /// How many of the items on shelves count.
     shelved: usize,
-    /// The last items: one page, or none.
-    last: Vec<Arc<Vec<T>>>,
+    /// The page of the last items, where there are some.
+    last: Option<Arc<Vec<T>>>,
     len: usize,
 }
 
 impl<T> Model for Pages<T> {
     ghost use Rattle.std.specs.Prelude.{List, ◌++◌, take};
-    ghost use Rattle.shared_pages.specs.Pages.{IsInPages, joined, pages_of};
+    ghost use Rattle.shared_pages.specs.Pages.{IsInPages, last_items};
 
     ghost Value = { List T };
 
-    ghost view = { λ p. take p.shelved p.shelves ++ joined (pages_of p.last.items) };
+    ghost view = { λ p. take p.shelved p.shelves ++ last_items p.last };
 
-    ghost invariant = { λ p. IsInPages p.shelves p.shelved (pages_of p.last.items) p.len };
+    ghost invariant = { λ p. IsInPages p.shelves p.shelved (last_items p.last) p.len };
 }
 
 impl<T> Pages<T> {
@@ -49,7 +50,7 @@ impl<T> Pages<T> {
             alloc,
             shelves: Shelves::new(alloc),
             shelved: 0,
-            last: Vec::new(alloc),
+            last: None,
             len: 0,
         }
     }
@@ -66,10 +67,9 @@ impl<T> Pages<T> {
         requires { at < length self.now }
         ensures { result.now ≡ slice_index_or self.now at result.now }
     {
-        if at < self.shelved {
-            self.shelves.read(at)
-        } else {
-            &self.last[0][at - self.shelved]
+        match &self.last {
+            Some(page) if at >= self.shelved => &page[at - self.shelved],
+            _ => self.shelves.read(at),
         }
     }
 
@@ -87,7 +87,7 @@ impl<T> Pages<T> {
             alloc: self.alloc,
             shelves: self.shelves.share()?,
             shelved: self.shelved,
-            last: self.last.clone()?,
+            last: share_last(&self.last)?,
             len: self.len,
         })
     }
@@ -125,13 +125,7 @@ impl<T: Clone + Drop> Pages<T> {
         let Some(len) = self.len.checked_add(1) else {
             return Err(AllocError);
         };
-        self.shelved = shelve_full(
-            self.alloc,
-            &mut self.shelves,
-            self.shelved,
-            &mut self.last,
-            self.len,
-        )?;
+        self.shelved = shelve_full(&mut self.shelves, self.shelved, &mut self.last, self.len)?;
         put_last(self.alloc, &mut self.last, self.len - self.shelved, item)?;
         self.len = len;
         Ok(())
@@ -148,49 +142,77 @@ impl<T: Drop> Clone for Pages<T> {
     }
 }
 
+/// Another owner of the page of the last items.
+fn share_last<T: Drop>(last: &Option<Arc<Vec<T>>>) -> Result<Option<Arc<Vec<T>>>, AllocError>
+    ensures { IfOk result (λ shared. last_items shared ≡ last_items last.now) }
+{
+    match last {
+        Some(page) => Ok(Some(Arc::try_clone(page)?)),
+        None => Ok(None),
+    }
+}
+
+/// Makes the page of the last items one that nobody else owns: a copy where there are other owners, and an empty one
+/// where there was none.
+fn own_last<T: Clone + Drop>(
+    alloc: Global,
+    last: &mut Option<Arc<Vec<T>>>,
+) -> Result<(), AllocError>
+    requires exact { (x y : T) → T.is_clone x y → y ≡ x }
+    ensures same { last_items last.new ≡ last_items last.old }
+    ensures there { OnOk result (is_some last.new ≡ true) }
+{
+    let items = match &*last {
+        Some(page) if Arc::strong_count(page) == 1 => return Ok(()),
+        Some(page) => copy_of(alloc, page, LAST)?,
+        None => Vec::with_capacity(alloc, LAST)?,
+    };
+    *last = Some(Arc::new(alloc, items)?);
+    Ok(())
+}
+
 /// Puts an item at its place among the last ones, whose page is copied before where it has other owners.
 fn put_last<T: Clone + Drop>(
     alloc: Global,
-    last: &mut Vec<Arc<Vec<T>>>,
+    last: &mut Option<Arc<Vec<T>>>,
     at: usize,
     item: T,
 ) -> Result<(), AllocError>
     requires exact { (x y : T) → T.is_clone x y → y ≡ x }
-    requires chunks { AreChunks 256 (pages_of last.old.items) }
-    requires within { at ≤ length (joined (pages_of last.old.items)) }
-    ensures ok { OnOk result
-        (joined (pages_of last.new.items) ≡ with_item at item (joined (pages_of last.old.items))) }
-    ensures chunks { OnOk result (AreChunks 256 (pages_of last.new.items)) }
-    ensures err { OnErr result (pages_of last.new.items ≡ pages_of last.old.items) }
+    requires within { at ≤ length (last_items last.old) }
+    ensures ok { OnOk result (last_items last.new ≡ with_item at item (last_items last.old)) }
+    ensures err { OnErr result (last_items last.new ≡ last_items last.old) }
 {
-    make_room(alloc, last, 0)?;
-    put_in_pages(alloc, last, at, item)
+    own_last(alloc, last)?;
+    match last {
+        Some(page) => put_in_page(Arc::make_mut(page)?, at, item),
+        None => unreachable!(),
+    }
 }
 
 /// Where there are as many last items as may be, puts them on shelves too. How many of the items on shelves count then.
 /// All items stay, also where memory runs out.
 fn shelve_full<T: Clone + Drop>(
-    alloc: Global,
     shelves: &mut Shelves<T>,
     shelved: usize,
-    last: &mut Vec<Arc<Vec<T>>>,
+    last: &mut Option<Arc<Vec<T>>>,
     len: usize,
 ) -> Result<usize, AllocError>
     requires exact { (x y : T) → T.is_clone x y → y ≡ x }
-    requires pages { IsInPages shelves.old shelved (pages_of last.old.items) len }
-    ensures pages { IfOk result (λ count. IsInPages shelves.new count (pages_of last.new.items) len) }
-    ensures items { IfOk result (λ count. take count shelves.new ++ joined (pages_of last.new.items)
-        ≡ take shelved shelves.old ++ joined (pages_of last.old.items)) }
-    ensures room { OnOk result (length (joined (pages_of last.new.items)) < 64) }
-    ensures kept { OnErr result (IsInPages shelves.new shelved (pages_of last.new.items) len) }
-    ensures err { OnErr result (take shelved shelves.new ++ joined (pages_of last.new.items)
-        ≡ take shelved shelves.old ++ joined (pages_of last.old.items)) }
+    requires pages { IsInPages shelves.old shelved (last_items last.old) len }
+    ensures pages { IfOk result (λ count. IsInPages shelves.new count (last_items last.new) len) }
+    ensures items { IfOk result (λ count. take count shelves.new ++ last_items last.new
+        ≡ take shelved shelves.old ++ last_items last.old) }
+    ensures room { OnOk result (length (last_items last.new) < 64) }
+    ensures kept { OnErr result (IsInPages shelves.new shelved (last_items last.new) len) }
+    ensures err { OnErr result (take shelved shelves.new ++ last_items last.new
+        ≡ take shelved shelves.old ++ last_items last.old) }
 {
-    if len - shelved < LAST {
-        return Ok(shelved);
+    match &*last {
+        Some(page) if page.len() == LAST => put_all(shelves, shelved, page)?,
+        _ => return Ok(shelved),
     }
-    put_all(shelves, shelved, &last[0])?;
-    *last = Vec::new(alloc);
+    *last = None;
     Ok(len)
 }
 

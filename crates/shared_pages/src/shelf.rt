@@ -147,7 +147,7 @@ fn put_in_group<T: Clone + Drop>(
 }
 
 /// Copies a page that is there and has other owners, with room for all the items that a page takes.
-pub(crate) fn make_room<T: Clone + Drop>(
+fn make_room<T: Clone + Drop>(
     alloc: Global,
     pages: &mut Vec<Arc<Vec<T>>>,
     index: usize,
@@ -156,25 +156,29 @@ pub(crate) fn make_room<T: Clone + Drop>(
     ensures { pages_of pages.new.items ≡ pages_of pages.old.items }
 {
     if index < pages.len() && Arc::strong_count(&pages[index]) > 1 {
-        let copy = copy_of(alloc, &pages[index])?;
+        let copy = copy_of(alloc, &pages[index], PAGE)?;
         pages[index] = Arc::new(alloc, copy)?;
     }
     Ok(())
 }
 
-/// The items of a page, with room for as many as a page takes.
-fn copy_of<T: Clone + Drop>(alloc: Global, page: &[T]) -> Result<Vec<T>, AllocError>
+/// The items of a page, with room for so many.
+pub(crate) fn copy_of<T: Clone + Drop>(
+    alloc: Global,
+    page: &[T],
+    room: usize,
+) -> Result<Vec<T>, AllocError>
     requires exact { (x y : T) → T.is_clone x y → y ≡ x }
     ensures { IfOk result (λ copy. copy.items ≡ page.now) }
 {
-    let mut copy = Vec::with_capacity(alloc, PAGE)?;
+    let mut copy = Vec::with_capacity(alloc, room)?;
     VecCloneMethods::extend_from_slice(&mut copy, page)?;
     Ok(copy)
 }
 
 /// Puts an item at its place in its page, which is copied before where it has other owners, or in a new page behind
 /// the last.
-pub(crate) fn put_in_pages<T: Clone + Drop>(
+fn put_in_pages<T: Clone + Drop>(
     alloc: Global,
     pages: &mut Vec<Arc<Vec<T>>>,
     at: usize,
@@ -200,7 +204,7 @@ pub(crate) fn put_in_pages<T: Clone + Drop>(
 }
 
 /// Puts an item at its place in a page: in place of another, or behind the last.
-fn put_in_page<T: Drop>(page: &mut Vec<T>, at: usize, item: T) -> Result<(), AllocError>
+pub(crate) fn put_in_page<T: Drop>(page: &mut Vec<T>, at: usize, item: T) -> Result<(), AllocError>
     requires { at ≤ length page.old.items }
     ensures ok { OnOk result (page.new.items ≡ with_item at item page.old.items) }
     ensures err { OnErr result (page.new.items ≡ page.old.items) }

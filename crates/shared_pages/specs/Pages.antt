@@ -1,5 +1,5 @@
 -- Items in pages, pages in groups, and groups on shelves.
-use Rattle.std.specs.Prelude.{ℕ, ◌≡◌, ◌<◌, ◌≤◌, ◌+◌, List, [], ◌∷◌, ◌++◌, length, map, flat_map, nat_lt, slice_index_or, slice_set, if◌then◌else◌}
+use Rattle.std.specs.Prelude.{ℕ, ◌≡◌, ◌<◌, ◌≤◌, ◌+◌, List, [], ◌∷◌, ◌++◌, length, map, flat_map, nat_lt, slice_index_or, slice_set, if◌then◌else◌, Option, Some, None}
 use Rattle.std.specs.Arc.{arc_value}
 use Rattle.std.specs.declared.sync.Arc.{Arc}
 use Rattle.std.specs.declared.vec.Vec.{Vec}
@@ -37,10 +37,22 @@ module _ {X : Type 0} where
     pub count : length (joined all) ≡ size
     pub shelves : AreChunks 65536 all
 
+  -- a list, of which some items stand on shelves, perhaps before others that don't count, and the last ones, 64 at most,
+  -- behind them
+  pub record IsInPages (shelves : List X) (shelved : ℕ) (last : List X) (len : ℕ) : Type 0 where
+    pub within : shelved ≤ length shelves
+    pub count : len ≡ shelved + length last
+    pub few : length last ≤ 64
+
 module _ {X Z : Type 0} where
   -- the items of a page
   abbrev pub page_items : Arc (Vec X Z) Z → List X
   page_items page = (arc_value {X = Vec X Z} page).items
+
+  -- the items of the page that there may be
+  abbrev pub last_items : Option (Arc (Vec X Z) Z) → List X
+  last_items (Some page) = page_items page
+  last_items None = []
 
   -- the pages of a group
   abbrev pub pages_of : List (Arc (Vec X Z) Z) → List (List X)

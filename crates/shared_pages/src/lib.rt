@@ -4,5 +4,6 @@
 
 mod pages;
 mod shelf;
+mod shelves;
 
 pub use pages::Pages;

@@ -1,37 +1,44 @@
-//! Pages of items, on shelves.
+//! Pages of items.
 
-ghost use Rattle.std.specs.Prelude.{◌≡◌, ◌<◌, ◌≤◌, ◌++◌, ◌∷◌, ℕ, [], length, IfOk, OnOk, OnErr, slice_set, slice_index_or};
-ghost use Rattle.shared_pages.specs.Pages.{AreChunks, joined, shelves_of, with_item};
+ghost use Rattle.std.specs.Prelude.{◌≡◌, ◌<◌, ◌≤◌, ◌+◌, ◌^◌, ◌++◌, ◌∷◌, ℕ, [], length, take, IfOk, OnOk, OnErr, slice_set, slice_index_or, true};
+ghost use Rattle.std.specs.Option.{is_some};
+ghost use Rattle.shared_pages.specs.Pages.{IsInPages, last_items, with_item};
 
-use crate::shelf::Shelf;
+use crate::shelf::{copy_of, put_in_page};
+use crate::shelves::Shelves;
 use std::alloc::{AllocError, Global};
 use std::clone::Clone;
 use std::marker::Model;
 use std::sync::Arc;
 
-/// How many items a shelf takes: 16 groups of 16 pages.
-const SHELF: usize = 65536;
+/// How many of the last items stand apart at most.
+const LAST: usize = 64;
 
-/// A list that only grows. Its items stand in pages of 256, the pages in groups of 16, the groups on shelves of 16, and
-/// each page, each group and each shelf may have several owners: [`share`](Pages::share) copies only the table of
-/// shelves. An item that is replaced or appended has its page, its group and its shelf copied before, unless nobody
-/// else owns them.
+/// A list that only grows. Its last items, 64 at most, stand in a page of their own, and all others on shelves, in pages
+/// of 256. Each page may have several owners, and so may the tables above it: [`share`](Pages::share) copies only the
+/// topmost one. An item that is replaced or appended has its page copied before, unless nobody else owns it, and on
+/// shelves the tables that lead to it too.
 #[derive(Drop)]
 pub struct Pages<T> {
     alloc: Global,
-    shelves: Vec<Arc<Shelf<T>>>,
+    /// The first items, and perhaps some more, which don't count.
+    shelves: Shelves<T>,
+    /// How many of the items on shelves count.
+    shelved: usize,
+    /// The page of the last items, where there are some.
+    last: Option<Arc<Vec<T>>>,
     len: usize,
 }
 
 impl<T> Model for Pages<T> {
-    ghost use Rattle.std.specs.Prelude.{List};
-    ghost use Rattle.shared_pages.specs.Pages.{AreShelves, joined, shelves_of};
+    ghost use Rattle.std.specs.Prelude.{List, ◌++◌, take};
+    ghost use Rattle.shared_pages.specs.Pages.{IsInPages, last_items};
 
     ghost Value = { List T };
 
-    ghost view = { λ p. joined (shelves_of p.shelves.items) };
+    ghost view = { λ p. take p.shelved p.shelves ++ last_items p.last };
 
-    ghost invariant = { λ p. AreShelves (shelves_of p.shelves.items) p.len };
+    ghost invariant = { λ p. IsInPages p.shelves p.shelved (last_items p.last) p.len };
 }
 
 impl<T> Pages<T> {
@@ -41,7 +48,9 @@ impl<T> Pages<T> {
     {
         Pages {
             alloc,
-            shelves: Vec::new(alloc),
+            shelves: Shelves::new(alloc),
+            shelved: 0,
+            last: None,
             len: 0,
         }
     }
@@ -58,7 +67,10 @@ impl<T> Pages<T> {
         requires { at < length self.now }
         ensures { result.now ≡ slice_index_or self.now at result.now }
     {
-        self.shelves[at / SHELF].read(at % SHELF)
+        match &self.last {
+            Some(page) if at >= self.shelved => &page[at - self.shelved],
+            _ => self.shelves.read(at),
+        }
     }
 
     /// Another owner of the same pages.
@@ -73,7 +85,9 @@ impl<T> Pages<T> {
     {
         Ok(Pages {
             alloc: self.alloc,
-            shelves: self.shelves.clone()?,
+            shelves: self.shelves.share()?,
+            shelved: self.shelved,
+            last: share_last(&self.last)?,
             len: self.len,
         })
     }
@@ -91,7 +105,11 @@ impl<T: Clone + Drop> Pages<T> {
         ensures ok { OnOk result (self.new ≡ slice_set self.old at item) }
         ensures err { OnErr result (self.new ≡ self.old) }
     {
-        put_on_shelves(self.alloc, &mut self.shelves, at, item)
+        if at < self.shelved {
+            self.shelves.put(at, item)
+        } else {
+            put_last(self.alloc, &mut self.last, at - self.shelved, item)
+        }
     }
 
     /// One more item, at the end. What other owners hold stays.
@@ -107,7 +125,8 @@ impl<T: Clone + Drop> Pages<T> {
         let Some(len) = self.len.checked_add(1) else {
             return Err(AllocError);
         };
-        put_on_shelves(self.alloc, &mut self.shelves, self.len, item)?;
+        self.shelved = shelve_full(&mut self.shelves, self.shelved, &mut self.last, self.len)?;
+        put_last(self.alloc, &mut self.last, self.len - self.shelved, item)?;
         self.len = len;
         Ok(())
     }
@@ -123,28 +142,96 @@ impl<T: Drop> Clone for Pages<T> {
     }
 }
 
-/// Puts an item at its place on its shelf, or on a new shelf behind the last.
-fn put_on_shelves<T: Clone + Drop>(
+/// Another owner of the page of the last items.
+fn share_last<T: Drop>(last: &Option<Arc<Vec<T>>>) -> Result<Option<Arc<Vec<T>>>, AllocError>
+    ensures { IfOk result (λ shared. last_items shared ≡ last_items last.now) }
+{
+    match last {
+        Some(page) => Ok(Some(Arc::try_clone(page)?)),
+        None => Ok(None),
+    }
+}
+
+/// Makes the page of the last items one that nobody else owns: a copy where there are other owners, and an empty one
+/// where there was none.
+fn own_last<T: Clone + Drop>(
     alloc: Global,
-    shelves: &mut Vec<Arc<Shelf<T>>>,
+    last: &mut Option<Arc<Vec<T>>>,
+) -> Result<(), AllocError>
+    requires exact { (x y : T) → T.is_clone x y → y ≡ x }
+    ensures same { last_items last.new ≡ last_items last.old }
+    ensures there { OnOk result (is_some last.new ≡ true) }
+{
+    let items = match &*last {
+        Some(page) if Arc::strong_count(page) == 1 => return Ok(()),
+        Some(page) => copy_of(alloc, page, LAST)?,
+        None => Vec::with_capacity(alloc, LAST)?,
+    };
+    *last = Some(Arc::new(alloc, items)?);
+    Ok(())
+}
+
+/// Puts an item at its place among the last ones, whose page is copied before where it has other owners.
+fn put_last<T: Clone + Drop>(
+    alloc: Global,
+    last: &mut Option<Arc<Vec<T>>>,
     at: usize,
     item: T,
 ) -> Result<(), AllocError>
     requires exact { (x y : T) → T.is_clone x y → y ≡ x }
-    requires chunks { AreChunks 65536 (shelves_of shelves.old.items) }
-    requires within { at ≤ length (joined (shelves_of shelves.old.items)) }
-    ensures ok { OnOk result
-        (joined (shelves_of shelves.new.items) ≡ with_item at item (joined (shelves_of shelves.old.items))) }
-    ensures chunks { OnOk result (AreChunks 65536 (shelves_of shelves.new.items)) }
-    ensures err { OnErr result (shelves_of shelves.new.items ≡ shelves_of shelves.old.items) }
+    requires within { at ≤ length (last_items last.old) }
+    ensures ok { OnOk result (last_items last.new ≡ with_item at item (last_items last.old)) }
+    ensures err { OnErr result (last_items last.new ≡ last_items last.old) }
 {
-    let index = at / SHELF;
-    if index < shelves.len() {
-        let shelf = Arc::make_mut(&mut shelves[index])?;
-        return shelf.put(at % SHELF, item);
+    own_last(alloc, last)?;
+    match last {
+        Some(page) => put_in_page(Arc::make_mut(page)?, at, item),
+        None => unreachable!(),
     }
-    let mut shelf = Shelf::new(alloc);
-    shelf.put(0, item)?;
-    shelves.push(Arc::new(alloc, shelf)?)?;
+}
+
+/// Where there are as many last items as may be, puts them on shelves too. How many of the items on shelves count then.
+/// All items stay, also where memory runs out.
+fn shelve_full<T: Clone + Drop>(
+    shelves: &mut Shelves<T>,
+    shelved: usize,
+    last: &mut Option<Arc<Vec<T>>>,
+    len: usize,
+) -> Result<usize, AllocError>
+    requires exact { (x y : T) → T.is_clone x y → y ≡ x }
+    requires pages { IsInPages shelves.old shelved (last_items last.old) len }
+    ensures pages { IfOk result (λ count. IsInPages shelves.new count (last_items last.new) len) }
+    ensures items { IfOk result (λ count. take count shelves.new ++ last_items last.new
+        ≡ take shelved shelves.old ++ last_items last.old) }
+    ensures room { OnOk result (length (last_items last.new) < 64) }
+    ensures kept { OnErr result (IsInPages shelves.new shelved (last_items last.new) len) }
+    ensures err { OnErr result (take shelved shelves.new ++ last_items last.new
+        ≡ take shelved shelves.old ++ last_items last.old) }
+{
+    match &*last {
+        Some(page) if page.len() == LAST => put_all(shelves, shelved, page)?,
+        _ => return Ok(shelved),
+    }
+    *last = None;
+    Ok(len)
+}
+
+/// Puts copies of items on shelves, from a place on. What stands before it stays, also where memory runs out.
+fn put_all<T: Clone + Drop>(
+    shelves: &mut Shelves<T>,
+    from: usize,
+    items: &[T],
+) -> Result<(), AllocError>
+    requires exact { (x y : T) → T.is_clone x y → y ≡ x }
+    requires within { from ≤ length shelves.old }
+    requires few { from + length items.now < 2 ^ 64 }
+    ensures ok { OnOk result (take (from + length items.now) shelves.new ≡ take from shelves.old ++ items.now) }
+    ensures long { OnOk result (from + length items.now ≤ length shelves.new) }
+    ensures err { OnErr result ((take from shelves.new ≡ take from shelves.old) × (from ≤ length shelves.new)) }
+{
+    for index in 0..items.len() {
+        let item = items[index].clone()?;
+        shelves.put(from + index, item)?;
+    }
     Ok(())
 }

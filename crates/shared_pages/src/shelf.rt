@@ -156,18 +156,22 @@ fn make_room<T: Clone + Drop>(
     ensures { pages_of pages.new.items ≡ pages_of pages.old.items }
 {
     if index < pages.len() && Arc::strong_count(&pages[index]) > 1 {
-        let copy = copy_of(alloc, &pages[index])?;
+        let copy = copy_of(alloc, &pages[index], PAGE)?;
         pages[index] = Arc::new(alloc, copy)?;
     }
     Ok(())
 }
 
-/// The items of a page, with room for as many as a page takes.
-fn copy_of<T: Clone + Drop>(alloc: Global, page: &[T]) -> Result<Vec<T>, AllocError>
+/// The items of a page, with room for so many.
+pub(crate) fn copy_of<T: Clone + Drop>(
+    alloc: Global,
+    page: &[T],
+    room: usize,
+) -> Result<Vec<T>, AllocError>
     requires exact { (x y : T) → T.is_clone x y → y ≡ x }
     ensures { IfOk result (λ copy. copy.items ≡ page.now) }
 {
-    let mut copy = Vec::with_capacity(alloc, PAGE)?;
+    let mut copy = Vec::with_capacity(alloc, room)?;
     VecCloneMethods::extend_from_slice(&mut copy, page)?;
     Ok(copy)
 }
@@ -200,7 +204,7 @@ fn put_in_pages<T: Clone + Drop>(
 }
 
 /// Puts an item at its place in a page: in place of another, or behind the last.
-fn put_in_page<T: Drop>(page: &mut Vec<T>, at: usize, item: T) -> Result<(), AllocError>
+pub(crate) fn put_in_page<T: Drop>(page: &mut Vec<T>, at: usize, item: T) -> Result<(), AllocError>
     requires { at ≤ length page.old.items }
     ensures ok { OnOk result (page.new.items ≡ with_item at item page.old.items) }
     ensures err { OnErr result (page.new.items ≡ page.old.items) }

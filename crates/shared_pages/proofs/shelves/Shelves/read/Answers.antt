@@ -1,6 +1,6 @@
 use Rattle.std.proofs.Common.{◌<◌, length, get_or, arith, sym, ap, ◌∙◌, subst}
-use Rattle.shared_pages.proofs.Shelves.{seen_shelf_lt, seen_on_shelf, seen_there}
-use Rattle.shared_pages.proofs.pages.Pages.read.Goals as goal
+use Rattle.shared_pages.proofs.OnShelves.{seen_shelf_lt, seen_on_shelf, seen_there}
+use Rattle.shared_pages.proofs.shelves.Shelves.read.Goals as goal
 
 pub index-requires : goal.index-requires
 index-requires g c =

@@ -2,7 +2,7 @@ use Rattle.std.proofs.Common.{◌≡◌, sym, ap, ◌∙◌, subst}
 use Rattle.std.specs.Arc.{arc_value}
 use Rattle.shared_pages.specs.Pages.{AreShelves, joined, shelves_of}
 use Rattle.shared_pages.proofs.Cloning.{clones_same}
-use Rattle.shared_pages.proofs.pages.Pages.share.Goals as goal
+use Rattle.shared_pages.proofs.shelves.Shelves.share.Goals as goal
 
 pub invariant_of-result : goal.invariant_of-result
 invariant_of-result g c =

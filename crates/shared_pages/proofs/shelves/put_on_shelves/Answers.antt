@@ -3,8 +3,8 @@ use Rattle.std.specs.Result.{is_ok}
 use Rattle.std.proofs.lemmas.Result.{on_ok_weaker, on_err_weaker}
 use Rattle.shared_pages.specs.Pages.{AreChunks, with_item, shelves_of, joined}
 use Rattle.shared_pages.proofs.Cloning.{from_err, on_err}
-use Rattle.shared_pages.proofs.Shelves.{shelf_le, same_shelf, put_shelf, put_shelf_kept, push_shelf, push_shelf_kept}
-use Rattle.shared_pages.proofs.pages.put_on_shelves.Goals as goal
+use Rattle.shared_pages.proofs.OnShelves.{shelf_le, same_shelf, put_shelf, put_shelf_kept, push_shelf, push_shelf_kept}
+use Rattle.shared_pages.proofs.shelves.put_on_shelves.Goals as goal
 
 pub returns-in_err-shelf-clause-err : goal.returns-in_err-shelf-clause-err
 returns-in_err-shelf-clause-err g c =

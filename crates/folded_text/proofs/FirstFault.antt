@@ -1,5 +1,5 @@
 -- A text has one first fault, want of memory aside.
-use Rattle.std.proofs.Common.{◌≡◌, ◌≢◌, ◌⊎◌, ℕ, ◌+◌, List, [], ◌∷◌, ◌++◌, length, refl, sym, ap, ◌∙◌, inl, inr, subst, arith}
+use Rattle.std.proofs.Common.{◌≡◌, ◌≢◌, ◌⊎◌, ℕ, ◌+◌, List, length, refl, sym, ap, ◌∙◌, inl, inr, subst, arith}
 use Rattle.std.specs.Str.Parse.{digits_value}
 use Rattle.std.specs.Prelude.{Result, Ok, Err, MatchResult}
 use Rattle.profile_rows.specs.declared.weighted_stacks.WeightedStack.{WeightedStack}
@@ -8,25 +8,8 @@ use Rattle.folded_text.specs.declared.folded.FoldedFault.TheVariants.{NotUtf8, N
 use Rattle.profile_rows.specs.Rows.{total_of}
 use Rattle.folded_text.specs.FoldedText.{AreRowLines, IsFoldedText, IsLineFault, IsFirstFault}
 use Rattle.folded_text.proofs.Counts.{HasCount-same}
+use Rattle.folded_text.proofs.Cuts.{cuts}
 use Rattle.folded_text.proofs.Reading.{AreRowLines-same, IsFirstFault-folded, faultless_at, shared}
-
--- two cuts of a list at an element: at one place, or one lies before the other
-abbrev AreCuts : List (List ℕ) → List ℕ → List (List ℕ) → List ℕ → Type 0
-AreCuts before line others other = ((before ≡ others) × (line ≡ other))
-    ⊎ (((rest : List (List ℕ)) × (before ≡ others ++ other ∷ rest)) ⊎ ((rest : List (List ℕ)) × (others ≡ before ++ line ∷ rest)))
-
-cuts : (before : List (List ℕ)) (line : List ℕ) (after others : List (List ℕ)) (other : List ℕ) (rest : List (List ℕ))
-    → before ++ line ∷ after ≡ others ++ other ∷ rest → AreCuts before line others other
-cuts [] line after [] other rest e = inl (refl, cc)
-cuts [] line after (l ∷ others) other rest e = inr (inr (others, cc))
-cuts (b ∷ before) line after [] other rest e = inr (inl (before, cc))
-cuts (b ∷ before) line after (l ∷ others) other rest e =
-    let head : b ≡ l = cc in
-    elim (cuts before line after others other rest (cc)) [
-      | inl same ↦ inl (ap (λ z. z ∷ before) head ∙ ap (λ z. l ∷ z) same.0, same.1)
-      | inr (inl within) ↦ inr (inl (within.0, ap (λ z. z ∷ before) head ∙ ap (λ z. l ∷ z) within.1))
-      | inr (inr within) ↦ inr (inr (within.0, ap (λ z. z ∷ others) (sym head) ∙ ap (λ z. b ∷ z) within.1))
-    ]
 
 -- A line has one fault: each case of a fault says that those of the cases before it don't stand.
 abbrev IsOneFault : FoldedFault → FoldedFault → Type 0

@@ -1,5 +1,6 @@
 pub mod Counting
 pub mod Counts
+pub mod Cuts
 pub mod FirstFault
 pub mod FrameNames
 pub mod Lines

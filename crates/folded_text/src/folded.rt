@@ -194,6 +194,7 @@ pub fn read_line<'a>(line: &'a [u8], held: u64, number: u64) -> Result<Spelled<'
         × (found.weight ≡ digits_value 10 digits))
         × (found.depth ≡ length (frames_of found.stack.now)) × (found.depth ≤ MAX_DEPTH)) }
     ensures fault { IfErr result (IsLineFault held number line.now) }
+    ensures named { IfErr result (λ fault. fault ≢ FoldedFault.NoMemory) }
 {
     let (stack, weight) = stack_and_weight(line, number)?;
     let depth = fitting_depth(stack, weight, held, number)?;

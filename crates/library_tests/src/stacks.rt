@@ -317,6 +317,28 @@ fn each_value_of_a_batch_is_written(rt: HostRuntime) -> Result<(), Fail> {
     Ok(())
 }
 
+// How many frames each row has, and its values.
+fn lent_rows(alloc: Global, batch: &Batch) -> Result<String, Fail> {
+    let mut text = String::new(alloc);
+    for row in batch.rows() {
+        let (depth, values) = (row.stack.names().len(), row.weights.values());
+        text.push_str(format!(in alloc; "{depth} {values:?}, ")?.as_str())?;
+    }
+    Ok(text)
+}
+
+fn lent_rows_of_two_values(alloc: Global) -> Result<String, Fail> {
+    let batch = pairs_of(alloc, &[("a;b", [0, 2]), ("", [1, 0]), ("a", [0, 0])])?;
+    lent_rows(alloc, &batch)
+}
+
+#[test]
+fn rows_of_a_batch_are_lent_in_order(rt: HostRuntime) -> Result<(), Fail> {
+    let rows = lent_rows_of_two_values(rt.alloc())?;
+    assert_eq!(rt; rows.as_str(), "2 [0, 2], 0 [1, 0], 1 [0, 0], ");
+    Ok(())
+}
+
 fn aggregate_text(alloc: Global, batch: &Batch) -> Result<String, Fail> {
     let sums = aggregate(alloc, batch)?;
     pairs_text(alloc, &sums, &sums.total())

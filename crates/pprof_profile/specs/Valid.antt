@@ -134,3 +134,10 @@ validity_fault draft =
 
 abbrev pub IsValidDraft : Draft → Type 0
 IsValidDraft draft = validity_fault draft ≡ None
+
+-- the rules that are asked first, and take no memory: those of strings and of indices, and that no id is 0
+pub record KeepsFirstRules (draft : Draft) : Type 0 where
+  pub strings : is_nonempty draft.strings ≡ true
+  pub first : begins_with_empty draft.strings ≡ true
+  pub indices : all_index draft ≡ true
+  pub ids : no_zero_id draft ≡ true

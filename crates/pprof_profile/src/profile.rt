@@ -4,7 +4,7 @@ ghost use Rattle.std.specs.Prelude.{◌≡◌, ◌≢◌, ◌⊎◌, Some, IfOk,
 ghost use Rattle.std.specs.Bool.{OnTrue, OnFalse};
 ghost use Rattle.pprof_profile.specs.declared.messages.Draft.{Draft};
 ghost use Rattle.pprof_profile.specs.declared.faults.ProfileFault.{ProfileFault};
-ghost use Rattle.pprof_profile.specs.Valid.{IsValidDraft, validity_fault};
+ghost use Rattle.pprof_profile.specs.Valid.{IsValidDraft, KeepsFirstRules, validity_fault};
 ghost use Rattle.pprof_profile.specs.Canonical.{canonical_bytes_of, FitsDraft};
 ghost use Rattle.pprof_profile.specs.Profiles.{BeginsAsGzip, IsProfile, IsProfileFault};
 
@@ -58,12 +58,13 @@ impl Profile {
 /// # Errors
 ///
 /// `NoStrings`, `FirstString`, `StringIndex`, `ZeroId`, `DoubleId`, `NoLocation`, `NoMapping`, `NoFunction` and
-/// `ValueCount`, each asked of the whole draft before the next; `NoMemory`.
+/// `ValueCount`, each asked of the whole draft before the next; `NoMemory`, where none of the first four is the fault.
 pub fn check(alloc: Global, draft: Draft) -> Result<Profile, Refused<Draft>>
     ensures valid { IfOk result (λ profile. (profile ≡ draft) × IsValidDraft draft) }
     ensures back { IfErr result (λ refused. refused.back ≡ draft) }
     ensures fault { IfErr result (λ refused. refused.fault ≢ ProfileFault.NoMemory
         → validity_fault draft ≡ Some refused.fault) }
+    ensures memory { IfErr result (λ refused. refused.fault ≡ ProfileFault.NoMemory → KeepsFirstRules draft) }
 {
     match validate(alloc, &draft) {
         Ok(()) => Ok(Profile { draft }),

@@ -3,7 +3,7 @@
 ghost use Rattle.std.specs.Prelude.{◌≡◌, ◌≢◌, Some, None, IfErr, OnOk};
 ghost use Rattle.std.specs.List.{list_all};
 ghost use Rattle.pprof_profile.specs.KnownIds.{knows};
-ghost use Rattle.pprof_profile.specs.Valid.{begins_with_empty, each_has_values, names_locations, names_mappings, names_functions, line_names_function, validity_fault};
+ghost use Rattle.pprof_profile.specs.Valid.{KeepsFirstRules, begins_with_empty, each_has_values, names_locations, names_mappings, names_functions, line_names_function, validity_fault};
 
 use crate::faults::ProfileFault;
 use crate::ids::{KnownIds, has_zero_id, unique_ids};
@@ -17,6 +17,7 @@ pub(crate) fn validate(alloc: Global, draft: &Draft) -> Result<(), ProfileFault>
     ensures valid { OnOk result (validity_fault draft.now ≡ None) }
     ensures fault { IfErr result
         (λ fault. fault ≢ ProfileFault.NoMemory → validity_fault draft.now ≡ Some fault) }
+    ensures memory { IfErr result (λ fault. fault ≡ ProfileFault.NoMemory → KeepsFirstRules draft.now) }
 {
     if draft.strings.is_empty() {
         return Err(ProfileFault::NoStrings);

@@ -5,6 +5,7 @@ ghost use Rattle.profile_rows.specs.Values.{AreTotals, BatchState, HasRoom, IsBa
 ghost use Rattle.profile_rows.specs.OwnedRows.{plain_row};
 ghost use Rattle.profile_rows.specs.Pushing.{IsPushFault};
 
+use crate::batch_rows::Rows;
 use crate::stack::Stack;
 use crate::values::{Weights, Width, first_heavy};
 use crate::weighted_stacks::{PushFault, Refused, WeightedStack, WeightedStacks};
@@ -159,6 +160,13 @@ impl Batch {
                 other_values(&self.others, at, self.totals.width()),
             ),
         }
+    }
+
+    /// The rows in order, each with its stack lent. Takes no memory.
+    pub fn rows(&self) -> Rows<'_>
+        ensures { result ≡ self.now.rows }
+    {
+        Rows::new(self)
     }
 
     /// The stacks in the order of their rows, each with its value of this number. Names are shared.

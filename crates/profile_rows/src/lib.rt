@@ -5,6 +5,7 @@
 
 mod aggregating;
 mod batch;
+mod batch_rows;
 mod frame_totals;
 mod hashing;
 mod keeping;
@@ -19,6 +20,7 @@ mod weighted_stacks;
 
 pub use aggregating::aggregate;
 pub use batch::{Batch, OwnedRow, Row};
+pub use batch_rows::Rows;
 pub use frame_totals::{CountedRows, FrameTotal, FrameTotals, kept_totals, kept_totals_with};
 pub use hashing::Hashing;
 pub use keeping::keeps;

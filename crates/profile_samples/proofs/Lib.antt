@@ -3,6 +3,7 @@ pub mod ExportLaws
 pub mod ExportedBatches
 pub mod ExportedRows
 pub mod ExportedValues
+pub mod FirstFaults
 pub mod FrameNumbers
 pub mod ItemsById
 pub mod IdPlaces

@@ -127,7 +127,7 @@ IsRowOfSample-same draft first width sample a b one other =
     (λ value lt. let size = one.count in ap magnitude (sym (one.values value (omega (arith, lt, size))) ∙ other.values value (omega (arith, lt, size)))) in
     λ i. record { stack = stacks i; weights = values i }
 
-AreRowsOfSamples-same : (draft : Draft) (first width : ℕ) (samples : List Sample) (rows others : List Row) → AreRowsOfSamples draft first width samples rows → AreRowsOfSamples draft first width samples others → rows ≡ others
+pub AreRowsOfSamples-same : (draft : Draft) (first width : ℕ) (samples : List Sample) (rows others : List Row) → AreRowsOfSamples draft first width samples rows → AreRowsOfSamples draft first width samples others → rows ≡ others
 AreRowsOfSamples-same draft first width [] rows others one other = one ∙ sym other
 AreRowsOfSamples-same draft first width (sample ∷ samples) [] others one other = absurd one
 AreRowsOfSamples-same draft first width (sample ∷ samples) (row ∷ rows) [] one other = absurd other
@@ -187,6 +187,16 @@ room_in value front row back rows cut fits =
     let one = sum_by-cons (λ (row : WeightedStack). row.weight) (weighing value row) (rows_at value back) in
     omega (arith, total, parts, one, fits)
 
+-- a sample among those of rows within the limit has no fault but want of memory
+pub faultless_among : (draft : Draft) (first : ℕ) (batch : BatchState) (number : ℕ) (before : List Sample) (sample : Sample) (after : List Sample) (rows : List Row) (fault : BatchFault) → 0 < batch.width
+    → AreRowsOfSamples draft first batch.width before batch.rows → AreRowsOfSamples draft first batch.width (before ++ sample ∷ after) rows → ((value : ℕ) → total_of (rows_at value rows) < 2 ^ 63)
+    → IsValuesFault draft first batch number sample fault → fault ≡ faults.NoMemory
+faultless_among draft first batch number before sample after rows fault some known all fits there =
+    let (front, row, back, cut, own_before, own) = cut_in draft first batch.width before sample after rows all in
+    let same : front ≡ batch.rows = AreRowsOfSamples-same draft first batch.width before front batch.rows own_before known in
+    faultless_by draft first batch number sample row fault own some
+    (λ value. subst (λ held. total_of (rows_at value held) + value_of value row.weights < 2 ^ 63) same (room_in value front row back rows cut (fits value))) there
+
 -- a profile that gives a batch has no first fault but want of memory
 stands_in_none : (draft : Draft) (choice : ValueChoice) (batch : BatchState) (fault : BatchFault) → IsBatchOf draft choice batch → StandsInBatch draft choice fault → fault ≡ faults.NoMemory
 stands_in_none draft choice batch fault this stands =
@@ -195,10 +205,7 @@ stands_in_none draft choice batch fault this stands =
     let all : AreRowsOfSamples draft stands.first stands.batch.width (stands.before ++ stands.sample ∷ stands.after) batch.rows =
     subst (λ ss. AreRowsOfSamples draft stands.first stands.batch.width ss batch.rows) stands.cut
     (subst (λ w. AreRowsOfSamples draft stands.first w draft.samples batch.rows) count (subst (λ f. AreRowsOfSamples draft f batch.width draft.samples batch.rows) place this.rows_samples)) in
-    let (front, row, back, rows, before, own) = cut_in draft stands.first stands.batch.width stands.before stands.sample stands.after batch.rows all in
-    let same : front ≡ stands.batch.rows = AreRowsOfSamples-same draft stands.first stands.batch.width stands.before front stands.batch.rows before stands.rows_samples in
-    faultless_by draft stands.first stands.batch (length stands.before) stands.sample row fault own stands.is_batch.some
-    (λ value. subst (λ held. total_of (rows_at value held) + value_of value row.weights < 2 ^ 63) same (room_in value front row back batch.rows rows (this.is_batch.fits value))) stands.there
+    faultless_among draft stands.first stands.batch (length stands.before) stands.before stands.sample stands.after batch.rows fault stands.is_batch.some stands.rows_samples all this.is_batch.fits stands.there
 
 pub IsFirstBatchFault-batch : (draft : Draft) (choice : ValueChoice) (batch : BatchState) (fault : BatchFault) → IsBatchOf draft choice batch → IsFirstBatchFault draft choice fault → fault ≡ faults.NoMemory
 IsFirstBatchFault-batch draft choice batch faults.NoValue this h = absurd (false≢true (sym (ap is_some (sym this.is_chosen ∙ h))))

@@ -1,5 +1,5 @@
 -- What rows the samples of a profile give.
-use Rattle.std.proofs.Common.{◌≡◌, ℕ, zero, suc, ◌+◌, ◌^◌, ◌<◌, ◌≤◌, Bool, true, false, List, [], ◌∷◌, ◌++◌, length, take, drop, get_or, refl, sym, ap, ◌∙◌, subst, arith}
+use Rattle.std.proofs.Common.{◌≡◌, ℕ, zero, suc, ◌+◌, ◌^◌, ◌<◌, ◌≤◌, Bool, true, false, List, [], ◌∷◌, ◌++◌, length, take, drop, get_or, refl, sym, ap, ◌∙◌, inl, inr, subst, arith}
 use Rattle.std.specs.Prelude.{ℤ, pos, negsuc, Option, Some, None, Result, Ok, Err, MatchResult, slice_get, unwrap_or, is_some, ◌==◌}
 use Rattle.std.specs.Str.{bytes_eq}
 use Rattle.std.proofs.lemmas.Bool.{false≢true, and_parts, eqb-true}
@@ -19,7 +19,7 @@ use Rattle.profile_samples.specs.declared.sampling.BatchFault.TheVariants.{NoVal
 use Rattle.profile_samples.specs.declared.sampling.ValueChoice.{ValueChoice}
 use Rattle.profile_samples.specs.declared.sampling.ValueChoice.TheVariants.{Default, Named, All}
 use Rattle.profile_rows.specs.Rows.{total_of}
-use Rattle.profile_samples.specs.Samples.{AreSampleRows, AreStacksOf, IsFirstStacksFault, IsFitFault, IsSampleFault, IsSampleRow, sample_stack_of, StandsAtSample, chosen_type_of, is_zero, last_index, or_last, string_at, type_named}
+use Rattle.profile_samples.specs.Samples.{AreSampleRows, AreStacksOf, IsFirstStacksFault, IsFitFault, IsSampleFault, IsSampleRow, IsStacksWorkFault, sample_stack_of, StandsAtSample, chosen_type_of, is_zero, last_index, or_last, string_at, type_named}
 use Rattle.profile_samples.proofs.ItemsById.{rule_holds}
 
 -- ---- the chosen value
@@ -91,6 +91,11 @@ is_below None = false
 is_below (Some (pos n)) = false
 is_below (Some (negsuc n)) = true
 
+-- a value that is a weight isn't below 0
+pub not_below : (value : Option ℤ) (weight below : ℕ) → value ≡ Some (pos weight) → value ≡ Some (negsuc below) → ⊥
+unfolding is_below
+not_below value weight below one other = false≢true (ap is_below (sym one ∙ other))
+
 pub IsSampleRow-same : (draft : Draft) (chosen : ℕ) (sample : Sample) (a b : WeightedStack) → IsSampleRow draft chosen sample a → IsSampleRow draft chosen sample b → a ≡ b
 unfolding magnitude
 IsSampleRow-same draft chosen sample a b one other = same_row a b (one.stack ∙ sym other.stack) (ap magnitude (sym one.value ∙ other.value))
@@ -126,10 +131,9 @@ cut_at draft chosen (s ∷ before) sample after (r ∷ rows) all =
 -- a sample that gives a row within the total has no fault but want of memory
 pub faultless : (draft : Draft) (chosen held number : ℕ) (sample : Sample) (row : WeightedStack) (fault : BatchFault) → IsSampleRow draft chosen sample row → held + row.weight < 2 ^ 63
     → IsSampleFault draft chosen held number sample fault → fault ≡ NoMemory
-unfolding is_below
 faultless draft chosen held number sample row NoValue this fits h = absurd h
 faultless draft chosen held number sample row (Width count) this fits h = absurd h
-faultless draft chosen held number sample row (Negative at) this fits h = absurd (false≢true (ap is_below (sym this.value ∙ h.2)))
+faultless draft chosen held number sample row (Negative at) this fits h = absurd (not_below (slice_get sample.values chosen) row.weight h.1 this.value h.2)
 faultless draft chosen held number sample row (Depth at) this fits h =
     let deep = this.depth in
     let same = ap length this.stack in
@@ -139,22 +143,27 @@ faultless draft chosen held number sample row (Heavy at) this fits h =
     absurd (omega (arith, same, fits, h.3))
 faultless draft chosen held number sample row NoMemory this fits h = refl
 
-chosen_same : (draft : Draft) (choice : ValueChoice) (a b : ℕ) → chosen_type_of draft choice ≡ Some a → chosen_type_of draft choice ≡ Some b → a ≡ b
+pub chosen_same : (draft : Draft) (choice : ValueChoice) (a b : ℕ) → chosen_type_of draft choice ≡ Some a → chosen_type_of draft choice ≡ Some b → a ≡ b
 chosen_same draft choice a b one other = ap (λ o. unwrap_or o 0) (sym one ∙ other)
+
+-- a sample among those of rows within the limit has no fault but want of memory
+pub faultless_at : (draft : Draft) (chosen number : ℕ) (before : List Sample) (sample : Sample) (after : List Sample) (front rows : List WeightedStack) (fault : BatchFault) → AreSampleRows draft chosen (before ++ sample ∷ after) rows → total_of rows < 2 ^ 63
+    → AreSampleRows draft chosen before front → IsSampleFault draft chosen (total_of front) number sample fault → fault ≡ NoMemory
+faultless_at draft chosen number before sample after front rows fault all whole known there =
+    let cut_rows = cut_at draft chosen before sample after rows all in
+    let same : front ≡ cut_rows.0 = AreSampleRows-same draft chosen before front cut_rows.0 known cut_rows.4 in
+    let total : total_of rows ≡ total_of (cut_rows.0 ++ cut_rows.1 ∷ cut_rows.2) = ap total_of cut_rows.3 in
+    let parts = sum_by-append (λ (row : WeightedStack). row.weight) cut_rows.0 (cut_rows.1 ∷ cut_rows.2) in
+    let row = sum_by-cons (λ (row : WeightedStack). row.weight) cut_rows.1 cut_rows.2 in
+    let held = ap total_of same in
+    faultless draft chosen (total_of front) number sample cut_rows.1 fault cut_rows.5 (omega (arith, total, parts, row, whole, held)) there
 
 -- a profile that gives rows has no first fault but want of memory
 stands_nowhere : (draft : Draft) (choice : ValueChoice) (rows : List WeightedStack) (fault : BatchFault) → AreStacksOf draft choice rows → StandsAtSample draft choice fault → fault ≡ NoMemory
 stands_nowhere draft choice rows fault batch (chosen, before, sample, after, front, is_chosen, cut, known, fits, there) =
     let same_type = chosen_same draft choice batch.chosen chosen batch.is_chosen is_chosen in
     let all = subst (λ c. AreSampleRows draft c draft.samples rows) same_type batch.rows_samples in
-    let cut_rows = cut_at draft chosen before sample after rows (subst (λ ss. AreSampleRows draft chosen ss rows) cut all) in
-    let same : front ≡ cut_rows.0 = AreSampleRows-same draft chosen before front cut_rows.0 known cut_rows.4 in
-    let total : total_of rows ≡ total_of (cut_rows.0 ++ cut_rows.1 ∷ cut_rows.2) = ap total_of cut_rows.3 in
-    let parts = sum_by-append (λ (row : WeightedStack). row.weight) cut_rows.0 (cut_rows.1 ∷ cut_rows.2) in
-    let row = sum_by-cons (λ (row : WeightedStack). row.weight) cut_rows.1 cut_rows.2 in
-    let whole = batch.total_fits in
-    let held = ap total_of same in
-    faultless draft chosen (total_of front) (length before) sample cut_rows.1 fault cut_rows.5 (omega (arith, total, parts, row, whole, held)) there
+    faultless_at draft chosen (length before) before sample after front rows fault (subst (λ ss. AreSampleRows draft chosen ss rows) cut all) batch.total_fits known there
 
 pub IsFirstStacksFault-batch : (draft : Draft) (choice : ValueChoice) (rows : List WeightedStack) (fault : BatchFault) → AreStacksOf draft choice rows → IsFirstStacksFault draft choice fault → fault ≡ NoMemory
 IsFirstStacksFault-batch draft choice rows NoValue batch h = absurd (false≢true (sym (ap is_some (sym batch.is_chosen ∙ h))))
@@ -231,6 +240,19 @@ pub first_of_standing : {T : Type 0} (P : T → Type 0) (draft : Draft) (choice 
     → MatchResult outcome P (λ fault. IsFirstStacksFault draft choice fault)
 first_of_standing P draft choice (Ok made) this = this
 first_of_standing P draft choice (Err fault) there = stands_first draft choice fault there
+
+-- and so is what work on the rows ends with
+work_first : (draft : Draft) (choice : ValueChoice) (fault : BatchFault) → IsStacksWorkFault draft choice fault → IsFirstStacksFault draft choice fault
+work_first draft choice fault this =
+    elim this [
+      | inl there ↦ stands_first draft choice fault there
+      | inr behind ↦ subst (IsFirstStacksFault draft choice) (sym behind.0) (behind.2.chosen, behind.2.is_chosen)
+    ]
+
+pub first_of_work : {T : Type 0} (P : T → Type 0) (draft : Draft) (choice : ValueChoice) (outcome : Result T BatchFault) → MatchResult outcome P (λ fault. IsStacksWorkFault draft choice fault)
+    → MatchResult outcome P (λ fault. IsFirstStacksFault draft choice fault)
+first_of_work P draft choice (Ok made) this = this
+first_of_work P draft choice (Err fault) this = work_first draft choice fault this
 
 -- ---- one sample
 

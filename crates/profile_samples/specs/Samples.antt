@@ -1,6 +1,6 @@
 -- What the samples of a profile are as rows (profile.proto, the comments of messages Sample, Location, Line and
 -- Function).
-use Rattle.std.specs.Prelude.{Bool, false, ℕ, ℤ, pos, negsuc, ◌≡◌, ◌+◌, ◌^◌, ◌<◌, ◌≤◌, ◌==◌, Option, Some, None, List, [], ◌∷◌, ◌++◌, length, map, reverse, slice_get, slice_index_or, unwrap_or, codes, if◌then◌else◌}
+use Rattle.std.specs.Prelude.{Bool, false, ℕ, ℤ, pos, negsuc, ◌≡◌, ◌⊎◌, ◌+◌, ◌^◌, ◌<◌, ◌≤◌, ◌==◌, Option, Some, None, List, [], ◌∷◌, ◌++◌, length, map, reverse, slice_get, slice_index_or, unwrap_or, codes, if◌then◌else◌}
 use Rattle.std.specs.List.{flat_map, position}
 use Rattle.std.specs.Fmt.{digits}
 use Rattle.std.specs.Str.{bytes_eq}
@@ -195,3 +195,9 @@ IsFirstStacksFault draft choice (Negative at) = StandsAtSample draft choice (Neg
 IsFirstStacksFault draft choice (Depth at) = StandsAtSample draft choice (Depth at)
 IsFirstStacksFault draft choice (Heavy at) = StandsAtSample draft choice (Heavy at)
 IsFirstStacksFault draft choice NoMemory = (chosen : ℕ) × (chosen_type_of draft choice ≡ Some chosen)
+
+-- Why work on the rows of a profile's samples has no result, once it has begun: a fault stands at a sample, or memory
+-- runs out behind the last one.
+abbrev pub IsStacksWorkFault : Draft → ValueChoice → BatchFault → Type 0
+IsStacksWorkFault draft choice fault = StandsAtSample draft choice fault
+    ⊎ ((fault ≡ NoMemory) × (rows : List WeightedStack) × AreStacksOf draft choice rows)

@@ -1,8 +1,9 @@
 //! A profile's samples as a batch: the values that are chosen, a row for each sample, and why there is none.
 
-ghost use Rattle.std.specs.Prelude.{ℕ, ◌≡◌, ◌+◌, ◌^◌, ◌<◌, ◌≤◌, ◌∷◌, ◌++◌, ◌⊎◌, [], IfErr, IfOk, MatchOption, MatchResult, OnErr, OnOk, None, Some, length, pos, slice_get};
+ghost use Rattle.std.specs.Prelude.{ℕ, ◌≡◌, ◌≢◌, ◌+◌, ◌^◌, ◌<◌, ◌≤◌, ◌∷◌, ◌++◌, ◌⊎◌, [], IfErr, IfOk, MatchOption, MatchResult, OnErr, OnOk, None, Some, length, pos, slice_get};
 ghost use Rattle.profile_rows.specs.Values.{BatchState, HasRoom, IsBatch, Row, rows_at, value_of};
 ghost use Rattle.profile_rows.specs.Rows.{total_of};
+ghost use Rattle.profile_samples.specs.declared.sampling.BatchFault.{BatchFault};
 ghost use Rattle.profile_samples.specs.declared.sampling.ValueChoice.{ValueChoice};
 ghost use Rattle.profile_samples.specs.Samples.{IsValueFault, sample_stack_of};
 ghost use Rattle.profile_samples.specs.Batches.{AreRowsOfSamples, IsBatchOf, IsFirstBatchFault, IsRowOfSample, IsValuesFault, StandsInBatch, chosen_types_of, one_from};
@@ -189,6 +190,9 @@ pub fn batch_of(alloc: Global, profile: &Profile, choice: ValueChoice) -> Result
         (λ fault. IsFirstBatchFault profile.now choice.entry fault) }
     ensures accepted { (batch : BatchState) → IsBatchOf profile.now choice.entry batch
         → MatchResult result (λ made. made ≡ batch) (λ fault. fault ≡ BatchFault.NoMemory) }
+    ensures every_fault { (first : BatchFault) → first ≢ BatchFault.NoMemory
+        → IsFirstBatchFault profile.now choice.entry first
+        → MatchResult result (λ batch. ⊥) (λ fault. (fault ≡ BatchFault.NoMemory) ⊎ (fault ≡ first)) }
 {
     batch_of_with(alloc, Hashing::fixed(), profile, choice)
 }
@@ -208,6 +212,9 @@ pub fn batch_of_with(
         (λ fault. IsFirstBatchFault profile.now choice.entry fault) }
     ensures accepted { (batch : BatchState) → IsBatchOf profile.now choice.entry batch
         → MatchResult result (λ made. made ≡ batch) (λ fault. fault ≡ BatchFault.NoMemory) }
+    ensures every_fault { (first : BatchFault) → first ≢ BatchFault.NoMemory
+        → IsFirstBatchFault profile.now choice.entry first
+        → MatchResult result (λ batch. ⊥) (λ fault. (fault ≡ BatchFault.NoMemory) ⊎ (fault ≡ first)) }
 {
     let chosen = chosen_values(alloc, profile.draft(), choice)?;
     let frames = LocationFrames::new(alloc, hashing, profile)?;

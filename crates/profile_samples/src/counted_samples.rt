@@ -1,14 +1,15 @@
 //! What the names of frames weigh in a profile's samples, counted sample by sample without rows.
 
-ghost use Rattle.std.specs.Prelude.{ℕ, ◌≡◌, ◌≢◌, ◌+◌, ◌^◌, ◌<◌, ◌≤◌, ◌++◌, ◌∷◌, [], All, List, IfErr, IfOk, MatchResult, OnOk, Some, length, map, pos, slice_get, slice_index_or, slice_set};
+ghost use Rattle.std.specs.Prelude.{ℕ, ◌≡◌, ◌≢◌, ◌⊎◌, ◌+◌, ◌^◌, ◌<◌, ◌≤◌, ◌++◌, ◌∷◌, [], All, List, IfErr, IfOk, MatchResult, OnOk, Some, length, map, pos, slice_get, slice_index_or, slice_set};
 ghost use Rattle.profile_rows.specs.declared.weighted_stacks.WeightedStack.{WeightedStack};
 ghost use Rattle.profile_rows.specs.declared.tallies.Tally.{Tally};
 ghost use Rattle.profile_rows.specs.Names.{IsName};
 ghost use Rattle.profile_rows.specs.Rows.{total_of};
 ghost use Rattle.profile_rows.specs.Tallies.{frame_counted};
 ghost use Rattle.profile_rows.specs.TopList.{AreSumsOf, AreTotalsOf};
+ghost use Rattle.profile_samples.specs.declared.sampling.BatchFault.{BatchFault};
 ghost use Rattle.profile_samples.specs.declared.sampling.ValueChoice.{ValueChoice};
-ghost use Rattle.profile_samples.specs.Samples.{AreStacksOf, IsFirstStacksFault, IsFitFault, IsSampleFault, IsSampleRow, StandsAtSample, chosen_type_of, sample_stack_of};
+ghost use Rattle.profile_samples.specs.Samples.{AreStacksOf, IsFirstStacksFault, IsFitFault, IsSampleFault, IsSampleRow, IsStacksWorkFault, StandsAtSample, chosen_type_of, sample_stack_of};
 ghost use Rattle.profile_samples.specs.NameNumbers.{frame_names};
 ghost use Rattle.profile_samples.specs.CountedSamples.{AreNumbersOfIds, AreRowsCounted, AreSingle, AreTalliesOfNames, AreTotalsOfSamples, entry_at, leaf_counted, names_of, names_at, names_counted, tally_of};
 
@@ -240,21 +241,25 @@ fn weighted(alloc: Global, entries: &[(&str, Tally)]) -> Result<Vec<FrameTotal>,
     Ok(list)
 }
 
-/// What the names weigh in the rows of a profile's samples by one value.
+/// What the names weigh in the rows of a profile's samples by one value, counted in entries that no row has yet. Where
+/// memory runs out, the samples before have no fault, nor has the one at hand.
 fn totals_by(
     alloc: Global,
     profile: &Profile,
     frames: &NumberedFrames,
+    entries: &mut Vec<(&str, Tally)>,
     chosen: usize,
 ) -> Result<FrameTotals, BatchFault>
     requires framed { frames.now ≡ profile.now }
     requires chosen { (choice : ValueChoice) × (chosen_type_of profile.now choice ≡ Some chosen) }
+    requires named { names_of entries.old.items ≡ frame_names profile.now }
+    requires each { All IsName (frame_names profile.now) }
+    requires uncounted { AreTalliesOfNames [] 0 entries.old.items }
     ensures { (choice : ValueChoice) → chosen_type_of profile.now choice ≡ Some chosen
         → MatchResult result (AreTotalsOfSamples profile.now choice)
-        (λ fault. IsFirstStacksFault profile.now choice fault) }
+        (λ fault. IsStacksWorkFault profile.now choice fault) }
 {
-    let mut entries = without_rows(alloc, frames.names())?;
-    let total = count_samples(alloc, profile, frames, &mut entries, chosen)?;
+    let total = count_samples(alloc, profile, frames, entries, chosen)?;
     let frames = weighted(alloc, entries.as_slice())?;
     Ok(FrameTotals { total, frames })
 }
@@ -275,6 +280,9 @@ pub fn sample_totals(
         (λ fault. IsFirstStacksFault profile.now choice.entry fault) }
     ensures accepted { (rows : List WeightedStack) → AreStacksOf profile.now choice.entry rows
         → MatchResult result (AreTotalsOf rows) (λ fault. fault ≡ BatchFault.NoMemory) }
+    ensures every_fault { (first : BatchFault) → first ≢ BatchFault.NoMemory
+        → IsFirstStacksFault profile.now choice.entry first
+        → MatchResult result (λ totals. ⊥) (λ fault. (fault ≡ BatchFault.NoMemory) ⊎ (fault ≡ first)) }
 {
     sample_totals_with(alloc, Hashing::fixed(), profile, choice)
 }
@@ -294,11 +302,15 @@ pub fn sample_totals_with(
         (λ fault. IsFirstStacksFault profile.now choice.entry fault) }
     ensures accepted { (rows : List WeightedStack) → AreStacksOf profile.now choice.entry rows
         → MatchResult result (AreTotalsOf rows) (λ fault. fault ≡ BatchFault.NoMemory) }
+    ensures every_fault { (first : BatchFault) → first ≢ BatchFault.NoMemory
+        → IsFirstStacksFault profile.now choice.entry first
+        → MatchResult result (λ totals. ⊥) (λ fault. (fault ≡ BatchFault.NoMemory) ⊎ (fault ≡ first)) }
 {
     let Some(chosen) = chosen_type(alloc, profile.draft(), choice) else {
         return Err(BatchFault::NoValue);
     };
     let names = ProfileNames::new(alloc, profile.draft())?;
     let frames = NumberedFrames::new(alloc, hashing, profile, &names)?;
-    totals_by(alloc, profile, &frames, chosen)
+    let mut entries = without_rows(alloc, frames.names())?;
+    totals_by(alloc, profile, &frames, &mut entries, chosen)
 }

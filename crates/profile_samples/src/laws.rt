@@ -1,19 +1,20 @@
 //! Laws of the definitions in `specs/`, each the contract of a function that does nothing. A caller calls one to use
 //! its law.
 
-ghost use Rattle.std.specs.Prelude.{ℕ, ◌≡◌, ◌<◌, ◌≤◌, ◌^◌, All, List, Some, length};
+ghost use Rattle.std.specs.Prelude.{ℕ, ◌≡◌, ◌≢◌, ◌<◌, ◌≤◌, ◌^◌, All, List, Some, length};
 ghost use Rattle.pprof_profile.specs.Valid.{IsValidDraft};
 ghost use Rattle.profile_rows.specs.declared.weighted_stacks.WeightedStack.{WeightedStack};
 ghost use Rattle.profile_rows.specs.Rows.{IsBatchRow, total_of};
 ghost use Rattle.profile_rows.specs.Names.{IsName};
 ghost use Rattle.profile_rows.specs.Values.{BatchState, IsBatch, Row, rows_at};
 ghost use Rattle.pprof_profile.specs.declared.messages.Draft.{Draft};
+ghost use Rattle.profile_samples.specs.declared.sampling.BatchFault.{BatchFault};
 ghost use Rattle.profile_samples.specs.declared.sampling.ValueChoice.{ValueChoice};
 ghost use Rattle.profile_samples.specs.declared.sampling.ValueChoice.TheVariants.{Default};
 ghost use Rattle.profile_samples.specs.declared.sampling.ValueChoice.TheVariants as choices;
 ghost use Rattle.profile_samples.specs.Export.{KindAndUnit, exported_profile_of, single_profile_of};
-ghost use Rattle.profile_samples.specs.Batches.{IsBatchOf};
-ghost use Rattle.profile_samples.specs.Samples.{AreStacksOf, chosen_type_of};
+ghost use Rattle.profile_samples.specs.Batches.{IsBatchOf, IsFirstBatchFault};
+ghost use Rattle.profile_samples.specs.Samples.{AreStacksOf, IsFirstStacksFault, chosen_type_of};
 
 /// Every rows' export is a valid profile where each row has a value of each kind, and the rows of a batch of one value
 /// are those that its own choice of a value gives back. By all values, every batch comes back.
@@ -31,4 +32,15 @@ pub fn export_reads_back()
 pub fn rows_of_one_value()
     ensures { (draft : Draft) (choice : ValueChoice) (batch : BatchState) (chosen : ℕ) → IsBatchOf draft choice batch
         → chosen_type_of draft choice ≡ Some chosen → AreStacksOf draft choice (rows_at 0 batch.rows) }
+{}
+
+/// A profile has at most one first fault of its samples, want of memory aside: by any choice (`batch`), and by one of
+/// one value (`stacks`).
+pub fn one_first_fault()
+    ensures batch { (draft : Draft) (choice : ValueChoice) (one other : BatchFault)
+        → one ≢ BatchFault.NoMemory → other ≢ BatchFault.NoMemory
+        → IsFirstBatchFault draft choice one → IsFirstBatchFault draft choice other → one ≡ other }
+    ensures stacks { (draft : Draft) (choice : ValueChoice) (one other : BatchFault)
+        → one ≢ BatchFault.NoMemory → other ≢ BatchFault.NoMemory
+        → IsFirstStacksFault draft choice one → IsFirstStacksFault draft choice other → one ≡ other }
 {}

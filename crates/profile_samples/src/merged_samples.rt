@@ -1,7 +1,8 @@
 //! The rows of a profile's samples, those of the same locations merged into one.
 
-ghost use Rattle.std.specs.Prelude.{[], ◌∷◌, ◌++◌, ◌≡◌, ◌+◌, ◌^◌, ◌<◌, ◌≤◌, IfErr, List, MatchResult, OnErr, OnOk, length, pos, slice_get, Some};
+ghost use Rattle.std.specs.Prelude.{[], ◌∷◌, ◌++◌, ◌≡◌, ◌≢◌, ◌⊎◌, ◌+◌, ◌^◌, ◌<◌, ◌≤◌, IfErr, List, MatchResult, OnErr, OnOk, length, pos, slice_get, Some};
 ghost use Rattle.profile_rows.specs.declared.weighted_stacks.WeightedStack.{WeightedStack};
+ghost use Rattle.profile_samples.specs.declared.sampling.BatchFault.{BatchFault};
 ghost use Rattle.profile_samples.specs.declared.sampling.ValueChoice.{ValueChoice};
 ghost use Rattle.profile_rows.specs.Aggregate.{aggregate_of};
 ghost use Rattle.profile_rows.specs.Rows.{total_of};
@@ -170,6 +171,9 @@ pub fn merge_samples(
     ensures accepted { (rows : List WeightedStack) → AreStacksOf profile.now choice.entry rows
         → MatchResult result (λ merged. aggregate_of merged ≡ aggregate_of rows)
         (λ fault. fault ≡ BatchFault.NoMemory) }
+    ensures every_fault { (first : BatchFault) → first ≢ BatchFault.NoMemory
+        → IsFirstStacksFault profile.now choice.entry first
+        → MatchResult result (λ merged. ⊥) (λ fault. (fault ≡ BatchFault.NoMemory) ⊎ (fault ≡ first)) }
 {
     merge_samples_with(alloc, Hashing::fixed(), profile, choice)
 }
@@ -190,6 +194,9 @@ pub fn merge_samples_with(
     ensures accepted { (rows : List WeightedStack) → AreStacksOf profile.now choice.entry rows
         → MatchResult result (λ merged. aggregate_of merged ≡ aggregate_of rows)
         (λ fault. fault ≡ BatchFault.NoMemory) }
+    ensures every_fault { (first : BatchFault) → first ≢ BatchFault.NoMemory
+        → IsFirstStacksFault profile.now choice.entry first
+        → MatchResult result (λ merged. ⊥) (λ fault. (fault ≡ BatchFault.NoMemory) ⊎ (fault ≡ first)) }
 {
     let Some(chosen) = chosen_type(alloc, profile.draft(), choice) else {
         return Err(BatchFault::NoValue);

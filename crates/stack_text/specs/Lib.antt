@@ -3,8 +3,10 @@ pub use Rattle.folded_text.specs.TextSums
 pub use Rattle.profile_rows.specs.Aggregate
 pub use Rattle.profile_rows.specs.Equality
 pub use Rattle.profile_rows.specs.Layout
+pub use Rattle.profile_rows.specs.LentRows
 pub use Rattle.profile_rows.specs.Names
 pub use Rattle.profile_rows.specs.Order
+pub use Rattle.profile_rows.specs.OwnedRows
 pub use Rattle.profile_rows.specs.Paths
 pub use Rattle.profile_rows.specs.Pushing
 pub use Rattle.profile_rows.specs.Rows

@@ -7,4 +7,4 @@ pub use profile_rows::laws::{
     rows_of_aggregates_are_unique, sums_are_those_of_the_aggregate, top_list_is_front_of_sorted,
     top_lists_are_by_the_aggregate,
 };
-pub use profile_samples::laws::{export_reads_back, rows_of_one_value};
+pub use profile_samples::laws::{export_reads_back, one_first_fault, rows_of_one_value};

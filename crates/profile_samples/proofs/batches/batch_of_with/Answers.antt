@@ -1,9 +1,10 @@
 -- What stands at a sample is the first fault, and what is read decides what batch there is.
 use Rattle.std.proofs.Common.{◌≡◌, subst}
-use Rattle.std.specs.Prelude.{Some}
+use Rattle.std.specs.Prelude.{Err, Some}
 use Rattle.std.proofs.lemmas.Result.{err_from_is_err_and}
 use Rattle.profile_samples.specs.declared.sampling.BatchFault.TheVariants.{NoMemory}
 use Rattle.profile_samples.specs.Batches.{IsBatchOf, IsFirstBatchFault, chosen_types_of}
+use Rattle.profile_samples.proofs.FirstFaults.{only_batch_fault}
 use Rattle.profile_samples.proofs.SampleBatches.{IsFirstBatchFault-batch, chosen_types_within, first_of_standing, only_batch}
 use Rattle.profile_samples.proofs.batches.batch_of_with.Goals as goal
 
@@ -12,6 +13,12 @@ returns-in_err-chosen-clause-accepted c = λ batch this.
     let p = err_from_is_err_and c.from_residual.result c.from_residual.ensures.1 in
     let first = subst (λ d. IsFirstBatchFault d c.args.choice c.in_err-chosen.field-0.0) c.draft.ensures.draft c.in_err-chosen.ensures.chosen in
     rw (p.1, p.2) (IsFirstBatchFault-batch c.args.profile.now c.args.choice batch c.in_err-chosen.field-0.0 this first)
+
+pub returns-in_err-chosen-clause-every_fault : goal.returns-in_err-chosen-clause-every_fault
+returns-in_err-chosen-clause-every_fault c = λ other some there.
+    let p = err_from_is_err_and c.from_residual.result c.from_residual.ensures.1 in
+    let first = subst (λ d. IsFirstBatchFault d c.args.choice c.in_err-chosen.field-0.0) c.draft.ensures.draft c.in_err-chosen.ensures.chosen in
+    rw (p.1, p.2) (only_batch_fault c.args.profile.now c.args.choice (Err c.in_err-chosen.field-0.0) first other some there)
 
 pub returns-in_err-frames-clause-read : goal.returns-in_err-frames-clause-read
 returns-in_err-frames-clause-read c =
@@ -36,3 +43,6 @@ returns-clause-read c =
 
 pub returns-clause-accepted : goal.returns-clause-accepted
 returns-clause-accepted c = only_batch c.args.profile.now c.args.choice c.batch_by.result (returns-clause-read c)
+
+pub returns-clause-every_fault : goal.returns-clause-every_fault
+returns-clause-every_fault c = only_batch_fault c.args.profile.now c.args.choice c.batch_by.result (returns-clause-read c)

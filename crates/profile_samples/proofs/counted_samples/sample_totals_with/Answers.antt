@@ -1,7 +1,13 @@
 -- What stands at a sample is the first fault.
-use Rattle.std.proofs.Common.{rules, ◌≡◌, Some}
+use Rattle.std.proofs.Common.{rules, ◌≡◌, ◌∙◌, All, Some, ap, subst}
+use Rattle.pprof_profile.specs.declared.messages.Draft.{Draft}
+use Rattle.profile_rows.specs.Names.{IsName}
+use Rattle.profile_samples.specs.NameNumbers.{frame_names}
 use Rattle.profile_samples.specs.Samples.{chosen_type_of}
+use Rattle.profile_samples.specs.CountedSamples.{AreTotalsOfSamples}
+use Rattle.profile_samples.proofs.FirstFaults.{only_stacks_fault}
 use Rattle.profile_samples.proofs.MergedSamples.{only_sample_totals}
+use Rattle.profile_samples.proofs.SampleRows.{first_of_work}
 use Rattle.profile_samples.proofs.counted_samples.sample_totals_with.Goals as goal
 
 pub totals_by-requires-clause-chosen : goal.totals_by-requires-clause-chosen
@@ -9,10 +15,20 @@ totals_by-requires-clause-chosen c =
     let chosen : chosen_type_of c.args.profile.now c.args.choice ≡ Some c.in-Some.chosen = search rules in
     (c.args.choice, chosen)
 
+pub totals_by-requires-clause-named : goal.totals_by-requires-clause-named
+totals_by-requires-clause-named c = c.in_ok-entries.ensures.names ∙ c.names-2.ensures.names ∙ ap frame_names c.in_ok-frames.ensures
+
+pub totals_by-requires-clause-each : goal.totals_by-requires-clause-each
+totals_by-requires-clause-each c = subst (λ (draft : Draft). All IsName (frame_names draft)) c.in_ok-frames.ensures c.names-2.ensures.each
+
 pub returns-clause-read : goal.returns-clause-read
 returns-clause-read c =
     let chosen : chosen_type_of c.args.profile.now c.args.choice ≡ Some c.in-Some.chosen = search rules in
-    c.totals_by.ensures c.args.choice chosen
+    first_of_work (AreTotalsOfSamples c.args.profile.now c.args.choice) c.args.profile.now c.args.choice c.totals_by.result (c.totals_by.ensures c.args.choice chosen)
 
 pub returns-clause-accepted : goal.returns-clause-accepted
 returns-clause-accepted c = only_sample_totals c.args.profile.now c.args.choice c.totals_by.result (returns-clause-read c)
+
+pub returns-clause-every_fault : goal.returns-clause-every_fault
+returns-clause-every_fault c =
+    only_stacks_fault (AreTotalsOfSamples c.args.profile.now c.args.choice) c.args.profile.now c.args.choice c.totals_by.result (λ totals these. (these.rows, these.sampled)) (returns-clause-read c)

@@ -1,27 +1,17 @@
 -- What was counted is what the names of the samples' rows weigh.
-use Rattle.std.proofs.Common.{◌≡◌, ℕ, All, ap, sym, ◌∙◌, subst}
-use Rattle.std.specs.Prelude.{Err}
+use Rattle.std.proofs.Common.{ap, sym, ◌∙◌, subst, inl, inr, refl}
 use Rattle.std.proofs.lemmas.Result.{err_from_is_err_and}
-use Rattle.pprof_profile.specs.declared.messages.Draft.{Draft}
-use Rattle.profile_rows.specs.Names.{IsName}
-use Rattle.profile_samples.specs.NameNumbers.{frame_names}
 use Rattle.profile_samples.specs.CountedSamples.{AreSingle, AreTalliesOfNames, names_of}
 use Rattle.profile_samples.proofs.FrameNumbers.{frame_names-single}
-use Rattle.profile_samples.proofs.SampleRows.{chosen_within, first_of_standing}
+use Rattle.profile_samples.proofs.SampleRows.{chosen_within}
 use Rattle.profile_samples.proofs.counted_samples.totals_by.Goals as goal
 
 pub count_samples-requires-clause-typed : goal.count_samples-requires-clause-typed
 count_samples-requires-clause-typed c = chosen_within c.args.profile.now c.requires.chosen.0 c.args.chosen c.requires.chosen.1
 
-pub count_samples-requires-clause-named : goal.count_samples-requires-clause-named
-count_samples-requires-clause-named c = c.in_ok-entries.ensures.names ∙ c.names.ensures.names ∙ ap frame_names c.requires.framed
-
-pub count_samples-requires-clause-each : goal.count_samples-requires-clause-each
-count_samples-requires-clause-each c = subst (λ (draft : Draft). All IsName (frame_names draft)) c.requires.framed c.names.ensures.each
-
 pub weighted-requires-clause-single : goal.weighted-requires-clause-single
 weighted-requires-clause-single c =
-    subst AreSingle (sym (ap names_of c.as_slice.ensures.value ∙ c.in_ok-total.ensures.names ∙ c.in_ok-entries.ensures.names ∙ c.names.ensures.names)) (frame_names-single c.args.frames.now)
+    subst AreSingle (sym (ap names_of c.as_slice.ensures.value ∙ c.in_ok-total.ensures.names ∙ c.requires.named)) (frame_names-single c.args.profile.now)
 
 pub weighted-requires-clause-counted : goal.weighted-requires-clause-counted
 weighted-requires-clause-counted c =
@@ -30,8 +20,14 @@ weighted-requires-clause-counted c =
 
 pub returns-in_err-total : goal.returns-in_err-total
 returns-in_err-total c = λ choice is_chosen.
-    let p = err_from_is_err_and c.from_residual-in_err-total.result c.from_residual-in_err-total.ensures.1 in
-    rw (p.1, p.2) (first_of_standing {T = ℕ} (λ n. n ≡ n) c.args.profile.now choice (Err c.in_err-total.field-0.0) (c.in_err-total.ensures.counted choice is_chosen))
+    let p = err_from_is_err_and c.from_residual.result c.from_residual.ensures.1 in
+    rw (p.1, p.2) (inl (c.in_err-total.ensures.counted choice is_chosen))
+
+pub returns-in_err-frames : goal.returns-in_err-frames
+returns-in_err-frames c = λ choice is_chosen.
+    let this = c.in_ok-total.ensures.counted choice is_chosen in
+    let p = err_from_is_err_and c.from_residual-in_err-frames.result c.from_residual-in_err-frames.ensures.1 in
+    rw (p.1, p.2) (inr (refl, this.rows, this.sampled))
 
 pub returns : goal.returns
 returns c = λ choice is_chosen.

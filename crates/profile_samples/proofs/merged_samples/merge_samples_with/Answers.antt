@@ -2,6 +2,7 @@
 use Rattle.std.proofs.Common.{rules, ◌≡◌, Some}
 use Rattle.profile_samples.specs.Samples.{chosen_type_of}
 use Rattle.profile_samples.specs.MergedSamples.{IsMergedBatch}
+use Rattle.profile_samples.proofs.FirstFaults.{only_stacks_fault}
 use Rattle.profile_samples.proofs.MergedSamples.{only_batch_sums}
 use Rattle.profile_samples.proofs.SampleRows.{chosen_within, first_of_standing}
 use Rattle.profile_samples.proofs.merged_samples.merge_samples_with.Goals as goal
@@ -18,3 +19,7 @@ returns-clause-read c =
 
 pub returns-clause-accepted : goal.returns-clause-accepted
 returns-clause-accepted c = only_batch_sums c.args.profile.now c.args.choice c.merged_by.result (returns-clause-read c)
+
+pub returns-clause-every_fault : goal.returns-clause-every_fault
+returns-clause-every_fault c =
+    only_stacks_fault (λ sums. IsMergedBatch c.args.profile.now c.args.choice sums) c.args.profile.now c.args.choice c.merged_by.result (λ sums merged. (merged.rows, merged.sampled)) (returns-clause-read c)

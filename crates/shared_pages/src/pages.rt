@@ -62,7 +62,8 @@ impl<T> Pages<T> {
         self.len
     }
 
-    /// The item at this place.
+    /// The item at this place. The clause has the form of std's for `[]`: where a default is asked for stands the item
+    /// itself, since a default counts only past the end, and the place is before it.
     pub fn read(&self, at: usize) -> &T
         requires { at < length self.now }
         ensures { result.now ≡ slice_index_or self.now at result.now }

@@ -1,9 +1,10 @@
 -- How the rows of a batch are dealt to workers.
 use Prim.Native.Nat.{zero, suc}
-use Rattle.std.specs.Prelude.{ℕ, ◌≡◌, ◌+◌, ◌*◌, Option, Some, None, List, [], ◌∷◌, length, map, sum_by}
+use Rattle.std.specs.Prelude.{ℕ, ◌≡◌, ◌+◌, ◌*◌, Option, Some, None, List, [], ◌∷◌, IsSomeAnd, length, map, slice_get, sum_by}
 use Rattle.profile_rows.specs.Values.{BatchState, Row}
 use Rattle.flame_report.specs.declared.query.Kind.TheVariants.{Total}
 use Rattle.op_book.specs.Operations.{PlainOp, add, ask, reset}
+use Rattle.op_book.specs.declared.entry.SessionLog.{SessionLog}
 
 -- the addition of a row, as a batch of its own
 abbrev pub addition : ℕ → Row → PlainOp
@@ -23,6 +24,11 @@ abbrev pub warm_lists : Option BatchState → List (List PlainOp)
 warm_lists None = []
 warm_lists (Some batch) = (add batch ∷ total_at 0 ∷ reset ∷ []) ∷ []
 
+-- the reset of a warm start, which is the third receipt of the first log, is the store's second change: it stands
+-- behind the addition of that log alone, and before all other changes
+abbrev pub IsWarm : List SessionLog → Type 0
+IsWarm logs = IsSomeAnd (slice_get logs 0) (λ (log : SessionLog). IsSomeAnd (slice_get log.receipts 2) (λ receipt. receipt.at ≡ 1))
+
 -- what all operations of lists weigh
 abbrev pub weigh : (PlainOp → ℕ) → List (List PlainOp) → ℕ
 weigh weight lists = sum_by (sum_by weight) lists
@@ -33,3 +39,7 @@ pub record AreDealt (batch : BatchState) (sessions : ℕ) (lists : List (List Pl
   pub count : length lists ≡ sessions
   pub same : (weight : PlainOp → ℕ) → weigh weight lists
       ≡ sum_by weight (map (addition batch.width) batch.rows) + sessions * sum_by weight (totals_from 0 batch.width)
+
+-- rows are dealt in turn: the number of the row that a worker adds in a step, where there is one
+abbrev pub row_of_step : ℕ → ℕ → ℕ → ℕ
+row_of_step workers worker step = worker + step * workers

@@ -1,5 +1,6 @@
 -- Which fault ends `live`, and of what kind it is.
-use Rattle.std.specs.Prelude.{Bool, true, false}
+use Rattle.std.specs.Prelude.{Bool, true, false, List, [], ◌∷◌, Option, None}
+use Rattle.std.specs.Option.{option_or}
 use Rattle.op_book.specs.declared.fault.AuditFault.{AuditFault}
 use Rattle.op_book.specs.declared.fault.AuditFault.TheVariants as audit
 use Rattle.op_book.specs.declared.fault.BookFault.{BookFault}
@@ -12,6 +13,8 @@ use Rattle.live_store.specs.declared.fault.WorkersFault.{WorkersFault}
 use Rattle.live_store.specs.declared.fault.WorkersFault.TheVariants as workers
 use Rattle.live_store.specs.declared.workers.Cause.{Cause}
 use Rattle.live_store.specs.declared.workers.Cause.TheVariants as cause
+use Rattle.live_store.specs.declared.workers.Stop.{Stop}
+use Rattle.live_store.specs.declared.workers.Worked.{Worked}
 use Rattle.live_answers.specs.declared.fault.LiveFault.{LiveFault}
 use Rattle.live_answers.specs.declared.fault.LiveFault.TheVariants as live
 
@@ -51,6 +54,11 @@ fault_of_workers workers.NoMemory = live.NoMemory
 abbrev pub fault_of_stop : Cause → LiveFault
 fault_of_stop (cause.Book fault) = fault_of_book fault
 fault_of_stop cause.Start = live.Start
+
+-- where the first worker stopped of those that did, in the order of their lists
+abbrev pub first_stop : List Worked → Option Stop
+first_stop [] = None
+first_stop (worked ∷ others) = option_or worked.stopped (first_stop others)
 
 -- no place for a reader of versions, or no memory
 abbrev pub is_place_wanting : SessionFault → Bool

@@ -1,5 +1,5 @@
 -- How rows are stored, and what is written of them.
-use Rattle.std.specs.Prelude.{ℕ, ◌==◌, ◌&&◌, Bool, cond, nat_le, not, Option, Some, None, if◌then◌else◌}
+use Rattle.std.specs.Prelude.{ℕ, ◌+◌, ◌-◌, ◌^◌, ◌==◌, ◌&&◌, Bool, cond, min, nat_le, not, Option, Some, None, if◌then◌else◌}
 
 -- how many workers add the rows, whether the report of each value is written, and whether a session before the workers
 -- adds all rows and resets the store
@@ -18,3 +18,12 @@ options_of sessions all warm =
     if not (sessions == 0) && nat_le sessions (most_workers warm)
     then Some (record { sessions = sessions; all = all; warm = warm })
     else None
+
+-- how many sessions a store has for them: one for each worker, and that of a warm start
+abbrev pub sessions_for : PlainOptions → ℕ
+sessions_for options = options.sessions + cond options.warm 1 0
+
+-- how many changes a store takes for them and so many rows: one for each row and for each worker, and the addition and
+-- the reset of a warm start; never more than a number of 32 bits can say
+abbrev pub changes_for : PlainOptions → ℕ → ℕ
+changes_for options rows = min (rows + options.sessions + cond options.warm 2 0) (2 ^ 32 - 1)

@@ -1,5 +1,8 @@
 //! Who hears how many rows are in, while workers add them.
 
+ghost use Rattle.std.specs.Prelude.{◌≡◌, nat_lt};
+ghost use Rattle.live_answers.specs.Dealing.{row_of_step};
+
 use live_store::Gate;
 use std::sync::Wait;
 
@@ -29,7 +32,9 @@ pub(crate) struct RowGate<'a, P: Progress> {
 }
 
 /// Whether a worker's step is the addition of one of so many rows, and not a question at its end.
-fn is_row(rows: usize, workers: usize, worker: usize, step: usize) -> bool {
+fn is_row(rows: usize, workers: usize, worker: usize, step: usize) -> bool
+    ensures { result ≡ nat_lt (row_of_step workers worker step) rows }
+{
     step.saturating_mul(workers).saturating_add(worker) < rows
 }
 

@@ -1,11 +1,11 @@
 //! Storing what workers are to do, and hearing what they were told.
 
-ghost use Rattle.std.specs.Prelude.{ℕ, ◌≡◌, ◌++◌, ◌∷◌, [], List, IfOk, IsSomeAnd, IsTrue, OnOk, map, option_map, slice_get};
+ghost use Rattle.std.specs.Prelude.{ℕ, ◌≡◌, ◌≤◌, ◌+◌, ◌++◌, ◌∷◌, [], List, IfOk, MatchBool, MatchResult, None, OnOk, Some, length, map, option_map, vec_capacity};
 ghost use Rattle.std.specs.Arc.{arc_value};
 ghost use Rattle.op_book.specs.Operations.{PlainOp, add, plain_op, reset};
 ghost use Rattle.live_store.specs.Workers.{AreWorkOf, ops_told};
-ghost use Rattle.live_answers.specs.Dealing.{total_at, warm_lists};
-ghost use Rattle.live_answers.specs.Faults.{fault_of_stop};
+ghost use Rattle.live_answers.specs.Dealing.{IsWarm, total_at, warm_lists};
+ghost use Rattle.live_answers.specs.Faults.{fault_of_stop, first_stop};
 
 use crate::dealing::total_query;
 use crate::fault::LiveFault;
@@ -64,6 +64,7 @@ fn work<N: StoreName, G: Gate, R: Threads + Wait + Sync>(
         logs.push(warm_up(rt, alloc, store, batch)?)?;
     }
     let worked = run_workers(rt, alloc, store, lists, gate)?;
+    logs.reserve(worked.len())?;
     push_logs(&mut logs, worked)?;
     Ok(logs)
 }
@@ -88,18 +89,21 @@ fn warm_up<N: StoreName, R: Wait>(
     Ok(session.close())
 }
 
-/// Adds the logs of workers of which none stopped.
+/// Adds the logs of workers of which none stopped, for which there is memory.
 fn push_logs(logs: &mut Vec<SessionLog>, worked: Vec<Worked>) -> Result<(), LiveFault>
-    ensures { (limit width : ℕ) (lists : List (List PlainOp)) → AreWorkOf limit width lists worked.items
+    requires { length logs.old.items + length worked.items ≤ vec_capacity logs.old }
+    ensures told { (limit width : ℕ) (lists : List (List PlainOp)) → AreWorkOf limit width lists worked.items
         → OnOk result (map (λ log. ops_told log.receipts) logs.new.items
         ≡ map (λ log. ops_told log.receipts) logs.old.items ++ lists) }
+    ensures fault { MatchResult result (λ _. first_stop worked.items ≡ None)
+        (λ fault. option_map (λ stop. fault_of_stop stop.cause) (first_stop worked.items) ≡ Some fault) }
 {
     for one in worked {
         let Worked { log, stopped } = one;
         if let Some(stop) = stopped {
             return Err(stop_fault(stop.cause));
         }
-        logs.push(log)?;
+        logs.push_reserved(log);
     }
     Ok(())
 }
@@ -107,8 +111,7 @@ fn push_logs(logs: &mut Vec<SessionLog>, worked: Vec<Worked>) -> Result<(), Live
 /// Whether the reset of a warm start is the second change of its store: then it stands behind the addition of the first
 /// log, and before all others.
 pub(crate) fn is_warm(logs: &[SessionLog]) -> bool
-    ensures { IsTrue result → IsSomeAnd (slice_get logs.now 0)
-        (λ log. IsSomeAnd (slice_get log.receipts 2) (λ receipt. receipt.at ≡ 1)) }
+    ensures { MatchBool result (IsWarm logs.now) (IsWarm logs.now → ⊥) }
 {
     let Some(log) = logs.first() else {
         return false;

@@ -1,10 +1,13 @@
 //! The text of what was stored and audited.
 
-ghost use Rattle.std.specs.Prelude.{ℕ, ◌≡◌, ◌+◌, ◌<◌, ◌≤◌, ◌++◌, List, IfOk, IsSomeAnd, None, OnOk, Some, cond, option_map, slice_get, true};
+ghost use Rattle.std.specs.Prelude.{ℕ, ◌≡◌, ◌+◌, ◌<◌, ◌≤◌, ◌++◌, List, IfErr, IfOk, MatchResult, None, OnOk, Some, cond, option_map, true};
 ghost use Rattle.std.specs.Arc.{arc_value};
 ghost use Rattle.profile_rows.specs.Aggregate.{aggregate_of};
 ghost use Rattle.profile_rows.specs.Values.{BatchState, Row, rows_at};
 ghost use Rattle.call_tree.specs.State.{weights_of};
+ghost use Rattle.live_answers.specs.Dealing.{IsWarm};
+ghost use Rattle.live_answers.specs.Faults.{is_shortage};
+ghost use Rattle.live_answers.specs.Options.{changes_for, sessions_for};
 ghost use Rattle.live_answers.specs.Live.{count_line, folded_at, live_text_of, reports_of, titled_at, titled_from};
 
 use crate::dealing::deal;
@@ -58,7 +61,9 @@ pub fn live_text<P: Progress, R: Threads + Wait + Sync>(
 }
 
 /// What tells of so many rows.
-fn gate_for<'a, P: Progress>(progress: &'a P, rows: usize, options: LiveOptions) -> RowGate<'a, P> {
+fn gate_for<'a, P: Progress>(progress: &'a P, rows: usize, options: LiveOptions) -> RowGate<'a, P>
+    ensures { (result.rows ≡ rows) × (result.workers ≡ options.sessions) }
+{
     RowGate {
         progress,
         rows,
@@ -80,8 +85,8 @@ fn warm_batch(batch: &Arc<Batch>, options: LiveOptions) -> Result<Option<Arc<Bat
 
 /// Whether a warm start, where there is one, was over before anything else was stored.
 fn check_warm(options: LiveOptions, logs: &[SessionLog]) -> Result<(), LiveFault>
-    ensures { OnOk result (options.warm ≡ true → IsSomeAnd (slice_get logs.now 0)
-        (λ log. IsSomeAnd (slice_get log.receipts 2) (λ receipt. receipt.at ≡ 1))) }
+    ensures { MatchResult result (λ _. options.warm ≡ true → IsWarm logs.now)
+        (λ fault. (fault ≡ LiveFault.Warm) × (options.warm ≡ true) × (IsWarm logs.now → ⊥)) }
 {
     if options.warm && !is_warm(logs) {
         return Err(LiveFault::Warm);
@@ -98,6 +103,9 @@ fn blank_for(
     options: LiveOptions,
 ) -> Result<Blank, LiveFault>
     ensures width { IfOk result (λ blank. blank.width ≡ width) }
+    ensures numbers { IfOk result (λ blank. (blank.limit ≡ changes_for options rows)
+        × (blank.sessions ≡ sessions_for options)) }
+    ensures fault { IfErr result (λ fault. is_shortage fault ≡ true) }
 {
     let (sessions, more) = if options.warm {
         (options.sessions + 1, 2)

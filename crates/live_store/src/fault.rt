@@ -43,6 +43,11 @@ pub enum WorkersFault {
 }
 
 impl From<AllocError> for WorkersFault {
+    ghost use Rattle.std.specs.Prelude.{◌≡◌};
+    ghost use Rattle.live_store.specs.declared.fault.WorkersFault.TheVariants as fault;
+
+    ghost from_gives = { λ _ given. given ≡ fault.NoMemory };
+
     fn from(_error: AllocError) -> WorkersFault {
         WorkersFault::NoMemory
     }

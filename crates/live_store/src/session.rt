@@ -216,6 +216,7 @@ impl<'a, N: StoreName> Session<'a, N> {
         ensures number { self.new.number ≡ self.old.number }
         ensures cause { IfErr result
             (ShowsCause N.limit N.width (changes_told self.old.log) (plain_op op)) }
+        ensures shown { IfErr result (IsShownBy self.new.seen self.new.number) }
     {
         match op {
             Op::Add(batch) => match self.add(rt, alloc, batch) {

@@ -1,9 +1,9 @@
 //! Workers: threads of which each takes the operations of a list to a session of its own.
 
-ghost use Rattle.std.specs.Prelude.{◌≡◌, ◌≤◌, [], length, map, vec_capacity, All, IfOk, MatchOption};
+ghost use Rattle.std.specs.Prelude.{◌≡◌, ◌≢◌, ◌<◌, ◌≤◌, [], length, map, vec_capacity, All, IfErr, IfOk, IfSome, IsSomeAnd, MatchOption};
 ghost use Rattle.std.specs.Option.{ForSome};
 ghost use Rattle.op_book.specs.Operations.{plain_op};
-ghost use Rattle.live_store.specs.Workers.{AreWorkOf, IsSeen, IsStoppedBy, IsWorkOf, ops_told};
+ghost use Rattle.live_store.specs.Workers.{AreWorkOf, IsSeen, IsStarted, IsStopShown, IsStoppedBy, IsWorkOf, IsWorkersFault, ops_told};
 
 use crate::fault::WorkersFault;
 use crate::session::Session;
@@ -74,10 +74,10 @@ struct WorkOn<N: StoreName> {
 impl<N: StoreName> Promise<Worked> for WorkOn<N> {
     ghost use Rattle.std.specs.Prelude.{◌≡◌, map};
     ghost use Rattle.op_book.specs.Operations.{plain_op};
-    ghost use Rattle.live_store.specs.Workers.{IsSeen, IsWorkOf};
+    ghost use Rattle.live_store.specs.Workers.{IsSeen, IsStarted, IsWorkOf};
 
     ghost kept_by = { λ promise worked. IsWorkOf N.limit N.width (map plain_op promise.list.value.items) worked
-        × (worked.log.session ≡ promise.session) × IsSeen worked };
+        × (worked.log.session ≡ promise.session) × IsSeen N.sessions worked × IsStarted worked };
 }
 
 /// A worker whose thread was started, or couldn't be.
@@ -91,7 +91,8 @@ struct Begun<N: StoreName> {
 }
 
 /// Gives each list of operations to a session of its own, in a thread of its own, and returns what each did, in the
-/// order of the lists, with a log that some list of changes bears out. A worker stops at its first refusal.
+/// order of the lists, with a log that some list of changes bears out, which also shows the cause of its refusal. A
+/// worker stops at its first refusal.
 ///
 /// # Errors
 ///
@@ -106,7 +107,8 @@ pub fn run_workers<'a, N: StoreName, G: Gate, R: Threads + Wait + Sync>(
 ) -> Result<Vec<Worked>, WorkersFault>
     ensures work { IfOk result
         (λ all. AreWorkOf N.limit N.width (map (λ list. map plain_op list.items) lists.items) all.items) }
-    ensures seen { IfOk result (λ all. All IsSeen all.items) }
+    ensures seen { IfOk result (λ all. All (IsSeen N.sessions) all.items) }
+    ensures fault { IfErr result (IsWorkersFault (length lists.items)) }
 {
     let workers = open(rt, alloc, store, lists)?;
     let begun = Vec::with_capacity(alloc, workers.len())?;
@@ -121,8 +123,9 @@ fn open<'a, N: StoreName, R: Wait>(
     store: &'a Store<N>,
     lists: Vec<Vec<Op>>,
 ) -> Result<Vec<Worker<'a, N>>, WorkersFault>
-    ensures { IfOk result (λ workers. map (λ worker. map plain_op worker.list.items) workers.items
+    ensures lists { IfOk result (λ workers. map (λ worker. map plain_op worker.list.items) workers.items
         ≡ map (λ list. map plain_op list.items) lists.items) }
+    ensures fault { IfErr result (IsWorkersFault (length lists.items)) }
 {
     let mut workers = Vec::with_capacity(alloc, lists.len())?;
     for list in lists {
@@ -157,7 +160,7 @@ fn work_all<'a, N: StoreName, G: Gate, R: Threads + Wait + Sync>(
     requires worked { (worked.items ≡ []) × (length workers.items ≤ vec_capacity worked) }
     ensures work { AreWorkOf N.limit N.width
         (map (λ worker. map plain_op worker.list.items) workers.entry.items) result.items }
-    ensures seen { All IsSeen result.items }
+    ensures seen { All (IsSeen N.sessions) result.items }
 {
     thread::scope(
         thread::scope_env(),
@@ -167,7 +170,7 @@ fn work_all<'a, N: StoreName, G: Gate, R: Threads + Wait + Sync>(
                 × (length workers.items ≤ vec_capacity worked) }
             ensures work { AreWorkOf N.limit N.width
                 (map (λ worker. map plain_op worker.list.items) workers.entry.items) result.items }
-            ensures seen { All IsSeen result.items }
+            ensures seen { All (IsSeen N.sessions) result.items }
         {
             let mut begun = begun;
             for worker in workers {
@@ -197,9 +200,10 @@ fn join_all<N: StoreName, R: Threads + Wait>(
     begun: Vec<Begun<N>>,
     worked: Vec<Worked>,
 ) -> Vec<Worked>
-    requires { (worked.items ≡ []) × (length begun.items ≤ vec_capacity worked) }
+    requires room { (worked.items ≡ []) × (length begun.items ≤ vec_capacity worked) }
+    requires sessions { All (λ one. one.session < N.sessions) begun.items }
     ensures work { AreWorkOf N.limit N.width (map (λ one. map plain_op one.list.value.items) begun.items) result.items }
-    ensures seen { All IsSeen result.items }
+    ensures seen { All (IsSeen N.sessions) result.items }
 {
     let mut worked = worked;
     for one in begun {
@@ -210,9 +214,12 @@ fn join_all<N: StoreName, R: Threads + Wait>(
 
 /// What a worker did, once its thread has ended.
 fn join_one<N: StoreName, R: Threads + Wait>(rt: &R, alloc: Global, begun: Begun<N>) -> Worked
+    requires { begun.session < N.sessions }
     ensures work { IsWorkOf N.limit N.width (map plain_op begun.list.value.items) result }
     ensures session { result.log.session ≡ begun.session }
-    ensures seen { IsSeen result }
+    ensures seen { IsSeen N.sessions result }
+    ensures start { MatchOption begun.thread
+        (IsSomeAnd result.stopped (λ stop. stop.cause ≡ Cause.Start)) (λ _. IsStarted result) }
 {
     let Begun {
         session,
@@ -243,7 +250,8 @@ fn work<'a, N: StoreName, G: Gate, R: Wait>(
 ) -> Worked
     ensures work { IsWorkOf N.limit N.width (map plain_op worker.entry.list.items) result }
     ensures session { result.log.session ≡ worker.entry.session.number }
-    ensures seen { IsSeen result }
+    ensures seen { IsSeen N.sessions result }
+    ensures started { IsStarted result }
 {
     let Worker {
         mut session,
@@ -272,6 +280,8 @@ fn take_all<'a, N: StoreName, G: Gate, R: Wait>(
         (λ stop. (stop.step ≡ length session.new.log)
         × IsStoppedBy N.limit N.width (map plain_op list.items) session.new.log stop.cause) }
     ensures number { session.new.number ≡ session.old.number }
+    ensures shown { IfSome result (λ stop. IsStopShown session.new.seen session.new.number stop.cause) }
+    ensures started { IfSome result (λ stop. stop.cause ≢ Cause.Start) }
 {
     for op in list {
         let step = session.log().len();

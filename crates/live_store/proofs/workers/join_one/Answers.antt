@@ -1,5 +1,5 @@
 -- A thread that wasn't started has an empty log.
-use Rattle.std.proofs.Common.{List, [], sym, subst, ◌∙◌}
+use Rattle.std.proofs.Common.{rules, List, [], sym, subst, ◌∙◌}
 use Rattle.op_book.specs.Operations.{PlainReceipt}
 use Rattle.live_store.specs.Sessions.{IsBorneOut}
 use Rattle.live_store.proofs.Knowing.{borne_fresh}
@@ -8,4 +8,4 @@ use Rattle.live_store.proofs.workers.join_one.Goals as goal
 pub returns-clause-seen : goal.returns-clause-seen
 returns-clause-seen g c =
     let none = c.new-in-None.ensures ∙ c.new.ensures.items in
-    ([], subst (λ (log : List PlainReceipt). IsBorneOut c.args.begun.session log []) (sym none) (borne_fresh c.args.begun.session []))
+    (search rules, ([], subst (λ (log : List PlainReceipt). IsBorneOut c.args.begun.session log []) (sym none) (borne_fresh c.args.begun.session []), tt))

@@ -31,12 +31,12 @@ pub aggregate_of-parts : (rows more : List WeightedStack)
     → aggregate_of (rows_of (aggregate_of rows) ++ rows_of (aggregate_of more)) ≡ aggregate_of (rows ++ more)
 aggregate_of-parts rows more =
     aggregate_of-same (rows_of (aggregate_of rows) ++ rows_of (aggregate_of more)) (rows ++ more) (λ stack.
-      let weighs = weight_if (is_same_stack stack) in
-      let parts = sum_by-append weighs (rows_of (aggregate_of rows)) (rows_of (aggregate_of more)) in
-      let all = sum_by-append weighs rows more in
-      let first = weight_where-rows_of (is_same_stack stack) rows in
-      let second = weight_where-rows_of (is_same_stack stack) more in
-      omega arith)
+    let weighs = weight_if (is_same_stack stack) in
+    let parts = sum_by-append weighs (rows_of (aggregate_of rows)) (rows_of (aggregate_of more)) in
+    let all = sum_by-append weighs rows more in
+    let first = weight_where-rows_of (is_same_stack stack) rows in
+    let second = weight_where-rows_of (is_same_stack stack) more in
+    omega arith)
 
 -- ---- kept rows
 

@@ -9,7 +9,7 @@ use Rattle.folded_text.proofs.laws.reports_of_parts_add_up.Goals as goal
 pub returns-clause-read : goal.returns-clause-read
 returns-clause-read c = λ rows more batch fits.
     subst (λ text. IsFoldedText text (rows ++ more)) (flat_map-append row_text rows more)
-      (rows_text-IsFoldedText (rows ++ more) batch fits)
+    (rows_text-IsFoldedText (rows ++ more) batch fits)
 
 pub returns-clause-report : goal.returns-clause-report
 returns-clause-report c = λ rows more. ap (λ weights. rows_text (rows_of weights)) (aggregate_of-parts rows more)

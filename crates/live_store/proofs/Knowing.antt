@@ -160,3 +160,15 @@ shown_first state seen session turn op same (book.Width held) first = tt
 shown_first state seen session turn op same (book.Heavy value held) first = let heavy = first.1 in rw same heavy.held_is
 shown_first state seen session turn op same book.NoMemory first = tt
 shown_first state seen session turn op same book.Version first = tt
+
+-- a change that stands behind what is known stands behind what was known before
+pub placed_behind : (old known : List PlainEntry) (session turn : ℕ) (op : PlainOp) (place : ℕ) (seen : List PlainEntry)
+    → IsPrefix old known → IsPlaced known session turn op place seen → IsPlaced old session turn op place seen
+placed_behind old known session turn op place seen begins was = record {
+  before = was.before;
+  begins = prefix_trans old known was.before begins was.begins;
+  turn_is = was.turn_is;
+  place_is = was.place_is;
+  reply_is = was.reply_is;
+  seen_is = was.seen_is;
+}

@@ -180,8 +180,8 @@ impl Grower {
     }
 
     /// This grower with the rows of a batch in its tree, as wide as the tree. By each value its total and the tree's
-    /// are together at most [`profile_rows::MAX_TOTAL`]. Pages that nobody else owns change in place, so that an addition
-    /// copies none where the tree was never shared.
+    /// are together at most [`profile_rows::MAX_TOTAL`]. Pages that nobody else owns change in place, so that an
+    /// addition copies none where the tree was never shared.
     ///
     /// # Errors
     ///

@@ -418,8 +418,8 @@ impl CallTree {
         Ok(String::from_str(alloc, joined.as_str())?)
     }
 
-    /// Each stack of weight above 0 by a value once, as a text, with its weight, in no particular order. No name is shared
-    /// for it.
+    /// Each stack of weight above 0 by a value once, as a text, with its weight, in no particular order. No name is
+    /// shared for it.
     ///
     /// # Errors
     ///

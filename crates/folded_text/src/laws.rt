@@ -13,9 +13,10 @@ pub fn written_rows_read_back()
         → IsFoldedText (rows_text rows) rows }
 {}
 
-/// Folded reports that are put together are folded text of the rows of both (`read`), and their folded report is that of
-/// all rows (`report`): so parts of an input can be folded by themselves, on as many machines as there are, and their
-/// reports folded once more. Totals, top lists and layouts depend on the rows' aggregate alone, which is then the same.
+/// Folded reports that are put together are folded text of the rows of both (`read`), and their folded report is that
+/// of all rows (`report`): so parts of an input can be folded by themselves, on as many machines as there are, and
+/// their reports folded once more. Totals, top lists and layouts depend on the rows' aggregate alone, which is then the
+/// same.
 pub fn reports_of_parts_add_up()
     ensures read { (rows more : List WeightedStack) → All IsBatchRow (rows ++ more) → total_of (rows ++ more) < 2 ^ 63
         → IsFoldedText (rows_text rows ++ rows_text more) (rows ++ more) }

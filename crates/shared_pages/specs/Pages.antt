@@ -37,8 +37,8 @@ module _ {X : Type 0} where
     pub count : length (joined all) ≡ size
     pub shelves : AreChunks 65536 all
 
-  -- a list, of which some items stand on shelves, perhaps before others that don't count, and the last ones, 64 at most,
-  -- behind them
+  -- a list, of which some items stand on shelves, perhaps before others that don't count, and the last ones, 64 at
+  -- most, behind them
   pub record IsInPages (shelves : List X) (shelved : ℕ) (last : List X) (len : ℕ) : Type 0 where
     pub within : shelved ≤ length shelves
     pub count : len ≡ shelved + length last

@@ -14,9 +14,9 @@ use std::sync::Arc;
 /// How many of the last items stand apart at most.
 const LAST: usize = 64;
 
-/// A list that only grows. Its last items, 64 at most, stand in a page of their own, and all others on shelves, in pages
-/// of 256. Each page may have several owners, and so may the tables above it: [`share`](Pages::share) copies only the
-/// topmost one. An item that is replaced or appended has its page copied before, unless nobody else owns it, and on
+/// A list that only grows. Its last items, 64 at most, stand in a page of their own, and all others on shelves, in
+/// pages of 256. Each page may have several owners, and so may the tables above it: [`share`](Pages::share) copies only
+/// the topmost one. An item that is replaced or appended has its page copied before, unless nobody else owns it, and on
 /// shelves the tables that lead to it too.
 #[derive(Drop)]
 pub struct Pages<T> {

@@ -12,9 +12,9 @@ use std::sync::Arc;
 /// How many items a shelf takes: 16 groups of 16 pages.
 const SHELF: usize = 65536;
 
-/// Items in pages of 256, the pages in groups of 16, the groups on shelves of 16. Each page, each group and each shelf may
-/// have several owners: a share copies only the table of shelves. An item that is put at a place has its page, its group
-/// and its shelf copied before, unless nobody else owns them.
+/// Items in pages of 256, the pages in groups of 16, the groups on shelves of 16. Each page, each group and each shelf
+/// may have several owners: a share copies only the table of shelves. An item that is put at a place has its page, its
+/// group and its shelf copied before, unless nobody else owns them.
 #[derive(Drop)]
 pub(crate) struct Shelves<T> {
     alloc: Global,

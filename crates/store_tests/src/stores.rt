@@ -1,5 +1,5 @@
-//! What no clause says of stores: that one is made with ample memory, that a closed store gives its own journal, and what
-//! sessions answer to questions of each kind and of several values, and while others make changes or end.
+//! What no clause says of stores: that one is made with ample memory, that a closed store gives its own journal, and
+//! what sessions answer to questions of each kind and of several values, and while others make changes or end.
 
 ghost use Rattle.std.specs.Prelude.{◌≡◌};
 
@@ -329,7 +329,8 @@ fn total_once<N: StoreName, R: Wait>(
     total(alloc, &mut session)
 }
 
-// A session that goes on, while others end behind their first report: what these are told, and how many receipts it has.
+// A session that goes on, while others end behind their first report: what these are told, and how many receipts it
+// has.
 fn others_end<N: StoreName, R: Wait>(
     rt: &R,
     alloc: Global,

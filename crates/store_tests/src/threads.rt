@@ -304,8 +304,8 @@ fn start_all<N: StoreName, R: Threads + Wait + Sync>(
     Ok(())
 }
 
-// How often sessions were told what is wrong, how often they heard, and how many entries and steps there are; or why the
-// logs don't match the journal.
+// How often sessions were told what is wrong, how often they heard, and how many entries and steps there are; or why
+// the logs don't match the journal.
 fn tally(alloc: Global, journal: &Journal, all: Vec<Walked>) -> Result<String, Fail> {
     let (mut wrong, mut heard) = (0_u64, 0_u64);
     let mut logs = Vec::new(alloc);

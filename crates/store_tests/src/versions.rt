@@ -1,5 +1,5 @@
-//! Sessions of one thread that make changes, tell of them and hear of them: what each is told at each step, what an audit
-//! of that very store says, and what its journal's tree has.
+//! Sessions of one thread that make changes, tell of them and hear of them: what each is told at each step, what an
+//! audit of that very store says, and what its journal's tree has.
 
 ghost use Rattle.std.specs.Prelude.{◌≡◌};
 

@@ -2,17 +2,18 @@
 use Rattle.std.proofs.Common.{ℕ, zero, suc, ◌≡◌, ◌≤◌, ◌+◌, ◌*◌, inl, inr, Bool, true, false, cond, Option, Some, None, List, [], ◌∷◌, ◌++◌, All, get_or, length, filter, map, ap, sym, subst, ◌∙◌, refl, arith}
 use Rattle.std.specs.Prelude.{IsPermutation, IsSomeAnd, MatchOption, slice_get, sum_by}
 use Rattle.std.specs.List.{flat_map}
-use Rattle.std.proofs.lemmas.List.{length-map, map-append}
+use Rattle.std.proofs.lemmas.List.{length-map}
 use Rattle.std.proofs.lemmas.List.Elements.{All-cons, All-nil}
-use Rattle.std.proofs.lemmas.List.Sorted.{sum_by-IsPermutation}
 use Rattle.std.proofs.lemmas.List.Sums.{sum_by-append, sum_by-cons}
 use Rattle.profile_rows.specs.declared.weighted_stacks.WeightedStack.{WeightedStack}
 use Rattle.profile_rows.specs.Rows.{is_same_stack, weight_if, weight_of}
 use Rattle.profile_rows.specs.Values.{BatchState, Row, rows_at, weighing}
 use Rattle.op_book.specs.Books.{JournalState}
-use Rattle.op_book.specs.Matching.{IsInOrder, IsKnown, IsOfJournal, LoggedReceipt, LogsMatch, PlainStep, Precedes, key_of, logged, logged_after, logged_from, step_of, steps_in}
+use Rattle.op_book.specs.Matching.{IsInOrder, IsKnown, IsOfJournal, LoggedReceipt, LogsMatch, PlainStep, Precedes, key_of, logged, logged_after, logged_from, steps_in}
 use Rattle.op_book.specs.Operations.{PlainEntry, PlainOp, PlainReceipt, add, reset, ask, addition_of, batches_after, is_change, is_reset, operations_of, placed, profile_after}
 use Rattle.op_book.specs.declared.entry.SessionLog.{SessionLog}
+use Rattle.op_book.proofs.Weighing as weighing
+use Rattle.op_book.proofs.Weighing.{added, counted, of_changes, sum_by-map, weigh_log, weigh_logs}
 use Rattle.live_store.specs.Workers.{ops_told}
 use Rattle.live_answers.specs.Dealing.{AreDealt, addition, total_at, totals_from, warm_lists, weigh}
 use Rattle.live_answers.specs.Live.{operations_in}
@@ -20,42 +21,20 @@ use Rattle.live_answers.specs.Options.{PlainOptions}
 
 -- ---- sums
 
-sum_by-map : {X Y : Type 0} (f : Y → ℕ) (g : X → Y) (xs : List X) → sum_by f (map g xs) ≡ sum_by (λ x. f (g x)) xs
-sum_by-map f g [] = refl
-sum_by-map f g (x ∷ xs) =
-    let here = sum_by-cons f (g x) (map g xs) in
-    let there = sum_by-cons (λ x. f (g x)) x xs in
-    let rest = sum_by-map f g xs in
-    omega (arith, here, there, rest)
-
-sum_by-none : {X : Type 0} (f : X → ℕ) → ((x : X) → f x ≡ 0) → (xs : List X) → sum_by f xs ≡ 0
-sum_by-none f none [] = refl
-sum_by-none f none (x ∷ xs) = let here = sum_by-cons f x xs in let rest = sum_by-none f none xs in let one = none x in omega (arith, here, rest, one)
-
 sum_by-one : {X : Type 0} (xs : List X) → sum_by (λ _. 1) xs ≡ length xs
 sum_by-one [] = refl
 sum_by-one (x ∷ xs) = let here = sum_by-cons (λ _. 1) x xs in let rest = sum_by-one xs in omega (arith, here, rest)
 
 -- ---- what logs tell
 
-from_log : (weight : PlainOp → ℕ) (number session index : ℕ) (earlier : Option PlainReceipt) (receipts : List PlainReceipt)
-    → sum_by (λ (one : LoggedReceipt). weight one.receipt.op) (logged_from number session index earlier receipts) ≡ sum_by weight (ops_told receipts)
-from_log weight number session index earlier [] = refl
-from_log weight number session index earlier (receipt ∷ later) =
-    let here = sum_by-cons (λ (one : LoggedReceipt). weight one.receipt.op) (record { number = number; session = session; index = index; earlier = earlier; receipt = receipt }) (logged_from (number + 1) session (index + 1) (Some receipt) later) in
-    let there = sum_by-cons weight receipt.op (ops_told later) in
-    let rest = from_log weight (number + 1) session (index + 1) (Some receipt) later in
-    omega (arith, here, there, rest)
-
-from_logs : (weight : PlainOp → ℕ) (number : ℕ) (logs : List SessionLog)
-    → sum_by (λ (one : LoggedReceipt). weight one.receipt.op) (logged_after number logs) ≡ weigh weight (map (λ (log : SessionLog). ops_told log.receipts) logs)
-from_logs weight number [] = refl
-from_logs weight number (log ∷ logs) =
-    let parts = sum_by-append (λ (one : LoggedReceipt). weight one.receipt.op) (logged_from number log.session 0 None log.receipts) (logged_after (number + length log.receipts) logs) in
-    let first = from_log weight number log.session 0 None log.receipts in
-    let rest = from_logs weight (number + length log.receipts) logs in
+logs_weigh : (weight : PlainOp → ℕ) (logs : List SessionLog) → weigh_logs (λ op reply. weight op) logs ≡ weigh weight (map (λ (log : SessionLog). ops_told log.receipts) logs)
+logs_weigh weight [] = refl
+logs_weigh weight (log ∷ logs) =
+    let here = sum_by-cons (λ (log : SessionLog). weigh_log (λ op reply. weight op) log.receipts) log logs in
     let there = sum_by-cons (sum_by weight) (ops_told log.receipts) (map (λ (log : SessionLog). ops_told log.receipts) logs) in
-    omega (arith, parts, first, rest, there)
+    let one = sum_by-map weight (λ (receipt : PlainReceipt). receipt.op) log.receipts in
+    let rest = logs_weigh weight logs in
+    omega (arith, here, there, one, rest)
 
 -- the run's operations weigh what was told, and that is a warm start and what was dealt
 pub run_weighs : (batch : BatchState) (sessions : ℕ) (warm lists : List (List PlainOp)) (logs : List SessionLog) (run : List PlainStep) → AreDealt batch sessions lists
@@ -63,9 +42,8 @@ pub run_weighs : (batch : BatchState) (sessions : ℕ) (warm lists : List (List 
     → (weight : PlainOp → ℕ) → sum_by (λ (step : PlainStep). weight step.op) run
     ≡ weigh weight warm + (sum_by weight (map (addition batch.width) batch.rows) + sessions * sum_by weight (totals_from 0 batch.width))
 run_weighs batch sessions warm lists logs run dealt told once weight =
-    sum_by-IsPermutation (λ (step : PlainStep). weight step.op) (steps_in logs) run once
-    ∙ sum_by-map (λ (step : PlainStep). weight step.op) step_of (logged logs)
-    ∙ from_logs weight 0 logs
+    weighing.run_weighs (λ op reply. weight op) logs run once
+    ∙ logs_weigh weight logs
     ∙ ap (weigh weight) told
     ∙ sum_by-append (sum_by weight) warm lists
     ∙ ap (λ n. weigh weight warm + n) (dealt.same weight)
@@ -90,12 +68,6 @@ run_counts batch options warm lists logs run dealt told once is =
 
 -- ---- what the journal's entries add
 
--- what an operation adds to a stack by a value
-abbrev added : ℕ → List (List ℕ) → PlainOp → ℕ
-added value stack (add batch) = weight_of (rows_at value batch.rows) stack
-added value stack reset = 0
-added value stack (ask query) = 0
-
 abbrev resets : PlainOp → ℕ
 resets op = cond (is_reset op) 1 0
 
@@ -106,23 +78,6 @@ no_totals weight none value (suc more) =
     let rest = no_totals weight none (value + 1) more in
     let one = none value in
     omega (arith, here, rest, one)
-
--- reports weigh nothing
-of_changes : (weight : PlainOp → ℕ) → ((op : PlainOp) → is_change op ≡ false → weight op ≡ 0) → (operations : List PlainOp) → sum_by weight (filter is_change operations) ≡ sum_by weight operations
-of_changes weight none [] = refl
-of_changes weight none (op ∷ operations) = by_case (is_change op) refl (of_changes weight none operations)
-  where
-    by_case : (b : Bool) → is_change op ≡ b → sum_by weight (filter is_change operations) ≡ sum_by weight operations → sum_by weight (filter is_change (op ∷ operations)) ≡ sum_by weight (op ∷ operations)
-    by_case true change rest =
-        let kept = ap (λ b. sum_by weight (cond b (op ∷ filter is_change operations) (filter is_change operations))) change in
-        let here = sum_by-cons weight op (filter is_change operations) in
-        let there = sum_by-cons weight op operations in
-        omega (arith, kept, here, there, rest)
-    by_case false report rest =
-        let kept = ap (λ b. sum_by weight (cond b (op ∷ filter is_change operations) (filter is_change operations))) report in
-        let there = sum_by-cons weight op operations in
-        let one = none op report in
-        omega (arith, kept, there, rest, one)
 
 zero_times : (k : ℕ) → k * 0 ≡ 0
 zero_times zero = refl
@@ -179,20 +134,6 @@ additions_add value stack width (row ∷ rows) =
     let there = sum_by-cons (weight_if (is_same_stack stack)) (weighing value row) (rows_at value rows) in
     let alone = sum_by-cons (weight_if (is_same_stack stack)) (weighing value row) [] in
     omega (arith, here, rest, there, alone)
-
--- what counts weighs what the operations add
-counted : (value : ℕ) (stack : List (List ℕ)) (operations : List PlainOp)
-    → weight_of (rows_at value (flat_map (λ (batch : BatchState). batch.rows) (flat_map addition_of operations))) stack ≡ sum_by (added value stack) operations
-counted value stack [] = refl
-counted value stack (add batch ∷ operations) =
-    let rest = counted value stack operations in
-    let here = sum_by-cons (added value stack) (add batch) operations in
-    let later = flat_map (λ (batch : BatchState). batch.rows) (flat_map addition_of operations) in
-    let rows : weight_of (rows_at value (batch.rows ++ later)) stack ≡ weight_of (rows_at value batch.rows ++ rows_at value later) stack = ap (λ (rows : List WeightedStack). weight_of rows stack) (map-append (weighing value) batch.rows later) in
-    let parts = sum_by-append (weight_if (is_same_stack stack)) (rows_at value batch.rows) (rows_at value later) in
-    omega (arith, rest, here, rows, parts)
-counted value stack (reset ∷ operations) = let rest = counted value stack operations in let here = sum_by-cons (added value stack) reset operations in omega (arith, rest, here)
-counted value stack (ask query ∷ operations) = let rest = counted value stack operations in let here = sum_by-cons (added value stack) (ask query) operations in omega (arith, rest, here)
 
 -- ---- the entries behind a warm start
 

@@ -14,7 +14,7 @@ batches_after-all (op ∷ operations) none =
     ap (λ b. cond b (batches_after operations) (addition_of op ++ batches_after operations)) any ∙ ap (λ l. addition_of op ++ l) rest
 
 -- whether a reset stands behind
-either : (b : Bool) → (b || true) ≡ true
+pub either : (b : Bool) → (b || true) ≡ true
 either true = refl
 either false = refl
 

@@ -12,3 +12,4 @@ pub mod Replaying
 pub mod Rising
 pub mod Sorting
 pub mod Totals
+pub mod Weighing

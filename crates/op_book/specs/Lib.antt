@@ -2,6 +2,7 @@ pub mod Books
 pub mod Changes
 pub mod Equality
 pub mod Ledgers
+pub mod Logs
 pub mod Matching
 pub mod Operations
 pub mod Replays

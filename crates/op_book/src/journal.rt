@@ -2,6 +2,8 @@
 
 ghost use Rattle.std.specs.Prelude.{◌≡◌, ◌<◌, ◌≤◌, ◌^◌, length};
 ghost use Rattle.op_book.specs.Books.{IsReplay};
+ghost use Rattle.op_book.specs.Logs.{counting_from};
+ghost use Rattle.op_book.specs.Operations.{operations_of};
 ghost use Rattle.op_book.specs.Runs.{AreChanges, AreOfSessions, AreOfWidth, AreTurnsInOrder, KeepLimit};
 
 use crate::book::Book;
@@ -57,6 +59,13 @@ impl Journal {
         self.book.tree()
     }
 
+    /// The place behind the last reset, 0 where there is none: the additions that count stand at it and behind it.
+    pub fn counting_from(&self) -> usize
+        ensures { result ≡ counting_from (operations_of self.now.entries) }
+    {
+        place_behind_reset(self.entries())
+    }
+
     /// How many sessions the book had, whose numbers are from 0.
     pub fn sessions(&self) -> u32
         ensures sessions { result ≡ self.now.sessions }
@@ -74,4 +83,17 @@ impl Journal {
     {
         self.book.width()
     }
+}
+
+/// The place behind the last reset among entries, 0 where there is none.
+fn place_behind_reset(entries: &[Entry]) -> usize
+    ensures { result ≡ counting_from (operations_of entries.now) }
+{
+    let mut behind = 0;
+    for (place, entry) in entries.iter().enumerate() {
+        if entry.op.is_reset() {
+            behind = place + 1;
+        }
+    }
+    behind
 }

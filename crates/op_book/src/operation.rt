@@ -1,7 +1,7 @@
 //! What a session may ask of a book, and what it is told.
 
 ghost use Rattle.std.specs.Prelude.{◌≡◌, ◌↔◌, IfOk, IsTrue};
-ghost use Rattle.op_book.specs.Operations.{is_change, plain_op, plain_reply};
+ghost use Rattle.op_book.specs.Operations.{is_change, is_reset, plain_op, plain_reply};
 
 use flame_report::{Answer, NoMemory, Query};
 use profile_rows::Batch;
@@ -33,6 +33,13 @@ impl Op {
         ensures { result ≡ is_change (plain_op self.now) }
     {
         !matches!(self, Op::Ask(_))
+    }
+
+    /// Whether it is a reset.
+    pub(crate) fn is_reset(&self) -> bool
+        ensures { result ≡ is_reset (plain_op self.now) }
+    {
+        matches!(self, Op::Reset)
     }
 
     /// Another owner of what the operation holds.

@@ -1,0 +1,8 @@
+use Rattle.std.proofs.Common.{◌≡◌, take}
+use Rattle.op_book.specs.Logs.{counting_from}
+use Rattle.op_book.specs.Operations.{operations_of}
+use Rattle.op_book.proofs.journal.place_behind_reset.Given as goal
+
+-- where counting begins after the entries so far
+abbrev pub invariant-loop-place : goal.invariant-loop-place
+invariant-loop-place l = l.behind ≡ counting_from (operations_of (take l.place l.entries))

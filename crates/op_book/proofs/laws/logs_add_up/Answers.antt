@@ -1,0 +1,11 @@
+use Rattle.std.proofs.Common.{◌≡◌}
+use Rattle.profile_rows.specs.Values.{rows_at}
+use Rattle.op_book.specs.Logs.{counting_from, rows_logged}
+use Rattle.op_book.specs.Operations.{profile_after}
+use Rattle.op_book.proofs.Weighing.{logged_rows_weigh}
+use Rattle.op_book.proofs.laws.logs_add_up.Goals as goal
+
+pub returns : goal.returns
+returns c = λ logs run operations once legal changes value.
+    c.aggregate_is_by_weights.ensures (rows_at value (rows_logged (counting_from operations) logs)) (rows_at value (profile_after operations))
+    (logged_rows_weigh logs run operations once legal changes value)

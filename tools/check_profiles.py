@@ -5,7 +5,7 @@ The reader below is written from profile.proto (google/pprof) and the Protocol B
 docs/DECISIONS.md, and knows nothing of the crate. For each byte list the crate's answer is compared with its own: the
 canonical bytes of the profile, or the text of the first fault. The lists are the vectors of the crate's tests, every
 proper prefix of each, each of their bytes changed to every other value, ids, lengths and indices at their limits,
-a real profile with bytes changed here and there, and random splices of fields.
+a real profile with bytes changed here and there, random splices of fields, and fields that stand in another message.
 
 Run it at the top of the repository: python3 tools/check_profiles.py. It is no part of the gate.
 """
@@ -17,8 +17,9 @@ import sys
 from profile_program import answers
 
 SEED = 22
-SPLICES = 20000
-CHANGES_OF_REAL = 2000
+SPLICES = 60000
+MOVES = 30000
+CHANGES_OF_REAL = 10000
 TOP = pathlib.Path(__file__).resolve().parent.parent
 
 # For each message its fields by number: the name, and the kind. `*` marks what repeats.
@@ -283,6 +284,38 @@ def splices(draw, bases):
         yield bytes(data)
 
 
+def fields_in(data):
+    """The fields of a byte list, where it reads as fields."""
+    try:
+        return list(pieces(data))
+    except Fault:
+        return []
+
+
+def moved(draw, data):
+    """A byte list of which a field of one message stands in another, where it has two messages."""
+    parts = fields_in(data)
+    messages = [at for at, part in enumerate(parts) if field_at(part, 0)[1] == 2]
+    if len(messages) < 2:
+        return data
+    giver, taker = draw.sample(messages, 2)
+    (number, _, given, _), (other, _, taken, _) = field_at(parts[giver], 0), field_at(parts[taker], 0)
+    inner, others = fields_in(given), fields_in(taken)
+    if inner:
+        others.insert(draw.randrange(len(others) + 1), inner.pop(draw.randrange(len(inner))))
+        parts[giver] = content_field(number, b"".join(inner))
+        parts[taker] = content_field(other, b"".join(others))
+    return b"".join(parts)
+
+
+def moves(draw, bases):
+    for _ in range(MOVES):
+        data = draw.choice(bases)
+        for _ in range(draw.choice([1, 1, 2, 3])):
+            data = moved(draw, data)
+        yield data
+
+
 def changed_real(draw):
     real = (TOP / "examples/work.pb").read_bytes()
     yield real
@@ -308,6 +341,8 @@ def rows():
         yield "limit", data
     for data in splices(draw, bases):
         yield "splice", data
+    for data in moves(draw, bases):
+        yield "moved field", data
     for data in changed_real(draw):
         yield "real profile", data
 

@@ -79,9 +79,11 @@ ROWS = {
     "aggregate": "b 3\nmain;a 6\n|b 4\nmain;a 8\n|",
     "aggregate_stacks": "b 3\nmain;a 6\n",
     "kept_totals": "total 2\n2 2 a\n0 2 main\n",
-    "counted_rows_count": "total 5\n0 5 main\n3 3 b\n0 3 c\n0 3 d\n0 3 e\n0 3 f\n2 2 a\n",
+    "counted_rows_count":
+        "total 5\n0 5 main\n3 3 b\n" + "".join(f"0 3 {name}\n" for name in "cdefghijklmn") + "2 2 a\n",
     "counted_rows_totals": "total 2\n2 2 a\n0 2 main\n",
     "read_folded": "main;a;b 3\nmain;a 2\nmain;c 5\n|",
+    "read_folded_of_many_rows": "50 rows, 51 names",
     "read_folded_of_no_count": "F2 NoCount line 3",
     "merge_folded": '["", " 4", "main;a 2", "main;a;b 3", "main;c 6"]',
     "folded_report": " 4\nmain;a 2\nmain;a;b 3\nmain;c 6\n",
@@ -137,6 +139,7 @@ REPORTS = {
     "report_of": WORKED_LAYOUT,
     "report_of_stacks": line_layout(2, "main", "a"),
     "top_list": BY_FLAT,
+    "top_list_of_many_names": "total 40\n40 40 g\n0 1 f0\n0 1 f1\n",
     "top_text": BY_FLAT,
     "flame_json": line_layout(1, "main", "a"),
     "label_of": "main",
@@ -223,7 +226,7 @@ PROGRAMS = {
         "For more information, try '--help'.\n",
 }
 
-# Calls that ask for no growth.
+# Calls that never ask for a growth.
 WITHOUT_GROWTHS = {
     "no_growth_of_bytes": "Ok((300, 2)) (3, 301)",
     "no_growth_of_profiles": "2 types, 6 strings",
@@ -239,4 +242,10 @@ WITHOUT_GROWTHS = {
 ANSWERS = {
     **BYTES, **ROWS, **SAMPLES, **TREES, **REPORTS, **BOOKS, **NAMED_FAULTS, **STORES, **WORKERS, **PROGRAMS,
     **WITHOUT_GROWTHS,
+}
+
+# The cases that ask for no growth: those, those with a fault that comes first, and a few others on so small a case.
+ASK_FOR_NONE = {
+    *WITHOUT_GROWTHS, *NAMED_FAULTS, "batch_push_of_a_heavy_row", "blank_make_of_no_sessions", "check_of_a_wrong_index",
+    "label_of", "name_make_of_no_name", "name_share", "report_of_the_total", "top_list",
 }

@@ -1,16 +1,17 @@
 /* Counts the growths of the program that it is linked into, and refuses those that the environment names.
 
-   A quick build (`rt try`) links the address sanitizer's runtime, whose malloc calls __interceptor_malloc; a program may
-   define that itself, and so it does here, for calloc, realloc and free too, and for pthread_create, whose threads count
-   as growths. The program says on its standard error between which of its calls growths count:
+   A quick build (`rt try`) links the address sanitizer's runtime, whose malloc calls __interceptor_malloc. A program
+   may define that itself, and so it does here, for realloc and free too, and for pthread_create, whose threads count
+   as growths. What the C library or the sanitizer ask for isn't counted. The program says on its standard error where
+   growths count:
 
    "case begins"       blocks are counted from here on,
    "refuse from here"  growths are numbered from 1, and some refused,
    "refuse to here"    none is refused,
    "case ends"         the counts are told.
 
-   REFUSE_FROM is the number of the first growth that is refused, and REFUSE_COUNT how many are, 0 for all from there on.
-   Where KEEP_AT is defined, a first run leaves a copy of the program there. */
+   REFUSE_FROM is the number of the first growth that is refused, and REFUSE_COUNT how many are, 0 for all from there
+   on. Where KEEP_AT is defined, a first run leaves a copy of the program there. */
 #define _GNU_SOURCE
 #include <dlfcn.h>
 #include <errno.h>
@@ -42,7 +43,7 @@ static size_t place_after(size_t place) { return (place + 1) % PLACES; }
 
 static size_t first_place(const void *block) { return ((uintptr_t)block >> 4) * 0x9e3779b97f4a7c15u % PLACES; }
 
-/* Where a block is, or else where one may stand. */
+/* Keeps a block in the first place that is free for it. */
 static void *note(void *block) {
     uintptr_t none = 0;
     if (!block) return block;
@@ -56,7 +57,7 @@ static void *note(void *block) {
     return block;
 }
 
-/* Forgets a block that was noted; others come of the C library's own calls. */
+/* Forgets a block, if it was noted. */
 static int forget(const void *block) {
     uintptr_t found;
     for (size_t place = first_place(block); (found = blocks[place]) != 0; place = place_after(place)) {
@@ -69,6 +70,13 @@ static int forget(const void *block) {
     return 0;
 }
 
+extern const char __executable_start, etext;
+
+/* Whether the program asks for it, from this place: a library isn't inside the program's file. */
+static int is_own(const void *caller) {
+    return (const char *)caller >= &__executable_start && (const char *)caller < &etext;
+}
+
 static int is_refused(void) {
     if (!is_refusing) return 0;
     long number = ++made;
@@ -79,11 +87,13 @@ static int is_refused(void) {
 }
 
 void *__interceptor_malloc(size_t size) {
+    if (!is_own(__builtin_return_address(0))) return ___interceptor_malloc(size);
     if (is_refused()) return errno = ENOMEM, NULL;
     return note(___interceptor_malloc(size));
 }
 
 void *__interceptor_realloc(void *block, size_t size) {
+    if (!is_own(__builtin_return_address(0))) return ___interceptor_realloc(block, size);
     if (is_refused()) return errno = ENOMEM, NULL;
     int was_noted = block && forget(block);
     void *moved = ___interceptor_realloc(block, size);

@@ -10,8 +10,8 @@ memory. All that it was lent is then as it was, or handed back, and the same cal
 Every block is given back. Calls with a fault that comes before want of memory always tell it, and those that ask for
 no growth ask for none.
 
-The program is a quick build of the crates' own sources, of which nothing is proved (build.py). --work keeps it, and with
---built it isn't built again. The exit status is 1 where a run ended otherwise.
+The program is a quick build of the crates' own sources, of which nothing is proved (build.py). --work keeps it, and
+with --built it isn't built again. The exit status is 1 where a run ended otherwise.
 """
 import argparse
 import collections
@@ -25,7 +25,7 @@ import sys
 from typing import NamedTuple
 
 from build import NAME, build
-from cases import ANSWERS, NAMED_FAULTS, WITHOUT_GROWTHS
+from cases import ANSWERS, ASK_FOR_NONE, NAMED_FAULTS
 
 sys.path.insert(0, str(pathlib.Path(__file__).resolve().parent.parent.parent / "bench"))
 from proved_program import run_outside  # noqa: E402
@@ -33,7 +33,7 @@ from proved_program import run_outside  # noqa: E402
 # How many growths are refused, 0 for all from the first on.
 KINDS = (1, 2, 0)
 AS_USUAL = "as usual"
-NO_MEMORY = ("no memory", "no memory: none started", "no memory: a worker stopped")
+NO_MEMORY = ("no memory", "no memory: none started", "no memory: no thread", "no memory: a worker stopped")
 COUNTS = re.compile(r"^growths (\d+) refused (\d+) kept (-?\d+)$", re.M)
 
 
@@ -92,7 +92,7 @@ def sweep(program, case):
     if plain.wrong or plain.kind != AS_USUAL:
         return Sweep(case, plain.growths, collections.Counter(), [f"without a refusal: {plain.wrong or plain.kind}"])
     ends, wrong = collections.Counter(), []
-    if case in WITHOUT_GROWTHS and plain.growths:
+    if (case in ASK_FOR_NONE) != (plain.growths == 0):
         wrong.append(f"it asked for {plain.growths} growths")
     for count in KINDS:
         for first in itertools.count(1):
@@ -109,13 +109,13 @@ def print_sweep(done):
     """One line of the table, and what is wrong."""
     ends = done.ends
     no_memory = sum(ends[kind] for kind in NO_MEMORY)
-    print(f"{done.case:40} {done.growths:7} {sum(ends.values()):7} {ends[AS_USUAL]:7} {no_memory:9} {len(done.wrong):7}",
-          flush=True)
+    runs, usual, wrong = sum(ends.values()), ends[AS_USUAL], len(done.wrong)
+    print(f"{done.case:40} {done.growths:7} {runs:7} {usual:7} {no_memory:9} {wrong:7}", flush=True)
     for kind in NO_MEMORY[1:]:
         if ends[kind]:
-            print(f"    {kind[len('no memory: '):]} {ends[kind]}")
-    for wrong in done.wrong[:10]:
-        print(f"    WRONG {wrong}")
+            print(f"    {kind}: {ends[kind]}")
+    for text in filter(None, done.wrong[:10]):
+        print(f"    WRONG {text}")
 
 
 def sweep_all(program, cases, jobs):
@@ -126,10 +126,9 @@ def sweep_all(program, cases, jobs):
         for one in pool.map(lambda case: sweep(program, case), cases):
             print_sweep(one)
             done.append(one)
-    growths, runs = sum(one.growths for one in done), sum(sum(one.ends.values()) for one in done)
-    usual = sum(one.ends[AS_USUAL] for one in done)
-    wrong = sum(len(one.wrong) for one in done)
-    print(f"{f'{len(done)} cases':40} {growths:7} {runs:7} {usual:7} {runs - usual:9} {wrong:7}")
+    ends = sum((one.ends for one in done), collections.Counter())
+    growths, wrong = sum(one.growths for one in done), sum(len(one.wrong) for one in done)
+    print_sweep(Sweep(f"{len(done)} cases", growths, ends, [""] * wrong))
     return wrong > 0
 
 

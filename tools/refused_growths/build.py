@@ -11,7 +11,7 @@ import sys
 
 HERE = pathlib.Path(__file__).resolve().parent
 sys.path.insert(0, str(HERE.parent.parent / "bench"))
-from proved_program import TOP, crates_below  # noqa: E402
+from proved_program import TOP, crates_below, write_list  # noqa: E402
 
 NAME = "refused_growths"
 LIBRARIES = [
@@ -36,9 +36,7 @@ def copy_sources(folder):
     (crates / NAME / "c").mkdir()
     shutil.copyfile(HERE / "growths.c", crates / NAME / "c/growths.c")
     below[NAME] = LIBRARIES
-    lines = [f"{crate}: {' '.join(uses)}\n" for crate, uses in below.items()]
-    (folder / "crates.txt").write_text("".join(lines), encoding="utf-8")
-    shutil.copyfile(TOP / "HANDLES", folder / "HANDLES")
+    write_list(below, folder)
     return crates / NAME
 
 

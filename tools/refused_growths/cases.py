@@ -145,41 +145,43 @@ REPORTS = {
     "label_of": "main",
 }
 
-BOOK = "0.0 add 0, 1.0 add 1, b 2\nmain;a 1\n|[3]|a 1/1 b 2/2 main 0/1 "
-ADDED = (
-    "0.0 add 0, 1.0 add 1, 0.1 add 2, b 2\nc;d 8\nmain;a 5\n|[15]|a 5/5 b 2/2 c 0/8 d 8/8 main 0/5 "
-)
-RESET = "placed 2 at 2; 0.0 add 0, 1.0 add 1, 0.1 reset 2, |[0]|"
+ENTRIES = "0.0 add 0, 1.0 add 1, 1.1 add 2, 1.2 add 3, "
+BOOK = ENTRIES + "b 2\nmain;a 1\n|[3]|a 1/1 b 2/2 main 0/1 "
+ADDED = ENTRIES + "0.1 add 4, b 2\nc;d 8\nmain;a 5\n|[15]|a 5/5 b 2/2 c 0/8 d 8/8 main 0/5 "
+RESET = f"placed 4 at 4; {ENTRIES}0.1 reset 4, |[0]|"
 HEAVY = (
-    "K4 Heavy value 0 held 9223372036854775806; 0.0 add 0, 1.0 add 1, b 2\nmain;a 9223372036854775804\n"
+    f"K4 Heavy value 0 held 9223372036854775806; {ENTRIES}b 2\nmain;a 9223372036854775804\n"
     "|[9223372036854775806]|a 9223372036854775804/9223372036854775804 b 2/2 main 0/9223372036854775804 "
 )
 
 BOOKS = {
     "book_new": "||[0, 0]|",
-    "book_add": f"placed 2 at 2; {ADDED}",
+    "book_add": f"placed 4 at 4; {ADDED}",
     "book_reset": RESET,
-    "book_prepare": f"placed 2 at 2; {ADDED}",
+    "book_prepare": f"placed 4 at 4; {ADDED}",
     "book_prepare_reset": RESET,
     "audit": "0.0 1.0 0.1 1.1 ",
     "audit_of_a_wrong_answer": "A5 WrongAnswer session 1 index 1",
 }
 
+# The entries of a store before a step.
+STORED = "1.0 add 0, 1.1 add 1, 1.2 add 2, 1.3 add 3, "
+
 # Calls of which a named fault comes before want of memory.
 NAMED_FAULTS = {
     "book_add_of_no_session": f"K1 Session; {BOOK}",
     "book_add_of_a_wrong_turn": f"K2 Turn held 1; {BOOK}",
-    "book_add_where_it_is_full": f"K3 Full held 2; {BOOK}",
+    "book_add_where_it_is_full": f"K3 Full held 4; {BOOK}",
     "book_add_of_a_heavy_batch": HEAVY,
     "book_add_of_another_width": f"K6 Width held 1; {BOOK}",
     "book_reset_of_a_wrong_turn": f"K2 Turn held 1; {BOOK}",
-    "book_reset_where_it_is_full": f"K3 Full held 2; {BOOK}",
+    "book_reset_where_it_is_full": f"K3 Full held 4; {BOOK}",
     "book_prepare_of_a_wrong_turn": f"K2 Turn held 1; {BOOK}",
-    "book_prepare_where_it_is_full": f"K3 Full held 2; {BOOK}",
+    "book_prepare_where_it_is_full": f"K3 Full held 4; {BOOK}",
     "book_prepare_of_a_heavy_batch": HEAVY,
     "book_prepare_reset_of_a_wrong_turn": f"K2 Turn held 1; {BOOK}",
-    "book_prepare_reset_where_it_is_full": f"K3 Full held 2; {BOOK}",
-    "session_ask_by_no_value": "K6 Width held 1, log next 1, total 3; 1.0 add 0, 1.1 add 1, 3",
+    "book_prepare_reset_where_it_is_full": f"K3 Full held 4; {BOOK}",
+    "session_ask_by_no_value": f"K6 Width held 1, log next 4, total 3; {STORED}1.4 add 4, 3",
 }
 
 ONE_LINE = line_layout(1, "a", "b")
@@ -188,17 +190,17 @@ STORES = {
     "blank_make": "2 sessions, 2 values",
     "blank_make_of_no_sessions": "S1 Sessions",
     "store_session": "0 1 N1 AllGiven",
-    "session_add": "place 1, total 13; 1.0 add 0, 0.0 add 1, 13",
-    "session_add_of_one_row": "place 1, total 5; 1.0 add 0, 0.0 add 1, 5",
-    "session_add_over_pages": "place 1, total 151; 1.0 add 0, 0.0 add 1, 151",
-    "session_add_where_it_is_full": "K3 Full held 1, total 1; 1.0 add 0, 1",
-    "session_add_of_a_heavy_batch": "K4 Heavy value 0 held 1, total 1; 1.0 add 0, 1",
-    "session_add_of_another_width": "K6 Width held 1, total 1; 1.0 add 0, 1",
-    "session_reset": "place 1, total 0; 1.0 add 0, 0.0 reset 1, 0",
-    "session_reset_where_it_is_full": "K3 Full held 1, total 1; 1.0 add 0, 1",
-    "session_ask": "1, log ask 1 at 1, next 1, total 3; 1.0 add 0, 1.1 add 1, 3",
+    "session_add": f"place 4, total 13; {STORED}0.0 add 4, 13",
+    "session_add_of_one_row": f"place 4, total 5; {STORED}0.0 add 4, 5",
+    "session_add_over_pages": f"place 4, total 151; {STORED}0.0 add 4, 151",
+    "session_add_where_it_is_full": f"K3 Full held 4, total 1; {STORED}1",
+    "session_add_of_a_heavy_batch": f"K4 Heavy value 0 held 1, total 1; {STORED}1",
+    "session_add_of_another_width": f"K6 Width held 1, total 1; {STORED}1",
+    "session_reset": f"place 4, total 0; {STORED}0.0 reset 4, 0",
+    "session_reset_where_it_is_full": f"K3 Full held 4, total 1; {STORED}1",
+    "session_ask": f"1, log ask 1 at 4, next 4, total 3; {STORED}1.4 add 4, 3",
     "session_ask_for_a_layout":
-        f"{ONE_LINE}, log ask {ONE_LINE} at 1, next 1, total 3; 1.0 add 0, 1.1 add 1, 3",
+        f"{ONE_LINE}, log ask {ONE_LINE} at 4, next 4, total 3; {STORED}1.4 add 4, 3",
 }
 
 WORKERS = {
@@ -234,7 +236,7 @@ WITHOUT_GROWTHS = {
     "no_growth_of_trees":
         "14 14 2 1 10; main;a 2\nmain;a;b 3\nmain;c 5\nmain;d 4\n|[14]|"
         "a 2/5 b 3/3 c 5/5 d 4/4 main 0/14 ; |[0]|",
-    "no_growth_of_books": f"15 2 15; {ADDED}; 3 2 15 1",
+    "no_growth_of_books": f"15 4 15; {ADDED}; 5 2 15 1",
     "no_growth_of_comparisons": "true false false",
     "no_growth_of_stores": "2 1 1 add 0 at 0, 1 steps",
 }

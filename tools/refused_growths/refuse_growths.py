@@ -8,7 +8,8 @@ growths.c counts growths and refuses some: for n = 1, 2, .. until nothing was re
 n and all after it. Each run of a call ends with its usual answer, or, where a growth was refused, with its want of
 memory. All that it was lent is then as it was, or handed back, and the same call, with memory, gives the usual answer.
 Every block is given back. Calls with a fault that comes before want of memory always tell it, and those that ask for
-no growth ask for none.
+no growth ask for none. A call that consumes what it is given is made again with the same, made anew; so is
+`CountedRows::count`, which says that its rows are then of no use.
 
 The program is a quick build of the crates' own sources, of which nothing is proved (build.py). --work keeps it, and
 with --built it isn't built again. The exit status is 1 where a run ended otherwise.
@@ -139,6 +140,9 @@ def main():
     reader.add_argument("--jobs", type=int, default=2, help="how many cases run at once")
     reader.add_argument("cases", nargs="*", metavar="CASE", help="cases alone, of those in cases.py")
     options = reader.parse_args()
+    for case in options.cases:
+        if case not in ANSWERS:
+            reader.error(f"there is no case {case}")
 
     def run(folder):
         program = folder / NAME if options.built else build(folder)

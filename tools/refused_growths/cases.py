@@ -76,6 +76,7 @@ ROWS = {
     "batch_weighted_stacks": "main;a 2\nb 4\n",
     "weighted_stacks_push": "a 1\nb;c 2\n3",
     "weighted_stacks_share": "a 1\nb;c 2\n",
+    "weighted_stacks_with_capacity": "0 rows",
     "aggregate": "b 3\nmain;a 6\n|b 4\nmain;a 8\n|",
     "aggregate_stacks": "b 3\nmain;a 6\n",
     "kept_totals": "total 2\n2 2 a\n0 2 main\n",
@@ -162,6 +163,8 @@ BOOKS = {
     "book_prepare_reset": RESET,
     "audit": "0.0 1.0 0.1 1.1 ",
     "audit_of_a_wrong_answer": "A5 WrongAnswer session 1 index 1",
+    "audit_of_two_logs": "A1 TwoLogs session 0",
+    "audit_of_a_stranger": "A2 Stranger session 7 index 0",
 }
 
 # The entries of a store before a step.

@@ -12,7 +12,8 @@ no growth ask for none. A call that consumes what it is given is made again with
 `CountedRows::count`, which says that its rows are then of no use.
 
 The program is a quick build of the crates' own sources, of which nothing is proved (build.py). --work keeps it, and
-with --built it isn't built again. The exit status is 1 where a run ended otherwise.
+with --built it isn't built again. Building takes two or three minutes, and all runs some five. The exit status is 1
+where a run ended otherwise.
 """
 import argparse
 import collections
@@ -87,22 +88,28 @@ class Sweep(NamedTuple):
     wrong: list
 
 
+def refused_runs(program, case, growths):
+    """Each run of a case until none is refused: how many growths are, from which on, and how it ended."""
+    for count in KINDS:
+        for first in itertools.count(1):
+            end = end_of(program, case, first, count)
+            yield count, first, end
+            if not end.refused and (end.kind == AS_USUAL or first > growths):
+                break
+
+
 def sweep(program, case):
-    """Refuses each growth of a case in turn, until none was refused, in all three ways."""
+    """Refuses each growth of a case in turn, in all three ways."""
     plain = end_of(program, case, 0, 0)
     if plain.wrong or plain.kind != AS_USUAL:
         return Sweep(case, plain.growths, collections.Counter(), [f"without a refusal: {plain.wrong or plain.kind}"])
     ends, wrong = collections.Counter(), []
     if (case in ASK_FOR_NONE) != (plain.growths == 0):
         wrong.append(f"it asked for {plain.growths} growths")
-    for count in KINDS:
-        for first in itertools.count(1):
-            end = end_of(program, case, first, count)
-            ends[end.kind] += 1
-            if end.wrong:
-                wrong.append(f"at growth {first}, {count or 'all'} refused: {end.wrong}")
-            if not end.refused and (end.kind == AS_USUAL or first > plain.growths):
-                break
+    for count, first, end in refused_runs(program, case, plain.growths):
+        ends[end.kind] += 1
+        if end.wrong:
+            wrong.append(f"at growth {first}, {count or 'all'} refused: {end.wrong}")
     return Sweep(case, plain.growths, ends, wrong)
 
 

@@ -1,8 +1,8 @@
-"""What benchmarks and tools that run a proved program share: it is built outside the repository, and run on a file.
+"""What benchmarks that run a proved program share: it is built outside the repository, and run on a file.
 
-A program NAME is NAME.rattle in this folder or another, with what its proof needs in NAME.proofs. It is proved and
-linked in a copy of the crates below it, since the gate doesn't know of it. Where the copy's folder is kept, the next run
-proves only what changed.
+A program NAME is NAME.rattle in this folder, with what its proof needs in NAME.proofs. It is proved and linked in a
+copy of the crates below it, since the gate doesn't know of it. Where the copy's folder is kept, the next run proves only
+what changed.
 """
 import pathlib
 import shutil
@@ -47,9 +47,16 @@ def copy_proofs(at, into):
         (into / "Lib.antt").touch()
 
 
-def copy_program(name, libraries, folder, at=TOP / "bench"):
+def write_list(crates, folder):
+    """Lists crates, each with those that it stands on, where `rt` looks for them, beside the handles allowed."""
+    lines = [f"{crate}: {' '.join(uses)}\n" for crate, uses in crates.items()]
+    (folder / "crates.txt").write_text("".join(lines), encoding="utf-8")
+    shutil.copyfile(TOP / "HANDLES", folder / "HANDLES")
+
+
+def copy_program(name, libraries, folder):
     """Copies a program over these libraries, with all crates below it, and returns the folder of the crates."""
-    crates = folder / "crates"
+    at, crates = TOP / "bench", folder / "crates"
     below = crates_below(libraries)
     for crate in below:
         copy_crate(crate, crates)
@@ -57,9 +64,7 @@ def copy_program(name, libraries, folder, at=TOP / "bench"):
     shutil.copyfile(at / f"{name}.rattle", crates / name / "src/main.rt")
     copy_proofs(at / f"{name}.proofs", crates / name / "proofs")
     below[name] = libraries
-    lines = [f"{crate}: {' '.join(uses)}\n" for crate, uses in below.items()]
-    (folder / "crates.txt").write_text("".join(lines), encoding="utf-8")
-    shutil.copyfile(TOP / "HANDLES", folder / "HANDLES")
+    write_list(below, folder)
     return crates
 
 

@@ -1,93 +1,161 @@
 #!/usr/bin/env python3
-"""Refuses each growth of a store's calls in turn, and says how the calls ended.
+"""Refuses each growth of each public call that asks for memory in turn, and says how the calls ended.
 
-    tools/refused_growths/refuse_growths.py [--work FOLDER]
+    tools/refused_growths/refuse_growths.py [--work FOLDER] [--built] [--jobs 2] [CASE ..]
 
-The program is refused_growths.rattle: it makes a store of two sessions, adds, resets, asks, closes and audits on one
-thread, and repeats each call that is refused. It is proved and linked in a copy of the crates below it that stands
-outside the repository; --work keeps the copy. Then it is run once for each growth, which refuse.c refuses: that growth
-alone, that and the next, and that and all after it, in which last case every call gives up. Each run has ten seconds.
+The cases stand in cases/, what each answers in cases.py. A case prepares what a call is lent, and makes the call while
+growths.c counts growths and refuses some: for n = 1, 2, .. until nothing was refused, growth n alone, n and n + 1, and
+n and all after it. Each run of a call ends with its usual answer, or, where a growth was refused, with its want of
+memory. All that it was lent is then as it was, or handed back, and the same call, with memory, gives the usual answer.
+Every block is given back. Calls with a fault that comes before want of memory always tell it, and those that ask for
+no growth ask for none. A call that consumes what it is given is made again with the same, made anew; so is
+`CountedRows::count`, which says that its rows are then of no use.
 
-Growths of the C library and of the program's own words and print are among them, and a run that they end says so by its
-status. The exit status is 1 where a run hung, ended by a signal, or was answered otherwise than without a refusal.
+The program is a quick build of the crates' own sources, of which nothing is proved (build.py). --work keeps it, and
+with --built it isn't built again. Building takes two or three minutes, and all runs some five. The exit status is 1
+where a run ended otherwise.
 """
 import argparse
 import collections
+import concurrent.futures
+import itertools
 import os
 import pathlib
+import re
 import subprocess
 import sys
+from typing import NamedTuple
 
-HERE = pathlib.Path(__file__).resolve().parent
-sys.path.insert(0, str(HERE.parent.parent / "bench"))
-from proved_program import copy_program, link, run_outside  # noqa: E402
+from build import NAME, build
+from cases import ANSWERS, ASK_FOR_NONE, NAMED_FAULTS
 
-NAME = "refused_growths"
-LIBRARIES = ["profile_rows", "folded_text", "flame_report", "op_book", "live_store", "anyhow"]
-# What is refused from a growth on, how many growths (0 for all), and how often a call is tried.
-KINDS = [("that growth alone", 1, 2), ("that and the next", 2, 3), ("that and all after it", 0, 2)]
-WANTED = "as it should be"
-GIVEN_UP = "given up"
+sys.path.insert(0, str(pathlib.Path(__file__).resolve().parent.parent.parent / "bench"))
+from proved_program import run_outside  # noqa: E402
+
+# How many growths are refused, 0 for all from the first on.
+KINDS = (1, 2, 0)
+AS_USUAL = "as usual"
+NO_MEMORY = ("no memory", "no memory: none started", "no memory: no thread", "no memory: a worker stopped")
+COUNTS = re.compile(r"^growths (\d+) refused (\d+) kept (-?\d+)$", re.M)
 
 
-def ran(program, times, variables):
-    """How a run of the program ended: 'hung', or its status and what it printed."""
-    words = [str(program), str(times)]
+class End(NamedTuple):
+    """How a run ended: as usual, with a line that says want of memory, or else with what is wrong of it."""
+    kind: str
+    growths: int
+    refused: int
+    wrong: str
+
+
+def end_of(program, case, first, count):
+    """How a run of a case ended of which some growths were refused, from the first on."""
+    variables = {"REFUSE_FROM": str(first), "REFUSE_COUNT": str(count), "ASAN_OPTIONS": "detect_leaks=0"}
     try:
-        done = subprocess.run(words, env={**os.environ, **variables}, capture_output=True, text=True, timeout=10)
+        ran = subprocess.run([str(program), case], env={**os.environ, **variables}, capture_output=True, timeout=20)
     except subprocess.TimeoutExpired:
-        return "hung", ""
-    return done.returncode, done.stdout.strip()
+        return End("", 0, 0, "it hung")
+    said, errors = ran.stdout.decode(errors="replace"), ran.stderr.decode(errors="replace")
+    counts = COUNTS.search(errors)
+    if ran.returncode or not counts:
+        return End("", 0, 0, f"status {ran.returncode}: {said!r} {errors[-2000:]!r}")
+    growths, refused, kept = map(int, counts.groups())
+    kind, wrong = judged(case, said, refused)
+    if kept:
+        wrong = f"{kept} blocks weren't given back"
+    return End(kind, growths, refused, wrong)
 
 
-def is_right(end, all_after):
-    """Whether a run ended as one with a refusal may: as without one; or given up or without a word, where it may."""
-    status, said = end
-    if status == "hung" or status < 0:
-        return False
-    return said == WANTED or (said == "" and status != 0) or (all_after and said == GIVEN_UP)
+def judged(case, said, refused):
+    """How a call ended that said this, and what is wrong of it, if something is."""
+    usual = ANSWERS[case] + "\n"
+    if said == usual:
+        return AS_USUAL, ""
+    kind, _, rest = said.partition("\n")
+    if kind not in NO_MEMORY or rest != usual:
+        return "", f"it said {said!r}"
+    if not refused:
+        return kind, "no growth was refused"
+    if case in NAMED_FAULTS:
+        return kind, "its fault comes before want of memory"
+    return kind, ""
 
 
-def sweep(program, preload, growths, kind):
-    """Runs the program once for each growth, and returns how often it ended how, and the wrong ends."""
-    _, count, times = kind
+class Sweep(NamedTuple):
+    """All runs of a case: its growths, how many runs ended how, and what is wrong of some."""
+    case: str
+    growths: int
+    ends: collections.Counter
+    wrong: list
+
+
+def refused_runs(program, case, growths):
+    """Each run of a case until none is refused: how many growths are, from which on, and how it ended."""
+    for count in KINDS:
+        for first in itertools.count(1):
+            end = end_of(program, case, first, count)
+            yield count, first, end
+            if not end.refused and (end.kind == AS_USUAL or first > growths):
+                break
+
+
+def sweep(program, case):
+    """Refuses each growth of a case in turn, in all three ways."""
+    plain = end_of(program, case, 0, 0)
+    if plain.wrong or plain.kind != AS_USUAL:
+        return Sweep(case, plain.growths, collections.Counter(), [f"without a refusal: {plain.wrong or plain.kind}"])
     ends, wrong = collections.Counter(), []
-    for growth in range(1, growths + 1):
-        variables = {"LD_PRELOAD": preload, "REFUSE_FROM": str(growth), "REFUSE_COUNT": str(count)}
-        end = ran(program, times, variables)
-        ends[end] += 1
-        if not is_right(end, count == 0):
-            wrong.append((growth, end))
-    return ends, wrong
+    if (case in ASK_FOR_NONE) != (plain.growths == 0):
+        wrong.append(f"it asked for {plain.growths} growths")
+    for count, first, end in refused_runs(program, case, plain.growths):
+        ends[end.kind] += 1
+        if end.wrong:
+            wrong.append(f"at growth {first}, {count or 'all'} refused: {end.wrong}")
+    return Sweep(case, plain.growths, ends, wrong)
 
 
-def run(work):
-    copy_program(NAME, LIBRARIES, work, HERE)
-    print(f"proves and links {NAME}", flush=True)
-    program = link(NAME, work, ["2"], "")
-    preload, counted = str(work / "refuse.so"), work / "growths"
-    subprocess.run(["cc", "-O1", "-shared", "-fPIC", "-o", preload, str(HERE / "refuse.c"), "-ldl"], check=True)
-    end = ran(program, 2, {"LD_PRELOAD": preload, "COUNT_TO": str(counted)})
-    if end != (0, WANTED):
-        sys.exit(f"without a refusal it ends so: {end}")
-    growths = int(counted.read_text())
-    print(f"{growths} growths")
-    is_wrong = False
-    for kind in KINDS:
-        ends, wrong = sweep(program, preload, growths, kind)
-        print(f"{kind[0]}:")
-        for (status, said), count in ends.most_common():
-            print(f"  {count} ended with status {status}: {said}")
-        for growth, end in wrong[:20]:
-            print(f"  WRONG at growth {growth}: {end}")
-        is_wrong = is_wrong or bool(wrong)
-    sys.exit(1 if is_wrong else 0)
+def print_sweep(done):
+    """One line of the table, and what is wrong."""
+    ends = done.ends
+    no_memory = sum(ends[kind] for kind in NO_MEMORY)
+    runs, usual, wrong = sum(ends.values()), ends[AS_USUAL], len(done.wrong)
+    print(f"{done.case:40} {done.growths:7} {runs:7} {usual:7} {no_memory:9} {wrong:7}", flush=True)
+    for kind in NO_MEMORY[1:]:
+        if ends[kind]:
+            print(f"    {kind}: {ends[kind]}")
+    for text in filter(None, done.wrong[:10]):
+        print(f"    WRONG {text}")
+
+
+def sweep_all(program, cases, jobs):
+    """Prints the table of all cases, and tells whether something is wrong."""
+    print(f"{'case':40} {'growths':>7} {'runs':>7} {'usual':>7} {'no memory':>9} {'wrong':>7}")
+    with concurrent.futures.ThreadPoolExecutor(jobs) as pool:
+        done = []
+        for one in pool.map(lambda case: sweep(program, case), cases):
+            print_sweep(one)
+            done.append(one)
+    ends = sum((one.ends for one in done), collections.Counter())
+    growths, wrong = sum(one.growths for one in done), sum(len(one.wrong) for one in done)
+    print_sweep(Sweep(f"{len(done)} cases", growths, ends, [""] * wrong))
+    return wrong > 0
 
 
 def main():
     reader = argparse.ArgumentParser(description=__doc__, formatter_class=argparse.RawDescriptionHelpFormatter)
     reader.add_argument("--work", type=pathlib.Path, help="a folder outside the repository that is kept")
-    run_outside(reader.parse_args().work, NAME, run)
+    reader.add_argument("--built", action="store_true", help="take the program that is there")
+    reader.add_argument("--jobs", type=int, default=2, help="how many cases run at once")
+    reader.add_argument("cases", nargs="*", metavar="CASE", help="cases alone, of those in cases.py")
+    options = reader.parse_args()
+    for case in options.cases:
+        if case not in ANSWERS:
+            reader.error(f"there is no case {case}")
+
+    def run(folder):
+        program = folder / NAME if options.built else build(folder)
+        return sweep_all(program, options.cases or list(ANSWERS), options.jobs)
+
+    sys.exit(1 if run_outside(options.work, NAME, run) else 0)
 
 
 if __name__ == "__main__":

@@ -8,7 +8,7 @@ use Rattle.profile_store.specs.Logs.{place_told, rows_from, rows_logged}
 use Rattle.profile_store.specs.Operations.{PlainOp, PlainReceipt, PlainReply, add, reset, ask, is_change, rows_added}
 use Rattle.profile_store.specs.Values.{Row}
 use Rattle.profile_store.specs.Workers.{ops_told}
-use Rattle.op_book.specs.declared.entry.SessionLog.{SessionLog}
+use Rattle.profile_store.specs.declared.SessionLog.{SessionLog}
 use Rattle.collector.specs.Dealt.{rows_dealt, stands_before, stands_behind}
 
 first_of : (a b : Bool) → (a && b) ≡ true → a ≡ true

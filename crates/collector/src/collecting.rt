@@ -1,6 +1,6 @@
 //! One store, a thread for each list of additions, and one that watches.
 
-ghost use Rattle.std.specs.Prelude.{◌≡◌, ◌++◌, List, IfOk, OnOk, length, map};
+ghost use Rattle.std.specs.Prelude.{◌≡◌, ℕ, List, IfOk, map};
 ghost use Rattle.profile_store.specs.FoldedText.{folded_text_of};
 ghost use Rattle.profile_store.specs.Operations.{PlainOp, plain_op};
 ghost use Rattle.profile_store.specs.Values.{rows_at};

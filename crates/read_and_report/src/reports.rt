@@ -39,7 +39,8 @@ pub(crate) fn text_reports(alloc: Global, text: &[u8]) -> Result<Reports>
         × IsFoldedBatch text.now batch × AreMadeOf batch.rows reports) }
 {
     let batch = read_folded(alloc, text)?;
-    batch_reports(alloc, &batch)
+    let reports = batch_reports(alloc, &batch)?;
+    Ok(reports)
 }
 
 /// The reports of a profile's samples, by the value that tools show.
@@ -53,7 +54,8 @@ pub(crate) fn profile_reports(alloc: Global, bytes: &[u8]) -> Result<Reports>
 {
     let profile = decode(alloc, bytes)?;
     let batch = batch_of(alloc, &profile, ValueChoice::Default)?;
-    batch_reports(alloc, &batch)
+    let reports = batch_reports(alloc, &batch)?;
+    Ok(reports)
 }
 
 /// The reports of a batch's rows, by their first value.

@@ -471,7 +471,7 @@ fn workers_match_their_journal(rt: HostRuntime) -> Result<(), Fail> {
 /// Holds workers before their steps until they may go on.
 #[derive(Drop)]
 struct Held {
-    /// How many workers have come.
+    /// How often the first worker has come to its first step.
     there: AtomicU64,
     /// 1 once they may go on.
     open: AtomicU64,
@@ -480,8 +480,10 @@ struct Held {
 }
 
 impl Gate for Held {
-    fn before<R: Wait>(&self, _rt: &R, _worker: usize, _step: usize) {
-        let _ = self.there.fetch_add(1, Ordering::SeqCst);
+    fn before<R: Wait>(&self, _rt: &R, worker: usize, step: usize) {
+        if worker == 0 && step == 0 {
+            let _ = self.there.fetch_add(1, Ordering::SeqCst);
+        }
         let _ = come(&self.open, 1);
         let _ = self.gone.fetch_add(1, Ordering::SeqCst);
     }
@@ -596,6 +598,7 @@ fn held_worker<N: StoreName, R: Threads + Wait + Sync>(
     audited(alloc, &journal, logs)
 }
 
+// The one worker is the first, though its session is the third.
 #[test]
 fn addition_seen_by_other_session(rt: HostRuntime) -> Result<(), Fail> {
     let alloc = rt.alloc();

@@ -147,6 +147,19 @@ fn audited<N: StoreName, R: Wait>(
     verdict_on(alloc, &journal, logs)
 }
 
+// The same of a store of one value that takes so many changes and has so many sessions.
+fn story<R: Wait>(
+    rt: &R,
+    alloc: Global,
+    limit: u32,
+    sessions: u32,
+    count: usize,
+    turns: &[Turn],
+) -> Result<String, Fail> {
+    let blank = Blank::make(alloc, limit, sessions, Width::one())?;
+    audited::<Brand, R>(rt, alloc, blank, count, turns)
+}
+
 /// Three sessions that add, reset and ask, at last for each kind of report on what a focus and an ignored name leave.
 const TURNS_OF_THREE: &[Turn] = &[
     (0, Deed::Add(ROWS)),
@@ -163,11 +176,10 @@ const TURNS_OF_THREE: &[Turn] = &[
     (0, Deed::Kept(4)),
 ];
 
+// The store has sessions and room for more, and no more was changed than these three did: their logs match the journal.
 #[test]
 fn three_sessions_match_their_journal(rt: HostRuntime) -> Result<(), Fail> {
-    let alloc = rt.alloc();
-    let blank = Blank::make(alloc, 10, 3, Width::one())?;
-    let said = audited::<Brand, HostRuntime>(&rt, alloc, blank, 3, TURNS_OF_THREE)?;
+    let said = story(&rt, rt.alloc(), 100, 64, 3, TURNS_OF_THREE)?;
     assert_eq!(rt;
         said.as_str(),
         "12: 0.0 1.0 2.0 0.1 1.1 1.2 2.1 0.2 0.3 0.4 0.5 0.6 "
@@ -186,9 +198,7 @@ const TURNS_AROUND_CHANGES: &[Turn] = &[
 
 #[test]
 fn a_question_is_answered_anew(rt: HostRuntime) -> Result<(), Fail> {
-    let alloc = rt.alloc();
-    let blank = Blank::make(alloc, 10, 2, Width::one())?;
-    let said = audited::<Brand, HostRuntime>(&rt, alloc, blank, 2, TURNS_AROUND_CHANGES)?;
+    let said = story(&rt, rt.alloc(), 10, 2, 2, TURNS_AROUND_CHANGES)?;
     assert_eq!(rt; said.as_str(), "5: 0.0 1.0 0.1 1.1 0.2 ");
     Ok(())
 }
@@ -222,8 +232,7 @@ fn steps_of_many(alloc: Global, count: usize) -> Result<String, Fail> {
 fn sixty_four_sessions_match_their_journal(rt: HostRuntime) -> Result<(), Fail> {
     let alloc = rt.alloc();
     let turns = turns_of_many(alloc, 64)?;
-    let blank = Blank::make(alloc, 64, 64, Width::one())?;
-    let said = audited::<Brand, HostRuntime>(&rt, alloc, blank, 64, &turns)?;
+    let said = story(&rt, alloc, 64, 64, 64, &turns)?;
     let steps = steps_of_many(alloc, 64)?;
     let wanted = format!(in alloc; "128: {}", steps.as_str())?;
     assert_eq!(rt; said.as_str(), wanted.as_str());
@@ -254,8 +263,7 @@ fn steps_of_one(alloc: Global, count: usize) -> Result<String, Fail> {
 fn batches_of_each_size_are_taken(rt: HostRuntime) -> Result<(), Fail> {
     let alloc = rt.alloc();
     let turns = turns_of_sizes(alloc, 10)?;
-    let blank = Blank::make(alloc, 20, 1, Width::one())?;
-    let said = audited::<Brand, HostRuntime>(&rt, alloc, blank, 1, &turns)?;
+    let said = story(&rt, alloc, 20, 1, 1, &turns)?;
     let steps = steps_of_one(alloc, 20)?;
     let wanted = format!(in alloc; "20: {}", steps.as_str())?;
     assert_eq!(rt; said.as_str(), wanted.as_str());
@@ -273,9 +281,7 @@ const TURNS_AT_THE_LIMIT: &[Turn] = &[
 
 #[test]
 fn refused_sessions_match_their_journal(rt: HostRuntime) -> Result<(), Fail> {
-    let alloc = rt.alloc();
-    let blank = Blank::make(alloc, 1, 3, Width::one())?;
-    let said = audited::<Brand, HostRuntime>(&rt, alloc, blank, 3, TURNS_AT_THE_LIMIT)?;
+    let said = story(&rt, rt.alloc(), 1, 3, 3, TURNS_AT_THE_LIMIT)?;
     assert_eq!(rt; said.as_str(), "3: 2.0 0.0 2.1 ");
     Ok(())
 }
@@ -294,8 +300,7 @@ fn turns_of_a_thousand(alloc: Global) -> Result<Vec<Turn>, Fail> {
 fn a_thousand_entries_match_their_journal(rt: HostRuntime) -> Result<(), Fail> {
     let alloc = rt.alloc();
     let turns = turns_of_a_thousand(alloc)?;
-    let blank = Blank::make(alloc, 1_000, 2, Width::one())?;
-    let said = audited::<Brand, HostRuntime>(&rt, alloc, blank, 2, &turns)?;
+    let said = story(&rt, alloc, 1_000, 2, 2, &turns)?;
     assert!(rt;
         said.as_str().starts_with("1001: 1.0 1.1 ") && said.as_str().ends_with(" 1.999 0.0 ")
     );

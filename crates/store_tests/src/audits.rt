@@ -1,9 +1,10 @@
-//! Audits: journals and logs that match, and logs with one change each.
+//! Audits: journals and logs that match, and logs with one change each. Each verdict is the same however names are
+//! hashed.
 
-use crate::helpers::{audit_text, batch_of, query_of, value_query};
+use crate::helpers::{audit_text, batch_of, query_of, value_query, verdict_text};
 use flame_report::{Answer, Items, Kind, Query};
-use op_book::{Book, Journal, Op, Receipt, Reply, SessionLog, audit};
-use stack_text::Width;
+use op_book::{Book, Journal, Op, Receipt, Reply, SessionLog, audit, audit_with};
+use stack_text::{Hashing, Width};
 use std::alloc::Global;
 use std::sync::Arc;
 use std::test::Fail;
@@ -76,12 +77,6 @@ fn logs_of(alloc: Global, logs: &[Log]) -> Result<Vec<SessionLog>, Fail> {
     Ok(made)
 }
 
-// The steps of the run, or the fault as it is printed.
-fn audited(alloc: Global, journal: &Journal, logs: &[Log]) -> Result<String, Fail> {
-    let logs = logs_of(alloc, logs)?;
-    audit_text(alloc, journal, &logs)
-}
-
 fn book_of(alloc: Global) -> Result<Book, Fail> {
     Ok(
         Book::new(alloc, 10, 2, Width::one())
@@ -142,13 +137,32 @@ const A_RESET_BETWEEN: &[Turn] = &[
 /// Logs, and what an audit says of them.
 type Case<'a> = (&'a [Log<'a>], &'a str);
 
-fn check_case(alloc: Global, journal: &Journal, case: Case) -> Result<(), Fail> {
-    let said = audited(alloc, journal, case.0)?;
-    if said.as_str() == case.1 {
+fn check_said(said: &str, wanted: &str) -> Result<(), Fail> {
+    if said == wanted {
         Ok(())
     } else {
         Err("another verdict".into())
     }
+}
+
+// Whether audits say this of the logs: one, two that hash names from the same start, and one from another.
+fn check_verdicts(
+    alloc: Global,
+    journal: &Journal,
+    logs: &[SessionLog],
+    wanted: &str,
+) -> Result<(), Fail> {
+    check_said(audit_text(alloc, journal, logs)?.as_str(), wanted)?;
+    for key in [7, 7, 8] {
+        let verdict = audit_with(alloc, Hashing::of_key(key), journal, logs);
+        check_said(verdict_text(alloc, verdict)?.as_str(), wanted)?;
+    }
+    Ok(())
+}
+
+fn check_case(alloc: Global, journal: &Journal, case: Case) -> Result<(), Fail> {
+    let logs = logs_of(alloc, case.0)?;
+    check_verdicts(alloc, journal, &logs, case.1)
 }
 
 fn check_cases(alloc: Global, journal: &Journal, cases: &[Case]) -> Result<(), Fail> {
@@ -313,19 +327,11 @@ fn audits_of_an_empty_journal(rt: HostRuntime) -> Result<(), Fail> {
     )
 }
 
-// So many reports over nothing, all of them right.
-fn reports_over_nothing(alloc: Global, count: usize) -> Result<SessionLog, Fail> {
-    let mut receipts = Vec::new(alloc);
-    for _ in 0..count {
-        receipts
-            .push(receipt_of(alloc, Told::Total(0, 0))?)
-            .ok()
-            .ok_or("no memory")?;
-    }
-    Ok(SessionLog {
-        session: 1,
-        receipts: Items::new(receipts),
-    })
+// The first session's log with so many reports.
+fn long_log(alloc: Global, reports: usize) -> Result<SessionLog, Fail> {
+    let mut told = vec![in alloc; Told::Total(3, 2); reports]?;
+    told.insert(0, A)?;
+    log_of(alloc, (0, told.as_slice()))
 }
 
 // How many steps the run has.
@@ -333,19 +339,20 @@ fn steps_of(alloc: Global, journal: &Journal, logs: &[SessionLog]) -> Result<usi
     Ok(audit(alloc, journal, logs)?.steps().len())
 }
 
-fn steps_over(alloc: Global, journal: &Journal, count: usize) -> Result<usize, Fail> {
-    let logs = vec![in alloc; reports_over_nothing(alloc, count)?]?;
+fn steps_with(alloc: Global, journal: &Journal, reports: usize) -> Result<usize, Fail> {
+    let second = log_of(alloc, SECOND)?;
+    let logs = vec![in alloc; second, long_log(alloc, reports)?]?;
     steps_of(alloc, journal, &logs)
 }
 
-fn steps_over_nothing(alloc: Global, count: usize) -> Result<usize, Fail> {
-    let journal = journal_of(alloc, &[])?;
-    steps_over(alloc, &journal, count)
+fn steps_of_many(alloc: Global, reports: usize) -> Result<usize, Fail> {
+    let journal = journal_of(alloc, THREE_ADDITIONS)?;
+    steps_with(alloc, &journal, reports)
 }
 
 #[test]
-fn many_receipts_of_an_empty_journal(rt: HostRuntime) -> Result<(), Fail> {
-    assert_eq!(rt; steps_over_nothing(rt.alloc(), 100_000)?, 100_000);
+fn many_receipts_match_their_journal(rt: HostRuntime) -> Result<(), Fail> {
+    assert_eq!(rt; steps_of_many(rt.alloc(), 100_000)?, 100_004);
     Ok(())
 }
 

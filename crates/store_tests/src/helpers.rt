@@ -2,7 +2,7 @@
 
 use flame_report::{Answer, Columns, Kind, Query, Rank, flame_json, top_text};
 use live_store::{BookFault, Session, Store, StoreName};
-use op_book::{Journal, Run, SessionLog, audit};
+use op_book::{AuditFault, Journal, Run, SessionLog, audit};
 use stack_text::{Batch, Name, Stack, Weights, Width, read_folded};
 use std::alloc::Global;
 use std::sync::atomic::{AtomicU64, Ordering};
@@ -127,15 +127,23 @@ pub(crate) fn steps_text(alloc: Global, run: &Run) -> Result<String, Fail> {
 }
 
 /// The steps of the run, or the fault as it is printed.
+pub(crate) fn verdict_text(
+    alloc: Global,
+    verdict: Result<Run, AuditFault>,
+) -> Result<String, Fail> {
+    match verdict {
+        Ok(run) => steps_text(alloc, &run),
+        Err(fault) => Ok(format!(in alloc; "{fault}")?),
+    }
+}
+
+/// The same of an audit of these logs.
 pub(crate) fn audit_text(
     alloc: Global,
     journal: &Journal,
     logs: &[SessionLog],
 ) -> Result<String, Fail> {
-    match audit(alloc, journal, logs) {
-        Ok(run) => steps_text(alloc, &run),
-        Err(fault) => Ok(format!(in alloc; "{fault}")?),
-    }
+    verdict_text(alloc, audit(alloc, journal, logs))
 }
 
 /// So many sessions of a store.

@@ -1,5 +1,6 @@
-//! What no clause says of stores: that one is made with ample memory, that a closed store gives its own journal, and
-//! what sessions answer to questions of each kind and of several values, and while others make changes or end.
+//! What no clause says of stores: that one is made with ample memory, how its sessions are numbered, that a closed
+//! store gives its own journal, and what sessions answer to questions of each kind and of several values, however names
+//! are hashed, and while others make changes or end.
 
 ghost use Rattle.std.specs.Prelude.{◌≡◌};
 
@@ -10,7 +11,7 @@ use crate::helpers::{
 use flame_report::{Answer, Columns, Kind, Rank};
 use live_store::{Blank, BookFault, MakeFault, Session, Store, StoreName};
 use op_book::{Journal, Receipt, Reply};
-use stack_text::{MAX_TOTAL, Width};
+use stack_text::{Hashing, MAX_TOTAL, Width};
 use std::alloc::Global;
 use std::marker::Brand;
 use std::sync::Wait;
@@ -130,7 +131,7 @@ fn sessions_made<R: Wait>(rt: &R, alloc: Global, sessions: u32) -> Result<u32, M
 }
 
 #[test]
-fn a_store_has_one_session_to_sixty_four(rt: HostRuntime) {
+fn a_store_has_one_session_to_sixty_four(rt: HostRuntime) -> Result<(), Fail> {
     let none = Err(MakeFault::Sessions);
     for (sessions, wanted) in [(0, none), (1, Ok(1)), (64, Ok(64)), (65, none)] {
         assert!(rt;
@@ -138,6 +139,9 @@ fn a_store_has_one_session_to_sixty_four(rt: HostRuntime) {
             "{sessions}"
         );
     }
+    let printed = format!(in rt.alloc(); "{}", MakeFault::Sessions)?;
+    assert_eq!(rt; printed.as_str(), "S1 Sessions");
+    Ok(())
 }
 
 #[test]
@@ -279,6 +283,25 @@ fn limit_of_each<N: StoreName, R: Wait>(
     add_rows(rt, alloc, session, &rows)
 }
 
+// A session that adds rows by each of four values: what it is told, and its total by each value.
+fn four_values<N: StoreName, R: Wait>(
+    rt: &R,
+    alloc: Global,
+    session: &mut Session<'_, N>,
+) -> Result<String, Fail> {
+    let rows = [
+        make_row("a", &[1, 2, 3, 4]),
+        make_row("b", &[10, 20, 30, 40]),
+        make_row("c", &[100, 200, 300]),
+    ];
+    let mut text = add_rows(rt, alloc, session, &rows)?;
+    for value in 0..5 {
+        let total = answer_by(alloc, session, value, Kind::Total)?;
+        write!(text, "{}|", total.as_str())?;
+    }
+    Ok(text)
+}
+
 // The first answer of a session's log.
 fn first_answer(alloc: Global, receipts: &[Receipt]) -> Result<String, Fail> {
     for receipt in receipts {
@@ -345,14 +368,54 @@ fn others_end<N: StoreName, R: Wait>(
     Ok(format!(in alloc; "{early:?} {half} {late:?} {all}")?)
 }
 
+// The number of the next session, which is refused a reset and ends with that, or why there is none.
+fn next_number<N: StoreName, R: Wait>(
+    rt: &R,
+    alloc: Global,
+    store: &Store<N>,
+) -> Result<String, Fail> {
+    match store.session(rt, alloc) {
+        Ok(session) => refused_number(rt, alloc, session),
+        Err(fault) => Ok(format!(in alloc; "{fault}; ")?),
+    }
+}
+
+fn refused_number<N: StoreName, R: Wait>(
+    rt: &R,
+    alloc: Global,
+    session: Session<'_, N>,
+) -> Result<String, Fail> {
+    let mut session = session;
+    let fault = session.reset(rt, alloc).err();
+    let number = session.number();
+    Ok(format!(in alloc; "{number} {fault:?}; ")?)
+}
+
+// The numbers of two sessions, and of those that are given behind them.
+fn numbers<N: StoreName, R: Wait>(
+    rt: &R,
+    alloc: Global,
+    store: &Store<N>,
+    first: u32,
+    second: u32,
+) -> Result<String, Fail> {
+    let mut text = format!(in alloc; "{first}; {second}; ")?;
+    for _ in 0..4 {
+        text.push_str(next_number(rt, alloc, store)?.as_str())?;
+    }
+    Ok(text)
+}
+
 // What two sessions do, or one of them.
 #[derive(Clone, Copy)]
 enum Story {
     TwoValues,
+    FourValues,
     LimitOfEach,
     EachKind,
     KeptAnswer,
     OthersEnd,
+    Numbers,
 }
 
 fn told_in<N: StoreName, R: Wait>(
@@ -366,9 +429,11 @@ fn told_in<N: StoreName, R: Wait>(
     match story {
         Story::EachKind => each_kind(rt, alloc, &mut first),
         Story::TwoValues => two_values(rt, alloc, &mut first),
+        Story::FourValues => four_values(rt, alloc, &mut first),
         Story::LimitOfEach => limit_of_each(rt, alloc, &mut first),
         Story::KeptAnswer => kept_answer(rt, alloc, &mut first, &mut second),
         Story::OthersEnd => others_end(rt, alloc, store, &mut first),
+        Story::Numbers => numbers(rt, alloc, store, first.number(), second.number()),
     }
 }
 
@@ -387,20 +452,45 @@ fn told<N: StoreName, R: Wait>(
     told
 }
 
+// The same of a store that takes so many changes, has so many sessions, and as many values in a row.
+fn told_of<R: Wait>(
+    rt: &R,
+    alloc: Global,
+    limit: u32,
+    sessions: u32,
+    values: u32,
+    story: Story,
+) -> Result<String, Fail> {
+    let blank = Blank::make(alloc, limit, sessions, width_of(values)?)?;
+    told::<Brand, R>(rt, alloc, blank, story)
+}
+
+// What a session answers to queries of each kind in a store that hashes names so.
+fn kinds_with<R: Wait>(rt: &R, alloc: Global, hashing: Hashing) -> Result<String, Fail> {
+    let blank = Blank::make_with(alloc, hashing, 10, 2, Width::one())?;
+    told::<Brand, R>(rt, alloc, blank, Story::EachKind)
+}
+
 #[test]
 fn a_session_answers_each_kind_of_query(rt: HostRuntime) -> Result<(), Fail> {
-    let alloc = rt.alloc();
-    let blank = Blank::make(alloc, 10, 2, Width::one())?;
-    let told = told::<Brand, HostRuntime>(&rt, alloc, blank, Story::EachKind)?;
+    let told = told_of(&rt, rt.alloc(), 10, 2, 1, Story::EachKind)?;
     assert_eq!(rt; told.as_str(), KEPT_REPORTS);
+    Ok(())
+}
+
+// Two stores hash from the same start, and one from another.
+#[test]
+fn no_answer_depends_on_how_names_are_hashed(rt: HostRuntime) -> Result<(), Fail> {
+    for key in [7, 7, 8] {
+        let told = kinds_with(&rt, rt.alloc(), Hashing::of_key(key))?;
+        assert_eq!(rt; told.as_str(), KEPT_REPORTS);
+    }
     Ok(())
 }
 
 #[test]
 fn a_session_of_two_values(rt: HostRuntime) -> Result<(), Fail> {
-    let alloc = rt.alloc();
-    let blank = Blank::make(alloc, 10, 2, width_of(2)?)?;
-    let told = told::<Brand, HostRuntime>(&rt, alloc, blank, Story::TwoValues)?;
+    let told = told_of(&rt, rt.alloc(), 10, 2, 2, Story::TwoValues)?;
     assert_eq!(rt;
         told.as_str(),
         "Ok(0)|Ok(1)|Err(Width { held: 2 })|1|2|total 2\n2 2 b\n|\
@@ -413,10 +503,27 @@ fn a_session_of_two_values(rt: HostRuntime) -> Result<(), Fail> {
 }
 
 #[test]
+fn sessions_of_three_and_of_four_values(rt: HostRuntime) -> Result<(), Fail> {
+    for (values, wanted) in [
+        (
+            3,
+            "Err(Width { held: 3 })|Err(Width { held: 3 })|Ok(0)|\
+             100|200|300|Width { held: 3 }|Width { held: 3 }|",
+        ),
+        (
+            4,
+            "Ok(0)|Ok(1)|Err(Width { held: 4 })|11|22|33|44|Width { held: 4 }|",
+        ),
+    ] {
+        let told = told_of(&rt, rt.alloc(), 10, 2, values, Story::FourValues)?;
+        assert_eq!(rt; told.as_str(), wanted);
+    }
+    Ok(())
+}
+
+#[test]
 fn the_limit_of_each_value(rt: HostRuntime) -> Result<(), Fail> {
-    let alloc = rt.alloc();
-    let blank = Blank::make(alloc, 10, 2, width_of(2)?)?;
-    let told = told::<Brand, HostRuntime>(&rt, alloc, blank, Story::LimitOfEach)?;
+    let told = told_of(&rt, rt.alloc(), 10, 2, 2, Story::LimitOfEach)?;
     assert_eq!(rt;
         told.as_str(),
         "Ok(0)|Ok(1)|Err(Heavy { value: 0, held: 9223372036854775807 })|"
@@ -426,9 +533,7 @@ fn the_limit_of_each_value(rt: HostRuntime) -> Result<(), Fail> {
 
 #[test]
 fn an_answer_is_kept_while_others_make_changes(rt: HostRuntime) -> Result<(), Fail> {
-    let alloc = rt.alloc();
-    let blank = Blank::make(alloc, 301, 2, Width::one())?;
-    let told = told::<Brand, HostRuntime>(&rt, alloc, blank, Story::KeptAnswer)?;
+    let told = told_of(&rt, rt.alloc(), 301, 2, 1, Story::KeptAnswer)?;
     assert_eq!(rt;
         told.as_str(),
         "main;a 7\n300|main;a 7\n|b 300\nmain;a 307\n"
@@ -438,9 +543,18 @@ fn an_answer_is_kept_while_others_make_changes(rt: HostRuntime) -> Result<(), Fa
 
 #[test]
 fn a_session_that_ends_holds_up_no_other(rt: HostRuntime) -> Result<(), Fail> {
-    let alloc = rt.alloc();
-    let blank = Blank::make(alloc, 100, 4, Width::one())?;
-    let told = told::<Brand, HostRuntime>(&rt, alloc, blank, Story::OthersEnd)?;
+    let told = told_of(&rt, rt.alloc(), 100, 4, 1, Story::OthersEnd)?;
     assert_eq!(rt; told.as_str(), "Ok(0) 50 Ok(50) 100");
+    Ok(())
+}
+
+// Neither what a session was refused nor its end gives its number to another, and all four are given.
+#[test]
+fn sessions_are_numbered_in_order(rt: HostRuntime) -> Result<(), Fail> {
+    let told = told_of(&rt, rt.alloc(), 0, 4, 1, Story::Numbers)?;
+    assert_eq!(rt;
+        told.as_str(),
+        "0; 1; 2 Some(Full { held: 0 }); 3 Some(Full { held: 0 }); N1 AllGiven; N1 AllGiven; "
+    );
     Ok(())
 }

@@ -4,13 +4,13 @@
 ghost use Rattle.std.specs.Prelude.{◌≡◌};
 
 use crate::helpers::{audit_text, batch_of, close, open, query_of, reply_text};
-use flame_report::{Items, Kind};
+use flame_report::{Answer, Items, Kind};
 use live_store::{Blank, BookFault, Placed, Session, Store, StoreName, Told};
-use op_book::{Journal, SessionLog};
+use op_book::{Journal, Receipt, Reply, SessionLog};
 use stack_text::{Width, write_stacks};
 use std::alloc::Global;
 use std::marker::Brand;
-use std::sync::Wait;
+use std::sync::{Arc, Wait};
 use std::test::Fail;
 
 /// What a session does.
@@ -132,32 +132,73 @@ fn logs_of<N: StoreName, R: Wait>(
     }
 }
 
-/// How the last log is given to the audit.
+/// How logs are changed before they are audited.
 #[derive(Clone, Copy)]
-enum LastLog {
+enum Change {
     AsTold,
-    /// Its last receipt stands first.
+    /// The last receipt of the last log stands first.
     LastFirst,
+    /// The first receipt of the last log is missing.
+    WithoutFirst,
+    /// The first two receipts of the last log stand the other way round.
+    Exchanged,
+    /// The last receipt of the last log has the total 8.
+    OtherTotal,
+    /// There is one log more of session 0.
+    FirstTwice,
 }
 
-// The log whose last receipt stands first.
-fn last_first(log: SessionLog) -> Result<SessionLog, Fail> {
+fn change_last(alloc: Global, receipts: &mut [Receipt]) -> Result<(), Fail> {
+    let last = receipts.last_mut().ok_or("no receipt")?;
+    last.reply = Reply::Answered(Arc::new(alloc, Answer::Total(8))?);
+    Ok(())
+}
+
+fn changed(alloc: Global, log: SessionLog, change: Change) -> Result<SessionLog, Fail> {
+    let session = log.session;
     let mut receipts = log.receipts.into_vec();
-    let last = receipts.pop().ok_or("no receipt")?;
-    receipts.insert(0, last).ok().ok_or("no memory")?;
+    if receipts.len() < 2 {
+        return Err("too few receipts".into());
+    }
+    match change {
+        Change::AsTold | Change::FirstTwice => {}
+        Change::LastFirst => receipts.rotate_right(1),
+        Change::WithoutFirst => drop(receipts.remove(0)),
+        Change::Exchanged => receipts.swap(0, 1),
+        Change::OtherTotal => change_last(alloc, &mut receipts)?,
+    }
     Ok(SessionLog {
-        session: log.session,
+        session,
         receipts: Items::new(receipts),
     })
 }
 
-fn given(logs: Vec<SessionLog>, last_log: LastLog) -> Result<Vec<SessionLog>, Fail> {
+fn with_log(logs: Vec<SessionLog>, log: SessionLog) -> Result<Vec<SessionLog>, Fail> {
     let mut logs = logs;
-    if let LastLog::LastFirst = last_log {
-        let last = logs.pop().ok_or("no log")?;
-        logs.push(last_first(last)?).ok().ok_or("no memory")?;
-    }
+    logs.push(log).ok().ok_or("no memory")?;
     Ok(logs)
+}
+
+fn with_last_changed(
+    alloc: Global,
+    logs: Vec<SessionLog>,
+    change: Change,
+) -> Result<Vec<SessionLog>, Fail> {
+    let mut logs = logs;
+    let last = logs.pop().ok_or("no log")?;
+    with_log(logs, changed(alloc, last, change)?)
+}
+
+fn given(alloc: Global, logs: Vec<SessionLog>, change: Change) -> Result<Vec<SessionLog>, Fail> {
+    let first = SessionLog {
+        session: 0,
+        receipts: Items::new(Vec::new(alloc)),
+    };
+    match change {
+        Change::AsTold => Ok(logs),
+        Change::FirstTwice => with_log(logs, first),
+        _ => with_last_changed(alloc, logs, change),
+    }
 }
 
 // The rows of a journal's tree.
@@ -171,10 +212,10 @@ fn with_verdict(
     alloc: Global,
     journal: &Journal,
     logs: Result<Logs, Fail>,
-    last_log: LastLog,
+    change: Change,
 ) -> Result<String, Fail> {
     let (logs, told) = logs?;
-    let logs = given(logs, last_log)?;
+    let logs = given(alloc, logs, change)?;
     let verdict = audit_text(alloc, journal, &logs)?;
     let rows = tree_text(alloc, journal)?;
     Ok(format!(in alloc; "{told}| {verdict}| {rows}")?)
@@ -187,7 +228,7 @@ fn played<N: StoreName, R: Wait>(
     blank: Blank,
     count: usize,
     turns: &[Turn],
-    last_log: LastLog,
+    change: Change,
 ) -> Result<String, Fail>
     requires { blank
         ≡ record { limit = N.limit; sessions = N.sessions; width = N.width; history = N.history } }
@@ -195,7 +236,7 @@ fn played<N: StoreName, R: Wait>(
     let store = Store::<N>::start(blank);
     let logs = logs_of(rt, alloc, &store, count, turns);
     let journal = store.close(rt);
-    with_verdict(alloc, &journal, logs, last_log)
+    with_verdict(alloc, &journal, logs, change)
 }
 
 // The same of a store of so many changes and sessions.
@@ -205,10 +246,10 @@ fn story<R: Wait>(
     limit: u32,
     sessions: u32,
     turns: &[Turn],
-    last_log: LastLog,
+    change: Change,
 ) -> Result<String, Fail> {
     let blank = Blank::make(alloc, limit, sessions, Width::one())?;
-    played::<Brand, R>(rt, alloc, blank, sessions as usize, turns, last_log)
+    played::<Brand, R>(rt, alloc, blank, sessions as usize, turns, change)
 }
 
 const TWO_SESSIONS: &[Turn] = &[
@@ -222,12 +263,27 @@ const TWO_SESSIONS: &[Turn] = &[
 
 #[test]
 fn two_sessions_audited(rt: HostRuntime) -> Result<(), Fail> {
-    let said = story(&rt, rt.alloc(), 10, 2, TWO_SESSIONS, LastLog::AsTold)?;
+    let said = story(&rt, rt.alloc(), 10, 2, TWO_SESSIONS, Change::AsTold)?;
     assert_eq!(rt;
         said.as_str(),
         "placed 0; placed 1; heard; 3 at 2; placed 2; 7 at 3; \
          | 0.0 1.0 0.1 1.1 1.2 | a 1\nb 2\nc 4\n"
     );
+    Ok(())
+}
+
+#[test]
+fn changed_logs_of_two_sessions(rt: HostRuntime) -> Result<(), Fail> {
+    for (change, verdict) in [
+        (Change::WithoutFirst, "A4 Missing entry 1"),
+        (Change::Exchanged, "A3 Order session 1 index 1"),
+        (Change::OtherTotal, "A5 WrongAnswer session 1 index 2"),
+        (Change::FirstTwice, "A1 TwoLogs session 0"),
+    ] {
+        let said = story(&rt, rt.alloc(), 10, 2, TWO_SESSIONS, change)?;
+        let wanted = format!(in rt.alloc(); "| {verdict}| a 1\nb 2\nc 4\n")?;
+        assert!(rt; said.as_str().ends_with(wanted.as_str()), "{verdict}");
+    }
     Ok(())
 }
 
@@ -244,7 +300,7 @@ const TOLD_AND_UNTOLD: &[Turn] = &[
 
 #[test]
 fn told_and_untold_sessions(rt: HostRuntime) -> Result<(), Fail> {
-    let said = story(&rt, rt.alloc(), 10, 2, TOLD_AND_UNTOLD, LastLog::AsTold)?;
+    let said = story(&rt, rt.alloc(), 10, 2, TOLD_AND_UNTOLD, Change::AsTold)?;
     assert_eq!(rt;
         said.as_str(),
         "placed 0; 1 at 1; heard; 1 at 1; placed 1; heard; 3 at 2; \
@@ -255,7 +311,7 @@ fn told_and_untold_sessions(rt: HostRuntime) -> Result<(), Fail> {
 
 #[test]
 fn an_addition_logged_before_earlier_reports(rt: HostRuntime) -> Result<(), Fail> {
-    let said = story(&rt, rt.alloc(), 10, 2, TOLD_AND_UNTOLD, LastLog::LastFirst)?;
+    let said = story(&rt, rt.alloc(), 10, 2, TOLD_AND_UNTOLD, Change::LastFirst)?;
     assert_eq!(rt;
         said.as_str(),
         "placed 0; 1 at 1; heard; 1 at 1; placed 1; heard; 3 at 2; \
@@ -278,7 +334,7 @@ const UNTOLD: &[Turn] = &[
 
 #[test]
 fn untold_session_sees_published_addition(rt: HostRuntime) -> Result<(), Fail> {
-    let said = story(&rt, rt.alloc(), 10, 2, UNTOLD, LastLog::AsTold)?;
+    let said = story(&rt, rt.alloc(), 10, 2, UNTOLD, Change::AsTold)?;
     assert_eq!(rt;
         said.as_str(),
         "0 at 0; placed 0; 1 at 1; 1 at 1; placed 1; 0 at 2; placed 2; 2 at 3; \
@@ -308,7 +364,7 @@ const OLDER_AND_NEWER: &[Turn] = &[
 
 #[test]
 fn an_older_change_takes_nothing_back(rt: HostRuntime) -> Result<(), Fail> {
-    let said = story(&rt, rt.alloc(), 10, 2, OLDER_AND_NEWER, LastLog::AsTold)?;
+    let said = story(&rt, rt.alloc(), 10, 2, OLDER_AND_NEWER, Change::AsTold)?;
     assert_eq!(rt;
         said.as_str(),
         "placed 0; placed 1; placed 2; heard; 7 at 3; heard; heard; 7 at 3; \
@@ -329,7 +385,7 @@ const FULL: &[Turn] = &[
 
 #[test]
 fn store_limits(rt: HostRuntime) -> Result<(), Fail> {
-    let said = story(&rt, rt.alloc(), 2, 1, FULL, LastLog::AsTold)?;
+    let said = story(&rt, rt.alloc(), 2, 1, FULL, Change::AsTold)?;
     assert_eq!(rt;
         said.as_str(),
         "placed 0; 1 at 1; placed 1; K3 Full held 2; K3 Full held 2; 2 at 2; \
@@ -347,7 +403,7 @@ const REFUSED: &[Turn] = &[
 
 #[test]
 fn a_refusal_tells_its_cause(rt: HostRuntime) -> Result<(), Fail> {
-    let said = story(&rt, rt.alloc(), 1, 2, REFUSED, LastLog::AsTold)?;
+    let said = story(&rt, rt.alloc(), 1, 2, REFUSED, Change::AsTold)?;
     assert_eq!(rt;
         said.as_str(),
         "placed 0; K3 Full held 1; 1 at 1; | 0.0 1.0 | a 1\n"
@@ -365,7 +421,7 @@ const HEAVY: &[Turn] = &[
 
 #[test]
 fn a_session_that_was_refused_adds_a_smaller_batch(rt: HostRuntime) -> Result<(), Fail> {
-    let said = story(&rt, rt.alloc(), 10, 2, HEAVY, LastLog::AsTold)?;
+    let said = story(&rt, rt.alloc(), 10, 2, HEAVY, Change::AsTold)?;
     assert_eq!(rt;
         said.as_str(),
         "placed 0; K4 Heavy value 0 held 9223372036854775806; placed 1; 9223372036854775807 at 2; \
@@ -384,7 +440,7 @@ const RESET_BETWEEN: &[Turn] = &[
 
 #[test]
 fn a_reset_between_two_additions(rt: HostRuntime) -> Result<(), Fail> {
-    let said = story(&rt, rt.alloc(), 10, 1, RESET_BETWEEN, LastLog::AsTold)?;
+    let said = story(&rt, rt.alloc(), 10, 1, RESET_BETWEEN, Change::AsTold)?;
     assert_eq!(rt;
         said.as_str(),
         "placed 0; placed 1; 0 at 2; placed 2; 2 at 3; | 0.0 0.1 0.2 0.3 0.4 | b 2\n"
@@ -403,7 +459,7 @@ const RESET_OF_THE_HEAVY: &[Turn] = &[
 
 #[test]
 fn what_stood_before_a_reset_weighs_nothing(rt: HostRuntime) -> Result<(), Fail> {
-    let said = story(&rt, rt.alloc(), 10, 1, RESET_OF_THE_HEAVY, LastLog::AsTold)?;
+    let said = story(&rt, rt.alloc(), 10, 1, RESET_OF_THE_HEAVY, Change::AsTold)?;
     assert_eq!(rt;
         said.as_str(),
         "placed 0; placed 1; K4 Heavy value 0 held 9223372036854775807; placed 2; placed 3; \
@@ -422,7 +478,7 @@ const FULL_BY_A_RESET: &[Turn] = &[
 
 #[test]
 fn a_full_store_takes_no_reset(rt: HostRuntime) -> Result<(), Fail> {
-    let said = story(&rt, rt.alloc(), 2, 1, FULL_BY_A_RESET, LastLog::AsTold)?;
+    let said = story(&rt, rt.alloc(), 2, 1, FULL_BY_A_RESET, Change::AsTold)?;
     assert_eq!(rt;
         said.as_str(),
         "placed 0; placed 1; K3 Full held 2; K3 Full held 2; 0 at 2; | 0.0 0.1 0.2 | "

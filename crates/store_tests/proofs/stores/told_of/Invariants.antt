@@ -1,4 +1,4 @@
-use Rattle.store_tests.proofs.stores.an_answer_is_kept_while_others_make_changes.Given as goal
+use Rattle.store_tests.proofs.stores.told_of.Given as goal
 
 abbrev pub ghosts-told : goal.ghosts-told
 ghosts-told g a = record { limit = a.blank.limit; sessions = a.blank.sessions; width = a.blank.width; history = a.blank.history }

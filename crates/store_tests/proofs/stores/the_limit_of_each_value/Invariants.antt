@@ -1,4 +1,0 @@
-use Rattle.store_tests.proofs.stores.the_limit_of_each_value.Given as goal
-
-abbrev pub ghosts-told : goal.ghosts-told
-ghosts-told g a = record { limit = a.blank.limit; sessions = a.blank.sessions; width = a.blank.width; history = a.blank.history }

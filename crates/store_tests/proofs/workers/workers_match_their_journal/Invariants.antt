@@ -1,4 +1,0 @@
-use Rattle.store_tests.proofs.workers.workers_match_their_journal.Given as goal
-
-abbrev pub ghosts-worked : goal.ghosts-worked
-ghosts-worked g a = record { limit = a.blank.limit; sessions = a.blank.sessions; width = a.blank.width; history = a.blank.history }

@@ -1,6 +1,6 @@
 //! What no clause says of reports: that calls succeed with ample memory, and what they answer on worked rows.
 
-use crate::helpers::{grower_of, pairs_of, rows_of, stack_of};
+use crate::helpers::{batch_of, grower_of, pairs_of, rows_of, stack_of};
 use call_tree::CallTree;
 use flame_report::{
     Answer, Columns, Flame, Kind, Label, MAX_COLUMNS, Query, Rank, flame_json, report, report_of,
@@ -230,7 +230,6 @@ fn focus_and_ignore(rt: HostRuntime) -> Result<(), Fail> {
     for (focus, ignore, want) in [
         ("a", "", "total 5\n3 3 b\n2 5 a\n0 5 main\n"),
         ("", "b", "total 7\n5 5 c\n2 2 a\n0 7 main\n"),
-        ("a", "b", "total 2\n2 2 a\n0 2 main\n"),
         ("z", "", "total 0\n"),
     ] {
         let answer = kept_answered(rt.alloc(), THREE, focus, ignore, top(Rank::Flat, 20))?;
@@ -239,12 +238,26 @@ fn focus_and_ignore(rt: HostRuntime) -> Result<(), Fail> {
     Ok(())
 }
 
+// Of `main;a;b 3`, `main;a 2` and `main;c 5`, with main and without b.
 #[test]
-fn focus_and_ignore_for_totals_and_folded_text(rt: HostRuntime) -> Result<(), Fail> {
-    let total = kept_answered(rt.alloc(), THREE, "a", "b", Kind::Total)?;
-    assert_eq!(rt; total.as_str(), "2");
-    let folded = kept_answered(rt.alloc(), THREE, "a", "", Kind::Folded)?;
-    assert_eq!(rt; folded.as_str(), "main;a 2\nmain;a;b 3\n");
+fn a_focus_and_an_ignored_name_in_each_report(rt: HostRuntime) -> Result<(), Fail> {
+    for (kind, want) in [
+        (Kind::Total, "7"),
+        (top(Rank::Flat, 20), "total 7\n5 5 c\n2 2 a\n0 7 main\n"),
+        (top(Rank::Cum, 20), "total 7\n0 7 main\n5 5 c\n2 2 a\n"),
+        (Kind::Folded, "main;a 2\nmain;c 5\n"),
+        (
+            flame(7)?,
+            "{\"columns\":7,\"rects\":[\
+             {\"depth\":0,\"left\":0,\"name\":\"\",\"right\":7,\"weight\":7,\"x\":0},\
+             {\"depth\":1,\"left\":0,\"name\":\"main\",\"right\":7,\"weight\":7,\"x\":0},\
+             {\"depth\":2,\"left\":0,\"name\":\"a\",\"right\":2,\"weight\":2,\"x\":0},\
+             {\"depth\":2,\"left\":2,\"name\":\"c\",\"right\":7,\"weight\":5,\"x\":2}],\"total\":7}",
+        ),
+    ] {
+        let answer = kept_answered(rt.alloc(), THREE, "main", "b", kind)?;
+        assert_eq!(rt; answer.as_str(), want);
+    }
     Ok(())
 }
 
@@ -351,6 +364,63 @@ fn a_report_is_over_the_value_that_it_names(rt: HostRuntime) -> Result<(), Fail>
         ),
     ] {
         let answer = answered_by_value(rt.alloc(), value, kind)?;
+        assert_eq!(rt; answer.as_str(), want);
+    }
+    Ok(())
+}
+
+// The answer over rows of so many values, by one of them.
+fn answered_of_values(
+    alloc: Global,
+    rows: &[(&str, &[u64])],
+    width: u32,
+    value: u32,
+    kind: Kind,
+) -> Result<String, Fail> {
+    let rows = batch_of(alloc, width, rows)?;
+    let query = Query {
+        focus: None,
+        ignore: None,
+        value,
+        kind,
+    };
+    answer_by_both(alloc, &rows, &query)
+}
+
+#[test]
+fn reports_of_three_values(rt: HostRuntime) -> Result<(), Fail> {
+    let rows: [(&str, &[u64]); 2] = [("a;b", &[0, 2, 5]), ("a", &[1, 0, 4])];
+    for (value, kind, want) in [
+        (0, Kind::Folded, "a 1\n"),
+        (1, Kind::Total, "2"),
+        (2, Kind::Total, "9"),
+        (2, top(Rank::Cum, 20), "total 9\n4 9 a\n5 5 b\n"),
+    ] {
+        let answer = answered_of_values(rt.alloc(), &rows, 3, value, kind)?;
+        assert_eq!(rt; answer.as_str(), want);
+    }
+    Ok(())
+}
+
+#[test]
+fn reports_of_four_values(rt: HostRuntime) -> Result<(), Fail> {
+    let rows: [(&str, &[u64]); 2] = [("a;b", &[0, 2, 0, 5]), ("a", &[1, 0, 3, 4])];
+    for (value, kind, want) in [
+        (2, Kind::Total, "3"),
+        (3, Kind::Total, "9"),
+        (3, top(Rank::Flat, 20), "total 9\n5 5 b\n4 9 a\n"),
+        (2, Kind::Folded, "a 3\n"),
+        (3, Kind::Folded, "a 4\na;b 5\n"),
+        (
+            3,
+            flame(9)?,
+            "{\"columns\":9,\"rects\":[\
+             {\"depth\":0,\"left\":0,\"name\":\"\",\"right\":9,\"weight\":9,\"x\":0},\
+             {\"depth\":1,\"left\":0,\"name\":\"a\",\"right\":9,\"weight\":9,\"x\":0},\
+             {\"depth\":2,\"left\":0,\"name\":\"b\",\"right\":5,\"weight\":5,\"x\":0}],\"total\":9}",
+        ),
+    ] {
+        let answer = answered_of_values(rt.alloc(), &rows, 4, value, kind)?;
         assert_eq!(rt; answer.as_str(), want);
     }
     Ok(())

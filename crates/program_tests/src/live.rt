@@ -64,7 +64,7 @@ fn live_prints_fold_and_count(rt: HostRuntime) {
 
 #[test]
 fn refused_words_and_inputs_of_live(rt: HostRuntime) -> Result<(), Fail> {
-    let cases: [(&[&str], &[u8], u8, &str); 5] = [
+    let cases: [(&[&str], &[u8], u8, &str); 4] = [
         (
             &["flame", "live", "--warm", "--sessions", "64"],
             b"no folded text",
@@ -89,12 +89,6 @@ fn refused_words_and_inputs_of_live(rt: HostRuntime) -> Result<(), Fail> {
             FIVE_TYPES,
             1,
             "flame: B6 Width count 5\n",
-        ),
-        (
-            &["flame", "live", "--format", "pprof", "--value", "wall"],
-            TWO_TYPES,
-            1,
-            "flame: B1 NoValue\n",
         ),
     ];
     for (place, (words, input, code, line)) in cases.iter().enumerate() {

@@ -4,9 +4,9 @@ use crate::helpers::{batch_of, grower_of, pairs_of, rows_of, stack_of};
 use call_tree::CallTree;
 use flame_report::{
     Answer, Columns, Flame, Kind, Label, MAX_COLUMNS, Query, Rank, flame_json, report, report_of,
-    report_of_stacks, top_list, top_text,
+    report_of_stacks, report_of_stacks_with, report_of_with, top_list, top_text,
 };
-use stack_text::{Batch, Name, WeightedStacks, folded_totals};
+use stack_text::{Batch, Hashing, Name, WeightedStacks, folded_totals};
 use std::alloc::Global;
 use std::test::Fail;
 
@@ -80,11 +80,25 @@ fn answer_by_tree(alloc: Global, rows: &Batch, query: &Query) -> Result<String, 
     answer_of_tree(alloc, grower.tree(), query)
 }
 
-// The answer over rows, which their tree must give too.
+// The same wherever hashes begin.
+fn answer_by_key(alloc: Global, rows: &Batch, query: &Query) -> Result<String, Fail> {
+    if query.value >= rows.width().get() {
+        return Err("no such value".into());
+    }
+    answer_text(
+        alloc,
+        &report_of_with(alloc, Hashing::of_key(7), rows, query)?,
+    )
+}
+
+// The answer over rows, which their tree must give too, wherever hashes begin.
 fn answer_by_both(alloc: Global, rows: &Batch, query: &Query) -> Result<String, Fail> {
     let by_rows = answer_of_rows(alloc, rows, query)?;
     if by_rows != answer_by_tree(alloc, rows, query)? {
         return Err("the tree answers otherwise".into());
+    }
+    if by_rows != answer_by_key(alloc, rows, query)? {
+        return Err("the key changes the answer".into());
     }
     Ok(by_rows)
 }
@@ -444,20 +458,29 @@ fn stacks_of(alloc: Global, stacks: &[(&str, u64)]) -> Result<WeightedStacks, Fa
     Ok(rows)
 }
 
-// The answer over rows of one value, one of them twice and one of no weight.
-fn stacks_answered(alloc: Global, query: &Query) -> Result<String, Fail> {
-    let rows = stacks_of(
-        alloc,
-        &[
-            ("main;c", 5),
-            ("main;a;b", 1),
-            ("z", 0),
-            ("main;a", 2),
-            ("main;a;b", 2),
-        ],
-    )?;
-    let answer = report_of_stacks(alloc, rows, query)?;
+// Rows of one value, one of them twice and one of no weight.
+const STACKS: &[(&str, u64)] = &[
+    ("main;c", 5),
+    ("main;a;b", 1),
+    ("z", 0),
+    ("main;a", 2),
+    ("main;a;b", 2),
+];
+
+fn stacks_answered_by_key(alloc: Global, query: &Query) -> Result<String, Fail> {
+    let rows = stacks_of(alloc, STACKS)?;
+    let answer = report_of_stacks_with(alloc, Hashing::of_key(7), rows, query)?;
     answer_text(alloc, &answer)
+}
+
+// The answer over these rows, the same wherever hashes begin.
+fn stacks_answered(alloc: Global, query: &Query) -> Result<String, Fail> {
+    let rows = stacks_of(alloc, STACKS)?;
+    let answer = answer_text(alloc, &report_of_stacks(alloc, rows, query)?)?;
+    if answer != stacks_answered_by_key(alloc, query)? {
+        return Err("the key changes the answer".into());
+    }
+    Ok(answer)
 }
 
 // The same, of the rows with the focus and without the ignored name; an empty text is none.

@@ -8,8 +8,8 @@ use profile_rows::{CountedRows, aggregate_stacks};
 use stack_text::{
     Batch, FoldedFault, FrameTotals, Hashing, MAX_DEPTH, MAX_TOTAL, Name, NameFault, NoMemory,
     OwnedRow, PushFault, Stack, WeightedStack, WeightedStacks, Weights, Width, aggregate,
-    folded_report, folded_totals, kept_totals, merge_folded, merge_folded_with, read_folded,
-    write_stacks,
+    folded_report, folded_report_with, folded_totals, folded_totals_with, kept_totals,
+    kept_totals_with, merge_folded, merge_folded_with, read_folded, read_folded_with, write_stacks,
 };
 use std::alloc::{AllocError, Global};
 use std::hash::BuildHasher;
@@ -585,13 +585,42 @@ fn eight_random_bytes_are_the_key(rt: HostRuntime) -> Result<(), Fail> {
     Ok(())
 }
 
+const FOLDED: &[u8] = b"a;b 1\nc 2\na;b 3\n";
+
 #[test]
 fn rows_are_the_same_wherever_hashes_begin(rt: HostRuntime) -> Result<(), Fail> {
     let hashing = Hashing::random(&rt)?;
-    let merged = merge_folded_with(rt.alloc(), hashing, b"a;b 1\nc 2\na;b 3\n")?;
+    let merged = merge_folded_with(rt.alloc(), hashing, FOLDED)?;
     assert_eq!(rt;
         write_stacks(rt.alloc(), &merged)?.as_slice(),
         b"a;b 4\nc 2\n".as_slice()
     );
+    let rows = read_folded_with(rt.alloc(), hashing, FOLDED)?;
+    assert_eq!(rt; write_stacks(rt.alloc(), rows.first())?.as_slice(), FOLDED);
+    Ok(())
+}
+
+#[test]
+fn reports_are_the_same_wherever_hashes_begin(rt: HostRuntime) -> Result<(), Fail> {
+    let hashing = Hashing::random(&rt)?;
+    let report = folded_report_with(rt.alloc(), hashing, FOLDED)?;
+    assert_eq!(rt; report.as_slice(), b"a;b 4\nc 2\n".as_slice());
+    let totals = folded_totals_with(rt.alloc(), hashing, FOLDED)?;
+    assert!(rt; totals.total == 6 && weights(&totals, "b") == Some((4, 4)));
+    Ok(())
+}
+
+// The weights of b in the rows of folded text that have the focus.
+fn focused_weights(alloc: Global, hashing: Hashing) -> Result<Option<(u64, u64)>, Fail> {
+    let rows = rows_of(alloc, RECURSIVE)?;
+    let name = Name::make(alloc, "a")?;
+    let totals = kept_totals_with(alloc, hashing, rows.first(), Some(&name), None)?;
+    Ok(weights(&totals, "b"))
+}
+
+#[test]
+fn kept_rows_weigh_the_same_wherever_hashes_begin(rt: HostRuntime) -> Result<(), Fail> {
+    let hashing = Hashing::random(&rt)?;
+    assert!(rt; focused_weights(rt.alloc(), hashing)? == Some((0, 5)));
     Ok(())
 }

@@ -1,4 +1,5 @@
-//! A reader and a writer that move few bytes at a time and fail, a runtime without random bytes, and runs on given bytes.
+//! A reader and a writer that move few bytes at a time and fail, a runtime without random bytes, and runs on given
+//! bytes.
 
 use flame_answers::{MAX_INPUT, Status, Unheard};
 use flame_program::run;
@@ -70,8 +71,8 @@ impl Read for Dripping<'_> {
     }
 }
 
-/// Takes at most `each` bytes at a write, but fails where it has taken so many as there was room for: once, or from then
-/// on.
+/// Takes at most `each` bytes at a write, but fails where it has taken so many as there was room for: once, or from
+/// then on.
 #[derive(Drop)]
 pub struct Narrow {
     pub taken: Vec<u8>,

@@ -12,9 +12,15 @@ const FIVE_TYPES: &[u8] =
     b"\x0a\x04\x08\x01\x10\x02\x0a\x04\x08\x01\x10\x02\x0a\x04\x08\x01\x10\x02\
     \x0a\x04\x08\x01\x10\x02\x0a\x04\x08\x01\x10\x02\x32\x00\x32\x03cpu\x32\x02ns";
 
+// Four sample types, and one sample of f: 1, 2, 3 and 4.
+const FOUR_TYPES: &[u8] =
+    b"\x0a\x04\x08\x01\x10\x02\x0a\x04\x08\x01\x10\x02\x0a\x04\x08\x01\x10\x02\x0a\x04\x08\x01\x10\x02\
+      \x12\x09\x0a\x01\x01\x12\x04\x01\x02\x03\x04\x22\x06\x08\x01\x22\x02\x08\x01\x2a\x04\x08\x01\x10\
+      \x03\x32\x00\x32\x03cpu\x32\x02ns\x32\x01f";
+
 #[test]
 fn live_prints_fold_and_count(rt: HostRuntime) {
-    let cases: [(&[&str], &[u8], &[u8]); 7] = [
+    let cases: [(&[&str], &[u8], &[u8]); 9] = [
         (
             &["flame", "live", "--sessions", "2"],
             STORED,
@@ -43,6 +49,16 @@ fn live_prints_fold_and_count(rt: HostRuntime) {
             ],
             TWO_TYPES,
             b"value 0\nf 3\nvalue 1\nf 30\naudited 5 operations\n",
+        ),
+        (
+            &["flame", "live", "--format", "pprof", "--all"],
+            FOUR_TYPES,
+            b"value 0\nf 1\nvalue 1\nf 2\nvalue 2\nf 3\nvalue 3\nf 4\naudited 9 operations\n",
+        ),
+        (
+            &["flame", "live", "--format", "pprof", "--all", "--warm"],
+            FOUR_TYPES,
+            b"value 0\nf 1\nvalue 1\nf 2\nvalue 2\nf 3\nvalue 3\nf 4\naudited 12 operations\n",
         ),
         (
             &["flame", "live", "--format", "pprof", "--value", "samples"],

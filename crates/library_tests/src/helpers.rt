@@ -59,6 +59,32 @@ pub(crate) fn pairs_of(alloc: Global, rows: &[(&str, [u64; 2])]) -> Result<Batch
     Ok(batch)
 }
 
+/// Adds rows to a batch, which accepts them.
+fn push_rows(alloc: Global, batch: &mut Batch, rows: &[(&str, &[u64])]) -> Result<(), Fail> {
+    for (frames, values) in rows {
+        push(alloc, batch, frames, values)?;
+    }
+    Ok(())
+}
+
+/// A batch of so many values, of these rows.
+pub(crate) fn batch_of(alloc: Global, width: u32, rows: &[(&str, &[u64])]) -> Result<Batch, Fail> {
+    let width = Width::new(width).ok_or("no width")?;
+    let mut batch = Batch::with_capacity(alloc, width, rows.len())?;
+    push_rows(alloc, &mut batch, rows)?;
+    Ok(batch)
+}
+
+/// Rows as folded text by each of their values, one after the other, and their totals.
+pub(crate) fn all_text(alloc: Global, rows: &Batch) -> Result<String, Fail> {
+    let mut text = String::new(alloc);
+    for value in 0..rows.width().get() {
+        text.push_str(value_text(alloc, rows, value)?.as_str())?;
+    }
+    writeln!(text, "{:?}", rows.total().values())?;
+    Ok(text)
+}
+
 /// Rows as folded text by each of two values, and their totals.
 pub(crate) fn pairs_text(alloc: Global, rows: &Batch, totals: &Weights) -> Result<String, Fail> {
     let first = value_text(alloc, rows, 0)?;
@@ -89,6 +115,30 @@ pub(crate) fn plan_of(alloc: Global, grower: &mut Grower, rows: &Batch) -> Resul
         return Err("too heavy".into());
     }
     Ok(grower.plan(alloc, rows)?)
+}
+
+/// Adds rows at once.
+pub(crate) fn add(alloc: Global, grower: &mut Grower, rows: &Batch) -> Result<(), Fail> {
+    if grower.tree().width() != rows.width() {
+        return Err("another width".into());
+    }
+    let held = grower.tree().total();
+    if let Some(_) = first_heavy(&held, &rows.total()) {
+        return Err("too heavy".into());
+    }
+    Ok(grower.add(alloc, rows)?)
+}
+
+/// The grower with rows added, which it takes and gives.
+pub(crate) fn with_rows(alloc: Global, grower: Grower, rows: &Batch) -> Result<Grower, Fail> {
+    if grower.tree().width() != rows.width() {
+        return Err("another width".into());
+    }
+    let held = grower.tree().total();
+    if let Some(_) = first_heavy(&held, &rows.total()) {
+        return Err("too heavy".into());
+    }
+    Ok(grower.with_batch(alloc, rows)?)
 }
 
 /// Plans rows, and credits them where `kept`.

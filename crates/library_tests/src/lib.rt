@@ -23,4 +23,6 @@ mod trees;
 #[cfg(test)]
 mod values;
 #[cfg(test)]
+mod widths;
+#[cfg(test)]
 mod wire;

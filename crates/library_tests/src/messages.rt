@@ -256,7 +256,7 @@ fn variants_are_read_and_written(rt: HostRuntime) -> Result<(), Fail> {
 
 #[test]
 fn faults_in_order(rt: HostRuntime) {
-    let rows: [(&str, &[u8], ProfileFault); 38] = [
+    let rows: [(&str, &[u8], ProfileFault); 42] = [
         (
             "text that is not UTF-8",
             &[
@@ -536,6 +536,26 @@ fn faults_in_order(rt: HostRuntime) {
             ],
             ProfileFault::Wire(WireFault::Truncated),
         ),
+        (
+            "number that is cut in its message though more follows",
+            &[0x0a, 0x02, 0x08, 0x80, 0x00, 0x00],
+            ProfileFault::Wire(WireFault::Truncated),
+        ),
+        (
+            "packed numbers alone that are cut",
+            &[0x12, 0x03, 0x0a, 0x01, 0x80],
+            ProfileFault::Wire(WireFault::Truncated),
+        ),
+        (
+            "length past the end of its message",
+            &[0x12, 0x02, 0x12, 0x05],
+            ProfileFault::Wire(WireFault::Truncated),
+        ),
+        (
+            "text fault before a group",
+            &[0x32, 0x01, 0xff, 0x0b],
+            ProfileFault::NotUtf8,
+        ),
         ("nothing", &[], ProfileFault::NoStrings),
         (
             "indices before ids",
@@ -602,19 +622,41 @@ fn faults_in_order(rt: HostRuntime) {
     }
 }
 
+// Profiles, the lengths that they are cut to without a string, and those that leave an index without its string.
+const CUTS: &[(&[u8], &[usize], &[usize])] = &[
+    (ONE_SAMPLE, &[0, 6, 14, 22, 28], &[30, 35, 39]),
+    (NEGATIVE_VALUE, &[0, 6, 23, 31, 37], &[39, 44, 48]),
+    (
+        INLINED_AND_BARE_LOCATIONS,
+        &[0, 6, 15, 31, 38, 44, 50, 56],
+        &[58, 63, 67, 70, 73],
+    ),
+    (
+        TWO_SAMPLE_TYPES,
+        &[0, 6, 12, 21, 29, 35],
+        &[37, 46, 53, 58, 62],
+    ),
+];
+
+// The fault of a profile that is cut to this length: at any other, in the middle of a field.
+fn fault_of_cut(length: usize, no_strings: &[usize], string_index: &[usize]) -> ProfileFault {
+    if no_strings.contains(&length) {
+        ProfileFault::NoStrings
+    } else if string_index.contains(&length) {
+        ProfileFault::StringIndex
+    } else {
+        ProfileFault::Wire(WireFault::Truncated)
+    }
+}
+
 #[test]
 fn cut_profiles(rt: HostRuntime) {
-    for len in 0..ONE_SAMPLE.len() {
-        let want = match len {
-            0 | 6 | 14 | 22 | 28 => ProfileFault::NoStrings,
-            30 | 35 | 39 => ProfileFault::StringIndex,
-            _ => ProfileFault::Wire(WireFault::Truncated),
-        };
-        assert_eq!(rt;
-            decode(rt.alloc(), &ONE_SAMPLE[..len]).err(),
-            Some(want),
-            "{len} bytes"
-        );
+    for (bytes, no_strings, string_index) in CUTS {
+        for length in 0..bytes.len() {
+            let want = fault_of_cut(length, no_strings, string_index);
+            let fault = decode(rt.alloc(), &bytes[..length]).err();
+            assert_eq!(rt; fault, Some(want), "{length} of {} bytes", bytes.len());
+        }
     }
 }
 

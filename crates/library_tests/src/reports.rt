@@ -1,12 +1,12 @@
 //! What no clause says of reports: that calls succeed with ample memory, and what they answer on worked rows.
 
-use crate::helpers::{grower_of, pairs_of, rows_of, stack_of};
+use crate::helpers::{batch_of, grower_of, pairs_of, rows_of, stack_of};
 use call_tree::CallTree;
 use flame_report::{
     Answer, Columns, Flame, Kind, Label, MAX_COLUMNS, Query, Rank, flame_json, report, report_of,
-    report_of_stacks, top_list, top_text,
+    report_of_stacks, report_of_stacks_with, report_of_with, top_list, top_text,
 };
-use stack_text::{Batch, Name, WeightedStacks, folded_totals};
+use stack_text::{Batch, Hashing, Name, WeightedStacks, folded_totals};
 use std::alloc::Global;
 use std::test::Fail;
 
@@ -80,11 +80,25 @@ fn answer_by_tree(alloc: Global, rows: &Batch, query: &Query) -> Result<String, 
     answer_of_tree(alloc, grower.tree(), query)
 }
 
-// The answer over rows, which their tree must give too.
+// The same wherever hashes begin.
+fn answer_by_key(alloc: Global, rows: &Batch, query: &Query) -> Result<String, Fail> {
+    if query.value >= rows.width().get() {
+        return Err("no such value".into());
+    }
+    answer_text(
+        alloc,
+        &report_of_with(alloc, Hashing::of_key(7), rows, query)?,
+    )
+}
+
+// The answer over rows, which their tree must give too, wherever hashes begin.
 fn answer_by_both(alloc: Global, rows: &Batch, query: &Query) -> Result<String, Fail> {
     let by_rows = answer_of_rows(alloc, rows, query)?;
     if by_rows != answer_by_tree(alloc, rows, query)? {
         return Err("the tree answers otherwise".into());
+    }
+    if by_rows != answer_by_key(alloc, rows, query)? {
+        return Err("the key changes the answer".into());
     }
     Ok(by_rows)
 }
@@ -230,7 +244,6 @@ fn focus_and_ignore(rt: HostRuntime) -> Result<(), Fail> {
     for (focus, ignore, want) in [
         ("a", "", "total 5\n3 3 b\n2 5 a\n0 5 main\n"),
         ("", "b", "total 7\n5 5 c\n2 2 a\n0 7 main\n"),
-        ("a", "b", "total 2\n2 2 a\n0 2 main\n"),
         ("z", "", "total 0\n"),
     ] {
         let answer = kept_answered(rt.alloc(), THREE, focus, ignore, top(Rank::Flat, 20))?;
@@ -239,12 +252,26 @@ fn focus_and_ignore(rt: HostRuntime) -> Result<(), Fail> {
     Ok(())
 }
 
+// Of `main;a;b 3`, `main;a 2` and `main;c 5`, with main and without b.
 #[test]
-fn focus_and_ignore_for_totals_and_folded_text(rt: HostRuntime) -> Result<(), Fail> {
-    let total = kept_answered(rt.alloc(), THREE, "a", "b", Kind::Total)?;
-    assert_eq!(rt; total.as_str(), "2");
-    let folded = kept_answered(rt.alloc(), THREE, "a", "", Kind::Folded)?;
-    assert_eq!(rt; folded.as_str(), "main;a 2\nmain;a;b 3\n");
+fn a_focus_and_an_ignored_name_in_each_report(rt: HostRuntime) -> Result<(), Fail> {
+    for (kind, want) in [
+        (Kind::Total, "7"),
+        (top(Rank::Flat, 20), "total 7\n5 5 c\n2 2 a\n0 7 main\n"),
+        (top(Rank::Cum, 20), "total 7\n0 7 main\n5 5 c\n2 2 a\n"),
+        (Kind::Folded, "main;a 2\nmain;c 5\n"),
+        (
+            flame(7)?,
+            "{\"columns\":7,\"rects\":[\
+             {\"depth\":0,\"left\":0,\"name\":\"\",\"right\":7,\"weight\":7,\"x\":0},\
+             {\"depth\":1,\"left\":0,\"name\":\"main\",\"right\":7,\"weight\":7,\"x\":0},\
+             {\"depth\":2,\"left\":0,\"name\":\"a\",\"right\":2,\"weight\":2,\"x\":0},\
+             {\"depth\":2,\"left\":2,\"name\":\"c\",\"right\":7,\"weight\":5,\"x\":2}],\"total\":7}",
+        ),
+    ] {
+        let answer = kept_answered(rt.alloc(), THREE, "main", "b", kind)?;
+        assert_eq!(rt; answer.as_str(), want);
+    }
     Ok(())
 }
 
@@ -356,6 +383,63 @@ fn a_report_is_over_the_value_that_it_names(rt: HostRuntime) -> Result<(), Fail>
     Ok(())
 }
 
+// The answer over rows of so many values, by one of them.
+fn answered_of_values(
+    alloc: Global,
+    rows: &[(&str, &[u64])],
+    width: u32,
+    value: u32,
+    kind: Kind,
+) -> Result<String, Fail> {
+    let rows = batch_of(alloc, width, rows)?;
+    let query = Query {
+        focus: None,
+        ignore: None,
+        value,
+        kind,
+    };
+    answer_by_both(alloc, &rows, &query)
+}
+
+#[test]
+fn reports_of_three_values(rt: HostRuntime) -> Result<(), Fail> {
+    let rows: [(&str, &[u64]); 2] = [("a;b", &[0, 2, 5]), ("a", &[1, 0, 4])];
+    for (value, kind, want) in [
+        (0, Kind::Folded, "a 1\n"),
+        (1, Kind::Total, "2"),
+        (2, Kind::Total, "9"),
+        (2, top(Rank::Cum, 20), "total 9\n4 9 a\n5 5 b\n"),
+    ] {
+        let answer = answered_of_values(rt.alloc(), &rows, 3, value, kind)?;
+        assert_eq!(rt; answer.as_str(), want);
+    }
+    Ok(())
+}
+
+#[test]
+fn reports_of_four_values(rt: HostRuntime) -> Result<(), Fail> {
+    let rows: [(&str, &[u64]); 2] = [("a;b", &[0, 2, 0, 5]), ("a", &[1, 0, 3, 4])];
+    for (value, kind, want) in [
+        (2, Kind::Total, "3"),
+        (3, Kind::Total, "9"),
+        (3, top(Rank::Flat, 20), "total 9\n5 5 b\n4 9 a\n"),
+        (2, Kind::Folded, "a 3\n"),
+        (3, Kind::Folded, "a 4\na;b 5\n"),
+        (
+            3,
+            flame(9)?,
+            "{\"columns\":9,\"rects\":[\
+             {\"depth\":0,\"left\":0,\"name\":\"\",\"right\":9,\"weight\":9,\"x\":0},\
+             {\"depth\":1,\"left\":0,\"name\":\"a\",\"right\":9,\"weight\":9,\"x\":0},\
+             {\"depth\":2,\"left\":0,\"name\":\"b\",\"right\":5,\"weight\":5,\"x\":0}],\"total\":9}",
+        ),
+    ] {
+        let answer = answered_of_values(rt.alloc(), &rows, 4, value, kind)?;
+        assert_eq!(rt; answer.as_str(), want);
+    }
+    Ok(())
+}
+
 fn push_stacks(
     alloc: Global,
     rows: &mut WeightedStacks,
@@ -374,20 +458,29 @@ fn stacks_of(alloc: Global, stacks: &[(&str, u64)]) -> Result<WeightedStacks, Fa
     Ok(rows)
 }
 
-// The answer over rows of one value, one of them twice and one of no weight.
-fn stacks_answered(alloc: Global, query: &Query) -> Result<String, Fail> {
-    let rows = stacks_of(
-        alloc,
-        &[
-            ("main;c", 5),
-            ("main;a;b", 1),
-            ("z", 0),
-            ("main;a", 2),
-            ("main;a;b", 2),
-        ],
-    )?;
-    let answer = report_of_stacks(alloc, rows, query)?;
+// Rows of one value, one of them twice and one of no weight.
+const STACKS: &[(&str, u64)] = &[
+    ("main;c", 5),
+    ("main;a;b", 1),
+    ("z", 0),
+    ("main;a", 2),
+    ("main;a;b", 2),
+];
+
+fn stacks_answered_by_key(alloc: Global, query: &Query) -> Result<String, Fail> {
+    let rows = stacks_of(alloc, STACKS)?;
+    let answer = report_of_stacks_with(alloc, Hashing::of_key(7), rows, query)?;
     answer_text(alloc, &answer)
+}
+
+// The answer over these rows, the same wherever hashes begin.
+fn stacks_answered(alloc: Global, query: &Query) -> Result<String, Fail> {
+    let rows = stacks_of(alloc, STACKS)?;
+    let answer = answer_text(alloc, &report_of_stacks(alloc, rows, query)?)?;
+    if answer != stacks_answered_by_key(alloc, query)? {
+        return Err("the key changes the answer".into());
+    }
+    Ok(answer)
 }
 
 // The same, of the rows with the focus and without the ignored name; an empty text is none.

@@ -6,8 +6,9 @@ use crate::messages::{INLINED_AND_BARE_LOCATIONS, ONE_SAMPLE, TWO_SAMPLE_TYPES};
 use flame_report::{Rank, Top, top_list, top_text};
 use pprof_profile::{Profile, decode, encode};
 use stack_text::{
-    Batch, Name, ValueChoice, ValueUnit, batch_of, export_folded, merge_samples, profile_of,
-    sample_totals, unfold, write_stacks,
+    Batch, Hashing, Name, ValueChoice, ValueUnit, WeightedStacks, batch_of, batch_of_with,
+    export_folded, export_folded_with, merge_samples, merge_samples_with, profile_of,
+    sample_totals, sample_totals_with, unfold, write_stacks,
 };
 use std::alloc::Global;
 use std::test::Fail;
@@ -98,10 +99,14 @@ fn a_sample_of_65535_frames_is_read(rt: HostRuntime) -> Result<(), Fail> {
     Ok(())
 }
 
+fn stacks_text(alloc: Global, stacks: &WeightedStacks) -> Result<String, Fail> {
+    let text = String::from_utf8(write_stacks(alloc, stacks)?);
+    Ok(text.ok().ok_or("no text")?)
+}
+
 fn merged_text(alloc: Global, profile: &Profile) -> Result<String, Fail> {
     let merged = merge_samples(alloc, profile, ValueChoice::Default)?;
-    let text = String::from_utf8(write_stacks(alloc, &merged)?);
-    Ok(text.ok().ok_or("no text")?)
+    stacks_text(alloc, &merged)
 }
 
 // The rows of a profile's samples, equal ones merged, as folded text.
@@ -251,5 +256,49 @@ fn a_sample_counts_a_recursive_name_once(rt: HostRuntime) -> Result<(), Fail> {
     let bytes = exported_text(rt.alloc(), "a;b;a 3\nb 2\nc;b 0\n")?;
     let top = read_top(rt.alloc(), bytes.as_slice())?;
     assert_eq!(rt; top.as_str(), "total 5\n3 3 a\n2 5 b\n");
+    Ok(())
+}
+
+#[test]
+fn folded_text_is_exported_wherever_hashes_begin(rt: HostRuntime) -> Result<(), Fail> {
+    let bytes = export_folded_with(rt.alloc(), Hashing::of_key(7), b"f 7\n", "cpu", "ns")?;
+    assert!(rt; bytes.as_slice() == ONE_SAMPLE);
+    Ok(())
+}
+
+fn merged_by_key(alloc: Global, profile: &Profile) -> Result<String, Fail> {
+    let hashing = Hashing::of_key(7);
+    let merged = merge_samples_with(alloc, hashing, profile, ValueChoice::Default)?;
+    stacks_text(alloc, &merged)
+}
+
+fn batch_by_key(alloc: Global, profile: &Profile) -> Result<String, Fail> {
+    let hashing = Hashing::of_key(7);
+    let rows = batch_of_with(alloc, hashing, profile, ValueChoice::Default)?;
+    text_of(alloc, &rows)
+}
+
+fn top_by_key(alloc: Global, profile: &Profile) -> Result<String, Fail> {
+    let hashing = Hashing::of_key(7);
+    let totals = sample_totals_with(alloc, hashing, profile, ValueChoice::Default)?;
+    text_of_top(alloc, &top_list(totals, Rank::Flat, 20)?)
+}
+
+fn texts_by_key(alloc: Global, profile: &Profile) -> Result<String, Fail> {
+    let merged = merged_by_key(alloc, profile)?;
+    let rows = batch_by_key(alloc, profile)?;
+    let top = top_by_key(alloc, profile)?;
+    Ok(format!(in alloc; "{merged}|{rows}|{top}")?)
+}
+
+fn read_by_key(alloc: Global, bytes: &[u8]) -> Result<String, Fail> {
+    let profile = decode(alloc, bytes)?;
+    texts_by_key(alloc, &profile)
+}
+
+#[test]
+fn samples_are_read_wherever_hashes_begin(rt: HostRuntime) -> Result<(), Fail> {
+    let texts = read_by_key(rt.alloc(), TWO_EQUAL_SAMPLES)?;
+    assert_eq!(rt; texts.as_str(), "f 12\n|f 7\nf 5\n|total 12\n12 12 f\n");
     Ok(())
 }

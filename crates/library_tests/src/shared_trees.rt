@@ -1,6 +1,6 @@
 //! What no clause says of shared trees and of resets: that calls succeed, and what trees answer on worked rows.
 
-use crate::helpers::{grower_of, plan, plan_of, rows_of, stack_of};
+use crate::helpers::{add, grower_of, plan, plan_of, rows_of, stack_of, with_rows};
 use call_tree::{CallTree, Grower};
 use flame_report::{Columns, Kind, Query, Rank, report};
 use stack_text::Batch;
@@ -75,6 +75,51 @@ fn a_shared_tree_of_several_pages_stays(rt: HostRuntime) -> Result<(), Fail> {
         told.as_str(),
         "shared 1000 0, tree 1001 1; next 1005, now 1001, shared 1000 0, tree 1005 1"
     );
+    Ok(())
+}
+
+// What a shared tree and the grower's tell when rows were added at once.
+fn told_of_addition(alloc: Global, grower: &mut Grower, text: &str) -> Result<String, Fail> {
+    let shared = grower.tree().share()?;
+    add(alloc, grower, &rows_of(alloc, text)?)?;
+    both(alloc, &shared, grower.tree())
+}
+
+fn told_of_row(alloc: Global, text: &str) -> Result<String, Fail> {
+    let mut grower = grower_of(alloc, &rows_of(alloc, WORKED)?)?;
+    told_of_addition(alloc, &mut grower, text)
+}
+
+#[test]
+fn a_shared_tree_stays_where_rows_are_added_at_once(rt: HostRuntime) -> Result<(), Fail> {
+    for (text, want) in [
+        ("", "shared 10 2, tree 10 2"),
+        ("main;a 1\n", "shared 10 2, tree 11 3"),
+        ("d 4\n", "shared 10 2, tree 14 2"),
+        ("main;a 1\nmain;a 2\nd 4\n", "shared 10 2, tree 17 5"),
+    ] {
+        let told = told_of_row(rt.alloc(), text)?;
+        assert_eq!(rt; told.as_str(), want);
+    }
+    Ok(())
+}
+
+fn told_with_rows(alloc: Global, text: &str) -> Result<String, Fail> {
+    let grower = grower_of(alloc, &rows_of(alloc, WORKED)?)?;
+    let shared = grower.tree().share()?;
+    let grower = with_rows(alloc, grower, &rows_of(alloc, text)?)?;
+    both(alloc, &shared, grower.tree())
+}
+
+#[test]
+fn a_shared_tree_stays_where_its_grower_is_taken(rt: HostRuntime) -> Result<(), Fail> {
+    for (text, want) in [
+        ("main;a 1\n", "shared 10 2, tree 11 3"),
+        ("main;a 1\nmain;a 2\nd 4\n", "shared 10 2, tree 17 5"),
+    ] {
+        let told = told_with_rows(rt.alloc(), text)?;
+        assert_eq!(rt; told.as_str(), want);
+    }
     Ok(())
 }
 

@@ -1,15 +1,21 @@
 //! What no clause says of names, stacks, rows and folded text: that calls succeed with ample memory, and what they
 //! answer.
 
-use crate::helpers::{pairs_of, pairs_text, rows_of, stack_of, text_of, weights_of};
-use profile_rows::CountedRows;
+use crate::helpers::{
+    all_text, batch_of, pairs_of, pairs_text, rows_of, stack_of, text_of, weights_of,
+};
+use profile_rows::{CountedRows, aggregate_stacks};
 use stack_text::{
     Batch, FoldedFault, FrameTotals, Hashing, MAX_DEPTH, MAX_TOTAL, Name, NameFault, NoMemory,
-    PushFault, Stack, WeightedStacks, Weights, Width, aggregate, folded_report, folded_totals,
-    kept_totals, merge_folded, merge_folded_with, read_folded, write_stacks,
+    OwnedRow, PushFault, Stack, WeightedStack, WeightedStacks, Weights, Width, aggregate,
+    folded_report, folded_report_with, folded_totals, folded_totals_with, kept_totals,
+    kept_totals_with, merge_folded, merge_folded_with, read_folded, read_folded_with, write_stacks,
 };
-use std::alloc::Global;
+use std::alloc::{AllocError, Global};
 use std::hash::BuildHasher;
+use std::io;
+use std::io::ErrorKind;
+use std::random::RandomSource;
 use std::test::Fail;
 
 #[test]
@@ -22,6 +28,20 @@ fn names_are_made_of_texts_that_a_line_can_hold(rt: HostRuntime) -> Result<(), F
         let fault = Name::make(rt.alloc(), text).err();
         assert!(rt; fault == Some(NameFault::BadName), "{text:?}");
     }
+    Ok(())
+}
+
+#[test]
+fn a_name_has_no_greatest_length(rt: HostRuntime) -> Result<(), Fail> {
+    let mut text = String::new(rt.alloc());
+    for _ in 0..65_537 {
+        text.push('x')?;
+    }
+    let name = Name::make(rt.alloc(), text.as_str())?;
+    assert_eq!(rt; name.text().len(), 65_537);
+    text.push_str(" 1\n")?;
+    let rows = read_again(rt.alloc(), text.as_str())?;
+    assert!(rt; rows == text);
     Ok(())
 }
 
@@ -116,6 +136,37 @@ fn folded_text_is_read_to_its_rows(rt: HostRuntime) -> Result<(), Fail> {
         let rows = read_again(rt.alloc(), text)?;
         assert_eq!(rt; rows.as_str(), want);
     }
+    Ok(())
+}
+
+// The lines of so many rows, of a thousand stacks in turn.
+fn many_lines(alloc: Global, rows: u32) -> Result<String, AllocError> {
+    let mut text = String::new(alloc);
+    for row in 0..rows {
+        writeln!(text, "main;f{:03} 1", row % 1_000)?;
+    }
+    Ok(text)
+}
+
+// How many rows and stacks folded text has, and the beginning of its folded report.
+fn counts(alloc: Global, text: &str) -> Result<String, Fail> {
+    let rows = rows_of(alloc, text)?;
+    let sums = aggregate(alloc, &rows)?;
+    let total = rows.total();
+    let first = sums.first().rows().first().ok_or("no row")?.weight;
+    Ok(format!(in alloc;
+        "{} {} {:?} {first}",
+        rows.len(),
+        sums.len(),
+        total.values()
+    )?)
+}
+
+#[test]
+fn one_batch_has_fifty_thousand_rows(rt: HostRuntime) -> Result<(), Fail> {
+    let text = many_lines(rt.alloc(), 50_000)?;
+    let counts = counts(rt.alloc(), text.as_str())?;
+    assert_eq!(rt; counts.as_str(), "50000 1000 [50000] 50");
     Ok(())
 }
 
@@ -327,15 +378,110 @@ fn lent_rows(alloc: Global, batch: &Batch) -> Result<String, Fail> {
     Ok(text)
 }
 
-fn lent_rows_of_two_values(alloc: Global) -> Result<String, Fail> {
-    let batch = pairs_of(alloc, &[("a;b", [0, 2]), ("", [1, 0]), ("a", [0, 0])])?;
-    lent_rows(alloc, &batch)
+// How many frames each row of the caller's own has, and its values.
+fn owned_rows(alloc: Global, rows: &[OwnedRow]) -> Result<String, Fail> {
+    let mut text = String::new(alloc);
+    for row in rows {
+        let (depth, values) = (row.stack.names().len(), row.weights.values());
+        text.push_str(format!(in alloc; "{depth} {values:?}, ")?.as_str())?;
+    }
+    Ok(text)
 }
+
+fn of_four_values(alloc: Global) -> Result<Batch, Fail> {
+    batch_of(
+        alloc,
+        4,
+        &[
+            ("a;b", &[0, 2, 3, 4]),
+            ("", &[1, 0, 0, 7]),
+            ("a", &[0, 0, 0, 0]),
+        ],
+    )
+}
+
+const ROWS_OF_FOUR_VALUES: &str = "2 [0, 2, 3, 4], 0 [1, 0, 0, 7], 1 [0, 0, 0, 0], ";
 
 #[test]
 fn rows_of_a_batch_are_lent_in_order(rt: HostRuntime) -> Result<(), Fail> {
-    let rows = lent_rows_of_two_values(rt.alloc())?;
-    assert_eq!(rt; rows.as_str(), "2 [0, 2], 0 [1, 0], 1 [0, 0], ");
+    let rows = lent_rows(rt.alloc(), &of_four_values(rt.alloc())?)?;
+    assert_eq!(rt; rows.as_str(), ROWS_OF_FOUR_VALUES);
+    Ok(())
+}
+
+#[test]
+fn rows_of_a_batch_are_given_away_in_order(rt: HostRuntime) -> Result<(), Fail> {
+    let rows = of_four_values(rt.alloc())?.into_rows(rt.alloc())?;
+    let text = owned_rows(rt.alloc(), rows.as_slice())?;
+    assert_eq!(rt; text.as_str(), ROWS_OF_FOUR_VALUES);
+    Ok(())
+}
+
+fn shared_text(alloc: Global, batch: &Batch) -> Result<String, Fail> {
+    all_text(alloc, &batch.share(alloc)?)
+}
+
+#[test]
+fn a_batch_is_shared_with_all_its_values(rt: HostRuntime) -> Result<(), Fail> {
+    let text = shared_text(rt.alloc(), &of_four_values(rt.alloc())?)?;
+    assert_eq!(rt;
+        text.as_str(),
+        "a;b 0\n 1\na 0\na;b 2\n 0\na 0\na;b 3\n 0\na 0\na;b 4\n 7\na 0\n[1, 2, 3, 11]\n"
+    );
+    Ok(())
+}
+
+#[test]
+fn room_for_rows_is_no_row(rt: HostRuntime) -> Result<(), Fail> {
+    let batch = Batch::with_capacity(rt.alloc(), Width::one(), 100)?;
+    assert_eq!(rt; batch.len(), 0);
+    let stacks = WeightedStacks::with_capacity(rt.alloc(), 100)?;
+    assert!(rt; stacks.rows().is_empty() && stacks.total() == 0);
+    Ok(())
+}
+
+// Three stacks of one value, one of them of no weight.
+fn some_stacks(alloc: Global) -> Result<WeightedStacks, Fail> {
+    Ok(merge_folded(alloc, b"b 2\na;b 1\nc 0\n")?)
+}
+
+#[test]
+fn weighted_stacks_are_shared(rt: HostRuntime) -> Result<(), Fail> {
+    let shared = some_stacks(rt.alloc())?.share(rt.alloc())?;
+    let text = write_stacks(rt.alloc(), &shared)?;
+    assert_eq!(rt; text.as_slice(), b"b 2\na;b 1\nc 0\n".as_slice());
+    assert_eq!(rt; shared.total(), 3);
+    Ok(())
+}
+
+// How many frames each row has, and its weight.
+fn depths(alloc: Global, rows: &[WeightedStack]) -> Result<String, Fail> {
+    let mut text = String::new(alloc);
+    for row in rows {
+        write!(text, "{} {}, ", row.stack.names().len(), row.weight)?;
+    }
+    Ok(text)
+}
+
+#[test]
+fn weighted_stacks_are_given_away(rt: HostRuntime) -> Result<(), Fail> {
+    let rows = some_stacks(rt.alloc())?.into_rows();
+    let text = depths(rt.alloc(), rows.as_slice())?;
+    assert_eq!(rt; text.as_str(), "1 2, 2 1, 1 0, ");
+    Ok(())
+}
+
+// The rows `b 2`, `a;b 1`, `b 3` and `c 0`.
+fn twice_the_same(alloc: Global) -> Result<WeightedStacks, Fail> {
+    let rows = rows_of(alloc, "b 2\na;b 1\nb 3\nc 0\n")?;
+    Ok(rows.first().share(alloc)?)
+}
+
+#[test]
+fn stacks_of_one_value_are_put_together(rt: HostRuntime) -> Result<(), Fail> {
+    let sums = aggregate_stacks(rt.alloc(), twice_the_same(rt.alloc())?)?;
+    let text = write_stacks(rt.alloc(), &sums)?;
+    assert_eq!(rt; text.as_slice(), b"a;b 1\nb 5\n".as_slice());
     Ok(())
 }
 
@@ -408,13 +554,73 @@ fn hashes_begin_where_they_should(rt: HostRuntime) -> Result<(), Fail> {
     Ok(())
 }
 
+// Gives the same eight bytes each time, and has no others.
+#[derive(Clone, Copy)]
+struct KnownBytes {
+    bytes: [u8; 8],
+}
+
+impl RandomSource for KnownBytes {
+    fn fill_bytes(&self, buf: &mut [u8]) -> io::Result<()> {
+        if buf.len() != self.bytes.len() {
+            return Err(io::Error::from(ErrorKind::InvalidInput));
+        }
+        buf.copy_from_slice(&self.bytes);
+        Ok(())
+    }
+}
+
+#[test]
+fn eight_random_bytes_are_the_key(rt: HostRuntime) -> Result<(), Fail> {
+    let known = KnownBytes {
+        bytes: [1, 2, 3, 4, 5, 6, 7, 8],
+    };
+    let others = KnownBytes {
+        bytes: [1, 2, 3, 4, 5, 6, 7, 9],
+    };
+    let hash = Hashing::random(&known)?.hash_one("main");
+    assert!(rt; hash == Hashing::random(&known)?.hash_one("main"));
+    assert!(rt; hash == Hashing::of_key(0x0807_0605_0403_0201).hash_one("main"));
+    assert!(rt; hash != Hashing::random(&others)?.hash_one("main"));
+    Ok(())
+}
+
+const FOLDED: &[u8] = b"a;b 1\nc 2\na;b 3\n";
+
 #[test]
 fn rows_are_the_same_wherever_hashes_begin(rt: HostRuntime) -> Result<(), Fail> {
     let hashing = Hashing::random(&rt)?;
-    let merged = merge_folded_with(rt.alloc(), hashing, b"a;b 1\nc 2\na;b 3\n")?;
+    let merged = merge_folded_with(rt.alloc(), hashing, FOLDED)?;
     assert_eq!(rt;
         write_stacks(rt.alloc(), &merged)?.as_slice(),
         b"a;b 4\nc 2\n".as_slice()
     );
+    let rows = read_folded_with(rt.alloc(), hashing, FOLDED)?;
+    assert_eq!(rt; write_stacks(rt.alloc(), rows.first())?.as_slice(), FOLDED);
+    Ok(())
+}
+
+#[test]
+fn reports_are_the_same_wherever_hashes_begin(rt: HostRuntime) -> Result<(), Fail> {
+    let hashing = Hashing::random(&rt)?;
+    let report = folded_report_with(rt.alloc(), hashing, FOLDED)?;
+    assert_eq!(rt; report.as_slice(), b"a;b 4\nc 2\n".as_slice());
+    let totals = folded_totals_with(rt.alloc(), hashing, FOLDED)?;
+    assert!(rt; totals.total == 6 && weights(&totals, "b") == Some((4, 4)));
+    Ok(())
+}
+
+// The weights of b in the rows of folded text that have the focus.
+fn focused_weights(alloc: Global, hashing: Hashing) -> Result<Option<(u64, u64)>, Fail> {
+    let rows = rows_of(alloc, RECURSIVE)?;
+    let name = Name::make(alloc, "a")?;
+    let totals = kept_totals_with(alloc, hashing, rows.first(), Some(&name), None)?;
+    Ok(weights(&totals, "b"))
+}
+
+#[test]
+fn kept_rows_weigh_the_same_wherever_hashes_begin(rt: HostRuntime) -> Result<(), Fail> {
+    let hashing = Hashing::random(&rt)?;
+    assert!(rt; focused_weights(rt.alloc(), hashing)? == Some((0, 5)));
     Ok(())
 }

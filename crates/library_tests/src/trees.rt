@@ -1,8 +1,10 @@
 //! What no clause says of trees: that calls succeed with ample memory, and what they answer on worked rows.
 
-use crate::helpers::{grower_of, pairs_of, pairs_text, plan, rows_of, stack_of, text_of};
+use crate::helpers::{
+    add, grower_of, pairs_of, pairs_text, plan, rows_of, stack_of, text_of, with_rows,
+};
 use call_tree::{CallTree, Grower};
-use stack_text::{Batch, MAX_DEPTH, WeightedStacks, Width, write_stacks};
+use stack_text::{Batch, Hashing, MAX_DEPTH, WeightedStacks, Width, write_stacks};
 use std::alloc::{AllocError, Global};
 use std::test::Fail;
 
@@ -72,6 +74,43 @@ const WORKED_ANSWERS: &str =
 #[test]
 fn a_grown_tree_answers_for_its_rows(rt: HostRuntime) -> Result<(), Fail> {
     let told = told(rt.alloc(), &[(WORKED, true)])?;
+    assert_eq!(rt; told.as_str(), WORKED_ANSWERS);
+    Ok(())
+}
+
+// All that a tree answers to which each row is added by itself. Its hashes begin at a key.
+fn told_row_by_row(alloc: Global, lines: &[&str]) -> Result<String, Fail> {
+    let mut grower = Grower::with_hashing(alloc, Hashing::of_key(7), Width::one())?;
+    add_each(alloc, &mut grower, lines)?;
+    answers(alloc, grower.tree())
+}
+
+fn add_each(alloc: Global, grower: &mut Grower, lines: &[&str]) -> Result<(), Fail> {
+    for line in lines {
+        add(alloc, grower, &rows_of(alloc, line)?)?;
+    }
+    Ok(())
+}
+
+#[test]
+fn rows_are_added_at_once(rt: HostRuntime) -> Result<(), Fail> {
+    let by_row = told_row_by_row(rt.alloc(), &["main;a;b 3\n", "main;c 5\n", "main;a 2\n"])?;
+    assert_eq!(rt; by_row.as_str(), WORKED_ANSWERS);
+    let together = told_row_by_row(rt.alloc(), &[WORKED])?;
+    assert_eq!(rt; together.as_str(), WORKED_ANSWERS);
+    Ok(())
+}
+
+fn told_with_batches(alloc: Global, first: &str, second: &str) -> Result<String, Fail> {
+    let grower = Grower::new(alloc, Width::one())?;
+    let grower = with_rows(alloc, grower, &rows_of(alloc, first)?)?;
+    let grower = with_rows(alloc, grower, &rows_of(alloc, second)?)?;
+    answers(alloc, grower.tree())
+}
+
+#[test]
+fn a_grower_is_taken_and_given_with_rows(rt: HostRuntime) -> Result<(), Fail> {
+    let told = told_with_batches(rt.alloc(), "main;c 5\nmain;a 1\n", "main;a;b 3\nmain;a 1\n")?;
     assert_eq!(rt; told.as_str(), WORKED_ANSWERS);
     Ok(())
 }

@@ -1,20 +1,11 @@
 //! Samples of several values as batches: which values are taken.
 
-use crate::helpers::value_text;
+use crate::helpers::all_text;
 use crate::messages::TWO_SAMPLE_TYPES;
 use pprof_profile::{Profile, decode};
-use stack_text::{Batch, ValueChoice, batch_of};
+use stack_text::{ValueChoice, batch_of};
 use std::alloc::Global;
 use std::test::Fail;
-
-// The rows of a batch as folded text by each of its values, one after the other.
-fn all_text(alloc: Global, rows: &Batch) -> Result<String, Fail> {
-    let mut text = String::new(alloc);
-    for value in 0..rows.width().get() {
-        text.push_str(value_text(alloc, rows, value)?.as_str())?;
-    }
-    Ok(text)
-}
 
 fn all_rows(alloc: Global, profile: &Profile) -> Result<String, Fail> {
     let rows = batch_of(alloc, profile, ValueChoice::All)?;
@@ -44,7 +35,7 @@ fn sampled(alloc: Global, types: usize, values: &[u8]) -> Result<Vec<u8>, Fail> 
 #[test]
 fn all_values_of_two_types_are_taken_in_order(rt: HostRuntime) -> Result<(), Fail> {
     let text = read_all(rt.alloc(), TWO_SAMPLE_TYPES)?;
-    assert_eq!(rt; text.as_str(), "f 3\nf 30\n");
+    assert_eq!(rt; text.as_str(), "f 3\nf 30\n[3, 30]\n");
     Ok(())
 }
 
@@ -52,6 +43,6 @@ fn all_values_of_two_types_are_taken_in_order(rt: HostRuntime) -> Result<(), Fai
 fn four_types_are_taken(rt: HostRuntime) -> Result<(), Fail> {
     let four = sampled(rt.alloc(), 4, &[1, 2, 3, 4])?;
     let text = read_all(rt.alloc(), four.as_slice())?;
-    assert_eq!(rt; text.as_str(), "0x0 1\n0x0 2\n0x0 3\n0x0 4\n");
+    assert_eq!(rt; text.as_str(), "0x0 1\n0x0 2\n0x0 3\n0x0 4\n[1, 2, 3, 4]\n");
     Ok(())
 }

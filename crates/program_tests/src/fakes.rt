@@ -1,4 +1,5 @@
-//! A reader and a writer that move few bytes at a time and fail once, and a run on given bytes.
+//! A reader and a writer that move few bytes at a time and fail, a runtime without random bytes, and runs on given
+//! bytes.
 
 use flame_answers::{MAX_INPUT, Status, Unheard};
 use flame_program::run;
@@ -7,6 +8,7 @@ use std::io;
 use std::io::{ErrorKind, Read, Write};
 use std::random::RandomSource;
 use std::sync::Wait;
+use std::test::Fail;
 use std::thread::Threads;
 
 /// The words that ask for the top list.
@@ -15,19 +17,41 @@ pub static TOP: [&str; 2] = ["flame", "top"];
 /// The words that ask for equal stacks added up.
 pub static FOLD: [&str; 2] = ["flame", "fold"];
 
-/// Gives one byte at each read, but fails once, at the read after so many.
+/// Whether a stream goes on after its fault.
+#[derive(Clone, Copy, PartialEq, Eq)]
+pub enum Lasting {
+    Once,
+    FromThenOn,
+}
+
+/// Gives one byte at each read, but fails at the read after so many: once, or from then on.
 #[derive(Drop)]
 pub struct Dripping<'a> {
     pub rest: &'a [u8],
     pub reads_to_fault: Option<usize>,
     pub fault: ErrorKind,
+    pub lasting: Lasting,
+}
+
+impl<'a> Dripping<'a> {
+    /// A reader of these bytes that never fails.
+    pub fn new(rest: &'a [u8]) -> Dripping<'a> {
+        Dripping {
+            rest,
+            reads_to_fault: None,
+            fault: ErrorKind::Interrupted,
+            lasting: Lasting::Once,
+        }
+    }
 }
 
 impl Read for Dripping<'_> {
     fn read(&mut self, buf: &mut [u8]) -> io::Result<usize> {
         match self.reads_to_fault {
             Some(0) => {
-                self.reads_to_fault = None;
+                if self.lasting == Lasting::Once {
+                    self.reads_to_fault = None;
+                }
                 return Err(io::Error::from(self.fault));
             }
             Some(reads) => self.reads_to_fault = Some(reads - 1),
@@ -47,13 +71,15 @@ impl Read for Dripping<'_> {
     }
 }
 
-/// Takes at most `each` bytes at a write, but fails once, where it has taken so many as there was room for.
+/// Takes at most `each` bytes at a write, but fails where it has taken so many as there was room for: once, or from
+/// then on.
 #[derive(Drop)]
 pub struct Narrow {
     pub taken: Vec<u8>,
     pub room: Option<usize>,
     pub each: usize,
     pub fault: ErrorKind,
+    pub lasting: Lasting,
     pub fails_at_flush: bool,
     pub is_flushed: bool,
 }
@@ -66,6 +92,7 @@ impl Narrow {
             room: Some(room),
             each,
             fault: ErrorKind::Interrupted,
+            lasting: Lasting::Once,
             fails_at_flush: false,
             is_flushed: false,
         }
@@ -76,7 +103,9 @@ impl Write for Narrow {
     fn write(&mut self, buf: &[u8]) -> io::Result<usize> {
         let room = self.room.unwrap_or(buf.len());
         if room == 0 && self.room.is_some() {
-            self.room = None;
+            if self.lasting == Lasting::Once {
+                self.room = None;
+            }
             return Err(io::Error::from(self.fault));
         }
         let count = buf.len().min(self.each).min(room);
@@ -94,6 +123,22 @@ impl Write for Narrow {
         }
         self.is_flushed = true;
         Ok(())
+    }
+}
+
+/// The threads and the waiting of a runtime, without random bytes.
+#[derive(Clone, Copy)]
+pub struct Unrandom<'a, T> {
+    pub rt: &'a T,
+}
+
+impl<T: Threads> Threads for Unrandom<'_, T> {}
+
+impl<T: Wait> Wait for Unrandom<'_, T> {}
+
+impl<T> RandomSource for Unrandom<'_, T> {
+    fn fill_bytes(&self, _buf: &mut [u8]) -> io::Result<()> {
+        Err(io::Error::from(ErrorKind::Unsupported))
     }
 }
 
@@ -126,4 +171,22 @@ pub fn repeated(alloc: Global, bytes: &[u8], times: usize) -> Result<Vec<u8>, Al
         all.extend_from_slice(bytes)?;
     }
     Ok(all)
+}
+
+/// The report that these words ask for, of an input of this format.
+pub fn report_on<'a, T: Threads + Wait + RandomSource + Sync>(
+    rt: &T,
+    alloc: Global,
+    words: &'a [&'a str],
+    format: &'a str,
+    input: &[u8],
+) -> Result<Vec<u8>, Fail> {
+    let mut all = Vec::from_slice(alloc, words)?;
+    all.push("--format")?;
+    all.push(format)?;
+    let (status, written) = run_on(rt, alloc, all.as_slice(), input, MAX_INPUT);
+    match status.code {
+        0 => Ok(written),
+        code => Err(Fail::new(code)),
+    }
 }

@@ -1,12 +1,9 @@
 //! Reports on thousands of rows, on long names and on long inputs, by closed formulas.
 
-use crate::fakes::{repeated, run_on};
+use crate::fakes::{repeated, report_on, run_on};
 use flame_answers::MAX_INPUT;
 use std::alloc::{AllocError, Global};
-use std::random::RandomSource;
-use std::sync::Wait;
 use std::test::Fail;
-use std::thread::Threads;
 
 // The samples are numbered from 128 to 3,199, and each weighs its number. Its leaf has the address 0x7f0000000000 + its
 // number, and its root the address 0xffffffffffffffff: locations without lines, which are called by their addresses.
@@ -44,24 +41,6 @@ fn folded(alloc: Global) -> Result<Vec<u8>, AllocError> {
         text.extend_from_slice(line.as_bytes())?;
     }
     Ok(text)
-}
-
-// The report that these words ask for, of an input of this format.
-fn report_on<'a, T: Threads + Wait + RandomSource + Sync>(
-    rt: &T,
-    alloc: Global,
-    words: &'a [&'a str],
-    format: &'a str,
-    input: &[u8],
-) -> Result<Vec<u8>, Fail> {
-    let mut all = Vec::from_slice(alloc, words)?;
-    all.push("--format")?;
-    all.push(format)?;
-    let (status, written) = run_on(rt, alloc, all.as_slice(), input, MAX_INPUT);
-    match status.code {
-        0 => Ok(written),
-        code => Err(Fail::new(code)),
-    }
 }
 
 const REPORTS: [(&[&str], &[u8]); 9] = [

@@ -5,9 +5,9 @@
 #[cfg(test)]
 mod fakes;
 #[cfg(test)]
-mod faults;
-#[cfg(test)]
 mod large;
+#[cfg(test)]
+mod lines;
 #[cfg(test)]
 mod live;
 #[cfg(test)]
@@ -20,3 +20,7 @@ mod process;
 mod profiles;
 #[cfg(test)]
 mod reports;
+#[cfg(test)]
+mod streams;
+#[cfg(test)]
+mod words;

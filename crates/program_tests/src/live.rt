@@ -12,9 +12,15 @@ const FIVE_TYPES: &[u8] =
     b"\x0a\x04\x08\x01\x10\x02\x0a\x04\x08\x01\x10\x02\x0a\x04\x08\x01\x10\x02\
     \x0a\x04\x08\x01\x10\x02\x0a\x04\x08\x01\x10\x02\x32\x00\x32\x03cpu\x32\x02ns";
 
+// Four sample types, and one sample of f: 1, 2, 3 and 4.
+const FOUR_TYPES: &[u8] =
+    b"\x0a\x04\x08\x01\x10\x02\x0a\x04\x08\x01\x10\x02\x0a\x04\x08\x01\x10\x02\x0a\x04\x08\x01\x10\x02\
+      \x12\x09\x0a\x01\x01\x12\x04\x01\x02\x03\x04\x22\x06\x08\x01\x22\x02\x08\x01\x2a\x04\x08\x01\x10\
+      \x03\x32\x00\x32\x03cpu\x32\x02ns\x32\x01f";
+
 #[test]
 fn live_prints_fold_and_count(rt: HostRuntime) {
-    let cases: [(&[&str], &[u8], &[u8]); 7] = [
+    let cases: [(&[&str], &[u8], &[u8]); 9] = [
         (
             &["flame", "live", "--sessions", "2"],
             STORED,
@@ -45,6 +51,16 @@ fn live_prints_fold_and_count(rt: HostRuntime) {
             b"value 0\nf 3\nvalue 1\nf 30\naudited 5 operations\n",
         ),
         (
+            &["flame", "live", "--format", "pprof", "--all"],
+            FOUR_TYPES,
+            b"value 0\nf 1\nvalue 1\nf 2\nvalue 2\nf 3\nvalue 3\nf 4\naudited 9 operations\n",
+        ),
+        (
+            &["flame", "live", "--format", "pprof", "--all", "--warm"],
+            FOUR_TYPES,
+            b"value 0\nf 1\nvalue 1\nf 2\nvalue 2\nf 3\nvalue 3\nf 4\naudited 12 operations\n",
+        ),
+        (
             &["flame", "live", "--format", "pprof", "--value", "samples"],
             TWO_TYPES,
             b"f 3\naudited 3 operations\n",
@@ -64,7 +80,7 @@ fn live_prints_fold_and_count(rt: HostRuntime) {
 
 #[test]
 fn refused_words_and_inputs_of_live(rt: HostRuntime) -> Result<(), Fail> {
-    let cases: [(&[&str], &[u8], u8, &str); 5] = [
+    let cases: [(&[&str], &[u8], u8, &str); 4] = [
         (
             &["flame", "live", "--warm", "--sessions", "64"],
             b"no folded text",
@@ -89,12 +105,6 @@ fn refused_words_and_inputs_of_live(rt: HostRuntime) -> Result<(), Fail> {
             FIVE_TYPES,
             1,
             "flame: B6 Width count 5\n",
-        ),
-        (
-            &["flame", "live", "--format", "pprof", "--value", "wall"],
-            TWO_TYPES,
-            1,
-            "flame: B1 NoValue\n",
         ),
     ];
     for (place, (words, input, code, line)) in cases.iter().enumerate() {

@@ -2,7 +2,6 @@
 
 use crate::fakes::{Dripping, Narrow, repeated};
 use flame_answers::{MAX_INPUT, ReadFault, read_input, write_text};
-use std::io::ErrorKind;
 use std::test::Fail;
 
 // More than one read asks for.
@@ -35,11 +34,8 @@ fn stops_at_one_byte_past_the_limit(rt: HostRuntime) -> Result<(), Fail> {
 
 #[test]
 fn an_interrupted_read_is_a_fault(rt: HostRuntime) {
-    let mut reader = Dripping {
-        rest: b"abc",
-        reads_to_fault: Some(2),
-        fault: ErrorKind::Interrupted,
-    };
+    let mut reader = Dripping::new(b"abc");
+    reader.reads_to_fault = Some(2);
     let fault = read_input(rt.alloc(), &mut reader, 10).err();
     assert_eq!(rt; fault, Some(ReadFault::Read));
     assert_eq!(rt; reader.rest, b"c".as_slice());

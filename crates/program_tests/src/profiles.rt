@@ -1,6 +1,6 @@
-//! Reports on profiles: the vectors of the format, and their faults.
+//! Reports on profiles: the vectors of the format.
 
-use crate::fakes::{repeated, run_on};
+use crate::fakes::run_on;
 use flame_answers::MAX_INPUT;
 use std::alloc::{AllocError, Global};
 use std::random::RandomSource;
@@ -12,17 +12,10 @@ static FOLD: [&str; 4] = ["flame", "fold", "--format", "pprof"];
 
 static FOLD_SAMPLES: [&str; 6] = ["flame", "fold", "--format", "pprof", "--value", "samples"];
 
-static FOLD_WALL: [&str; 6] = ["flame", "fold", "--format", "pprof", "--value", "wall"];
-
 // One sample of f, 7 ns of cpu.
-const ONE_SAMPLE: &[u8] =
+pub(crate) const ONE_SAMPLE: &[u8] =
     b"\x0a\x04\x08\x01\x10\x02\x12\x06\x0a\x01\x01\x12\x01\x07\x22\x06\x08\x01\x22\x02\x08\x01\x2a\x04\x08\x01\x10\
       \x03\x32\x00\x32\x03cpu\x32\x02ns\x32\x01f";
-
-// The same with the value -1.
-const NEGATIVE_VALUE: &[u8] =
-    b"\x0a\x04\x08\x01\x10\x02\x12\x0f\x0a\x01\x01\x12\x0a\xff\xff\xff\xff\xff\xff\xff\xff\xff\x01\x22\x06\x08\x01\
-      \x22\x02\x08\x01\x2a\x04\x08\x01\x10\x03\x32\x00\x32\x03cpu\x32\x02ns\x32\x01f";
 
 // a, inlined into b, inlined into c, under a location without lines at 0xff.
 const INLINED: &[u8] =
@@ -84,66 +77,6 @@ fn export_of_one_row(rt: HostRuntime) -> Result<(), Fail> {
     let (status, written) = run_on(&rt, rt.alloc(), words.as_slice(), b"f 7\n", MAX_INPUT);
     assert_eq!(rt; status.code, 0);
     assert_eq!(rt; written.as_slice(), ONE_SAMPLE);
-    let (status, written) = run_on(&rt, rt.alloc(), words.as_slice(), b"f\n", MAX_INPUT);
-    assert_eq!(rt;
-        status.cause.to_string(rt.alloc())?.as_str(),
-        "flame: F2 NoCount line 1\n"
-    );
-    assert!(rt; written.is_empty());
-    Ok(())
-}
-
-#[test]
-fn export_of_a_stack_too_deep(rt: HostRuntime) -> Result<(), Fail> {
-    let mut deeper = repeated(rt.alloc(), b"a;", 65_535)?;
-    deeper.extend_from_slice(b"a 1\n")?;
-    let words = ["flame", "proto", "--kind", "cpu", "--unit", "ns"];
-    let (status, written) = run_on(
-        &rt,
-        rt.alloc(),
-        words.as_slice(),
-        deeper.as_slice(),
-        MAX_INPUT,
-    );
-    assert_eq!(rt;
-        status.cause.to_string(rt.alloc())?.as_str(),
-        "flame: F4 Depth line 1\n"
-    );
-    assert_eq!(rt; status.code, 1);
-    assert!(rt; written.is_empty());
-    Ok(())
-}
-
-#[test]
-fn refused_profiles(rt: HostRuntime) -> Result<(), Fail> {
-    let cases: [(&[&str], &[u8], &[u8]); 7] = [
-        (FOLD.as_slice(), b"", b"flame: P4 NoStrings\n"),
-        (FOLD.as_slice(), b"\x1f\x8b", b"flame: P1 Gzip\n"),
-        (FOLD.as_slice(), b"\x1f", b"flame: P2 Wire W5 WireType\n"),
-        (
-            FOLD.as_slice(),
-            &ONE_SAMPLE[..1],
-            b"flame: P2 Wire W1 Truncated\n",
-        ),
-        (
-            FOLD.as_slice(),
-            &ONE_SAMPLE[..30],
-            b"flame: P6 StringIndex\n",
-        ),
-        (
-            FOLD.as_slice(),
-            NEGATIVE_VALUE,
-            b"flame: B2 Negative sample 0\n",
-        ),
-        (FOLD_WALL.as_slice(), TWO_TYPES, b"flame: B1 NoValue\n"),
-    ];
-    for (place, (words, input, line)) in cases.iter().enumerate() {
-        let (status, written) = run_on(&rt, rt.alloc(), words, input, MAX_INPUT);
-        let said = status.cause.to_string(rt.alloc())?;
-        assert_eq!(rt; said.as_bytes(), *line, "{place}");
-        assert_eq!(rt; status.code, 1, "{place}");
-        assert!(rt; written.is_empty(), "{place}");
-    }
     Ok(())
 }
 
@@ -155,15 +88,15 @@ fn profile_of(alloc: Global, samples: &[u8]) -> Result<Vec<u8>, AllocError> {
     Ok(bytes)
 }
 
-// What is written and said of a folded profile of these samples.
+// What is written of a folded profile of these samples.
 fn fold_of<T: Threads + Wait + RandomSource + Sync>(
     rt: &T,
     alloc: Global,
     samples: &[u8],
-) -> Result<(Vec<u8>, String), AllocError> {
+) -> Result<Vec<u8>, AllocError> {
     let input = profile_of(alloc, samples)?;
-    let (status, written) = run_on(rt, alloc, FOLD.as_slice(), input.as_slice(), MAX_INPUT);
-    Ok((written, status.cause.to_string(alloc)?))
+    let (_, written) = run_on(rt, alloc, FOLD.as_slice(), input.as_slice(), MAX_INPUT);
+    Ok(written)
 }
 
 #[test]
@@ -171,24 +104,13 @@ fn samples_of_the_greatest_total(rt: HostRuntime) -> Result<(), Fail> {
     let samples =
         b"\x12\x0e\x0a\x01\x01\x12\x09\x80\x80\x80\x80\x80\x80\x80\x80\x40\x12\x0e\x0a\x01\x01\x12\x09\xff\xff\xff\xff\
       \xff\xff\xff\xff\x3f";
-    let (written, _) = fold_of(&rt, rt.alloc(), samples)?;
+    let written = fold_of(&rt, rt.alloc(), samples)?;
     assert_eq!(rt; written.as_slice(), b"f 9223372036854775807\n".as_slice());
     Ok(())
 }
 
-#[test]
-fn samples_past_the_greatest_total(rt: HostRuntime) -> Result<(), Fail> {
-    let samples =
-        b"\x12\x0e\x0a\x01\x01\x12\x09\x80\x80\x80\x80\x80\x80\x80\x80\x40\x12\x0e\x0a\x01\x01\x12\x09\x80\x80\x80\x80\
-      \x80\x80\x80\x80\x40";
-    let (written, said) = fold_of(&rt, rt.alloc(), samples)?;
-    assert_eq!(rt; said.as_str(), "flame: B4 Heavy sample 1\n");
-    assert!(rt; written.is_empty());
-    Ok(())
-}
-
-// The field of a sample of f so many times, which weighs 7. Its length and that of its ids are given as varints.
-fn deep_sample(
+/// The field of a sample of f so many times, which weighs 7. Its length and that of its ids are given as varints.
+pub(crate) fn deep_sample(
     alloc: Global,
     length: &[u8],
     depth: &[u8],
@@ -208,17 +130,8 @@ fn deep_sample(
 #[test]
 fn the_deepest_sample(rt: HostRuntime) -> Result<(), Fail> {
     let sample = deep_sample(rt.alloc(), b"\x86\x80\x04", b"\xff\xff\x03", 65_535)?;
-    let (written, _) = fold_of(&rt, rt.alloc(), sample.as_slice())?;
+    let written = fold_of(&rt, rt.alloc(), sample.as_slice())?;
     assert_eq!(rt; written.len(), 2 * 65_535 + 2);
-    Ok(())
-}
-
-#[test]
-fn a_sample_too_deep(rt: HostRuntime) -> Result<(), Fail> {
-    let sample = deep_sample(rt.alloc(), b"\x87\x80\x04", b"\x80\x80\x04", 65_536)?;
-    let (written, said) = fold_of(&rt, rt.alloc(), sample.as_slice())?;
-    assert_eq!(rt; said.as_str(), "flame: B3 Depth sample 0\n");
-    assert!(rt; written.is_empty());
     Ok(())
 }
 

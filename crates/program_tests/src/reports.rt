@@ -1,9 +1,7 @@
 //! The reports of `top` and of `fold`, worked by hand.
 
-use crate::fakes::{Dripping, FOLD, Narrow, TOP, run_on};
-use flame_answers::{MAX_INPUT, Unheard};
-use flame_program::run;
-use std::io::ErrorKind;
+use crate::fakes::{FOLD, TOP, run_on};
+use flame_answers::MAX_INPUT;
 use std::test::Fail;
 
 const STORED: &[u8] = b"main;a;b 3\nmain;a 2\nmain;c 5\n";
@@ -39,7 +37,7 @@ fn top_reports(rt: HostRuntime) {
 
 #[test]
 fn fold_reports(rt: HostRuntime) {
-    let cases: [(&str, &[u8], &[u8]); 9] = [
+    let cases: [(&str, &[u8], &[u8]); 11] = [
         ("fold_of_empty_input", b"", b""),
         ("line_ends", b"a 1\r\n\na 2", b"a 3\n"),
         (
@@ -54,6 +52,8 @@ fn fold_reports(rt: HostRuntime) {
         ),
         ("empty_stack_is_kept", b" 5\n", b" 5\n"),
         ("empty_parts_are_dropped", b"a;;b 1\n", b"a;b 1\n"),
+        ("only_empty_parts", b";;; 1\n", b" 1\n"),
+        ("leading_zeros", b"a 00000000000000000000000007\n", b"a 7\n"),
         ("spaces_in_names_are_kept", b"a b;c d 7\n", b"a b;c d 7\n"),
         (
             "weightless_stacks_are_dropped",
@@ -71,28 +71,6 @@ fn fold_reports(rt: HostRuntime) {
         assert_eq!(rt; status.code, 0, "{name}");
         assert_eq!(rt; written.as_slice(), report, "{name}");
     }
-}
-
-#[test]
-fn streams_of_one_byte_change_nothing(rt: HostRuntime) {
-    let mut reader = Dripping {
-        rest: STORED,
-        reads_to_fault: None,
-        fault: ErrorKind::Interrupted,
-    };
-    let mut writer = Narrow::new(rt.alloc(), 100, 1);
-    let status = run(
-        &rt,
-        rt.alloc(),
-        &Unheard,
-        TOP.as_slice(),
-        &mut reader,
-        &mut writer,
-        MAX_INPUT,
-    );
-    assert_eq!(rt; status.code, 0);
-    assert_eq!(rt; writer.taken.as_slice(), STORED_REPORT);
-    assert!(rt; writer.is_flushed);
 }
 
 #[test]

@@ -1,0 +1,241 @@
+//! Each subcommand on streams that fail, and on streams that move one byte at a time.
+
+use crate::fakes::{Dripping, Lasting, Narrow, Unrandom, repeated};
+use crate::profiles::ONE_SAMPLE;
+use flame_answers::{MAX_INPUT, Unheard};
+use flame_program::run;
+use std::alloc::{AllocError, Global};
+use std::io::ErrorKind;
+use std::random::RandomSource;
+use std::sync::Wait;
+use std::test::Fail;
+use std::thread::Threads;
+
+// The words of a subcommand, an input, and the report on it.
+#[derive(Clone, Copy)]
+struct Case<'a> {
+    words: &'a [&'a str],
+    input: &'a [u8],
+    report: &'a [u8],
+}
+
+const STORED: &[u8] = b"main;a;b 3\nmain;a 2\nmain;c 5\n";
+
+const CASES: [Case; 5] = [
+    Case {
+        words: &["flame", "top"],
+        input: STORED,
+        report: b"total 10\n5 5 c\n3 3 b\n2 5 a\n0 10 main\n",
+    },
+    Case {
+        words: &["flame", "flame", "--columns", "1"],
+        input: STORED,
+        report: b"{\"columns\":1,\"rects\":[\
+                  {\"depth\":0,\"left\":0,\"name\":\"\",\"right\":1,\"weight\":10,\"x\":0},\
+                  {\"depth\":1,\"left\":0,\"name\":\"main\",\"right\":1,\"weight\":10,\"x\":0},\
+                  {\"depth\":2,\"left\":0,\"name\":\"c\",\"right\":1,\"weight\":5,\"x\":5}\
+                  ],\"total\":10}\n",
+    },
+    Case {
+        words: &["flame", "fold"],
+        input: STORED,
+        report: b"main;a 2\nmain;a;b 3\nmain;c 5\n",
+    },
+    Case {
+        words: &["flame", "proto", "--kind", "cpu", "--unit", "ns"],
+        input: b"f 7\n",
+        report: ONE_SAMPLE,
+    },
+    Case {
+        words: &["flame", "live"],
+        input: STORED,
+        report: b"main;a 2\nmain;a;b 3\nmain;c 5\naudited 5 operations\n",
+    },
+];
+
+// How a run ends that reads from this reader: its status, how many bytes it wrote, and what it says.
+fn end_of_reading<T: Threads + Wait + RandomSource + Sync>(
+    rt: &T,
+    alloc: Global,
+    case: &Case,
+    reader: &mut Dripping,
+    limit: usize,
+) -> Result<String, AllocError> {
+    let mut written = Vec::new(alloc);
+    let status = run(
+        rt,
+        alloc,
+        &Unheard,
+        case.words,
+        reader,
+        &mut written,
+        limit.min(MAX_INPUT),
+    );
+    format!(in alloc; "{} {} {}", status.code, written.len(), status.cause)
+}
+
+// How runs end in which each read fails in turn, the last of them that which would find the end of the input.
+fn ends_of_failing_reads<T: Threads + Wait + RandomSource + Sync>(
+    rt: &T,
+    alloc: Global,
+    case: &Case,
+    lasting: Lasting,
+) -> Result<String, AllocError> {
+    let mut ends = String::new(alloc);
+    for reads in 0..case.input.len() + 1 {
+        let mut reader = Dripping::new(case.input);
+        reader.reads_to_fault = Some(reads);
+        reader.lasting = lasting;
+        if reads % 2 == 0 {
+            reader.fault = ErrorKind::WouldBlock;
+        }
+        let end = end_of_reading(rt, alloc, case, &mut reader, MAX_INPUT)?;
+        ends.push_str(end.as_str())?;
+    }
+    Ok(ends)
+}
+
+#[test]
+fn each_read_fails_in_turn(rt: HostRuntime) -> Result<(), Fail> {
+    for case in &CASES {
+        let want = repeated(rt.alloc(), b"3 0 flame: E1 Read\n", case.input.len() + 1)?;
+        let once = ends_of_failing_reads(&rt, rt.alloc(), case, Lasting::Once)?;
+        assert_eq!(rt; once.as_bytes(), want.as_slice(), "{:?}", case.words);
+        let lasting = ends_of_failing_reads(&rt, rt.alloc(), case, Lasting::FromThenOn)?;
+        assert_eq!(rt; lasting.as_bytes(), want.as_slice(), "{:?}", case.words);
+    }
+    Ok(())
+}
+
+#[test]
+fn no_byte_is_read_past_the_limit(rt: HostRuntime) -> Result<(), Fail> {
+    for case in &CASES {
+        let mut reader = Dripping::new(case.input);
+        reader.reads_to_fault = Some(case.input.len());
+        let limit = case.input.len().saturating_sub(1);
+        let end = end_of_reading(&rt, rt.alloc(), case, &mut reader, limit)?;
+        assert_eq!(rt; end.as_str(), "1 0 flame: E3 TooLong\n", "{:?}", case.words);
+    }
+    Ok(())
+}
+
+#[test]
+fn no_random_bytes_are_a_fault_of_reading(rt: HostRuntime) -> Result<(), Fail> {
+    let unrandom = Unrandom { rt: &rt };
+    for case in &CASES {
+        let mut reader = Dripping::new(case.input);
+        let end = end_of_reading(&unrandom, rt.alloc(), case, &mut reader, MAX_INPUT)?;
+        assert_eq!(rt; end.as_str(), "3 0 flame: E1 Read\n", "{:?}", case.words);
+    }
+    Ok(())
+}
+
+// The input is as long as the limit, and each read after its end would fail.
+#[test]
+fn streams_of_one_byte_change_nothing(rt: HostRuntime) {
+    for case in &CASES {
+        let mut reader = Dripping::new(case.input);
+        reader.reads_to_fault = Some(case.input.len() + 1);
+        let mut writer = Narrow::new(rt.alloc(), 1_000, 1);
+        let status = run(
+            &rt,
+            rt.alloc(),
+            &Unheard,
+            case.words,
+            &mut reader,
+            &mut writer,
+            case.input.len().min(MAX_INPUT),
+        );
+        assert_eq!(rt; status.code, 0, "{:?}", case.words);
+        assert_eq!(rt; writer.taken.as_slice(), case.report, "{:?}", case.words);
+        assert!(rt; writer.is_flushed, "{:?}", case.words);
+    }
+}
+
+// How a run ends that writes to this writer: its status, whether exactly the first bytes of its report were taken, so
+// many as there was room for, and what it says.
+fn end_of_writing<T: Threads + Wait + RandomSource + Sync>(
+    rt: &T,
+    alloc: Global,
+    case: &Case,
+    writer: &mut Narrow,
+    room: usize,
+) -> Result<String, AllocError> {
+    let mut reader = case.input;
+    let status = run(
+        rt,
+        alloc,
+        &Unheard,
+        case.words,
+        &mut reader,
+        writer,
+        MAX_INPUT,
+    );
+    let is_beginning = case.report.get(..room) == Some(writer.taken.as_slice());
+    format!(in alloc; "{} {is_beginning} {}", status.code, status.cause)
+}
+
+// How runs end in which each byte in turn isn't taken any more. At most `each` bytes are taken at a write.
+fn ends_of_failing_writes<T: Threads + Wait + RandomSource + Sync>(
+    rt: &T,
+    alloc: Global,
+    case: &Case,
+    each: usize,
+    lasting: Lasting,
+) -> Result<String, AllocError> {
+    let mut ends = String::new(alloc);
+    for room in 0..case.report.len() {
+        let mut writer = Narrow::new(alloc, room, each);
+        writer.lasting = lasting;
+        if room % 2 == 0 {
+            writer.fault = ErrorKind::WouldBlock;
+        }
+        let end = end_of_writing(rt, alloc, case, &mut writer, room)?;
+        ends.push_str(end.as_str())?;
+    }
+    Ok(ends)
+}
+
+#[test]
+fn each_write_fails_in_turn(rt: HostRuntime) -> Result<(), Fail> {
+    for case in &CASES {
+        let want = repeated(rt.alloc(), b"3 true flame: E2 Write\n", case.report.len())?;
+        let once = ends_of_failing_writes(&rt, rt.alloc(), case, 1, Lasting::Once)?;
+        assert_eq!(rt; once.as_bytes(), want.as_slice(), "{:?}", case.words);
+        let lasting = ends_of_failing_writes(&rt, rt.alloc(), case, 7, Lasting::FromThenOn)?;
+        assert_eq!(rt; lasting.as_bytes(), want.as_slice(), "{:?}", case.words);
+    }
+    Ok(())
+}
+
+#[test]
+fn a_write_that_takes_no_byte_is_a_fault(rt: HostRuntime) -> Result<(), Fail> {
+    for case in &CASES {
+        let mut writer = Narrow::new(rt.alloc(), 1_000, 0);
+        let end = end_of_writing(&rt, rt.alloc(), case, &mut writer, 0)?;
+        assert_eq!(rt;
+            end.as_str(),
+            "3 true flame: E2 Write\n",
+            "{:?}",
+            case.words
+        );
+    }
+    Ok(())
+}
+
+// The whole report was written before.
+#[test]
+fn a_flush_that_fails_is_a_fault(rt: HostRuntime) -> Result<(), Fail> {
+    for case in &CASES {
+        let mut writer = Narrow::new(rt.alloc(), 1_000, 1_000);
+        writer.fails_at_flush = true;
+        let end = end_of_writing(&rt, rt.alloc(), case, &mut writer, case.report.len())?;
+        assert_eq!(rt;
+            end.as_str(),
+            "3 true flame: E2 Write\n",
+            "{:?}",
+            case.words
+        );
+    }
+    Ok(())
+}

@@ -1,0 +1,80 @@
+//! Words that are refused or ask for help, and what the program says of them.
+
+use crate::fakes::run_on;
+use flame_answers::MAX_INPUT;
+use std::test::Fail;
+
+const STORED: &[u8] = b"main;a;b 3\nmain;a 2\nmain;c 5\n";
+
+#[test]
+fn refused_words(rt: HostRuntime) -> Result<(), Fail> {
+    let cases: [(&[&str], &str); 15] = [
+        (&[], "Usage: flame <COMMAND>"),
+        (&["flame"], "Usage: flame <COMMAND>"),
+        (&["flame", "nope"], "unrecognized subcommand 'nope'"),
+        (&["flame", "--help"], "\n  main;a 2\n  main;a;b 3\n"),
+        (&["flame", "help"], "Usage: flame <COMMAND>"),
+        (&["flame", "top", "--help"], "total 10"),
+        (
+            &["flame", "top", "--help"],
+            "gunzip -c cpu.pb.gz | flame top --format pprof) [default: folded]\n",
+        ),
+        (
+            &["flame", "fold", "--by", "cum"],
+            "unexpected argument '--by'",
+        ),
+        (
+            &["flame", "proto", "--format", "pprof"],
+            "unexpected argument '--format'",
+        ),
+        (
+            &["flame", "top", "--by", "size"],
+            "invalid value 'size' for '--by': flat or cum",
+        ),
+        (
+            &["flame", "top", "--count", "x"],
+            "error: invalid value 'x' for '--count': a number from 0 to 4294967295\n",
+        ),
+        (
+            &["flame", "fold", "--format", "x"],
+            "error: invalid value 'x' for '--format': folded or pprof\n",
+        ),
+        (
+            &["flame", "top", "--count", "-1"],
+            "unexpected argument '-1'",
+        ),
+        (
+            &["flame", "flame", "--columns", "0"],
+            "invalid value '0' for '--columns'",
+        ),
+        (
+            &["flame", "flame", "--columns", "65536"],
+            "invalid value '65536' for '--columns'",
+        ),
+    ];
+    for (words, part) in cases {
+        let (status, written) = run_on(&rt, rt.alloc(), words, STORED, MAX_INPUT);
+        let said = status.cause.to_string(rt.alloc())?;
+        assert_eq!(rt; status.code, 2, "{part}");
+        assert!(rt; said.contains(part), "{said}");
+        assert!(rt; written.is_empty(), "{part}");
+    }
+    Ok(())
+}
+
+#[test]
+fn usage_lines_name_the_program(rt: HostRuntime) -> Result<(), Fail> {
+    let cases: [&[&str]; 4] = [
+        &["out/flame_tool"],
+        &["out/flame_tool", "nope"],
+        &["out/flame_tool", "top", "--help"],
+        &["out/flame_tool", "fold", "--by", "cum"],
+    ];
+    for (place, words) in cases.iter().enumerate() {
+        let (status, _) = run_on(&rt, rt.alloc(), words, STORED, MAX_INPUT);
+        let said = status.cause.to_string(rt.alloc())?;
+        assert!(rt; said.contains("\nUsage: flame "), "{place}");
+        assert!(rt; !said.contains("flame_tool"), "{place}");
+    }
+    Ok(())
+}

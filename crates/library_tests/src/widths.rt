@@ -1,5 +1,7 @@
 //! Rows of three and of four values in each call that takes values, worked by hand.
 
+ghost use Rattle.std.specs.Prelude.{◌<◌};
+
 use crate::helpers::{all_text, batch_of as made_batch, grower_of};
 use call_tree::CallTree;
 use folded_text::report_of_stack_texts;
@@ -85,13 +87,21 @@ fn trees_have_each_value(rt: HostRuntime) -> Result<(), Fail> {
     Ok(())
 }
 
+// The folded report of a value, by the texts of its stacks.
+fn folded_by_texts(alloc: Global, tree: &CallTree, value: u32) -> Result<Vec<u8>, Fail>
+    requires { value < tree.now.width }
+{
+    let texts = tree.stack_texts(alloc, value)?;
+    Ok(report_of_stack_texts(alloc, texts.as_slice())?)
+}
+
 // What a tree has of a value: its stacks from their names, these from their texts, and its names.
 fn value_of_tree(alloc: Global, tree: &CallTree, value: u32) -> Result<String, Fail> {
     if value >= tree.width().get() {
         return Err("no such value".into());
     }
     let stacks = write_stacks(alloc, &tree.weighted_stacks(alloc, value)?)?;
-    let texts = report_of_stack_texts(alloc, tree.stack_texts(alloc, value)?.as_slice())?;
+    let texts = folded_by_texts(alloc, tree, value)?;
     if texts.as_slice() != stacks.as_slice() {
         return Err("the texts are others".into());
     }

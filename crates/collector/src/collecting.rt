@@ -81,7 +81,8 @@ fn collect_in<N: StoreName, R: Threads + Wait + Clock + Eprint + Sync>(
     let logs = work_watched(rt, alloc, &store, windows);
     let journal = store.close(rt);
     let Logs { earlier, last } = logs?;
-    report_of_logs(alloc, &journal, earlier, last)
+    let text = report_of_logs(alloc, &journal, earlier, last)?;
+    Ok(text)
 }
 
 /// What the watching thread asks for.

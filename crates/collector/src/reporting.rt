@@ -39,7 +39,9 @@ pub(crate) fn report_of_logs(
     logs.append(&mut last)?;
     audit(alloc, journal, logs.as_slice())?;
     logs_add_up();
-    folded_report(alloc, journal.tree())
+    let _ = journal.width();
+    let text = folded_report(alloc, journal.tree())?;
+    Ok(text)
 }
 
 /// The folded report of a tree.

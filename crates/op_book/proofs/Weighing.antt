@@ -13,7 +13,7 @@ use Rattle.profile_rows.specs.Rows.{is_same_stack, weight_if, weight_of}
 use Rattle.profile_rows.specs.Values.{BatchState, Row, rows_at, weighing}
 use Rattle.op_book.specs.Logs.{counting_from, place_told, rows_from, rows_logged}
 use Rattle.op_book.specs.Matching.{LoggedReceipt, PlainStep, logged, logged_after, logged_from, step_of, steps_in}
-use Rattle.op_book.specs.Operations.{PlainEntry, PlainOp, PlainReceipt, PlainReply, add, reset, ask, placed, answered, addition_of, batches_after, changes_in, is_change, is_reset, operations_of, plain_answer, profile_after, rows_added}
+use Rattle.op_book.specs.Operations.{PlainEntry, PlainOp, PlainReceipt, PlainReply, add, reset, ask, placed, addition_of, batches_after, changes_in, is_change, is_reset, operations_of, plain_answer, profile_after, rows_added}
 use Rattle.op_book.specs.Runs.{IsLegal}
 use Rattle.op_book.specs.declared.entry.SessionLog.{SessionLog}
 use Rattle.op_book.proofs.Counting.{either}
@@ -153,10 +153,11 @@ in_place before [] legal = tt
 in_place before (step ∷ run) legal =
     let parts = sum_by-append (λ op. cond (is_change op) 1 0) before (step.op ∷ []) in
     let last = sum_by-cons (λ op. cond (is_change op) 1 0) step.op [] in
-    let count : changes_in (before ++ step.op ∷ []) ≡ changes_in before + cond (is_change step.op) 1 0 = omega (arith, parts, last) in
-    ( (λ change. legal 0 step (omega arith) ∙ ap (λ ops. plain_answer ops step.op) (append-nil before) ∙ told_place before step.op change)
-    , subst (λ n. AreInPlace n run) count (in_place (before ++ step.op ∷ []) run (λ at item lt.
-        legal (suc at) item (omega (arith, lt)) ∙ ap (λ ops. plain_answer ops (get_or run at item).op) (sym (append_assoc before (step.op ∷ []) (map (λ (step : PlainStep). step.op) (take at run)))))))
+    let count : changes_in (before ++ step.op ∷ []) ≡ changes_in before + cond (is_change step.op) 1 0 = omega (arith, parts, last) in (
+      (λ change. legal 0 step (omega arith) ∙ ap (λ ops. plain_answer ops step.op) (append-nil before) ∙ told_place before step.op change),
+      subst (λ n. AreInPlace n run) count (in_place (before ++ step.op ∷ []) run (λ at item lt.
+          legal (suc at) item (omega (arith, lt)) ∙ ap (λ ops. plain_answer ops (get_or run at item).op) (sym (append_assoc before (step.op ∷ []) (map (λ (step : PlainStep). step.op) (take at run)))))),
+    )
 
 -- a report adds nothing
 report_adds : (from value : ℕ) (stack : List (List ℕ)) (op : PlainOp) (reply : PlainReply) → is_change op ≡ false → added_from from value stack op reply ≡ 0
@@ -253,6 +254,7 @@ batches_from (op ∷ later) = by_case (list_any is_reset later) refl (batches_fr
         ∙ ap (λ batches. addition_of op ++ batches) all
         ∙ count_first later op
         ∙ ap (λ b. flat_map addition_of (drop (cond b (suc (counting_from later)) (cond (is_reset op) 1 0)) (op ∷ later))) (sym none)
+
 -- a test that is false changes nothing
 neither : (b : Bool) → (b || false) ≡ b
 neither true = refl
@@ -282,12 +284,15 @@ counting_from-more entries i behind entry lt is told =
   where
     so_far : List PlainOp
     so_far = operations_of (take i entries)
+
     size : length so_far ≡ i
     size = length-map (take i entries) (λ (entry : PlainEntry). entry.op) ∙ length-take-le i entries (omega (arith, lt))
+
     reset_is : (op : PlainOp) → is_reset op ≡ true → op ≡ reset
     reset_is (add batch) is = absurd (cc)
     reset_is reset is = refl
     reset_is (ask query) is = absurd (cc)
+
     by_case : (b : Bool) → is_reset entry.op ≡ b → cond b (i + 1) (counting_from so_far) ≡ counting_from (so_far ++ entry.op ∷ [])
     by_case true is =
         let count = counting_from-reset so_far in

@@ -1,5 +1,5 @@
 -- What logs tell of the rows that count.
-use Prim.Native.Nat.{zero, suc}
+use Prim.Native.Nat.{suc}
 use Rattle.std.specs.Prelude.{ℕ, List, [], ◌∷◌, cond, nat_le, if◌then◌else◌}
 use Rattle.std.specs.List.{flat_map, list_any}
 use Rattle.profile_rows.specs.Values.{Row}

@@ -26,6 +26,7 @@ pub use Rattle.profile_rows.specs.OwnedRows
 pub use Rattle.profile_rows.specs.Paths
 pub use Rattle.profile_rows.specs.Pushing
 pub use Rattle.profile_rows.specs.Rows
+pub use Rattle.profile_rows.specs.StackTexts
 pub use Rattle.profile_rows.specs.TopList
 pub use Rattle.profile_rows.specs.Values
 pub use Rattle.profile_samples.specs.Batches

@@ -9,33 +9,125 @@
 
 pub mod laws;
 
-pub use call_tree::{CallTree, Grower, Plan};
-pub use flame_report::{
-    Answer, Columns, Flame, Items, Kind, Label, MAX_COLUMNS, Query, Rank, Rect, Top, TopRow,
-    flame_json, report, report_of, report_of_stacks, report_of_stacks_with, report_of_with,
-    top_list, top_text,
-};
+pub use call_tree::CallTree;
+pub use call_tree::Grower;
+pub use call_tree::Plan;
+pub use flame_report::Answer;
+pub use flame_report::Columns;
+pub use flame_report::Flame;
+pub use flame_report::Items;
+pub use flame_report::Kind;
+pub use flame_report::Label;
+pub use flame_report::MAX_COLUMNS;
+pub use flame_report::Query;
+pub use flame_report::Rank;
+pub use flame_report::Rect;
+pub use flame_report::Top;
+pub use flame_report::TopRow;
+pub use flame_report::flame_json;
+pub use flame_report::report;
+pub use flame_report::report_of;
+pub use flame_report::report_of_stacks;
+pub use flame_report::report_of_stacks_with;
+pub use flame_report::report_of_with;
+pub use flame_report::top_list;
+pub use flame_report::top_text;
 pub use folded_text::report_of_stack_texts;
-pub use live_store::{
-    Blank, Cause, Gate, MAX_SESSIONS, MakeFault, Placed, Session, SessionFault, Stop, Store,
-    StoreName, Told, Worked, WorkersFault, run_workers,
-};
-pub use op_book::{
-    AuditFault, Book, BookFault, Entry, Journal, Op, Ready, Receipt, Refused as RefusedChange,
-    Reply, Run, RunStep, SessionLog, audit, audit_with,
-};
-pub use pprof_profile::{
-    Draft, Function, Items as ProfileItems, Label as SampleLabel, Line, Location, Mapping, Profile,
-    ProfileFault, Refused as RefusedDraft, Sample, Text, ValueType, WireFault, check, decode,
-    encode,
-};
-pub use profile_rows::{StackText, aggregate_stacks};
-pub use stack_text::{
-    Batch, BatchFault, FoldedFault, FrameTotal, FrameTotals, Hashing, MAX_DEPTH, MAX_TOTAL,
-    MAX_WIDTH, Name, NameFault, NoMemory, OwnedRow, PushFault, Refused, Row, Rows, Stack,
-    ValueChoice, ValueUnit, WeightedStack, WeightedStacks, Weights, Width, aggregate, batch_of,
-    batch_of_with, export_folded, export_folded_with, first_heavy, folded_report,
-    folded_report_with, folded_totals, folded_totals_with, keeps, kept_totals, kept_totals_with,
-    merge_folded, merge_folded_with, merge_samples, merge_samples_with, profile_of, read_folded,
-    read_folded_with, sample_totals, sample_totals_with, unfold, write_folded, write_stacks,
-};
+pub use live_store::Blank;
+pub use live_store::Cause;
+pub use live_store::Gate;
+pub use live_store::MAX_SESSIONS;
+pub use live_store::MakeFault;
+pub use live_store::Placed;
+pub use live_store::Session;
+pub use live_store::SessionFault;
+pub use live_store::Stop;
+pub use live_store::Store;
+pub use live_store::StoreName;
+pub use live_store::Told;
+pub use live_store::Worked;
+pub use live_store::WorkersFault;
+pub use live_store::run_workers;
+pub use op_book::AuditFault;
+pub use op_book::Book;
+pub use op_book::BookFault;
+pub use op_book::Entry;
+pub use op_book::Journal;
+pub use op_book::Op;
+pub use op_book::Ready;
+pub use op_book::Receipt;
+pub use op_book::Refused as RefusedChange;
+pub use op_book::Reply;
+pub use op_book::Run;
+pub use op_book::RunStep;
+pub use op_book::SessionLog;
+pub use op_book::audit;
+pub use op_book::audit_with;
+pub use pprof_profile::Draft;
+pub use pprof_profile::Function;
+pub use pprof_profile::Items as ProfileItems;
+pub use pprof_profile::Label as SampleLabel;
+pub use pprof_profile::Line;
+pub use pprof_profile::Location;
+pub use pprof_profile::Mapping;
+pub use pprof_profile::Profile;
+pub use pprof_profile::ProfileFault;
+pub use pprof_profile::Refused as RefusedDraft;
+pub use pprof_profile::Sample;
+pub use pprof_profile::Text;
+pub use pprof_profile::ValueType;
+pub use pprof_profile::WireFault;
+pub use pprof_profile::check;
+pub use pprof_profile::decode;
+pub use pprof_profile::encode;
+pub use profile_rows::StackText;
+pub use profile_rows::aggregate_stacks;
+pub use stack_text::Batch;
+pub use stack_text::BatchFault;
+pub use stack_text::FoldedFault;
+pub use stack_text::FrameTotal;
+pub use stack_text::FrameTotals;
+pub use stack_text::Hashing;
+pub use stack_text::MAX_DEPTH;
+pub use stack_text::MAX_TOTAL;
+pub use stack_text::MAX_WIDTH;
+pub use stack_text::Name;
+pub use stack_text::NameFault;
+pub use stack_text::NoMemory;
+pub use stack_text::OwnedRow;
+pub use stack_text::PushFault;
+pub use stack_text::Refused;
+pub use stack_text::Row;
+pub use stack_text::Rows;
+pub use stack_text::Stack;
+pub use stack_text::ValueChoice;
+pub use stack_text::ValueUnit;
+pub use stack_text::WeightedStack;
+pub use stack_text::WeightedStacks;
+pub use stack_text::Weights;
+pub use stack_text::Width;
+pub use stack_text::aggregate;
+pub use stack_text::batch_of;
+pub use stack_text::batch_of_with;
+pub use stack_text::export_folded;
+pub use stack_text::export_folded_with;
+pub use stack_text::first_heavy;
+pub use stack_text::folded_report;
+pub use stack_text::folded_report_with;
+pub use stack_text::folded_totals;
+pub use stack_text::folded_totals_with;
+pub use stack_text::keeps;
+pub use stack_text::kept_totals;
+pub use stack_text::kept_totals_with;
+pub use stack_text::merge_folded;
+pub use stack_text::merge_folded_with;
+pub use stack_text::merge_samples;
+pub use stack_text::merge_samples_with;
+pub use stack_text::profile_of;
+pub use stack_text::read_folded;
+pub use stack_text::read_folded_with;
+pub use stack_text::sample_totals;
+pub use stack_text::sample_totals_with;
+pub use stack_text::unfold;
+pub use stack_text::write_folded;
+pub use stack_text::write_stacks;

@@ -143,10 +143,7 @@ fn list_of(alloc: Global, deeds: &[Deed]) -> Result<Vec<Op>, Fail> {
 fn lists_of(alloc: Global, all: &[&[Deed]]) -> Result<Vec<Vec<Op>>, Fail> {
     let mut lists = Vec::new(alloc);
     for deeds in all {
-        lists
-            .push(list_of(alloc, deeds)?)
-            .ok()
-            .ok_or("no memory")?;
+        lists.push(list_of(alloc, deeds)?).ok().ok_or("no memory")?;
     }
     Ok(lists)
 }
@@ -312,7 +309,9 @@ fn gates_are_told_of_each_step_in_order(rt: HostRuntime) -> Result<(), Fail> {
     let said = counted(&rt, rt.alloc(), TEN_CHANGES, LONG_AND_SHORT)?;
     let said = said.as_str();
     assert!(rt;
-        said.starts_with("0: 300 None; 1: 2 Some(Stop { step: 2, cause: Book(Width { held: 1 }) }); ")
+        said.starts_with(
+            "0: 300 None; 1: 2 Some(Stop { step: 2, cause: Book(Width { held: 1 }) }); "
+        )
     );
     assert_eq!(rt; said.matches(".").count(), 302);
     assert!(rt; said.ends_with(" | next Ok(2); [600, 6] calls, 0 wrong"));
@@ -430,7 +429,10 @@ fn a_gate_holds_a_worker_around_its_step(rt: HostRuntime) -> Result<(), Fail> {
     };
     let lists: &[&[Deed]] = &[&[Deed::Add("a 1\n")], &[Deed::Total(0); 3]];
     let said = story(&rt, rt.alloc(), TEN_CHANGES, lists, &gate)?;
-    assert_eq!(rt; said.as_str(), "0: 1 None; 1: 3 None; 1.0 0.0 1.1 1.2 | next Ok(2)");
+    assert_eq!(rt;
+        said.as_str(),
+        "0: 1 None; 1: 3 None; 1.0 0.0 1.1 1.2 | next Ok(2)"
+    );
     Ok(())
 }
 

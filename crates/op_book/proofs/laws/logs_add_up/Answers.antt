@@ -1,4 +1,3 @@
-use Rattle.std.proofs.Common.{◌≡◌}
 use Rattle.profile_rows.specs.Values.{rows_at}
 use Rattle.op_book.specs.Logs.{counting_from, rows_logged}
 use Rattle.op_book.specs.Operations.{profile_after}

@@ -1,8 +1,8 @@
-"""What benchmarks that run a proved program share: it is built outside the repository, and run on a file.
+"""What benchmarks and tools that run a proved program share: it is built outside the repository, and run on a file.
 
-A program NAME is NAME.rattle in this folder, with what its proof needs in NAME.proofs. It is proved and linked in a
-copy of the crates below it, since the gate doesn't know of it. Where the copy's folder is kept, the next run proves only
-what changed.
+A program NAME is NAME.rattle in this folder or another, with what its proof needs in NAME.proofs. It is proved and
+linked in a copy of the crates below it, since the gate doesn't know of it. Where the copy's folder is kept, the next run
+proves only what changed.
 """
 import pathlib
 import shutil
@@ -54,9 +54,9 @@ def write_list(crates, folder):
     shutil.copyfile(TOP / "HANDLES", folder / "HANDLES")
 
 
-def copy_program(name, libraries, folder):
+def copy_program(name, libraries, folder, at=TOP / "bench"):
     """Copies a program over these libraries, with all crates below it, and returns the folder of the crates."""
-    at, crates = TOP / "bench", folder / "crates"
+    crates = folder / "crates"
     below = crates_below(libraries)
     for crate in below:
         copy_crate(crate, crates)

@@ -1,10 +1,10 @@
 //! A service that collects stacks: `collector FILE.. [reset FILE..]..`.
 //!
-//! Each file is read as folded text, or as a profile where its name ends with `.pb`, and has a thread that adds its rows
-//! to one store, some hundred lines at a time. Meanwhile another thread asks the store for its top list, again and again
-//! and without its lock, and shows each on the standard error. The word `reset` ends a window of time: the store is
-//! emptied once the threads before it are done. In the end all that the threads were told is audited, and the folded
-//! report of the last window goes to the standard output: the same for every schedule (`collect`).
+//! Each file is read as folded text, or as a profile where its name ends with `.pb`, and has a thread that adds its
+//! rows to one store, some hundred lines at a time. Meanwhile another thread asks the store for its top list, again
+//! and again and without its lock, and shows each on the standard error. The word `reset` ends a window of time: the
+//! store is emptied once the threads before it are done. In the end all that the threads were told is audited, and the
+//! folded report of the last window goes to the standard output: the same for every schedule (`collect`).
 #![tactic(auto)]
 
 mod collecting;

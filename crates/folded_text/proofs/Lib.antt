@@ -11,5 +11,6 @@ pub mod StackOrder
 pub mod StackTexts
 pub mod TextRows
 pub mod TextSums
+pub mod Waiting
 pub mod WorkedTexts
 pub mod Writing

@@ -1,6 +1,6 @@
 -- Rows by their stack texts, and the report that they make.
 use Rattle.std.proofs.Common.{◌≡◌, ℕ, ◌+◌, ◌<◌, ◌≤◌, ◌^◌, Bool, true, false, cond, eqb, List, [], ◌∷◌, ◌++◌, length, filter, get_or, set, refl, sym, ap, ◌∙◌, subst, inl, inr, arith, length-append}
-use Rattle.std.specs.Prelude.{All, IfOk, IsPermutation, IsSorted, MatchResult, Option, Some, None, Result, Ok, Err, ◌==◌, not, sum_by}
+use Rattle.std.specs.Prelude.{All, IfOk, IfSome, IsPermutation, IsSorted, MatchResult, Option, Some, None, Result, Ok, Err, ◌==◌, not, sum_by}
 use Rattle.std.specs.List.{AllByRecursion, join_with_byte, slice_split}
 use Rattle.std.specs.Fmt.{decimal}
 use Rattle.std.specs.HashMap as hash
@@ -17,7 +17,7 @@ use Rattle.std.proofs.lemmas.Map.Text.{hash_map_updates_str}
 use borrow.Author.Tests.{ne_eqb}
 use Prim.Native.Nat.{zero, suc}
 use Rattle.profile_rows.specs.declared.weighted_stacks.WeightedStack.{WeightedStack}
-use Rattle.profile_rows.specs.Aggregate.{AreWeighty, IsAscending, rows_of}
+use Rattle.profile_rows.specs.Aggregate.{AreWeighty, IsAscending, aggregate_of, rows_of}
 use Rattle.profile_rows.specs.Merging.{ArePlacedBy, RowsBySpelling, row_at, row_spelled, with_added_at}
 use Rattle.profile_rows.specs.Rows.{is_same_stack, stack_cmp, total_of, weight_if}
 use Rattle.profile_rows.proofs.InOrder.{rows_of-aggregate}
@@ -27,9 +27,9 @@ use Rattle.profile_rows.proofs.SameNames.{is_same_name-self, same_from_is_same_n
 use Rattle.folded_text.specs.declared.folded.FoldedFault.{FoldedFault}
 use Rattle.folded_text.specs.declared.folded.FoldedFault.TheVariants.{NoMemory}
 use Rattle.folded_text.specs.FoldedText.{IsFoldedText, IsWorkFault, folded_text_of, frames_of, row_text, rows_text}
-use Rattle.folded_text.specs.StackOrder.{IsJoined, stack_text_cmp}
+use Rattle.folded_text.specs.StackOrder.{IsJoined}
 use Rattle.folded_text.specs.declared.text_rows.TextRow.{TextRow}
-use Rattle.folded_text.specs.TextRows.{AreKnownTexts, AreTextRows, IsReportOfText, one_if_known, rows_with, spelled_row, spelled_rows, text_lines}
+use Rattle.folded_text.specs.TextRows.{AreKnownTexts, AreTextRows, IsReportOfText, IsStackText, by_text, one_if_known, rows_with, spelled_row, spelled_rows, text_lines}
 use Rattle.folded_text.proofs.Reading.{IsFirstFault-folded, IsFoldedText-same}
 use Rattle.folded_text.proofs.StackOrder.{joined_texts-cmp, stack_text_cmp_total}
 
@@ -127,6 +127,8 @@ module _ (rows : List TextRow) (at weight : ℕ) (found : TextRow) (lt : at < le
             omega (arith, moved, same, before);
         weighty = All-set (λ (row : TextRow). 0 < row.weight) rows at more
             (let some : 0 < found.weight = subst (λ (r : TextRow). 0 < r.weight) (sym is) (so_far.weighty at found lt) in omega (arith, some)) so_far.weighty;
+        spelled = All-set (λ (row : TextRow). IsStackText row.text.now) rows at more
+            (subst (λ (r : TextRow). IsStackText r.text.now) (sym is) (so_far.spelled at found lt)) so_far.spelled;
         joined = λ e. All-set (λ (row : TextRow). IsJoined row.text.now) rows at more
             (subst (λ (r : TextRow). IsJoined r.text.now) (sym is) (so_far.joined e at found lt)) (so_far.joined e);
         total_is = ap (λ t. t + weight) total_is ∙ sym adds.total ∙ ap total_of (sym spelled-added);
@@ -138,23 +140,25 @@ spelled-push rows all row is = ap spelled_rows is ∙ map-append spelled_row row
 
 pub AreKnownTexts-push : (known after : RowsBySpelling) (rows all : List TextRow) (row : TextRow) (total place : ℕ) (are_joined both : Bool) → place ≡ length rows
     → hash.UpdatesBy (λ x y. bytes_eq x.now y.now) (λ k. bytes_eq row.text.now k.now) known after (Some place) → all ≡ rows ++ row ∷ [] → row_spelled known row.text.now ≡ None
-    → length (frames_of row.text.now) ≤ 65535 → 0 < row.weight → total + row.weight < 2 ^ 63 → (both ≡ true → (are_joined ≡ true) × IsJoined row.text.now)
+    → IsStackText row.text.now → 0 < row.weight → total + row.weight < 2 ^ 63 → (both ≡ true → (are_joined ≡ true) × IsJoined row.text.now)
     → AreKnownTexts known rows total are_joined → AreKnownTexts after all (total + row.weight) both
-AreKnownTexts-push known after rows all row total place are_joined both end updates is none deep some fits joins so_far = record {
-  placed = ArePlacedBy-push frames_of known after (spelled_rows rows) (spelled_rows all) row.text.now row.weight place (end ∙ sym (length-map rows spelled_row)) updates (spelled-push rows all row is) deep so_far.placed;
-  counted = λ text.
-      let leads = hash_map_updates_str row.text.now known after (Some place) updates text in
-      let before = so_far.counted text in
-      ap (rows_with text) is ∙ sum_by_push (has text) rows row
-      ∙ elim (bytes_eq row.text.now text) as (λ b. bytes_eq row.text.now text ≡ b → rows_with text rows + cond b 1 0 ≡ one_if_known (cond b (Some place) (row_spelled known text))) [
+AreKnownTexts-push known after rows all row total place are_joined both end updates is none text some fits joins so_far = record {
+  placed = ArePlacedBy-push frames_of known after (spelled_rows rows) (spelled_rows all) row.text.now row.weight place (end ∙ sym (length-map rows spelled_row)) updates (spelled-push rows all row is) text.0 so_far.placed;
+  counted = λ other.
+      let leads = hash_map_updates_str row.text.now known after (Some place) updates other in
+      let before = so_far.counted other in
+      ap (rows_with other) is ∙ sum_by_push (has other) rows row
+      ∙ elim (bytes_eq row.text.now other) as (λ b. bytes_eq row.text.now other ≡ b → rows_with other rows + cond b 1 0 ≡ one_if_known (cond b (Some place) (row_spelled known other))) [
         | true ↦ λ e.
-            let unknown : row_spelled known text ≡ None = subst (λ t. row_spelled known t ≡ None) (same_from_is_same_name row.text.now text e) none in
-            let nothing : rows_with text rows ≡ 0 = before ∙ ap one_if_known unknown in
+            let unknown : row_spelled known other ≡ None = subst (λ t. row_spelled known t ≡ None) (same_from_is_same_name row.text.now other e) none in
+            let nothing : rows_with other rows ≡ 0 = before ∙ ap one_if_known unknown in
             omega (arith, nothing)
         | false ↦ λ e. omega (arith, before)
       ] refl
       ∙ ap one_if_known (sym leads);
   weighty = subst (All (λ (row : TextRow). 0 < row.weight)) (sym is) (All-push (λ (row : TextRow). 0 < row.weight) rows row so_far.weighty some);
+  spelled = subst (All (λ (row : TextRow). IsStackText row.text.now)) (sym is)
+      (All-push (λ (row : TextRow). IsStackText row.text.now) rows row so_far.spelled text);
   joined = λ e. subst (All (λ (row : TextRow). IsJoined row.text.now)) (sym is)
       (All-push (λ (row : TextRow). IsJoined row.text.now) rows row (so_far.joined (joins e).0) (joins e).1);
   total_is = ap (λ t. t + row.weight) so_far.total_is ∙ sym (sum_by_push (λ (r : WeightedStack). r.weight) (spelled_rows rows) (spelled_row row)) ∙ ap total_of (sym (spelled-push rows all row is));
@@ -173,10 +177,31 @@ AreTextRows-known known rows total are_joined e so_far = record {
     at_most None = omega arith
     at_most (Some at) = omega arith
 
--- ---- rows in the order of their texts
+-- no rows yet
+pub AreKnownTexts-none : (known : RowsBySpelling) (rows : List TextRow) (total : ℕ) (are_joined : Bool) → rows ≡ [] → total ≡ 0 → ((text : List ℕ) → row_spelled known text ≡ None) → AreKnownTexts known rows total are_joined
+AreKnownTexts-none known rows total are_joined is nothing unknown = record {
+  placed = λ text. subst (λ o. IfSome o (λ at. (at < length (spelled_rows rows)) × ((row_at (spelled_rows rows) at).stack ≡ frames_of text) × (length (frames_of text) ≤ 65535))) (sym (unknown text)) tt;
+  counted = λ text. ap (rows_with text) is ∙ ap one_if_known (sym (unknown text));
+  weighty = subst (All (λ (row : TextRow). 0 < row.weight)) (sym is) (λ at d lt. absurd (omega (arith, lt)));
+  spelled = subst (All (λ (row : TextRow). IsStackText row.text.now)) (sym is) (λ at d lt. absurd (omega (arith, lt)));
+  joined = λ e. subst (All (λ (row : TextRow). IsJoined row.text.now)) (sym is) (λ at d lt. absurd (omega (arith, lt)));
+  total_is = nothing ∙ ap (λ rs. total_of (spelled_rows rs)) (sym is);
+  fits = omega (arith, nothing);
+}
 
-abbrev pub by_text : TextRow → TextRow → Ordering
-by_text row other = stack_text_cmp row.text.now other.text.now
+-- what is known of rows so far, without the look-ups
+pub spelled-within : (known : RowsBySpelling) (rows : List TextRow) (total : ℕ) (are_joined : Bool) → AreKnownTexts known rows total are_joined → total_of (spelled_rows rows) < 2 ^ 63
+spelled-within known rows total are_joined so_far = omega (arith, so_far.fits, so_far.total_is)
+
+-- sorted rows add up to the same
+pub spelled-moved : (rows sorted : List TextRow) → IsPermutation rows sorted → (aggregate_of (spelled_rows sorted) ≡ aggregate_of (spelled_rows rows)) × (total_of (spelled_rows sorted) ≡ total_of (spelled_rows rows))
+spelled-moved rows sorted moved =
+    let same = IsPermutation-map spelled_row rows sorted moved in (
+      aggregate_of-same (spelled_rows sorted) (spelled_rows rows) (λ stack. sum_by-IsPermutation (weight_if (is_same_stack stack)) (spelled_rows rows) (spelled_rows sorted) same),
+      sum_by-IsPermutation (λ (row : WeightedStack). row.weight) (spelled_rows rows) (spelled_rows sorted) same,
+    )
+
+-- ---- rows in the order of their texts
 
 AreTextRows-moved : (rows sorted : List TextRow) → IsPermutation rows sorted → AreTextRows rows → AreTextRows sorted
 AreTextRows-moved rows sorted moved texts = record {
@@ -249,8 +274,7 @@ lines-sorted rows sorted texts moved up =
     All-from_recursion (λ (row : WeightedStack). 0 < row.weight) (spelled_rows sorted) (weighty sorted (recursion_from_All (λ (row : TextRow). 0 < row.weight) sorted after.weighty)) in
     lines-joined sorted (recursion_from_All (λ (row : TextRow). IsJoined row.text.now) sorted after.joined)
     ∙ ap rows_text (sym (rows_of-aggregate (spelled_rows sorted) (ascending sorted after up) some))
-    ∙ ap (λ weights. rows_text (rows_of weights)) (aggregate_of-same (spelled_rows sorted) (spelled_rows rows)
-    (λ stack. sum_by-IsPermutation (weight_if (is_same_stack stack)) (spelled_rows rows) (spelled_rows sorted) (IsPermutation-map spelled_row rows sorted moved)))
+    ∙ ap (λ weights. rows_text (rows_of weights)) (spelled-moved rows sorted moved).0
 
 -- what is written where all is well is another text where the two are the same
 pub as_text : {T E : Type 0} (bytes : T → List ℕ) (outcome : Result T E) (text other : List ℕ) → text ≡ other → IfOk outcome (λ written. bytes written ≡ text) → IfOk outcome (λ written. bytes written ≡ other)

@@ -1,7 +1,8 @@
 -- Rows whose stacks are known by their texts.
-use Rattle.std.specs.Prelude.{ℕ, ◌≡◌, ◌<◌, ◌≤◌, ◌^◌, All, Bool, true, List, ◌++◌, ◌∷◌, [], Option, Some, None, flat_map, map, sum_by, if◌then◌else◌}
+use Rattle.std.specs.Prelude.{ℕ, ◌≡◌, ◌≢◌, ◌<◌, ◌≤◌, ◌^◌, All, Bool, true, length, List, ◌++◌, ◌∷◌, [], Option, Some, None, flat_map, map, sum_by, if◌then◌else◌}
 use Rattle.std.specs.Fmt.{decimal}
 use Rattle.std.specs.Str.{bytes_eq}
+use Rattle.std.specs.declared.cmp.Ordering.{Ordering}
 use Rattle.profile_rows.specs.declared.weighted_stacks.WeightedStack.{WeightedStack}
 use Rattle.profile_rows.specs.Aggregate.{aggregate_of}
 use Rattle.profile_rows.specs.Merging.{ArePlacedBy, RowsBySpelling, row_spelled}
@@ -9,7 +10,8 @@ use Rattle.profile_rows.specs.Rows.{total_of}
 use Rattle.profile_rows.specs.StackTexts.{TextState}
 use Rattle.folded_text.specs.declared.text_rows.TextRow.{TextRow}
 use Rattle.folded_text.specs.FoldedText.{IsFoldedText, folded_text_of, frames_of}
-use Rattle.folded_text.specs.StackOrder.{IsJoined}
+use Rattle.folded_text.specs.declared.text_rows.TextRows.{TextRows}
+use Rattle.folded_text.specs.StackOrder.{IsJoined, stack_text_cmp}
 
 -- the row that a stack text and a weight spell
 abbrev pub spelled_row : TextRow → WeightedStack
@@ -31,6 +33,14 @@ abbrev pub one_if_known : Option ℕ → ℕ
 one_if_known None = 0
 one_if_known (Some at) = 1
 
+-- the text of a stack that a row can have, as it stands in a line
+abbrev pub IsStackText : List ℕ → Type 0
+IsStackText text = (length (frames_of text) ≤ 65535) × All (λ (byte : ℕ). byte ≢ 10) text
+
+-- rows in the order of their texts
+abbrev pub by_text : TextRow → TextRow → Ordering
+by_text row other = stack_text_cmp row.text.now other.text.now
+
 -- Rows of weight above 0, one for each stack text, whose stack texts have no empty frames: they are in the order of
 -- stacks where their texts are in the order of texts.
 pub record AreTextRows (rows : List TextRow) : Type 0 where
@@ -44,16 +54,17 @@ pub record AreKnownTexts (known : RowsBySpelling) (rows : List TextRow) (total :
   pub placed : ArePlacedBy frames_of known (spelled_rows rows)
   pub counted : (text : List ℕ) → rows_with text rows ≡ one_if_known (row_spelled known text)
   pub weighty : All (λ (row : TextRow). 0 < row.weight) rows
+  pub spelled : All (λ (row : TextRow). IsStackText row.text.now) rows
   pub joined : are_joined ≡ true → All (λ (row : TextRow). IsJoined row.text.now) rows
   pub total_is : total ≡ total_of (spelled_rows rows)
   pub fits : total < 2 ^ 63
 
--- the rows add up to what the text is folded text of
-pub record AreRowsOfText (text : List ℕ) (found : List TextRow) : Type 0 where
-  pub texts : AreTextRows found
+-- the sums are rows by their texts, which add up to what the text is folded text of
+pub record AreSumsOfText (text : List ℕ) (sums : TextRows) : Type 0 where
+  pub known : AreKnownTexts sums.known sums.rows.items sums.total sums.are_joined
   pub rows : List WeightedStack
   pub folded : IsFoldedText text rows
-  pub same : aggregate_of (spelled_rows found) ≡ aggregate_of rows
+  pub same : aggregate_of (spelled_rows sums.rows.items) ≡ aggregate_of rows
 
 -- a row as a line of folded text, its stack as its text has it
 abbrev pub text_line : TextRow → List ℕ

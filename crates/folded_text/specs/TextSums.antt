@@ -1,10 +1,14 @@
 -- What the rows of a text add up to.
-use Rattle.std.specs.Prelude.{ℕ, ◌≡◌, List}
+use Rattle.std.specs.Prelude.{ℕ, ◌≡◌, List, [], Option, Some, None}
 use Rattle.profile_rows.specs.declared.weighted_stacks.WeightedStack.{WeightedStack}
+use Rattle.profile_rows.specs.declared.frame_totals.CountedRows.{CountedRows}
 use Rattle.profile_rows.specs.declared.frame_totals.FrameTotals.{FrameTotals}
 use Rattle.profile_rows.specs.Aggregate.{aggregate_of}
 use Rattle.profile_rows.specs.TopList.{AreTotalsOf}
+use Rattle.profile_rows.specs.Tallies.{AreTalliesOf}
 use Rattle.folded_text.specs.FoldedText.{IsFoldedText}
+use Rattle.folded_text.specs.declared.text_rows.TextRows.{TextRows}
+use Rattle.folded_text.specs.TextRows.{AreKnownTexts, spelled_rows}
 
 -- the rows add up to what the text is folded text of
 pub record IsMergedText (text : List ℕ) (merged : List WeightedStack) : Type 0 where
@@ -17,3 +21,10 @@ pub record AreTotalsOfText (text : List ℕ) (totals : FrameTotals) : Type 0 whe
   pub rows : List WeightedStack
   pub folded : IsFoldedText text rows
   pub totals_rows : AreTotalsOf rows totals
+
+-- the rows wait to be counted, or are counted
+abbrev pub AreCounted : Option TextRows → CountedRows → List WeightedStack → Type 0
+AreCounted (Some sums) counted rows = (rows ≡ spelled_rows sums.rows.items)
+    × AreKnownTexts sums.known sums.rows.items sums.total sums.are_joined
+    × AreTalliesOf [] counted.total counted.tallies
+AreCounted None counted rows = AreTalliesOf rows counted.total counted.tallies

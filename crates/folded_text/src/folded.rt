@@ -86,7 +86,7 @@ fn weight_from(digits: &str) -> Option<u64>
 }
 
 /// How many frames a stack text has.
-fn depth_of(text: &str) -> usize
+pub(crate) fn depth_of(text: &str) -> usize
     ensures { result ≡ length (frames_of text.now) }
 {
     let mut rest = Frames::of(text);

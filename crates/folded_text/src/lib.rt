@@ -14,10 +14,10 @@ mod text_totals;
 mod written;
 
 pub use folded::{FoldedFault, Spelled, read_folded, read_folded_with, read_line};
-pub use merged_text::{merge_folded, merge_folded_with};
+pub use merged_text::merge_folded;
 pub use stack_frames::Frames;
 pub use stack_texts::report_of_stack_texts;
 pub use taking::{LineTaker, take_lines};
-pub use text_rows::{folded_report, folded_report_with};
-pub use text_totals::{folded_totals, folded_totals_with};
+pub use text_rows::folded_report;
+pub use text_totals::folded_totals;
 pub use written::{write_folded, write_stacks};

@@ -1,15 +1,16 @@
-//! The rows of folded text by their stack texts, and the folded report that they make without names.
+//! The rows of folded text by their stack texts: lines of one text are summed, and no name is made. So is its folded
+//! report.
 
-ghost use Rattle.std.specs.Prelude.{ℕ, ◌≡◌, ◌≢◌, ◌+◌, ◌^◌, ◌<◌, ◌≤◌, All, IfErr, IfOk, IfSome, IsTrue, List, MatchResult, None, OnOk, length, sum_by};
+ghost use Rattle.std.specs.Prelude.{ℕ, ◌≡◌, ◌≢◌, ◌+◌, ◌^◌, ◌<◌, ◌≤◌, [], All, IfErr, IfOk, IsPermutation, IsSorted, IsTrue, List, MatchResult, None, OnOk, length, sum_by};
 ghost use Rattle.profile_rows.specs.declared.weighted_stacks.WeightedStack.{WeightedStack};
 ghost use Rattle.profile_rows.specs.Merging.{AddsRow, AreMergedSoFar, row_spelled, with_added_at};
 ghost use Rattle.profile_rows.specs.Rows.{total_of};
 ghost use Rattle.folded_text.specs.FoldedText.{IsFirstFault, IsFoldedText, IsLineFault, IsRowLine, IsWorkFault, folded_text_of, frames_of};
 ghost use Rattle.folded_text.specs.StackOrder.{IsJoined};
-ghost use Rattle.folded_text.specs.TextRows.{AreKnownTexts, AreRowsOfText, AreTextRows, IsReportOfText, spelled_rows, text_lines};
+ghost use Rattle.folded_text.specs.TextRows.{AreKnownTexts, AreSumsOfText, AreTextRows, IsReportOfText, IsStackText, by_text, spelled_rows, text_lines};
 
 use crate::folded::{FoldedFault, fitting, stack_and_weight};
-use crate::merged_text::merge_folded_with;
+use crate::merged_text::stacks_of_texts;
 use crate::stack_frames::Frames;
 use crate::taking::{LineTaker, take_lines};
 use crate::text_order::cmp_stack_texts;
@@ -29,13 +30,28 @@ pub(crate) struct TextRow<'a> {
 
 /// Rows of weight above 0, one for each stack text.
 #[derive(Drop)]
-struct TextRows<'a> {
+pub(crate) struct TextRows<'a> {
     /// The place of each stack text's row.
-    known: HashMap<&'a str, usize, Hashing>,
-    rows: Vec<TextRow<'a>>,
-    total: u64,
+    pub(crate) known: HashMap<&'a str, usize, Hashing>,
+    pub(crate) rows: Vec<TextRow<'a>>,
+    pub(crate) total: u64,
     /// No stack text has an empty frame.
-    are_joined: bool,
+    pub(crate) are_joined: bool,
+}
+
+impl<'a> TextRows<'a> {
+    /// No row yet. Takes no memory.
+    pub(crate) fn new(alloc: Global, hashing: Hashing) -> TextRows<'a>
+        ensures known { AreKnownTexts result.known result.rows.items result.total result.are_joined }
+        ensures none { result.rows.items ≡ [] }
+    {
+        TextRows {
+            known: HashMap::with_hasher(alloc, hashing),
+            rows: Vec::new(alloc),
+            total: 0,
+            are_joined: true,
+        }
+    }
 }
 
 /// How many frames a stack text has, and how many bytes these have together.
@@ -91,7 +107,7 @@ fn push_text<'a>(
 ) -> Result<(), NoMemory>
     requires known { AreKnownTexts sums.old.known sums.old.rows.items sums.old.total sums.old.are_joined }
     requires new_text { row_spelled sums.old.known text.now ≡ None }
-    requires depth { length (frames_of text.now) ≤ 65535 }
+    requires spelled { IsStackText text.now }
     requires some { 0 < weight }
     requires fits { sums.old.total + weight < 2 ^ 63 }
     requires joined { IsTrue is_joined → IsJoined text.now }
@@ -118,7 +134,7 @@ fn add_text<'a>(
 ) -> Result<(), NoMemory>
     requires known { AreKnownTexts sums.old.known sums.old.rows.items sums.old.total sums.old.are_joined }
     requires new_text { row_spelled sums.old.known text.now ≡ None }
-    requires depth { length (frames_of text.now) ≤ 65535 }
+    requires spelled { IsStackText text.now }
     requires fits { sums.old.total + weight < 2 ^ 63 }
     requires joined { IsTrue is_joined → IsJoined text.now }
     ensures added { OnOk result
@@ -134,7 +150,12 @@ fn add_text<'a>(
 }
 
 /// Adds the row that a line spells, to the row of the same stack text where there is one.
-fn sum_line<'a>(sums: &mut TextRows<'a>, line: &'a [u8], number: u64) -> Result<(), FoldedFault>
+pub(crate) fn sum_line<'a>(
+    sums: &mut TextRows<'a>,
+    line: &'a [u8],
+    number: u64,
+) -> Result<(), FoldedFault>
+    requires one_line { All (λ byte. byte ≢ 10) line.now }
     requires known { AreKnownTexts sums.old.known sums.old.rows.items sums.old.total sums.old.are_joined }
     ensures added { OnOk result
         ((row : WeightedStack) × IsRowLine line.now row
@@ -164,28 +185,26 @@ impl<'a> LineTaker<'a> for TextRows<'a> {
     }
 }
 
-/// The rows of folded text by their stack texts, where none of these has an empty frame.
-fn read_text_rows<'a>(
+/// The rows of folded text by their stack texts.
+pub(crate) fn read_text_rows<'a>(
     alloc: Global,
     hashing: Hashing,
     text: &'a [u8],
-) -> Result<Option<Vec<TextRow<'a>>>, FoldedFault>
-    ensures { MatchResult result
-        (λ found. IfSome found (λ rows. AreRowsOfText text.now rows.items))
-        (λ fault. IsFirstFault text.now fault) }
+) -> Result<TextRows<'a>, FoldedFault>
+    ensures { MatchResult result (AreSumsOfText text.now) (IsFirstFault text.now) }
 {
-    let mut sums = TextRows {
-        known: HashMap::with_hasher(alloc, hashing),
-        rows: Vec::new(alloc),
-        total: 0,
-        are_joined: true,
-    };
+    let mut sums = TextRows::new(alloc, hashing);
     take_lines(text, &mut sums)?;
-    if sums.are_joined {
-        Ok(Some(sums.rows))
-    } else {
-        Ok(None)
-    }
+    Ok(sums)
+}
+
+/// Sorts rows by their texts.
+pub(crate) fn sort_by_text(rows: &mut Vec<TextRow>) -> Result<(), NoMemory>
+    ensures permutation { IsPermutation rows.old.items rows.new.items }
+    ensures sorted { OnOk result (IsSorted by_text rows.new.items) }
+{
+    rows.sort_by(|left, right| cmp_stack_texts(left.text, right.text))?;
+    Ok(())
 }
 
 /// The rows as lines of folded text, each stack as its text has it.
@@ -209,52 +228,38 @@ pub(crate) fn report_of_texts(alloc: Global, rows: Vec<TextRow>) -> Result<Vec<u
     ensures { IfOk result (λ report. report.items ≡ folded_text_of (spelled_rows rows.entry.items)) }
 {
     let mut rows = rows;
-    rows.sort_by(|left, right| cmp_stack_texts(left.text, right.text))?;
+    sort_by_text(&mut rows)?;
     write_text_rows(alloc, rows.as_slice())
 }
 
-/// The folded report of folded text by its stacks, name by name: also where stack texts have empty frames.
-fn report_of_stacks(alloc: Global, hashing: Hashing, text: &[u8]) -> Result<Vec<u8>, FoldedFault>
-    ensures { MatchResult result (λ report. IsReportOfText text.now report.items) (IsWorkFault text.now) }
+/// The folded report of rows by their stacks, name by name: also where stack texts have empty frames.
+fn report_of_stacks(alloc: Global, hashing: Hashing, rows: &[TextRow]) -> Result<Vec<u8>, NoMemory>
+    requires spelled { All (λ row. IsStackText row.text.now) rows.now }
+    requires fits { total_of (spelled_rows rows.now) < 2 ^ 63 }
+    ensures { IfOk result (λ report. report.items ≡ folded_text_of (spelled_rows rows.now)) }
 {
-    let merged = merge_folded_with(alloc, hashing, text)?;
-    let sums = aggregate_stacks(alloc, merged)?;
-    Ok(write_stacks(alloc, &sums)?)
+    let stacks = stacks_of_texts(alloc, hashing, rows)?;
+    let sums = aggregate_stacks(alloc, stacks)?;
+    write_stacks(alloc, &sums)
 }
 
 /// The folded report of the rows that [`read_folded`](crate::read_folded) reads: each stack of weight above 0 once,
-/// with its weight, in the order of stacks. Rows are put together and sorted by their texts, so that no name is kept.
+/// with its weight, in the order of stacks. Rows are put together and sorted by their texts, and no name is kept where
+/// no stack text has an empty frame. `hashing` says how stack texts and names are hashed.
 ///
 /// # Errors
 ///
 /// Those of [`read_folded`](crate::read_folded).
-pub fn folded_report(alloc: Global, text: &[u8]) -> Result<Vec<u8>, FoldedFault>
+pub fn folded_report(alloc: Global, hashing: Hashing, text: &[u8]) -> Result<Vec<u8>, FoldedFault>
     ensures reported { MatchResult result (λ report. IsReportOfText text.now report.items) (IsWorkFault text.now) }
     ensures accepted { (rows : List WeightedStack) → IsFoldedText text.now rows
         → MatchResult result (λ report. report.items ≡ folded_text_of rows)
         (λ fault. fault ≡ FoldedFault.NoMemory) }
 {
-    folded_report_with(alloc, Hashing::fixed(), text)
-}
-
-/// As [`folded_report`], and `hashing` says how stack texts and names are hashed.
-///
-/// # Errors
-///
-/// Those of [`read_folded`](crate::read_folded).
-pub fn folded_report_with(
-    alloc: Global,
-    hashing: Hashing,
-    text: &[u8],
-) -> Result<Vec<u8>, FoldedFault>
-    ensures reported { MatchResult result (λ report. IsReportOfText text.now report.items) (IsWorkFault text.now) }
-    ensures accepted { (rows : List WeightedStack) → IsFoldedText text.now rows
-        → MatchResult result (λ report. report.items ≡ folded_text_of rows)
-        (λ fault. fault ≡ FoldedFault.NoMemory) }
-{
-    match read_text_rows(alloc, hashing, text) {
-        Ok(Some(rows)) => Ok(report_of_texts(alloc, rows)?),
-        Ok(None) => report_of_stacks(alloc, hashing, text),
-        Err(fault) => Err(fault),
+    let sums = read_text_rows(alloc, hashing, text)?;
+    if sums.are_joined {
+        Ok(report_of_texts(alloc, sums.rows)?)
+    } else {
+        Ok(report_of_stacks(alloc, hashing, sums.rows.as_slice())?)
     }
 }

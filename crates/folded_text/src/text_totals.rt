@@ -1,17 +1,21 @@
 //! What the names weigh in the rows of folded text, counted while it is read.
 
-ghost use Rattle.std.specs.Prelude.{ℕ, ◌≡◌, ◌≢◌, ◌+◌, ◌^◌, ◌<◌, ◌++◌, ◌∷◌, [], All, List, MatchResult, IfErr, OnOk, map};
+ghost use Rattle.std.specs.Prelude.{ℕ, ◌≡◌, ◌≢◌, ◌+◌, ◌^◌, ◌<◌, ◌++◌, ◌∷◌, [], All, List, MatchResult, IfErr, None, OnOk, map};
 ghost use Rattle.profile_rows.specs.declared.weighted_stacks.WeightedStack.{WeightedStack};
+ghost use Rattle.profile_rows.specs.Merging.{AreMergedSoFar};
 ghost use Rattle.profile_rows.specs.Names.{IsName};
 ghost use Rattle.profile_rows.specs.Rows.{total_of};
 ghost use Rattle.profile_rows.specs.Tallies.{AreTalliesOf};
 ghost use Rattle.profile_rows.specs.TopList.{AreTotalsOf};
 ghost use Rattle.folded_text.specs.FoldedText.{IsFoldedText, IsLineFault, IsRowLine, IsWorkFault, frames_of};
-ghost use Rattle.folded_text.specs.TextSums.{AreTotalsOfText};
+ghost use Rattle.folded_text.specs.TextRows.{IsStackText, spelled_rows};
+ghost use Rattle.folded_text.specs.TextSums.{AreCounted, AreTotalsOfText};
 
 use crate::folded::{FoldedFault, fitting, fitting_depth, stack_and_weight};
 use crate::stack_frames::Frames;
 use crate::taking::{LineTaker, take_lines};
+use crate::text_rows::{TextRow, TextRows, sum_line};
+use no_memory::NoMemory;
 use profile_rows::{CountedRows, FrameTotals, Hashing};
 use std::alloc::{AllocError, Global};
 
@@ -55,41 +59,81 @@ fn count_line<'a>(
     Ok(rows.count(frames.as_slice(), weight)?)
 }
 
-/// A text whose rows are counted. The frames of a row take the place of others in the buffer.
+/// Counts rows, one after the other.
+fn count_rows<'a>(
+    counted: &mut CountedRows<'a>,
+    frames: &mut Vec<&'a str>,
+    rows: &[TextRow<'a>],
+) -> Result<(), NoMemory>
+    requires none { AreTalliesOf [] counted.old.total counted.old.tallies }
+    requires spelled { All (λ row. IsStackText row.text.now) rows.now }
+    requires fits { total_of (spelled_rows rows.now) < 2 ^ 63 }
+    ensures { OnOk result (AreTalliesOf (spelled_rows rows.now) counted.new.total counted.new.tallies) }
+{
+    for row in rows {
+        replace_by_text(frames, row.text)?;
+        counted.count(frames.as_slice(), row.weight)?;
+    }
+    Ok(())
+}
+
+/// How many stack texts wait before it is looked at whether that saves work.
+const FIRST_TEXTS: u64 = 4096;
+
+/// Whether so many lines had so few stack texts that waiting for more lines of these saves work.
+fn saves_work(texts: u64, lines: u64) -> bool {
+    texts < FIRST_TEXTS || lines / 2 >= texts
+}
+
+/// A text whose rows are counted by the names of their frames. Those of one stack text wait to be counted together, as
+/// long as that saves work. The frames of a row take the place of others in the buffer.
 #[derive(Drop)]
 struct Counting<'a> {
-    rows: CountedRows<'a>,
+    /// The rows that wait. There are none once rows are counted.
+    waiting: Option<TextRows<'a>>,
+    counted: CountedRows<'a>,
     frames: Vec<&'a str>,
 }
 
-impl<'a> LineTaker<'a> for Counting<'a> {
-    ghost is_of = { λ counting rows. AreTalliesOf rows counting.rows.total counting.rows.tallies };
-
-    fn take_line(&mut self, line: &'a [u8], number: u64) -> Result<(), FoldedFault> {
-        count_line(&mut self.rows, &mut self.frames, line, number)
+impl<'a> Counting<'a> {
+    /// Counts the rows that wait.
+    fn count_waiting(&mut self) -> Result<(), NoMemory>
+        requires { (merged : List WeightedStack) × AreCounted self.old.waiting self.old.counted merged }
+        ensures none { OnOk result (self.new.waiting ≡ None) }
+        ensures counted { (merged : List WeightedStack) → AreCounted self.old.waiting self.old.counted merged
+            → OnOk result (AreTalliesOf merged self.new.counted.total self.new.counted.tallies) }
+    {
+        if let Some(sums) = self.waiting.take() {
+            count_rows(&mut self.counted, &mut self.frames, sums.rows.as_slice())?;
+        }
+        Ok(())
     }
 }
 
-/// What the names weigh in the rows that [`read_folded`](crate::read_folded) reads. The rows are counted while they are
-/// read, and not kept: memory is for the names.
-///
-/// # Errors
-///
-/// Those of [`read_folded`](crate::read_folded).
-pub fn folded_totals(alloc: Global, text: &[u8]) -> Result<FrameTotals, FoldedFault>
-    ensures counted { MatchResult result (AreTotalsOfText text.now) (IsWorkFault text.now) }
-    ensures accepted { (rows : List WeightedStack) → IsFoldedText text.now rows
-        → MatchResult result (AreTotalsOf rows) (λ fault. fault ≡ FoldedFault.NoMemory) }
-{
-    folded_totals_with(alloc, Hashing::fixed(), text)
+impl<'a> LineTaker<'a> for Counting<'a> {
+    ghost is_of = { λ counting rows. (merged : List WeightedStack) × AreMergedSoFar rows merged
+        × AreCounted counting.waiting counting.counted merged };
+
+    fn take_line(&mut self, line: &'a [u8], number: u64) -> Result<(), FoldedFault> {
+        let Some(sums) = &mut self.waiting else {
+            return count_line(&mut self.counted, &mut self.frames, line, number);
+        };
+        sum_line(sums, line, number)?;
+        if saves_work(sums.rows.len() as u64, number) {
+            return Ok(());
+        }
+        Ok(self.count_waiting()?)
+    }
 }
 
-/// As [`folded_totals`], and `hashing` says how names are hashed.
+/// What the names weigh in the rows that [`read_folded`](crate::read_folded) reads. Lines of one stack text are counted
+/// together where many are; memory is for the names, and for a few thousand stack texts. `hashing` says how names and
+/// stack texts are hashed.
 ///
 /// # Errors
 ///
 /// Those of [`read_folded`](crate::read_folded).
-pub fn folded_totals_with(
+pub fn folded_totals(
     alloc: Global,
     hashing: Hashing,
     text: &[u8],
@@ -98,10 +142,14 @@ pub fn folded_totals_with(
     ensures accepted { (rows : List WeightedStack) → IsFoldedText text.now rows
         → MatchResult result (AreTotalsOf rows) (λ fault. fault ≡ FoldedFault.NoMemory) }
 {
+    let waiting = TextRows::new(alloc, hashing);
+    let counted = CountedRows::new(alloc, hashing);
     let mut counting = Counting {
-        rows: CountedRows::new(alloc, hashing),
+        waiting: Some(waiting),
+        counted,
         frames: Vec::new(alloc),
     };
     take_lines(text, &mut counting)?;
-    Ok(counting.rows.totals(alloc)?)
+    counting.count_waiting()?;
+    Ok(counting.counted.totals(alloc)?)
 }

@@ -1,4 +1,4 @@
-use Rattle.std.proofs.Common.{ap, subst, sym, ◌++◌}
+use Rattle.std.proofs.Common.{ap, subst, ◌++◌}
 use Rattle.std.proofs.lemmas.Grind.{flat_map-append}
 use Rattle.profile_rows.specs.Aggregate.{rows_of}
 use Rattle.profile_rows.proofs.AnswerLaws.{aggregate_of-parts}

@@ -12,4 +12,4 @@ returns-clause-known c =
       | else-sums w ↦ let clash = sym w.sums-is ∙ e in cc
     ] in
     AreKnownTexts-push c.args.sums.now.known c.insert.new.self c.args.sums.now.rows.items c.push.new.self.items (record { text = c.args.text; weight = c.args.weight }) c.args.sums.now.total _ c.args.sums.now.are_joined c.if-sums.sums
-    (omega (arith, c.len-at.ensures, c.args.sums.now.rows.ok.0)) c.in_ok-insert.ensures.updates c.in_ok-push.ensures.items c.requires.new_text c.requires.depth c.requires.some c.requires.fits joins c.requires.known
+    (omega (arith, c.len-at.ensures, c.args.sums.now.rows.ok.0)) c.in_ok-insert.ensures.updates c.in_ok-push.ensures.items c.requires.new_text c.requires.spelled c.requires.some c.requires.fits joins c.requires.known

@@ -1,16 +1,18 @@
--- What was read are rows that can be sorted by their texts.
-use Rattle.profile_rows.proofs.MergedRows.{AreMergedSoFar-same}
+-- What was read adds up to the rows of the text.
+use Rattle.std.proofs.Common.{ap, refl}
+use Rattle.profile_rows.proofs.MergedRows.{AreMergedSoFar-none, AreMergedSoFar-same}
 use Rattle.folded_text.specs.TextRows.{spelled_rows}
-use Rattle.folded_text.proofs.TextRows.{AreTextRows-known}
 use Rattle.folded_text.proofs.text_rows.read_text_rows.Goals as goal
 
-pub returns-then-sums : goal.returns-then-sums
-returns-then-sums c =
+pub take_lines-requires : goal.take_lines-requires
+take_lines-requires c = λ k. ((refl, tt), (AreMergedSoFar-none _ (ap spelled_rows c.new-sums.ensures.none), c.new-sums.ensures.known))
+
+pub returns : goal.returns
+returns c =
     let (rows, folded, sums) = c.in_ok-take_lines.ensures.taken in
-    let taken = c.take_lines.new.taker in
     record {
-      texts = AreTextRows-known taken.known taken.rows.items taken.total taken.are_joined c.if-sums.true sums.1;
+      known = sums.1;
       rows = rows;
       folded = folded;
-      same = AreMergedSoFar-same rows (spelled_rows taken.rows.items) sums.0;
+      same = AreMergedSoFar-same rows (spelled_rows c.take_lines.new.taker.rows.items) sums.0;
     }

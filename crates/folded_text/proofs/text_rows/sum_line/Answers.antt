@@ -8,7 +8,7 @@ use Rattle.profile_rows.proofs.MergedRows.{placed_at}
 use Rattle.folded_text.specs.FoldedText.{frames_of}
 use Rattle.folded_text.specs.TextRows.{spelled_row, spelled_rows}
 use Rattle.folded_text.proofs.MergedLines.{added_to, refused_at}
-use Rattle.folded_text.proofs.Reading.{IsLineFault-fitting, IsLineFault-memory}
+use Rattle.folded_text.proofs.Reading.{IsLineFault-fitting, IsLineFault-memory, text_one_line}
 use Rattle.folded_text.proofs.text_rows.sum_line.Goals as goal
 
 pub add_to_text-requires-clause-place : goal.add_to_text-requires-clause-place
@@ -45,3 +45,9 @@ returns-in_err-add_text-in-None-clause-fault c =
     let (most, fits) = c.in_ok-fitting-in-None.ensures.fits in
     let p = err_from_is_err_and c.from_residual-in_err-add_text-in-None.result c.from_residual-in_err-add_text-in-None.ensures.1 in
     rw (p.1, p.2) (IsLineFault-memory c.args.sums.now.total c.args.sums.now.total c.args.number c.args.line.now c.in_ok-text.text.now digits c.measured-depth.result.0 c.in_ok-text.weight refl utf8 fits count value c.measured-depth.ensures.depth most)
+
+pub add_text-requires-clause-spelled : goal.add_text-requires-clause-spelled
+add_text-requires-clause-spelled c =
+    let (utf8, small, digits, count, value) = c.in_ok-text.ensures.counted in
+    let (most, fits) = c.in_ok-fitting-in-None.ensures.fits in
+    (omega (arith, c.measured-depth.ensures.depth, most), text_one_line c.args.line.now c.in_ok-text.text.now digits count c.requires.one_line)

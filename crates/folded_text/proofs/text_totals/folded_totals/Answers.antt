@@ -1,0 +1,34 @@
+-- What was counted decides the totals of the text's rows.
+use Rattle.std.proofs.Common.{[], ap, inl, refl, sym}
+use Rattle.std.specs.Prelude.{Ok}
+use Rattle.std.proofs.lemmas.Result.{err_from_is_err_and}
+use Rattle.profile_rows.proofs.MergedRows.{AreMergedSoFar-none}
+use Rattle.folded_text.specs.TextRows.{spelled_rows}
+use Rattle.folded_text.proofs.Counting.{AreTotalsOf-merged, only_totals}
+use Rattle.folded_text.proofs.text_totals.folded_totals.Goals as goal
+
+pub take_lines-requires : goal.take_lines-requires
+take_lines-requires c = λ k. ((refl, tt), ([], AreMergedSoFar-none [] refl, (sym (ap spelled_rows c.new-waiting.ensures.none), c.new-waiting.ensures.known, c.new-counted.ensures.counted)))
+
+pub count_waiting-requires : goal.count_waiting-requires
+count_waiting-requires c = let (rows, read, (merged, same, counted)) = c.in_ok-take_lines.ensures.taken in (merged, counted)
+
+pub returns-clause-counted : goal.returns-clause-counted
+returns-clause-counted c =
+    let (rows, read, (merged, same, counted)) = c.in_ok-take_lines.ensures.taken in
+    record {
+      rows = rows;
+      folded = read;
+      totals_rows = AreTotalsOf-merged rows merged c.in_ok-totals.field-0 same (c.in_ok-totals.ensures merged (c.in_ok-count_waiting.ensures.counted merged counted));
+    }
+
+pub returns-clause-accepted : goal.returns-clause-accepted
+returns-clause-accepted c = only_totals c.args.text.now (Ok _) (returns-clause-counted c)
+
+pub returns-in_err-take_lines-clause-counted : goal.returns-in_err-take_lines-clause-counted
+returns-in_err-take_lines-clause-counted c =
+    let p = err_from_is_err_and c.from_residual.result c.from_residual.ensures.1 in
+    rw (p.1, p.2) (inl c.in_err-take_lines.ensures.fault)
+
+pub returns-in_err-take_lines-clause-accepted : goal.returns-in_err-take_lines-clause-accepted
+returns-in_err-take_lines-clause-accepted c = only_totals c.args.text.now c.from_residual.result (returns-in_err-take_lines-clause-counted c)

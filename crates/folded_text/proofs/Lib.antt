@@ -3,6 +3,7 @@ pub mod Counts
 pub mod Cuts
 pub mod FirstFault
 pub mod FrameNames
+pub mod Fronts
 pub mod Lines
 pub mod MergedLines
 pub mod Pieces

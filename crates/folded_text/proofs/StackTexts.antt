@@ -12,9 +12,8 @@ use Rattle.profile_rows.specs.Aggregate.{Weighted}
 use Rattle.profile_rows.specs.Names.{IsName}
 use Rattle.profile_rows.specs.StackTexts.{AreStackTexts, TextState, joined_row, plain_text}
 use Rattle.profile_rows.proofs.SameNames.{same_from_is_same_name}
-use Rattle.folded_text.specs.declared.text_rows.TextRow.{TextRow}
 use Rattle.folded_text.specs.FoldedText.{frames_of}
-use Rattle.folded_text.specs.TextRows.{AreTextRows, lent_text, rows_with, spelled_rows}
+use Rattle.folded_text.specs.TextRows.{AreTextRows, rows_with, spelled_rows}
 use Rattle.folded_text.proofs.Writing.{frames_of-joined}
 
 abbrev Named : WeightedStack → Type 0
@@ -22,28 +21,28 @@ Named row = All IsName row.stack
 
 -- ---- texts that differ stand once each
 
-abbrev has : List ℕ → TextRow → ℕ
-has text row = cond (bytes_eq row.text.now text) 1 0
+abbrev has : List ℕ → TextState → ℕ
+has text row = cond (bytes_eq row.text text) 1 0
 
-none : (text : List ℕ) (rows : List TextRow) → ((j : ℕ) (d : TextRow) → j < length rows → (get_or rows j d).text.now ≡ text → ⊥) → rows_with text rows ≡ 0
+none : (text : List ℕ) (rows : List TextState) → ((j : ℕ) (d : TextState) → j < length rows → (get_or rows j d).text ≡ text → ⊥) → rows_with text rows ≡ 0
 none text [] other = refl
 none text (row ∷ rows) other =
     let rest = none text rows (λ j d lt. other (suc j) d (omega (arith, lt))) in
     let count = sum_by-cons (has text) row rows in
-    elim (bytes_eq row.text.now text) as (λ b. bytes_eq row.text.now text ≡ b → rows_with text (row ∷ rows) ≡ 0) [
-      | true ↦ λ e. absurd (other 0 row (omega arith) (same_from_is_same_name row.text.now text e))
+    elim (bytes_eq row.text text) as (λ b. bytes_eq row.text text ≡ b → rows_with text (row ∷ rows) ≡ 0) [
+      | true ↦ λ e. absurd (other 0 row (omega arith) (same_from_is_same_name row.text text e))
       | false ↦ λ e. let other : has text row ≡ 0 = ap (λ b. cond b 1 0) e in omega (arith, rest, count, other)
     ] refl
 
-once : (rows : List TextRow) → ((i j : ℕ) (d : TextRow) → i < j → j < length rows → (get_or rows i d).text.now ≡ (get_or rows j d).text.now → ⊥)
+once : (rows : List TextState) → ((i j : ℕ) (d : TextState) → i < j → j < length rows → (get_or rows i d).text ≡ (get_or rows j d).text → ⊥)
     → (text : List ℕ) → rows_with text rows ≤ 1
 once [] apart text = omega arith
 once (row ∷ rows) apart text =
     let most = once rows (λ i j d before lt. apart (suc i) (suc j) d (omega (arith, before)) (omega (arith, lt))) text in
     let count = sum_by-cons (has text) row rows in
-    elim (bytes_eq row.text.now text) as (λ b. bytes_eq row.text.now text ≡ b → rows_with text (row ∷ rows) ≤ 1) [
+    elim (bytes_eq row.text text) as (λ b. bytes_eq row.text text ≡ b → rows_with text (row ∷ rows) ≤ 1) [
       | true ↦ λ e.
-          let same = same_from_is_same_name row.text.now text e in
+          let same = same_from_is_same_name row.text text e in
           let rest = none text rows (λ j d lt other. apart 0 (suc j) d (omega arith) (omega (arith, lt)) (same ∙ sym other)) in
           let one : has text row ≡ 1 = ap (λ b. cond b 1 0) e in
           omega (arith, rest, count, one)
@@ -52,42 +51,34 @@ once (row ∷ rows) apart text =
 
 -- ---- the rows that texts spell
 
-abbrev cut_row : TextState → WeightedStack
-cut_row row = record { stack = frames_of row.text; weight = row.weight }
-
-cut_lent : (rows : List TextRow) → map cut_row (map lent_text rows) ≡ spelled_rows rows
-cut_lent [] = refl
-cut_lent (row ∷ rows) = ap (λ rest. record { stack = frames_of row.text.now; weight = row.weight } ∷ rest) (cut_lent rows)
-
-cut_joined : (rows : List WeightedStack) → AllByRecursion Named rows → map cut_row (map joined_row rows) ≡ rows
+cut_joined : (rows : List WeightedStack) → AllByRecursion Named rows → spelled_rows (map joined_row rows) ≡ rows
 cut_joined [] all = refl
 cut_joined (row ∷ rows) all = λ i.
     (record { stack = frames_of-joined row.stack (recursion_from_All IsName row.stack all.0) i; weight = row.weight }) ∷ cut_joined rows all.1 i
 
-module _ (weights : Weighted) (texts : List StackText) (are : AreStackTexts weights texts) (rows : List TextRow) (lent : map lent_text rows ≡ map plain_text texts) where
-  spelled : map lent_text rows ≡ map joined_row are.rows
+module _ (weights : Weighted) (texts : List StackText) (are : AreStackTexts weights texts) (rows : List TextState) (lent : rows ≡ map plain_text texts) where
+  spelled : rows ≡ map joined_row are.rows
   spelled = lent ∙ are.spelled
 
   pub spelled_are : spelled_rows rows ≡ are.rows
-  spelled_are = sym (cut_lent rows) ∙ ap (map cut_row) spelled ∙ cut_joined are.rows (recursion_from_All Named are.rows are.named)
+  spelled_are = ap spelled_rows spelled ∙ cut_joined are.rows (recursion_from_All Named are.rows are.named)
 
   size : length rows ≡ length are.rows
-  size = sym (length-map rows lent_text) ∙ ap length spelled ∙ length-map are.rows joined_row
+  size = ap length spelled ∙ length-map are.rows joined_row
 
-  module _ (k : ℕ) (d : TextRow) (lt : k < length rows) where
+  module _ (k : ℕ) (d : TextState) (lt : k < length rows) where
     abbrev plain : WeightedStack
     plain = get_or are.rows k (record { stack = []; weight = 0 })
 
-    here : lent_text (get_or rows k d) ≡ joined_row plain
+    here : get_or rows k d ≡ joined_row plain
     here =
-        sym (get_or-map lent_text rows k d (record { text = []; weight = 0 }) lt)
-        ∙ ap (λ rows. get_or rows k (record { text = []; weight = 0 })) spelled
-        ∙ get_or-map joined_row are.rows k (record { stack = []; weight = 0 }) (record { text = []; weight = 0 }) (omega (arith, lt, size))
+        ap (λ rows. get_or rows k d) spelled
+        ∙ get_or-map joined_row are.rows k (record { stack = []; weight = 0 }) d (omega (arith, lt, size))
 
-    text_here : (get_or rows k d).text.now ≡ join_with_byte 59 plain.stack
+    text_here : (get_or rows k d).text ≡ join_with_byte 59 plain.stack
     text_here = ap (λ (row : TextState). row.text) here
 
-    cut_here : frames_of (get_or rows k d).text.now ≡ plain.stack
+    cut_here : frames_of (get_or rows k d).text ≡ plain.stack
     cut_here = ap frames_of text_here ∙ frames_of-joined plain.stack (recursion_from_All IsName plain.stack (are.named k (record { stack = []; weight = 0 }) (omega (arith, lt, size))))
 
   pub AreTextRows-lent : AreTextRows rows

@@ -28,7 +28,7 @@ use Rattle.folded_text.specs.declared.folded.FoldedFault.{FoldedFault}
 use Rattle.folded_text.specs.declared.folded.FoldedFault.TheVariants.{NoMemory}
 use Rattle.folded_text.specs.FoldedText.{IsFoldedText, IsWorkFault, folded_text_of, frames_of, row_text, rows_text}
 use Rattle.folded_text.specs.StackOrder.{IsJoined}
-use Rattle.folded_text.specs.declared.text_rows.TextRow.{TextRow}
+use Rattle.profile_rows.specs.StackTexts.{TextState}
 use Rattle.folded_text.specs.TextRows.{AreKnownTexts, AreTextRows, IsReportOfText, IsStackText, by_text, one_if_known, rows_with, spelled_row, spelled_rows, text_lines}
 use Rattle.folded_text.proofs.Reading.{IsFirstFault-folded, IsFoldedText-same}
 use Rattle.folded_text.proofs.StackOrder.{joined_texts-cmp, stack_text_cmp_total}
@@ -90,11 +90,11 @@ IsJoined-measured text whole =
 abbrev no_row : WeightedStack
 no_row = record { stack = []; weight = 0 }
 
-abbrev has : List ℕ → TextRow → ℕ
-has text row = cond (bytes_eq row.text.now text) 1 0
+abbrev has : List ℕ → TextState → ℕ
+has text row = cond (bytes_eq row.text text) 1 0
 
-module _ (rows : List TextRow) (at weight : ℕ) (found : TextRow) (lt : at < length rows) (is : found ≡ get_or rows at found) where
-  abbrev more : TextRow
+module _ (rows : List TextState) (at weight : ℕ) (found : TextState) (lt : at < length rows) (is : found ≡ get_or rows at found) where
+  abbrev more : TextState
   more = record { text = found.text; weight = found.weight + weight }
 
   in_rows : at < length (spelled_rows rows)
@@ -125,48 +125,48 @@ module _ (rows : List TextRow) (at weight : ℕ) (found : TextRow) (lt : at < le
             let same : has text (get_or rows at found) ≡ has text more = ap (has text) (sym is) in
             let before = so_far.counted text in
             omega (arith, moved, same, before);
-        weighty = All-set (λ (row : TextRow). 0 < row.weight) rows at more
-            (let some : 0 < found.weight = subst (λ (r : TextRow). 0 < r.weight) (sym is) (so_far.weighty at found lt) in omega (arith, some)) so_far.weighty;
-        spelled = All-set (λ (row : TextRow). IsStackText row.text.now) rows at more
-            (subst (λ (r : TextRow). IsStackText r.text.now) (sym is) (so_far.spelled at found lt)) so_far.spelled;
-        joined = λ e. All-set (λ (row : TextRow). IsJoined row.text.now) rows at more
-            (subst (λ (r : TextRow). IsJoined r.text.now) (sym is) (so_far.joined e at found lt)) (so_far.joined e);
+        weighty = All-set (λ (row : TextState). 0 < row.weight) rows at more
+            (let some : 0 < found.weight = subst (λ (r : TextState). 0 < r.weight) (sym is) (so_far.weighty at found lt) in omega (arith, some)) so_far.weighty;
+        spelled = All-set (λ (row : TextState). IsStackText row.text) rows at more
+            (subst (λ (r : TextState). IsStackText r.text) (sym is) (so_far.spelled at found lt)) so_far.spelled;
+        joined = λ e. All-set (λ (row : TextState). IsJoined row.text) rows at more
+            (subst (λ (r : TextState). IsJoined r.text) (sym is) (so_far.joined e at found lt)) (so_far.joined e);
         total_is = ap (λ t. t + weight) total_is ∙ sym adds.total ∙ ap total_of (sym spelled-added);
         fits = fits;
       }
 
-pub spelled-push : (rows all : List TextRow) (row : TextRow) → all ≡ rows ++ row ∷ [] → spelled_rows all ≡ spelled_rows rows ++ spelled_row row ∷ []
+pub spelled-push : (rows all : List TextState) (row : TextState) → all ≡ rows ++ row ∷ [] → spelled_rows all ≡ spelled_rows rows ++ spelled_row row ∷ []
 spelled-push rows all row is = ap spelled_rows is ∙ map-append spelled_row rows (row ∷ [])
 
-pub AreKnownTexts-push : (known after : RowsBySpelling) (rows all : List TextRow) (row : TextRow) (total place : ℕ) (are_joined both : Bool) → place ≡ length rows
-    → hash.UpdatesBy (λ x y. bytes_eq x.now y.now) (λ k. bytes_eq row.text.now k.now) known after (Some place) → all ≡ rows ++ row ∷ [] → row_spelled known row.text.now ≡ None
-    → IsStackText row.text.now → 0 < row.weight → total + row.weight < 2 ^ 63 → (both ≡ true → (are_joined ≡ true) × IsJoined row.text.now)
+pub AreKnownTexts-push : (known after : RowsBySpelling) (rows all : List TextState) (row : TextState) (total place : ℕ) (are_joined both : Bool) → place ≡ length rows
+    → hash.UpdatesBy (λ x y. bytes_eq x.now y.now) (λ k. bytes_eq row.text k.now) known after (Some place) → all ≡ rows ++ row ∷ [] → row_spelled known row.text ≡ None
+    → IsStackText row.text → 0 < row.weight → total + row.weight < 2 ^ 63 → (both ≡ true → (are_joined ≡ true) × IsJoined row.text)
     → AreKnownTexts known rows total are_joined → AreKnownTexts after all (total + row.weight) both
 AreKnownTexts-push known after rows all row total place are_joined both end updates is none text some fits joins so_far = record {
-  placed = ArePlacedBy-push frames_of known after (spelled_rows rows) (spelled_rows all) row.text.now row.weight place (end ∙ sym (length-map rows spelled_row)) updates (spelled-push rows all row is) text.0 so_far.placed;
+  placed = ArePlacedBy-push frames_of known after (spelled_rows rows) (spelled_rows all) row.text row.weight place (end ∙ sym (length-map rows spelled_row)) updates (spelled-push rows all row is) text.0 so_far.placed;
   counted = λ other.
-      let leads = hash_map_updates_str row.text.now known after (Some place) updates other in
+      let leads = hash_map_updates_str row.text known after (Some place) updates other in
       let before = so_far.counted other in
       ap (rows_with other) is ∙ sum_by_push (has other) rows row
-      ∙ elim (bytes_eq row.text.now other) as (λ b. bytes_eq row.text.now other ≡ b → rows_with other rows + cond b 1 0 ≡ one_if_known (cond b (Some place) (row_spelled known other))) [
+      ∙ elim (bytes_eq row.text other) as (λ b. bytes_eq row.text other ≡ b → rows_with other rows + cond b 1 0 ≡ one_if_known (cond b (Some place) (row_spelled known other))) [
         | true ↦ λ e.
-            let unknown : row_spelled known other ≡ None = subst (λ t. row_spelled known t ≡ None) (same_from_is_same_name row.text.now other e) none in
+            let unknown : row_spelled known other ≡ None = subst (λ t. row_spelled known t ≡ None) (same_from_is_same_name row.text other e) none in
             let nothing : rows_with other rows ≡ 0 = before ∙ ap one_if_known unknown in
             omega (arith, nothing)
         | false ↦ λ e. omega (arith, before)
       ] refl
       ∙ ap one_if_known (sym leads);
-  weighty = subst (All (λ (row : TextRow). 0 < row.weight)) (sym is) (All-push (λ (row : TextRow). 0 < row.weight) rows row so_far.weighty some);
-  spelled = subst (All (λ (row : TextRow). IsStackText row.text.now)) (sym is)
-      (All-push (λ (row : TextRow). IsStackText row.text.now) rows row so_far.spelled text);
-  joined = λ e. subst (All (λ (row : TextRow). IsJoined row.text.now)) (sym is)
-      (All-push (λ (row : TextRow). IsJoined row.text.now) rows row (so_far.joined (joins e).0) (joins e).1);
+  weighty = subst (All (λ (row : TextState). 0 < row.weight)) (sym is) (All-push (λ (row : TextState). 0 < row.weight) rows row so_far.weighty some);
+  spelled = subst (All (λ (row : TextState). IsStackText row.text)) (sym is)
+      (All-push (λ (row : TextState). IsStackText row.text) rows row so_far.spelled text);
+  joined = λ e. subst (All (λ (row : TextState). IsJoined row.text)) (sym is)
+      (All-push (λ (row : TextState). IsJoined row.text) rows row (so_far.joined (joins e).0) (joins e).1);
   total_is = ap (λ t. t + row.weight) so_far.total_is ∙ sym (sum_by_push (λ (r : WeightedStack). r.weight) (spelled_rows rows) (spelled_row row)) ∙ ap total_of (sym (spelled-push rows all row is));
   fits = fits;
 }
 
 -- no text stands twice where each is counted by one look-up
-pub AreTextRows-known : (known : RowsBySpelling) (rows : List TextRow) (total : ℕ) (are_joined : Bool) → are_joined ≡ true → AreKnownTexts known rows total are_joined → AreTextRows rows
+pub AreTextRows-known : (known : RowsBySpelling) (rows : List TextState) (total : ℕ) (are_joined : Bool) → are_joined ≡ true → AreKnownTexts known rows total are_joined → AreTextRows rows
 AreTextRows-known known rows total are_joined e so_far = record {
   weighty = so_far.weighty;
   once = λ text. let count = so_far.counted text in let most = at_most (row_spelled known text) in omega (arith, count, most);
@@ -178,23 +178,23 @@ AreTextRows-known known rows total are_joined e so_far = record {
     at_most (Some at) = omega arith
 
 -- no rows yet
-pub AreKnownTexts-none : (known : RowsBySpelling) (rows : List TextRow) (total : ℕ) (are_joined : Bool) → rows ≡ [] → total ≡ 0 → ((text : List ℕ) → row_spelled known text ≡ None) → AreKnownTexts known rows total are_joined
+pub AreKnownTexts-none : (known : RowsBySpelling) (rows : List TextState) (total : ℕ) (are_joined : Bool) → rows ≡ [] → total ≡ 0 → ((text : List ℕ) → row_spelled known text ≡ None) → AreKnownTexts known rows total are_joined
 AreKnownTexts-none known rows total are_joined is nothing unknown = record {
   placed = λ text. subst (λ o. IfSome o (λ at. (at < length (spelled_rows rows)) × ((row_at (spelled_rows rows) at).stack ≡ frames_of text) × (length (frames_of text) ≤ 65535))) (sym (unknown text)) tt;
   counted = λ text. ap (rows_with text) is ∙ ap one_if_known (sym (unknown text));
-  weighty = subst (All (λ (row : TextRow). 0 < row.weight)) (sym is) (λ at d lt. absurd (omega (arith, lt)));
-  spelled = subst (All (λ (row : TextRow). IsStackText row.text.now)) (sym is) (λ at d lt. absurd (omega (arith, lt)));
-  joined = λ e. subst (All (λ (row : TextRow). IsJoined row.text.now)) (sym is) (λ at d lt. absurd (omega (arith, lt)));
+  weighty = subst (All (λ (row : TextState). 0 < row.weight)) (sym is) (λ at d lt. absurd (omega (arith, lt)));
+  spelled = subst (All (λ (row : TextState). IsStackText row.text)) (sym is) (λ at d lt. absurd (omega (arith, lt)));
+  joined = λ e. subst (All (λ (row : TextState). IsJoined row.text)) (sym is) (λ at d lt. absurd (omega (arith, lt)));
   total_is = nothing ∙ ap (λ rs. total_of (spelled_rows rs)) (sym is);
   fits = omega (arith, nothing);
 }
 
 -- what is known of rows so far, without the look-ups
-pub spelled-within : (known : RowsBySpelling) (rows : List TextRow) (total : ℕ) (are_joined : Bool) → AreKnownTexts known rows total are_joined → total_of (spelled_rows rows) < 2 ^ 63
+pub spelled-within : (known : RowsBySpelling) (rows : List TextState) (total : ℕ) (are_joined : Bool) → AreKnownTexts known rows total are_joined → total_of (spelled_rows rows) < 2 ^ 63
 spelled-within known rows total are_joined so_far = omega (arith, so_far.fits, so_far.total_is)
 
 -- sorted rows add up to the same
-pub spelled-moved : (rows sorted : List TextRow) → IsPermutation rows sorted → (aggregate_of (spelled_rows sorted) ≡ aggregate_of (spelled_rows rows)) × (total_of (spelled_rows sorted) ≡ total_of (spelled_rows rows))
+pub spelled-moved : (rows sorted : List TextState) → IsPermutation rows sorted → (aggregate_of (spelled_rows sorted) ≡ aggregate_of (spelled_rows rows)) × (total_of (spelled_rows sorted) ≡ total_of (spelled_rows rows))
 spelled-moved rows sorted moved =
     let same = IsPermutation-map spelled_row rows sorted moved in (
       aggregate_of-same (spelled_rows sorted) (spelled_rows rows) (λ stack. sum_by-IsPermutation (weight_if (is_same_stack stack)) (spelled_rows rows) (spelled_rows sorted) same),
@@ -203,24 +203,24 @@ spelled-moved rows sorted moved =
 
 -- ---- rows in the order of their texts
 
-AreTextRows-moved : (rows sorted : List TextRow) → IsPermutation rows sorted → AreTextRows rows → AreTextRows sorted
+AreTextRows-moved : (rows sorted : List TextState) → IsPermutation rows sorted → AreTextRows rows → AreTextRows sorted
 AreTextRows-moved rows sorted moved texts = record {
-  weighty = All-permutation (λ (row : TextRow). 0 < row.weight) rows sorted moved texts.weighty;
+  weighty = All-permutation (λ (row : TextState). 0 < row.weight) rows sorted moved texts.weighty;
   once = λ text. let same = sum_by-IsPermutation (has text) rows sorted moved in let one = texts.once text in omega (arith, same, one);
-  joined = All-permutation (λ (row : TextRow). IsJoined row.text.now) rows sorted moved texts.joined;
+  joined = All-permutation (λ (row : TextState). IsJoined row.text) rows sorted moved texts.joined;
 }
 
-has-own : (text : List ℕ) (row : TextRow) → row.text.now ≡ text → has text row ≡ 1
-has-own text row same = ap (λ b. cond b 1 0) (subst (λ t. bytes_eq row.text.now t ≡ true) same (is_same_name-self row.text.now))
+has-own : (text : List ℕ) (row : TextState) → row.text ≡ text → has text row ≡ 1
+has-own text row same = ap (λ b. cond b 1 0) (subst (λ t. bytes_eq row.text t ≡ true) same (is_same_name-self row.text))
 
-at_least : (text : List ℕ) (rows : List TextRow) (j : ℕ) (d : TextRow) → j < length rows → (get_or rows j d).text.now ≡ text → 1 ≤ rows_with text rows
+at_least : (text : List ℕ) (rows : List TextState) (j : ℕ) (d : TextState) → j < length rows → (get_or rows j d).text ≡ text → 1 ≤ rows_with text rows
 at_least text rows j d lt same = let most = get_or-le-sum_by (has text) rows j d lt in omega (arith, most, has-own text (get_or rows j d) same)
 
-apart : (rows : List TextRow) (i j : ℕ) (d : TextRow) → i < j → j < length rows → ((text : List ℕ) → rows_with text rows ≤ 1) → (get_or rows i d).text.now ≡ (get_or rows j d).text.now → ⊥
+apart : (rows : List TextState) (i j : ℕ) (d : TextState) → i < j → j < length rows → ((text : List ℕ) → rows_with text rows ≤ 1) → (get_or rows i d).text ≡ (get_or rows j d).text → ⊥
 apart [] i j d before lt once same = absurd (omega arith)
 apart (row ∷ rows) i zero d before lt once same = absurd (omega arith)
 apart (row ∷ rows) zero (suc j) d before lt once same =
-    let text = row.text.now in
+    let text = row.text in
     let count = sum_by-cons (has text) row rows in
     let other = at_least text rows j d (omega arith) (sym same) in
     let one = once text in
@@ -233,46 +233,46 @@ strictly Less p e low other = cc
 strictly Equal p e low other = absurd (other refl)
 strictly Greater p e low other = e
 
-first : (rows : List TextRow) → 0 < length rows → TextRow
+first : (rows : List TextState) → 0 < length rows → TextState
 first [] some = absurd (omega arith)
 first (row ∷ rows) some = row
 
-ascending : (rows : List TextRow) → AreTextRows rows → IsSorted by_text rows → IsAscending (spelled_rows rows)
+ascending : (rows : List TextState) → AreTextRows rows → IsSorted by_text rows → IsAscending (spelled_rows rows)
 ascending rows texts sorted = λ i j d lt short.
     let within : j < length rows = omega (arith, length-map rows spelled_row, short) in
     let e = first rows (omega (arith, within)) in
     let row = get_or rows i e in
     let other = get_or rows j e in
-    let joined : IsJoined row.text.now = texts.joined i e (omega (arith, lt, within)) in
-    let also : IsJoined other.text.now = texts.joined j e within in
-    let low = sorted_far (λ a b. is_lt (by_text a b)) (ranks_by stack_text_cmp_total (λ (row : TextRow). row.text.now)) rows sorted i j e (omega (arith, lt)) within in
-    let less : stack_cmp (frames_of row.text.now) (frames_of other.text.now) ≡ Less =
-    strictly (stack_cmp (frames_of other.text.now) (frames_of row.text.now)) (stack_cmp (frames_of row.text.now) (frames_of other.text.now))
-    (stack_cmp_total.antisymm (frames_of row.text.now) (frames_of other.text.now))
-    (ap is_lt (sym (joined_texts-cmp other.text.now row.text.now also joined)) ∙ low)
+    let joined : IsJoined row.text = texts.joined i e (omega (arith, lt, within)) in
+    let also : IsJoined other.text = texts.joined j e within in
+    let low = sorted_far (λ a b. is_lt (by_text a b)) (ranks_by stack_text_cmp_total (λ (row : TextState). row.text)) rows sorted i j e (omega (arith, lt)) within in
+    let less : stack_cmp (frames_of row.text) (frames_of other.text) ≡ Less =
+    strictly (stack_cmp (frames_of other.text) (frames_of row.text)) (stack_cmp (frames_of row.text) (frames_of other.text))
+    (stack_cmp_total.antisymm (frames_of row.text) (frames_of other.text))
+    (ap is_lt (sym (joined_texts-cmp other.text row.text also joined)) ∙ low)
     (λ tie. apart rows i j e lt within texts.once
-    (joined ∙ ap (join_with_byte 59) (sym (stack_cmp_apart (frames_of other.text.now) (frames_of row.text.now) tie)) ∙ sym also)) in
+    (joined ∙ ap (join_with_byte 59) (sym (stack_cmp_apart (frames_of other.text) (frames_of row.text) tie)) ∙ sym also)) in
     ap (λ (r : WeightedStack). stack_cmp r.stack (get_or (spelled_rows rows) j d).stack) (get_or-map spelled_row rows i e d (omega (arith, lt, within)))
-    ∙ ap (λ (r : WeightedStack). stack_cmp (frames_of row.text.now) r.stack) (get_or-map spelled_row rows j e d within)
+    ∙ ap (λ (r : WeightedStack). stack_cmp (frames_of row.text) r.stack) (get_or-map spelled_row rows j e d within)
     ∙ less
 
-weighty : (rows : List TextRow) → AllByRecursion (λ (row : TextRow). 0 < row.weight) rows → AllByRecursion (λ (row : WeightedStack). 0 < row.weight) (spelled_rows rows)
+weighty : (rows : List TextState) → AllByRecursion (λ (row : TextState). 0 < row.weight) rows → AllByRecursion (λ (row : WeightedStack). 0 < row.weight) (spelled_rows rows)
 weighty [] all = tt
 weighty (row ∷ rows) all = (all.0, weighty rows all.1)
 
-lines-joined : (rows : List TextRow) → AllByRecursion (λ (row : TextRow). IsJoined row.text.now) rows → text_lines rows ≡ rows_text (spelled_rows rows)
+lines-joined : (rows : List TextState) → AllByRecursion (λ (row : TextState). IsJoined row.text) rows → text_lines rows ≡ rows_text (spelled_rows rows)
 lines-joined [] all = refl
 lines-joined (row ∷ rows) all =
     ap (λ text. (text ++ 32 ∷ decimal row.weight ++ 10 ∷ []) ++ text_lines rows) all.0
     ∙ ap (λ rest. row_text (spelled_row row) ++ rest) (lines-joined rows all.1)
 
 -- the lines of the rows in the order of their texts are the folded report
-pub lines-sorted : (rows sorted : List TextRow) → AreTextRows rows → IsPermutation rows sorted → IsSorted by_text sorted → text_lines sorted ≡ folded_text_of (spelled_rows rows)
+pub lines-sorted : (rows sorted : List TextState) → AreTextRows rows → IsPermutation rows sorted → IsSorted by_text sorted → text_lines sorted ≡ folded_text_of (spelled_rows rows)
 lines-sorted rows sorted texts moved up =
     let after = AreTextRows-moved rows sorted moved texts in
     let some : AreWeighty (spelled_rows sorted) =
-    All-from_recursion (λ (row : WeightedStack). 0 < row.weight) (spelled_rows sorted) (weighty sorted (recursion_from_All (λ (row : TextRow). 0 < row.weight) sorted after.weighty)) in
-    lines-joined sorted (recursion_from_All (λ (row : TextRow). IsJoined row.text.now) sorted after.joined)
+    All-from_recursion (λ (row : WeightedStack). 0 < row.weight) (spelled_rows sorted) (weighty sorted (recursion_from_All (λ (row : TextState). 0 < row.weight) sorted after.weighty)) in
+    lines-joined sorted (recursion_from_All (λ (row : TextState). IsJoined row.text) sorted after.joined)
     ∙ ap rows_text (sym (rows_of-aggregate (spelled_rows sorted) (ascending sorted after up) some))
     ∙ ap (λ weights. rows_text (rows_of weights)) (spelled-moved rows sorted moved).0
 

@@ -6,15 +6,11 @@ use Rattle.profile_rows.specs.declared.weighted_stacks.WeightedStack.{WeightedSt
 use Rattle.profile_rows.specs.Merging.{AddsRow, AreMergedSoFar}
 use Rattle.profile_rows.specs.Rows.{total_of}
 use Rattle.profile_rows.proofs.MergedRows.{AreMergedSoFar-row}
-use Rattle.folded_text.specs.declared.text_rows.TextRow.{TextRow}
+use Rattle.profile_rows.specs.StackTexts.{TextState}
 use Rattle.folded_text.specs.TextRows.{spelled_row, spelled_rows}
 
--- what stands past the end of rows
-abbrev pub no_text : TextRow
-no_text = record { text = record { ref_ptr = (0, 0); now = [] }; weight = 0 }
-
 -- a row follows those before it within the limit that all of them keep
-pub follows : (rows : List TextRow) (i : ℕ) (d : TextRow) → i < length rows → total_of (spelled_rows rows) < 2 ^ 63 → total_of (spelled_rows (take i rows)) + (get_or rows i d).weight < 2 ^ 63
+pub follows : (rows : List TextState) (i : ℕ) (d : TextState) → i < length rows → total_of (spelled_rows rows) < 2 ^ 63 → total_of (spelled_rows (take i rows)) + (get_or rows i d).weight < 2 ^ 63
 follows rows i d lt fits =
     let weight : WeightedStack → ℕ = λ (row : WeightedStack). row.weight in
     let more = sum_by_more weight (spelled_rows rows) i (spelled_row d) (omega (arith, lt, length-map rows spelled_row)) in

@@ -1,9 +1,10 @@
 -- The order of stacks as an order of their texts.
-use Rattle.std.specs.Prelude.{ℕ, ◌≡◌, ◌+◌, ◌==◌, List, if◌then◌else◌}
+use Rattle.std.specs.Prelude.{ℕ, ◌≡◌, ◌+◌, ◌*◌, ◌<◌, ◌==◌, List, [], ◌∷◌, if◌then◌else◌}
+use Prim.Native.Nat.{zero, suc}
 use Rattle.std.specs.declared.cmp.Ordering.{Ordering}
 use Rattle.std.specs.Ordering.{nat_cmp}
 use Rattle.std.specs.Cmp.Lexicographic.{slice_cmp}
-use Rattle.std.specs.List.{join_with_byte}
+use Rattle.std.specs.List.{AllByRecursion, join_with_byte}
 use Rattle.folded_text.specs.FoldedText.{frames_of}
 
 -- the text is its frames with a semicolon between each two: no frame was left out as empty
@@ -20,3 +21,21 @@ text_byte_cmp byte other = nat_cmp (place_of byte) (place_of other)
 -- Stack texts by their bytes, the semicolon lowest. Those without empty frames are then in the order of their stacks.
 abbrev pub stack_text_cmp : List ℕ → List ℕ → Ordering
 stack_text_cmp = slice_cmp text_byte_cmp
+
+-- where the first bytes of a text stand, so many: the end of a text, and what is behind it, before each byte
+abbrev pub digits_of : ℕ → List ℕ → List ℕ
+digits_of zero text = []
+digits_of (suc count) [] = 0 ∷ digits_of count []
+digits_of (suc count) (byte ∷ text) = (place_of byte + 1) ∷ digits_of count text
+
+abbrev pub AreDigits : List ℕ → Type 0
+AreDigits digits = AllByRecursion (λ (digit : ℕ). digit < 512) digits
+
+-- the number that digits write behind those of another number
+abbrev pub number_of : ℕ → List ℕ → ℕ
+number_of high [] = high
+number_of high (digit ∷ digits) = number_of (high * 512 + digit) digits
+
+-- the first seven bytes of a text as one number
+abbrev pub front_of : List ℕ → ℕ
+front_of text = number_of 0 (digits_of 7 text)

@@ -8,25 +8,20 @@ use Rattle.profile_rows.specs.Aggregate.{aggregate_of}
 use Rattle.profile_rows.specs.Merging.{ArePlacedBy, RowsBySpelling, row_spelled}
 use Rattle.profile_rows.specs.Rows.{total_of}
 use Rattle.profile_rows.specs.StackTexts.{TextState}
-use Rattle.folded_text.specs.declared.text_rows.TextRow.{TextRow}
 use Rattle.folded_text.specs.FoldedText.{IsFoldedText, folded_text_of, frames_of}
 use Rattle.folded_text.specs.declared.text_rows.TextRows.{TextRows}
 use Rattle.folded_text.specs.StackOrder.{IsJoined, stack_text_cmp}
 
 -- the row that a stack text and a weight spell
-abbrev pub spelled_row : TextRow → WeightedStack
-spelled_row row = record { stack = frames_of row.text.now; weight = row.weight }
+abbrev pub spelled_row : TextState → WeightedStack
+spelled_row row = record { stack = frames_of row.text; weight = row.weight }
 
-abbrev pub spelled_rows : List TextRow → List WeightedStack
+abbrev pub spelled_rows : List TextState → List WeightedStack
 spelled_rows rows = map spelled_row rows
 
--- a row by its text
-abbrev pub lent_text : TextRow → TextState
-lent_text row = record { text = row.text.now; weight = row.weight }
-
 -- how many rows have this stack text
-abbrev pub rows_with : List ℕ → List TextRow → ℕ
-rows_with text rows = sum_by (λ (row : TextRow). if bytes_eq row.text.now text then 1 else 0) rows
+abbrev pub rows_with : List ℕ → List TextState → ℕ
+rows_with text rows = sum_by (λ (row : TextState). if bytes_eq row.text text then 1 else 0) rows
 
 -- one row where the text is known, and else none
 abbrev pub one_if_known : Option ℕ → ℕ
@@ -38,24 +33,24 @@ abbrev pub IsStackText : List ℕ → Type 0
 IsStackText text = (length (frames_of text) ≤ 65535) × All (λ (byte : ℕ). byte ≢ 10) text
 
 -- rows in the order of their texts
-abbrev pub by_text : TextRow → TextRow → Ordering
-by_text row other = stack_text_cmp row.text.now other.text.now
+abbrev pub by_text : TextState → TextState → Ordering
+by_text row other = stack_text_cmp row.text other.text
 
 -- Rows of weight above 0, one for each stack text, whose stack texts have no empty frames: they are in the order of
 -- stacks where their texts are in the order of texts.
-pub record AreTextRows (rows : List TextRow) : Type 0 where
-  pub weighty : All (λ (row : TextRow). 0 < row.weight) rows
+pub record AreTextRows (rows : List TextState) : Type 0 where
+  pub weighty : All (λ (row : TextState). 0 < row.weight) rows
   pub once : (text : List ℕ) → rows_with text rows ≤ 1
-  pub joined : All (λ (row : TextRow). IsJoined row.text.now) rows
+  pub joined : All (λ (row : TextState). IsJoined row.text) rows
 
 -- Rows of weight above 0 so far: each is known by its text, and none stands twice. `are_joined` says that no stack text
 -- has an empty frame.
-pub record AreKnownTexts (known : RowsBySpelling) (rows : List TextRow) (total : ℕ) (are_joined : Bool) : Type 0 where
+pub record AreKnownTexts (known : RowsBySpelling) (rows : List TextState) (total : ℕ) (are_joined : Bool) : Type 0 where
   pub placed : ArePlacedBy frames_of known (spelled_rows rows)
   pub counted : (text : List ℕ) → rows_with text rows ≡ one_if_known (row_spelled known text)
-  pub weighty : All (λ (row : TextRow). 0 < row.weight) rows
-  pub spelled : All (λ (row : TextRow). IsStackText row.text.now) rows
-  pub joined : are_joined ≡ true → All (λ (row : TextRow). IsJoined row.text.now) rows
+  pub weighty : All (λ (row : TextState). 0 < row.weight) rows
+  pub spelled : All (λ (row : TextState). IsStackText row.text) rows
+  pub joined : are_joined ≡ true → All (λ (row : TextState). IsJoined row.text) rows
   pub total_is : total ≡ total_of (spelled_rows rows)
   pub fits : total < 2 ^ 63
 
@@ -67,10 +62,10 @@ pub record AreSumsOfText (text : List ℕ) (sums : TextRows) : Type 0 where
   pub same : aggregate_of (spelled_rows sums.rows.items) ≡ aggregate_of rows
 
 -- a row as a line of folded text, its stack as its text has it
-abbrev pub text_line : TextRow → List ℕ
-text_line row = row.text.now ++ 32 ∷ decimal row.weight ++ 10 ∷ []
+abbrev pub text_line : TextState → List ℕ
+text_line row = row.text ++ 32 ∷ decimal row.weight ++ 10 ∷ []
 
-abbrev pub text_lines : List TextRow → List ℕ
+abbrev pub text_lines : List TextState → List ℕ
 text_lines rows = flat_map text_line rows
 
 -- the report is that of the rows that the text is folded text of

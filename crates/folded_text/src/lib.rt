@@ -9,6 +9,7 @@ mod stack_frames;
 mod stack_texts;
 mod taking;
 mod text_order;
+mod text_row;
 mod text_rows;
 mod text_totals;
 mod written;

@@ -10,7 +10,8 @@ ghost use Rattle.folded_text.specs.TextSums.{IsMergedText};
 
 use crate::folded::{FoldedFault, Spelled, depth_of, push_spelled};
 use crate::known_names::KnownNames;
-use crate::text_rows::{TextRow, read_text_rows, sort_by_text};
+use crate::text_row::TextRow;
+use crate::text_rows::{read_text_rows, sort_by_text};
 use no_memory::NoMemory;
 use profile_rows::{Hashing, WeightedStacks};
 use std::alloc::Global;
@@ -21,7 +22,7 @@ pub(crate) fn stacks_of_texts(
     hashing: Hashing,
     rows: &[TextRow],
 ) -> Result<WeightedStacks, NoMemory>
-    requires spelled { All (λ row. IsStackText row.text.now) rows.now }
+    requires spelled { All (λ row. IsStackText row.text) rows.now }
     requires fits { total_of (spelled_rows rows.now) < 2 ^ 63 }
     ensures { IfOk result (λ stacks. stacks ≡ spelled_rows rows.now) }
 {
@@ -29,9 +30,9 @@ pub(crate) fn stacks_of_texts(
     let mut stacks = WeightedStacks::with_capacity(alloc, rows.len())?;
     for row in rows {
         let spelled = Spelled {
-            stack: row.text,
-            depth: depth_of(row.text),
-            weight: row.weight,
+            stack: row.text(),
+            depth: depth_of(row.text()),
+            weight: row.weight(),
         };
         push_spelled(alloc, &mut names, &mut stacks, spelled)?;
     }

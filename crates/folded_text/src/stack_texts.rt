@@ -4,23 +4,20 @@ ghost use Rattle.std.specs.Prelude.{◌≡◌, IfOk, map};
 ghost use Rattle.profile_rows.specs.Aggregate.{Weighted, rows_of};
 ghost use Rattle.profile_rows.specs.StackTexts.{AreStackTexts, plain_text};
 ghost use Rattle.folded_text.specs.FoldedText.{rows_text};
-ghost use Rattle.folded_text.specs.TextRows.{lent_text};
 
-use crate::text_rows::{TextRow, report_of_texts};
+use crate::text_row::TextRow;
+use crate::text_rows::report_of_texts;
 use no_memory::NoMemory;
 use profile_rows::StackText;
 use std::alloc::Global;
 
 /// The rows with their texts lent.
 fn lent_rows<'a>(alloc: Global, texts: &'a [StackText]) -> Result<Vec<TextRow<'a>>, NoMemory>
-    ensures { IfOk result (λ rows. map lent_text rows.items ≡ map plain_text texts.now) }
+    ensures { IfOk result (λ rows. rows.items ≡ map plain_text texts.now) }
 {
     let mut rows = Vec::with_capacity(alloc, texts.len())?;
     for row in texts {
-        rows.push(TextRow {
-            text: row.text.as_str(),
-            weight: row.weight,
-        })?;
+        rows.push(TextRow::new(row.text.as_str(), row.weight))?;
     }
     Ok(rows)
 }

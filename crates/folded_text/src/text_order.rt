@@ -1,13 +1,14 @@
 //! Stack texts in the order of their stacks.
 
-ghost use Rattle.std.specs.Prelude.{◌≡◌};
+ghost use Rattle.std.specs.Prelude.{◌≡◌, ◌≤◌};
 ghost use Rattle.folded_text.specs.StackOrder.{place_of, stack_text_cmp};
 
 use std::cmp::Ordering;
 
 /// Where a byte of a stack text stands: the semicolon before each byte of a name.
-fn byte_place(byte: u8) -> u16
-    ensures { result ≡ place_of byte }
+pub(crate) fn byte_place(byte: u8) -> u16
+    ensures place { result ≡ place_of byte }
+    ensures small { result ≤ 256 }
 {
     if byte == b';' { 0 } else { byte as u16 + 1 }
 }

@@ -13,20 +13,13 @@ use crate::folded::{FoldedFault, fitting, stack_and_weight};
 use crate::merged_text::stacks_of_texts;
 use crate::stack_frames::Frames;
 use crate::taking::{LineTaker, take_lines};
-use crate::text_order::cmp_stack_texts;
+use crate::text_row::TextRow;
 use crate::written::write_stacks;
 use itoa::Buffer;
 use no_memory::NoMemory;
 use profile_rows::{Hashing, MAX_TOTAL, aggregate_stacks};
 use std::alloc::Global;
 use std::collections::HashMap;
-
-/// A row whose stack a text spells.
-#[derive(Drop)]
-pub(crate) struct TextRow<'a> {
-    pub(crate) text: &'a str,
-    pub(crate) weight: u64,
-}
 
 /// Rows of weight above 0, one for each stack text.
 #[derive(Drop)]
@@ -93,7 +86,7 @@ fn add_to_text(sums: &mut TextRows, at: usize, weight: u64, number: u64) -> Resu
     if weight > MAX_TOTAL - sums.total {
         return Err(FoldedFault::Heavy { line: number });
     }
-    sums.rows[at].weight += weight;
+    sums.rows[at].add(weight);
     sums.total += weight;
     Ok(())
 }
@@ -118,7 +111,7 @@ fn push_text<'a>(
         (AreKnownTexts sums.new.known sums.new.rows.items sums.new.total sums.new.are_joined) }
 {
     let at = sums.rows.len();
-    sums.rows.push(TextRow { text, weight })?;
+    sums.rows.push(TextRow::new(text, weight))?;
     sums.known.insert(text, at)?;
     sums.total += weight;
     sums.are_joined = sums.are_joined && is_joined;
@@ -203,7 +196,7 @@ pub(crate) fn sort_by_text(rows: &mut Vec<TextRow>) -> Result<(), NoMemory>
     ensures permutation { IsPermutation rows.old.items rows.new.items }
     ensures sorted { OnOk result (IsSorted by_text rows.new.items) }
 {
-    rows.sort_by(|left, right| cmp_stack_texts(left.text, right.text))?;
+    rows.sort_by(|left, right| left.cmp_text(right))?;
     Ok(())
 }
 
@@ -214,9 +207,9 @@ fn write_text_rows(alloc: Global, rows: &[TextRow]) -> Result<Vec<u8>, NoMemory>
     let mut text = Vec::new(alloc);
     let mut buffer = Buffer::new();
     for row in rows {
-        text.extend_from_slice(row.text.as_bytes())?;
+        text.extend_from_slice(row.text().as_bytes())?;
         text.push(b' ')?;
-        text.extend_from_slice(buffer.format(row.weight).as_bytes())?;
+        text.extend_from_slice(buffer.format(row.weight()).as_bytes())?;
         text.push(b'\n')?;
     }
     Ok(text)
@@ -234,7 +227,7 @@ pub(crate) fn report_of_texts(alloc: Global, rows: Vec<TextRow>) -> Result<Vec<u
 
 /// The folded report of rows by their stacks, name by name: also where stack texts have empty frames.
 fn report_of_stacks(alloc: Global, hashing: Hashing, rows: &[TextRow]) -> Result<Vec<u8>, NoMemory>
-    requires spelled { All (λ row. IsStackText row.text.now) rows.now }
+    requires spelled { All (λ row. IsStackText row.text) rows.now }
     requires fits { total_of (spelled_rows rows.now) < 2 ^ 63 }
     ensures { IfOk result (λ report. report.items ≡ folded_text_of (spelled_rows rows.now)) }
 {

@@ -14,7 +14,8 @@ ghost use Rattle.folded_text.specs.TextSums.{AreCounted, AreTotalsOfText};
 use crate::folded::{FoldedFault, fitting, fitting_depth, stack_and_weight};
 use crate::stack_frames::Frames;
 use crate::taking::{LineTaker, take_lines};
-use crate::text_rows::{TextRow, TextRows, sum_line};
+use crate::text_row::TextRow;
+use crate::text_rows::{TextRows, sum_line};
 use no_memory::NoMemory;
 use profile_rows::{CountedRows, FrameTotals, Hashing};
 use std::alloc::{AllocError, Global};
@@ -66,13 +67,13 @@ fn count_rows<'a>(
     rows: &[TextRow<'a>],
 ) -> Result<(), NoMemory>
     requires none { AreTalliesOf [] counted.old.total counted.old.tallies }
-    requires spelled { All (λ row. IsStackText row.text.now) rows.now }
+    requires spelled { All (λ row. IsStackText row.text) rows.now }
     requires fits { total_of (spelled_rows rows.now) < 2 ^ 63 }
     ensures { OnOk result (AreTalliesOf (spelled_rows rows.now) counted.new.total counted.new.tallies) }
 {
     for row in rows {
-        replace_by_text(frames, row.text)?;
-        counted.count(frames.as_slice(), row.weight)?;
+        replace_by_text(frames, row.text())?;
+        counted.count(frames.as_slice(), row.weight())?;
     }
     Ok(())
 }

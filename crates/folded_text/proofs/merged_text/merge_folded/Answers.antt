@@ -5,7 +5,7 @@ use Rattle.std.proofs.lemmas.List.Sorted.{All-permutation}
 use Rattle.std.proofs.lemmas.Result.{err_from_is_err_and}
 use Rattle.profile_rows.specs.Aggregate.{aggregate_of}
 use Rattle.profile_rows.specs.Rows.{total_of}
-use Rattle.folded_text.specs.declared.text_rows.TextRow.{TextRow}
+use Rattle.profile_rows.specs.StackTexts.{TextState}
 use Rattle.folded_text.specs.TextRows.{IsStackText, spelled_rows}
 use Rattle.folded_text.proofs.TextRows.{spelled-moved, spelled-within}
 use Rattle.folded_text.proofs.TextSums.{only_merged_text}
@@ -13,7 +13,7 @@ use Rattle.folded_text.proofs.merged_text.merge_folded.Goals as goal
 
 pub stacks_of_texts-requires-clause-spelled : goal.stacks_of_texts-requires-clause-spelled
 stacks_of_texts-requires-clause-spelled c =
-    let text : TextRow → Type 0 = λ (row : TextRow). IsStackText row.text.now in
+    let text : TextState → Type 0 = λ (row : TextState). IsStackText row.text in
     subst (All text) (sym c.as_slice.ensures.value)
     (All-permutation text c.in_ok-sums.sums.rows.items c.sort_by_text.new.rows.items c.sort_by_text.ensures.permutation c.in_ok-sums.ensures.known.spelled)
 

@@ -1,8 +1,7 @@
 use Rattle.std.proofs.Common.{◌≡◌, map, take}
 use Rattle.profile_rows.specs.StackTexts.{plain_text}
-use Rattle.folded_text.specs.TextRows.{lent_text}
 use Rattle.folded_text.proofs.stack_texts.lent_rows.Given as goal
 
 -- the rows so far
 abbrev pub invariant-loop-row : goal.invariant-loop-row
-invariant-loop-row l = map lent_text l.rows.items ≡ map plain_text (take l.row-index l.texts)
+invariant-loop-row l = l.rows.items ≡ map plain_text (take l.row-index l.texts)

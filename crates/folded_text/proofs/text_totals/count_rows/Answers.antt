@@ -1,10 +1,12 @@
 -- The rows so far and the next are within the limit of all.
-use Rattle.std.proofs.Common.{arith}
-use Rattle.folded_text.proofs.Waiting.{follows, no_text}
+use Rattle.std.proofs.Common.{ap, arith}
+use Rattle.profile_rows.specs.StackTexts.{TextState}
+use Rattle.folded_text.proofs.Waiting.{follows}
 use Rattle.folded_text.proofs.text_totals.count_rows.Goals as goal
 
 pub count-requires-clause-fits : goal.count-requires-clause-fits
 count-requires-clause-fits c =
-    let next = follows c.args.rows.now c.loop-row.row-index no_text c.loop-row-test.true c.requires.fits in
+    let next = follows c.args.rows.now c.loop-row.row-index c.row-item.result c.loop-row-test.true c.requires.fits in
+    let here = ap (λ (row : TextState). row.weight) c.row-item.is in
     let held = c.loop-row.invariant.total in
-    omega (arith, next, held)
+    omega (arith, next, here, held, c.weight.ensures)

@@ -1,0 +1,101 @@
+//! A row by the text of its stack.
+
+ghost use Rattle.std.specs.Prelude.{ℕ, ◌≡◌, ◌+◌, ◌<◌, ◌^◌, ◌∷◌};
+ghost use Rattle.folded_text.specs.StackOrder.{AreDigits, digits_of, front_of};
+ghost use Rattle.folded_text.specs.TextRows.{by_text};
+
+use crate::text_order::{byte_place, cmp_stack_texts};
+use std::cmp::Ordering;
+use std::marker::Model;
+
+/// A row whose stack a text spells. A contract sees the text and the weight.
+#[derive(Drop)]
+pub(crate) struct TextRow<'a> {
+    text: &'a str,
+    weight: u64,
+    /// The first bytes of the text as one number, which decides the order of most texts.
+    front: u64,
+}
+
+impl<'a> Model for TextRow<'a> {
+    ghost use Rattle.std.specs.Prelude.{◌≡◌};
+    ghost use Rattle.profile_rows.specs.StackTexts.{TextState};
+    ghost use Rattle.folded_text.specs.StackOrder.{AreDigits, digits_of, front_of};
+
+    ghost Value = { TextState };
+
+    ghost view = { λ row. record { text = row.text.now; weight = row.weight } };
+
+    ghost invariant = { λ row. (row.front ≡ front_of row.text.now) × AreDigits (digits_of 7 row.text.now) };
+}
+
+impl<'a> TextRow<'a> {
+    pub fn new(text: &'a str, weight: u64) -> TextRow<'a>
+        ensures { result ≡ record { text = text.now; weight = weight } }
+    {
+        TextRow {
+            text,
+            weight,
+            front: front_of(text),
+        }
+    }
+
+    pub fn text(&self) -> &'a str
+        ensures { result.now ≡ self.now.text }
+    {
+        self.text
+    }
+
+    pub fn weight(&self) -> u64
+        ensures { result ≡ self.now.weight }
+    {
+        self.weight
+    }
+
+    /// Makes the row weigh so much more.
+    pub fn add(&mut self, weight: u64)
+        requires { self.old.weight + weight < 2 ^ 64 }
+        ensures { self.new ≡ record { text = self.old.text; weight = self.old.weight + weight } }
+    {
+        self.weight += weight;
+    }
+
+    /// Compares the rows' texts.
+    pub fn cmp_text(&self, other: &TextRow) -> Ordering
+        ensures { result ≡ by_text self.now other.now }
+    {
+        let fronts = self.front.cmp(&other.front);
+        if fronts.is_ne() {
+            return fronts;
+        }
+        cmp_stack_texts(self.text, other.text)
+    }
+}
+
+/// Where the first byte of a text stands, the end before each byte, and what follows it.
+fn first_place(text: &[u8]) -> (u64, &[u8])
+    ensures small { result.0 < 512 }
+    ensures digits { (count : ℕ) → digits_of (count + 1) text.now ≡ result.0 ∷ digits_of count result.1.now }
+{
+    match text.split_first() {
+        Some((byte, rest)) => (byte_place(*byte) as u64 + 1, rest),
+        None => (0, text),
+    }
+}
+
+/// The first seven bytes of a text as one number.
+fn front_of(text: &str) -> u64
+    ensures front { result ≡ front_of text.now }
+    ensures digits { AreDigits (digits_of 7 text.now) }
+{
+    let (first, behind) = first_place(text.as_bytes());
+    let (second, behind) = first_place(behind);
+    let (third, behind) = first_place(behind);
+    let (fourth, behind) = first_place(behind);
+    let (fifth, behind) = first_place(behind);
+    let (sixth, behind) = first_place(behind);
+    let (seventh, _) = first_place(behind);
+    let three = (first * 512 + second) * 512 + third;
+    let five = (three * 512 + fourth) * 512 + fifth;
+    (five * 512 + sixth) * 512 + seventh
+}

@@ -87,7 +87,7 @@ one_fault held number line (Heavy x) (Heavy y) ha hb = inr (inr (ap Heavy (ha.0 
 one_fault held number line (Heavy x) NoMemory ha hb = inr (inl refl)
 
 -- at one place the lines before spell the same rows, and of two places the first is a row's
-IsFirstFault-same : (text : List ℕ) (fault other : FoldedFault) → IsFirstFault text fault → IsFirstFault text other → IsOneFault fault other
+pub IsFirstFault-same : (text : List ℕ) (fault other : FoldedFault) → IsFirstFault text fault → IsFirstFault text other → IsOneFault fault other
 IsFirstFault-same text fault other (before, line, after, rows, cut, known, fits, some, there) (others, line_b, after_b, rows_b, cut_b, known_b, fits_b, some_b, there_b) =
     elim (cuts before line after others line_b after_b (sym cut ∙ cut_b)) [
       | inl same ↦

@@ -1,10 +1,12 @@
 //! Laws of folded text, each the contract of a function that does nothing. A caller calls one to use its law.
 
-ghost use Rattle.std.specs.Prelude.{ℕ, ◌≡◌, ◌^◌, ◌++◌, ◌<◌, All, List};
+ghost use Rattle.std.specs.Prelude.{ℕ, ◌≡◌, ◌⊎◌, ◌^◌, ◌++◌, ◌<◌, All, List};
 ghost use Rattle.profile_rows.specs.declared.weighted_stacks.WeightedStack.{WeightedStack};
+ghost use Rattle.folded_text.specs.declared.folded.FoldedFault.{FoldedFault};
+ghost use Rattle.folded_text.specs.declared.folded.FoldedFault.TheVariants.{NoMemory};
 ghost use Rattle.profile_rows.specs.Rows.{IsBatchRow, stack_cmp, total_of};
 ghost use Rattle.profile_rows.specs.Aggregate.{aggregate_of, rows_of};
-ghost use Rattle.folded_text.specs.FoldedText.{IsFoldedText, folded_text_of, frames_of, rows_text};
+ghost use Rattle.folded_text.specs.FoldedText.{IsFirstFault, IsFoldedText, folded_text_of, frames_of, rows_text};
 ghost use Rattle.folded_text.specs.StackOrder.{IsJoined, stack_text_cmp};
 
 /// The text of rows that a batch can hold is folded text of exactly these rows, also of those of weight 0.
@@ -30,4 +32,13 @@ pub fn reports_of_parts_add_up()
 pub fn stack_texts_are_in_the_order_of_stacks()
     ensures { (text other : List ℕ) → IsJoined text → IsJoined other
         → stack_text_cmp text other ≡ stack_cmp (frames_of text) (frames_of other) }
+{}
+
+/// A text has at most one first fault, want of memory aside (`one`), and folded text has none (`none`). So whatever
+/// reads a text with a fault tells this one or want of memory.
+pub fn a_text_has_one_first_fault()
+    ensures one { (text : List ℕ) (fault other : FoldedFault) → IsFirstFault text fault → IsFirstFault text other
+        → (fault ≡ NoMemory) ⊎ ((other ≡ NoMemory) ⊎ (fault ≡ other)) }
+    ensures none { (text : List ℕ) (rows : List WeightedStack) (fault : FoldedFault)
+        → IsFoldedText text rows → IsFirstFault text fault → fault ≡ NoMemory }
 {}

@@ -1,7 +1,8 @@
 //! Laws of the definitions that the contracts speak of, each the contract of a function that does nothing.
 
 pub use folded_text::laws::{
-    reports_of_parts_add_up, stack_texts_are_in_the_order_of_stacks, written_rows_read_back,
+    a_text_has_one_first_fault, reports_of_parts_add_up, stack_texts_are_in_the_order_of_stacks,
+    written_rows_read_back,
 };
 pub use profile_rows::laws::{
     aggregate_has_weights, aggregate_is_by_weights, aggregate_of_its_rows, aggregate_of_more_rows,

@@ -13,16 +13,12 @@ use crate::live::live_report;
 use crate::outcomes::ToolFault;
 use crate::request::{Format, Request, Source};
 use flame_report::laws::answers_are_by_the_aggregate;
-use flame_report::{
-    Answer, Kind, Query, Rank, flame_json, report_of_stacks_with, top_list, top_text,
-};
-use folded_text::{FoldedFault, folded_report_with, folded_totals_with, merge_folded_with};
+use flame_report::{Answer, Kind, Query, Rank, flame_json, report_of_stacks, top_list, top_text};
+use folded_text::{FoldedFault, folded_report, folded_totals, merge_folded};
 use live_answers::Progress;
 use pprof_profile::{ProfileFault, Text, decode};
 use profile_rows::{FrameTotals, Hashing, NoMemory, WeightedStacks};
-use profile_samples::{
-    BatchFault, ValueChoice, export_folded_with, merge_samples_with, sample_totals_with,
-};
+use profile_samples::{BatchFault, ValueChoice, export_folded, merge_samples, sample_totals};
 use std::alloc::Global;
 use std::sync::Wait;
 use std::thread::Threads;
@@ -100,7 +96,7 @@ fn folded_top(
         (λ text. IsAnswerOfText input.now (Top rank count) text.items)
         (λ fault. IsRefusedIn Folded value input.now fault) }
 {
-    match folded_totals_with(alloc, hashing, input) {
+    match folded_totals(alloc, hashing, input) {
         Ok(totals) => Ok(totals_text(alloc, totals, rank, count)?),
         Err(fault) => Err(folded_fault(fault)),
     }
@@ -112,7 +108,7 @@ fn folded_lines(alloc: Global, hashing: Hashing, input: &[u8]) -> Result<Vec<u8>
         (λ text. IsAnswerOfText input.now kinds.Folded text.items)
         (λ fault. IsRefusedIn Folded value input.now fault) }
 {
-    match folded_report_with(alloc, hashing, input) {
+    match folded_report(alloc, hashing, input) {
         Ok(text) => Ok(text),
         Err(fault) => Err(folded_fault(fault)),
     }
@@ -135,7 +131,7 @@ fn profile_top(
         Ok(profile) => profile,
         Err(fault) => return Err(profile_fault(fault)),
     };
-    match sample_totals_with(alloc, hashing, &profile, choice_of(value)) {
+    match sample_totals(alloc, hashing, &profile, choice_of(value)) {
         Ok(totals) => Ok(totals_text(alloc, totals, rank, count)?),
         Err(fault) => Err(batch_fault(fault)),
     }
@@ -171,7 +167,7 @@ pub fn export(
         (λ bytes. IsExport kind.now unit.now input.now bytes.items)
         (λ fault. IsRefusedIn Folded None input.now fault) }
 {
-    match export_folded_with(alloc, hashing, input, kind.as_str(), unit.as_str()) {
+    match export_folded(alloc, hashing, input, kind.as_str(), unit.as_str()) {
         Ok(bytes) => Ok(bytes),
         Err(found) => Err(folded_fault(found)),
     }
@@ -200,7 +196,7 @@ fn merged_lines(alloc: Global, hashing: Hashing, input: &[u8]) -> Result<Weighte
         (λ merged. AreMergedIn Folded value input.now merged)
         (λ fault. IsRefusedIn Folded value input.now fault) }
 {
-    match merge_folded_with(alloc, hashing, input) {
+    match merge_folded(alloc, hashing, input) {
         Ok(merged) => Ok(merged),
         Err(fault) => Err(folded_fault(fault)),
     }
@@ -221,7 +217,7 @@ fn merged_samples(
         Ok(profile) => profile,
         Err(fault) => return Err(profile_fault(fault)),
     };
-    match merge_samples_with(alloc, hashing, &profile, choice_of(value)) {
+    match merge_samples(alloc, hashing, &profile, choice_of(value)) {
         Ok(merged) => Ok(merged),
         Err(fault) => Err(batch_fault(fault)),
     }
@@ -246,7 +242,7 @@ fn report_text(
 ) -> Result<Vec<u8>, NoMemory>
     ensures { IfOk result (λ text. text.items ≡ answer_text (answer_of rows query.now)) }
 {
-    let answer = report_of_stacks_with(alloc, hashing, rows, query)?;
+    let answer = report_of_stacks(alloc, hashing, rows, query)?;
     text_of(alloc, answer)
 }
 

@@ -150,24 +150,12 @@ pub fn report(alloc: Global, tree: &CallTree, query: &Query) -> Result<Answer, N
 }
 
 /// The plain answer to a query over the rows of a batch, by the query's value. A total and a top list of the first
-/// value are made from the rows as they stand.
+/// value are made from the rows as they stand. `hashing` says how names are hashed.
 ///
 /// # Errors
 ///
 /// `NoMemory`.
-pub fn report_of(alloc: Global, batch: &Batch, query: &Query) -> Result<Answer, NoMemory>
-    requires { query.now.value < batch.now.width }
-    ensures { IfOk result (λ answer. answer ≡ value_answer_of batch.now.rows query.now) }
-{
-    report_of_with(alloc, Hashing::fixed(), batch, query)
-}
-
-/// As [`report_of`], and `hashing` says how names are hashed.
-///
-/// # Errors
-///
-/// `NoMemory`.
-pub fn report_of_with(
+pub fn report_of(
     alloc: Global,
     hashing: Hashing,
     batch: &Batch,
@@ -186,33 +174,19 @@ pub fn report_of_with(
         }
         _ => {
             let rows = batch.weighted_stacks(alloc, query.value)?;
-            report_of_stacks_with(alloc, hashing, rows, query)
+            report_of_stacks(alloc, hashing, rows, query)
         }
     }
 }
 
 /// The plain answer to a query over rows of one value, whichever value the query names. A total and a top list are made
-/// from the rows as they stand; for the other answers the rows are sorted, and no tree is made.
+/// from the rows as they stand; for the other answers the rows are sorted, and no tree is made. `hashing` says how names
+/// are hashed.
 ///
 /// # Errors
 ///
 /// `NoMemory`.
 pub fn report_of_stacks(
-    alloc: Global,
-    rows: WeightedStacks,
-    query: &Query,
-) -> Result<Answer, NoMemory>
-    ensures { IfOk result (λ answer. answer ≡ answer_of rows query.now) }
-{
-    report_of_stacks_with(alloc, Hashing::fixed(), rows, query)
-}
-
-/// As [`report_of_stacks`], and `hashing` says how names are hashed.
-///
-/// # Errors
-///
-/// `NoMemory`.
-pub fn report_of_stacks_with(
     alloc: Global,
     hashing: Hashing,
     rows: WeightedStacks,

@@ -4,7 +4,7 @@ use crate::helpers::{batch_of, grower_of, pairs_of, rows_of, stack_of};
 use call_tree::CallTree;
 use flame_report::{
     Answer, Columns, Flame, Kind, Label, MAX_COLUMNS, Query, Rank, flame_json, report, report_of,
-    report_of_stacks, report_of_stacks_with, report_of_with, top_list, top_text,
+    report_of_stacks, top_list, top_text,
 };
 use stack_text::{Batch, Hashing, Name, WeightedStacks, folded_totals};
 use std::alloc::Global;
@@ -61,11 +61,16 @@ fn answer_text(alloc: Global, answer: &Answer) -> Result<String, Fail> {
     }
 }
 
-fn answer_of_rows(alloc: Global, rows: &Batch, query: &Query) -> Result<String, Fail> {
+fn answer_of_rows(
+    alloc: Global,
+    hashing: Hashing,
+    rows: &Batch,
+    query: &Query,
+) -> Result<String, Fail> {
     if query.value >= rows.width().get() {
         return Err("no such value".into());
     }
-    answer_text(alloc, &report_of(alloc, rows, query)?)
+    answer_text(alloc, &report_of(alloc, hashing, rows, query)?)
 }
 
 fn answer_of_tree(alloc: Global, tree: &CallTree, query: &Query) -> Result<String, Fail> {
@@ -80,24 +85,13 @@ fn answer_by_tree(alloc: Global, rows: &Batch, query: &Query) -> Result<String, 
     answer_of_tree(alloc, grower.tree(), query)
 }
 
-// The same wherever hashes begin.
-fn answer_by_key(alloc: Global, rows: &Batch, query: &Query) -> Result<String, Fail> {
-    if query.value >= rows.width().get() {
-        return Err("no such value".into());
-    }
-    answer_text(
-        alloc,
-        &report_of_with(alloc, Hashing::of_key(7), rows, query)?,
-    )
-}
-
 // The answer over rows, which their tree must give too, wherever hashes begin.
 fn answer_by_both(alloc: Global, rows: &Batch, query: &Query) -> Result<String, Fail> {
-    let by_rows = answer_of_rows(alloc, rows, query)?;
+    let by_rows = answer_of_rows(alloc, Hashing::fixed(), rows, query)?;
     if by_rows != answer_by_tree(alloc, rows, query)? {
         return Err("the tree answers otherwise".into());
     }
-    if by_rows != answer_by_key(alloc, rows, query)? {
+    if by_rows != answer_of_rows(alloc, Hashing::of_key(7), rows, query)? {
         return Err("the key changes the answer".into());
     }
     Ok(by_rows)
@@ -174,7 +168,7 @@ fn layout_answered(alloc: Global, rows: &Batch, query: &Query) -> Result<String,
     if query.value >= rows.width().get() {
         return Err("no such value".into());
     }
-    match &report_of(alloc, rows, query)? {
+    match &report_of(alloc, Hashing::fixed(), rows, query)? {
         Answer::Flame(flame) => layout_text(alloc, flame),
         _ => Err("no layout".into()),
     }
@@ -330,7 +324,7 @@ fn columns_have_limits(rt: HostRuntime) -> Result<(), Fail> {
 
 // The two names that weigh most with what stands below them.
 fn heaviest_two(alloc: Global) -> Result<String, Fail> {
-    let totals = folded_totals(alloc, THREE.as_bytes())?;
+    let totals = folded_totals(alloc, Hashing::fixed(), THREE.as_bytes())?;
     answer_text(alloc, &Answer::Top(top_list(totals, Rank::Cum, 2)?))
 }
 
@@ -467,17 +461,16 @@ const STACKS: &[(&str, u64)] = &[
     ("main;a;b", 2),
 ];
 
-fn stacks_answered_by_key(alloc: Global, query: &Query) -> Result<String, Fail> {
+fn stacks_answered_by(alloc: Global, hashing: Hashing, query: &Query) -> Result<String, Fail> {
     let rows = stacks_of(alloc, STACKS)?;
-    let answer = report_of_stacks_with(alloc, Hashing::of_key(7), rows, query)?;
+    let answer = report_of_stacks(alloc, hashing, rows, query)?;
     answer_text(alloc, &answer)
 }
 
 // The answer over these rows, the same wherever hashes begin.
 fn stacks_answered(alloc: Global, query: &Query) -> Result<String, Fail> {
-    let rows = stacks_of(alloc, STACKS)?;
-    let answer = answer_text(alloc, &report_of_stacks(alloc, rows, query)?)?;
-    if answer != stacks_answered_by_key(alloc, query)? {
+    let answer = stacks_answered_by(alloc, Hashing::fixed(), query)?;
+    if answer != stacks_answered_by(alloc, Hashing::of_key(7), query)? {
         return Err("the key changes the answer".into());
     }
     Ok(answer)

@@ -7,8 +7,7 @@ use flame_report::{Rank, Top, top_list, top_text};
 use pprof_profile::{Profile, decode, encode};
 use stack_text::{
     Batch, Hashing, Name, ValueChoice, ValueUnit, WeightedStacks, batch_of, batch_of_with,
-    export_folded, export_folded_with, merge_samples, merge_samples_with, profile_of,
-    sample_totals, sample_totals_with, unfold, write_stacks,
+    export_folded, merge_samples, profile_of, sample_totals, unfold, write_stacks,
 };
 use std::alloc::Global;
 use std::test::Fail;
@@ -16,7 +15,7 @@ use std::test::Fail;
 // One sample of the frame f and of weight 7, of the type cpu in ns.
 #[test]
 fn folded_text_is_exported_as_a_profile(rt: HostRuntime) -> Result<(), Fail> {
-    let bytes = export_folded(rt.alloc(), b"f 7\n", "cpu", "ns")?;
+    let bytes = export_folded(rt.alloc(), Hashing::fixed(), b"f 7\n", "cpu", "ns")?;
     assert!(rt; bytes.as_slice() == ONE_SAMPLE);
     Ok(())
 }
@@ -104,15 +103,15 @@ fn stacks_text(alloc: Global, stacks: &WeightedStacks) -> Result<String, Fail> {
     Ok(text.ok().ok_or("no text")?)
 }
 
-fn merged_text(alloc: Global, profile: &Profile) -> Result<String, Fail> {
-    let merged = merge_samples(alloc, profile, ValueChoice::Default)?;
+fn merged_text(alloc: Global, hashing: Hashing, profile: &Profile) -> Result<String, Fail> {
+    let merged = merge_samples(alloc, hashing, profile, ValueChoice::Default)?;
     stacks_text(alloc, &merged)
 }
 
 // The rows of a profile's samples, equal ones merged, as folded text.
 fn read_merged(alloc: Global, bytes: &[u8]) -> Result<String, Fail> {
     let profile = decode(alloc, bytes)?;
-    merged_text(alloc, &profile)
+    merged_text(alloc, Hashing::fixed(), &profile)
 }
 
 // Two samples of the frame f, of the values 7 and 5.
@@ -213,15 +212,15 @@ fn text_of_top(alloc: Global, top: &Top) -> Result<String, Fail> {
     Ok(text.ok().ok_or("no text")?)
 }
 
-fn top_of(alloc: Global, profile: &Profile) -> Result<String, Fail> {
-    let totals = sample_totals(alloc, profile, ValueChoice::Default)?;
+fn top_of(alloc: Global, hashing: Hashing, profile: &Profile) -> Result<String, Fail> {
+    let totals = sample_totals(alloc, hashing, profile, ValueChoice::Default)?;
     text_of_top(alloc, &top_list(totals, Rank::Flat, 20)?)
 }
 
 // The top list of a profile's samples, which are counted and not kept.
 fn read_top(alloc: Global, bytes: &[u8]) -> Result<String, Fail> {
     let profile = decode(alloc, bytes)?;
-    top_of(alloc, &profile)
+    top_of(alloc, Hashing::fixed(), &profile)
 }
 
 // Two functions of two strings of one text, and a location without lines at 7. Samples at each alone, of 1, 2 and 4,
@@ -261,33 +260,21 @@ fn a_sample_counts_a_recursive_name_once(rt: HostRuntime) -> Result<(), Fail> {
 
 #[test]
 fn folded_text_is_exported_wherever_hashes_begin(rt: HostRuntime) -> Result<(), Fail> {
-    let bytes = export_folded_with(rt.alloc(), Hashing::of_key(7), b"f 7\n", "cpu", "ns")?;
+    let bytes = export_folded(rt.alloc(), Hashing::of_key(7), b"f 7\n", "cpu", "ns")?;
     assert!(rt; bytes.as_slice() == ONE_SAMPLE);
     Ok(())
 }
 
-fn merged_by_key(alloc: Global, profile: &Profile) -> Result<String, Fail> {
-    let hashing = Hashing::of_key(7);
-    let merged = merge_samples_with(alloc, hashing, profile, ValueChoice::Default)?;
-    stacks_text(alloc, &merged)
-}
-
-fn batch_by_key(alloc: Global, profile: &Profile) -> Result<String, Fail> {
-    let hashing = Hashing::of_key(7);
+fn batch_by(alloc: Global, hashing: Hashing, profile: &Profile) -> Result<String, Fail> {
     let rows = batch_of_with(alloc, hashing, profile, ValueChoice::Default)?;
     text_of(alloc, &rows)
 }
 
-fn top_by_key(alloc: Global, profile: &Profile) -> Result<String, Fail> {
-    let hashing = Hashing::of_key(7);
-    let totals = sample_totals_with(alloc, hashing, profile, ValueChoice::Default)?;
-    text_of_top(alloc, &top_list(totals, Rank::Flat, 20)?)
-}
-
 fn texts_by_key(alloc: Global, profile: &Profile) -> Result<String, Fail> {
-    let merged = merged_by_key(alloc, profile)?;
-    let rows = batch_by_key(alloc, profile)?;
-    let top = top_by_key(alloc, profile)?;
+    let hashing = Hashing::of_key(7);
+    let merged = merged_text(alloc, hashing, profile)?;
+    let rows = batch_by(alloc, hashing, profile)?;
+    let top = top_of(alloc, hashing, profile)?;
     Ok(format!(in alloc; "{merged}|{rows}|{top}")?)
 }
 

@@ -8,8 +8,8 @@ use profile_rows::{CountedRows, aggregate_stacks};
 use stack_text::{
     Batch, FoldedFault, FrameTotals, Hashing, MAX_DEPTH, MAX_TOTAL, Name, NameFault, NoMemory,
     OwnedRow, PushFault, Stack, WeightedStack, WeightedStacks, Weights, Width, aggregate,
-    folded_report, folded_report_with, folded_totals, folded_totals_with, kept_totals,
-    kept_totals_with, merge_folded, merge_folded_with, read_folded, read_folded_with, write_stacks,
+    folded_report, folded_totals, kept_totals, kept_totals_with, merge_folded, read_folded,
+    read_folded_with, write_stacks,
 };
 use std::alloc::{AllocError, Global};
 use std::hash::BuildHasher;
@@ -218,7 +218,7 @@ fn an_aggregate_has_each_stack_once(rt: HostRuntime) -> Result<(), Fail> {
 
 #[test]
 fn lines_of_one_stack_are_merged(rt: HostRuntime) -> Result<(), Fail> {
-    let merged = merge_folded(rt.alloc(), b"a;b 1\nc 2\na;b 3\n")?;
+    let merged = merge_folded(rt.alloc(), Hashing::fixed(), b"a;b 1\nc 2\na;b 3\n")?;
     assert_eq!(rt;
         write_stacks(rt.alloc(), &merged)?.as_slice(),
         b"a;b 4\nc 2\n".as_slice()
@@ -232,7 +232,7 @@ fn folded_report_is_in_the_order_of_stacks(rt: HostRuntime) -> Result<(), Fail> 
         "b;c 1\na!;x 2\na;b 1\nb;c 3\nx 0\n 4\n",
         ";b;;c; 1\na!;x 2\na;b 1\nb;c 3\nx 0\n 4\n",
     ] {
-        let report = folded_report(rt.alloc(), text.as_bytes())?;
+        let report = folded_report(rt.alloc(), Hashing::fixed(), text.as_bytes())?;
         assert_eq!(rt; report.as_slice(), b" 4\na;b 1\na!;x 2\nb;c 4\n".as_slice());
     }
     Ok(())
@@ -253,7 +253,7 @@ const RECURSIVE: &str = "a;b;a 5\nb 3\nx 0\n 2\n";
 
 #[test]
 fn names_of_folded_text_are_counted_once_a_row(rt: HostRuntime) -> Result<(), Fail> {
-    let totals = folded_totals(rt.alloc(), RECURSIVE.as_bytes())?;
+    let totals = folded_totals(rt.alloc(), Hashing::fixed(), RECURSIVE.as_bytes())?;
     assert_eq!(rt; totals.total, 10);
     assert_eq!(rt; totals.frames.len(), 2);
     assert!(rt; weights(&totals, "a") == Some((5, 5)));
@@ -442,7 +442,8 @@ fn room_for_rows_is_no_row(rt: HostRuntime) -> Result<(), Fail> {
 
 // Three stacks of one value, one of them of no weight.
 fn some_stacks(alloc: Global) -> Result<WeightedStacks, Fail> {
-    Ok(merge_folded(alloc, b"b 2\na;b 1\nc 0\n")?)
+    let rows = rows_of(alloc, "b 2\na;b 1\nc 0\n")?;
+    Ok(rows.first().share(alloc)?)
 }
 
 #[test]
@@ -590,7 +591,7 @@ const FOLDED: &[u8] = b"a;b 1\nc 2\na;b 3\n";
 #[test]
 fn rows_are_the_same_wherever_hashes_begin(rt: HostRuntime) -> Result<(), Fail> {
     let hashing = Hashing::random(&rt)?;
-    let merged = merge_folded_with(rt.alloc(), hashing, FOLDED)?;
+    let merged = merge_folded(rt.alloc(), hashing, FOLDED)?;
     assert_eq!(rt;
         write_stacks(rt.alloc(), &merged)?.as_slice(),
         b"a;b 4\nc 2\n".as_slice()
@@ -603,9 +604,9 @@ fn rows_are_the_same_wherever_hashes_begin(rt: HostRuntime) -> Result<(), Fail> 
 #[test]
 fn reports_are_the_same_wherever_hashes_begin(rt: HostRuntime) -> Result<(), Fail> {
     let hashing = Hashing::random(&rt)?;
-    let report = folded_report_with(rt.alloc(), hashing, FOLDED)?;
+    let report = folded_report(rt.alloc(), hashing, FOLDED)?;
     assert_eq!(rt; report.as_slice(), b"a;b 4\nc 2\n".as_slice());
-    let totals = folded_totals_with(rt.alloc(), hashing, FOLDED)?;
+    let totals = folded_totals(rt.alloc(), hashing, FOLDED)?;
     assert!(rt; totals.total == 6 && weights(&totals, "b") == Some((4, 4)));
     Ok(())
 }

@@ -266,33 +266,12 @@ fn totals_by(
 
 /// What the names weigh in the rows that [`batch_of`](crate::batch_of) makes of a profile's samples, by one value. The
 /// samples are counted one by one, and no rows are made: memory is for the names, and a sample costs a step for each
-/// location and each of its names.
+/// location and each of its names. `hashing` says how names and ids are hashed.
 ///
 /// # Errors
 ///
 /// Those of [`merge_samples`](crate::merge_samples).
 pub fn sample_totals(
-    alloc: Global,
-    profile: &Profile,
-    choice: ValueChoice,
-) -> Result<FrameTotals, BatchFault>
-    ensures read { MatchResult result (AreTotalsOfSamples profile.now choice.entry)
-        (λ fault. IsFirstStacksFault profile.now choice.entry fault) }
-    ensures accepted { (rows : List WeightedStack) → AreStacksOf profile.now choice.entry rows
-        → MatchResult result (AreTotalsOf rows) (λ fault. fault ≡ BatchFault.NoMemory) }
-    ensures every_fault { (first : BatchFault) → first ≢ BatchFault.NoMemory
-        → IsFirstStacksFault profile.now choice.entry first
-        → MatchResult result (λ totals. ⊥) (λ fault. (fault ≡ BatchFault.NoMemory) ⊎ (fault ≡ first)) }
-{
-    sample_totals_with(alloc, Hashing::fixed(), profile, choice)
-}
-
-/// As [`sample_totals`], and `hashing` says how names and ids are hashed.
-///
-/// # Errors
-///
-/// Those of [`merge_samples`](crate::merge_samples).
-pub fn sample_totals_with(
     alloc: Global,
     hashing: Hashing,
     profile: &Profile,

@@ -90,35 +90,12 @@ fn profile_bytes(
 /// Folded text as a profile's bytes: those that [`encode`](pprof_profile::encode) gives of
 /// [`profile_of`](crate::profile_of) the batch of one value that [`read_folded`](crate::read_folded) reads. Neither
 /// rows nor samples are kept: memory is for the bytes and the names. The bytes are a profile, which
-/// [`decode`](pprof_profile::decode) reads.
+/// [`decode`](pprof_profile::decode) reads. `hashing` says how names are hashed.
 ///
 /// # Errors
 ///
 /// Those of [`read_folded`](crate::read_folded).
 pub fn export_folded(
-    alloc: Global,
-    text: &[u8],
-    kind: &str,
-    unit: &str,
-) -> Result<Vec<u8>, FoldedFault>
-    ensures exported { MatchResult result (λ bytes. IsExportOfText text.now kind.now unit.now bytes.items)
-        (λ fault. IsWorkFault text.now fault) }
-    ensures accepted { (rows : List WeightedStack) → IsFoldedText text.now rows
-        → MatchResult result
-        (λ bytes. bytes.items ≡ canonical_bytes_of (single_profile_of rows kind.now unit.now))
-        (λ fault. fault ≡ FoldedFault.NoMemory) }
-    ensures profile { (rows : List WeightedStack) → IsFoldedText text.now rows
-        → IfOk result (λ bytes. IsProfile bytes.items (single_profile_of rows kind.now unit.now)) }
-{
-    export_folded_with(alloc, Hashing::fixed(), text, kind, unit)
-}
-
-/// As [`export_folded`], and `hashing` says how names are hashed.
-///
-/// # Errors
-///
-/// Those of [`read_folded`](crate::read_folded).
-pub fn export_folded_with(
     alloc: Global,
     hashing: Hashing,
     text: &[u8],

@@ -15,8 +15,8 @@ mod text_table;
 mod unfolding;
 
 pub use batches::{batch_of, batch_of_with};
-pub use counted_samples::{sample_totals, sample_totals_with};
+pub use counted_samples::sample_totals;
 pub use exporting::{ValueUnit, profile_of};
-pub use folded_export::{export_folded, export_folded_with};
-pub use merged_samples::{merge_samples, merge_samples_with};
+pub use folded_export::export_folded;
+pub use merged_samples::merge_samples;
 pub use sampling::{BatchFault, ValueChoice, unfold};

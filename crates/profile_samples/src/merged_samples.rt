@@ -156,34 +156,13 @@ fn merged_by<'a>(
 }
 
 /// The rows of a profile's samples by one value, those of the same locations merged and their weights summed: as
-/// [`batch_of`](crate::batch_of), and every report on them is the same, in fewer rows.
+/// [`batch_of`](crate::batch_of), and every report on them is the same, in fewer rows. `hashing` says how ids and lists
+/// of locations are hashed.
 ///
 /// # Errors
 ///
 /// Those of [`batch_of`](crate::batch_of); `NoValue` where all values are asked for.
 pub fn merge_samples(
-    alloc: Global,
-    profile: &Profile,
-    choice: ValueChoice,
-) -> Result<WeightedStacks, BatchFault>
-    ensures read { MatchResult result (λ merged. IsMergedBatch profile.now choice.entry merged)
-        (λ fault. IsFirstStacksFault profile.now choice.entry fault) }
-    ensures accepted { (rows : List WeightedStack) → AreStacksOf profile.now choice.entry rows
-        → MatchResult result (λ merged. aggregate_of merged ≡ aggregate_of rows)
-        (λ fault. fault ≡ BatchFault.NoMemory) }
-    ensures every_fault { (first : BatchFault) → first ≢ BatchFault.NoMemory
-        → IsFirstStacksFault profile.now choice.entry first
-        → MatchResult result (λ merged. ⊥) (λ fault. (fault ≡ BatchFault.NoMemory) ⊎ (fault ≡ first)) }
-{
-    merge_samples_with(alloc, Hashing::fixed(), profile, choice)
-}
-
-/// As [`merge_samples`], and `hashing` says how ids and lists of locations are hashed.
-///
-/// # Errors
-///
-/// Those of [`merge_samples`].
-pub fn merge_samples_with(
     alloc: Global,
     hashing: Hashing,
     profile: &Profile,

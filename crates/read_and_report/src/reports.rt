@@ -13,8 +13,8 @@ ghost use Rattle.read_and_report.specs.Made.{AreMadeOf};
 
 use anyhow::{Result, bail};
 use profile_store::{
-    Answer, Batch, Columns, Draft, Items, Kind, Query, Rank, ValueChoice, batch_of, decode,
-    flame_json, read_folded, report_of, top_text,
+    Answer, Batch, Columns, Draft, Hashing, Items, Kind, Query, Rank, ValueChoice, batch_of,
+    decode, flame_json, read_folded, report_of, top_text,
 };
 use std::alloc::Global;
 
@@ -80,7 +80,7 @@ fn answer(alloc: Global, batch: &Batch, kind: Kind) -> Result<Answer>
         value: 0,
         kind,
     };
-    Ok(report_of(alloc, batch, &query)?)
+    Ok(report_of(alloc, Hashing::fixed(), batch, &query)?)
 }
 
 /// The ten names of the most flat weight.

@@ -6,8 +6,8 @@
 pub mod laws;
 
 pub use folded_text::{
-    FoldedFault, folded_report, folded_report_with, folded_totals, folded_totals_with,
-    merge_folded, merge_folded_with, read_folded, read_folded_with, write_folded, write_stacks,
+    FoldedFault, folded_report, folded_totals, merge_folded, read_folded, read_folded_with,
+    write_folded, write_stacks,
 };
 pub use profile_rows::{
     Batch, FrameTotal, FrameTotals, Hashing, MAX_DEPTH, MAX_TOTAL, MAX_WIDTH, Name, NameFault,
@@ -15,6 +15,6 @@ pub use profile_rows::{
     Weights, Width, aggregate, first_heavy, keeps, kept_totals, kept_totals_with,
 };
 pub use profile_samples::{
-    BatchFault, ValueChoice, ValueUnit, batch_of, batch_of_with, export_folded, export_folded_with,
-    merge_samples, merge_samples_with, profile_of, sample_totals, sample_totals_with, unfold,
+    BatchFault, ValueChoice, ValueUnit, batch_of, batch_of_with, export_folded, merge_samples,
+    profile_of, sample_totals, unfold,
 };

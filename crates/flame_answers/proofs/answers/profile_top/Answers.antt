@@ -11,5 +11,5 @@ returns-in-Err c = subst (λ (fault : ToolFault). IsRefusedIn Pprof c.args.value
 
 pub returns : goal.returns
 returns c = subst (λ (fault : ToolFault). IsRefusedIn Pprof c.args.value.now c.args.input.now fault) (sym c.batch_fault.ensures)
-    (batch_refused c.args.value.now c.args.input.now c.in-Ok.profile c.choice_of.result c.in-Err-sample_totals_with.fault c.in-Ok.ensures.read (λ other is. c.in-Ok.ensures.every_profile other is) c.choice_of.ensures
-    c.in-Err-sample_totals_with.ensures.read c.in-Err-sample_totals_with.ensures.accepted)
+    (batch_refused c.args.value.now c.args.input.now c.in-Ok.profile c.choice_of.result c.in-Err-sample_totals.fault c.in-Ok.ensures.read (λ other is. c.in-Ok.ensures.every_profile other is) c.choice_of.ensures
+    c.in-Err-sample_totals.ensures.read c.in-Err-sample_totals.ensures.accepted)

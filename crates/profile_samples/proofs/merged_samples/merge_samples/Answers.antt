@@ -5,7 +5,7 @@ use Rattle.profile_samples.specs.MergedSamples.{IsMergedBatch}
 use Rattle.profile_samples.proofs.FirstFaults.{only_stacks_fault}
 use Rattle.profile_samples.proofs.MergedSamples.{only_batch_sums}
 use Rattle.profile_samples.proofs.SampleRows.{chosen_within, first_of_standing}
-use Rattle.profile_samples.proofs.merged_samples.merge_samples_with.Goals as goal
+use Rattle.profile_samples.proofs.merged_samples.merge_samples.Goals as goal
 
 pub merged_by-requires-clause-typed : goal.merged_by-requires-clause-typed
 merged_by-requires-clause-typed c =

@@ -8,7 +8,7 @@ use Rattle.pprof_profile.specs.Profiles.{IsProfile}
 use Rattle.profile_samples.specs.Export.{single_profile_of}
 use Rattle.profile_samples.proofs.ExportedRows.{AreSamplesOf-none, only_export}
 use Rattle.folded_text.proofs.Reading.{IsFoldedText-same}
-use Rattle.profile_samples.proofs.folded_export.export_folded_with.Goals as goal
+use Rattle.profile_samples.proofs.folded_export.export_folded.Goals as goal
 
 pub take_lines-requires : goal.take_lines-requires
 take_lines-requires c = λ k. ((refl, tt), AreSamplesOf-none c.new.result c.new-2.result c.new.ensures c.new-2.ensures)

@@ -8,7 +8,7 @@ use Rattle.profile_samples.specs.CountedSamples.{AreTotalsOfSamples}
 use Rattle.profile_samples.proofs.FirstFaults.{only_stacks_fault}
 use Rattle.profile_samples.proofs.MergedSamples.{only_sample_totals}
 use Rattle.profile_samples.proofs.SampleRows.{first_of_work}
-use Rattle.profile_samples.proofs.counted_samples.sample_totals_with.Goals as goal
+use Rattle.profile_samples.proofs.counted_samples.sample_totals.Goals as goal
 
 pub totals_by-requires-clause-chosen : goal.totals_by-requires-clause-chosen
 totals_by-requires-clause-chosen c =

@@ -4,7 +4,7 @@ use Rattle.profile_rows.specs.Aggregate.{AreWeighty, IsAscending, aggregate_of}
 use Rattle.flame_report.specs.Answers.{answer_of}
 use Rattle.profile_rows.proofs.InOrder.{rows_of-AreWeighty, rows_of-IsAscending}
 use Rattle.flame_report.proofs.Same.{answer_of-rows_of, if_ok_seen}
-use Rattle.flame_report.proofs.reports.report_of_stacks_with.Goals as goal
+use Rattle.flame_report.proofs.reports.report_of_stacks.Goals as goal
 
 pub answer-requires-clause-ascending : goal.answer-requires-clause-ascending
 answer-requires-clause-ascending c =

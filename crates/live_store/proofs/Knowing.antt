@@ -1,5 +1,5 @@
 -- What a session knows lasts, and grows by each step.
-use Rattle.std.proofs.Common.{◌≡◌, ℕ, zero, suc, ◌+◌, ◌-◌, ◌*◌, ◌==◌, ◌<◌, ◌≤◌, ◌⊎◌, inl, inr, cond, Bool, true, false, List, [], ◌∷◌, ◌++◌, length, take, map, get_or, slice_get, Option, Some, None, All, AllPairs, refl, sym, ap, ◌∙◌, subst, arith, length-append, append_assoc}
+use Rattle.std.proofs.Common.{◌≡◌, ℕ, zero, suc, ◌+◌, ◌*◌, ◌==◌, ◌<◌, ◌≤◌, ◌⊎◌, inl, inr, Bool, true, false, List, [], ◌∷◌, ◌++◌, length, take, map, get_or, slice_get, Option, Some, None, All, AllPairs, refl, sym, ap, ◌∙◌, subst, arith, length-append}
 use Rattle.std.specs.Prelude.{MatchBool, IsSomeAnd, Result, Ok, Err, IfOk, OnOk, OnErr}
 use Rattle.std.specs.List.{filter}
 use Rattle.std.proofs.lemmas.List.{map-append, append-nil, length-map, take_all}
@@ -8,10 +8,10 @@ use Rattle.std.proofs.lemmas.List.Quantifiers.{all_pairs_push}
 use Rattle.std.proofs.lemmas.List.Sums.{length-filter}
 use Rattle.std.proofs.lemmas.Bool.Decides.{nat_tests}
 use mathlib.Core.List.{IsPrefix}
-use Rattle.change_history.proofs.Fronts.{prefix_self, prefix_trans, prefix_whole, prefix_length, prefix_get}
+use Rattle.change_history.proofs.Fronts.{prefix_trans, prefix_whole, prefix_length, prefix_get}
 use Rattle.op_book.specs.Books.{BookState, IsFirstBookFault, change_told, entry_after, receipt_after}
 use Rattle.op_book.specs.Matching.{HasEntry, Precedes, key_of}
-use Rattle.op_book.specs.Operations.{PlainEntry, PlainOp, PlainReceipt, PlainReply, answered, ask, is_change, operations_of, placed, plain_answer}
+use Rattle.op_book.specs.Operations.{PlainEntry, PlainOp, PlainReceipt, ask, is_change, operations_of, plain_answer}
 use Rattle.op_book.specs.Runs.{turns_of}
 use Rattle.op_book.specs.declared.fault.BookFault.{BookFault}
 use Rattle.op_book.specs.declared.fault.BookFault.TheVariants as book

@@ -1,7 +1,7 @@
 //! Workers: threads of which each takes the operations of a list to a session of its own.
 
-ghost use Rattle.std.specs.Prelude.{◌≡◌, ◌≢◌, ◌<◌, ◌≤◌, [], length, map, vec_capacity, All, IfErr, IfOk, IfSome, IsSomeAnd, MatchOption};
-ghost use Rattle.std.specs.Option.{ForSome};
+ghost use Rattle.std.specs.Prelude.{◌≡◌, ◌≢◌, ◌<◌, ◌≤◌, [], length, map, vec_capacity, All, IfErr, IfOk, IfSome, IsSomeAnd, MatchOption, MatchResult};
+ghost use Rattle.std.specs.Result.{ForOk};
 ghost use Rattle.op_book.specs.Operations.{plain_op};
 ghost use Rattle.live_store.specs.Workers.{AreWorkOf, IsSeen, IsStarted, IsStopShown, IsStoppedBy, IsWorkOf, IsWorkersFault, ops_told};
 
@@ -11,12 +11,12 @@ use crate::store::Store;
 use change_history::StoreName;
 use flame_report::Items;
 use op_book::{BookFault, Op, SessionLog};
-use std::alloc::Global;
+use std::alloc::{AllocError, Global};
 use std::marker::PhantomData;
 use std::snapshot::Snapshot;
 use std::sync::Wait;
 use std::thread;
-use std::thread::{Promise, PromisedHandle, Threads};
+use std::thread::{Promise, PromisedHandle, SpawnError, Threads};
 
 /// What is called around each step of each worker, a refused one included. Workers and steps are numbered from 0.
 pub trait Gate: Sync {
@@ -80,13 +80,13 @@ impl<N: StoreName> Promise<Worked> for WorkOn<N> {
         × (worked.log.session ≡ promise.session) × IsSeen N.sessions worked × IsStarted worked };
 }
 
-/// A worker whose thread was started, or couldn't be.
+/// A worker's thread, or its work, for which no thread could be had.
 #[derive(Drop)]
-struct Begun<N: StoreName> {
+struct Begun<N: StoreName, W> {
     session: u32,
     list: Snapshot<Vec<Op>>,
-    thread: Option<PromisedHandle<Worked, WorkOn<N>>>,
-    ghost same: { ForSome thread (λ handle. (handle.promise.list.value ≡ list.value)
+    thread: Result<PromisedHandle<Worked, WorkOn<N>>, SpawnError<W>>,
+    ghost same: { ForOk thread (λ handle. (handle.promise.list.value ≡ list.value)
         × (handle.promise.session ≡ session)) },
 }
 
@@ -111,9 +111,7 @@ pub fn run_workers<'a, N: StoreName, G: Gate, R: Threads + Wait + Sync>(
     ensures fault { IfErr result (IsWorkersFault (length lists.items)) }
 {
     let workers = open(rt, alloc, store, lists)?;
-    let begun = Vec::with_capacity(alloc, workers.len())?;
-    let worked = Vec::with_capacity(alloc, workers.len())?;
-    Ok(work_all(rt, alloc, workers, gate, begun, worked))
+    Ok(work_all(rt, alloc, workers, gate)?)
 }
 
 /// A session for each list.
@@ -147,57 +145,52 @@ fn open<'a, N: StoreName, R: Wait>(
     Ok(workers)
 }
 
-/// Starts a thread for each worker, and joins all. Both lists have memory for all workers.
+/// Starts a thread for each worker, and joins all. Memory for what they do is there before the first is started.
 fn work_all<'a, N: StoreName, G: Gate, R: Threads + Wait + Sync>(
     rt: &R,
     alloc: Global,
     workers: Vec<Worker<'a, N>>,
     gate: &G,
-    begun: Vec<Begun<N>>,
-    worked: Vec<Worked>,
-) -> Vec<Worked>
-    requires begun { (begun.items ≡ []) × (length workers.items ≤ vec_capacity begun) }
-    requires worked { (worked.items ≡ []) × (length workers.items ≤ vec_capacity worked) }
-    ensures work { AreWorkOf N.limit N.width
-        (map (λ worker. map plain_op worker.list.items) workers.entry.items) result.items }
-    ensures seen { All (IsSeen N.sessions) result.items }
+) -> Result<Vec<Worked>, AllocError>
+    ensures work { IfOk result (λ all. AreWorkOf N.limit N.width
+        (map (λ worker. map plain_op worker.list.items) workers.entry.items) all.items) }
+    ensures seen { IfOk result (λ all. All (IsSeen N.sessions) all.items) }
 {
     thread::scope(
         thread::scope_env(),
         rt,
-        move |scope| -> Vec<Worked>
-            requires { (begun.items ≡ []) × (length workers.items ≤ vec_capacity begun) × (worked.items ≡ [])
-                × (length workers.items ≤ vec_capacity worked) }
-            ensures work { AreWorkOf N.limit N.width
-                (map (λ worker. map plain_op worker.list.items) workers.entry.items) result.items }
-            ensures seen { All (IsSeen N.sessions) result.items }
+        move |scope| -> Result<Vec<Worked>, AllocError>
+            ensures work { IfOk result (λ all. AreWorkOf N.limit N.width
+                (map (λ worker. map plain_op worker.list.items) workers.entry.items) all.items) }
+            ensures seen { IfOk result (λ all. All (IsSeen N.sessions) all.items) }
         {
-            let mut begun = begun;
+            let mut begun = Vec::with_capacity(alloc, workers.len())?;
+            let worked = Vec::with_capacity(alloc, workers.len())?;
             for worker in workers {
                 let session = worker.session.number();
                 let list = Snapshot::of(&worker.list);
-                let promise = WorkOn {
+                let promise = WorkOn::<N> {
                     session,
                     list: Snapshot::of(&worker.list),
                     of: PhantomData,
                 };
-                let started = scope.spawn_with(promise, move || work(rt, alloc, worker, gate));
+                let thread = scope.spawn_with(promise, move || work(rt, alloc, worker, gate));
                 begun.push_reserved(Begun {
                     session,
                     list,
-                    thread: started.ok(),
+                    thread,
                 });
             }
-            join_all(rt, alloc, begun, worked)
+            Ok(join_all(rt, alloc, begun, worked))
         },
     )
 }
 
 /// What each worker did, once its thread has ended.
-fn join_all<N: StoreName, R: Threads + Wait>(
+fn join_all<N: StoreName, W: Drop, R: Threads + Wait>(
     rt: &R,
     alloc: Global,
-    begun: Vec<Begun<N>>,
+    begun: Vec<Begun<N, W>>,
     worked: Vec<Worked>,
 ) -> Vec<Worked>
     requires room { (worked.items ≡ []) × (length begun.items ≤ vec_capacity worked) }
@@ -213,13 +206,17 @@ fn join_all<N: StoreName, R: Threads + Wait>(
 }
 
 /// What a worker did, once its thread has ended.
-fn join_one<N: StoreName, R: Threads + Wait>(rt: &R, alloc: Global, begun: Begun<N>) -> Worked
+fn join_one<N: StoreName, W: Drop, R: Threads + Wait>(
+    rt: &R,
+    alloc: Global,
+    begun: Begun<N, W>,
+) -> Worked
     requires { begun.session < N.sessions }
     ensures work { IsWorkOf N.limit N.width (map plain_op begun.list.value.items) result }
     ensures session { result.log.session ≡ begun.session }
     ensures seen { IsSeen N.sessions result }
-    ensures start { MatchOption begun.thread
-        (IsSomeAnd result.stopped (λ stop. stop.cause ≡ Cause.Start)) (λ _. IsStarted result) }
+    ensures start { MatchResult begun.thread (λ _. IsStarted result)
+        (λ _. IsSomeAnd result.stopped (λ stop. stop.cause ≡ Cause.Start)) }
 {
     let Begun {
         session,
@@ -227,8 +224,8 @@ fn join_one<N: StoreName, R: Threads + Wait>(rt: &R, alloc: Global, begun: Begun
         thread,
     } = begun;
     match thread {
-        Some(thread) => thread.join(rt),
-        None => Worked {
+        Ok(thread) => thread.join(rt),
+        Err(_) => Worked {
             log: SessionLog {
                 session,
                 receipts: Items::new(Vec::new(alloc)),

@@ -2,7 +2,7 @@ use Rattle.std.proofs.Common.{ℕ, List, sym, subst, ◌∙◌}
 use mathlib.Core.List.{IsPrefix}
 use Rattle.change_history.proofs.Fronts.{prefix_trans}
 use Rattle.op_book.specs.Operations.{PlainEntry, reset}
-use Rattle.live_store.specs.Stores.{IsShownBy, changes_told}
+use Rattle.live_store.specs.Stores.{IsShownBy}
 use Rattle.live_store.proofs.Knowing.{shown_first}
 use Rattle.live_store.proofs.desk.Desk.reset.Goals as goal
 

@@ -19,6 +19,8 @@ mod shared_trees;
 #[cfg(test)]
 mod stacks;
 #[cfg(test)]
+mod summed_lines;
+#[cfg(test)]
 mod trees;
 #[cfg(test)]
 mod values;

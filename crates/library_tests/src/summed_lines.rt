@@ -25,12 +25,20 @@ fn all_names(alloc: Global, totals: FrameTotals) -> Result<Vec<u8>, Fail> {
 #[test]
 fn totals_of_lines_are_those_of_their_rows(rt: HostRuntime) -> Result<(), Fail> {
     let alloc = rt.alloc();
-    for (count, stacks) in [(9_000, 4_095), (9_000, 4_097), (5_000, 5_000), (12_000, 5_000)] {
+    for (count, stacks) in [
+        (9_000, 4_095),
+        (9_000, 4_097),
+        (5_000, 5_000),
+        (12_000, 5_000),
+    ] {
         let text = lines(alloc, count, stacks)?;
         let counted = folded_totals(alloc, Hashing::fixed(), text.as_bytes())?;
         let rows = read_folded(alloc, text.as_bytes())?;
         let kept = kept_totals(alloc, rows.first(), None, None)?;
-        assert!(rt; all_names(alloc, counted)? == all_names(alloc, kept)?, "{count} over {stacks}");
+        assert!(rt;
+            all_names(alloc, counted)? == all_names(alloc, kept)?,
+            "{count} over {stacks}"
+        );
     }
     Ok(())
 }
@@ -58,7 +66,8 @@ fn the_limit_holds_over_all_lines(rt: HostRuntime) -> Result<(), Fail> {
 
 #[test]
 fn merged_rows_are_in_the_order_of_their_stacks(rt: HostRuntime) -> Result<(), Fail> {
-    let text = b"b 1\na.b 1\na;b 2\na 3\na;b 4\nc 0\nlong_names_differ_late 1\nlong_names_differ_at_last 1\n";
+    let text =
+        b"b 1\na.b 1\na;b 2\na 3\na;b 4\nc 0\nlong_names_differ_late 1\nlong_names_differ_at_last 1\n";
     let merged = merge_folded(rt.alloc(), Hashing::fixed(), text)?;
     assert_eq!(rt;
         write_stacks(rt.alloc(), &merged)?.as_slice(),

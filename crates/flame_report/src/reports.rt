@@ -180,8 +180,8 @@ pub fn report_of(
 }
 
 /// The plain answer to a query over rows of one value, whichever value the query names. A total and a top list are made
-/// from the rows as they stand; for the other answers the rows are sorted, and no tree is made. `hashing` says how names
-/// are hashed.
+/// from the rows as they stand; for the other answers the rows are sorted, and no tree is made. `hashing` says how
+/// names are hashed.
 ///
 /// # Errors
 ///

@@ -1,15 +1,15 @@
 #!/usr/bin/env python3
 """Changes the logs of random journals, and compares what the audit says with a model of it in Python.
 
-    tools/attack_audits/attack_audits.py [--cases 100000] [--seed 1] [--work FOLDER]
+    tools/attack_audits/attack_audits.py [--cases 100000] [--seed 1] [--work FOLDER] [--built]
 
 A case has 1 to 8 sessions and 1 to 4 values, random additions, resets and reports, and then no change of its logs, or
 one or two: a receipt left out, doubled, moved, its place, operation, reply or answer changed, or a log told as another
 session's. The program is attack_audits.rattle, which makes the journal and the logs by the library, changes the logs,
 and audits them. The model knows the operations alone, and works out each reply and the audit's first fault by itself.
 
-The program is proved and linked in a copy of the crates below it; --work keeps the copy. The exit status is 1 where the
-two differ anywhere.
+The program is a quick build of the crates' own sources, of which nothing is proved (tools/quick_program); --work keeps
+it, and with --built it isn't built again. The exit status is 1 where the two differ anywhere.
 """
 import argparse
 import collections
@@ -21,8 +21,8 @@ import sys
 import tempfile
 
 HERE = pathlib.Path(__file__).resolve().parent
-sys.path.insert(0, str(HERE.parent.parent / "bench"))
-from proved_program import copy_program, link  # noqa: E402
+sys.path.insert(0, str(HERE.parent / "quick_program"))
+from quick_program import build  # noqa: E402
 
 NAME = "attack_audits"
 LIBRARIES = ["profile_rows", "flame_report", "op_book", "anyhow"]
@@ -267,9 +267,7 @@ def mismatches(program, cases):
 
 
 def run(options, work):
-    copy_program(NAME, LIBRARIES, work, HERE)
-    print(f"proves and links {NAME}", flush=True)
-    program = link(NAME, work, [], "")
+    program = work / NAME if options.built else build(NAME, {"main": HERE / f"{NAME}.rattle"}, LIBRARIES, work)
     dice, ends, wrong = random.Random(options.seed), collections.Counter(), []
     for start in range(0, options.cases, CASES_A_RUN):
         cases = [random_case(dice) for _ in range(min(CASES_A_RUN, options.cases - start))]
@@ -287,6 +285,7 @@ def main():
     parser.add_argument("--cases", type=int, default=100_000)
     parser.add_argument("--seed", type=int, default=1)
     parser.add_argument("--work", type=pathlib.Path)
+    parser.add_argument("--built", action="store_true")
     options = parser.parse_args()
     if options.work:
         options.work.mkdir(parents=True, exist_ok=True)

@@ -1,17 +1,10 @@
-"""Builds the program of the cases outside the repository, with growths.c linked into it.
-
-It is a quick build (`rt try`) of the crates' own sources, of which nothing is proved, with the address sanitizer: it
-also ends a run that uses a block that was given back.
-"""
-import os
+"""Builds the program of the cases outside the repository, with growths.c linked into it."""
 import pathlib
-import shutil
-import subprocess
 import sys
 
 HERE = pathlib.Path(__file__).resolve().parent
-sys.path.insert(0, str(HERE.parent.parent / "bench"))
-from proved_program import TOP, crates_below, write_list  # noqa: E402
+sys.path.insert(0, str(HERE.parent / "quick_program"))
+import quick_program  # noqa: E402
 
 NAME = "refused_growths"
 LIBRARIES = [
@@ -20,34 +13,7 @@ LIBRARIES = [
 ]
 
 
-def copy_sources(folder):
-    """Copies the cases and all crates below them, and returns the folder of their crate."""
-    crates = folder / "crates"
-    shutil.rmtree(crates, ignore_errors=True)
-    below = crates_below(LIBRARIES)
-    for crate in below:
-        for part in ("src", "specs", "proofs"):
-            at = TOP / "crates" / crate / part
-            if at.is_dir():
-                shutil.copytree(at, crates / crate / part)
-    (crates / NAME / "src").mkdir(parents=True)
-    for file in sorted((HERE / "cases").glob("*.rattle")):
-        shutil.copyfile(file, crates / NAME / "src" / f"{file.stem}.rt")
-    (crates / NAME / "c").mkdir()
-    shutil.copyfile(HERE / "growths.c", crates / NAME / "c/growths.c")
-    below[NAME] = LIBRARIES
-    write_list(below, folder)
-    return crates / NAME
-
-
 def build(folder):
     """The program, which leaves a copy of itself in the folder when it is first run."""
-    program = folder / NAME
-    program.unlink(missing_ok=True)
-    crate = copy_sources(folder)
-    variables = {**os.environ, "RT_ALLOW_C": NAME, "CFLAGS": f"-Wall -Wextra '-DKEEP_AT=\"{program}\"'"}
-    words = ["rt", "try", "--", "write_varint"]
-    ran = subprocess.run(words, cwd=crate, env=variables, capture_output=True, text=True)
-    if not program.exists():
-        sys.exit(ran.stderr + ran.stdout + "the cases aren't built")
-    return program
+    sources = {file.stem: file for file in sorted((HERE / "cases").glob("*.rattle"))}
+    return quick_program.build(NAME, sources, LIBRARIES, folder, [HERE / "growths.c"], ["write_varint"])

@@ -11,18 +11,15 @@
    "case ends"         the counts are told.
 
    REFUSE_FROM is the number of the first growth that is refused, and REFUSE_COUNT how many are, 0 for all from there
-   on. Where KEEP_AT is defined, a first run leaves a copy of the program there. */
+   on. */
 #define _GNU_SOURCE
-#include <dlfcn.h>
 #include <errno.h>
-#include <fcntl.h>
 #include <pthread.h>
 #include <stdatomic.h>
 #include <stdint.h>
 #include <stdio.h>
 #include <stdlib.h>
 #include <string.h>
-#include <sys/sendfile.h>
 #include <unistd.h>
 
 typedef void *(*Body)(void *);
@@ -146,21 +143,3 @@ ssize_t __interceptor_write(int file, const void *text, size_t size) {
     }
     return (ssize_t)size;
 }
-
-#ifdef KEEP_AT
-static const char *last_part(const char *path) {
-    const char *slash = strrchr(path, '/');
-    return slash ? slash + 1 : path;
-}
-
-/* Leaves a copy, where this isn't one. The process's own file may be the loader's, so the program is found by a
-   function of its own. */
-__attribute__((constructor)) static void keep(void) {
-    Dl_info program;
-    if (!dladdr((void *)keep, &program) || strcmp(last_part(program.dli_fname), last_part(KEEP_AT)) == 0) return;
-    int from = open(program.dli_fname, O_RDONLY), to = open(KEEP_AT, O_WRONLY | O_CREAT | O_EXCL, 0755);
-    while (to >= 0 && from >= 0 && sendfile(to, from, NULL, 1 << 20) > 0) continue;
-    if (to >= 0) close(to);
-    if (from >= 0) close(from);
-}
-#endif

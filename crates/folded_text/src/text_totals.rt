@@ -81,9 +81,10 @@ fn count_rows<'a>(
 /// How many stack texts wait before it is looked at whether that saves work.
 const FIRST_TEXTS: u64 = 4096;
 
-/// Whether so many lines had so few stack texts that waiting for more lines of these saves work.
+/// Whether at least a quarter of so many lines had a stack text that was there before, so that waiting for more lines
+/// of these texts saves work.
 fn saves_work(texts: u64, lines: u64) -> bool {
-    texts < FIRST_TEXTS || lines / 2 >= texts
+    texts < FIRST_TEXTS || lines - lines / 4 >= texts
 }
 
 /// A text whose rows are counted by the names of their frames. Those of one stack text wait to be counted together, as

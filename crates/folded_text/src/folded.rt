@@ -1,6 +1,6 @@
 //! Folded text read: a line is cut, tested against the limits, and becomes a row.
 
-ghost use Rattle.std.specs.Prelude.{ℕ, ◌≡◌, ◌≢◌, ◌⊎◌, ◌+◌, ◌^◌, ◌<◌, ◌≤◌, ◌↔◌, ◌∷◌, ◌++◌, [], All, IfErr, IfOk, IsTrue, List, MatchOption, MatchResult, OnOk, length};
+ghost use Rattle.std.specs.Prelude.{ℕ, ◌≡◌, ◌≢◌, ◌⊎◌, ◌+◌, ◌^◌, ◌<◌, ◌≤◌, ◌↔◌, ◌∷◌, ◌++◌, [], All, IfErr, IfOk, IsTrue, List, MatchOption, MatchResult, OnOk, length, map};
 ghost use Rattle.std.specs.Str.{IsUtf8};
 ghost use Rattle.std.specs.Str.Parse.{IsNumeral, digits_value};
 ghost use Rattle.profile_rows.specs.declared.weighted_stacks.WeightedStack.{WeightedStack};
@@ -11,10 +11,10 @@ ghost use Rattle.profile_rows.specs.Rows.{total_of};
 ghost use Rattle.profile_rows.specs.Values.{single_batch};
 
 use crate::known_names::KnownNames;
-use crate::stack_frames::Frames;
+use crate::stack_frames::{measured, replace_by_text};
 use crate::taking::{LineTaker, take_lines};
 use no_memory::NoMemory;
-use profile_rows::{Batch, Hashing, MAX_DEPTH, MAX_TOTAL, Name, Stack, WeightedStacks};
+use profile_rows::{Batch, Hashing, MAX_DEPTH, MAX_TOTAL, Stack, WeightedStacks};
 use simdutf8::basic;
 use std::alloc::Global;
 use thiserror::Error;
@@ -85,47 +85,6 @@ fn weight_from(digits: &str) -> Option<u64>
     }
 }
 
-/// How many frames a stack text has.
-pub(crate) fn depth_of(text: &str) -> usize
-    ensures { result ≡ length (frames_of text.now) }
-{
-    let mut rest = Frames::of(text);
-    for depth in 0..text.len() {
-        if rest.next_frame().is_none() {
-            return depth;
-        }
-    }
-    // a frame for each byte
-    text.len()
-}
-
-/// What a line spells: the text of a stack, how many frames that has, and the weight.
-#[derive(Clone, Copy)]
-pub struct Spelled<'a> {
-    pub stack: &'a str,
-    pub depth: usize,
-    pub weight: u64,
-}
-
-/// The names of the frames of a stack text, root first.
-pub(crate) fn names_from<'a>(
-    alloc: Global,
-    names: &mut KnownNames<'a>,
-    text: &'a str,
-    depth: usize,
-) -> Result<Vec<Name>, NoMemory>
-    requires one_line { All (λ byte. byte ≢ 10) text.now }
-    requires depth { depth ≡ length (frames_of text.now) }
-    ensures { IfOk result (λ frames. frames.items ≡ frames_of text.now) }
-{
-    let mut frames = Vec::with_capacity(alloc, depth)?;
-    let mut rest = Frames::of(text);
-    while let Some(frame) = rest.next_frame() {
-        frames.push(names.name_of(alloc, frame)?)?;
-    }
-    Ok(frames)
-}
-
 /// The stack text and the weight of a line.
 pub(crate) fn stack_and_weight<'a>(
     line: &'a [u8],
@@ -164,82 +123,77 @@ pub(crate) fn fitting(depth: usize, weight: u64, held: u64, number: u64) -> Resu
     Ok(())
 }
 
-/// How many frames a stack text has, where a row of it can follow rows of the weight `held`.
-pub(crate) fn fitting_depth(
-    text: &str,
-    weight: u64,
-    held: u64,
-    number: u64,
-) -> Result<usize, FoldedFault>
-    requires { held < 2 ^ 63 }
-    ensures depth { IfOk result
-        (λ depth. (depth ≡ length (frames_of text.now)) × (depth ≤ MAX_DEPTH) × (held + weight < 2 ^ 63)) }
-    ensures fault { IfErr result (IsFittingFault held number text.now weight) }
-{
-    let depth = depth_of(text);
-    fitting(depth, weight, held, number)?;
-    Ok(depth)
-}
-
-/// What a line spells, where its row can follow rows of the weight `held`. Takes no memory: a line's fault is found
-/// before memory can run out at that line.
+/// The frames of a line's stack, root first, in the place of others, and the line's weight, where its row can follow
+/// rows of the weight `held`.
 ///
 /// # Errors
 ///
-/// The line's fault, under this number.
-pub fn read_line<'a>(line: &'a [u8], held: u64, number: u64) -> Result<Spelled<'a>, FoldedFault>
-    requires { held < 2 ^ 63 }
-    ensures spelled { IfOk result (λ found. IsUtf8 line.now × (held + found.weight < 2 ^ 63)
-        × ((digits : List ℕ) × HasCount line.now found.stack.now digits
-        × (found.weight ≡ digits_value 10 digits))
-        × (found.depth ≡ length (frames_of found.stack.now)) × (found.depth ≤ MAX_DEPTH)) }
+/// The line's fault, under this number; `NoMemory` only where it has none.
+pub fn read_frames<'a>(
+    frames: &mut Vec<&'a str>,
+    line: &'a [u8],
+    held: u64,
+    number: u64,
+) -> Result<u64, FoldedFault>
+    requires one_line { All (λ byte. byte ≢ 10) line.now }
+    requires held { held < 2 ^ 63 }
+    ensures spelled { IfOk result (λ weight. (held + weight < 2 ^ 63)
+        × IsRowLine line.now (record { stack = map (λ frame. frame.now) frames.new.items; weight = weight })) }
+    ensures names { OnOk result (All IsName (map (λ frame. frame.now) frames.new.items)) }
     ensures fault { IfErr result (IsLineFault held number line.now) }
-    ensures named { IfErr result (λ fault. fault ≢ FoldedFault.NoMemory) }
 {
     let (stack, weight) = stack_and_weight(line, number)?;
-    let depth = fitting_depth(stack, weight, held, number)?;
-    Ok(Spelled {
-        stack,
-        depth,
-        weight,
-    })
+    let Ok(()) = replace_by_text(frames, stack) else {
+        // a line's own fault comes before want of memory at it
+        fitting(measured(stack).0, weight, held, number)?;
+        return Err(FoldedFault::NoMemory);
+    };
+    fitting(frames.len(), weight, held, number)?;
+    Ok(weight)
 }
 
-/// Adds a row of the stack that a text spells, which fits.
-pub(crate) fn push_spelled<'a>(
+/// Adds a row of these frames, which fits.
+pub(crate) fn push_frames<'a>(
     alloc: Global,
-    names: &mut KnownNames<'a>,
-    batch: &mut WeightedStacks,
-    spelled: Spelled<'a>,
+    known: &mut KnownNames<'a>,
+    rows: &mut WeightedStacks,
+    frames: &[&'a str],
+    weight: u64,
 ) -> Result<(), NoMemory>
-    requires one_line { All (λ byte. byte ≢ 10) spelled.stack.now }
-    requires depth { (spelled.depth ≡ length (frames_of spelled.stack.now)) × (spelled.depth ≤ MAX_DEPTH) }
-    requires fits { total_of batch.old + spelled.weight < 2 ^ 63 }
+    requires names { All IsName (map (λ frame. frame.now) frames.now) }
+    requires depth { length frames.now ≤ MAX_DEPTH }
+    requires fits { total_of rows.old + weight < 2 ^ 63 }
     ensures { OnOk result
-        (batch.new ≡ batch.old
-        ++ (record { stack = frames_of spelled.entry.stack.now; weight = spelled.entry.weight }) ∷ []) }
+        (rows.new ≡ rows.old ++ (record { stack = map (λ frame. frame.now) frames.now; weight = weight }) ∷ []) }
 {
-    let frames = names_from(alloc, names, spelled.stack, spelled.depth)?;
-    let Ok(stack) = Stack::make(frames) else {
+    let names = known.names_of(alloc, frames, rows.rows().last())?;
+    let Ok(stack) = Stack::make(names) else {
         return Err(NoMemory);
     };
-    batch.push(stack, spelled.weight).map_err(|_| NoMemory)
+    rows.push(stack, weight).map_err(|_| NoMemory)
 }
 
-/// A text that is read into rows.
+/// A text that is read into rows. The frames of a line take the place of others in the buffer.
 #[derive(Drop)]
 struct Reading<'a> {
     alloc: Global,
-    names: KnownNames<'a>,
-    batch: WeightedStacks,
+    known: KnownNames<'a>,
+    rows: WeightedStacks,
+    frames: Vec<&'a str>,
 }
 
 impl<'a> LineTaker<'a> for Reading<'a> {
-    ghost is_of = { λ reading rows. reading.batch ≡ rows };
+    ghost is_of = { λ reading rows. reading.rows ≡ rows };
 
     fn take_line(&mut self, line: &'a [u8], number: u64) -> Result<(), FoldedFault> {
-        let spelled = read_line(line, self.batch.total(), number)?;
-        Ok(push_spelled(self.alloc, &mut self.names, &mut self.batch, spelled)?)
+        let weight = read_frames(&mut self.frames, line, self.rows.total(), number)?;
+        Ok(push_frames(
+            self.alloc,
+            &mut self.known,
+            &mut self.rows,
+            self.frames.as_slice(),
+            weight,
+        )?)
     }
 }
 
@@ -253,11 +207,12 @@ fn read_stacks(alloc: Global, hashing: Hashing, text: &[u8]) -> Result<WeightedS
 {
     let mut reading = Reading {
         alloc,
-        names: KnownNames::new(alloc, hashing),
-        batch: WeightedStacks::new(alloc),
+        known: KnownNames::new(alloc, hashing),
+        rows: WeightedStacks::new(alloc),
+        frames: Vec::new(alloc),
     };
     take_lines(text, &mut reading)?;
-    Ok(reading.batch)
+    Ok(reading.rows)
 }
 
 /// Reads folded stacks: a line for each row, its frames from root to leaf separated by semicolons, then a space and a

@@ -1,10 +1,10 @@
 //! The names met so far in a text.
 
-ghost use Rattle.std.specs.Prelude.{◌≡◌, IfOk};
+ghost use Rattle.std.specs.Prelude.{◌≡◌, All, IfOk, map};
 ghost use Rattle.profile_rows.specs.Names.{IsName};
 
 use no_memory::NoMemory;
-use profile_rows::{Hashing, Name};
+use profile_rows::{Hashing, Name, WeightedStack};
 use std::alloc::Global;
 use std::collections::HashMap;
 use std::marker::Model;
@@ -44,5 +44,38 @@ impl<'a> KnownNames<'a> {
         let name = Name::keep(alloc, text)?;
         self.names.insert(text, name.share()?)?;
         Ok(name)
+    }
+    /// The name of a frame: that of the row before at its place, where this has the same text.
+    fn name_like(
+        &mut self,
+        alloc: Global,
+        text: &'a str,
+        before: Option<&Name>,
+    ) -> Result<Name, NoMemory>
+        requires { IsName text.now }
+        ensures { IfOk result (λ name. name ≡ text.now) }
+    {
+        match before {
+            Some(name) if name.text() == text => name.share(),
+            _ => self.name_of(alloc, text),
+        }
+    }
+
+    /// The names of a row's frames, many of which the row before it may have at the same places.
+    pub fn names_of(
+        &mut self,
+        alloc: Global,
+        frames: &[&'a str],
+        before: Option<&WeightedStack>,
+    ) -> Result<Vec<Name>, NoMemory>
+        requires { All IsName (map (λ frame. frame.now) frames.now) }
+        ensures { IfOk result (λ names. names.items ≡ map (λ frame. frame.now) frames.now) }
+    {
+        let mut names = Vec::with_capacity(alloc, frames.len())?;
+        for frame in frames {
+            let like = before.and_then(|row| row.stack.names().get(names.len()));
+            names.push(self.name_like(alloc, *frame, like)?)?;
+        }
+        Ok(names)
     }
 }

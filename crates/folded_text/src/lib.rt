@@ -14,9 +14,8 @@ mod text_rows;
 mod text_totals;
 mod written;
 
-pub use folded::{FoldedFault, Spelled, read_folded, read_folded_with, read_line};
+pub use folded::{FoldedFault, read_folded, read_folded_with, read_frames};
 pub use merged_text::merge_folded;
-pub use stack_frames::Frames;
 pub use stack_texts::report_of_stack_texts;
 pub use taking::{LineTaker, take_lines};
 pub use text_rows::folded_report;

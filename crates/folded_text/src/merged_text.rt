@@ -8,8 +8,9 @@ ghost use Rattle.folded_text.specs.FoldedText.{IsFoldedText, IsWorkFault};
 ghost use Rattle.folded_text.specs.TextRows.{IsStackText, spelled_rows};
 ghost use Rattle.folded_text.specs.TextSums.{IsMergedText};
 
-use crate::folded::{FoldedFault, Spelled, depth_of, push_spelled};
+use crate::folded::{FoldedFault, push_frames};
 use crate::known_names::KnownNames;
+use crate::stack_frames::replace_by_text;
 use crate::text_row::TextRow;
 use crate::text_rows::{read_text_rows, sort_by_text};
 use no_memory::NoMemory;
@@ -26,15 +27,18 @@ pub(crate) fn stacks_of_texts(
     requires fits { total_of (spelled_rows rows.now) < 2 ^ 63 }
     ensures { IfOk result (λ stacks. stacks ≡ spelled_rows rows.now) }
 {
-    let mut names = KnownNames::new(alloc, hashing);
+    let mut known = KnownNames::new(alloc, hashing);
     let mut stacks = WeightedStacks::with_capacity(alloc, rows.len())?;
+    let mut frames = Vec::new(alloc);
     for row in rows {
-        let spelled = Spelled {
-            stack: row.text(),
-            depth: depth_of(row.text()),
-            weight: row.weight(),
-        };
-        push_spelled(alloc, &mut names, &mut stacks, spelled)?;
+        replace_by_text(&mut frames, row.text())?;
+        push_frames(
+            alloc,
+            &mut known,
+            &mut stacks,
+            frames.as_slice(),
+            row.weight(),
+        )?;
     }
     Ok(stacks)
 }

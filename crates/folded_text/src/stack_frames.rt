@@ -1,15 +1,17 @@
 //! The frames of a stack text, one after the other.
 
-ghost use Rattle.std.specs.Prelude.{◌≡◌, ◌<◌, ◌++◌, ◌∷◌, [], MatchOption, length};
+ghost use Rattle.std.specs.Prelude.{◌≡◌, ◌≢◌, ◌<◌, ◌++◌, ◌∷◌, [], All, MatchOption, OnOk, length, map, sum_by};
 ghost use Rattle.folded_text.specs.FoldedText.{frame_in, frames_of};
+ghost use Rattle.profile_rows.specs.Names.{IsName};
 
 use bstr::ByteSlice;
+use std::alloc::AllocError;
 use std::marker::Model;
 
 /// The frames of a stack text, root first: the pieces between its semicolons, without the empty ones. They are lent
 /// from the text.
 #[derive(Drop)]
-pub struct Frames<'a> {
+pub(crate) struct Frames<'a> {
     rest: &'a str,
 }
 
@@ -54,4 +56,33 @@ impl<'a> Frames<'a> {
         }
         None
     }
+}
+
+/// How many frames a stack text has, and how many bytes these have together.
+pub(crate) fn measured(text: &str) -> (usize, usize)
+    ensures depth { result.0 ≡ length (frames_of text.now) }
+    ensures bytes { result.1 ≡ sum_by length (frames_of text.now) }
+{
+    let mut depth = 0;
+    let mut bytes = 0;
+    let mut rest = Frames::of(text);
+    while let Some(frame) = rest.next_frame() {
+        depth += 1;
+        bytes += frame.len();
+    }
+    (depth, bytes)
+}
+
+/// The frames of a stack text, root first, in the place of others.
+pub(crate) fn replace_by_text<'a>(frames: &mut Vec<&'a str>, text: &'a str) -> Result<(), AllocError>
+    requires { All (λ byte. byte ≢ 10) text.now }
+    ensures names { OnOk result (All IsName (frames_of text.now)) }
+    ensures texts { OnOk result (map (λ frame. frame.now) frames.new.items ≡ frames_of text.now) }
+{
+    frames.clear();
+    let mut rest = Frames::of(text);
+    while let Some(frame) = rest.next_frame() {
+        frames.push(frame)?;
+    }
+    Ok(())
 }

@@ -11,7 +11,7 @@ ghost use Rattle.folded_text.specs.TextRows.{AreKnownTexts, AreSumsOfText, AreTe
 
 use crate::folded::{FoldedFault, fitting, stack_and_weight};
 use crate::merged_text::stacks_of_texts;
-use crate::stack_frames::Frames;
+use crate::stack_frames::measured;
 use crate::taking::{LineTaker, take_lines};
 use crate::text_row::TextRow;
 use crate::written::write_stacks;
@@ -45,21 +45,6 @@ impl<'a> TextRows<'a> {
             are_joined: true,
         }
     }
-}
-
-/// How many frames a stack text has, and how many bytes these have together.
-fn measured(text: &str) -> (usize, usize)
-    ensures depth { result.0 ≡ length (frames_of text.now) }
-    ensures bytes { result.1 ≡ sum_by length (frames_of text.now) }
-{
-    let mut depth = 0;
-    let mut bytes = 0;
-    let mut rest = Frames::of(text);
-    while let Some(frame) = rest.next_frame() {
-        depth += 1;
-        bytes += frame.len();
-    }
-    (depth, bytes)
 }
 
 /// Whether a stack text is its frames, so many of so many bytes, with a semicolon between each two.

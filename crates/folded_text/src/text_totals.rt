@@ -11,28 +11,14 @@ ghost use Rattle.folded_text.specs.FoldedText.{IsFoldedText, IsLineFault, IsRowL
 ghost use Rattle.folded_text.specs.TextRows.{IsStackText, spelled_rows};
 ghost use Rattle.folded_text.specs.TextSums.{AreCounted, AreTotalsOfText};
 
-use crate::folded::{FoldedFault, fitting, fitting_depth, stack_and_weight};
-use crate::stack_frames::Frames;
+use crate::folded::{FoldedFault, read_frames};
+use crate::stack_frames::replace_by_text;
 use crate::taking::{LineTaker, take_lines};
 use crate::text_row::TextRow;
 use crate::text_rows::{TextRows, sum_line};
 use no_memory::NoMemory;
 use profile_rows::{CountedRows, FrameTotals, Hashing};
-use std::alloc::{AllocError, Global};
-
-/// The frames of a stack text, root first, in the place of others.
-fn replace_by_text<'a>(frames: &mut Vec<&'a str>, text: &'a str) -> Result<(), AllocError>
-    requires { All (λ byte. byte ≢ 10) text.now }
-    ensures names { OnOk result (All IsName (frames_of text.now)) }
-    ensures texts { OnOk result (map (λ frame. frame.now) frames.new.items ≡ frames_of text.now) }
-{
-    frames.clear();
-    let mut rest = Frames::of(text);
-    while let Some(frame) = rest.next_frame() {
-        frames.push(frame)?;
-    }
-    Ok(())
-}
+use std::alloc::Global;
 
 /// Counts the row that a line spells, where it spells one that can follow the others. Its frames take the place of
 /// others in the buffer.
@@ -50,13 +36,7 @@ fn count_line<'a>(
         × AreTalliesOf (before ++ row ∷ []) rows.new.total rows.new.tallies) }
     ensures fault { IfErr result (IsLineFault rows.old.total number line.now) }
 {
-    let (stack, weight) = stack_and_weight(line, number)?;
-    let Ok(()) = replace_by_text(frames, stack) else {
-        // a line's own fault comes before want of memory at it
-        fitting_depth(stack, weight, rows.total, number)?;
-        return Err(FoldedFault::NoMemory);
-    };
-    fitting(frames.len(), weight, rows.total, number)?;
+    let weight = read_frames(frames, line, rows.total, number)?;
     Ok(rows.count(frames.as_slice(), weight)?)
 }
 

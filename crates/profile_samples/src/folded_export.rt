@@ -5,58 +5,58 @@ ghost use Rattle.pprof_profile.specs.Canonical.{canonical_bytes_of};
 ghost use Rattle.pprof_profile.specs.Profiles.{IsProfile};
 ghost use Rattle.profile_rows.specs.declared.weighted_stacks.WeightedStack.{WeightedStack};
 ghost use Rattle.profile_samples.specs.Export.{AreSamplesOf, IsExportOfText, single_profile_of, id_in};
-ghost use Rattle.folded_text.specs.FoldedText.{IsFoldedText, IsLineFault, IsRowLine, IsWorkFault, frames_of};
+ghost use Rattle.folded_text.specs.FoldedText.{IsFoldedText, IsLineFault, IsRowLine, IsWorkFault};
 ghost use Rattle.profile_rows.specs.Rows.{total_of};
 ghost use Rattle.profile_samples.specs.TextTables.{with_texts};
 
 use crate::exporting::{ValueUnit, exported_draft};
 use crate::text_table::TextTable;
-use folded_text::{FoldedFault, Frames, LineTaker, Spelled, read_line, take_lines};
+use folded_text::{FoldedFault, LineTaker, read_frames, take_lines};
 use no_memory::NoMemory;
 use pprof_profile::{Items, WrittenSamples, encode_around};
 use profile_rows::Hashing;
 use std::alloc::Global;
 
 /// Rows as the samples of the profile that they are exported as: written when they come, their names numbered as they
-/// first stand.
+/// first stand. The frames of a line, and their ids, take the place of others in the buffers.
 #[derive(Drop)]
 struct SampledRows<'a> {
     names: TextTable<'a>,
     samples: WrittenSamples,
+    frames: Vec<&'a str>,
     ids: Vec<u64>,
     total: u64,
 }
 
-/// The ids of a stack text's locations, leaf first, in the place of others.
+/// The ids of the locations of a stack's frames, leaf first, in the place of others.
 fn replace_ids<'a>(
     names: &mut TextTable<'a>,
     ids: &mut Vec<u64>,
-    text: &'a str,
+    frames: &[&'a str],
 ) -> Result<(), NoMemory>
-    ensures names { OnOk result (names.new ≡ with_texts names.old (frames_of text.now)) }
-    ensures ids { OnOk result (ids.new.items ≡ reverse (map (id_in names.new) (frames_of text.now))) }
+    ensures names { OnOk result (names.new ≡ with_texts names.old (map (λ frame. frame.now) frames.now)) }
+    ensures ids { OnOk result
+        (ids.new.items ≡ reverse (map (id_in names.new) (map (λ frame. frame.now) frames.now))) }
 {
     ids.clear();
-    let mut rest = Frames::of(text);
-    while let Some(frame) = rest.next_frame() {
-        ids.push(names.place_with(frame)? as u64 + 1)?;
+    for frame in frames {
+        ids.push(names.place_with(*frame)? as u64 + 1)?;
     }
     ids.reverse();
     Ok(())
 }
 
-/// Adds the row that a line spells, which fits.
-fn push_row<'a>(rows: &mut SampledRows<'a>, spelled: Spelled<'a>) -> Result<(), NoMemory>
-    requires fits { rows.old.total + spelled.weight < 2 ^ 63 }
+/// Adds the row of the frames in the buffer, which fits.
+fn push_row(rows: &mut SampledRows, weight: u64) -> Result<(), NoMemory>
+    requires fits { rows.old.total + weight < 2 ^ 63 }
     ensures { (before : List WeightedStack) → AreSamplesOf before rows.old.names rows.old.samples rows.old.total
         → OnOk result (AreSamplesOf
-        (before ++ (record { stack = frames_of spelled.entry.stack.now; weight = spelled.entry.weight }) ∷ [])
+        (before ++ (record { stack = map (λ frame. frame.now) rows.old.frames.items; weight = weight }) ∷ [])
         rows.new.names rows.new.samples rows.new.total) }
 {
-    replace_ids(&mut rows.names, &mut rows.ids, spelled.stack)?;
-    rows.samples
-        .push(rows.ids.as_slice(), &[spelled.weight as i64])?;
-    rows.total += spelled.weight;
+    replace_ids(&mut rows.names, &mut rows.ids, rows.frames.as_slice())?;
+    rows.samples.push(rows.ids.as_slice(), &[weight as i64])?;
+    rows.total += weight;
     Ok(())
 }
 
@@ -64,8 +64,8 @@ impl<'a> LineTaker<'a> for SampledRows<'a> {
     ghost is_of = { λ sampled rows. AreSamplesOf rows sampled.names sampled.samples sampled.total };
 
     fn take_line(&mut self, line: &'a [u8], number: u64) -> Result<(), FoldedFault> {
-        let spelled = read_line(line, self.total, number)?;
-        Ok(push_row(self, spelled)?)
+        let weight = read_frames(&mut self.frames, line, self.total, number)?;
+        Ok(push_row(self, weight)?)
     }
 }
 
@@ -114,6 +114,7 @@ pub fn export_folded(
     let mut rows = SampledRows {
         names: TextTable::new(alloc, hashing),
         samples: WrittenSamples::new(alloc),
+        frames: Vec::new(alloc),
         ids: Vec::new(alloc),
         total: 0,
     };

@@ -5,8 +5,8 @@ use Rattle.profile_rows.specs.StackTexts.{TextState}
 use Rattle.folded_text.proofs.Waiting.{follows}
 use Rattle.folded_text.proofs.merged_text.stacks_of_texts.Goals as goal
 
-pub push_spelled-requires-clause-fits : goal.push_spelled-requires-clause-fits
-push_spelled-requires-clause-fits c =
+pub push_frames-requires-clause-fits : goal.push_frames-requires-clause-fits
+push_frames-requires-clause-fits c =
     let next = follows c.args.rows.now c.loop-row.row-index c.row-item.result c.loop-row-test.true c.requires.fits in
     let here = ap (λ (row : TextState). row.weight) c.row-item.is in
     omega (arith, next, here, c.weight.ensures, ap total_of c.loop-row.invariant)

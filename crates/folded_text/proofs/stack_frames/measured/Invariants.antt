@@ -1,6 +1,6 @@
 use Rattle.std.proofs.Common.{◌≡◌, ◌+◌, length, sum_by}
 use Rattle.folded_text.specs.FoldedText.{frames_of}
-use Rattle.folded_text.proofs.text_rows.measured.Given as goal
+use Rattle.folded_text.proofs.stack_frames.measured.Given as goal
 
 -- the frames so far are counted, and their bytes
 abbrev pub invariant-loop-frame : goal.invariant-loop-frame

@@ -1,6 +1,6 @@
 use Rattle.std.proofs.Common.{◌≡◌, ◌++◌, length, map}
 use Rattle.folded_text.specs.FoldedText.{frames_of}
-use Rattle.folded_text.proofs.text_totals.replace_by_text.Given as goal
+use Rattle.folded_text.proofs.stack_frames.replace_by_text.Given as goal
 
 -- the frames so far and those that are left
 abbrev pub invariant-loop-frame : goal.invariant-loop-frame

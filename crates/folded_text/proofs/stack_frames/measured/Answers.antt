@@ -3,7 +3,7 @@ use Rattle.std.proofs.Common.{length, ap, ◌∙◌, arith}
 use Rattle.std.specs.Prelude.{sum_by}
 use Rattle.std.proofs.lemmas.List.Sums.{sum_by-cons}
 use Rattle.folded_text.proofs.TextRows.{frames-within}
-use Rattle.folded_text.proofs.text_rows.measured.Goals as goal
+use Rattle.folded_text.proofs.stack_frames.measured.Goals as goal
 
 pub overflow_add-depth : goal.overflow_add-depth
 overflow_add-depth c =

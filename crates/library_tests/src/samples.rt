@@ -6,8 +6,8 @@ use crate::messages::{INLINED_AND_BARE_LOCATIONS, ONE_SAMPLE, TWO_SAMPLE_TYPES};
 use flame_report::{Rank, Top, top_list, top_text};
 use pprof_profile::{Profile, decode, encode};
 use stack_text::{
-    Batch, Hashing, Name, ValueChoice, ValueUnit, WeightedStacks, batch_of, batch_of_with,
-    export_folded, merge_samples, profile_of, sample_totals, unfold, write_stacks,
+    Batch, BatchFault, Hashing, Name, ValueChoice, ValueUnit, WeightedStacks, batch_of,
+    batch_of_with, export_folded, merge_samples, profile_of, sample_totals, unfold, write_stacks,
 };
 use std::alloc::Global;
 use std::test::Fail;
@@ -287,5 +287,21 @@ fn read_by_key(alloc: Global, bytes: &[u8]) -> Result<String, Fail> {
 fn samples_are_read_wherever_hashes_begin(rt: HostRuntime) -> Result<(), Fail> {
     let texts = read_by_key(rt.alloc(), TWO_EQUAL_SAMPLES)?;
     assert_eq!(rt; texts.as_str(), "f 12\n|f 7\nf 5\n|total 12\n12 12 f\n");
+    Ok(())
+}
+
+#[test]
+fn faults_of_samples_are_printed(rt: HostRuntime) -> Result<(), Fail> {
+    let rows = [
+        (BatchFault::NoValue, "B1 NoValue"),
+        (BatchFault::Negative { sample: 1 }, "B2 Negative sample 1"),
+        (BatchFault::Depth { sample: 2 }, "B3 Depth sample 2"),
+        (BatchFault::Heavy { sample: 3 }, "B4 Heavy sample 3"),
+        (BatchFault::NoMemory, "B5 NoMemory"),
+        (BatchFault::Width { count: 6 }, "B6 Width count 6"),
+    ];
+    for (fault, want) in rows {
+        assert_eq!(rt; format!(in rt.alloc(); "{fault}")?.as_str(), want);
+    }
     Ok(())
 }

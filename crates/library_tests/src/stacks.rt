@@ -327,6 +327,18 @@ fn refusals_of_a_row_are_printed(rt: HostRuntime) -> Result<(), Fail> {
 }
 
 #[test]
+fn refusals_of_a_name_are_printed(rt: HostRuntime) -> Result<(), Fail> {
+    let rows = [
+        (NameFault::BadName, "L1 BadName"),
+        (NameFault::NoMemory, "L2 NoMemory"),
+    ];
+    for (fault, want) in rows {
+        assert_eq!(rt; format!(in rt.alloc(); "{fault}")?.as_str(), want);
+    }
+    Ok(())
+}
+
+#[test]
 fn widths_and_weights_are_one_to_four(rt: HostRuntime) -> Result<(), Fail> {
     for (count, accepted) in [(0, false), (1, true), (4, true), (5, false)] {
         assert_eq!(rt; Width::new(count).is_some(), accepted);

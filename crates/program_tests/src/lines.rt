@@ -57,7 +57,7 @@ fn refusals(alloc: Global, line: &str, words: usize) -> Result<Vec<u8>, Fail> {
     Ok(repeated(alloc, end.as_bytes(), words)?)
 }
 
-const FOLDED_TEXTS: [(&[u8], &str); 14] = [
+const FOLDED_TEXTS: [(&[u8], &str); 15] = [
     (b"\xff 1\n", "flame: F1 NotUtf8 line 1\n"),
     (b"a 1\n\xff\n", "flame: F1 NotUtf8 line 2\n"),
     (b"a;b\n", "flame: F2 NoCount line 1\n"),
@@ -73,6 +73,7 @@ const FOLDED_TEXTS: [(&[u8], &str); 14] = [
         b"a 99999999999999999999999999\n",
         "flame: F3 Count line 1\n",
     ),
+    (b"a 1\nb 9223372036854775808\n", "flame: F3 Count line 2\n"),
     (b"a 9223372036854775807\na 1\n", "flame: F5 Heavy line 2\n"),
     (b"a 1\nb 9223372036854775807\n", "flame: F5 Heavy line 2\n"),
 ];
@@ -115,6 +116,17 @@ fn a_line_too_deep(rt: HostRuntime) -> Result<(), Fail> {
     let deeper = deep_line(rt.alloc(), 65_536)?;
     let ends = ends_of(&rt, rt.alloc(), &OF_FOLDED_TEXT, deeper.as_slice())?;
     let want = refusals(rt.alloc(), "flame: F4 Depth line 1\n", OF_FOLDED_TEXT.len())?;
+    assert_eq!(rt; ends.as_bytes(), want.as_slice());
+    Ok(())
+}
+
+#[test]
+fn a_later_line_too_deep(rt: HostRuntime) -> Result<(), Fail> {
+    let deeper = deep_line(rt.alloc(), 65_536)?;
+    let mut text = Vec::from_slice(rt.alloc(), b"a 1\n")?;
+    text.extend_from_slice(deeper.as_slice())?;
+    let ends = ends_of(&rt, rt.alloc(), &OF_FOLDED_TEXT, text.as_slice())?;
+    let want = refusals(rt.alloc(), "flame: F4 Depth line 2\n", OF_FOLDED_TEXT.len())?;
     assert_eq!(rt; ends.as_bytes(), want.as_slice());
     Ok(())
 }
@@ -240,10 +252,15 @@ fn lines_of_changed_profiles(rt: HostRuntime) -> Result<(), Fail> {
 #[test]
 fn a_sample_too_deep(rt: HostRuntime) -> Result<(), Fail> {
     let sample = deep_sample(rt.alloc(), b"\x87\x80\x04", b"\x80\x80\x04", 65_536)?;
-    let input = changed(rt.alloc(), 1, sample.as_slice())?;
-    let ends = ends_of(&rt, rt.alloc(), &OF_PROFILES, input.as_slice())?;
-    let want = refusals(rt.alloc(), "flame: B3 Depth sample 0\n", OF_PROFILES.len())?;
-    assert_eq!(rt; ends.as_bytes(), want.as_slice());
+    for (place, line) in [
+        (1, "flame: B3 Depth sample 0\n"),
+        (8, "flame: B3 Depth sample 1\n"),
+    ] {
+        let input = changed(rt.alloc(), place, sample.as_slice())?;
+        let ends = ends_of(&rt, rt.alloc(), &OF_PROFILES, input.as_slice())?;
+        let want = refusals(rt.alloc(), line, OF_PROFILES.len())?;
+        assert_eq!(rt; ends.as_bytes(), want.as_slice(), "{place}");
+    }
     Ok(())
 }
 

@@ -116,6 +116,20 @@ fn faults_are_printed_by_their_causes(rt: HostRuntime) -> Result<(), Fail> {
     Ok(())
 }
 
+// What each library says of it, which `live` tells as one fault.
+#[test]
+fn want_of_memory_has_a_line_in_each_library(rt: HostRuntime) -> Result<(), Fail> {
+    let said = format!(in rt.alloc();
+        "{}, {}, {}, {}",
+        MakeFault::NoMemory,
+        SessionFault::NoMemory,
+        WorkersFault::NoMemory,
+        AuditFault::NoMemory
+    )?;
+    assert_eq!(rt; said.as_str(), "S3 NoMemory, N3 NoMemory, G2 NoMemory, A6 NoMemory");
+    Ok(())
+}
+
 // How many rows were heard of.
 #[derive(Drop)]
 struct Heard {

@@ -1,22 +1,37 @@
 -- Each frame has its place, and a place stays as more names come.
-use Rattle.std.proofs.Common.{[], ◌∷◌, ◌++◌, ◌+◌, refl, sym, ap, ◌∙◌, append_assoc}
+use Rattle.std.proofs.Common.{◌≡◌, ◌<◌, ◌+◌, ℕ, List, [], ◌∷◌, ◌++◌, length, map, slice_index_or, take, sym, ap, ◌∙◌, subst}
+use Rattle.std.proofs.lemmas.List.{get_or-map, length-map, take_more}
+use denote.Ref.{Bor}
 use Rattle.profile_samples.proofs.ExportedRows.{ids_with}
 use Rattle.profile_samples.proofs.TextPlaces.{next_with}
 use Rattle.profile_samples.proofs.folded_export.replace_ids.Goals as goal
 
+abbrev text_of : Bor (List ℕ) → List ℕ
+text_of frame = frame.now
+
+abbrev none : Bor (List ℕ)
+none = record { ref_ptr = (0, 0); now = [] }
+
+-- the texts of one frame more
+more_texts : (frames : List (Bor (List ℕ))) (i : ℕ) → i < length frames
+    → take (i + 1) (map text_of frames) ≡ take i (map text_of frames) ++ text_of (slice_index_or frames i none) ∷ []
+more_texts frames i lt =
+    take_more (map text_of frames) i [] (subst (λ n. i < n) (sym (length-map frames text_of)) lt)
+    ∙ ap (λ text. take i (map text_of frames) ++ text ∷ []) (get_or-map text_of frames i none [] lt)
+
 pub loop-frame-preserved : goal.loop-frame-preserved
 loop-frame-preserved c =
-    let (seen, so_far) = c.loop-frame.invariant in
-    let all = seen ++ c.in-Some.frame.now ∷ [] in (
-      all,
-      record {
-        whole = append_assoc seen (c.in-Some.frame.now ∷ []) c.next_frame.new.self
-            ∙ ap (λ rest. seen ++ rest) (sym c.in-Some.ensures) ∙ so_far.whole;
-        names = next_with c.args.names.now c.loop-frame.names c.place_with.new.self seen all c.in-Some.frame.now
-            c.in_ok-place_with.ensures.texts so_far.names refl;
-        ids = c.in_ok-push.ensures.items
-            ∙ ap (λ ids. ids ++ (c.in_ok-place_with.field-0 + 1) ∷ []) so_far.ids
-            ∙ ids_with c.args.names.now c.loop-frame.names c.place_with.new.self seen all c.in-Some.frame.now
-            c.in_ok-place_with.field-0 c.in_ok-place_with.ensures.place c.in_ok-place_with.ensures.texts so_far.names refl;
-      },
-    )
+    let frames = c.args.frames.now in
+    let i = c.loop-frame.frame-index in
+    let seen = take i (map text_of frames) in
+    let all = take (i + 1) (map text_of frames) in
+    let more = more_texts frames i c.loop-frame-test.true in
+    let text = text_of (slice_index_or frames i none) in
+    record {
+      names = next_with c.args.names.now c.loop-frame.names c.place_with.new.self seen all text
+          c.in_ok-place_with.ensures.texts c.loop-frame.invariant.names more;
+      ids = c.in_ok-push.ensures.items
+          ∙ ap (λ ids. ids ++ (c.in_ok-place_with.field-0 + 1) ∷ []) c.loop-frame.invariant.ids
+          ∙ ids_with c.args.names.now c.loop-frame.names c.place_with.new.self seen all text
+          c.in_ok-place_with.field-0 c.in_ok-place_with.ensures.place c.in_ok-place_with.ensures.texts c.loop-frame.invariant.names more;
+    }

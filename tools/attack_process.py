@@ -14,6 +14,7 @@ otherwise.
 """
 import argparse
 import collections
+import fcntl
 import os
 import pathlib
 import resource
@@ -137,6 +138,25 @@ def attack_writes(words, source, report):
         yield f"a file of {size} bytes", end, ends and report.startswith(written)
 
 
+def attack_pipe(words, source, report):
+    """Ends with a pipe of one page that nobody reads: what it hasn't room for waits until the run is ended."""
+    reading, writing = os.pipe()
+    room = fcntl.fcntl(writing, fcntl.F_SETPIPE_SZ, 4096)
+    with open(source, "rb") as data, os.fdopen(writing, "wb") as pipe, subprocess.Popen(
+        [PROGRAM, *words], stdin=data, stdout=pipe, stderr=subprocess.PIPE
+    ) as child:
+        waits = len(report) > room
+        try:
+            child.wait(timeout=1 if waits else 120)
+        except subprocess.TimeoutExpired:
+            child.terminate()
+        errors = child.communicate()[1]
+    with os.fdopen(reading, "rb") as pipe:
+        end = (child.returncode, pipe.read(), errors)
+    is_cut = (end[0], end[2]) == (-signal.SIGTERM, b"") and report.startswith(end[1])
+    yield "a pipe that nobody reads", end, is_cut if waits else is_whole(end, report)
+
+
 def attack_reads(words):
     """Ends with an input that can't be read, or ends before it begins."""
     inputs = os.open(TOP, os.O_RDONLY)
@@ -175,6 +195,7 @@ def attacks(words, source, report, count, least):
     if words[0] == "live":
         yield from attack_threads(words, source, report)
     yield from attack_writes(words, source, report)
+    yield from attack_pipe(words, source, report)
     yield from attack_reads(words)
     yield from attack_signals(words, source, report)
 

@@ -5,8 +5,8 @@
 
 A case has 1 to 8 sessions and 1 to 4 values, random additions, resets and reports, and then no change of its logs, or
 one or two: a receipt left out, doubled, moved, its place, operation, reply or answer changed, or a log told as another
-session's. The program is attack_audits.rattle, which makes the journal and the logs by the library, changes the logs,
-and audits them. The model knows the operations alone, and works out each reply and the audit's first fault by itself.
+session's. The program is attack_audits.rattle, in which sessions of a store make the journal and the logs; it changes
+the logs, and audits them. The model knows the operations alone, and works out each reply and the first fault by itself.
 
 The program is a quick build of the crates' own sources, of which nothing is proved (tools/quick_program); --work keeps
 it, and with --built it isn't built again. The exit status is 1 where the two differ anywhere.
@@ -25,7 +25,7 @@ sys.path.insert(0, str(HERE.parent / "quick_program"))
 from quick_program import build  # noqa: E402
 
 NAME = "attack_audits"
-LIBRARIES = ["profile_rows", "flame_report", "op_book", "anyhow"]
+LIBRARIES = ["profile_rows", "flame_report", "op_book", "live_store", "anyhow"]
 NAMES = ["a", "b", "main", "x"]
 KINDS = ["total", "folded", "flat", "cum"]
 CASES_A_RUN = 5000

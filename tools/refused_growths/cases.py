@@ -36,6 +36,15 @@ FOUR_COLUMNS = layout(
     4, 10, rect(0, "", 0, 10, 0, 4), rect(1, "main", 0, 10, 0, 4), rect(2, "a", 0, 5, 0, 2),
     rect(3, "b", 0, 3, 0, 1), rect(2, "c", 5, 5, 2, 4),
 )
+FIVE_COLUMNS = layout(
+    5, 10, rect(0, "", 0, 10, 0, 5), rect(1, "main", 0, 10, 0, 5), rect(2, "a", 0, 5, 0, 2),
+    rect(3, "b", 0, 3, 0, 1), rect(2, "c", 5, 5, 2, 5),
+)
+ONE_COLUMN = layout(1, 10, rect(0, "", 0, 10, 0, 1), rect(1, "main", 0, 10, 0, 1), rect(2, "c", 5, 5, 0, 1))
+GREATEST = 2**63 - 1
+GREATEST_LAYOUT = layout(
+    65535, GREATEST, rect(0, "", 0, GREATEST, 0, 65535), rect(1, "a", 0, GREATEST, 0, 65535)
+)
 
 
 def line_layout(weight, *names):
@@ -47,12 +56,15 @@ def line_layout(weight, *names):
 BYTES = {
     "write_varint": "01ac02",
     "write_field": "013214" + 20 * "07",
+    "write_field_of_a_number": "0148ac02",
     "check": EACH_FIELD,
+    "check_of_one_sample": ONE_SAMPLE,
     "check_of_a_wrong_index": "P6 StringIndex 4",
     "decode": ONE_SAMPLE,
     "decode_each_field": EACH_FIELD,
     "decode_of_no_utf8": "P3 NotUtf8",
     "encode": EACH_FIELD,
+    "encode_of_one_sample": ONE_SAMPLE,
     "items_push": "[5, 6]",
     "items_reserve": "[5]",
     "text_copied": "cpu",
@@ -65,6 +77,7 @@ ROWS = {
     "name_make_of_no_name": "L1 BadName",
     "name_keep": "main",
     "name_clean": "a:b c",
+    "name_clean_of_one_semicolon": "Lx:",
     "name_share": "main main",
     "stack_share": "main;a;b",
     "batch_push": "a 1\nb 3\nc 5\nd 7\nmain;e 10\n|a 2\nb 4\nc 6\nd 8\nmain;e 20\n|[26, 40]",
@@ -78,6 +91,7 @@ ROWS = {
     "weighted_stacks_share": "a 1\nb;c 2\n",
     "weighted_stacks_with_capacity": "0 rows",
     "aggregate": "b 3\nmain;a 6\n|b 4\nmain;a 8\n|",
+    "aggregate_of_odd_lines": " 5\na;b 1\na b;c d 7\n|",
     "aggregate_stacks": "b 3\nmain;a 6\n",
     "kept_totals": "total 2\n2 2 a\n0 2 main\n",
     "counted_rows_count":
@@ -91,19 +105,23 @@ ROWS = {
     "folded_report_of_empty_frames": "b 4\nb;a 3\n",
     "folded_totals": BY_CUM + "3 3 b\n",
     "write_folded": "main;a 2\nb 4\n",
+    "write_folded_of_odd_lines": " 5\na;b 1\na b;c d 7\n",
     "write_stacks": "a 1\nb;c 2\n",
     "report_of_stack_texts": "a;b 2\nb 1\nc 4\n",
 }
 
 SAMPLES = {
     "unfold": "a;b;c;0xff",
+    "unfold_of_a_cleaned_name": "Lx:",
     "batch_of": "0xff;c;b;a 2\n|",
+    "batch_of_a_cleaned_name": "Lx: 7\n|",
     "batch_of_all_values": "f 3\n|f 30\n|",
     "batch_of_no_value": "B1 NoValue",
     "batch_of_a_negative_value": "B2 Negative sample 0",
     "merge_samples": "0xff;c;b;a 2\n",
     "sample_totals": "total 2\n0 2 0xff\n2 2 a\n0 2 b\n0 2 c\n",
     "profile_of": "f 3\n|f 30\n|",
+    "profile_of_one_row": ONE_SAMPLE,
     "export_folded": ONE_SAMPLE,
 }
 
@@ -123,6 +141,7 @@ TREES = {
     "grower_with_batch": GROWN,
     "tree_share": PAIRS + "[4, 6]|a 1/1 b 3/3 main 0/4 a 2/2 b 4/4 main 0/6 ",
     "tree_rows": PAIRS,
+    "tree_rows_by_names": "a;b 1\na!;x 1\n|",
     "tree_frame_totals": "a 2/5 b 3/3 c 5/5 main 0/10 ",
     "tree_weighted_stacks": "main;a 2\nmain;b 4\n",
     "tree_stack_texts": "main;a 2 main;a;b 3 main;c 5 ",
@@ -136,13 +155,16 @@ REPORTS = {
     "report_of_a_focus": "total 2\n2 2 a\n0 2 main\n",
     "report_of_a_top_list": BY_CUM,
     "report_of_a_layout": WORKED_LAYOUT,
+    "report_of_a_layout_in_five_columns": FIVE_COLUMNS,
+    "report_of_the_greatest_weight": GREATEST_LAYOUT,
     "report_of_folded_text": SORTED,
     "report_of": WORKED_LAYOUT,
     "report_of_stacks": line_layout(2, "main", "a"),
     "top_list": BY_FLAT,
     "top_list_of_many_names": "total 40\n40 40 g\n0 1 f0\n0 1 f1\n",
-    "top_text": BY_FLAT,
+    "top_text": BY_FLAT + "0 10 main\n",
     "flame_json": line_layout(1, "main", "a"),
+    "flame_json_of_one_column": ONE_COLUMN,
     "label_of": "main",
 }
 
@@ -158,10 +180,13 @@ HEAVY = (
 BOOKS = {
     "book_new": "||[0, 0]|",
     "book_add": f"placed 4 at 4; {ADDED}",
+    "book_add_up_to_the_limits":
+        f"placed 0 at 0; 0.0 add 0, a {GREATEST}\n|[{GREATEST}]|a {GREATEST}/{GREATEST} ",
     "book_reset": RESET,
     "book_prepare": f"placed 4 at 4; {ADDED}",
     "book_prepare_reset": RESET,
     "audit": "0.0 1.0 0.1 1.1 ",
+    "audit_of_two_reports": "0.0 1.0 0.1 1.1 1.2 ",
     "audit_of_a_wrong_answer": "A5 WrongAnswer session 1 index 1",
     "audit_of_two_logs": "A1 TwoLogs session 0",
     "audit_of_a_stranger": "A2 Stranger session 7 index 0",
@@ -208,6 +233,7 @@ STORES = {
 
 WORKERS = {
     "run_workers": "3 2 of 5, total 15",
+    "run_workers_for_two_questions": "1 1 of 2, total 0",
     "run_workers_with_too_few_sessions": "G1 Session worker 1 fault N1 AllGiven",
     "live_text": SORTED + "audited 5 operations\n",
     "live_text_of_a_warm_start": SORTED + "audited 8 operations\n",
@@ -215,14 +241,17 @@ WORKERS = {
 
 PROGRAMS = {
     "read_input": "main;a;b 3\nmain;a 2\nmain;c 5\n",
-    "run_top": BY_CUM + "3 3 b\n0 ",
+    "run_top": BY_FLAT + "0 10 main\n0 ",
+    "run_top_by_cum": BY_CUM + "3 3 b\n0 ",
     "run_top_of_a_focus": "total 5\n3 3 b\n2 5 a\n0 5 main\n0 ",
     "run_fold": SORTED + "0 ",
     "run_flame": FOUR_COLUMNS + "\n0 ",
     "run_proto": ONE_SAMPLE,
     "run_top_of_a_profile": "total 30\n30 30 f\n0 ",
     "run_fold_of_a_profile": "f 30\n0 ",
-    "run_live": SORTED + "audited 8 operations\n0 ",
+    "run_live": SORTED + "audited 5 operations\n0 ",
+    "run_live_of_a_warm_start": SORTED + "audited 8 operations\n0 ",
+    "run_live_of_no_rows": "audited 2 operations\n0 ",
     "run_live_of_a_profile": "value 0\nf 3\nvalue 1\nf 30\naudited 5 operations\n0 ",
     "run_with_no_count": "1 flame: F2 NoCount line 2\n",
     "run_with_another_format": "1 flame: P2 Wire W5 WireType\n",
@@ -239,8 +268,8 @@ WITHOUT_GROWTHS = {
     "no_growth_of_trees":
         "14 14 2 1 10; main;a 2\nmain;a;b 3\nmain;c 5\nmain;d 4\n|[14]|"
         "a 2/5 b 3/3 c 5/5 d 4/4 main 0/14 ; |[0]|",
-    "no_growth_of_books": f"15 4 15; {ADDED}; 5 2 15 1",
-    "no_growth_of_comparisons": "true false false",
+    "no_growth_of_books": f"15 4 15 5; {ADDED}; 0 5 6 2 0 1",
+    "no_growth_of_comparisons": "[true, false, true, false, true, true, false]",
     "no_growth_of_stores": "2 1 1 add 0 at 0, 1 steps",
 }
 

@@ -74,7 +74,10 @@ pub(crate) fn measured(text: &str) -> (usize, usize)
 }
 
 /// The frames of a stack text, root first, in the place of others.
-pub(crate) fn replace_by_text<'a>(frames: &mut Vec<&'a str>, text: &'a str) -> Result<(), AllocError>
+pub(crate) fn replace_by_text<'a>(
+    frames: &mut Vec<&'a str>,
+    text: &'a str,
+) -> Result<(), AllocError>
     requires { All (λ byte. byte ≢ 10) text.now }
     ensures names { OnOk result (All IsName (frames_of text.now)) }
     ensures texts { OnOk result (map (λ frame. frame.now) frames.new.items ≡ frames_of text.now) }

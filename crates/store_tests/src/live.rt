@@ -126,7 +126,10 @@ fn want_of_memory_has_a_line_in_each_library(rt: HostRuntime) -> Result<(), Fail
         WorkersFault::NoMemory,
         AuditFault::NoMemory
     )?;
-    assert_eq!(rt; said.as_str(), "S3 NoMemory, N3 NoMemory, G2 NoMemory, A6 NoMemory");
+    assert_eq!(rt;
+        said.as_str(),
+        "S3 NoMemory, N3 NoMemory, G2 NoMemory, A6 NoMemory"
+    );
     Ok(())
 }
 

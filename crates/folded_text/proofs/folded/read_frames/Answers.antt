@@ -16,9 +16,11 @@ pub returns-clause-spelled : goal.returns-clause-spelled
 returns-clause-spelled c =
     let (utf8, small, digits, count, value) = c.in_ok-stack.ensures.counted in
     let (most, fits) = c.in_ok-fitting-2.ensures.fits in
-    let depth = long (frames_of c.in_ok-stack.stack.now) c.replace_by_text.new.frames.items c.len.result (search rules) c.in-Ok.ensures.texts in
-    (fits, subst (λ stack. IsRowLine c.args.line.now (record { stack = stack; weight = c.in_ok-stack.weight })) (sym c.in-Ok.ensures.texts)
-    (IsRowLine-read c.args.line.now c.in_ok-stack.stack.now digits c.in_ok-stack.weight utf8 count value (subst (λ n. n ≤ 65535) depth most) small))
+    let depth = long (frames_of c.in_ok-stack.stack.now) c.replace_by_text.new.frames.items c.len.result (search rules) c.in-Ok.ensures.texts in (
+      fits,
+      subst (λ stack. IsRowLine c.args.line.now (record { stack = stack; weight = c.in_ok-stack.weight })) (sym c.in-Ok.ensures.texts)
+          (IsRowLine-read c.args.line.now c.in_ok-stack.stack.now digits c.in_ok-stack.weight utf8 count value (subst (λ n. n ≤ 65535) depth most) small),
+    )
 
 pub returns-clause-names : goal.returns-clause-names
 returns-clause-names c = subst (All IsName) (sym c.in-Ok.ensures.texts) c.in-Ok.ensures.names

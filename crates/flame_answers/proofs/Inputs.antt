@@ -20,10 +20,10 @@ use Rattle.folded_text.specs.TextSums.{IsMergedText}
 use Rattle.flame_report.specs.Answers.{answer_by, kept_by}
 use Rattle.flame_report.specs.declared.query.Kind.{Kind}
 use Rattle.flame_report.specs.declared.query.Query.{Query}
-use Rattle.flame_answers.specs.declared.request.Source.{Source}
+use Rattle.flame_words.specs.declared.request.Source.{Source}
 use Rattle.flame_answers.specs.declared.outcomes.ToolFault.{ToolFault}
 use Rattle.flame_answers.specs.declared.outcomes.ToolFault.TheVariants as tool
-use Rattle.flame_answers.specs.declared.request.Format.TheVariants.{Folded, Pprof}
+use Rattle.flame_words.specs.declared.request.Format.TheVariants.{Folded, Pprof}
 use Rattle.flame_answers.specs.Answers.{AreRowsIn, AreMergedIn, HasNoRows, IsAnswerOfProfile, IsAnswerOfText, IsChoice, IsFaultIn, IsRefusedIn, IsReport, answer_text, batch_fault_of, folded_fault_of, profile_fault_of}
 
 -- ---- folded text

@@ -23,7 +23,7 @@ use Rattle.profile_rows.specs.Values.{BatchState}
 use Rattle.live_answers.specs.declared.fault.LiveFault.{LiveFault}
 use Rattle.live_answers.specs.declared.fault.LiveFault.TheVariants as live
 use Rattle.live_answers.specs.Live.{live_text_of}
-use Rattle.live_answers.specs.Options.{PlainOptions}
+use Rattle.flame_words.specs.LiveOptions.{PlainOptions}
 use Rattle.profile_rows.specs.TopList.{top_text_of}
 use Rattle.flame_report.specs.declared.answer.Answer.{Answer}
 use Rattle.flame_report.specs.declared.answer.Answer.TheVariants as answer
@@ -33,10 +33,10 @@ use Rattle.flame_report.specs.declared.query.Query.{Query}
 use Rattle.flame_report.specs.Json.{flame_json_of}
 use Rattle.flame_answers.specs.declared.outcomes.ToolFault.{ToolFault}
 use Rattle.flame_answers.specs.declared.outcomes.ToolFault.TheVariants as tool
-use Rattle.flame_answers.specs.declared.request.Format.{Format}
-use Rattle.flame_answers.specs.declared.request.Format.TheVariants.{Folded, Pprof}
-use Rattle.flame_answers.specs.declared.request.Request.{Request}
-use Rattle.flame_answers.specs.declared.request.Request.TheVariants.{Report, Export, Live}
+use Rattle.flame_words.specs.declared.request.Format.{Format}
+use Rattle.flame_words.specs.declared.request.Format.TheVariants.{Folded, Pprof}
+use Rattle.flame_words.specs.declared.request.Request.{Request}
+use Rattle.flame_words.specs.declared.request.Request.TheVariants.{Report, Export, Live}
 
 -- ---- the rows of an input
 

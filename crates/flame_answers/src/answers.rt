@@ -7,14 +7,14 @@ ghost use Rattle.flame_report.specs.Answers.{answer_by, answer_of};
 ghost use Rattle.flame_report.specs.declared.query.Kind.TheVariants.{Top};
 ghost use Rattle.flame_report.specs.declared.query.Kind.TheVariants as kinds;
 ghost use Rattle.flame_answers.specs.Answers.{AreMergedIn, IsAnswer, IsAnswerOfProfile, IsAnswerOfText, IsChoice, IsExport, IsInputFault, IsRefusedIn, IsReport, answer_text, batch_fault_of, folded_fault_of, profile_fault_of};
-ghost use Rattle.flame_answers.specs.declared.request.Format.TheVariants.{Folded, Pprof};
+ghost use Rattle.flame_words.specs.declared.request.Format.TheVariants.{Folded, Pprof};
 
 use crate::live::live_report;
 use crate::outcomes::ToolFault;
-use crate::request::{Format, Request, Source};
 use flame_report::laws::answers_are_by_the_aggregate;
 use flame_report::{Answer, Kind, Query, Rank, flame_json, report_of_stacks, top_list, top_text};
 use folded_text::{FoldedFault, folded_report, folded_totals, merge_folded};
+use flame_words::{Format, Request, Source};
 use live_answers::Progress;
 use pprof_profile::{ProfileFault, Text, decode};
 use profile_rows::{FrameTotals, Hashing, NoMemory, WeightedStacks};

@@ -5,11 +5,10 @@
 mod answers;
 mod live;
 mod outcomes;
-mod request;
 mod streams;
 
 pub use answers::{answer, export, report_on};
+pub use flame_words::{Format, Request, Source};
 pub use live_answers::{Progress, Unheard};
 pub use outcomes::{Outcome, Status, ToolFault};
-pub use request::{Format, Request, Source};
 pub use streams::{MAX_INPUT, ReadFault, WriteFault, read_input, write_text};

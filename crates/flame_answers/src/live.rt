@@ -2,13 +2,13 @@
 
 ghost use Rattle.std.specs.Prelude.{ℕ, ◌≡◌, Bool, List, MatchResult, Option};
 ghost use Rattle.flame_answers.specs.Answers.{IsBatchIn, IsLiveChoice, IsLiveRefused, IsLiveText, store_fault_of};
-ghost use Rattle.flame_answers.specs.declared.request.Format.TheVariants.{Folded, Pprof};
+ghost use Rattle.flame_words.specs.declared.request.Format.TheVariants.{Folded, Pprof};
 
 use crate::answers::{batch_fault, choice_of, folded_fault, profile_fault};
 use crate::outcomes::ToolFault;
-use crate::request::{Format, Source};
 use folded_text::read_folded_with;
-use live_answers::{LiveFault, LiveOptions, Progress, live_text};
+use flame_words::{Format, LiveOptions, Source};
+use live_answers::{LiveFault, Progress, live_text};
 use pprof_profile::{Text, decode};
 use profile_rows::{Batch, Hashing};
 use profile_samples::{ValueChoice, batch_of_with};

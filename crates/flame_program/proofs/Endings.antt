@@ -9,10 +9,10 @@ use Rattle.flame_answers.specs.declared.outcomes.Outcome.TheVariants.{Done, Word
 use Rattle.flame_answers.specs.declared.outcomes.ToolFault.TheVariants.{Folded, Profile, Batch, Name, Sessions, Read, Write, TooLong, NoMemory}
 use Rattle.flame_answers.specs.declared.outcomes.ToolFault.{ToolFault}
 use Rattle.flame_answers.specs.declared.outcomes.ToolFault.TheVariants as tool
-use Rattle.flame_answers.specs.declared.request.Request.{Request}
-use Rattle.flame_answers.specs.declared.request.Request.TheVariants.{Report, Export, Live}
+use Rattle.flame_words.specs.declared.request.Request.{Request}
+use Rattle.flame_words.specs.declared.request.Request.TheVariants.{Report, Export, Live}
 use Rattle.flame_answers.specs.Answers.{IsInputFault}
-use Rattle.flame_program.specs.Words.{request_of}
+use Rattle.flame_words.specs.Words.{request_of}
 use Rattle.flame_answers.specs.declared.streams.ReadFault.{ReadFault}
 use Rattle.flame_answers.specs.declared.streams.ReadFault.TheVariants as reading
 

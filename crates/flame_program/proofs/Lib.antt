@@ -1,4 +1,2 @@
-pub mod CommandLine
 pub mod Deciding
 pub mod Endings
-pub mod OptionTexts

@@ -1,4 +1,2 @@
-pub mod Options
 pub mod Process
 pub mod Program
-pub mod Words

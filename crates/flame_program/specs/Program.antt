@@ -4,7 +4,7 @@ use Rattle.std.specs.Io.KnownBytes.{Appends, Keeps}
 use Rattle.flame_answers.specs.Answers.{IsAnswer, IsInputFault, IsReadable}
 use Rattle.flame_answers.specs.Parts.{AppendsBeginning, IsWholeInput, TakesAtMost, TakesExactly}
 use Rattle.flame_answers.specs.Outcomes.{code_of}
-use Rattle.flame_program.specs.Words.{IsCrowded, IsMisnamed, IsRefused, request_of}
+use Rattle.flame_words.specs.Words.{IsCrowded, IsMisnamed, IsRefused, request_of}
 use Rattle.flame_answers.specs.declared.outcomes.Outcome.{Outcome}
 use Rattle.flame_answers.specs.declared.outcomes.Outcome.TheVariants.{Done, Words, Fault}
 use Rattle.flame_answers.specs.declared.outcomes.ToolFault.{ToolFault}
@@ -12,10 +12,10 @@ use Rattle.flame_answers.specs.declared.outcomes.ToolFault.TheVariants as tool
 use Rattle.flame_answers.specs.declared.outcomes.ToolFault.TheVariants.{Folded, Profile, Batch, Name, Sessions, Read, Write, TooLong, NoMemory}
 use Rattle.flame_answers.specs.declared.streams.ReadFault.{ReadFault}
 use Rattle.flame_answers.specs.declared.streams.ReadFault.TheVariants as reading
-use Rattle.flame_program.specs.declared.words.WordsFault.{WordsFault}
-use Rattle.flame_program.specs.declared.words.WordsFault.TheVariants as words
-use Rattle.flame_answers.specs.declared.request.Request.{Request}
-use Rattle.flame_answers.specs.declared.request.Request.TheVariants.{Report, Export, Live}
+use Rattle.flame_words.specs.declared.words.WordsFault.{WordsFault}
+use Rattle.flame_words.specs.declared.words.WordsFault.TheVariants as words
+use Rattle.flame_words.specs.declared.request.Request.{Request}
+use Rattle.flame_words.specs.declared.request.Request.TheVariants.{Report, Export, Live}
 
 -- the words ask for something
 abbrev pub IsAsked : List (List ℕ) → Type 0

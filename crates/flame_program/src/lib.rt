@@ -1,17 +1,12 @@
-//! The program `flame` over any words, reader and writer: the words as a request, and the whole run; and the same on
-//! the process's own.
+//! The program `flame` over any words, reader and writer, and over the process's own: the whole run.
 #![tactic(auto)]
 
-mod command;
-mod help;
 mod host;
-mod options;
 mod process;
 mod program;
 mod shown_rows;
-mod words;
 
+pub use flame_words::{WordsFault, read_words};
 pub use host::run_on_host;
 pub use process::{End, run_process};
 pub use program::run;
-pub use words::{WordsFault, read_words};

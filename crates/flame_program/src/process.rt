@@ -7,7 +7,7 @@ ghost use Rattle.std.specs.Vec.Iter.{into_iter_items};
 ghost use Rattle.flame_answers.specs.Outcomes.{code_of};
 ghost use Rattle.flame_program.specs.Process.{IsSaid, IsUnreadCause, IsUnreadEnd};
 ghost use Rattle.flame_program.specs.Program.{InputDecides, IsDone, IsEnd};
-ghost use Rattle.flame_program.specs.Words.{texts_of};
+ghost use Rattle.flame_words.specs.Words.{texts_of};
 
 use crate::program::run;
 use flame_answers::{MAX_INPUT, Outcome, Progress, Status, ToolFault};

@@ -4,13 +4,12 @@ ghost use Rattle.std.specs.Prelude.{◌≡◌, ◌≢◌, ◌+◌, ◌≤◌, �
 ghost use Rattle.std.specs.Io.KnownBytes.{Keeps};
 ghost use Rattle.flame_answers.specs.Parts.{TakesAtMost};
 ghost use Rattle.flame_program.specs.Program.{EndsBy, InputDecides, IsCut, IsDone, IsEnd, read_fault_of, unasked_outcome_of};
-ghost use Rattle.flame_program.specs.Words.{IsCrowded, IsMisnamed, IsRefused, request_of, texts_of};
+ghost use Rattle.flame_words.specs.Words.{IsCrowded, IsMisnamed, IsRefused, request_of, texts_of};
 
-use crate::words::{WordsFault, read_words};
 use flame_answers::{
-    MAX_INPUT, Outcome, Progress, ReadFault, Request, Status, ToolFault, answer, read_input,
-    write_text,
+    MAX_INPUT, Outcome, Progress, ReadFault, Status, ToolFault, answer, read_input, write_text,
 };
+use flame_words::{Request, WordsFault, read_words};
 use profile_rows::Hashing;
 use std::alloc::Global;
 use std::io::{Read, Write};

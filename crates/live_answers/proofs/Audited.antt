@@ -16,7 +16,7 @@ use Rattle.op_book.proofs.Weighing.{added, counted, of_changes, sum_by-map, weig
 use Rattle.live_store.specs.Workers.{ops_told}
 use Rattle.live_answers.specs.Dealing.{AreDealt, addition, total_at, totals_from, warm_lists, weigh}
 use Rattle.live_answers.specs.Live.{operations_in}
-use Rattle.live_answers.specs.Options.{PlainOptions}
+use Rattle.flame_words.specs.LiveOptions.{PlainOptions}
 
 -- ---- sums
 

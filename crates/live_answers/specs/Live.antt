@@ -4,7 +4,7 @@ use Rattle.std.specs.Prelude.{ℕ, ◌+◌, ◌*◌, Bool, cond, List, [], ◌++
 use Rattle.std.specs.Fmt.{decimal}
 use Rattle.folded_text.specs.FoldedText.{folded_text_of}
 use Rattle.profile_rows.specs.Values.{BatchState, Row, rows_at}
-use Rattle.live_answers.specs.Options.{PlainOptions}
+use Rattle.flame_words.specs.LiveOptions.{PlainOptions}
 
 -- the folded report of one value
 abbrev pub folded_at : ℕ → List Row → List ℕ

@@ -1,23 +1,6 @@
--- How rows are stored, and what is written of them.
-use Rattle.std.specs.Prelude.{ℕ, ◌+◌, ◌-◌, ◌^◌, ◌==◌, ◌&&◌, Bool, cond, min, nat_le, not, Option, Some, None, if◌then◌else◌}
-
--- how many workers add the rows, whether the report of each value is written, and whether a session before the workers
--- adds all rows and resets the store
-pub record PlainOptions : Type 0 where
-  pub sessions : ℕ
-  pub all : Bool
-  pub warm : Bool
-
--- how many workers there can be: a store has 64 sessions, of which a warm start takes one
-abbrev pub most_workers : Bool → ℕ
-most_workers warm = cond warm 63 64
-
--- options with so many workers, where there can be so many
-abbrev pub options_of : ℕ → Bool → Bool → Option PlainOptions
-options_of sessions all warm =
-    if not (sessions == 0) && nat_le sessions (most_workers warm)
-    then Some (record { sessions = sessions; all = all; warm = warm })
-    else None
+-- What a store has for the rows and the options of `live`.
+use Rattle.std.specs.Prelude.{ℕ, ◌+◌, ◌-◌, ◌^◌, cond, min}
+use Rattle.flame_words.specs.LiveOptions.{PlainOptions}
 
 -- how many sessions a store has for them: one for each worker, and that of a warm start
 abbrev pub sessions_for : PlainOptions → ℕ

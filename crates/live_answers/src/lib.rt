@@ -4,12 +4,11 @@
 
 mod dealing;
 mod fault;
-mod options;
 mod progress;
 mod storing;
 mod texts;
 
 pub use fault::LiveFault;
-pub use options::LiveOptions;
+pub use flame_words::LiveOptions;
 pub use progress::{Progress, Unheard};
 pub use texts::live_text;

@@ -12,10 +12,10 @@ ghost use Rattle.live_answers.specs.Live.{count_line, folded_at, live_text_of, r
 
 use crate::dealing::deal;
 use crate::fault::LiveFault;
-use crate::options::LiveOptions;
 use crate::progress::{Progress, RowGate};
 use crate::storing::{Stored, is_warm, store};
 use call_tree::CallTree;
+use flame_words::LiveOptions;
 use folded_text::report_of_stack_texts;
 use live_store::Blank;
 use op_book::laws::additions_count_since_the_last_reset;
@@ -76,7 +76,7 @@ fn warm_batch(batch: &Arc<Batch>, options: LiveOptions) -> Result<Option<Arc<Bat
     ensures { IfOk result (λ warm.
         option_map arc_value warm ≡ cond options.warm (Some (arc_value batch.now)) None) }
 {
-    if options.warm {
+    if options.warm() {
         Ok(Some(Arc::try_clone(batch)?))
     } else {
         Ok(None)
@@ -88,7 +88,7 @@ fn check_warm(options: LiveOptions, logs: &[SessionLog]) -> Result<(), LiveFault
     ensures { MatchResult result (λ _. options.warm ≡ true → IsWarm logs.now)
         (λ fault. (fault ≡ LiveFault.Warm) × (options.warm ≡ true) × (IsWarm logs.now → ⊥)) }
 {
-    if options.warm && !is_warm(logs) {
+    if options.warm() && !is_warm(logs) {
         return Err(LiveFault::Warm);
     }
     Ok(())
@@ -107,12 +107,12 @@ fn blank_for(
         × (blank.sessions ≡ sessions_for options)) }
     ensures fault { IfErr result (λ fault. is_shortage fault ≡ true) }
 {
-    let (sessions, more) = if options.warm {
-        (options.sessions + 1, 2)
+    let (sessions, more) = if options.warm() {
+        (options.sessions() + 1, 2)
     } else {
-        (options.sessions, 0)
+        (options.sessions(), 0)
     };
-    let changes = (rows as u64).saturating_add(u64::from(options.sessions) + more);
+    let changes = (rows as u64).saturating_add(u64::from(options.sessions()) + more);
     let limit = u32::try_from(changes).unwrap_or(u32::MAX);
     Ok(Blank::make_with(alloc, hashing, limit, sessions, width)?)
 }

@@ -1,7 +1,7 @@
 use Rattle.std.proofs.Common.{sym, subst}
 use Rattle.flame_answers.specs.Answers.{IsRefusedIn}
 use Rattle.flame_answers.specs.declared.outcomes.ToolFault.{ToolFault}
-use Rattle.flame_answers.specs.declared.request.Format.TheVariants.{Pprof}
+use Rattle.flame_words.specs.declared.request.Format.TheVariants.{Pprof}
 use Rattle.flame_answers.proofs.Inputs.{batch_refused, profile_refused}
 use Rattle.flame_answers.proofs.answers.profile_top.Goals as goal
 

@@ -1,7 +1,7 @@
 use Rattle.std.proofs.Common.{sym, subst}
 use Rattle.flame_answers.specs.Answers.{IsLiveRefused}
 use Rattle.flame_answers.specs.declared.outcomes.ToolFault.{ToolFault}
-use Rattle.flame_answers.specs.declared.request.Format.TheVariants.{Pprof}
+use Rattle.flame_words.specs.declared.request.Format.TheVariants.{Pprof}
 use Rattle.flame_answers.proofs.LiveInputs.{bytes_refused, samples_refused}
 use Rattle.flame_answers.proofs.live.profile_batch.Goals as goal
 

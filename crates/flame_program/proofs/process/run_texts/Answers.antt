@@ -1,6 +1,6 @@
 use Rattle.std.proofs.Common.{ap, subst, ◌∙◌, List, ℕ}
 use Rattle.flame_program.specs.Program.{InputDecides}
-use Rattle.flame_program.specs.Words.{texts_of}
+use Rattle.flame_words.specs.Words.{texts_of}
 use Rattle.flame_program.proofs.process.run_texts.Goals as goal
 
 pub returns-in-Ok-clause-decided : goal.returns-in-Ok-clause-decided

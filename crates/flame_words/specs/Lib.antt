@@ -1,0 +1,3 @@
+pub mod LiveOptions
+pub mod Options
+pub mod Words

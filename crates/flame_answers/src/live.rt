@@ -6,8 +6,8 @@ ghost use Rattle.flame_words.specs.declared.request.Format.TheVariants.{Folded, 
 
 use crate::answers::{batch_fault, choice_of, folded_fault, profile_fault};
 use crate::outcomes::ToolFault;
-use folded_text::read_folded_with;
 use flame_words::{Format, LiveOptions, Source};
+use folded_text::read_folded_with;
 use live_answers::{LiveFault, Progress, live_text};
 use pprof_profile::{Text, decode};
 use profile_rows::{Batch, Hashing};

@@ -4,7 +4,7 @@
     tools/attack_process.py [--limits NUMBER] [--only WORD]
 
 Each subcommand is run with limits of its address space (400, or as many as --limits says, from the least at which a
-process starts at all to more than it takes), of threads, and of the size of a file; with a full disk, a pipe that is
+process starts at all to more than it takes, of 50,000 rows but for `live`), of threads, and of the size of a file; with a full disk, a pipe that is
 closed, a directory as its input, a pipe that nobody reads, and with signals in the middle. A run has to give the right
 report and status 0; or a stated status and its one line, and no report. Only at status 3 may a beginning of the report
 be written. A run that a signal ends may have written a beginning, as much as the system took.
@@ -29,6 +29,8 @@ PROGRAM = TOP / "out/flame"
 FOLDED = TOP / "examples/json_report.folded"
 PROFILE = TOP / "examples/work.pb"
 MB = 1 << 20
+# How many distinct rows the subcommands read whose address space is limited.
+ROWS = 50_000
 # The name of a case, its words, and its input.
 CASES = [
     ("top", ["top"], FOLDED),
@@ -94,6 +96,14 @@ def space_taken(words, source):
     while ended(words, source, preexec_fn=limited(resource.RLIMIT_AS, space))[0] != 0:
         space *= 2
     return space
+
+
+def write_rows(folder):
+    """Writes inputs of many distinct rows, folded text and a profile, by the inputs of few rows that they stand for."""
+    folded, profile = folder / "rows.folded", folder / "rows.pb"
+    folded.write_text("".join(f"main;run_{row % 97};step_{row} {row + 1}\n" for row in range(ROWS)), encoding="utf-8")
+    profile.write_bytes(ended(["proto"], folded)[1])
+    return {FOLDED: folded, PROFILE: profile}
 
 
 def attack_space(words, source, report, count, least):
@@ -190,14 +200,33 @@ def attack_signals(words, source, report):
         yield f"signal {signal.Signals(number).name}", end, is_right
 
 
-def attacks(words, source, report, count, least):
-    yield from attack_space(words, source, report, count, least)
+def attacks(words, source, report, count, least, rows):
     if words[0] == "live":
+        yield from attack_space(words, source, report, count, least)
         yield from attack_threads(words, source, report)
+    else:
+        yield from attack_space(words, rows[source], ended(words, rows[source])[1], count, least)
     yield from attack_writes(words, source, report)
     yield from attack_pipe(words, source, report)
     yield from attack_reads(words)
     yield from attack_signals(words, source, report)
+
+
+def attack_all(given, least, rows):
+    """Attacks all cases, and says how many runs ended wrongly."""
+    wrong = 0
+    for name, words, source in CASES:
+        if given.only not in name:
+            continue
+        report, ends = ended(words, source)[1], collections.Counter()
+        for what, end, is_right in attacks(words, source, report, given.limits, least, rows):
+            ends[end[0], end[2].decode(errors="replace").strip()] += 1
+            if not is_right:
+                wrong += 1
+                print(f"WRONG: {name}, {what}: status {end[0]}, {len(end[1])} bytes, {end[2]!r}")
+        told = ", ".join(f"{number} with {status} {line}".rstrip() for (status, line), number in ends.most_common())
+        print(f"{name}: {told}", flush=True)
+    return wrong
 
 
 def main():
@@ -205,19 +234,10 @@ def main():
     reader.add_argument("--limits", type=int, default=400, help="how many limits of the address space a case has")
     reader.add_argument("--only", default="", help="the cases whose names have this word")
     given = reader.parse_args()
-    least, wrong = least_space(), 0
+    least = least_space()
     print(f"a process starts with {least / MB:.2f} MB of address space")
-    for name, words, source in CASES:
-        if given.only not in name:
-            continue
-        report, ends = ended(words, source)[1], collections.Counter()
-        for what, end, is_right in attacks(words, source, report, given.limits, least):
-            ends[end[0], end[2].decode(errors="replace").strip()] += 1
-            if not is_right:
-                wrong += 1
-                print(f"WRONG: {name}, {what}: status {end[0]}, {len(end[1])} bytes, {end[2]!r}")
-        told = ", ".join(f"{number} with {status} {line}".rstrip() for (status, line), number in ends.most_common())
-        print(f"{name}: {told}", flush=True)
+    with tempfile.TemporaryDirectory() as folder:
+        wrong = attack_all(given, least, write_rows(pathlib.Path(folder)))
     print(f"{wrong} ended wrongly")
     sys.exit(1 if wrong else 0)
 

@@ -107,12 +107,13 @@ fn blank_for(
         × (blank.sessions ≡ sessions_for options)) }
     ensures fault { IfErr result (λ fault. is_shortage fault ≡ true) }
 {
+    let workers = options.sessions();
     let (sessions, more) = if options.warm() {
-        (options.sessions() + 1, 2)
+        (workers + 1, 2)
     } else {
-        (options.sessions(), 0)
+        (workers, 0)
     };
-    let changes = (rows as u64).saturating_add(u64::from(options.sessions()) + more);
+    let changes = (rows as u64).saturating_add(u64::from(workers) + more);
     let limit = u32::try_from(changes).unwrap_or(u32::MAX);
     Ok(Blank::make_with(alloc, hashing, limit, sessions, width)?)
 }

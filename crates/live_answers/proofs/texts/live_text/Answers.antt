@@ -25,7 +25,7 @@ returns g c =
     let warm : Option BatchState = option_map arc_value c.in_ok-warm.warm in
     let run : List PlainStep = c.in_ok-run.run' in
     let dealt : AreDealt batch options.sessions lists =
-    subst (λ (n : ℕ). AreDealt batch n lists) c.sessions.ensures c.in_ok-lists.ensures in
+    subst (λ (n : ℕ). AreDealt batch n lists) c.sessions.ensures.sessions c.in_ok-lists.ensures in
     let told : map (λ (log : SessionLog). ops_told log.receipts) logs ≡ warm_lists warm ++ lists = c.in_ok-journal.ensures.told in
     let warm_is : warm ≡ cond options.warm (Some batch) None = c.in_ok-warm.ensures in
     let matched : LogsMatch journal logs = subst (λ (ls : List SessionLog). LogsMatch journal ls) c.deref-3.ensures.value (c.in_ok-run.ensures.first).0 in

@@ -110,10 +110,10 @@ def by_crate(rows):
     with tempfile.TemporaryDirectory() as folder:
         root = pathlib.Path(folder)
         ignored = shutil.ignore_patterns("out")
-        for crate in ["no_memory", "pprof_wire"]:
+        for crate in ["basics", "pprof_wire"]:
             shutil.copytree(top / "crates" / crate, root / "crates" / crate, ignore=ignored)
         (root / "crates/wire_dump/src").mkdir(parents=True)
-        (root / "crates.txt").write_text("no_memory: thiserror\npprof_wire: no_memory thiserror\nwire_dump: pprof_wire\n")
+        (root / "crates.txt").write_text("basics: thiserror\npprof_wire: basics thiserror\nwire_dump: pprof_wire\n")
         calls = "\n".join("    show(&rt, &[%s])?;" % ", ".join(map(str, row)) for row in rows)
         (root / "crates/wire_dump/src/main.rt").write_text(MAIN % calls)
         subprocess.run(["git", "init", "-q", str(root)], check=True)

@@ -123,7 +123,7 @@ impl Grower {
         ensures weights { IfOk result (λ grower. (value : ℕ) → weights_of grower value ≡ map.empty) }
     {
         let tree = CallTree::new(alloc, width)?;
-        tree.known();
+        tree.facts();
         Ok(Grower {
             tree,
             numbers: IndexSet::with_hasher(alloc, hashing),
@@ -203,7 +203,7 @@ impl Grower {
             index,
             walk: _,
         } = grower;
-        tree.known();
+        tree.facts();
         Ok(Grower {
             tree: tree.add_batch(batch, places.as_slice())?,
             numbers,
@@ -228,7 +228,7 @@ impl Grower {
         let node = self.grow(&batch.first().rows()[0].stack, &mut walk);
         self.walk = walk;
         let place = node?;
-        self.tree.known();
+        self.tree.facts();
         self.tree.add_row(batch, place)?;
         Ok(())
     }
@@ -264,7 +264,7 @@ impl Grower {
         ensures grown { AreGrown self.old self.new }
     {
         let places = self.places_of(alloc, batch.first(), walk)?;
-        self.tree.known();
+        self.tree.facts();
         let next = self.tree.with_batch(batch, places.as_slice())?;
         Ok(Plan {
             next,
@@ -300,7 +300,7 @@ impl Grower {
         ensures grown { AreGrown self.old self.new }
     {
         walk.start();
-        self.tree.known();
+        self.tree.facts();
         let frames = stack.names();
         let mut place = 0u32;
         for depth in 0..frames.len() {
@@ -323,7 +323,7 @@ impl Grower {
         ensures path { IfOk result (λ child. IsOnPath (plain_at self.new 0) walk.new frames.now (depth + 1) child) }
         ensures grown { AreGrown self.old self.new }
     {
-        self.tree.known();
+        self.tree.facts();
         let name = &frames[depth];
         let guess = walk.guess(place, name);
         if let Some(number) = self.tree.number_below(place, guess, name) {
@@ -351,7 +351,7 @@ impl Grower {
     {
         let number = self.intern(&frames[depth])?;
         let there = walk.add(number)?;
-        self.tree.known();
+        self.tree.facts();
         self.child(place, number, !there)
     }
 
@@ -380,7 +380,7 @@ impl Grower {
         let listed = name.share()?;
         let key = name.share()?;
         self.numbers.reserve(1)?;
-        self.tree.known();
+        self.tree.facts();
         self.tree.append_name(listed)?;
         let _ = self.numbers.insert(key);
         Ok(number)
@@ -416,7 +416,7 @@ impl Grower {
     {
         let number = number_of(self.tree.len())?;
         self.index.reserve(1)?;
-        self.tree.known();
+        self.tree.facts();
         self.tree.append_node(parent, name, counts)?;
         let _ = self.index.insert((parent, name), number);
         Ok(number)

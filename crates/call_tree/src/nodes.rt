@@ -64,7 +64,7 @@ impl Nodes {
     }
 
     /// What all nodes keep true, in the words of contracts.
-    pub fn known(&self)
+    pub fn facts(&self)
         ensures { AreAlike self.now }
     {
         let _ = &self.first;

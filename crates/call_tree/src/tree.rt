@@ -67,7 +67,7 @@ impl CallTree {
         ensures width { length result ≡ self.now.width }
         ensures fits { (value : ℕ) → total_in (weights_of self.now value) < 2 ^ 63 }
     {
-        self.known();
+        self.facts();
         self.total
     }
 
@@ -105,7 +105,7 @@ impl CallTree {
             → total_of (nodes_at self value) + total_of (rows_at value batch.now.rows) < 2 ^ 63 }
         ensures { IfOk result (λ next. AreCredited self next batch.now.rows self.width) }
     {
-        self.known();
+        self.facts();
         let CallTree {
             names,
             mut nodes,
@@ -159,7 +159,7 @@ impl CallTree {
         ensures ok { OnOk result (IsAppended self.old parent name self.new) }
         ensures err { OnErr result (self.new ≡ self.old) }
     {
-        self.nodes.known();
+        self.nodes.facts();
         self.nodes.append(Node {
             parent,
             name,
@@ -174,7 +174,7 @@ impl CallTree {
         ensures { IfSome result
             (λ number. IsChild (plain_at self.now 0) parent number child × (name_at self.now.names number ≡ name.now)) }
     {
-        self.nodes.known();
+        self.nodes.facts();
         if child == 0 || child as usize >= self.nodes.len() {
             return None;
         }
@@ -191,7 +191,7 @@ impl CallTree {
         ensures width { length result ≡ self.now.width }
         ensures weights { (value : ℕ) → value_of value result ≡ weight_in (weights_of self.now value) stack.now }
     {
-        self.known();
+        self.facts();
         let width = self.nodes.width();
         let count = width.get();
         let mut weights = [0; 4];
@@ -210,7 +210,7 @@ impl CallTree {
             ((k : ℕ) → k < length (nodes_at self.now 0) → stack_at (nodes_at self.now 0) k ≡ stack.now → ⊥)
             (λ place. (place < length (nodes_at self.now 0)) × (stack_at (nodes_at self.now 0) place ≡ stack.now)) }
     {
-        self.nodes.known();
+        self.nodes.facts();
         let frames = stack.names();
         let mut place = 0usize;
         let mut depth = 0usize;
@@ -253,10 +253,10 @@ impl CallTree {
     }
 
     /// What every tree keeps true, in the words of contracts.
-    pub(crate) fn known(&self)
+    pub(crate) fn facts(&self)
         ensures { AreStates self.now }
     {
-        self.nodes.known();
+        self.nodes.facts();
     }
 
     /// How many nodes there are.
@@ -272,7 +272,7 @@ impl CallTree {
         requires { value < self.now.width }
         ensures { IfOk result (λ sums. AreSums (plain_at self.now value) sums.items) }
     {
-        self.nodes.known();
+        self.nodes.facts();
         let mut sums = vec![in alloc; Sums { flat: 0, cum: 0 }; self.names.len()]?;
         let mut below = vec![in alloc; 0u64; self.nodes.len()]?;
         let mut left = self.nodes.len();
@@ -332,7 +332,7 @@ impl CallTree {
         requires { at < length (nodes_at self.now 0) }
         ensures { IfOk result (λ stack. stack ≡ stack_at (nodes_at self.now 0) at) }
     {
-        self.nodes.known();
+        self.nodes.facts();
         let mut names = Vec::new(alloc);
         let mut place = at;
         while place != 0 {
@@ -355,7 +355,7 @@ impl CallTree {
         requires { value < self.now.width }
         ensures { IfOk result (λ rows. rows ≡ filter has_weight (nodes_at self.now value)) }
     {
-        self.known();
+        self.facts();
         let mut rows = WeightedStacks::new(alloc);
         for index in 0..self.nodes.len() {
             let weight = self.nodes.read(value, index).own;
@@ -388,7 +388,7 @@ impl CallTree {
             (map (λ frame. frame.now) frames.new.items ≡ stack_at (nodes_at self.now 0) at) }
         ensures names { OnOk result (All IsName (stack_at (nodes_at self.now 0) at)) }
     {
-        self.nodes.known();
+        self.nodes.facts();
         frames.clear();
         let mut place = at;
         while place != 0 {
@@ -428,7 +428,7 @@ impl CallTree {
         requires { value < self.now.width }
         ensures { IfOk result (λ texts. AreStackTexts (weights_of self.now value) texts.items) }
     {
-        self.known();
+        self.facts();
         let mut texts = Vec::new(alloc);
         let mut frames = Vec::new(alloc);
         let mut joined = String::new(alloc);
@@ -451,7 +451,7 @@ impl CallTree {
         ensures width { IfOk result (λ batch. batch.width ≡ self.now.width) }
         ensures rows { IfOk result (λ batch. AreRowsOf (weights_of self.now) batch.rows) }
     {
-        self.known();
+        self.facts();
         let width = self.nodes.width();
         let mut batch = Batch::new(alloc, width);
         for value in 0..width.get() {

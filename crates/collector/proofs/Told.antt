@@ -6,10 +6,10 @@ use Rattle.profile_store.specs.Operations.{PlainOp}
 use Rattle.profile_store.specs.Workers.{AreWorkOf, IsStoppedBy, ops_told}
 use Rattle.profile_store.specs.declared.SessionLog.{SessionLog}
 use Rattle.profile_store.specs.declared.Stop.{Stop}
-use Rattle.profile_store.specs.declared.Worked.{Worked}
+use Rattle.profile_store.specs.declared.FinishedWorker.{FinishedWorker}
 
 -- the next worker's log tells the next list
-pub logs-more : (limit width : ℕ) (lists : List (List PlainOp)) (one : Worked) (rest : List Worked) (logs : List SessionLog) → AreWorkOf limit width lists (one ∷ rest) → one.stopped ≡ None
+pub logs-more : (limit width : ℕ) (lists : List (List PlainOp)) (one : FinishedWorker) (rest : List FinishedWorker) (logs : List SessionLog) → AreWorkOf limit width lists (one ∷ rest) → one.stopped ≡ None
     → (others : List (List PlainOp)) × AreWorkOf limit width others rest
     × (map (λ (log : SessionLog). ops_told log.receipts) logs ++ lists ≡ map (λ (log : SessionLog). ops_told log.receipts) (logs ++ one.log ∷ []) ++ others)
 logs-more limit width [] one rest logs works finished = absurd works

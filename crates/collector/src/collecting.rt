@@ -12,7 +12,8 @@ use crate::reporting::report_of_logs;
 use crate::watching::watch;
 use anyhow::{Result, bail};
 use profile_store::{
-    Blank, Gate, Kind, Op, Query, Rank, SessionLog, Store, StoreName, Width, Worked, run_workers,
+    Blank, FinishedWorker, Gate, Kind, Op, Query, Rank, SessionLog, Store, StoreName, Width,
+    run_workers,
 };
 use std::alloc::Global;
 use std::marker::Brand;
@@ -178,13 +179,13 @@ fn work_window<N: StoreName, R: Threads + Wait + Sync>(
 }
 
 /// The logs of workers of which none stopped.
-fn finished_logs(alloc: Global, worked: Vec<Worked>) -> Result<Vec<SessionLog>>
+fn finished_logs(alloc: Global, worked: Vec<FinishedWorker>) -> Result<Vec<SessionLog>>
     ensures { (limit width : ℕ) (lists : List (List PlainOp)) → AreWorkOf limit width lists worked.items
         → IfOk result (λ logs. map (λ log. ops_told log.receipts) logs.items ≡ lists) }
 {
     let mut logs = Vec::new(alloc);
     for one in worked {
-        let Worked { log, stopped } = one;
+        let FinishedWorker { log, stopped } = one;
         if let Some(stop) = stopped {
             bail!("step {} was refused", stop.step);
         }

@@ -17,8 +17,8 @@ use Rattle.profile_samples.specs.declared.sampling.ValueChoice.TheVariants.{Defa
 use Rattle.profile_samples.specs.declared.sampling.ValueChoice.TheVariants as choices
 use Rattle.profile_samples.specs.Batches.{IsBatchOf, IsFirstBatchFault, chosen_types_of, one_from}
 use Rattle.profile_samples.specs.Samples.{type_named}
-use Rattle.live_answers.specs.declared.fault.LiveFault.{LiveFault}
-use Rattle.live_answers.specs.declared.fault.LiveFault.TheVariants as live
+use Rattle.live_report.specs.declared.fault.LiveFault.{LiveFault}
+use Rattle.live_report.specs.declared.fault.LiveFault.TheVariants as live
 use Rattle.flame_words.specs.declared.request.Format.{Format}
 use Rattle.flame_words.specs.declared.request.Format.TheVariants.{Folded, Pprof}
 use Rattle.flame_answers.specs.Answers.{HasLiveFault, HasNoBatch, IsBatchIn, IsLiveChoice, IsLiveRefused, batch_fault_of, folded_fault_of, profile_fault_of, store_fault_of}

@@ -20,9 +20,9 @@ use Rattle.folded_text.specs.FoldedText.{IsFirstFault, IsFoldedBatch, IsFoldedTe
 use Rattle.profile_samples.specs.Batches.{IsBatchOf, IsFirstBatchFault}
 use Rattle.profile_samples.specs.Samples.{AreStacksOf, IsFirstStacksFault}
 use Rattle.profile_rows.specs.Values.{BatchState}
-use Rattle.live_answers.specs.declared.fault.LiveFault.{LiveFault}
-use Rattle.live_answers.specs.declared.fault.LiveFault.TheVariants as live
-use Rattle.live_answers.specs.Live.{live_text_of}
+use Rattle.live_report.specs.declared.fault.LiveFault.{LiveFault}
+use Rattle.live_report.specs.declared.fault.LiveFault.TheVariants as live
+use Rattle.live_report.specs.Live.{live_text_of}
 use Rattle.flame_words.specs.LiveOptions.{PlainOptions}
 use Rattle.profile_rows.specs.TopList.{top_text_of}
 use Rattle.flame_report.specs.declared.answer.Answer.{Answer}

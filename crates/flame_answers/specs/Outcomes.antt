@@ -4,8 +4,8 @@ use Rattle.flame_answers.specs.declared.outcomes.Outcome.{Outcome}
 use Rattle.flame_answers.specs.declared.outcomes.Outcome.TheVariants.{Done, Words, Fault}
 use Rattle.flame_answers.specs.declared.outcomes.ToolFault.{ToolFault}
 use Rattle.flame_answers.specs.declared.outcomes.ToolFault.TheVariants.{Folded, Profile, Batch, Name, Sessions, Live, Read, Write, TooLong, NoMemory}
-use Rattle.live_answers.specs.declared.fault.LiveFault.{LiveFault}
-use Rattle.live_answers.specs.Faults.{is_shortage}
+use Rattle.live_report.specs.declared.fault.LiveFault.{LiveFault}
+use Rattle.live_report.specs.Faults.{is_shortage}
 
 -- 4: a thread, memory or a place for versions was wanting. 5: the store refused an operation, or the audit the logs.
 abbrev pub live_code_of : LiveFault → ℕ

@@ -15,7 +15,7 @@ use flame_report::laws::answers_are_by_the_aggregate;
 use flame_report::{Answer, Kind, Query, Rank, flame_json, report_of_stacks, top_list, top_text};
 use flame_words::{Format, Request, Source};
 use folded_text::{FoldedFault, folded_report, folded_totals, merge_folded};
-use live_answers::Progress;
+use live_report::Progress;
 use pprof_profile::{ProfileFault, Text, decode};
 use profile_rows::{FrameTotals, Hashing, NoMemory, WeightedStacks};
 use profile_samples::{BatchFault, ValueChoice, export_folded, merge_samples, sample_totals};

@@ -8,7 +8,7 @@ use crate::answers::{batch_fault, choice_of, folded_fault, profile_fault};
 use crate::outcomes::ToolFault;
 use flame_words::{Format, LiveOptions, Source};
 use folded_text::read_folded_with;
-use live_answers::{LiveFault, Progress, live_text};
+use live_report::{LiveFault, Progress, live_text};
 use pprof_profile::{Text, decode};
 use profile_rows::{Batch, Hashing};
 use profile_samples::{ValueChoice, batch_of_with};

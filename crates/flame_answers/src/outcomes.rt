@@ -4,7 +4,7 @@ ghost use Rattle.std.specs.Prelude.{◌≡◌};
 ghost use Rattle.flame_answers.specs.Outcomes.{code_of, fault_text_of, live_code_of, said_of};
 
 use folded_text::FoldedFault;
-use live_answers::LiveFault;
+use live_report::LiveFault;
 use pprof_profile::ProfileFault;
 use profile_rows::NoMemory;
 use profile_samples::BatchFault;

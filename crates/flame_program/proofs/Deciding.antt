@@ -18,8 +18,8 @@ use Rattle.flame_answers.specs.declared.outcomes.ToolFault.TheVariants.{Folded, 
 use Rattle.flame_answers.specs.declared.outcomes.ToolFault.TheVariants as tool
 use Rattle.flame_words.specs.declared.request.Request.{Request}
 use Rattle.flame_words.specs.declared.request.Request.TheVariants.{Report, Export, Live}
-use Rattle.live_answers.specs.declared.fault.LiveFault.{LiveFault}
-use Rattle.live_answers.specs.Faults.{is_shortage}
+use Rattle.live_report.specs.declared.fault.LiveFault.{LiveFault}
+use Rattle.live_report.specs.Faults.{is_shortage}
 
 -- the whole input is what was unread
 whole_is : (limit : ℕ) (unread : List ℕ) (left : Option (List ℕ)) (input : List ℕ) → IsWholeInput limit (Some unread) left input → unread ≡ input

@@ -2,8 +2,8 @@
 
 ghost use Rattle.std.specs.Prelude.{◌≡◌, ◌↔◌, [], IfOk, IsTrue};
 
-use crate::items::Items;
 use crate::query::Columns;
+use basics::Items;
 use profile_rows::{FrameTotal, Name, NoMemory};
 use std::marker::Model;
 

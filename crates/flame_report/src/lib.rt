@@ -3,7 +3,6 @@
 #![tactic(auto)]
 
 mod answer;
-mod items;
 mod json_text;
 mod keeping;
 pub mod laws;
@@ -13,7 +12,7 @@ mod reports;
 mod top;
 
 pub use answer::{Answer, Flame, Label, Rect, Top};
-pub use items::Items;
+pub use basics::Items;
 pub use json_text::flame_json;
 pub use profile_rows::{FrameTotal as TopRow, NoMemory};
 pub use query::{Columns, Kind, MAX_COLUMNS, Query, Rank};

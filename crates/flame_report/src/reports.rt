@@ -10,10 +10,10 @@ ghost use Rattle.flame_report.specs.Answers.{answer_of, flame_of, kept_by, top_o
 ghost use Rattle.profile_rows.specs.Values.{rows_at};
 
 use crate::answer::{Answer, Flame, Top};
-use crate::items::Items;
 use crate::layout::{Scale, rects_of};
 use crate::query::{Columns, Kind, Query, Rank};
 use crate::top::{kept_total, top_list, top_of_rows};
+use basics::Items;
 use call_tree::CallTree;
 use folded_text::write_stacks;
 use profile_rows::{

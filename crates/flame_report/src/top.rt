@@ -8,8 +8,8 @@ ghost use Rattle.flame_report.specs.Answers.{kept_by, ranking_of, top_of};
 ghost use Rattle.flame_report.specs.declared.query.Rank.TheVariants.{Flat, Cum};
 
 use crate::answer::Top;
-use crate::items::Items;
 use crate::query::{Query, Rank};
+use basics::Items;
 use profile_rows::laws::top_list_is_front_of_sorted;
 use profile_rows::{
     FrameTotal, FrameTotals, Hashing, NoMemory, WeightedStack, WeightedStacks, kept_totals_with,

@@ -1,6 +1,6 @@
--- The frames of a stack text: each can be a name, and there are no more of them than bytes.
-use Rattle.std.proofs.Common.{◌≡◌, ◌≢◌, ℕ, ◌+◌, ◌<◌, ◌≤◌, true, false, cond, eqb, List, [], ◌∷◌, length, refl, arith, filter, All, lit<}
-use Rattle.std.specs.List.{slice_split, onto_first, AllByRecursion}
+-- The frames of a stack text: each can be a name.
+use Rattle.std.proofs.Common.{◌≡◌, ◌≢◌, ℕ, ◌<◌, true, false, cond, eqb, List, [], ◌∷◌, length, refl, arith, filter, All, lit<}
+use Rattle.std.specs.List.{slice_split, AllByRecursion}
 use Rattle.std.proofs.lemmas.List.Elements.{All-from_recursion, recursion_from_All, All-weaker}
 use borrow.Author.Tests.{eqb-false}
 use Rattle.std.specs.Prelude.{◌==◌, not}
@@ -55,33 +55,3 @@ frames_of-IsName text utf8 one_line =
 
 abbrev full : List (List ℕ) → List (List ℕ)
 full parts = filter (λ part. not (length part == 0)) parts
-
--- a part in front makes one frame more at most, and no frame less
-fewer : (part : List ℕ) (parts : List (List ℕ)) → length (full parts) ≤ length (full (part ∷ parts))
-fewer part parts =
-    elim (not (length part == 0)) as (λ b. length (full parts) ≤ length (cond b (part ∷ full parts) (full parts))) [
-      | true ↦ omega arith
-      | false ↦ omega arith
-    ]
-
-one_more : (part : List ℕ) (parts : List (List ℕ)) → length (full (part ∷ parts)) ≤ length (full parts) + 1
-one_more part parts =
-    elim (not (length part == 0)) as (λ b. length (cond b (part ∷ full parts) (full parts)) ≤ length (full parts) + 1) [
-      | true ↦ omega arith
-      | false ↦ omega arith
-    ]
-
-with_byte : (byte : ℕ) (parts : List (List ℕ)) → length (full (onto_first byte parts)) ≤ length (full parts) + 1
-with_byte byte [] = one_more (byte ∷ []) []
-with_byte byte (part ∷ parts) = let more = one_more (byte ∷ part) parts in let few = fewer part parts in omega arith
-
-pub length-frames_of : (text : List ℕ) → length (frames_of text) ≤ length text
-length-frames_of [] = omega arith
-length-frames_of (byte ∷ text) =
-    let rest = length-frames_of text in
-    let more = with_byte byte (slice_split (λ byte. byte == 59) text) in
-    let none = one_more [] (slice_split (λ byte. byte == 59) text) in
-    elim (byte == 59) as (λ b. length (full (cond b ([] ∷ slice_split (λ byte. byte == 59) text) (onto_first byte (slice_split (λ byte. byte == 59) text)))) ≤ length (byte ∷ text)) [
-      | true ↦ omega arith
-      | false ↦ omega arith
-    ]

@@ -10,7 +10,7 @@ use Rattle.profile_rows.specs.declared.weighted_stacks.WeightedStack.{WeightedSt
 use Rattle.folded_text.specs.declared.folded.FoldedFault.{FoldedFault}
 use Rattle.folded_text.specs.declared.folded.FoldedFault.TheVariants.{NotUtf8, NoCount, Count, Depth, Heavy, NoMemory}
 use Rattle.profile_rows.specs.Rows.{total_of}
-use Rattle.folded_text.specs.FoldedText.{HasCount, IsRowLine, AreRowLines, IsFoldedText, IsLineFault, IsFirstFault, IsCountFault, IsFittingFault, frames_of}
+use Rattle.folded_text.specs.FoldedText.{HasCount, IsRowLine, AreRowLines, IsFoldedText, IsLineFault, IsFirstFault, IsFittingFault, frames_of}
 use Rattle.std.specs.Prelude.{Result, Ok, Err, MatchResult, All}
 use Rattle.std.specs.declared.iter.Enumerate.{Enumerate}
 use Rattle.bstr.specs.Text.{lines_of, without_terminator}
@@ -233,10 +233,3 @@ IsLineFault-memory held total number line text digits depth weight same utf8 fit
   IsRowLine-read line text digits weight utf8 count value (omega arith) (omega arith),
   omega arith,
 )
-
--- neither fault of a line is want of memory
-pub IsCountFault-named : (number : ℕ) (line : List ℕ) (fault : FoldedFault) → IsCountFault number line fault → fault ≢ NoMemory
-IsCountFault-named number line fault h is = subst (IsCountFault number line) is h
-
-pub IsFittingFault-named : (held number : ℕ) (text : List ℕ) (weight : ℕ) (fault : FoldedFault) → IsFittingFault held number text weight fault → fault ≢ NoMemory
-IsFittingFault-named held number text weight fault h is = subst (IsFittingFault held number text weight) is h

@@ -13,7 +13,7 @@ ghost use Rattle.profile_rows.specs.Values.{single_batch};
 use crate::known_names::KnownNames;
 use crate::stack_frames::{measured, replace_by_text};
 use crate::taking::{LineTaker, take_lines};
-use no_memory::NoMemory;
+use basics::NoMemory;
 use profile_rows::{Batch, Hashing, MAX_DEPTH, MAX_TOTAL, Stack, WeightedStacks};
 use simdutf8::basic;
 use std::alloc::Global;

@@ -3,7 +3,7 @@
 ghost use Rattle.std.specs.Prelude.{◌≡◌, All, IfOk, map};
 ghost use Rattle.profile_rows.specs.Names.{IsName};
 
-use no_memory::NoMemory;
+use basics::NoMemory;
 use profile_rows::{Hashing, Name, WeightedStack};
 use std::alloc::Global;
 use std::collections::HashMap;
@@ -45,6 +45,7 @@ impl<'a> KnownNames<'a> {
         self.names.insert(text, name.share()?)?;
         Ok(name)
     }
+
     /// The name of a frame: that of the row before at its place, where this has the same text.
     fn name_like(
         &mut self,

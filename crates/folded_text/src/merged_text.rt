@@ -13,7 +13,7 @@ use crate::known_names::KnownNames;
 use crate::stack_frames::replace_by_text;
 use crate::text_row::TextRow;
 use crate::text_rows::{read_text_rows, sort_by_text};
-use no_memory::NoMemory;
+use basics::NoMemory;
 use profile_rows::{Hashing, WeightedStacks};
 use std::alloc::Global;
 

@@ -7,7 +7,7 @@ ghost use Rattle.folded_text.specs.FoldedText.{rows_text};
 
 use crate::text_row::TextRow;
 use crate::text_rows::report_of_texts;
-use no_memory::NoMemory;
+use basics::NoMemory;
 use profile_rows::StackText;
 use std::alloc::Global;
 

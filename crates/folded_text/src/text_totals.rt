@@ -16,7 +16,7 @@ use crate::stack_frames::replace_by_text;
 use crate::taking::{LineTaker, take_lines};
 use crate::text_row::TextRow;
 use crate::text_rows::{TextRows, sum_line};
-use no_memory::NoMemory;
+use basics::NoMemory;
 use profile_rows::{CountedRows, FrameTotals, Hashing};
 use std::alloc::Global;
 
@@ -61,10 +61,13 @@ fn count_rows<'a>(
 /// How many stack texts wait before it is looked at whether that saves work.
 const FIRST_TEXTS: u64 = 4096;
 
+/// How many bytes of lines are read before it is looked at.
+const FIRST_BYTES: usize = 1 << 20;
+
 /// Whether at least a quarter of so many lines had a stack text that was there before, so that waiting for more lines
 /// of these texts saves work.
-fn saves_work(texts: u64, lines: u64) -> bool {
-    texts < FIRST_TEXTS || lines - lines / 4 >= texts
+fn saves_work(texts: u64, lines: u64, bytes: usize) -> bool {
+    (texts < FIRST_TEXTS && bytes < FIRST_BYTES) || lines - lines / 4 >= texts
 }
 
 /// A text whose rows are counted by the names of their frames. Those of one stack text wait to be counted together, as
@@ -73,6 +76,8 @@ fn saves_work(texts: u64, lines: u64) -> bool {
 struct Counting<'a> {
     /// The rows that wait. There are none once rows are counted.
     waiting: Option<TextRows<'a>>,
+    /// How many bytes the lines so far have.
+    bytes: usize,
     counted: CountedRows<'a>,
     frames: Vec<&'a str>,
 }
@@ -97,11 +102,12 @@ impl<'a> LineTaker<'a> for Counting<'a> {
         × AreCounted counting.waiting counting.counted merged };
 
     fn take_line(&mut self, line: &'a [u8], number: u64) -> Result<(), FoldedFault> {
+        self.bytes = self.bytes.saturating_add(line.len());
         let Some(sums) = &mut self.waiting else {
             return count_line(&mut self.counted, &mut self.frames, line, number);
         };
         sum_line(sums, line, number)?;
-        if saves_work(sums.rows.len() as u64, number) {
+        if saves_work(sums.rows.len() as u64, number, self.bytes) {
             return Ok(());
         }
         Ok(self.count_waiting()?)
@@ -128,6 +134,7 @@ pub fn folded_totals(
     let counted = CountedRows::new(alloc, hashing);
     let mut counting = Counting {
         waiting: Some(waiting),
+        bytes: 0,
         counted,
         frames: Vec::new(alloc),
     };

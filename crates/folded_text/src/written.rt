@@ -6,8 +6,8 @@ ghost use Rattle.folded_text.specs.FoldedText.{IsFoldedText, row_text, rows_text
 ghost use Rattle.profile_rows.specs.Names.{IsName};
 ghost use Rattle.profile_rows.specs.Values.{rows_at};
 
+use basics::NoMemory;
 use itoa::Buffer;
-use no_memory::NoMemory;
 use profile_rows::{Batch, Name, Stack, WeightedStacks};
 use std::alloc::Global;
 

@@ -3,8 +3,8 @@
 #![tactic(auto)]
 
 mod blank;
-mod desk;
 mod fault;
+mod locked_book;
 mod session;
 mod store;
 mod told;
@@ -17,4 +17,4 @@ pub use op_book::{BookFault, Refused};
 pub use session::Session;
 pub use store::Store;
 pub use told::{Placed, Told};
-pub use workers::{Cause, Gate, Stop, Worked, run_workers};
+pub use workers::{Cause, FinishedWorker, Gate, Stop, run_workers};

@@ -10,7 +10,7 @@ ghost use Rattle.live_store.specs.Sessions.{IsBorneOut, IsPlaced, changes_by, ch
 ghost use Rattle.live_store.specs.Stores.{IsShownBy, IsUnseen, ShowsCause, changes_told};
 ghost use Rattle.live_store.specs.Workers.{ops_told};
 
-use crate::desk::Log;
+use crate::locked_book::Log;
 use crate::store::Store;
 use crate::told::{Placed, Told};
 use change_history::{Front, StoreName};
@@ -142,8 +142,8 @@ impl<'a, N: StoreName> Session<'a, N> {
                 back: batch,
             });
         }
-        let mut desk = self.store.desk().lock(rt);
-        let added = desk.add(
+        let mut book = self.store.book().lock(rt);
+        let added = book.add(
             rt,
             alloc,
             self.store.head(),
@@ -151,7 +151,7 @@ impl<'a, N: StoreName> Session<'a, N> {
             &mut self.log,
             batch,
         );
-        MutexGuard::unlock(desk);
+        MutexGuard::unlock(book);
         added
     }
 
@@ -176,9 +176,9 @@ impl<'a, N: StoreName> Session<'a, N> {
         ensures shown { IfErr result (IsShownBy self.new.seen self.old.number) }
     {
         self.log.make_room()?;
-        let mut desk = self.store.desk().lock(rt);
-        let made = desk.reset(rt, alloc, self.store.head(), &mut self.front, &mut self.log);
-        MutexGuard::unlock(desk);
+        let mut book = self.store.book().lock(rt);
+        let made = book.reset(rt, alloc, self.store.head(), &mut self.front, &mut self.log);
+        MutexGuard::unlock(book);
         made
     }
 

@@ -3,8 +3,8 @@
 ghost use Rattle.std.specs.Prelude.{◌≡◌, ◌<◌, ◌≤◌, [], ℕ, IfOk, length};
 
 use crate::blank::Blank;
-use crate::desk::Desk;
 use crate::fault::SessionFault;
+use crate::locked_book::LockedBook;
 use crate::session::Session;
 use change_history::{Front, Head, StoreName};
 use op_book::Journal;
@@ -18,7 +18,7 @@ use std::sync::{Mutex, MutexGuard, Wait};
 ///
 /// It isn't `Drop`: [`close`](Store::close) ends it.
 pub struct Store<N: StoreName> {
-    desk: Mutex<Desk<N>>,
+    book: Mutex<LockedBook<N>>,
     head: Head<N>,
     origin: Front<N>,
     width: Width,
@@ -42,7 +42,7 @@ impl<N: StoreName> Store<N> {
         } = blank;
         let origin = Front::of(0, &seen);
         Store {
-            desk: Mutex::new(Desk::new(book, sessions, origin.again(), versions)),
+            book: Mutex::new(LockedBook::new(book, sessions, origin.again(), versions)),
             head: Head::new(word),
             origin,
             width,
@@ -58,9 +58,9 @@ impl<N: StoreName> Store<N> {
         ensures { IfOk result
             (λ session. (session.number < N.sessions) × (session.log ≡ []) × (session.seen ≡ [])) }
     {
-        let mut desk = self.desk.lock(rt);
-        let given = desk.give(rt, alloc);
-        MutexGuard::unlock(desk);
+        let mut book = self.book.lock(rt);
+        let given = book.give(rt, alloc);
+        MutexGuard::unlock(book);
         match given {
             Ok((log, reader)) => Ok(Session::new(self, log, self.origin.again(), reader)),
             Err(fault) => Err(fault),
@@ -74,12 +74,12 @@ impl<N: StoreName> Store<N> {
         ensures few { length result.entries ≤ N.limit }
     {
         let Store {
-            desk,
+            book,
             head: _,
             origin: _,
             width: _,
         } = self;
-        desk.into_inner().close(rt)
+        book.into_inner().close(rt)
     }
 
     /// How many values each row has.
@@ -95,7 +95,7 @@ impl<N: StoreName> Store<N> {
     }
 
     /// The lock.
-    pub(crate) fn desk(&self) -> &Mutex<Desk<N>> {
-        &self.desk
+    pub(crate) fn book(&self) -> &Mutex<LockedBook<N>> {
+        &self.book
     }
 }

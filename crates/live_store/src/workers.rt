@@ -46,7 +46,7 @@ pub struct Stop {
 
 /// What a worker did.
 #[derive(Drop)]
-pub struct Worked {
+pub struct FinishedWorker {
     /// What its session was told.
     pub log: SessionLog,
     /// Where it stopped; nothing where all its operations were answered.
@@ -65,13 +65,13 @@ struct Worker<'a, N: StoreName> {
 
 /// A worker works on this list, by the session of this number.
 #[derive(Drop)]
-struct WorkOn<N: StoreName> {
+struct WorkerPromise<N: StoreName> {
     session: u32,
     list: Snapshot<Vec<Op>>,
     of: PhantomData<N>,
 }
 
-impl<N: StoreName> Promise<Worked> for WorkOn<N> {
+impl<N: StoreName> Promise<FinishedWorker> for WorkerPromise<N> {
     ghost use Rattle.std.specs.Prelude.{◌≡◌, map};
     ghost use Rattle.op_book.specs.Operations.{plain_op};
     ghost use Rattle.live_store.specs.Workers.{IsSeen, IsStarted, IsWorkOf};
@@ -82,10 +82,10 @@ impl<N: StoreName> Promise<Worked> for WorkOn<N> {
 
 /// A worker's thread, or its work, for which no thread could be had.
 #[derive(Drop)]
-struct Begun<N: StoreName, W> {
+struct StartedWorker<N: StoreName, W> {
     session: u32,
     list: Snapshot<Vec<Op>>,
-    thread: Result<PromisedHandle<Worked, WorkOn<N>>, SpawnError<W>>,
+    thread: Result<PromisedHandle<FinishedWorker, WorkerPromise<N>>, SpawnError<W>>,
     ghost same: { ForOk thread (λ handle. (handle.promise.list.value ≡ list.value)
         × (handle.promise.session ≡ session)) },
 }
@@ -104,7 +104,7 @@ pub fn run_workers<'a, N: StoreName, G: Gate, R: Threads + Wait + Sync>(
     store: &'a Store<N>,
     lists: Vec<Vec<Op>>,
     gate: &G,
-) -> Result<Vec<Worked>, WorkersFault>
+) -> Result<Vec<FinishedWorker>, WorkersFault>
     ensures work { IfOk result
         (λ all. AreWorkOf N.limit N.width (map (λ list. map plain_op list.items) lists.items) all.items) }
     ensures seen { IfOk result (λ all. All (IsSeen N.sessions) all.items) }
@@ -151,7 +151,7 @@ fn work_all<'a, N: StoreName, G: Gate, R: Threads + Wait + Sync>(
     alloc: Global,
     workers: Vec<Worker<'a, N>>,
     gate: &G,
-) -> Result<Vec<Worked>, AllocError>
+) -> Result<Vec<FinishedWorker>, AllocError>
     ensures work { IfOk result (λ all. AreWorkOf N.limit N.width
         (map (λ worker. map plain_op worker.list.items) workers.entry.items) all.items) }
     ensures seen { IfOk result (λ all. All (IsSeen N.sessions) all.items) }
@@ -159,7 +159,7 @@ fn work_all<'a, N: StoreName, G: Gate, R: Threads + Wait + Sync>(
     thread::scope(
         thread::scope_env(),
         rt,
-        move |scope| -> Result<Vec<Worked>, AllocError>
+        move |scope| -> Result<Vec<FinishedWorker>, AllocError>
             ensures work { IfOk result (λ all. AreWorkOf N.limit N.width
                 (map (λ worker. map plain_op worker.list.items) workers.entry.items) all.items) }
             ensures seen { IfOk result (λ all. All (IsSeen N.sessions) all.items) }
@@ -169,13 +169,13 @@ fn work_all<'a, N: StoreName, G: Gate, R: Threads + Wait + Sync>(
             for worker in workers {
                 let session = worker.session.number();
                 let list = Snapshot::of(&worker.list);
-                let promise = WorkOn::<N> {
+                let promise = WorkerPromise::<N> {
                     session,
                     list: Snapshot::of(&worker.list),
                     of: PhantomData,
                 };
                 let thread = scope.spawn_with(promise, move || work(rt, alloc, worker, gate));
-                begun.push_reserved(Begun {
+                begun.push_reserved(StartedWorker {
                     session,
                     list,
                     thread,
@@ -190,9 +190,9 @@ fn work_all<'a, N: StoreName, G: Gate, R: Threads + Wait + Sync>(
 fn join_all<N: StoreName, W: Drop, R: Threads + Wait>(
     rt: &R,
     alloc: Global,
-    begun: Vec<Begun<N, W>>,
-    worked: Vec<Worked>,
-) -> Vec<Worked>
+    begun: Vec<StartedWorker<N, W>>,
+    worked: Vec<FinishedWorker>,
+) -> Vec<FinishedWorker>
     requires room { (worked.items ≡ []) × (length begun.items ≤ vec_capacity worked) }
     requires sessions { All (λ one. one.session < N.sessions) begun.items }
     ensures work { AreWorkOf N.limit N.width (map (λ one. map plain_op one.list.value.items) begun.items) result.items }
@@ -209,8 +209,8 @@ fn join_all<N: StoreName, W: Drop, R: Threads + Wait>(
 fn join_one<N: StoreName, W: Drop, R: Threads + Wait>(
     rt: &R,
     alloc: Global,
-    begun: Begun<N, W>,
-) -> Worked
+    begun: StartedWorker<N, W>,
+) -> FinishedWorker
     requires { begun.session < N.sessions }
     ensures work { IsWorkOf N.limit N.width (map plain_op begun.list.value.items) result }
     ensures session { result.log.session ≡ begun.session }
@@ -218,14 +218,14 @@ fn join_one<N: StoreName, W: Drop, R: Threads + Wait>(
     ensures start { MatchResult begun.thread (λ _. IsStarted result)
         (λ _. IsSomeAnd result.stopped (λ stop. stop.cause ≡ Cause.Start)) }
 {
-    let Begun {
+    let StartedWorker {
         session,
         list: _,
         thread,
     } = begun;
     match thread {
         Ok(thread) => thread.join(rt),
-        Err(_) => Worked {
+        Err(_) => FinishedWorker {
             log: SessionLog {
                 session,
                 receipts: Items::new(Vec::new(alloc)),
@@ -244,7 +244,7 @@ fn work<'a, N: StoreName, G: Gate, R: Wait>(
     alloc: Global,
     worker: Worker<'a, N>,
     gate: &G,
-) -> Worked
+) -> FinishedWorker
     ensures work { IsWorkOf N.limit N.width (map plain_op worker.entry.list.items) result }
     ensures session { result.log.session ≡ worker.entry.session.number }
     ensures seen { IsSeen N.sessions result }
@@ -257,7 +257,7 @@ fn work<'a, N: StoreName, G: Gate, R: Wait>(
     } = worker;
     let stopped = take_all(rt, alloc, &mut session, place, list, gate);
     let _ = session.log();
-    Worked {
+    FinishedWorker {
         log: session.close(),
         stopped,
     }

@@ -7,7 +7,7 @@ use Rattle.call_tree.specs.State.{TreeState, weights_of}
 use Rattle.op_book.specs.Matching.{LoggedReceipt, Precedes}
 use Rattle.op_book.specs.Operations.{PlainOp, PlainReceipt, changes_in, is_change, plain_answer, profile_after}
 use Rattle.op_book.specs.Runs.{EachAfter}
-use Rattle.op_book.specs.declared.followed.Followed.{Followed}
+use Rattle.op_book.specs.declared.replay_state.ReplayState.{ReplayState}
 use Rattle.op_book.specs.declared.replay.Wrong.{Wrong}
 
 -- what the receipts are of
@@ -36,7 +36,7 @@ total_after all count value = total_of (rows_at value (profile_after (ops_in (ta
 
 -- what an audit keeps after so many of the receipts: the totals of what counts after them, and a tree of what counts
 -- after the first of them
-pub record IsFollowed (all : List LoggedReceipt) (count : ℕ) (followed : Followed) : Type 0 where
+pub record IsFollowed (all : List LoggedReceipt) (count : ℕ) (followed : ReplayState) : Type 0 where
   pub totals : (value : ℕ) → value_of value followed.totals ≡ total_after all count value
   pub width : length followed.totals ≡ followed.grower.width
   pub grown : followed.grown ≤ count

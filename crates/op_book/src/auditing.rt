@@ -9,9 +9,7 @@ ghost use Rattle.std.specs.List.{filter};
 use crate::entry::SessionLog;
 use crate::fault::AuditFault;
 use crate::journal::Journal;
-use crate::receipts::{
-    Logged, Place, all_receipts, first_out_of_order, first_stranger, second_log,
-};
+use crate::receipts::{Logged, Place, all_receipts, first_out_of_order, first_unknown, second_log};
 use crate::replay::{first_missing, first_wrong};
 use crate::run::{Run, sort_for_run};
 use profile_rows::Hashing;
@@ -110,7 +108,7 @@ fn known_receipts<'a>(
         return Err(AuditFault::TwoLogs { session });
     }
     let all = all_receipts(alloc, logs)?;
-    if let Some(Place { session, index }) = first_stranger(journal, &all) {
+    if let Some(Place { session, index }) = first_unknown(journal, &all) {
         return Err(AuditFault::Stranger { session, index });
     }
     if let Some(Place { session, index }) = first_out_of_order(&all) {

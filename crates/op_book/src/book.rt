@@ -200,7 +200,7 @@ impl Book {
         ensures orderly { IsOrderly self.new }
     {
         let added = self.add_rows(alloc, session, turn, &batch);
-        self.known();
+        self.facts();
         match added {
             Ok(receipt) => Ok(receipt),
             Err(fault) => Err(Refused { fault, back: batch }),
@@ -253,9 +253,9 @@ impl Book {
         ensures replay { IsReplay self.new.entries self.new.tree }
         ensures orderly { IsOrderly self.new }
     {
-        self.known();
+        self.facts();
         let ready = self.ready(alloc, session, turn, Change::Add(batch));
-        self.known();
+        self.facts();
         ready
     }
 
@@ -280,9 +280,9 @@ impl Book {
         ensures replay { IsReplay self.new.entries self.new.tree }
         ensures orderly { IsOrderly self.new }
     {
-        self.known();
+        self.facts();
         let ready = self.ready(alloc, session, turn, Change::Reset);
-        self.known();
+        self.facts();
         ready
     }
 
@@ -306,7 +306,7 @@ impl Book {
         } = ready;
         self.ledger.append(entry);
         self.grower.credit(plan);
-        self.known();
+        self.facts();
         receipt
     }
 
@@ -316,7 +316,7 @@ impl Book {
         ensures replay { IsReplay self.now.entries self.now.tree }
         ensures orderly { IsOrderly self.now }
     {
-        self.known();
+        self.facts();
         self.grower.tree()
     }
 
@@ -327,7 +327,7 @@ impl Book {
         ensures orderly { IsOrderly self.now }
         ensures small { length self.now.entries < 2 ^ 32 }
     {
-        self.known();
+        self.facts();
         self.ledger.entries()
     }
 
@@ -357,7 +357,7 @@ impl Book {
         ensures first_fault { IfErr result
             (λ fault. IsFirstBookFault self.old session turn (add (arc_value batch.now)) fault) }
     {
-        self.known();
+        self.facts();
         self.ledger.admit(session, turn)?;
         self.check_batch(batch)?;
         self.ledger.reserve()?;
@@ -386,7 +386,7 @@ impl Book {
         ensures first_fault { IfErr result
             (λ fault. IsFirstBookFault self.old session turn (change_op change.entry) fault) }
     {
-        self.known();
+        self.facts();
         self.ledger.admit(session, turn)?;
         let plan = self.plan(alloc, change)?;
         self.ledger.reserve()?;
@@ -415,7 +415,7 @@ impl Book {
                 Ok(self.grower.plan(alloc, batch)?)
             }
             Change::Reset => {
-                self.known();
+                self.facts();
                 Ok(self.grower.plan_reset(alloc)?)
             }
         }
@@ -444,7 +444,7 @@ impl Book {
     }
 
     /// What every book keeps.
-    fn known(&self)
+    fn facts(&self)
         ensures replay { IsReplay self.now.entries self.now.tree }
         ensures orderly { IsOrderly self.now }
     {
@@ -470,7 +470,7 @@ impl Book {
         ensures tree { result ≡ self.now.tree.width }
         ensures orderly { IsOrderly self.now }
     {
-        self.known();
+        self.facts();
         self.ledger.width()
     }
 
@@ -479,7 +479,7 @@ impl Book {
         ensures sessions { result ≡ self.now.sessions }
         ensures orderly { IsOrderly self.now }
     {
-        self.known();
+        self.facts();
         self.ledger.sessions()
     }
 }

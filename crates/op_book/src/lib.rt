@@ -6,13 +6,13 @@ mod auditing;
 mod book;
 mod entry;
 mod fault;
-mod followed;
 mod journal;
 pub mod laws;
 mod ledger;
 mod operation;
 mod receipts;
 mod replay;
+mod replay_state;
 mod run;
 
 pub use auditing::{audit, audit_with};

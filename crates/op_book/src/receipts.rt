@@ -96,7 +96,7 @@ pub(crate) fn second_log(alloc: Global, logs: &[SessionLog]) -> Result<Option<u3
 }
 
 /// The first receipt that isn't of the journal.
-pub(crate) fn first_stranger(journal: &Journal, all: &[Logged]) -> Option<Place>
+pub(crate) fn first_unknown(journal: &Journal, all: &[Logged]) -> Option<Place>
     ensures { MatchOption result (All (IsKnown journal.now) all.now)
         (λ place. IsFirstWithout (IsKnown journal.now) all.now place.session place.index) }
 {

@@ -5,9 +5,9 @@ ghost use Rattle.op_book.specs.Matching.{IsFirstMissing, IsReceived, LoggedRecei
 ghost use Rattle.op_book.specs.Operations.{FitsWidth, answered, plain_reply};
 ghost use Rattle.op_book.specs.Replays.{AreLight, AreNumbered, AreRising, IsFollowed, IsLowestOf, IsPlainAt, ops_in};
 
-use crate::followed::Followed;
 use crate::operation::{Op, Reply};
 use crate::receipts::Logged;
+use crate::replay_state::ReplayState;
 use flame_report::{Answer, NoMemory};
 use profile_rows::{Hashing, Width};
 use std::alloc::Global;
@@ -53,7 +53,7 @@ pub(crate) fn first_wrong(
     requires light { AreLight (ops_in ordered.now) }
     ensures { IfOk result (λ lowest. IsLowestOf ordered.now (length ordered.now) lowest) }
 {
-    let mut followed = Followed::new(alloc, hashing, width)?;
+    let mut followed = ReplayState::new(alloc, hashing, width)?;
     let mut lowest = None;
     for (at, one) in ordered.iter().enumerate() {
         let (same, right) = is_right(followed, alloc, ordered, at)?;
@@ -68,11 +68,11 @@ pub(crate) fn first_wrong(
 /// Whether the receipt at a place is of a change, or its reply the plain answer after those before it, which were
 /// followed; with these, as the answer left them.
 fn is_right(
-    followed: Followed,
+    followed: ReplayState,
     alloc: Global,
     ordered: &[Logged],
     at: usize,
-) -> Result<(Followed, bool), NoMemory>
+) -> Result<(ReplayState, bool), NoMemory>
     requires fitted { All (λ one. FitsWidth followed.grower.width one.receipt.op) ordered.now }
     requires light { AreLight (ops_in ordered.now) }
     requires within { at < length ordered.now }

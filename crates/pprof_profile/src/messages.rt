@@ -1,7 +1,8 @@
 //! The messages of profile.proto, with its fields' names but for these: `kind` is its `type`, `text` its `str`, and
 //! fields that hold several items have names in the plural.
 
-use crate::items::{Items, Text};
+use crate::text::Text;
+use basics::Items;
 
 /// `message Profile`, with nothing said of whether it is valid. Each index is one into `strings`.
 #[derive(Debug, Drop)]

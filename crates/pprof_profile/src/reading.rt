@@ -6,8 +6,9 @@ ghost use Rattle.pprof_profile.specs.declared.faults.ProfileFault.{ProfileFault}
 ghost use Rattle.pprof_profile.specs.Reading.{Table, Spells, IsFirstFault, SetsNumber, AddsNumbers, AddsText, AddsMessage, MergesMessage, IsUnpacked, IsPackedFault};
 
 use crate::faults::ProfileFault;
-use crate::items::{Items, Text};
 use crate::numbers::Number;
+use crate::text::Text;
+use basics::Items;
 use pprof_wire::{Field, Fields, Value, WireFault, packed};
 use std::alloc::Global;
 

@@ -4,9 +4,9 @@ ghost use Rattle.std.specs.Prelude.{◌≡◌};
 ghost use Rattle.pprof_profile.specs.Messages.{no_value_type, value_type_table, no_line, line_table, no_label, label_table, no_mapping, mapping_table, no_function, function_table, no_location, location_table, no_sample, sample_table, no_draft, draft_table};
 
 use crate::faults::ProfileFault;
-use crate::items::Items;
 use crate::messages::{Draft, Function, Label, Line, Location, Mapping, Sample, ValueType};
 use crate::reading::{Message, merge_message, push_message, push_numbers, push_text, set_number};
+use basics::Items;
 use pprof_wire::Field;
 use std::alloc::Global;
 

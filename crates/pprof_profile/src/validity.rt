@@ -3,13 +3,13 @@
 ghost use Rattle.std.specs.Prelude.{◌≡◌, ◌≢◌, Some, None, IfErr, OnOk};
 ghost use Rattle.std.specs.List.{list_all};
 ghost use Rattle.pprof_profile.specs.KnownIds.{knows};
-ghost use Rattle.pprof_profile.specs.Valid.{KeepsFirstRules, begins_with_empty, each_has_values, names_locations, names_mappings, names_functions, line_names_function, validity_fault};
+ghost use Rattle.pprof_profile.specs.Valid.{KeepsFirstRules, begins_with_empty, each_has_values, is_nonempty, names_locations, names_mappings, names_functions, line_names_function, validity_fault};
 
 use crate::faults::ProfileFault;
 use crate::ids::{KnownIds, has_zero_id, unique_ids};
 use crate::indices::indices_hold;
-use crate::items::Text;
 use crate::messages::{Draft, Line, Location, Sample};
+use crate::text::Text;
 use std::alloc::Global;
 
 /// The first rule that the draft breaks, asked in the order of [`ProfileFault`]'s variants.
@@ -19,7 +19,7 @@ pub(crate) fn validate(alloc: Global, draft: &Draft) -> Result<(), ProfileFault>
         (λ fault. fault ≢ ProfileFault.NoMemory → validity_fault draft.now ≡ Some fault) }
     ensures memory { IfErr result (λ fault. fault ≡ ProfileFault.NoMemory → KeepsFirstRules draft.now) }
 {
-    if draft.strings.is_empty() {
+    if !has_strings(draft.strings.as_slice()) {
         return Err(ProfileFault::NoStrings);
     }
     if !first_is_empty(draft.strings.as_slice()) {
@@ -47,6 +47,13 @@ pub(crate) fn validate(alloc: Global, draft: &Draft) -> Result<(), ProfileFault>
         return Err(ProfileFault::ValueCount);
     }
     Ok(())
+}
+
+/// There is a string.
+fn has_strings(strings: &[Text]) -> bool
+    ensures { result ≡ is_nonempty strings.now }
+{
+    matches!(strings, [_, ..])
 }
 
 /// The first string is there, and empty.

@@ -4,8 +4,9 @@ ghost use Rattle.std.specs.Prelude.{◌≡◌, ◌++◌, ◌<◌, ◌^◌, List,
 ghost use Rattle.pprof_wire.specs.Fields.{PlainField, IsFieldNumber};
 ghost use Rattle.pprof_profile.specs.Canonical.{bytes_of_fields, number_fields, content_fields, each_field, packed_bytes, FitsNumbers, FitsTexts, FitsEach};
 
-use crate::items::{Items, Text};
 use crate::numbers::Number;
+use crate::text::Text;
+use basics::Items;
 use pprof_wire::{NoMemory, Value, write_field, write_varint};
 use std::alloc::Global;
 

@@ -15,7 +15,7 @@ mod writing;
 
 pub use faults::WireFault;
 pub use fields::Fields;
-pub use no_memory::NoMemory;
+pub use basics::NoMemory;
 pub use numbers::packed;
 pub use packing::Packed;
 pub use values::{Field, Value};

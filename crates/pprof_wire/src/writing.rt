@@ -5,7 +5,7 @@ ghost use Rattle.pprof_wire.specs.Varints.{varint_of};
 ghost use Rattle.pprof_wire.specs.Fields.{value_of, plain_field, wire_type_of, IsFieldNumber, value_bytes_of, field_bytes_of};
 
 use crate::values::Value;
-use no_memory::NoMemory;
+use basics::NoMemory;
 
 /// Appends the shortest spelling of the number as a varint. `NoMemory` only where the vector has no room
 /// for it and cannot grow; then nothing is appended.

@@ -7,7 +7,7 @@ ghost use Rattle.profile_rows.specs.LentStacks.{lent_rows};
 use crate::batch::Batch;
 use crate::stack::Stack;
 use crate::values::{Weights, Width};
-use no_memory::NoMemory;
+use basics::NoMemory;
 use std::alloc::Global;
 use std::collections::BTreeMap;
 

@@ -9,7 +9,7 @@ use crate::batch_rows::Rows;
 use crate::stack::Stack;
 use crate::values::{Weights, Width, first_heavy};
 use crate::weighted_stacks::{PushFault, Refused, WeightedStack, WeightedStacks};
-use no_memory::NoMemory;
+use basics::NoMemory;
 use std::alloc::Global;
 use std::marker::Model;
 

@@ -14,7 +14,7 @@ use crate::keeping::keeps;
 use crate::name::Name;
 use crate::tallies::{Tally, count_stack, weighted};
 use crate::weighted_stacks::{WeightedStack, WeightedStacks};
-use no_memory::NoMemory;
+use basics::NoMemory;
 use std::alloc::{AllocError, Global};
 use std::collections::HashMap;
 

@@ -25,7 +25,7 @@ pub use frame_totals::{CountedRows, FrameTotal, FrameTotals, kept_totals, kept_t
 pub use hashing::Hashing;
 pub use keeping::keeps;
 pub use name::{Name, NameFault};
-pub use no_memory::NoMemory;
+pub use basics::NoMemory;
 pub use stack::{MAX_DEPTH, Stack};
 pub use stack_texts::StackText;
 pub use summing::aggregate_stacks;

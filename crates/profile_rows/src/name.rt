@@ -9,7 +9,7 @@ ghost use Rattle.std.proofs.Common.{rules};
 ghost use Rattle.std.specs.Prelude.{map, string_bytes};
 ghost use Rattle.profile_rows.specs.Names.{IsName, cleaned_byte, cleaned_name_of};
 
-use no_memory::NoMemory;
+use basics::NoMemory;
 use std::alloc::{AllocError, Global};
 use std::clone::Clone;
 use std::cmp::Ordering;

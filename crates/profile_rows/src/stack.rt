@@ -8,7 +8,7 @@ ghost use Rattle.std.specs.Cmp.{partial_order_from_agreeing_total};
 ghost use Rattle.std.proofs.Common.{rules};
 
 use crate::name::Name;
-use no_memory::NoMemory;
+use basics::NoMemory;
 use std::alloc::Global;
 use std::cmp::Ordering;
 use std::marker::Model;

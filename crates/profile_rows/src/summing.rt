@@ -7,7 +7,7 @@ ghost use Rattle.profile_rows.specs.Rows.{total_of, weight_of};
 
 use crate::stack::Stack;
 use crate::weighted_stacks::{WeightedStack, WeightedStacks};
-use no_memory::NoMemory;
+use basics::NoMemory;
 use std::alloc::Global;
 
 /// The place of the last row, where that has this stack.

@@ -9,7 +9,7 @@ ghost use Rattle.profile_rows.specs.TopList.{AreSumsOf};
 use crate::frame_totals::FrameTotal;
 use crate::hashing::Hashing;
 use crate::name::Name;
-use no_memory::NoMemory;
+use basics::NoMemory;
 use std::alloc::{AllocError, Global};
 use std::collections::HashMap;
 

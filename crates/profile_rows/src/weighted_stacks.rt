@@ -6,7 +6,7 @@ ghost use Rattle.profile_rows.specs.Pushing.{IsWeightFault};
 ghost use Rattle.profile_rows.specs.Merging.{with_added_at};
 
 use crate::stack::Stack;
-use no_memory::NoMemory;
+use basics::NoMemory;
 use std::alloc::Global;
 use std::marker::Model;
 use thiserror::Error;

@@ -10,7 +10,7 @@ ghost use Rattle.profile_samples.specs.Batches.{AreRowsOfSamples, IsBatchOf, IsF
 
 use crate::sampling::{BatchFault, ValueChoice, check_depth, chosen_type, stack_at, weight_of};
 use crate::unfolding::LocationFrames;
-use no_memory::NoMemory;
+use basics::NoMemory;
 use pprof_profile::{Draft, Profile, Sample};
 use profile_rows::{Batch, Hashing, MAX_DEPTH, Weights, Width, first_heavy};
 use std::alloc::Global;

@@ -15,7 +15,7 @@ ghost use Rattle.profile_samples.specs.CountedSamples.{AreNumbersOfIds, AreRowsC
 
 use crate::name_numbers::{NumberedFrames, ProfileNames};
 use crate::sampling::{BatchFault, ValueChoice, chosen_type, weight_of};
-use no_memory::NoMemory;
+use basics::NoMemory;
 use pprof_profile::{Profile, Sample};
 use profile_rows::{FrameTotal, FrameTotals, Hashing, MAX_DEPTH, MAX_TOTAL, Name, Tally};
 use std::alloc::{AllocError, Global};

@@ -11,7 +11,7 @@ ghost use Rattle.profile_samples.specs.declared.sampling.ValueChoice.TheVariants
 ghost use Rattle.profile_samples.specs.declared.sampling.ValueChoice.TheVariants as choices;
 
 use crate::text_table::TextTable;
-use no_memory::NoMemory;
+use basics::NoMemory;
 use pprof_profile::{
     Draft, Function, Items, Line, Location, Profile, Sample, Text, ValueType, check,
 };

@@ -3,7 +3,7 @@
 ghost use Rattle.std.specs.Prelude.{ℕ, ◌≡◌, ◌≢◌, ◌<◌, ◌-◌, ◌^◌, ◌==◌, IfOk, MatchOption, None, OnOk, Some, cond, slice_get};
 ghost use Rattle.profile_samples.specs.IdPlaces.{place_found, place_near};
 
-use no_memory::NoMemory;
+use basics::NoMemory;
 use pprof_profile::IdRange;
 use profile_rows::Hashing;
 use std::alloc::Global;

@@ -12,7 +12,7 @@ ghost use Rattle.profile_samples.specs.MergedSamples.{IsMergedBatch};
 
 use crate::sampling::{BatchFault, ValueChoice, check_depth, chosen_type, stack_at, weight_of};
 use crate::unfolding::LocationFrames;
-use no_memory::NoMemory;
+use basics::NoMemory;
 use pprof_profile::{Profile, Sample};
 use profile_rows::{Hashing, MAX_DEPTH, MAX_TOTAL, WeightedStacks};
 use std::alloc::Global;

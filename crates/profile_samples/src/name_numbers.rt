@@ -14,7 +14,7 @@ use crate::id_places::IdPlaces;
 use crate::string_names::StringName;
 use crate::text_table::TextTable;
 use crate::unfolding::{address_name, function_ids, location_ids};
-use no_memory::NoMemory;
+use basics::NoMemory;
 use pprof_profile::{Draft, Function, Items, Line, Location, Profile, Text};
 use profile_rows::{Hashing, MAX_DEPTH, Name};
 use std::alloc::{AllocError, Global};

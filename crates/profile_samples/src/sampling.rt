@@ -12,7 +12,7 @@ ghost use Rattle.profile_samples.specs.EqualStrings.{equal_at, equal_strings};
 
 use crate::string_names::string_at;
 use crate::unfolding::LocationFrames;
-use no_memory::NoMemory;
+use basics::NoMemory;
 use pprof_profile::{Draft, Profile, Text, ValueType};
 use profile_rows::{Hashing, MAX_DEPTH, Name, Stack};
 use std::alloc::{AllocError, Global};

@@ -6,7 +6,7 @@ ghost use Rattle.profile_rows.specs.Names.{IsName, cleaned_name_of};
 ghost use Rattle.profile_samples.specs.Samples.{string_at};
 ghost use Rattle.profile_samples.specs.NameNumbers.{name_in};
 
-use no_memory::NoMemory;
+use basics::NoMemory;
 use pprof_profile::Text;
 use profile_rows::Name;
 use std::alloc::Global;

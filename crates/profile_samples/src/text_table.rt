@@ -3,7 +3,7 @@
 ghost use Rattle.std.specs.Prelude.{◌≡◌, ◌<◌, ◌^◌, [], IfOk, OnOk, map};
 ghost use Rattle.profile_samples.specs.TextTables.{place_in, with_text, with_texts};
 
-use no_memory::NoMemory;
+use basics::NoMemory;
 use profile_rows::Hashing;
 use std::alloc::Global;
 use std::collections::HashMap;

@@ -7,7 +7,7 @@ ghost use Rattle.std.specs.Option.{option_map};
 
 use crate::id_places::IdPlaces;
 use crate::string_names::StringNames;
-use no_memory::NoMemory;
+use basics::NoMemory;
 use pprof_profile::{Draft, Function, Items, Line, Location, Profile, Text};
 use profile_rows::{Hashing, MAX_DEPTH, Name};
 use std::alloc::{AllocError, Global};

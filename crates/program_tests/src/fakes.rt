@@ -1,7 +1,7 @@
 //! A reader and a writer that move few bytes at a time and fail, a runtime without random bytes, and runs on given
 //! bytes.
 
-use flame_answers::{MAX_INPUT, Status, Unheard};
+use flame_answers::{MAX_INPUT, Status, NoProgress};
 use flame_program::run;
 use std::alloc::{AllocError, Global};
 use std::io;
@@ -155,7 +155,7 @@ pub fn run_on<'a, T: Threads + Wait + RandomSource + Sync>(
     let status = run(
         rt,
         alloc,
-        &Unheard,
+        &NoProgress,
         words,
         &mut reader,
         &mut written,

@@ -4,7 +4,7 @@
 use crate::fakes::{FOLD, TOP, repeated, run_on};
 use crate::profiles::deep_sample;
 use flame_answers::{MAX_INPUT, Outcome, Status, ToolFault};
-use live_answers::LiveFault;
+use live_report::LiveFault;
 use live_store::{BookFault, MakeFault, SessionFault};
 use op_book::AuditFault;
 use std::alloc::Global;

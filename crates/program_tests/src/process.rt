@@ -1,7 +1,7 @@
 //! The exit status of a process, and what it says on the standard error.
 
 use crate::fakes::Narrow;
-use flame_answers::Unheard;
+use flame_answers::NoProgress;
 use flame_program::{End, run_process};
 use std::alloc::{AllocError, Global};
 use std::env::Args;
@@ -35,7 +35,7 @@ fn process_on<T: Threads + Wait + RandomSource + Sync>(
     let end = run_process(
         rt,
         alloc,
-        &Unheard,
+        &NoProgress,
         words,
         &mut reader,
         &mut written,
@@ -104,7 +104,7 @@ fn a_standard_error_that_fails(rt: HostRuntime) -> Result<(), Fail> {
     let end = run_process(
         &rt,
         rt.alloc(),
-        &Unheard,
+        &NoProgress,
         Ok(words),
         &mut reader,
         &mut writer,

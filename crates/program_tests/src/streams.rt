@@ -2,7 +2,7 @@
 
 use crate::fakes::{Dripping, Lasting, Narrow, Unrandom, repeated};
 use crate::profiles::ONE_SAMPLE;
-use flame_answers::{MAX_INPUT, Unheard};
+use flame_answers::{MAX_INPUT, NoProgress};
 use flame_program::run;
 use std::alloc::{AllocError, Global};
 use std::io::ErrorKind;
@@ -65,7 +65,7 @@ fn end_of_reading<T: Threads + Wait + RandomSource + Sync>(
     let status = run(
         rt,
         alloc,
-        &Unheard,
+        &NoProgress,
         case.words,
         reader,
         &mut written,
@@ -140,7 +140,7 @@ fn streams_of_one_byte_change_nothing(rt: HostRuntime) {
         let status = run(
             &rt,
             rt.alloc(),
-            &Unheard,
+            &NoProgress,
             case.words,
             &mut reader,
             &mut writer,
@@ -165,7 +165,7 @@ fn end_of_writing<T: Threads + Wait + RandomSource + Sync>(
     let status = run(
         rt,
         alloc,
-        &Unheard,
+        &NoProgress,
         case.words,
         &mut reader,
         writer,

@@ -1,7 +1,7 @@
 //! What `live` writes of worked examples, by several numbers of workers, and that these succeed.
 
 use crate::helpers::{batch_of, row_of};
-use live_answers::{LiveFault, LiveOptions, Progress, Unheard, live_text};
+use live_report::{LiveFault, LiveOptions, Progress, NoProgress, live_text};
 use live_store::{BookFault, MakeFault, SessionFault, WorkersFault};
 use op_book::AuditFault;
 use stack_text::{Batch, Hashing};
@@ -20,7 +20,7 @@ fn written<R: Threads + Wait + Sync>(
     let Some(options) = options else {
         return Ok(format!(in alloc; "no options")?);
     };
-    match live_text(rt, alloc, Hashing::fixed(), &Unheard, batch, options) {
+    match live_text(rt, alloc, Hashing::fixed(), &NoProgress, batch, options) {
         Ok(text) => Ok(String::from_utf8(text)?),
         Err(fault) => Ok(format!(in alloc; "{fault}")?),
     }

@@ -8,7 +8,7 @@ use crate::helpers::{
 };
 use flame_report::Kind;
 use live_store::{
-    Blank, Gate, Session, SessionFault, Store, StoreName, Worked, WorkersFault, run_workers,
+    Blank, Gate, Session, SessionFault, Store, StoreName, FinishedWorker, WorkersFault, run_workers,
 };
 use op_book::{Journal, Op, SessionLog};
 use std::alloc::Global;
@@ -150,11 +150,11 @@ fn lists_of(alloc: Global, all: &[&[Deed]]) -> Result<Vec<Vec<Op>>, Fail> {
 
 // Of each worker its session, its receipts and where it stopped, and the run of all or why the logs don't match the
 // journal.
-fn told(alloc: Global, journal: &Journal, all: Vec<Worked>) -> Result<String, Fail> {
+fn told(alloc: Global, journal: &Journal, all: Vec<FinishedWorker>) -> Result<String, Fail> {
     let mut text = String::new(alloc);
     let mut logs: Vec<SessionLog> = Vec::new(alloc);
     for one in all {
-        let Worked { log, stopped } = one;
+        let FinishedWorker { log, stopped } = one;
         let receipts = log.receipts.as_slice().len();
         write!(text, "{}: {receipts} {stopped:?}; ", log.session)?;
         logs.push(log).ok().ok_or("no memory")?;
@@ -167,7 +167,7 @@ fn told(alloc: Global, journal: &Journal, all: Vec<Worked>) -> Result<String, Fa
 fn told_of(
     alloc: Global,
     journal: &Journal,
-    all: Result<Vec<Worked>, WorkersFault>,
+    all: Result<Vec<FinishedWorker>, WorkersFault>,
     next: Result<u32, SessionFault>,
 ) -> Result<String, Fail> {
     match all {
@@ -532,7 +532,7 @@ fn logs_of(
     alloc: Global,
     first: SessionLog,
     second: SessionLog,
-    all: Vec<Worked>,
+    all: Vec<FinishedWorker>,
 ) -> Result<Vec<SessionLog>, Fail> {
     let mut logs = vec![in alloc; first, second]?;
     for one in all {
@@ -547,7 +547,7 @@ fn with_logs(
     told: Result<String, Fail>,
     first: SessionLog,
     second: SessionLog,
-    all: Option<Result<Vec<Worked>, WorkersFault>>,
+    all: Option<Result<Vec<FinishedWorker>, WorkersFault>>,
 ) -> Result<Logs, Fail> {
     let told = told?;
     let all = all.ok_or("no thread")??;

@@ -3,7 +3,7 @@ use Rattle.std.proofs.lemmas.Bool.{both_ways}
 use Rattle.std.proofs.lemmas.List.Elements.{All-more}
 use Rattle.op_book.specs.Matching.{IsKnown, LoggedReceipt}
 use Rattle.op_book.proofs.Passing.{first_without, passed_all}
-use Rattle.op_book.proofs.receipts.first_stranger.Goals as goal
+use Rattle.op_book.proofs.receipts.first_unknown.Goals as goal
 
 pub returns-then-not-is_known : goal.returns-then-not-is_known
 returns-then-not-is_known c =

@@ -1,7 +1,7 @@
 -- Sorted rows have the sums of those before, and what ascends is in its aggregate's form.
 use Rattle.std.proofs.Common.{rules, ◌≡◌, ℕ, List, IsPermutation, ap, ◌∙◌, sym, subst}
 use Rattle.std.specs.Prelude.{IfOk, Result, Ok, Err}
-use Rattle.no_memory.specs.declared.NoMemory.{NoMemory}
+use Rattle.basics.specs.declared.NoMemory.{NoMemory}
 use Rattle.std.specs.Ordering.{is_lt}
 use Rattle.std.proofs.lemmas.List.Sorted.{answers_always, ranks_by, sum_by-IsPermutation}
 use Rattle.profile_rows.specs.declared.weighted_stacks.WeightedStack.{WeightedStack}

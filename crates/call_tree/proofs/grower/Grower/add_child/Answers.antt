@@ -20,7 +20,7 @@ pub invariant_of-self-2 : goal.invariant_of-self-2
 invariant_of-self-2 c =
     let whole = c.self.inside.tree in
     let tree = plain_at whole 0 in
-    let states = c.known.ensures in
+    let states = c.facts.ensures in
     let now = subst (λ (t : TreeState). IsFresh (plain_at t 0) c.args.parent c.args.name c.args.counts) (sym c.self.view_is) c.requires in
     let before = IsIndex-look (hash.get same_key c.self.inside.index) (hash.get same_key c.reserve.new.self) tree c.in_ok-reserve.ensures.entries.2 c.self.invariant.1 in
     let ok = c.in_ok-append_node.ensures.ok in
@@ -37,4 +37,4 @@ pub returns-clause-grown : goal.returns-clause-grown
 returns-clause-grown c =
     let now = subst (λ (t : TreeState). IsFresh (plain_at t 0) c.args.parent c.args.name c.args.counts) (sym c.self.view_is) c.requires in
     subst (λ (t : TreeState). AreGrown t c.append_node.new.self) c.self.view_is
-    (AreGrown-appended c.self.inside.tree c.append_node.new.self c.args.parent c.args.name c.args.counts c.known.ensures now c.in_ok-append_node.ensures.ok)
+    (AreGrown-appended c.self.inside.tree c.append_node.new.self c.args.parent c.args.name c.args.counts c.facts.ensures now c.in_ok-append_node.ensures.ok)

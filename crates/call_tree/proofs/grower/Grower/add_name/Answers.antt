@@ -10,7 +10,7 @@ use Rattle.call_tree.proofs.grower.Grower.add_name.Goals as goal
 pub invariant_of-self-2 : goal.invariant_of-self-2
 invariant_of-self-2 c =
     let tree = plain_at c.self.inside.tree 0 in
-    let state = c.known.ensures.each 0 c.known.ensures.some in
+    let state = c.facts.ensures.each 0 c.facts.ensures.some in
     let ok = c.in_ok-append_name.ensures.ok in
     let listed : c.in_ok-listed.listed ≡ c.args.name.now = c.in_ok-listed.ensures in
     let key : c.in_ok-key.key ≡ c.args.name.now = c.in_ok-key.ensures in

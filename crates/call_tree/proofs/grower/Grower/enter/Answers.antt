@@ -8,7 +8,7 @@ use Rattle.call_tree.proofs.grower.Grower.enter.Goals as goal
 pub returns-in-Some-clause-path : goal.returns-in-Some-clause-path
 returns-in-Some-clause-path c =
     let tree = plain_at c.args.self.now 0 in
-    let states = subst AreStates c.self.view_is c.known.ensures in
+    let states = subst AreStates c.self.view_is c.facts.ensures in
     let frames = c.args.frames.now in
     let number = c.in-Some.number in
     let frame : c.index-frames-depth.result ≡ get_or frames c.args.depth [] = get_or_read frames c.args.depth c.index-frames-depth.result c.requires.within c.index-frames-depth.is [] in

@@ -34,7 +34,7 @@ pub invariant_of-result : goal.invariant_of-result
 invariant_of-result c =
     let tree = c.grower-2.inside.tree in
     let credited = c.in_ok-add_batch.ensures in
-    let first = credited.done 0 c.known.ensures.some in (
+    let first = credited.done 0 c.facts.ensures.some in (
       c.grower-2.invariant.0 ∙ sym credited.names,
       IsIndex-credited (hash.get same_key c.grower-2.inside.index) (plain_at tree 0) (plain_at c.in_ok-add_batch.field-0 0) c.grower-2.invariant.1
           (record { names = first.names; size = first.size; stacks = first.stacks }),

@@ -20,7 +20,7 @@ add_rows-requires-clause-places c =
     let tree_is : tree_of tree.names c.self.inside.nodes ≡ tree =
     ap (λ ns. tree_of ns c.self.inside.nodes) (sym (ap (λ t. t.names) c.self.view_is)) ∙ c.self.view_is in
     let lt : value < tree.width = omega (arith, c.loop-value-test.true, c.loop-value.auto.value-end, c.width.ensures, ap (λ t. t.width) c.self.view_is) in
-    let were = ArePlaces-by tree rows places value c.known.ensures lt c.requires.places in
+    let were = ArePlaces-by tree rows places value c.facts.ensures lt c.requires.places in
     let are = places_now tree.names c.self.inside.nodes c.loop-value.nodes rows value c.loop-value.invariant places (subst (λ (t : TreeState). ArePlaces (plain_at t value) rows places) (sym tree_is) were) in
     subst (λ ns. ArePlaces (plain_of ns c.loop-value.nodes value) rows places) (sym names_are) are
 

@@ -12,13 +12,13 @@ use Rattle.call_tree.proofs.tree.CallTree.place_of.Goals as goal
 use Rattle.call_tree.proofs.tree.CallTree.place_of.Goals.{then-node-place+then-eq, else-node-place, else-node-place-via-then-node-place+else-eq, else-node-place-via-else-node-place, else-loop-index-test, then-loop-index-test+then-depth-frames}
 
 pub loop-index-init : goal.loop-index-init
-loop-index-init c = IsFound-start _ _ _ (c.self.invariant.0 0 (omega (arith, c.known.ensures.some)))
+loop-index-init c = IsFound-start _ _ _ (c.self.invariant.0 0 (omega (arith, c.facts.ensures.some)))
 
 pub loop-index-preserved : goal.loop-index-preserved
 loop-index-preserved c =
     let names = c.self.inside.names in
     let nodes = nodes_of c.self.inside.nodes 0 in
-    let tree = c.self.invariant.0 0 (omega (arith, c.known.ensures.some)) in
+    let tree = c.self.invariant.0 0 (omega (arith, c.facts.ensures.some)) in
     let frames = c.names-frames.result.now in
     let node_is : c.read-node.result ≡ at nodes c.loop-index.index = c.read-node.ensures in
     let name_lt : c.read-node.result.name < length names = omega (arith, (tree.links c.loop-index.index (omega arith) (omega arith)).1, ap (λ node. node.name) node_is) in

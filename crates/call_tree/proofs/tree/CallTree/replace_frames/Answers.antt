@@ -31,7 +31,7 @@ loop-place-preserved c =
     let place = c.loop-place.place in
     let before = map (λ (frame : Bor (List ℕ)). frame.now) c.loop-place.frames.items in
     let node_is : c.read-node.result ≡ at nodes place = c.read-node.ensures in
-    let links = (c.self.invariant.0 0 (omega (arith, c.known.ensures.some))).links place (omega (arith, c.loop-place-test.true)) c.loop-place.invariant.place in
+    let links = (c.self.invariant.0 0 (omega (arith, c.facts.ensures.some))).links place (omega (arith, c.loop-place-test.true)) c.loop-place.invariant.place in
     let name_is : c.read.result.now ≡ name_at names c.read-node.result.name =
     get_or_read names c.read-node.result.name c.read.result.now (omega (arith, links.1, ap (λ node. node.name) node_is)) c.read.ensures [] in
     let name : c.text.result.now ≡ name_at names (at nodes place).name = c.text.ensures.text ∙ name_is ∙ ap (λ node. name_at names node.name) node_is in

@@ -14,7 +14,7 @@ pub read-requires-clause-within : goal.read-requires-clause-within
 read-requires-clause-within c =
     let value = c.loop-value.value in
     let lt : value < c.args.self.now.width = omega (arith, c.loop-value-test.true, c.get-count.ensures.count, c.width-width.ensures, ap (λ t. t.width) c.self.view_is) in
-    let size = c.known.ensures.sizes value lt in
+    let size = c.facts.ensures.sizes value lt in
     omega (arith, c.in-Some.ensures.0, size, length-seen c.self.inside.names c.self.inside.nodes c.args.self.now value c.self.view_is)
 
 pub loop-value-preserved : goal.loop-value-preserved
@@ -30,14 +30,14 @@ loop-value-preserved c =
     (omega (arith, c.loop-value-test.true, c.get-count.ensures.count, c.get-count.ensures.few))
     (ap (λ node. node.own) c.read.ensures ∙ sym (ap (λ row. row.weight) (node_at-node_rows names (nodes_of all value) place))
     ∙ ap (λ rows. (node_at rows place).weight) (seen names all now value c.self.view_is)
-    ∙ sym (weight_in-found now c.known.ensures stack value place lt c.in-Some.ensures.0 c.in-Some.ensures.1)) refl
+    ∙ sym (weight_in-found now c.facts.ensures stack value place lt c.in-Some.ensures.0 c.in-Some.ensures.1)) refl
 
 pub returns-clause-weights : goal.returns-clause-weights
 returns-clause-weights c =
     let now = c.args.self.now in
     let stack = c.args.stack.now in
     let width = c.width-width.result in
-    let states : AreStates now = c.known.ensures in
+    let states : AreStates now = c.facts.ensures in
     let width_is : width ≡ now.width = c.width-width.ensures ∙ ap (λ t. t.width) c.self.view_is in
     let filled : IsFilled (λ value. weight_in (weights_of now value) stack) width c.match-place_of.weights =
     elim c.match-place_of.branch [

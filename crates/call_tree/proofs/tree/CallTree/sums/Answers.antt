@@ -16,7 +16,7 @@ loop-left-init c =
     let lt_value = value_lt names all c.args.self.now c.args.value c.self.view_is c.requires in
     let nodes = nodes_of all c.args.value in
     let tree : IsTree names nodes = c.self.invariant.0 c.args.value lt_value in
-    let size = length-alike _ _ (c.known.ensures.each c.args.value lt_value) in
+    let size = length-alike _ _ (c.facts.ensures.each c.args.value lt_value) in
     let count = c.len-left.ensures ∙ sym size in
     subst (AreSumsFrom names nodes c.in_ok-sums.sums.items c.in_ok-below.below.items) (sym count)
     (AreSumsFrom-start names nodes tree c.in_ok-sums.sums.items c.in_ok-below.below.items

@@ -9,4 +9,4 @@ returns-clause-totals c = λ value.
     c.self.invariant.1.each value ∙ ap (λ tree. total_of (nodes_at tree value)) c.self.view_is ∙ sym (total_in-weights_of c.args.self.now value)
 
 pub returns-clause-fits : goal.returns-clause-fits
-returns-clause-fits c = total_in-fits c.args.self.now c.known.ensures
+returns-clause-fits c = total_in-fits c.args.self.now c.facts.ensures

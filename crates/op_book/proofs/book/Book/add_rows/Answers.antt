@@ -38,7 +38,7 @@ append-requires-clause-reply c =
     let op_is : c.in_ok-entry.entry.op ≡ add batch = ap (λ (e : PlainEntry). e.op) c.in_ok-entry.ensures.entry in
     let reply_is : c.in_ok-entry.entry.reply ≡ placed c.len-place.result = ap (λ (e : PlainEntry). e.reply) c.in_ok-entry.ensures.entry in
     rw (entries, op_is, reply_is)
-    (ap (λ (r : PlainReceipt). r.reply) (told_after c.args.self.now.entries (add batch) c.len-place.result c.known.ensures.orderly.changes refl place))
+    (ap (λ (r : PlainReceipt). r.reply) (told_after c.args.self.now.entries (add batch) c.len-place.result c.facts.ensures.orderly.changes refl place))
 
 pub invariant_of-self-2 : goal.invariant_of-self-2
 invariant_of-self-2 c =
@@ -61,7 +61,7 @@ returns-clause-appended c =
     let same : c.append.new.self ≡ record c.reserve.new.self { entries = c.reserve.new.self.entries ++ c.in_ok-entry.entry ∷ [] } = c.append.ensures in
     let entries : c.reserve.new.self.entries ≡ c.args.self.now.entries = ap (λ (l : LedgerState). l.entries) c.in_ok-reserve.ensures.same ∙ ap (λ (b : BookState). b.entries) c.self.view_is in
     let place : c.len-place.result ≡ length c.args.self.now.entries = c.len-place.ensures ∙ ap length entries in
-    let told = told_after c.args.self.now.entries (add batch) c.len-place.result c.known.ensures.orderly.changes refl place in
+    let told = told_after c.args.self.now.entries (add batch) c.len-place.result c.facts.ensures.orderly.changes refl place in
     let entry_is : c.in_ok-entry.entry ≡ entry_after c.args.self.now.entries c.args.session c.args.turn (add batch) =
     c.in_ok-entry.ensures.entry ∙ (λ i. record { session = c.args.session; turn = c.args.turn; op = add batch; reply = (told i).reply }) in
     record {
@@ -75,4 +75,4 @@ pub returns-clause-receipt : goal.returns-clause-receipt
 returns-clause-receipt c =
     let entries : c.reserve.new.self.entries ≡ c.args.self.now.entries = ap (λ (l : LedgerState). l.entries) c.in_ok-reserve.ensures.same ∙ ap (λ (b : BookState). b.entries) c.self.view_is in
     let place : c.len-place.result ≡ length c.args.self.now.entries = c.len-place.ensures ∙ ap length entries in
-    c.in_ok-entry.ensures.receipt ∙ told_after c.args.self.now.entries (add (arc_value c.args.batch.now)) c.len-place.result c.known.ensures.orderly.changes refl place
+    c.in_ok-entry.ensures.receipt ∙ told_after c.args.self.now.entries (add (arc_value c.args.batch.now)) c.len-place.result c.facts.ensures.orderly.changes refl place

@@ -41,9 +41,9 @@ returns-in_ok-plan_reset-in-Reset-clause-next c =
 
 pub returns-in_ok-plan_reset-in-Reset-clause-space : goal.returns-in_ok-plan_reset-in-Reset-clause-space
 returns-in_ok-plan_reset-in-Reset-clause-space c =
-    subst (λ (change : Change). HasSpaceFor c.args.self.now (change_op change)) (sym c.in-Reset.is) (space_for_reset c.args.self.now c.known.ensures.orderly)
+    subst (λ (change : Change). HasSpaceFor c.args.self.now (change_op change)) (sym c.in-Reset.is) (space_for_reset c.args.self.now c.facts.ensures.orderly)
 
 pub returns-in_err-plan_reset-in-Reset-clause-fault : goal.returns-in_err-plan_reset-in-Reset-clause-fault
 returns-in_err-plan_reset-in-Reset-clause-fault c =
-    let space = subst (λ (change : Change). HasSpaceFor c.args.self.now (change_op change)) (sym c.in-Reset.is) (space_for_reset c.args.self.now c.known.ensures.orderly) in
+    let space = subst (λ (change : Change). HasSpaceFor c.args.self.now (change_op change)) (sym c.in-Reset.is) (space_for_reset c.args.self.now c.facts.ensures.orderly) in
     search rules

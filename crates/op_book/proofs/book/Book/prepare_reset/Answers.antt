@@ -18,4 +18,4 @@ light_reset book session turn orderly fault first value held is =
 
 pub returns-clause-light : goal.returns-clause-light
 returns-clause-light c =
-    IfErr-weaker c.ready-ready.result _ _ (light_reset c.args.self.now c.args.session c.args.turn c.known.ensures.orderly) c.ready-ready.ensures.first_fault
+    IfErr-weaker c.ready-ready.result _ _ (light_reset c.args.self.now c.args.session c.args.turn c.facts.ensures.orderly) c.ready-ready.ensures.first_fault

@@ -1,0 +1,8 @@
+//! What several layers share: want of memory, and lists that a contract sees as their items.
+#![tactic(auto)]
+
+mod items;
+mod no_memory;
+
+pub use items::Items;
+pub use no_memory::NoMemory;

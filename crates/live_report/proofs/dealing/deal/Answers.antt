@@ -1,0 +1,29 @@
+-- Rows and totals.
+use Rattle.std.proofs.Common.{ℕ, ◌++◌, List, map, ap, sym, subst, ◌∙◌, arith}
+use Rattle.std.specs.Prelude.{sum_by}
+use Rattle.std.proofs.lemmas.List.{length-map}
+use Rattle.std.proofs.lemmas.Result.{IfOk-weaker}
+use Rattle.std.proofs.lemmas.Simd.{map-map}
+use Rattle.profile_rows.specs.Values.{BatchState, Row}
+use Rattle.op_book.specs.Operations.{plain_op}
+use Rattle.live_report.specs.Dealing.{AreDealt, addition, totals_from}
+use Rattle.live_report.proofs.Lists.{dealt_from}
+use Rattle.live_report.proofs.dealing.deal.Goals as goal
+
+pub returns : goal.returns
+returns c =
+    let lists = c.deal_rows.new.lists.items in
+    let batch : BatchState = c.in_ok-batch.batch in
+    IfOk-weaker c.with_totals.result _ _ (λ asked ends.
+    subst (λ (b : BatchState). AreDealt b c.args.sessions (map (λ list. map plain_op list.items) asked.items)) c.in_ok-batch.ensures
+    (dealt_from batch c.args.sessions (map (λ list. map plain_op list.items) lists) (map (λ list. map plain_op list.items) asked.items)
+    (length-map lists (λ list. map plain_op list.items) ∙ c.deal_rows.ensures.count ∙ c.in_ok-lists.ensures.count)
+    (λ weight.
+    let more = c.in_ok-deal_rows.ensures.dealt weight in
+    let none = c.in_ok-lists.ensures.empty weight in
+    let rows = ap (λ (rows : List Row). sum_by weight (map (addition c.width-width.result) rows)) c.in_ok-rows.ensures in
+    let width = ap (λ (width : ℕ). sum_by weight (map (addition width) batch.rows)) c.width-width.ensures.width in
+    omega (arith, more, none, rows, width))
+    (ends
+    ∙ ap (λ (width : ℕ). map (λ list. map plain_op list.items ++ totals_from 0 width) lists) c.width-width.ensures.width
+    ∙ sym (map-map (λ list. list ++ totals_from 0 batch.width) (λ list. map plain_op list.items) lists)))) c.with_totals.ensures

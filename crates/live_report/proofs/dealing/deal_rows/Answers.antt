@@ -1,0 +1,44 @@
+-- One row more.
+use Rattle.std.proofs.Common.{◌≡◌, ◌<◌, ◌+◌, ◌++◌, ◌∷◌, [], List, get_or, length, map, set, ap, sym, ◌∙◌, arith}
+use Rattle.std.specs.Prelude.{sum_by}
+use Rattle.std.proofs.lemmas.List.{get_or-map, length-map, length-set, map-set, map_push}
+use Rattle.std.proofs.lemmas.List.Sums.{sum_by-cons}
+use Rattle.std.proofs.lemmas.Nat.{mod_below}
+use Rattle.op_book.specs.Operations.{PlainOp, plain_op}
+use Rattle.profile_rows.specs.OwnedRows.{plain_row}
+use Rattle.profile_rows.specs.declared.batch.OwnedRow.{OwnedRow}
+use Rattle.live_report.specs.Dealing.{addition, weigh}
+use Rattle.live_report.proofs.Lists.{weigh-push}
+use Rattle.live_report.proofs.dealing.deal_rows.Goals as goal
+
+pub loop-row-preserved : goal.loop-row-preserved
+loop-row-preserved c =
+    let items = c.loop-row.lists.items in
+    let k = c.loop-row.worker in
+    let size = length-set items k c.push.new.self in
+    let counts = c.loop-row.invariant.0 in
+    let inside : k < length items = c.loop-row.invariant.1 in
+    let lists : List (List PlainOp) = map (λ list. map plain_op list.items) items in
+    let old : List PlainOp = map plain_op c.index_mut.result.now.items in
+    let row : OwnedRow = c.in-Some.row in
+    let rest : List OwnedRow = c.next.new.self.rest.items in
+    let add : PlainOp = addition c.args.width (plain_row row) in
+    let plain = length-map items (λ list. map plain_op list.items) in
+    let held : get_or lists k [] ≡ old = get_or-map (λ list. map plain_op list.items) items k c.index_mut.result.now [] inside ∙ ap (λ list. map plain_op list.items) (sym c.index_mut.ensures.value) in
+    let pushed : map plain_op c.push.new.self.items ≡ old ++ add ∷ [] =
+    ap (map plain_op) c.in_ok-push.ensures.items ∙ map_push plain_op c.index_mut.result.now.items c.in_ok-op.op ∙ ap (λ op. old ++ op ∷ []) c.in_ok-op.ensures in
+    let changed : map (λ list. map plain_op list.items) (set items k c.push.new.self) ≡ set lists k (old ++ add ∷ []) =
+    map-set (λ list. map plain_op list.items) items k c.push.new.self ∙ ap (set lists k) pushed in
+    let left : c.loop-row.row-iterator.rest.items ≡ row ∷ rest = c.in-Some.ensures.steps.0 in (
+      size ∙ counts,
+      let long = c.len.ensures in
+          let below = mod_below (k + 1) c.len.result (omega (arith, inside, long, size)) in
+          omega (arith, below, long),
+      λ weight.
+          let whole = ap (weigh weight) changed in
+          let one = weigh-push weight lists k old add (omega (arith, plain, inside)) held in
+          let first = ap (λ rows. sum_by weight (map (addition c.args.width) (map plain_row rows))) left in
+          let cons = sum_by-cons weight add (map (addition c.args.width) (map plain_row rest)) in
+          let before = c.loop-row.invariant.2 weight in
+          omega (arith, whole, one, first, cons, before),
+    )

@@ -1,0 +1,11 @@
+-- The texts are those of the tree's weights.
+use Rattle.std.proofs.Common.{List, sym, subst}
+use Rattle.profile_rows.specs.StackTexts.{AreStackTexts}
+use Rattle.profile_rows.specs.declared.stack_texts.StackText.{StackText}
+use Rattle.call_tree.specs.State.{weights_of}
+use Rattle.live_report.proofs.texts.folded_report.Goals as goal
+
+pub report_of_stack_texts-requires : goal.report_of_stack_texts-requires
+report_of_stack_texts-requires c =
+    let weights = weights_of c.args.tree.now c.args.value in
+    (weights, subst (λ (texts : List StackText). AreStackTexts weights texts) (sym c.as_slice.ensures.value) c.in_ok-texts.ensures)

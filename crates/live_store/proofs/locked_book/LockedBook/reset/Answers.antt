@@ -1,0 +1,21 @@
+use Rattle.std.proofs.Common.{ℕ, List, sym, subst, ◌∙◌}
+use mathlib.Core.List.{IsPrefix}
+use Rattle.change_history.proofs.Fronts.{prefix_trans}
+use Rattle.op_book.specs.Operations.{PlainEntry, reset}
+use Rattle.live_store.specs.Stores.{IsShownBy}
+use Rattle.live_store.proofs.Knowing.{shown_first}
+use Rattle.live_store.proofs.locked_book.LockedBook.reset.Goals as goal
+
+pub returns-in-Ok-clause-seen : goal.returns-in-Ok-clause-seen
+returns-in-Ok-clause-seen g c =
+    let old = c.args.front.now in
+    let here = c.catch_up.new.self in
+    let caught = c.if-not-catch_up.ensures in
+    let begins : IsPrefix old here = subst (λ (l : List PlainEntry). IsPrefix old l) (sym caught.0) caught.1 in
+    prefix_trans old here c.make.new.front begins c.make.ensures.seen
+
+pub returns-in-Err-clause-shown : goal.returns-in-Err-clause-shown
+returns-in-Err-clause-shown g c =
+    let here = c.catch_up.new.self in
+    let same = c.if-not-catch_up.ensures.0 ∙ c.args.self.now.whole in
+    subst (λ (n : ℕ). IsShownBy here n c.in-Err.fault) c.number.ensures (shown_first c.args.self.now.book here c.number.result c.turn.result reset same c.in-Err.fault c.in-Err.ensures.first_fault)

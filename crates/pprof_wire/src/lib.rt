@@ -13,9 +13,9 @@ mod values;
 mod varints;
 mod writing;
 
+pub use basics::NoMemory;
 pub use faults::WireFault;
 pub use fields::Fields;
-pub use basics::NoMemory;
 pub use numbers::packed;
 pub use packing::Packed;
 pub use values::{Field, Value};

@@ -19,13 +19,13 @@ mod values;
 mod weighted_stacks;
 
 pub use aggregating::aggregate;
+pub use basics::NoMemory;
 pub use batch::{Batch, OwnedRow, Row};
 pub use batch_rows::Rows;
 pub use frame_totals::{CountedRows, FrameTotal, FrameTotals, kept_totals, kept_totals_with};
 pub use hashing::Hashing;
 pub use keeping::keeps;
 pub use name::{Name, NameFault};
-pub use basics::NoMemory;
 pub use stack::{MAX_DEPTH, Stack};
 pub use stack_texts::StackText;
 pub use summing::aggregate_stacks;

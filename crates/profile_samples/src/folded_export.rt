@@ -11,8 +11,8 @@ ghost use Rattle.profile_samples.specs.TextTables.{with_texts};
 
 use crate::exporting::{ValueUnit, exported_draft};
 use crate::text_table::TextTable;
-use folded_text::{FoldedFault, LineTaker, read_frames, take_lines};
 use basics::NoMemory;
+use folded_text::{FoldedFault, LineTaker, read_frames, take_lines};
 use pprof_profile::{Items, WrittenSamples, encode_around};
 use profile_rows::Hashing;
 use std::alloc::Global;

@@ -1,7 +1,7 @@
 //! A reader and a writer that move few bytes at a time and fail, a runtime without random bytes, and runs on given
 //! bytes.
 
-use flame_answers::{MAX_INPUT, Status, NoProgress};
+use flame_answers::{MAX_INPUT, NoProgress, Status};
 use flame_program::run;
 use std::alloc::{AllocError, Global};
 use std::io;

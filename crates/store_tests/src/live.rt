@@ -1,7 +1,7 @@
 //! What `live` writes of worked examples, by several numbers of workers, and that these succeed.
 
 use crate::helpers::{batch_of, row_of};
-use live_report::{LiveFault, LiveOptions, Progress, NoProgress, live_text};
+use live_report::{LiveFault, LiveOptions, NoProgress, Progress, live_text};
 use live_store::{BookFault, MakeFault, SessionFault, WorkersFault};
 use op_book::AuditFault;
 use stack_text::{Batch, Hashing};

@@ -8,7 +8,7 @@ use crate::helpers::{
 };
 use flame_report::Kind;
 use live_store::{
-    Blank, Gate, Session, SessionFault, Store, StoreName, FinishedWorker, WorkersFault, run_workers,
+    Blank, FinishedWorker, Gate, Session, SessionFault, Store, StoreName, WorkersFault, run_workers,
 };
 use op_book::{Journal, Op, SessionLog};
 use std::alloc::Global;

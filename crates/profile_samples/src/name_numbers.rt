@@ -264,7 +264,7 @@ impl<'a> FunctionNumbers<'a> {
         requires { address ≡ number_of self.now (address_name location.now.address) }
         ensures { IfOk result (λ numbers. numbers.items ≡ numbers_of self.now location.now) }
     {
-        if location.lines.is_empty() {
+        if location.lines.as_slice().is_empty() {
             return Ok(vec![in alloc; address]?);
         }
         self.line_numbers(alloc, location, address)

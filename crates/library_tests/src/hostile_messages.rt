@@ -60,48 +60,50 @@ fn count(alloc: Global, bytes: &[u8], tally: &mut Tally) -> Result<(), Fail> {
     Ok(())
 }
 
+/// What all beginnings of profiles answer.
+const OF_PREFIXES: &[(&[u8], &str)] = &[
+    (
+        ONE_SAMPLE,
+        "[0, 34, 0, 0, 0, 0, 0, 5, 0, 3, 0, 0, 0, 0, 0, 0]",
+    ),
+    (
+        UNPACKED_NUMBERS,
+        "[0, 32, 0, 0, 0, 0, 0, 5, 0, 3, 0, 0, 0, 0, 0, 0]",
+    ),
+    (
+        LONG_VARINT_ID,
+        "[0, 35, 0, 0, 0, 0, 0, 5, 0, 3, 0, 0, 0, 0, 0, 0]",
+    ),
+    (
+        NEGATIVE_VALUE,
+        "[0, 43, 0, 0, 0, 0, 0, 5, 0, 3, 0, 0, 0, 0, 0, 0]",
+    ),
+    (
+        INLINED_AND_BARE_LOCATIONS,
+        "[0, 63, 0, 0, 0, 0, 0, 8, 0, 5, 0, 0, 0, 0, 0, 0]",
+    ),
+    (
+        TWO_SAMPLE_TYPES,
+        "[0, 54, 0, 0, 0, 0, 0, 6, 0, 5, 0, 0, 0, 0, 0, 0]",
+    ),
+    (
+        SEMICOLON_IN_NAME,
+        "[0, 36, 0, 0, 0, 0, 0, 5, 0, 3, 0, 0, 0, 0, 0, 0]",
+    ),
+    (
+        EACH_FIELD,
+        "[11, 126, 0, 0, 0, 0, 0, 6, 0, 6, 0, 0, 0, 0, 0, 0]",
+    ),
+];
+
 #[test]
 fn every_prefix(rt: HostRuntime) -> Result<(), Fail> {
-    let rows: [(&[u8], &str); 8] = [
-        (
-            ONE_SAMPLE,
-            "[0, 34, 0, 0, 0, 0, 0, 5, 0, 3, 0, 0, 0, 0, 0, 0]",
-        ),
-        (
-            UNPACKED_NUMBERS,
-            "[0, 32, 0, 0, 0, 0, 0, 5, 0, 3, 0, 0, 0, 0, 0, 0]",
-        ),
-        (
-            LONG_VARINT_ID,
-            "[0, 35, 0, 0, 0, 0, 0, 5, 0, 3, 0, 0, 0, 0, 0, 0]",
-        ),
-        (
-            NEGATIVE_VALUE,
-            "[0, 43, 0, 0, 0, 0, 0, 5, 0, 3, 0, 0, 0, 0, 0, 0]",
-        ),
-        (
-            INLINED_AND_BARE_LOCATIONS,
-            "[0, 63, 0, 0, 0, 0, 0, 8, 0, 5, 0, 0, 0, 0, 0, 0]",
-        ),
-        (
-            TWO_SAMPLE_TYPES,
-            "[0, 54, 0, 0, 0, 0, 0, 6, 0, 5, 0, 0, 0, 0, 0, 0]",
-        ),
-        (
-            SEMICOLON_IN_NAME,
-            "[0, 36, 0, 0, 0, 0, 0, 5, 0, 3, 0, 0, 0, 0, 0, 0]",
-        ),
-        (
-            EACH_FIELD,
-            "[11, 126, 0, 0, 0, 0, 0, 6, 0, 6, 0, 0, 0, 0, 0, 0]",
-        ),
-    ];
-    for (bytes, want) in rows {
+    for (bytes, want) in OF_PREFIXES {
         let mut tally = [0; 16];
         for len in 0..bytes.len() {
             count(rt.alloc(), &bytes[..len], &mut tally)?;
         }
-        assert_eq!(rt; format!(in rt.alloc(); "{tally:?}")?.as_str(), want);
+        assert_eq!(rt; format!(in rt.alloc(); "{tally:?}")?.as_str(), *want);
     }
     Ok(())
 }
@@ -118,48 +120,50 @@ fn count_changes(alloc: Global, bytes: &[u8], place: usize, tally: &mut Tally) -
     Ok(())
 }
 
+/// What profiles answer with each of their bits changed.
+const OF_CHANGED_BITS: &[(&[u8], &str)] = &[
+    (
+        ONE_SAMPLE,
+        "[73, 86, 0, 31, 21, 53, 6, 0, 7, 18, 8, 3, 14, 0, 13, 3]",
+    ),
+    (
+        UNPACKED_NUMBERS,
+        "[74, 74, 0, 26, 21, 53, 6, 0, 7, 18, 8, 3, 14, 0, 13, 3]",
+    ),
+    (
+        LONG_VARINT_ID,
+        "[74, 88, 0, 30, 21, 54, 7, 0, 5, 18, 8, 3, 20, 0, 13, 3]",
+    ),
+    (
+        NEGATIVE_VALUE,
+        "[130, 89, 8, 28, 21, 52, 7, 0, 6, 18, 8, 3, 13, 0, 13, 12]",
+    ),
+    (
+        INLINED_AND_BARE_LOCATIONS,
+        "[134, 151, 0, 51, 41, 89, 9, 0, 6, 30, 19, 10, 30, 2, 33, 3]",
+    ),
+    (
+        TWO_SAMPLE_TYPES,
+        "[176, 101, 0, 38, 34, 72, 18, 0, 8, 28, 8, 3, 15, 0, 13, 6]",
+    ),
+    (
+        SEMICOLON_IN_NAME,
+        "[88, 82, 0, 31, 26, 50, 8, 1, 7, 18, 8, 3, 14, 0, 13, 3]",
+    ),
+    (
+        EACH_FIELD,
+        "[453, 176, 16, 84, 71, 137, 68, 0, 6, 92, 9, 0, 32, 18, 16, 14]",
+    ),
+];
+
 #[test]
 fn every_bit_changed(rt: HostRuntime) -> Result<(), Fail> {
-    let rows: [(&[u8], &str); 8] = [
-        (
-            ONE_SAMPLE,
-            "[73, 86, 0, 31, 21, 53, 6, 0, 7, 18, 8, 3, 14, 0, 13, 3]",
-        ),
-        (
-            UNPACKED_NUMBERS,
-            "[74, 74, 0, 26, 21, 53, 6, 0, 7, 18, 8, 3, 14, 0, 13, 3]",
-        ),
-        (
-            LONG_VARINT_ID,
-            "[74, 88, 0, 30, 21, 54, 7, 0, 5, 18, 8, 3, 20, 0, 13, 3]",
-        ),
-        (
-            NEGATIVE_VALUE,
-            "[130, 89, 8, 28, 21, 52, 7, 0, 6, 18, 8, 3, 13, 0, 13, 12]",
-        ),
-        (
-            INLINED_AND_BARE_LOCATIONS,
-            "[134, 151, 0, 51, 41, 89, 9, 0, 6, 30, 19, 10, 30, 2, 33, 3]",
-        ),
-        (
-            TWO_SAMPLE_TYPES,
-            "[176, 101, 0, 38, 34, 72, 18, 0, 8, 28, 8, 3, 15, 0, 13, 6]",
-        ),
-        (
-            SEMICOLON_IN_NAME,
-            "[88, 82, 0, 31, 26, 50, 8, 1, 7, 18, 8, 3, 14, 0, 13, 3]",
-        ),
-        (
-            EACH_FIELD,
-            "[453, 176, 16, 84, 71, 137, 68, 0, 6, 92, 9, 0, 32, 18, 16, 14]",
-        ),
-    ];
-    for (bytes, want) in rows {
+    for (bytes, want) in OF_CHANGED_BITS {
         let mut tally = [0; 16];
         for place in 0..bytes.len() {
             count_changes(rt.alloc(), bytes, place, &mut tally)?;
         }
-        assert_eq!(rt; format!(in rt.alloc(); "{tally:?}")?.as_str(), want);
+        assert_eq!(rt; format!(in rt.alloc(); "{tally:?}")?.as_str(), *want);
     }
     Ok(())
 }
@@ -173,79 +177,68 @@ fn followed(alloc: Global, more: &[u8], times: usize) -> Result<Vec<u8>, Fail> {
     Ok(bytes)
 }
 
+/// What is put behind a profile, and why it is then refused, where it is.
+const AT_LIMITS: &[(&str, &[u8], Option<ProfileFault>)] = &[
+    (
+        "a length of 2^64 - 1",
+        b"\x12\xff\xff\xff\xff\xff\xff\xff\xff\xff\x01",
+        Some(ProfileFault::Wire(WireFault::Truncated)),
+    ),
+    (
+        "a length of 2^63",
+        b"\x32\x80\x80\x80\x80\x80\x80\x80\x80\x80\x01",
+        Some(ProfileFault::Wire(WireFault::Truncated)),
+    ),
+    (
+        "a length of 2^32",
+        b"\x6a\x80\x80\x80\x80\x10",
+        Some(ProfileFault::Wire(WireFault::Truncated)),
+    ),
+    (
+        "an unknown field's length of 2^64 - 1",
+        b"\x7a\xff\xff\xff\xff\xff\xff\xff\xff\xff\x01",
+        Some(ProfileFault::Wire(WireFault::Truncated)),
+    ),
+    (
+        "the greatest id",
+        b"\x2a\x0b\x08\xff\xff\xff\xff\xff\xff\xff\xff\xff\x01",
+        None,
+    ),
+    (
+        "the greatest id, in a sample",
+        b"\x12\x0d\x08\xff\xff\xff\xff\xff\xff\xff\xff\xff\x01\x10\x01",
+        Some(ProfileFault::NoLocation),
+    ),
+    ("the index of the last string", b"\x68\x03", None),
+    (
+        "the number of strings as an index",
+        b"\x68\x04",
+        Some(ProfileFault::StringIndex),
+    ),
+    (
+        "the smallest index",
+        b"\x68\x80\x80\x80\x80\x80\x80\x80\x80\x80\x01",
+        Some(ProfileFault::StringIndex),
+    ),
+    (
+        "the greatest index",
+        b"\x68\xff\xff\xff\xff\xff\xff\xff\xff\x7f",
+        Some(ProfileFault::StringIndex),
+    ),
+];
+
 #[test]
 fn lengths_ids_and_indices_at_their_limits(rt: HostRuntime) -> Result<(), Fail> {
-    let rows: [(&str, &[u8], Option<ProfileFault>); 10] = [
-        (
-            "a length of 2^64 - 1",
-            &[
-                0x12, 0xff, 0xff, 0xff, 0xff, 0xff, 0xff, 0xff, 0xff, 0xff, 0x01,
-            ],
-            Some(ProfileFault::Wire(WireFault::Truncated)),
-        ),
-        (
-            "a length of 2^63",
-            &[
-                0x32, 0x80, 0x80, 0x80, 0x80, 0x80, 0x80, 0x80, 0x80, 0x80, 0x01,
-            ],
-            Some(ProfileFault::Wire(WireFault::Truncated)),
-        ),
-        (
-            "a length of 2^32",
-            &[0x6a, 0x80, 0x80, 0x80, 0x80, 0x10],
-            Some(ProfileFault::Wire(WireFault::Truncated)),
-        ),
-        (
-            "an unknown field's length of 2^64 - 1",
-            &[
-                0x7a, 0xff, 0xff, 0xff, 0xff, 0xff, 0xff, 0xff, 0xff, 0xff, 0x01,
-            ],
-            Some(ProfileFault::Wire(WireFault::Truncated)),
-        ),
-        (
-            "the greatest id",
-            &[
-                0x2a, 0x0b, 0x08, 0xff, 0xff, 0xff, 0xff, 0xff, 0xff, 0xff, 0xff, 0xff, 0x01,
-            ],
-            None,
-        ),
-        (
-            "the greatest id, in a sample",
-            &[
-                0x12, 0x0d, 0x08, 0xff, 0xff, 0xff, 0xff, 0xff, 0xff, 0xff, 0xff, 0xff, 0x01, 0x10,
-                0x01,
-            ],
-            Some(ProfileFault::NoLocation),
-        ),
-        ("the index of the last string", &[0x68, 0x03], None),
-        (
-            "the number of strings as an index",
-            &[0x68, 0x04],
-            Some(ProfileFault::StringIndex),
-        ),
-        (
-            "the smallest index",
-            &[
-                0x68, 0x80, 0x80, 0x80, 0x80, 0x80, 0x80, 0x80, 0x80, 0x80, 0x01,
-            ],
-            Some(ProfileFault::StringIndex),
-        ),
-        (
-            "the greatest index",
-            &[0x68, 0xff, 0xff, 0xff, 0xff, 0xff, 0xff, 0xff, 0xff, 0x7f],
-            Some(ProfileFault::StringIndex),
-        ),
-    ];
-    for (name, more, want) in rows {
+    for (name, more, want) in AT_LIMITS {
         let bytes = followed(rt.alloc(), more, 1)?;
-        assert_eq!(rt; decode(rt.alloc(), bytes.as_slice()).err(), want, "{name}");
+        assert_eq!(rt; decode(rt.alloc(), bytes.as_slice()).err(), *want, "{name}");
     }
     Ok(())
 }
 
 #[test]
 fn a_million_empty_messages(rt: HostRuntime) -> Result<(), Fail> {
-    let bytes = followed(rt.alloc(), &[0x12, 0x00], 1_000_000)?;
+    let bytes = followed(rt.alloc(), b"\x12\x00", 1_000_000)?;
     assert_eq!(rt;
         decode(rt.alloc(), bytes.as_slice()).err(),
         Some(ProfileFault::ValueCount)
@@ -255,10 +248,10 @@ fn a_million_empty_messages(rt: HostRuntime) -> Result<(), Fail> {
 
 /// Empty sample types, mappings, locations and functions, and why a profile with them is refused.
 const EMPTY_MESSAGES: &[(&[u8], ProfileFault)] = &[
-    (&[0x0a, 0x00], ProfileFault::ValueCount),
-    (&[0x1a, 0x00], ProfileFault::ZeroId),
-    (&[0x22, 0x00], ProfileFault::ZeroId),
-    (&[0x2a, 0x00], ProfileFault::ZeroId),
+    (b"\x0a\x00", ProfileFault::ValueCount),
+    (b"\x1a\x00", ProfileFault::ZeroId),
+    (b"\x22\x00", ProfileFault::ZeroId),
+    (b"\x2a\x00", ProfileFault::ZeroId),
 ];
 
 // Why a profile with so many such messages is refused.
@@ -284,8 +277,8 @@ fn followed_again(alloc: Global, more: &[u8], times: usize) -> Result<Vec<u8>, F
 
 #[test]
 fn a_million_period_types(rt: HostRuntime) -> Result<(), Fail> {
-    let empty: &[u8] = &[0x5a, 0x00];
-    let zero: &[u8] = &[0x5a, 0x02, 0x08, 0x00];
+    let empty: &[u8] = b"\x5a\x00";
+    let zero: &[u8] = b"\x5a\x02\x08\x00";
     for more in [empty, zero] {
         let written = followed_again(rt.alloc(), more, 1_000_000)?;
         assert_eq!(rt; written.as_slice(), ONE_SAMPLE);

@@ -6,52 +6,49 @@ use pprof_profile::{
 use std::alloc::Global;
 use std::test::Fail;
 
-pub(crate) const ONE_SAMPLE: &[u8] = &[
-    0x0a, 0x04, 0x08, 0x01, 0x10, 0x02, 0x12, 0x06, 0x0a, 0x01, 0x01, 0x12, 0x01, 0x07, 0x22, 0x06,
-    0x08, 0x01, 0x22, 0x02, 0x08, 0x01, 0x2a, 0x04, 0x08, 0x01, 0x10, 0x03, 0x32, 0x00, 0x32, 0x03,
-    0x63, 0x70, 0x75, 0x32, 0x02, 0x6e, 0x73, 0x32, 0x01, 0x66,
-];
+pub(crate) const ONE_SAMPLE: &[u8] = b"\
+    \x0a\x04\x08\x01\x10\x02\
+    \x12\x06\x0a\x01\x01\x12\x01\x07\
+    \x22\x06\x08\x01\x22\x02\x08\x01\x2a\x04\x08\x01\x10\x03\x32\x00\x32\x03\x63\x70\x75\
+    \x32\x02\x6e\x73\x32\x01\x66";
 
-pub(crate) const UNPACKED_NUMBERS: &[u8] = &[
-    0x0a, 0x04, 0x08, 0x01, 0x10, 0x02, 0x12, 0x04, 0x08, 0x01, 0x10, 0x07, 0x22, 0x06, 0x08, 0x01,
-    0x22, 0x02, 0x08, 0x01, 0x2a, 0x04, 0x08, 0x01, 0x10, 0x03, 0x32, 0x00, 0x32, 0x03, 0x63, 0x70,
-    0x75, 0x32, 0x02, 0x6e, 0x73, 0x32, 0x01, 0x66,
-];
+pub(crate) const UNPACKED_NUMBERS: &[u8] = b"\
+    \x0a\x04\x08\x01\x10\x02\x12\x04\x08\x01\x10\x07\
+    \x22\x06\x08\x01\x22\x02\x08\x01\x2a\x04\x08\x01\x10\x03\x32\x00\x32\x03\x63\x70\x75\
+    \x32\x02\x6e\x73\x32\x01\x66";
 
-pub(crate) const LONG_VARINT_ID: &[u8] = &[
-    0x0a, 0x04, 0x08, 0x01, 0x10, 0x02, 0x12, 0x06, 0x0a, 0x01, 0x01, 0x12, 0x01, 0x07, 0x22, 0x07,
-    0x08, 0x81, 0x00, 0x22, 0x02, 0x08, 0x01, 0x2a, 0x04, 0x08, 0x01, 0x10, 0x03, 0x32, 0x00, 0x32,
-    0x03, 0x63, 0x70, 0x75, 0x32, 0x02, 0x6e, 0x73, 0x32, 0x01, 0x66,
-];
+pub(crate) const LONG_VARINT_ID: &[u8] = b"\
+    \x0a\x04\x08\x01\x10\x02\
+    \x12\x06\x0a\x01\x01\x12\x01\x07\
+    \x22\x07\x08\x81\x00\x22\x02\x08\x01\x2a\x04\x08\x01\x10\x03\x32\x00\x32\x03\x63\x70\x75\
+    \x32\x02\x6e\x73\x32\x01\x66";
 
-pub(crate) const NEGATIVE_VALUE: &[u8] = &[
-    0x0a, 0x04, 0x08, 0x01, 0x10, 0x02, 0x12, 0x0f, 0x0a, 0x01, 0x01, 0x12, 0x0a, 0xff, 0xff, 0xff,
-    0xff, 0xff, 0xff, 0xff, 0xff, 0xff, 0x01, 0x22, 0x06, 0x08, 0x01, 0x22, 0x02, 0x08, 0x01, 0x2a,
-    0x04, 0x08, 0x01, 0x10, 0x03, 0x32, 0x00, 0x32, 0x03, 0x63, 0x70, 0x75, 0x32, 0x02, 0x6e, 0x73,
-    0x32, 0x01, 0x66,
-];
+pub(crate) const NEGATIVE_VALUE: &[u8] = b"\
+    \x0a\x04\x08\x01\x10\x02\
+    \x12\x0f\x0a\x01\x01\x12\x0a\xff\xff\xff\xff\xff\xff\xff\xff\xff\x01\
+    \x22\x06\x08\x01\x22\x02\x08\x01\x2a\x04\x08\x01\x10\x03\x32\x00\x32\x03\x63\x70\x75\
+    \x32\x02\x6e\x73\x32\x01\x66";
 
-pub(crate) const INLINED_AND_BARE_LOCATIONS: &[u8] = &[
-    0x0a, 0x04, 0x08, 0x01, 0x10, 0x02, 0x12, 0x07, 0x0a, 0x02, 0x01, 0x02, 0x12, 0x01, 0x02, 0x22,
-    0x0e, 0x08, 0x01, 0x22, 0x02, 0x08, 0x01, 0x22, 0x02, 0x08, 0x02, 0x22, 0x02, 0x08, 0x03, 0x22,
-    0x05, 0x08, 0x02, 0x18, 0xff, 0x01, 0x2a, 0x04, 0x08, 0x01, 0x10, 0x03, 0x2a, 0x04, 0x08, 0x02,
-    0x10, 0x04, 0x2a, 0x04, 0x08, 0x03, 0x10, 0x05, 0x32, 0x00, 0x32, 0x03, 0x63, 0x70, 0x75, 0x32,
-    0x02, 0x6e, 0x73, 0x32, 0x01, 0x61, 0x32, 0x01, 0x62, 0x32, 0x01, 0x63,
-];
+pub(crate) const INLINED_AND_BARE_LOCATIONS: &[u8] = b"\
+    \x0a\x04\x08\x01\x10\x02\
+    \x12\x07\x0a\x02\x01\x02\x12\x01\x02\
+    \x22\x0e\x08\x01\x22\x02\x08\x01\x22\x02\x08\x02\x22\x02\x08\x03\
+    \x22\x05\x08\x02\x18\xff\x01\x2a\x04\x08\x01\x10\x03\x2a\x04\x08\x02\x10\x04\
+    \x2a\x04\x08\x03\x10\x05\x32\x00\x32\x03\x63\x70\x75\x32\x02\x6e\x73\x32\x01\x61\
+    \x32\x01\x62\x32\x01\x63";
 
-pub(crate) const TWO_SAMPLE_TYPES: &[u8] = &[
-    0x0a, 0x04, 0x08, 0x01, 0x10, 0x02, 0x0a, 0x04, 0x08, 0x03, 0x10, 0x04, 0x12, 0x07, 0x0a, 0x01,
-    0x01, 0x12, 0x02, 0x03, 0x1e, 0x22, 0x06, 0x08, 0x01, 0x22, 0x02, 0x08, 0x01, 0x2a, 0x04, 0x08,
-    0x01, 0x10, 0x05, 0x32, 0x00, 0x32, 0x07, 0x73, 0x61, 0x6d, 0x70, 0x6c, 0x65, 0x73, 0x32, 0x05,
-    0x63, 0x6f, 0x75, 0x6e, 0x74, 0x32, 0x03, 0x63, 0x70, 0x75, 0x32, 0x02, 0x6e, 0x73, 0x32, 0x01,
-    0x66,
-];
+pub(crate) const TWO_SAMPLE_TYPES: &[u8] = b"\
+    \x0a\x04\x08\x01\x10\x02\x0a\x04\x08\x03\x10\x04\
+    \x12\x07\x0a\x01\x01\x12\x02\x03\x1e\
+    \x22\x06\x08\x01\x22\x02\x08\x01\x2a\x04\x08\x01\x10\x05\x32\x00\
+    \x32\x07\x73\x61\x6d\x70\x6c\x65\x73\
+    \x32\x05\x63\x6f\x75\x6e\x74\x32\x03\x63\x70\x75\x32\x02\x6e\x73\x32\x01\x66";
 
-pub(crate) const SEMICOLON_IN_NAME: &[u8] = &[
-    0x0a, 0x04, 0x08, 0x01, 0x10, 0x02, 0x12, 0x06, 0x0a, 0x01, 0x01, 0x12, 0x01, 0x07, 0x22, 0x06,
-    0x08, 0x01, 0x22, 0x02, 0x08, 0x01, 0x2a, 0x04, 0x08, 0x01, 0x10, 0x03, 0x32, 0x00, 0x32, 0x03,
-    0x63, 0x70, 0x75, 0x32, 0x02, 0x6e, 0x73, 0x32, 0x03, 0x4c, 0x78, 0x3b,
-];
+pub(crate) const SEMICOLON_IN_NAME: &[u8] = b"\
+    \x0a\x04\x08\x01\x10\x02\
+    \x12\x06\x0a\x01\x01\x12\x01\x07\
+    \x22\x06\x08\x01\x22\x02\x08\x01\x2a\x04\x08\x01\x10\x03\x32\x00\x32\x03\x63\x70\x75\
+    \x32\x02\x6e\x73\x32\x03\x4c\x78\x3b";
 
 /// The canonical bytes of a profile.
 pub(crate) fn written(alloc: Global, profile: &Profile) -> Result<Vec<u8>, Fail> {
@@ -85,50 +82,42 @@ fn vectors_are_read_and_written(rt: HostRuntime) -> Result<(), Fail> {
 }
 
 // The fields of `ONE_SAMPLE`, in their order.
-const KIND: &[u8] = &[0x0a, 0x04, 0x08, 0x01, 0x10, 0x02];
+const KIND: &[u8] = b"\x0a\x04\x08\x01\x10\x02";
 
-const SAMPLE: &[u8] = &[0x12, 0x06, 0x0a, 0x01, 0x01, 0x12, 0x01, 0x07];
+const SAMPLE: &[u8] = b"\x12\x06\x0a\x01\x01\x12\x01\x07";
 
-const LOCATION: &[u8] = &[0x22, 0x06, 0x08, 0x01, 0x22, 0x02, 0x08, 0x01];
+const LOCATION: &[u8] = b"\x22\x06\x08\x01\x22\x02\x08\x01";
 
-const FUNCTION: &[u8] = &[0x2a, 0x04, 0x08, 0x01, 0x10, 0x03];
+const FUNCTION: &[u8] = b"\x2a\x04\x08\x01\x10\x03";
 
-const STRINGS: &[u8] = &[
-    0x32, 0x00, 0x32, 0x03, 0x63, 0x70, 0x75, 0x32, 0x02, 0x6e, 0x73, 0x32, 0x01, 0x66,
-];
+const STRINGS: &[u8] = b"\x32\x00\x32\x03\x63\x70\x75\x32\x02\x6e\x73\x32\x01\x66";
 
 /// A location of id 0.
-const ZERO_LOCATION: &[u8] = &[0x22, 0x06, 0x08, 0x00, 0x22, 0x02, 0x08, 0x01];
+const ZERO_LOCATION: &[u8] = b"\x22\x06\x08\x00\x22\x02\x08\x01";
 
 /// A location of mapping 1, which isn't there.
-const MAPPED_LOCATION: &[u8] = &[0x22, 0x08, 0x08, 0x01, 0x10, 0x01, 0x22, 0x02, 0x08, 0x01];
+const MAPPED_LOCATION: &[u8] = b"\x22\x08\x08\x01\x10\x01\x22\x02\x08\x01";
 
 /// A location of function 2, which isn't there.
-const OTHER_LOCATION: &[u8] = &[0x22, 0x06, 0x08, 0x01, 0x22, 0x02, 0x08, 0x02];
+const OTHER_LOCATION: &[u8] = b"\x22\x06\x08\x01\x22\x02\x08\x02";
 
 /// A sample at location 2, which isn't there.
-const OTHER_SAMPLE: &[u8] = &[0x12, 0x06, 0x0a, 0x01, 0x02, 0x12, 0x01, 0x07];
+const OTHER_SAMPLE: &[u8] = b"\x12\x06\x0a\x01\x02\x12\x01\x07";
 
 /// A sample of two values, where one type has one.
-const TWO_VALUES: &[u8] = &[0x12, 0x07, 0x0a, 0x01, 0x01, 0x12, 0x02, 0x07, 0x07];
+const TWO_VALUES: &[u8] = b"\x12\x07\x0a\x01\x01\x12\x02\x07\x07";
 
 /// Two functions of id 1.
-const TWO_FUNCTIONS: &[u8] = &[
-    0x2a, 0x04, 0x08, 0x01, 0x10, 0x03, 0x2a, 0x04, 0x08, 0x01, 0x10, 0x03,
-];
+const TWO_FUNCTIONS: &[u8] = b"\x2a\x04\x08\x01\x10\x03\x2a\x04\x08\x01\x10\x03";
 
 /// A function whose name is the string behind the last.
-const NAMELESS_FUNCTION: &[u8] = &[0x2a, 0x04, 0x08, 0x01, 0x10, 0x04];
+const NAMELESS_FUNCTION: &[u8] = b"\x2a\x04\x08\x01\x10\x04";
 
 /// Strings of which the last isn't UTF-8.
-const NO_TEXT: &[u8] = &[
-    0x32, 0x00, 0x32, 0x03, 0x63, 0x70, 0x75, 0x32, 0x02, 0x6e, 0x73, 0x32, 0x01, 0xff,
-];
+const NO_TEXT: &[u8] = b"\x32\x00\x32\x03\x63\x70\x75\x32\x02\x6e\x73\x32\x01\xff";
 
 /// Strings of which the first isn't empty.
-const FIRST_X: &[u8] = &[
-    0x32, 0x01, 0x78, 0x32, 0x03, 0x63, 0x70, 0x75, 0x32, 0x02, 0x6e, 0x73, 0x32, 0x01, 0x66,
-];
+const FIRST_X: &[u8] = b"\x32\x01\x78\x32\x03\x63\x70\x75\x32\x02\x6e\x73\x32\x01\x66";
 
 /// The bytes of fields, one after the other.
 fn bytes_of(alloc: Global, fields: &[&[u8]]) -> Result<Vec<u8>, Fail> {
@@ -143,26 +132,24 @@ fn bytes_of(alloc: Global, fields: &[&[u8]]) -> Result<Vec<u8>, Fail> {
 const VARIANTS: &[(&str, &[&[u8]], &[&[u8]])] = &[
     (
         "unknown field of bytes",
-        &[ONE_SAMPLE, &[0x7a, 0x01, 0x00]],
+        &[ONE_SAMPLE, b"\x7a\x01\x00"],
         &[ONE_SAMPLE],
     ),
     (
         "unknown field that would be no message",
-        &[ONE_SAMPLE, &[0x7a, 0x01, 0x0b]],
+        &[ONE_SAMPLE, b"\x7a\x01\x0b"],
         &[ONE_SAMPLE],
     ),
     (
         "greatest field number",
-        &[ONE_SAMPLE, &[0xf8, 0xff, 0xff, 0xff, 0x0f, 0x01]],
+        &[ONE_SAMPLE, b"\xf8\xff\xff\xff\x0f\x01"],
         &[ONE_SAMPLE],
     ),
     (
         "unknown fields of fixed size",
         &[
             ONE_SAMPLE,
-            &[
-                0x79, 0x01, 0x02, 0x03, 0x04, 0x05, 0x06, 0x07, 0x08, 0x7d, 0x01, 0x02, 0x03, 0x04,
-            ],
+            b"\x79\x01\x02\x03\x04\x05\x06\x07\x08\x7d\x01\x02\x03\x04",
         ],
         &[ONE_SAMPLE],
     ),
@@ -170,47 +157,42 @@ const VARIANTS: &[(&str, &[&[u8]], &[&[u8]])] = &[
         "period type in pieces",
         &[
             ONE_SAMPLE,
-            &[
-                0x5a, 0x02, 0x08, 0x01, 0x5a, 0x02, 0x10, 0x02, 0x5a, 0x02, 0x08, 0x03,
-            ],
+            b"\x5a\x02\x08\x01\x5a\x02\x10\x02\x5a\x02\x08\x03",
         ],
-        &[ONE_SAMPLE, &[0x5a, 0x04, 0x08, 0x03, 0x10, 0x02]],
+        &[ONE_SAMPLE, b"\x5a\x04\x08\x03\x10\x02"],
     ),
     (
         "period type of zeros",
-        &[ONE_SAMPLE, &[0x5a, 0x04, 0x08, 0x00, 0x10, 0x00]],
+        &[ONE_SAMPLE, b"\x5a\x04\x08\x00\x10\x00"],
         &[ONE_SAMPLE],
     ),
     (
         "the last of a single number counts",
-        &[ONE_SAMPLE, &[0x48, 0x05, 0x48, 0x06]],
-        &[ONE_SAMPLE, &[0x48, 0x06]],
+        &[ONE_SAMPLE, b"\x48\x05\x48\x06"],
+        &[ONE_SAMPLE, b"\x48\x06"],
     ),
     (
         "a single number set back to 0",
-        &[ONE_SAMPLE, &[0x48, 0x05, 0x48, 0x00]],
+        &[ONE_SAMPLE, b"\x48\x05\x48\x00"],
         &[ONE_SAMPLE],
     ),
     (
         "packed and single comments together",
-        &[
-            ONE_SAMPLE,
-            &[0x68, 0x01, 0x6a, 0x00, 0x6a, 0x02, 0x02, 0x03, 0x68, 0x00],
-        ],
-        &[ONE_SAMPLE, &[0x6a, 0x04, 0x01, 0x02, 0x03, 0x00]],
+        &[ONE_SAMPLE, b"\x68\x01\x6a\x00\x6a\x02\x02\x03\x68\x00"],
+        &[ONE_SAMPLE, b"\x6a\x04\x01\x02\x03\x00"],
     ),
     (
         "empty items",
         &[
-            &[0x0a, 0x00, 0x0a, 0x04, 0x08, 0x01, 0x10, 0x02, 0x0a, 0x00],
-            &[0x12, 0x08, 0x0a, 0x01, 0x01, 0x12, 0x03, 0x01, 0x07, 0x01],
+            b"\x0a\x00\x0a\x04\x08\x01\x10\x02\x0a\x00",
+            b"\x12\x08\x0a\x01\x01\x12\x03\x01\x07\x01",
             LOCATION,
             FUNCTION,
             STRINGS,
         ],
         &[
-            &[0x0a, 0x00, 0x0a, 0x04, 0x08, 0x01, 0x10, 0x02, 0x0a, 0x00],
-            &[0x12, 0x08, 0x0a, 0x01, 0x01, 0x12, 0x03, 0x01, 0x07, 0x01],
+            b"\x0a\x00\x0a\x04\x08\x01\x10\x02\x0a\x00",
+            b"\x12\x08\x0a\x01\x01\x12\x03\x01\x07\x01",
             LOCATION,
             FUNCTION,
             STRINGS,
@@ -218,16 +200,11 @@ const VARIANTS: &[(&str, &[&[u8]], &[&[u8]])] = &[
     ),
     (
         "a bool that is not 0, and the last of two",
-        &[
-            ONE_SAMPLE,
-            &[0x1a, 0x08, 0x08, 0x09, 0x38, 0x02, 0x38, 0x00, 0x40, 0x05],
-        ],
+        &[ONE_SAMPLE, b"\x1a\x08\x08\x09\x38\x02\x38\x00\x40\x05"],
         &[
             KIND,
             SAMPLE,
-            &[
-                0x1a, 0x04, 0x08, 0x09, 0x40, 0x01, 0x22, 0x06, 0x08, 0x01, 0x22, 0x02, 0x08, 0x01,
-            ],
+            b"\x1a\x04\x08\x09\x40\x01\x22\x06\x08\x01\x22\x02\x08\x01",
             FUNCTION,
             STRINGS,
         ],
@@ -294,13 +271,7 @@ const FAULTS: &[(&str, &[&[u8]], ProfileFault)] = &[
     ),
     (
         "missing values",
-        &[
-            KIND,
-            &[0x12, 0x03, 0x0a, 0x01, 0x01],
-            LOCATION,
-            FUNCTION,
-            STRINGS,
-        ],
+        &[KIND, b"\x12\x03\x0a\x01\x01", LOCATION, FUNCTION, STRINGS],
         ProfileFault::ValueCount,
     ),
     (
@@ -310,74 +281,64 @@ const FAULTS: &[(&str, &[&[u8]], ProfileFault)] = &[
     ),
     (
         "negative index",
-        &[
-            ONE_SAMPLE,
-            &[
-                0x70, 0xff, 0xff, 0xff, 0xff, 0xff, 0xff, 0xff, 0xff, 0xff, 0x01,
-            ],
-        ],
+        &[ONE_SAMPLE, b"\x70\xff\xff\xff\xff\xff\xff\xff\xff\xff\x01"],
         ProfileFault::StringIndex,
     ),
     (
         "comment without string",
-        &[ONE_SAMPLE, &[0x6a, 0x02, 0x01, 0x04]],
+        &[ONE_SAMPLE, b"\x6a\x02\x01\x04"],
         ProfileFault::StringIndex,
     ),
     (
         "long varint",
-        &[
-            ONE_SAMPLE,
-            &[
-                0x48, 0xff, 0xff, 0xff, 0xff, 0xff, 0xff, 0xff, 0xff, 0xff, 0x02,
-            ],
-        ],
+        &[ONE_SAMPLE, b"\x48\xff\xff\xff\xff\xff\xff\xff\xff\xff\x02"],
         ProfileFault::Wire(WireFault::LongVarint),
     ),
     (
         "field number",
-        &[ONE_SAMPLE, &[0x00, 0x00]],
+        &[ONE_SAMPLE, b"\x00\x00"],
         ProfileFault::Wire(WireFault::FieldNumber),
     ),
     (
         "group",
-        &[ONE_SAMPLE, &[0x0b]],
+        &[ONE_SAMPLE, b"\x0b"],
         ProfileFault::Wire(WireFault::Group),
     ),
     (
         "wire type",
-        &[ONE_SAMPLE, &[0x0e]],
+        &[ONE_SAMPLE, b"\x0e"],
         ProfileFault::Wire(WireFault::WireType),
     ),
     (
         "message as a varint",
-        &[ONE_SAMPLE, &[0x08, 0x01]],
+        &[ONE_SAMPLE, b"\x08\x01"],
         ProfileFault::Wire(WireFault::WireType),
     ),
     (
         "text as a varint",
-        &[ONE_SAMPLE, &[0x30, 0x01]],
+        &[ONE_SAMPLE, b"\x30\x01"],
         ProfileFault::Wire(WireFault::WireType),
     ),
     (
         "number as bytes",
-        &[ONE_SAMPLE, &[0x4a, 0x01, 0x01]],
+        &[ONE_SAMPLE, b"\x4a\x01\x01"],
         ProfileFault::Wire(WireFault::WireType),
     ),
     (
         "packed numbers as fixed",
-        &[ONE_SAMPLE, &[0x6d, 0x01, 0x02, 0x03, 0x04]],
+        &[ONE_SAMPLE, b"\x6d\x01\x02\x03\x04"],
         ProfileFault::Wire(WireFault::WireType),
     ),
     (
         "known field cut before its type counts",
-        &[ONE_SAMPLE, &[0x08]],
+        &[ONE_SAMPLE, b"\x08"],
         ProfileFault::Wire(WireFault::Truncated),
     ),
     (
         "packed numbers that are cut",
         &[
             KIND,
-            &[0x12, 0x06, 0x0a, 0x01, 0x81, 0x12, 0x01, 0x07],
+            b"\x12\x06\x0a\x01\x81\x12\x01\x07",
             LOCATION,
             FUNCTION,
             STRINGS,
@@ -387,7 +348,7 @@ const FAULTS: &[(&str, &[&[u8]], ProfileFault)] = &[
     (
         "nested message that is cut though more follows",
         &[
-            &[0x0a, 0x04, 0x08, 0x01, 0x12, 0x02],
+            b"\x0a\x04\x08\x01\x12\x02",
             SAMPLE,
             LOCATION,
             FUNCTION,
@@ -400,7 +361,7 @@ const FAULTS: &[(&str, &[&[u8]], ProfileFault)] = &[
         &[
             KIND,
             SAMPLE,
-            &[0x22, 0x06, 0x08, 0x01, 0x22, 0x02, 0x0e, 0x01],
+            b"\x22\x06\x08\x01\x22\x02\x0e\x01",
             FUNCTION,
             NO_TEXT,
         ],
@@ -408,7 +369,7 @@ const FAULTS: &[(&str, &[&[u8]], ProfileFault)] = &[
     ),
     (
         "text fault before a later wire fault",
-        &[KIND, SAMPLE, LOCATION, FUNCTION, NO_TEXT, &[0x0b]],
+        &[KIND, SAMPLE, LOCATION, FUNCTION, NO_TEXT, b"\x0b"],
         ProfileFault::NotUtf8,
     ),
     (
@@ -418,16 +379,13 @@ const FAULTS: &[(&str, &[&[u8]], ProfileFault)] = &[
             SAMPLE,
             LOCATION,
             FUNCTION,
-            &[
-                0x32, 0x01, 0x78, 0x32, 0x03, 0x63, 0x70, 0x75, 0x32, 0x02, 0x6e, 0x73, 0x32, 0x01,
-                0xff,
-            ],
+            b"\x32\x01\x78\x32\x03\x63\x70\x75\x32\x02\x6e\x73\x32\x01\xff",
         ],
         ProfileFault::NotUtf8,
     ),
     (
         "field number 2^29",
-        &[ONE_SAMPLE, &[0x80, 0x80, 0x80, 0x80, 0x10]],
+        &[ONE_SAMPLE, b"\x80\x80\x80\x80\x10"],
         ProfileFault::Wire(WireFault::FieldNumber),
     ),
     (
@@ -455,7 +413,7 @@ const FAULTS: &[(&str, &[&[u8]], ProfileFault)] = &[
         &[
             KIND,
             SAMPLE,
-            &[0x22, 0x08, 0x08, 0x01, 0x10, 0x01, 0x22, 0x02, 0x08, 0x02],
+            b"\x22\x08\x08\x01\x10\x01\x22\x02\x08\x02",
             FUNCTION,
             STRINGS,
         ],
@@ -486,40 +444,38 @@ fn faults_in_order(rt: HostRuntime) -> Result<(), Fail> {
 const OTHER_BYTES: &[(&str, &[u8], ProfileFault)] = &[
     (
         "the byte 1f",
-        &[0x1f],
+        b"\x1f",
         ProfileFault::Wire(WireFault::WireType),
     ),
-    ("gzip", &[0x1f, 0x8b], ProfileFault::Gzip),
+    ("gzip", b"\x1f\x8b", ProfileFault::Gzip),
     (
         "gzip before all else",
-        &[0x1f, 0x8b, 0x08, 0x00],
+        b"\x1f\x8b\x08\x00",
         ProfileFault::Gzip,
     ),
     (
         "length past the end",
-        &[
-            0x0a, 0xff, 0xff, 0xff, 0xff, 0xff, 0xff, 0xff, 0xff, 0xff, 0x01,
-        ],
+        b"\x0a\xff\xff\xff\xff\xff\xff\xff\xff\xff\x01",
         ProfileFault::Wire(WireFault::Truncated),
     ),
     (
         "number that is cut in its message though more follows",
-        &[0x0a, 0x02, 0x08, 0x80, 0x00, 0x00],
+        b"\x0a\x02\x08\x80\x00\x00",
         ProfileFault::Wire(WireFault::Truncated),
     ),
     (
         "packed numbers alone that are cut",
-        &[0x12, 0x03, 0x0a, 0x01, 0x80],
+        b"\x12\x03\x0a\x01\x80",
         ProfileFault::Wire(WireFault::Truncated),
     ),
     (
         "length past the end of its message",
-        &[0x12, 0x02, 0x12, 0x05],
+        b"\x12\x02\x12\x05",
         ProfileFault::Wire(WireFault::Truncated),
     ),
     (
         "text fault before a group",
-        &[0x32, 0x01, 0xff, 0x0b],
+        b"\x32\x01\xff\x0b",
         ProfileFault::NotUtf8,
     ),
     ("nothing", &[], ProfileFault::NoStrings),

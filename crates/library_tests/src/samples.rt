@@ -76,23 +76,21 @@ fn the_value_of_a_sample_is_that_of_the_type_asked_for(rt: HostRuntime) -> Resul
 // A profile of one sample, which names one location without lines again and again. The lengths of the sample and of its
 // ids are given.
 fn deep(alloc: Global, sample: &[u8], ids: &[u8], depth: usize) -> Result<Vec<u8>, Fail> {
-    let mut bytes = Vec::from_slice(alloc, &[0x0a, 0x04, 0x08, 0x01, 0x10, 0x02, 0x12])?;
+    let mut bytes = Vec::from_slice(alloc, b"\x0a\x04\x08\x01\x10\x02\x12")?;
     bytes.extend_from_slice(sample)?;
     bytes.push(0x0a)?;
     bytes.extend_from_slice(ids)?;
     for _ in 0..depth {
         bytes.push(0x01)?;
     }
-    bytes.extend_from_slice(&[0x12, 0x01, 0x07, 0x22, 0x02, 0x08, 0x01])?;
-    bytes.extend_from_slice(&[
-        0x32, 0x00, 0x32, 0x03, 0x63, 0x70, 0x75, 0x32, 0x02, 0x6e, 0x73,
-    ])?;
+    bytes.extend_from_slice(b"\x12\x01\x07\x22\x02\x08\x01")?;
+    bytes.extend_from_slice(b"\x32\x00\x32\x03\x63\x70\x75\x32\x02\x6e\x73")?;
     Ok(bytes)
 }
 
 #[test]
 fn a_sample_of_65535_frames_is_read(rt: HostRuntime) -> Result<(), Fail> {
-    let bytes = deep(rt.alloc(), &[0x86, 0x80, 0x04], &[0xff, 0xff, 0x03], 65_535)?;
+    let bytes = deep(rt.alloc(), b"\x86\x80\x04", b"\xff\xff\x03", 65_535)?;
     let rows = read(rt.alloc(), bytes.as_slice(), ValueChoice::Default)?;
     assert!(rt; rows.len() == 65_535 * 4 + 2 && rows.ends_with("0x0;0x0 7\n"));
     Ok(())
@@ -115,12 +113,12 @@ fn read_merged(alloc: Global, bytes: &[u8]) -> Result<String, Fail> {
 }
 
 // Two samples of the frame f, of the values 7 and 5.
-const TWO_EQUAL_SAMPLES: &[u8] = &[
-    0x0a, 0x04, 0x08, 0x01, 0x10, 0x02, 0x12, 0x06, 0x0a, 0x01, 0x01, 0x12, 0x01, 0x07, 0x12, 0x06,
-    0x0a, 0x01, 0x01, 0x12, 0x01, 0x05, 0x22, 0x06, 0x08, 0x01, 0x22, 0x02, 0x08, 0x01, 0x2a, 0x04,
-    0x08, 0x01, 0x10, 0x03, 0x32, 0x00, 0x32, 0x03, 0x63, 0x70, 0x75, 0x32, 0x02, 0x6e, 0x73, 0x32,
-    0x01, 0x66,
-];
+const TWO_EQUAL_SAMPLES: &[u8] = b"\
+    \x0a\x04\x08\x01\x10\x02\
+    \x12\x06\x0a\x01\x01\x12\x01\x07\
+    \x12\x06\x0a\x01\x01\x12\x01\x05\
+    \x22\x06\x08\x01\x22\x02\x08\x01\x2a\x04\x08\x01\x10\x03\x32\x00\x32\x03\x63\x70\x75\
+    \x32\x02\x6e\x73\x32\x01\x66";
 
 #[test]
 fn samples_are_merged_to_rows(rt: HostRuntime) -> Result<(), Fail> {
@@ -225,14 +223,16 @@ fn read_top(alloc: Global, bytes: &[u8]) -> Result<String, Fail> {
 
 // Two functions of two strings of one text, and a location without lines at 7. Samples at each alone, of 1, 2 and 4,
 // and one at all three, of 8.
-const ONE_NAME_OF_THREE: &[u8] = &[
-    0x0a, 0x04, 0x08, 0x01, 0x10, 0x02, 0x12, 0x06, 0x0a, 0x01, 0x01, 0x12, 0x01, 0x01, 0x12, 0x06,
-    0x0a, 0x01, 0x02, 0x12, 0x01, 0x02, 0x12, 0x06, 0x0a, 0x01, 0x03, 0x12, 0x01, 0x04, 0x12, 0x08,
-    0x0a, 0x03, 0x01, 0x02, 0x03, 0x12, 0x01, 0x08, 0x22, 0x06, 0x08, 0x01, 0x22, 0x02, 0x08, 0x01,
-    0x22, 0x06, 0x08, 0x02, 0x22, 0x02, 0x08, 0x02, 0x22, 0x04, 0x08, 0x03, 0x18, 0x07, 0x2a, 0x04,
-    0x08, 0x01, 0x10, 0x03, 0x2a, 0x04, 0x08, 0x02, 0x10, 0x04, 0x32, 0x00, 0x32, 0x03, 0x63, 0x70,
-    0x75, 0x32, 0x02, 0x6e, 0x73, 0x32, 0x03, 0x30, 0x78, 0x37, 0x32, 0x03, 0x30, 0x78, 0x37,
-];
+const ONE_NAME_OF_THREE: &[u8] = b"\
+    \x0a\x04\x08\x01\x10\x02\
+    \x12\x06\x0a\x01\x01\x12\x01\x01\
+    \x12\x06\x0a\x01\x02\x12\x01\x02\
+    \x12\x06\x0a\x01\x03\x12\x01\x04\
+    \x12\x08\x0a\x03\x01\x02\x03\x12\x01\x08\
+    \x22\x06\x08\x01\x22\x02\x08\x01\
+    \x22\x06\x08\x02\x22\x02\x08\x02\x22\x04\x08\x03\x18\x07\x2a\x04\x08\x01\x10\x03\
+    \x2a\x04\x08\x02\x10\x04\x32\x00\x32\x03\x63\x70\x75\x32\x02\x6e\x73\x32\x03\x30\x78\x37\
+    \x32\x03\x30\x78\x37";
 
 #[test]
 fn samples_are_counted_by_name(rt: HostRuntime) -> Result<(), Fail> {

@@ -23,12 +23,12 @@ fn sampled(alloc: Global, types: usize, values: &[u8]) -> Result<Vec<u8>, Fail> 
     let size = u8::try_from(values.len()).ok().ok_or("too long")?;
     let mut bytes = Vec::new(alloc);
     for _ in 0..types {
-        bytes.extend_from_slice(&[0x0a, 0x04, 0x08, 0x01, 0x10, 0x02])?;
+        bytes.extend_from_slice(b"\x0a\x04\x08\x01\x10\x02")?;
     }
     bytes.extend_from_slice(&[0x12, size.wrapping_add(5), 0x0a, 0x01, 0x01, 0x12, size])?;
     bytes.extend_from_slice(values)?;
-    bytes.extend_from_slice(&[0x22, 0x02, 0x08, 0x01, 0x32, 0x00])?;
-    bytes.extend_from_slice(&[0x32, 0x03, 0x63, 0x70, 0x75, 0x32, 0x02, 0x6e, 0x73])?;
+    bytes.extend_from_slice(b"\x22\x02\x08\x01\x32\x00")?;
+    bytes.extend_from_slice(b"\x32\x03\x63\x70\x75\x32\x02\x6e\x73")?;
     Ok(bytes)
 }
 

@@ -6,7 +6,8 @@
 The rows have 34 frames and are random walks in a seeded call graph, as in additions.py. The first are one addition that
 builds a tree of so many nodes; then each case has its own threads add batches or ask for reports. All cases run in turn
 on both stores, several rounds, and the least time of each counts. `rate` is the lock's time by the versions': above 1
-the versions are faster. `longest` is the longest single step, of the round in which it was least.
+the versions are faster. `longest` is the longest single step, of the round in which it was least. At last it prints the
+peak memory of a store to which rows are added one by one, without an old report and with one that a session holds.
 
 The program is versions.rattle, proved and linked in a copy of the crates below it that stands outside the repository.
 --work keeps the copy, so that the next run proves only what changed.
@@ -16,6 +17,7 @@ import os
 import pathlib
 import random
 import re
+import subprocess
 
 from proved_program import copy_program, link, output_of, run_outside
 from random_stacks import function_names, tree_stacks, write_folded
@@ -55,12 +57,23 @@ def write_rows(folder, options):
 def times_of(program, store, case, tree_rows, file):
     """Nanoseconds a step, and the longest step, of the threads that count."""
     _, work, threads, steps, batch_rows, report, who, sessions = case
-    said = output_of([program, store, work, threads, tree_rows, steps, batch_rows, report, sessions], file)
+    said = output_of([program, store, work, threads, tree_rows, steps, batch_rows, report, sessions, "none"], file)
     found = re.findall(r"steps (\d+) nanoseconds (\d+) longest (\d+)", said)
     rows = [tuple(map(int, numbers)) for numbers in found]
     rows = rows[:1] if who == "first" or len(rows) == 1 else rows[1:]
     steps = sum(row[0] for row in rows)
     return sum(row[1] for row in rows) / max(steps, 1), max(row[2] for row in rows)
+
+
+def peak_memory(program, held, tree_rows, file):
+    """The peak memory, in bytes, of a store to which 10,000 rows are added."""
+    words = [program, "versions", "add", 1, tree_rows, 10_000, 1, "flame", 2, held]
+    with open(file, "rb") as rows:
+        process = subprocess.Popen(list(map(str, words)), stdin=rows, stdout=subprocess.DEVNULL)
+        _, status, used = os.wait4(process.pid, 0)
+    if status:
+        raise SystemExit(f"{words} ended with {status}")
+    return used.ru_maxrss * 1024
 
 
 def read_options():
@@ -77,7 +90,7 @@ def read_options():
 def run(options, work):
     copy_program(NAME, LIBRARIES, work)
     print(f"proves and links {NAME}", flush=True)
-    program = link(NAME, work, ["versions", "add", "0", "0", "0", "1", "total", "2"], "")
+    program = link(NAME, work, ["versions", "add", "0", "0", "0", "1", "total", "2", "none"], "")
     tree_rows = write_rows(work, options)
     print(f"{tree_rows} rows build a tree of {options.nodes} nodes")
     print(f"load {os.getloadavg()[0]:.1f} on {os.cpu_count()} cores", flush=True)
@@ -91,6 +104,8 @@ def run(options, work):
     for case in CASES:
         (ours, longest), (lock, of_lock) = (least[case, store] for store in STORES)
         print(f"{case[0]:<50}{ours:>12.0f}{lock:>12.0f}{lock / ours:>8.2f}{longest:>12}{of_lock:>12}")
+    for held in ("none", "held"):
+        print(f"peak memory, {held}: {peak_memory(program, held, tree_rows, work / 'rows.folded')}")
 
 
 def main():

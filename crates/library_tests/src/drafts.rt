@@ -364,7 +364,10 @@ fn apply(alloc: Global, draft: &mut Draft, change: Change) -> Result<(), Fail> {
 }
 
 fn fault_of(alloc: Global, draft: Draft) -> Option<ProfileFault> {
-    check(alloc, draft).err().map(|refused| refused.fault)
+    match check(alloc, draft) {
+        Ok(_) => None,
+        Err(refused) => Some(refused.fault),
+    }
 }
 
 // The fault of the profile of one sample, so changed.

@@ -5,8 +5,8 @@ their index.
     python3 tools/contracts.py            writes the files
     python3 tools/contracts.py --check    says which files aren't current, and ends with 1 if any isn't
 
-Of each public call stand there its comment, its signature with its clauses, and the names of the edits that change it;
-of each `impl` what it says of a trait. Edits of private functions stand at the end of their crate.
+Of each call that the crate exports stand there its comment, its signature with its clauses, and the names of the edits
+that change it; of each `impl` what it says of a trait. Edits of functions inside stand at the end of their crate.
 """
 import pathlib
 import re
@@ -22,6 +22,9 @@ CALL = re.compile(r"^( *)(pub )?(?:pub\([a-z]+\) )?(?:const )?fn (\w+)")
 IMPL = re.compile(r"^impl(?:<[^>]*>)? (?:(\S+(?:<.*>)?) for )?(.+?)(?: where)? \{$")
 TRAIT = re.compile(r"^pub trait (\w+)")
 STRUCT = re.compile(r"^pub struct (\w+).* \{$")
+# What a crate's root exports: a module, or names of one.
+OPEN_MODULE = re.compile(r"^pub mod (\w+);", re.MULTILINE)
+EXPORT = re.compile(r"^pub use (?:crate::)?\w+::(?:\{([^}]*)\}|(\w+));", re.MULTILINE)
 PROMISE = re.compile(r"^    (?:pub(?:\([a-z]+\))? )?ghost (?!use )\w+")
 # Traits whose `impl` says nothing that a caller reads: what a value is seen as stands in the clauses.
 SILENT = ("Model", "Drop", "Eq")
@@ -164,13 +167,30 @@ def quoted(names):
     return ", ".join(f"`{it}`" for it in names)
 
 
+def exported(crate):
+    """The modules that a crate opens, and the names that it exports of others."""
+    root = crate / "src/lib.rt"
+    text = root.read_text(encoding="utf-8") if root.is_file() else ""
+    names = {it for several, one in EXPORT.findall(text) for it in re.findall(r"\w+", several or one)}
+    return set(OPEN_MODULE.findall(text)), names
+
+
+def exports_of(item):
+    """The names by one of which a crate exports the item: its type's or its own, and its trait's."""
+    is_impl = item.lines[0].startswith("impl")
+    return {item.owner or item.name} | ({item.name} if is_impl else set())
+
+
 def page_of(crate):
     """The page of a crate, and how many public calls and edits it has."""
+    modules, names = exported(crate)
     items = []
     for path in sorted((crate / "src").rglob("*.rt")):
         module = str(path.relative_to(crate / "src"))[:-3]
         items += items_of(path, module)
     add_edits(crate, items)
+    for item in items:
+        item.public &= item.module in modules or bool(names & exports_of(item))
     public = [it for it in items if it.public]
     inside = [it for it in items if not it.public and it.edits]
     text = [f"# {crate.name}", "", f"Made by `tools/contracts.py` out of `crates/{crate.name}/src`.", ""]

@@ -10,7 +10,7 @@ use Rattle.profile_rows.specs.Names.{is_same_name}
 use Rattle.profile_rows.specs.Rows.{has_name, ends_with_name, total_of, weight_if, weight_where, flat_weight_of, cumulative_weight_of}
 use Rattle.profile_rows.proofs.SameNames.{same_from_is_same_name, is_same_name-self}
 use Rattle.call_tree.specs.declared.node.Node.{Node}
-use Rattle.call_tree.specs.declared.tree.Sums.{Sums}
+use Rattle.call_tree.specs.declared.tree.reading.Sums.{Sums}
 use Rattle.call_tree.specs.State.{name_at, no_row, node_at, stack_at, credited}
 use Rattle.call_tree.specs.Shape.{no_node, node_rows, at, IsTree}
 use Rattle.call_tree.specs.Totals.{no_sums, sums_at, AreSums}

@@ -7,8 +7,8 @@ use Rattle.call_tree.specs.State.{TreeState, weights_of}
 use Rattle.op_book.specs.Books.{BookState, HasSpaceFor, HasTurn, IsOrderly, IsReady, IsTreeAfter, change_told, receipt_after}
 use Rattle.op_book.specs.Runs.{AreChanges}
 use Rattle.op_book.specs.Changes.{change_op}
-use Rattle.op_book.specs.declared.book.Change.{Change}
-use Rattle.op_book.specs.declared.book.Change.TheVariants as change
+use Rattle.op_book.specs.declared.book.changing.Change.{Change}
+use Rattle.op_book.specs.declared.book.changing.Change.TheVariants as change
 use Rattle.op_book.specs.Operations.{PlainEntry, PlainOp, PlainReceipt, add, is_change, operations_of, placed, profile_after}
 use Rattle.op_book.proofs.EntryLaws.{plain_answer-change, profile_at-push}
 

@@ -5,6 +5,7 @@ mod batches;
 mod counted_samples;
 mod exporting;
 mod folded_export;
+mod function_numbers;
 mod id_places;
 pub mod laws;
 mod merged_samples;

@@ -1,7 +1,7 @@
 //! Reports of files, by the calls that a user of the library names: `read_and_report FILE..`.
 //!
-//! Each file is read as folded text, or as a profile where its name ends with `.pb`. A top list of ten names goes to the
-//! standard output, then the stacks as folded text, and then the layout of a flame graph as JSON.
+//! Each file is read as folded text, or as a profile where its name ends with `.pb`. A top list of ten names goes to
+//! the standard output, then the stacks as folded text, and then the layout of a flame graph as JSON.
 #![tactic(auto)]
 
 mod reports;

@@ -9,8 +9,8 @@ use op_book::Receipt;
 use std::alloc::{AllocError, Global};
 
 /// What a session was told, in order, and how many changes it made by that. Only the locked book makes a log, for a
-/// session to which it gives a number, and only the locked book adds a change to it, in the event that the receipt tells
-/// of. Nothing is ever taken out.
+/// session to which it gives a number, and only the locked book adds a change to it, in the event that the receipt
+/// tells of. Nothing is ever taken out.
 #[derive(Drop)]
 pub(crate) struct Log {
     /// The session's number.

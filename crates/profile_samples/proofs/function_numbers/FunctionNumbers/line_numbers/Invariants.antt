@@ -1,6 +1,6 @@
 use Rattle.std.proofs.Common.{◌≡◌, map, take}
 use Rattle.profile_samples.specs.NameNumbers.{line_number}
-use Rattle.profile_samples.proofs.name_numbers.FunctionNumbers.line_numbers.Given as goal
+use Rattle.profile_samples.proofs.function_numbers.FunctionNumbers.line_numbers.Given as goal
 
 -- the numbers so far
 abbrev pub invariant-loop-line : goal.invariant-loop-line

@@ -6,7 +6,7 @@ use Rattle.pprof_profile.specs.declared.messages.Function.{Function}
 use Rattle.profile_samples.specs.NameNumbers.{number_by}
 use Rattle.profile_samples.proofs.ItemsById.{ids_differ}
 use Rattle.profile_samples.proofs.FrameNumbers.{number_by-name}
-use Rattle.profile_samples.proofs.name_numbers.FunctionNumbers.new.Goals as goal
+use Rattle.profile_samples.proofs.function_numbers.FunctionNumbers.new.Goals as goal
 
 pub invariant_of-result : goal.invariant_of-result
 invariant_of-result c =

@@ -1,5 +1,5 @@
 use Rattle.call_tree.proofs.Several.{IsPushing-step}
-use Rattle.call_tree.proofs.tree.push_value.Goals as goal
+use Rattle.call_tree.proofs.tree.reading.push_value.Goals as goal
 
 pub loop-row-preserved : goal.loop-row-preserved
 loop-row-preserved c =

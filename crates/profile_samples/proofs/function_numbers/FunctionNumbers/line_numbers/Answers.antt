@@ -3,7 +3,7 @@ use Rattle.std.proofs.Common.{◌≡◌, ◌∙◌, ap, map}
 use Rattle.std.proofs.lemmas.List.{take_all}
 use Rattle.profile_samples.specs.NameNumbers.{line_number}
 use Rattle.profile_samples.proofs.FrameNumbers.{numbers_of_lines}
-use Rattle.profile_samples.proofs.name_numbers.FunctionNumbers.line_numbers.Goals as goal
+use Rattle.profile_samples.proofs.function_numbers.FunctionNumbers.line_numbers.Goals as goal
 
 pub returns : goal.returns
 returns c =

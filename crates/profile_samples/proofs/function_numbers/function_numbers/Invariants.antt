@@ -1,6 +1,6 @@
 use Rattle.std.proofs.Common.{◌≡◌, map, take}
 use Rattle.profile_samples.specs.NameNumbers.{number_by}
-use Rattle.profile_samples.proofs.name_numbers.function_numbers.Given as goal
+use Rattle.profile_samples.proofs.function_numbers.function_numbers.Given as goal
 
 -- the numbers so far
 abbrev pub invariant-loop-function : goal.invariant-loop-function

@@ -1,5 +1,5 @@
 use Rattle.call_tree.proofs.Several.{IsPushing}
-use Rattle.call_tree.proofs.tree.push_value.Given as goal
+use Rattle.call_tree.proofs.tree.reading.push_value.Given as goal
 
 -- the rows so far were added, and the others are left
 abbrev pub invariant-loop-row : goal.invariant-loop-row

@@ -1,6 +1,6 @@
 use Rattle.std.proofs.Common.{◌≡◌, map, take, string_bytes}
 use Rattle.std.specs.List.{join_with_byte}
-use Rattle.call_tree.proofs.tree.replace_joined.Given as goal
+use Rattle.call_tree.proofs.tree.reading.replace_joined.Given as goal
 
 -- the frames so far
 abbrev pub invariant-loop-index : goal.invariant-loop-index

@@ -3,8 +3,8 @@ use Rattle.std.proofs.Common.{rules, ◌≡◌, ℕ, List, ◌∷◌, ◌++◌, 
 use Rattle.std.proofs.lemmas.List.{get_or-map, length-map}
 use denote.Ref.{Bor}
 use Rattle.call_tree.proofs.Joining.{join_more}
-use Rattle.call_tree.proofs.tree.replace_joined.Goals as goal
-use Rattle.call_tree.proofs.tree.replace_joined.Goals.{then-index-gt0+in_ok-push, else-index-gt0}
+use Rattle.call_tree.proofs.tree.reading.replace_joined.Goals as goal
+use Rattle.call_tree.proofs.tree.reading.replace_joined.Goals.{then-index-gt0+in_ok-push, else-index-gt0}
 
 pub loop-index-preserved : goal.loop-index-preserved
 loop-index-preserved c =

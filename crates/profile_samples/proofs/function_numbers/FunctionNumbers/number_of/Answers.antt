@@ -4,7 +4,7 @@ use Rattle.std.specs.Option.{option_map}
 use Rattle.profile_samples.specs.Samples.{named_by}
 use Rattle.profile_samples.specs.NameNumbers.{AreFunctionNumbers, number_of}
 use Rattle.profile_samples.proofs.FrameNumbers.{function_numbered}
-use Rattle.profile_samples.proofs.name_numbers.FunctionNumbers.number_of.Goals as goal
+use Rattle.profile_samples.proofs.function_numbers.FunctionNumbers.number_of.Goals as goal
 
 pub returns-in-Some : goal.returns-in-Some
 returns-in-Some c =

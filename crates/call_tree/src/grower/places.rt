@@ -1,0 +1,174 @@
+//! The nodes of rows, found in the index or made.
+
+ghost use Rattle.std.specs.Prelude.{◌≡◌, ◌<◌, ◌+◌, ◌≤◌, ◌++◌, ◌∷◌, ℕ, [], length, not, IfOk};
+ghost use Rattle.std.specs.FinMap as map;
+ghost use Rattle.profile_rows.specs.Rows.{has_name};
+ghost use Rattle.call_tree.specs.State.{IsFresh, AreGrown, nodes_at, plain_at, name_at, stack_at};
+ghost use Rattle.call_tree.specs.Plans.{AreFirstPlaces};
+ghost use Rattle.call_tree.specs.Walks.{IsOnPath};
+
+use super::Grower;
+use crate::walk::Walk;
+use profile_rows::{Name, NoMemory, Stack, WeightedStacks};
+use std::alloc::Global;
+
+impl Grower {
+    /// The nodes of rows, one for each row, with new nodes where there are none.
+    pub(super) fn places_of(
+        &mut self,
+        alloc: Global,
+        batch: &WeightedStacks,
+        walk: &mut Walk,
+    ) -> Result<Vec<u32>, NoMemory>
+        ensures places { IfOk result
+            (λ places. AreFirstPlaces (plain_at self.new 0) batch.now places.items (length batch.now)) }
+        ensures grown { AreGrown self.old self.new }
+    {
+        let rows = batch.rows();
+        let mut places = Vec::with_capacity(alloc, rows.len())?;
+        for row in rows {
+            let node = self.grow(&row.stack, walk)?;
+            places.push(node)?;
+        }
+        Ok(places)
+    }
+
+    /// The node of a stack, with new nodes of weight 0 where there are none.
+    pub(super) fn grow(&mut self, stack: &Stack, walk: &mut Walk) -> Result<u32, NoMemory>
+        ensures node { IfOk result
+            (λ node. (node < length (nodes_at self.new 0)) × (stack_at (nodes_at self.new 0) node ≡ stack.now)) }
+        ensures grown { AreGrown self.old self.new }
+    {
+        walk.start();
+        self.tree.facts();
+        let frames = stack.names();
+        let mut place = 0u32;
+        for depth in 0..frames.len() {
+            place = self.enter(frames, depth, place, walk)?;
+        }
+        Ok(place)
+    }
+
+    /// One frame further. Where the row before went on by the same name, its node is taken, and nothing is looked up.
+    fn enter(
+        &mut self,
+        frames: &[Name],
+        depth: usize,
+        place: u32,
+        walk: &mut Walk,
+    ) -> Result<u32, NoMemory>
+        requires within { depth < length frames.now }
+        requires deep { length frames.now ≤ 65535 }
+        requires path { IsOnPath (plain_at self.old 0) walk.old frames.now depth place }
+        ensures path { IfOk result (λ child. IsOnPath (plain_at self.new 0) walk.new frames.now (depth + 1) child) }
+        ensures grown { AreGrown self.old self.new }
+    {
+        self.tree.facts();
+        let name = &frames[depth];
+        let guess = walk.guess(place, name);
+        if let Some(number) = self.tree.number_below(place, guess, name) {
+            let _there = walk.add(number)?;
+            return Ok(guess);
+        }
+        let child = self.look_up(frames, depth, place, walk)?;
+        walk.keep(place, name, child)?;
+        Ok(child)
+    }
+
+    /// One frame further, by its name's number and the index.
+    fn look_up(
+        &mut self,
+        frames: &[Name],
+        depth: usize,
+        place: u32,
+        walk: &mut Walk,
+    ) -> Result<u32, NoMemory>
+        requires within { depth < length frames.now }
+        requires deep { length frames.now ≤ 65535 }
+        requires path { IsOnPath (plain_at self.old 0) walk.old frames.now depth place }
+        ensures path { IfOk result (λ child. IsOnPath (plain_at self.new 0) walk.new frames.now (depth + 1) child) }
+        ensures grown { AreGrown self.old self.new }
+    {
+        let number = self.intern(&frames[depth])?;
+        let there = walk.add(number)?;
+        self.tree.facts();
+        self.child(place, number, !there)
+    }
+
+    /// The number of a name, a new one where it has none.
+    fn intern(&mut self, name: &Name) -> Result<u32, NoMemory>
+        ensures number { IfOk result
+            (λ number. (number < length self.new.names) × (name_at self.new.names number ≡ name.now)) }
+        ensures grown { AreGrown self.old self.new }
+        ensures values { self.new.values ≡ self.old.values }
+    {
+        match self.numbers.get_index_of(name) {
+            Some(number) => number_of(number),
+            None => self.add_name(name),
+        }
+    }
+
+    /// A name that has no number yet, with the next one. Nothing is changed where memory runs out.
+    fn add_name(&mut self, name: &Name) -> Result<u32, NoMemory>
+        requires { (k : ℕ) → k < length self.old.names → name_at self.old.names k ≡ name.now → ⊥ }
+        ensures number { IfOk result
+            (λ number. (number < length self.new.names) × (name_at self.new.names number ≡ name.now)) }
+        ensures grown { AreGrown self.old self.new }
+        ensures values { self.new.values ≡ self.old.values }
+    {
+        let number = number_of(self.numbers.len())?;
+        let listed = name.share()?;
+        let key = name.share()?;
+        self.numbers.reserve(1)?;
+        self.tree.facts();
+        self.tree.append_name(listed)?;
+        let _ = self.numbers.insert(key);
+        Ok(number)
+    }
+
+    /// The node of a child, a new one where there is none.
+    fn child(&mut self, parent: u32, name: u32, counts: bool) -> Result<u32, NoMemory>
+        requires parent { parent < length (nodes_at self.old 0) }
+        requires name { name < length self.old.names }
+        requires counts { counts
+            ≡ not (has_name (name_at self.old.names name) (stack_at (nodes_at self.old 0) parent)) }
+        requires deep { length (stack_at (nodes_at self.old 0) parent) < 65535 }
+        ensures child { IfOk result (λ k. (k < length (nodes_at self.new 0))
+            × (stack_at (nodes_at self.new 0) k
+            ≡ stack_at (nodes_at self.old 0) parent ++ name_at self.old.names name ∷ [])) }
+        ensures grown { AreGrown self.old self.new }
+        ensures names { self.new.names ≡ self.old.names }
+    {
+        match self.index.get(&(parent, name)) {
+            Some(child) => Ok(*child),
+            None => self.add_child(parent, name, counts),
+        }
+    }
+
+    /// A child that isn't there yet. Nothing is changed where memory runs out.
+    fn add_child(&mut self, parent: u32, name: u32, counts: bool) -> Result<u32, NoMemory>
+        requires { IsFresh (plain_at self.old 0) parent name counts }
+        ensures child { IfOk result (λ k. (k < length (nodes_at self.new 0))
+            × (stack_at (nodes_at self.new 0) k
+            ≡ stack_at (nodes_at self.old 0) parent ++ name_at self.old.names name ∷ [])) }
+        ensures grown { AreGrown self.old self.new }
+        ensures names { self.new.names ≡ self.old.names }
+    {
+        let number = number_of(self.tree.len())?;
+        self.index.reserve(1)?;
+        self.tree.facts();
+        self.tree.append_node(parent, name, counts)?;
+        let _ = self.index.insert((parent, name), number);
+        Ok(number)
+    }
+}
+
+/// A length as a number of 32 bits.
+fn number_of(len: usize) -> Result<u32, NoMemory>
+    ensures { IfOk result (λ number. number ≡ len) }
+{
+    match u32::try_from(len) {
+        Ok(number) => Ok(number),
+        Err(_) => Err(NoMemory),
+    }
+}

@@ -1,0 +1,325 @@
+//! What a tree answers of its stacks and names.
+
+ghost use Rattle.std.specs.Prelude.{◌≡◌, ◌<◌, ◌+◌, ℕ, filter, length, map, string_bytes, take, All, MatchOption, IfOk, OnOk, IsSorted};
+ghost use Rattle.std.specs.List.{join_with_byte};
+ghost use Rattle.profile_rows.specs.Names.{IsName};
+ghost use Rattle.profile_rows.specs.StackTexts.{AreStackTexts};
+ghost use Rattle.profile_rows.specs.Aggregate.{AreRowsOf, aggregates_of, weight_in, with_rows, rows_of};
+ghost use Rattle.profile_rows.specs.TopList.{AreSumsOf};
+ghost use Rattle.profile_rows.specs.Values.{value_of};
+ghost use Rattle.call_tree.specs.State.{weights_of, nodes_at, plain_at, stack_at, has_weight};
+
+use super::CallTree;
+use profile_rows::{
+    Batch, FrameTotal, MAX_DEPTH, NoMemory, Stack, StackText, WeightedStack, WeightedStacks,
+    Weights, Width, aggregate, aggregate_stacks,
+};
+use std::alloc::{AllocError, Global};
+
+/// The flat and the cumulative weight of a name.
+#[derive(Clone, Copy)]
+struct Sums {
+    flat: u64,
+    cum: u64,
+}
+
+impl CallTree {
+    ghost use Rattle.call_tree.specs.Totals.{AreSums, name_order};
+
+    /// The weights of exactly this stack, 0 where it has none.
+    pub fn self_weight(&self, stack: &Stack) -> Weights
+        ensures width { length result ≡ self.now.width }
+        ensures weights { (value : ℕ) → value_of value result ≡ weight_in (weights_of self.now value) stack.now }
+    {
+        self.facts();
+        let width = self.nodes.width();
+        let count = width.get();
+        let mut weights = [0; 4];
+        if let Some(place) = self.place_of(stack) {
+            for value in 0..count {
+                weights[value as usize] = self.nodes.read(value, place).own;
+            }
+        }
+        weights_from(&weights, width)
+    }
+
+    /// The node of exactly this stack, where there is one. One pass over the nodes, since a node stands after its
+    /// parent.
+    fn place_of(&self, stack: &Stack) -> Option<usize>
+        ensures { MatchOption result
+            ((k : ℕ) → k < length (nodes_at self.now 0) → stack_at (nodes_at self.now 0) k ≡ stack.now → ⊥)
+            (λ place. (place < length (nodes_at self.now 0)) × (stack_at (nodes_at self.now 0) place ≡ stack.now)) }
+    {
+        self.nodes.facts();
+        let frames = stack.names();
+        let mut place = 0usize;
+        let mut depth = 0usize;
+        for index in 1..self.nodes.len() {
+            if depth == frames.len() {
+                break;
+            }
+            let node = self.nodes.read(0, index);
+            if node.parent as usize == place
+                && *self.names.read(node.name as usize) == frames[depth]
+            {
+                place = index;
+                depth += 1;
+            }
+        }
+        if depth == frames.len() {
+            Some(place)
+        } else {
+            None
+        }
+    }
+
+    /// The flat and the cumulative weight of each name, by its number: one pass over the nodes, from the last to the
+    /// first, so that what stands below a node is known before it.
+    fn sums(&self, alloc: Global, value: u32) -> Result<Vec<Sums>, AllocError>
+        requires { value < self.now.width }
+        ensures { IfOk result (λ sums. AreSums (plain_at self.now value) sums.items) }
+    {
+        self.nodes.facts();
+        let mut sums = vec![in alloc; Sums { flat: 0, cum: 0 }; self.names.len()]?;
+        let mut below = vec![in alloc; 0u64; self.nodes.len()]?;
+        let mut left = self.nodes.len();
+        while left > 1 {
+            left -= 1;
+            let node = self.nodes.read(value, left);
+            let whole = node.own + below[left];
+            below[node.parent as usize] += whole;
+            let sum = &mut sums[node.name as usize];
+            sum.flat += node.own;
+            if node.counts {
+                sum.cum += whole;
+            }
+        }
+        Ok(sums)
+    }
+
+    /// The names of cumulative weight above 0 with their weights, by their numbers.
+    fn named_sums(&self, alloc: Global, value: u32) -> Result<Vec<FrameTotal>, NoMemory>
+        requires { value < self.now.width }
+        ensures { IfOk result (λ totals. AreSumsOf (rows_of (weights_of self.now value)) totals.items) }
+    {
+        let sums = self.sums(alloc, value)?;
+        let mut totals = Vec::new(alloc);
+        for number in 0..sums.len() {
+            let sum = sums[number];
+            if sum.cum > 0 {
+                let name = self.names.read(number).share()?;
+                totals.push(FrameTotal {
+                    name,
+                    flat: sum.flat,
+                    cum: sum.cum,
+                })?;
+            }
+        }
+        Ok(totals)
+    }
+
+    /// Each name of cumulative weight above 0 by a value once, with its flat and its cumulative weight, in the order of
+    /// names.
+    ///
+    /// # Errors
+    ///
+    /// `NoMemory`.
+    pub fn frame_totals(&self, alloc: Global, value: u32) -> Result<Vec<FrameTotal>, NoMemory>
+        requires { value < self.now.width }
+        ensures sums { IfOk result (λ totals. AreSumsOf (rows_of (weights_of self.now value)) totals.items) }
+        ensures sorted { IfOk result (λ totals. IsSorted name_order totals.items) }
+    {
+        let mut totals = self.named_sums(alloc, value)?;
+        totals.sort_by(|left, right| left.name.cmp(&right.name))?;
+        Ok(totals)
+    }
+
+    /// The stack of a node: its names on the way to the root, turned round.
+    fn stack_of(&self, alloc: Global, at: usize) -> Result<Stack, NoMemory>
+        requires { at < length (nodes_at self.now 0) }
+        ensures { IfOk result (λ stack. stack ≡ stack_at (nodes_at self.now 0) at) }
+    {
+        self.nodes.facts();
+        let mut names = Vec::new(alloc);
+        let mut place = at;
+        while place != 0 {
+            let node = self.nodes.read(0, place);
+            let name = self.names.read(node.name as usize).share()?;
+            names.push(name)?;
+            place = node.parent as usize;
+        }
+        names.reverse();
+        let fits = names.len() <= MAX_DEPTH;
+        prove!(fits);
+        match Stack::make(names) {
+            Ok(stack) => Ok(stack),
+            Err(_) => Err(NoMemory),
+        }
+    }
+
+    /// The stacks of weight above 0 by a value, by their nodes.
+    fn weighted_rows(&self, alloc: Global, value: u32) -> Result<WeightedStacks, NoMemory>
+        requires { value < self.now.width }
+        ensures { IfOk result (λ rows. rows ≡ filter has_weight (nodes_at self.now value)) }
+    {
+        self.facts();
+        let mut rows = WeightedStacks::new(alloc);
+        for index in 0..self.nodes.len() {
+            let weight = self.nodes.read(value, index).own;
+            if weight > 0 {
+                let stack = self.stack_of(alloc, index)?;
+                rows.push(stack, weight).map_err(|_| NoMemory)?;
+            }
+        }
+        Ok(rows)
+    }
+
+    /// Each stack of weight above 0 by a value once, with its weight, in the order of stacks. Stacks are compared name
+    /// by name.
+    ///
+    /// # Errors
+    ///
+    /// `NoMemory`.
+    pub fn weighted_stacks(&self, alloc: Global, value: u32) -> Result<WeightedStacks, NoMemory>
+        requires { value < self.now.width }
+        ensures { IfOk result (λ batch. batch ≡ rows_of (weights_of self.now value)) }
+    {
+        let rows = self.weighted_rows(alloc, value)?;
+        aggregate_stacks(alloc, rows)
+    }
+
+    /// The frames of a node, root first, in the place of others: its names on the way to the root, turned round.
+    fn replace_frames<'a>(&'a self, frames: &mut Vec<&'a str>, at: usize) -> Result<(), AllocError>
+        requires { at < length (nodes_at self.now 0) }
+        ensures frames { OnOk result
+            (map (λ frame. frame.now) frames.new.items ≡ stack_at (nodes_at self.now 0) at) }
+        ensures names { OnOk result (All IsName (stack_at (nodes_at self.now 0) at)) }
+    {
+        self.nodes.facts();
+        frames.clear();
+        let mut place = at;
+        while place != 0 {
+            let node = self.nodes.read(0, place);
+            frames.push(self.names.read(node.name as usize).text())?;
+            place = node.parent as usize;
+        }
+        frames.reverse();
+        Ok(())
+    }
+
+    /// The text of a node's stack. The buffers' room is used again from node to node.
+    fn stack_text<'a>(
+        &'a self,
+        alloc: Global,
+        frames: &mut Vec<&'a str>,
+        joined: &mut String,
+        at: usize,
+    ) -> Result<String, NoMemory>
+        requires { at < length (nodes_at self.now 0) }
+        ensures text { IfOk result
+            (λ text. string_bytes text ≡ join_with_byte 59 (stack_at (nodes_at self.now 0) at)) }
+        ensures names { OnOk result (All IsName (stack_at (nodes_at self.now 0) at)) }
+    {
+        self.replace_frames(frames, at)?;
+        replace_joined(joined, frames.as_slice())?;
+        Ok(String::from_str(alloc, joined.as_str())?)
+    }
+
+    /// Each stack of weight above 0 by a value once, as a text, with its weight, in no particular order. No name is
+    /// shared for it.
+    ///
+    /// # Errors
+    ///
+    /// `NoMemory`.
+    pub fn stack_texts(&self, alloc: Global, value: u32) -> Result<Vec<StackText>, NoMemory>
+        requires { value < self.now.width }
+        ensures { IfOk result (λ texts. AreStackTexts (weights_of self.now value) texts.items) }
+    {
+        self.facts();
+        let mut texts = Vec::new(alloc);
+        let mut frames = Vec::new(alloc);
+        let mut joined = String::new(alloc);
+        for at in 0..self.nodes.len() {
+            let weight = self.nodes.read(value, at).own;
+            if weight > 0 {
+                let text = self.stack_text(alloc, &mut frames, &mut joined, at)?;
+                texts.push(StackText { text, weight })?;
+            }
+        }
+        Ok(texts)
+    }
+
+    /// Each stack that weighs something by some value once, in the order of stacks, with all its values.
+    ///
+    /// # Errors
+    ///
+    /// `NoMemory`.
+    pub fn rows(&self, alloc: Global) -> Result<Batch, NoMemory>
+        ensures width { IfOk result (λ batch. batch.width ≡ self.now.width) }
+        ensures rows { IfOk result (λ batch. AreRowsOf (weights_of self.now) batch.rows) }
+    {
+        self.facts();
+        let width = self.nodes.width();
+        let mut batch = Batch::new(alloc, width);
+        for value in 0..width.get() {
+            let rows = self.weighted_stacks(alloc, value)?;
+            push_value(&mut batch, value, rows)?;
+        }
+        aggregate(alloc, &batch)
+    }
+}
+
+/// Frames with a semicolon between each two, in the place of another text.
+fn replace_joined(text: &mut String, frames: &[&str]) -> Result<(), AllocError>
+    ensures { OnOk result (string_bytes text.new ≡ join_with_byte 59 (map (λ frame. frame.now) frames.now)) }
+{
+    text.clear();
+    for (index, frame) in frames.iter().enumerate() {
+        if index > 0 {
+            text.push(';')?;
+        }
+        text.push_str(frame)?;
+    }
+    Ok(())
+}
+
+/// For each of these rows one row more, which has its weight as this value and 0 as each other.
+fn push_value(batch: &mut Batch, value: u32, rows: WeightedStacks) -> Result<(), NoMemory>
+    requires { value < batch.old.width }
+    ensures width { OnOk result (batch.new.width ≡ batch.old.width) }
+    ensures here { OnOk result
+        (aggregates_of batch.new.rows value ≡ with_rows (aggregates_of batch.old.rows value) rows) }
+    ensures others { OnOk result ((other : ℕ) → (other ≡ value → ⊥)
+        → aggregates_of batch.new.rows other ≡ aggregates_of batch.old.rows other) }
+{
+    let width = batch.width();
+    for row in rows.into_rows() {
+        let WeightedStack { stack, weight } = row;
+        let weights = weighing(width, value, weight);
+        if let Err(_) = batch.push(stack, weights) {
+            return Err(NoMemory);
+        }
+    }
+    Ok(())
+}
+
+/// This value, and 0 as each other.
+fn weighing(width: Width, value: u32, weight: u64) -> Weights
+    requires { value < width }
+    ensures here { value_of value result ≡ weight }
+    ensures others { (other : ℕ) → (other ≡ value → ⊥) → value_of other result ≡ 0 }
+{
+    let mut places = [0; 4];
+    places[value as usize] = weight;
+    weights_from(&places, width)
+}
+
+/// The first of four places, as many as the width says.
+fn weights_from(places: &[u64; 4], width: Width) -> Weights
+    ensures { result ≡ take width places.now }
+{
+    match Weights::make(&places[..width.get() as usize]) {
+        Some(weights) => weights,
+        None => unreachable!(),
+    }
+}

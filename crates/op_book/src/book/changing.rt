@@ -1,0 +1,311 @@
+//! How a book changes: at once, or by a change that is prepared and then settled.
+
+ghost use Rattle.std.specs.Prelude.{◌≡◌, ◌≢◌, ◌+◌, ◌<◌, ◌^◌, ℕ, length, IfErr, IfOk, OnErr, OnOk};
+ghost use Rattle.std.specs.Arc.{arc_value};
+ghost use Rattle.call_tree.specs.State.{total_in, weights_of};
+ghost use Rattle.op_book.specs.Books.{HasSpaceFor, IsAppended, IsFirstBookFault, IsOrderly, IsReplay, IsSameBook, IsSpaceFault, IsTaken, IsTreeAfter, change_told, receipt_after};
+ghost use Rattle.op_book.specs.Changes.{change_op};
+ghost use Rattle.op_book.specs.Operations.{add, placed, plain_op, reset};
+ghost use Rattle.profile_rows.specs.Rows.{total_of};
+ghost use Rattle.profile_rows.specs.Values.{rows_at};
+
+use super::{Book, Ready};
+use crate::entry::{Entry, Receipt};
+use crate::fault::{BookFault, Refused};
+use crate::operation::{Op, Reply};
+use call_tree::Plan;
+use profile_rows::laws::aggregate_of_more_rows;
+use profile_rows::{Batch, first_heavy};
+use std::alloc::{AllocError, Global};
+use std::snapshot::Snapshot;
+use std::sync::Arc;
+
+/// A change that a session asks for.
+#[derive(Clone, Copy)]
+enum Change<'a> {
+    Add(&'a Arc<Batch>),
+    Reset,
+}
+
+impl<'a> Change<'a> {
+    /// The change as an operation.
+    fn op(self) -> Result<Op, AllocError>
+        ensures { IfOk result (λ op. plain_op op ≡ change_op self.entry) }
+    {
+        match self {
+            Change::Add(batch) => Ok(Op::Add(Arc::try_clone(batch)?)),
+            Change::Reset => Ok(Op::Reset),
+        }
+    }
+}
+
+impl Book {
+    /// Adds the rows of a batch as the turn of a session. The journal gets exactly one entry, of which the receipt
+    /// tells.
+    ///
+    /// # Errors
+    ///
+    /// The first [`BookFault`]: memory is wanting only where there is no other. The book is then as it was, and the
+    /// batch is handed back.
+    pub fn add(
+        &mut self,
+        alloc: Global,
+        session: u32,
+        turn: u64,
+        batch: Arc<Batch>,
+    ) -> Result<Receipt, Refused<Arc<Batch>>>
+        ensures appended { OnOk result (IsAppended self.old session turn (add (arc_value batch)) self.new) }
+        ensures receipt { IfOk result (λ receipt. receipt ≡ receipt_after self.old.entries (add (arc_value batch))) }
+        ensures told { IfOk result
+            (λ receipt. receipt ≡ change_told (add (arc_value batch)) (length self.old.entries)) }
+        ensures taken { OnOk result (IsTaken self.old session turn (add (arc_value batch))) }
+        ensures unchanged { OnErr result (IsSameBook self.old self.new) }
+        ensures back { IfErr result (λ refused. refused.back ≡ batch) }
+        ensures first_fault { IfErr result
+            (λ refused. IsFirstBookFault self.old session turn (add (arc_value batch)) refused.fault) }
+        ensures replay { IsReplay self.new.entries self.new.tree }
+        ensures orderly { IsOrderly self.new }
+    {
+        let added = self.add_rows(alloc, session, turn, &batch);
+        self.facts();
+        match added {
+            Ok(receipt) => Ok(receipt),
+            Err(fault) => Err(Refused { fault, back: batch }),
+        }
+    }
+
+    /// Empties the profile as the turn of a session: what was added before counts no more. The journal gets exactly one
+    /// entry, of which the receipt tells.
+    ///
+    /// # Errors
+    ///
+    /// The first [`BookFault`], which is neither `Width` nor `Heavy`: memory is wanting only where there is no other.
+    /// The book is then as it was.
+    pub fn reset(&mut self, alloc: Global, session: u32, turn: u64) -> Result<Receipt, BookFault>
+        ensures appended { OnOk result (IsAppended self.old session turn reset self.new) }
+        ensures receipt { IfOk result (λ receipt. receipt ≡ receipt_after self.old.entries reset) }
+        ensures told { IfOk result (λ receipt. receipt ≡ change_told reset (length self.old.entries)) }
+        ensures taken { OnOk result (IsTaken self.old session turn reset) }
+        ensures unchanged { OnErr result (IsSameBook self.old self.new) }
+        ensures first_fault { IfErr result (λ fault. IsFirstBookFault self.old session turn reset fault) }
+        ensures light { IfErr result (λ fault. (value held : ℕ) → fault ≢ BookFault.Heavy value held) }
+        ensures replay { IsReplay self.new.entries self.new.tree }
+        ensures orderly { IsOrderly self.new }
+    {
+        let ready = self.prepare_reset(alloc, session, turn)?;
+        Ok(self.settle(ready))
+    }
+
+    /// Takes all memory that an addition needs, which [`settle`](Book::settle) then makes. What the book holds stays.
+    /// The batch is shared, so that a caller still has it where it doesn't go on to settle.
+    ///
+    /// # Errors
+    ///
+    /// Those of [`add`](Book::add).
+    pub fn prepare(
+        &mut self,
+        alloc: Global,
+        session: u32,
+        turn: u64,
+        batch: &Arc<Batch>,
+    ) -> Result<Ready, BookFault>
+        ensures before { IfOk result (λ ready. ready.before ≡ self.new) }
+        ensures change { IfOk result (λ ready. (ready.session ≡ session) × (ready.turn ≡ turn)
+            × (ready.op ≡ add (arc_value batch.now))) }
+        ensures next { IfOk result (λ ready. IsTreeAfter self.old (add (arc_value batch.now)) ready.next) }
+        ensures taken { OnOk result (IsTaken self.old session turn (add (arc_value batch.now))) }
+        ensures unchanged { IsSameBook self.old self.new }
+        ensures first_fault { IfErr result
+            (λ fault. IsFirstBookFault self.old session turn (add (arc_value batch.now)) fault) }
+        ensures replay { IsReplay self.new.entries self.new.tree }
+        ensures orderly { IsOrderly self.new }
+    {
+        self.facts();
+        let ready = self.ready(alloc, session, turn, Change::Add(batch));
+        self.facts();
+        ready
+    }
+
+    /// Takes all memory that a reset needs, which [`settle`](Book::settle) then makes. What the book holds stays.
+    ///
+    /// # Errors
+    ///
+    /// Those of [`reset`](Book::reset).
+    pub fn prepare_reset(
+        &mut self,
+        alloc: Global,
+        session: u32,
+        turn: u64,
+    ) -> Result<Ready, BookFault>
+        ensures before { IfOk result (λ ready. ready.before ≡ self.new) }
+        ensures change { IfOk result (λ ready. (ready.session ≡ session) × (ready.turn ≡ turn) × (ready.op ≡ reset)) }
+        ensures next { IfOk result (λ ready. IsTreeAfter self.old reset ready.next) }
+        ensures taken { OnOk result (IsTaken self.old session turn reset) }
+        ensures unchanged { IsSameBook self.old self.new }
+        ensures first_fault { IfErr result (λ fault. IsFirstBookFault self.old session turn reset fault) }
+        ensures light { IfErr result (λ fault. (value held : ℕ) → fault ≢ BookFault.Heavy value held) }
+        ensures replay { IsReplay self.new.entries self.new.tree }
+        ensures orderly { IsOrderly self.new }
+    {
+        self.facts();
+        let ready = self.ready(alloc, session, turn, Change::Reset);
+        self.facts();
+        ready
+    }
+
+    /// Makes the change that this book, as it is now, was prepared for: the journal gets exactly one entry, of which
+    /// the receipt tells. Takes no memory.
+    pub fn settle(&mut self, ready: Ready) -> Receipt
+        requires { ready.before ≡ self.old }
+        ensures appended { IsAppended self.old ready.session ready.turn ready.op self.new }
+        ensures receipt { result ≡ receipt_after self.old.entries ready.op }
+        ensures told { result ≡ change_told ready.op (length self.old.entries) }
+        ensures taken { IsTaken self.old ready.session ready.turn ready.op }
+        ensures tree { self.new.tree ≡ ready.next }
+        ensures replay { IsReplay self.new.entries self.new.tree }
+        ensures orderly { IsOrderly self.new }
+    {
+        let Ready {
+            plan,
+            entry,
+            receipt,
+            ledger: _,
+        } = ready;
+        self.ledger.append(entry);
+        self.grower.credit(plan);
+        self.facts();
+        receipt
+    }
+
+    /// Adds the rows of a batch. All memory for the journal is taken before the tree grows, and the entry is made after
+    /// it, so that a change that is refused shows in neither.
+    fn add_rows(
+        &mut self,
+        alloc: Global,
+        session: u32,
+        turn: u64,
+        batch: &Arc<Batch>,
+    ) -> Result<Receipt, BookFault>
+        ensures appended { OnOk result (IsAppended self.old session turn (add (arc_value batch.now)) self.new) }
+        ensures receipt { IfOk result
+            (λ receipt. receipt ≡ receipt_after self.old.entries (add (arc_value batch.now))) }
+        ensures told { IfOk result
+            (λ receipt. receipt ≡ change_told (add (arc_value batch.now)) (length self.old.entries)) }
+        ensures taken { OnOk result (IsTaken self.old session turn (add (arc_value batch.now))) }
+        ensures unchanged { OnErr result (IsSameBook self.old self.new) }
+        ensures first_fault { IfErr result
+            (λ fault. IsFirstBookFault self.old session turn (add (arc_value batch.now)) fault) }
+    {
+        self.facts();
+        self.ledger.admit(session, turn)?;
+        self.check_batch(batch)?;
+        self.ledger.reserve()?;
+        let place = self.ledger.len();
+        let (entry, receipt) = journalled(session, turn, Change::Add(batch), place)?;
+        aggregate_of_more_rows();
+        self.grower.add(alloc, batch)?;
+        self.ledger.append(entry);
+        Ok(receipt)
+    }
+
+    /// What a change needs: the next tree, memory for its entry, and what its session will be told.
+    fn ready(
+        &mut self,
+        alloc: Global,
+        session: u32,
+        turn: u64,
+        change: Change<'_>,
+    ) -> Result<Ready, BookFault>
+        ensures before { IfOk result (λ ready. ready.before ≡ self.new) }
+        ensures change { IfOk result (λ ready. (ready.session ≡ session) × (ready.turn ≡ turn)
+            × (ready.op ≡ change_op change.entry)) }
+        ensures next { IfOk result (λ ready. IsTreeAfter self.old (change_op change.entry) ready.next) }
+        ensures taken { OnOk result (IsTaken self.old session turn (change_op change.entry)) }
+        ensures unchanged { IsSameBook self.old self.new }
+        ensures first_fault { IfErr result
+            (λ fault. IsFirstBookFault self.old session turn (change_op change.entry) fault) }
+    {
+        self.facts();
+        self.ledger.admit(session, turn)?;
+        let plan = self.plan(alloc, change)?;
+        self.ledger.reserve()?;
+        let place = self.ledger.len();
+        let (entry, receipt) = journalled(session, turn, change, place)?;
+        Ok(Ready {
+            plan,
+            entry,
+            receipt,
+            ledger: Snapshot::of(&self.ledger),
+        })
+    }
+
+    /// The tree after a change of the book's width that keeps the limit of each value.
+    fn plan(&mut self, alloc: Global, change: Change<'_>) -> Result<Plan, BookFault>
+        ensures before { IfOk result (λ plan. plan.before ≡ self.new.tree) }
+        ensures next { IfOk result (λ plan. IsTreeAfter self.old (change_op change.entry) plan.next) }
+        ensures space { OnOk result (HasSpaceFor self.old (change_op change.entry)) }
+        ensures unchanged { IsSameBook self.old self.new }
+        ensures fault { IfErr result (IsSpaceFault self.old (change_op change.entry)) }
+    {
+        match change {
+            Change::Add(batch) => {
+                self.check_batch(batch)?;
+                aggregate_of_more_rows();
+                Ok(self.grower.plan(alloc, batch)?)
+            }
+            Change::Reset => {
+                self.facts();
+                Ok(self.grower.plan_reset(alloc)?)
+            }
+        }
+    }
+
+    /// Whether a batch has the book's width and keeps the limit of each value.
+    fn check_batch(&self, batch: &Batch) -> Result<(), BookFault>
+        ensures space { OnOk result (HasSpaceFor self.now (add batch.now)) }
+        ensures tree { OnOk result ((value : ℕ)
+            → total_in (weights_of self.now.tree value) + total_of (rows_at value batch.now.rows) < 2 ^ 63) }
+        ensures fault { IfErr result (IsSpaceFault self.now (add batch.now)) }
+        ensures memory { IfErr result (λ fault. fault ≢ BookFault.NoMemory) }
+    {
+        let width = self.width();
+        if batch.width() != width {
+            return Err(BookFault::Width { held: width.get() });
+        }
+        let held = self.held();
+        match first_heavy(&held, &batch.total()) {
+            Some(value) => Err(BookFault::Heavy {
+                value,
+                held: held.value(value),
+            }),
+            None => Ok(()),
+        }
+    }
+}
+
+/// The entry of a change at this place, and what its session is told of it.
+fn journalled(
+    session: u32,
+    turn: u64,
+    change: Change<'_>,
+    place: u64,
+) -> Result<(Entry, Receipt), AllocError>
+    ensures entry { IfOk result (λ made. made.0 ≡ record
+        { session = session; turn = turn; op = change_op change.entry; reply = placed place }) }
+    ensures receipt { IfOk result (λ made. made.1 ≡ change_told (change_op change.entry) place) }
+{
+    let kept = change.op()?;
+    let entry = Entry {
+        session,
+        turn,
+        op: kept,
+        reply: Reply::Placed(place),
+    };
+    let told = change.op()?;
+    let receipt = Receipt {
+        op: told,
+        reply: Reply::Placed(place),
+        at: place,
+    };
+    Ok((entry, receipt))
+}

@@ -1,0 +1,171 @@
+//! The names of a profile's functions by numbers.
+
+ghost use Rattle.std.specs.Prelude.{◌≡◌, ◌<◌, IfOk, length, map, slice_get};
+ghost use Rattle.std.specs.Option.{option_map};
+ghost use Rattle.pprof_profile.specs.Valid.{IsValidDraft};
+ghost use Rattle.profile_samples.specs.Samples.{address_name, item_with, named_by};
+ghost use Rattle.profile_samples.specs.NameNumbers.{line_number, number_at, number_by, number_of, numbers_of, string_numbers};
+
+use crate::id_places::IdPlaces;
+use crate::unfolding::function_ids;
+use basics::NoMemory;
+use pprof_profile::{Draft, Function, Line, Location};
+use profile_rows::Hashing;
+use std::alloc::{AllocError, Global};
+use std::marker::Model;
+
+/// The number at an index of strings.
+fn number_at(numbers: &[Option<usize>], index: i64) -> Option<usize>
+    ensures { result ≡ number_at numbers.now index }
+{
+    match usize::try_from(index) {
+        Ok(at) => match numbers.get(at) {
+            Some(number) => *number,
+            None => None,
+        },
+        Err(_) => None,
+    }
+}
+
+/// The number of the name of a function: of its `name`, or else of its `system_name`.
+fn number_by(numbers: &[Option<usize>], function: &Function) -> Option<usize>
+    ensures { result ≡ number_by numbers.now function.now }
+{
+    match number_at(numbers, function.name) {
+        Some(number) => Some(number),
+        None => number_at(numbers, function.system_name),
+    }
+}
+
+/// The numbers of the names of functions.
+fn function_numbers(
+    alloc: Global,
+    numbers: &[Option<usize>],
+    functions: &[Function],
+) -> Result<Vec<Option<usize>>, AllocError>
+    ensures { IfOk result (λ made. made.items ≡ map (number_by numbers.now) functions.now) }
+{
+    let mut made = Vec::with_capacity(alloc, functions.len())?;
+    for function in functions {
+        made.push(number_by(numbers, function))?;
+    }
+    Ok(made)
+}
+
+/// The numbers of the names of a profile's functions. A contract sees the profile.
+#[derive(Drop)]
+pub(crate) struct FunctionNumbers<'a> {
+    draft: &'a Draft,
+    places: IdPlaces,
+    numbers: Vec<Option<usize>>,
+}
+
+impl<'a> Model for FunctionNumbers<'a> {
+    ghost use Rattle.pprof_profile.specs.declared.messages.Draft.{Draft};
+    ghost use Rattle.profile_samples.specs.NameNumbers.{AreFunctionNumbers};
+
+    ghost Value = { Draft };
+
+    ghost view = { λ functions. functions.draft.now };
+
+    ghost invariant = { λ functions. AreFunctionNumbers functions.draft.now functions.places functions.numbers.items };
+}
+
+impl<'a> FunctionNumbers<'a> {
+    /// The numbers of the names of a valid profile's functions, by those of its strings.
+    ///
+    /// # Errors
+    ///
+    /// `NoMemory`.
+    pub fn new(
+        alloc: Global,
+        hashing: Hashing,
+        draft: &'a Draft,
+        strings: &[Option<usize>],
+    ) -> Result<FunctionNumbers<'a>, NoMemory>
+        requires valid { IsValidDraft draft.now }
+        requires strings { strings.now ≡ string_numbers draft.now }
+        ensures { IfOk result (λ functions. functions ≡ draft.now) }
+    {
+        let functions = draft.functions.as_slice();
+        let places = IdPlaces::new(alloc, hashing, function_ids(alloc, functions)?)?;
+        let numbers = function_numbers(alloc, strings, functions)?;
+        Ok(FunctionNumbers {
+            draft,
+            places,
+            numbers,
+        })
+    }
+
+    /// The number of the name of the function that an id names, where it has one.
+    fn number_of(&self, id: u64) -> Option<usize>
+        ensures { result ≡ option_map (number_of self.now)
+            (named_by self.now.strings (item_with (λ function. function.id) id self.now.functions)) }
+    {
+        match self.places.find(id) {
+            Some(at) => self.number_at(at),
+            None => None,
+        }
+    }
+
+    /// The number of the name of the function at a place, where it has one.
+    fn number_at(&self, at: usize) -> Option<usize>
+        ensures { result ≡ option_map (number_of self.now)
+            (named_by self.now.strings (slice_get self.now.functions at)) }
+    {
+        match self.numbers.get(at) {
+            Some(number) => *number,
+            None => None,
+        }
+    }
+
+    /// The number of a line's name, by that of its address.
+    fn line_number(&self, location: &Location, line: &Line, address: usize) -> usize
+        requires { address ≡ number_of self.now (address_name location.now.address) }
+        ensures { result ≡ line_number self.now location.now.address line.now }
+    {
+        match self.number_of(line.function_id) {
+            Some(number) => number,
+            None => address,
+        }
+    }
+
+    /// The numbers of the names of a location's lines, of which there are some, by that of its address.
+    fn line_numbers(
+        &self,
+        alloc: Global,
+        location: &Location,
+        address: usize,
+    ) -> Result<Vec<usize>, AllocError>
+        requires some { 0 < length location.now.lines }
+        requires address { address ≡ number_of self.now (address_name location.now.address) }
+        ensures { IfOk result (λ numbers. numbers.items ≡ numbers_of self.now location.now) }
+    {
+        let lines = location.lines.as_slice();
+        let mut numbers = Vec::with_capacity(alloc, lines.len())?;
+        for line in lines {
+            numbers.push(self.line_number(location, line, address))?;
+        }
+        Ok(numbers)
+    }
+
+    /// The numbers of the names of a location's frames, leaf first, by that of its address.
+    ///
+    /// # Errors
+    ///
+    /// `AllocError`.
+    pub fn numbers_of(
+        &self,
+        alloc: Global,
+        location: &Location,
+        address: usize,
+    ) -> Result<Vec<usize>, AllocError>
+        requires { address ≡ number_of self.now (address_name location.now.address) }
+        ensures { IfOk result (λ numbers. numbers.items ≡ numbers_of self.now location.now) }
+    {
+        if location.lines.as_slice().is_empty() {
+            return Ok(vec![in alloc; address]?);
+        }
+        self.line_numbers(alloc, location, address)
+    }
+}

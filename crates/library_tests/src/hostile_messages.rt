@@ -10,6 +10,7 @@ use crate::messages::{
 use pprof_profile::{ProfileFault, WireFault, decode};
 use std::alloc::Global;
 use std::test::Fail;
+use test_support::expect_printed;
 
 /// How often each answer came: first a profile, then the faults in their order, those of the wire each by itself.
 type Tally = [u32; 16];
@@ -103,7 +104,7 @@ fn every_prefix(rt: HostRuntime) -> Result<(), Fail> {
         for len in 0..bytes.len() {
             count(rt.alloc(), &bytes[..len], &mut tally)?;
         }
-        assert_eq!(rt; format!(in rt.alloc(); "{tally:?}")?.as_str(), *want);
+        expect_printed(rt.alloc(), &format_args!("{tally:?}"), want)?;
     }
     Ok(())
 }
@@ -163,7 +164,7 @@ fn every_bit_changed(rt: HostRuntime) -> Result<(), Fail> {
         for place in 0..bytes.len() {
             count_changes(rt.alloc(), bytes, place, &mut tally)?;
         }
-        assert_eq!(rt; format!(in rt.alloc(); "{tally:?}")?.as_str(), *want);
+        expect_printed(rt.alloc(), &format_args!("{tally:?}"), want)?;
     }
     Ok(())
 }

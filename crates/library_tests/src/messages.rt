@@ -5,6 +5,7 @@ use pprof_profile::{
 };
 use std::alloc::Global;
 use std::test::Fail;
+use test_support::expect_printed;
 
 pub(crate) const ONE_SAMPLE: &[u8] = b"\
     \x0a\x04\x08\x01\x10\x02\
@@ -594,7 +595,7 @@ fn faults_are_printed(rt: HostRuntime) -> Result<(), Fail> {
         (ProfileFault::NoMemory, "P13 NoMemory"),
     ];
     for (fault, want) in rows {
-        assert_eq!(rt; format!(in rt.alloc(); "{fault}")?.as_str(), want);
+        expect_printed(rt.alloc(), &fault, want)?;
     }
     Ok(())
 }

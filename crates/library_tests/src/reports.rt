@@ -9,6 +9,7 @@ use flame_report::{
 use stack_text::{Batch, Hashing, Name, WeightedStacks, folded_totals};
 use std::alloc::Global;
 use std::test::Fail;
+use test_support::expect_text;
 
 const THREE: &str = "main;a;b 3\nmain;a 2\nmain;c 5\n";
 
@@ -126,29 +127,24 @@ fn answered(alloc: Global, input: &str, kind: Kind) -> Result<String, Fail> {
 
 #[test]
 fn top_by_cumulative_weight(rt: HostRuntime) -> Result<(), Fail> {
-    let by_cum = answered(rt.alloc(), THREE, top(Rank::Cum, 20))?;
-    assert_eq!(rt;
-        by_cum.as_str(),
-        "total 10\n0 10 main\n2 5 a\n5 5 c\n3 3 b\n"
-    );
-    Ok(())
+    expect_text(
+        answered(rt.alloc(), THREE, top(Rank::Cum, 20)),
+        "total 10\n0 10 main\n2 5 a\n5 5 c\n3 3 b\n",
+    )
 }
 
 #[test]
 fn top_by_flat_weight(rt: HostRuntime) -> Result<(), Fail> {
-    let by_flat = answered(rt.alloc(), THREE, top(Rank::Flat, 20))?;
-    assert_eq!(rt;
-        by_flat.as_str(),
-        "total 10\n5 5 c\n3 3 b\n2 5 a\n0 10 main\n"
-    );
-    Ok(())
+    expect_text(
+        answered(rt.alloc(), THREE, top(Rank::Flat, 20)),
+        "total 10\n5 5 c\n3 3 b\n2 5 a\n0 10 main\n",
+    )
 }
 
 #[test]
 fn top_count_one_and_zero(rt: HostRuntime) -> Result<(), Fail> {
     for (count, want) in [(1, "total 10\n0 10 main\n"), (0, "total 10\n")] {
-        let answer = answered(rt.alloc(), THREE, top(Rank::Cum, count))?;
-        assert_eq!(rt; answer.as_str(), want);
+        expect_text(answered(rt.alloc(), THREE, top(Rank::Cum, count)), want)?;
     }
     Ok(())
 }
@@ -177,24 +173,21 @@ fn layout_answered(alloc: Global, rows: &Batch, query: &Query) -> Result<String,
 #[test]
 fn layout_in_five_columns(rt: HostRuntime) -> Result<(), Fail> {
     let rows = rows_of(rt.alloc(), THREE)?;
-    assert_eq!(rt;
-        rectangles(rt.alloc(), &rows, flame(5)?)?.as_str(),
-        "0  0 10 0 5,1 main 0 10 0 5,2 a 0 5 0 2,3 b 0 3 0 1,2 c 5 5 2 5,"
-    );
-    Ok(())
+    expect_text(
+        rectangles(rt.alloc(), &rows, flame(5)?),
+        "0  0 10 0 5,1 main 0 10 0 5,2 a 0 5 0 2,3 b 0 3 0 1,2 c 5 5 2 5,",
+    )
 }
 
 #[test]
 fn layout_json_in_one_column(rt: HostRuntime) -> Result<(), Fail> {
-    let answer = answered(rt.alloc(), THREE, flame(1)?)?;
-    assert_eq!(rt;
-        answer.as_str(),
+    expect_text(
+        answered(rt.alloc(), THREE, flame(1)?),
         "{\"columns\":1,\"rects\":[\
          {\"depth\":0,\"left\":0,\"name\":\"\",\"right\":1,\"weight\":10,\"x\":0},\
          {\"depth\":1,\"left\":0,\"name\":\"main\",\"right\":1,\"weight\":10,\"x\":0},\
-         {\"depth\":2,\"left\":0,\"name\":\"c\",\"right\":1,\"weight\":5,\"x\":5}],\"total\":10}"
-    );
-    Ok(())
+         {\"depth\":2,\"left\":0,\"name\":\"c\",\"right\":1,\"weight\":5,\"x\":5}],\"total\":10}",
+    )
 }
 
 #[test]
@@ -205,8 +198,7 @@ fn weightless_rows(rt: HostRuntime) -> Result<(), Fail> {
         (Kind::Total, "0"),
         (flame(5)?, "{\"columns\":5,\"rects\":[],\"total\":0}"),
     ] {
-        let answer = answered(rt.alloc(), "x 0\n", kind)?;
-        assert_eq!(rt; answer.as_str(), want);
+        expect_text(answered(rt.alloc(), "x 0\n", kind), want)?;
     }
     Ok(())
 }
@@ -227,8 +219,7 @@ fn spaces_and_empty_stacks(rt: HostRuntime) -> Result<(), Fail> {
              {\"depth\":0,\"left\":0,\"name\":\"\",\"right\":5,\"weight\":5,\"x\":0}],\"total\":5}",
         ),
     ] {
-        let answer = answered(rt.alloc(), input, kind)?;
-        assert_eq!(rt; answer.as_str(), want);
+        expect_text(answered(rt.alloc(), input, kind), want)?;
     }
     Ok(())
 }
@@ -240,8 +231,10 @@ fn focus_and_ignore(rt: HostRuntime) -> Result<(), Fail> {
         ("", "b", "total 7\n5 5 c\n2 2 a\n0 7 main\n"),
         ("z", "", "total 0\n"),
     ] {
-        let answer = kept_answered(rt.alloc(), THREE, focus, ignore, top(Rank::Flat, 20))?;
-        assert_eq!(rt; answer.as_str(), want);
+        expect_text(
+            kept_answered(rt.alloc(), THREE, focus, ignore, top(Rank::Flat, 20)),
+            want,
+        )?;
     }
     Ok(())
 }
@@ -263,50 +256,47 @@ fn a_focus_and_an_ignored_name_in_each_report(rt: HostRuntime) -> Result<(), Fai
              {\"depth\":2,\"left\":2,\"name\":\"c\",\"right\":7,\"weight\":5,\"x\":2}],\"total\":7}",
         ),
     ] {
-        let answer = kept_answered(rt.alloc(), THREE, "main", "b", kind)?;
-        assert_eq!(rt; answer.as_str(), want);
+        expect_text(kept_answered(rt.alloc(), THREE, "main", "b", kind), want)?;
     }
     Ok(())
 }
 
 #[test]
 fn recursion_counts_once(rt: HostRuntime) -> Result<(), Fail> {
-    let answer = answered(rt.alloc(), "main;f;g;f 4\n", top(Rank::Flat, 20))?;
-    assert_eq!(rt; answer.as_str(), "total 4\n4 4 f\n0 4 g\n0 4 main\n");
-    Ok(())
+    expect_text(
+        answered(rt.alloc(), "main;f;g;f 4\n", top(Rank::Flat, 20)),
+        "total 4\n4 4 f\n0 4 g\n0 4 main\n",
+    )
 }
 
 #[test]
 fn layout_of_the_greatest_weight(rt: HostRuntime) -> Result<(), Fail> {
-    let answer = answered(rt.alloc(), "a 9223372036854775807\n", flame(MAX_COLUMNS)?)?;
-    assert_eq!(rt;
-        answer.as_str(),
+    expect_text(
+        answered(rt.alloc(), "a 9223372036854775807\n", flame(MAX_COLUMNS)?),
         "{\"columns\":65535,\"rects\":[\
          {\"depth\":0,\"left\":0,\"name\":\"\",\"right\":65535,\"weight\":9223372036854775807,\"x\":0},\
          {\"depth\":1,\"left\":0,\"name\":\"a\",\"right\":65535,\"weight\":9223372036854775807,\"x\":0}],\
-         \"total\":9223372036854775807}"
-    );
-    Ok(())
+         \"total\":9223372036854775807}",
+    )
 }
 
 #[test]
 fn stack_order_is_by_names(rt: HostRuntime) -> Result<(), Fail> {
-    let answer = answered(rt.alloc(), "a!;x 1\na;b 1\n", Kind::Folded)?;
-    assert_eq!(rt; answer.as_str(), "a;b 1\na!;x 1\n");
-    Ok(())
+    expect_text(
+        answered(rt.alloc(), "a!;x 1\na;b 1\n", Kind::Folded),
+        "a;b 1\na!;x 1\n",
+    )
 }
 
 #[test]
 fn names_are_escaped_in_json(rt: HostRuntime) -> Result<(), Fail> {
-    let answer = answered(rt.alloc(), "a\"\\\u{1}\u{e9} 1\n", flame(1)?)?;
-    assert_eq!(rt;
-        answer.as_str(),
+    expect_text(
+        answered(rt.alloc(), "a\"\\\u{1}\u{e9} 1\n", flame(1)?),
         "{\"columns\":1,\"rects\":[\
          {\"depth\":0,\"left\":0,\"name\":\"\",\"right\":1,\"weight\":1,\"x\":0},\
          {\"depth\":1,\"left\":0,\"name\":\"a\\\"\\\\\\u0001\u{e9}\",\"right\":1,\"weight\":1,\"x\":0}],\
-         \"total\":1}"
-    );
-    Ok(())
+         \"total\":1}",
+    )
 }
 
 #[test]
@@ -330,9 +320,7 @@ fn heaviest_two(alloc: Global) -> Result<String, Fail> {
 
 #[test]
 fn a_top_list_is_made_from_what_names_weigh(rt: HostRuntime) -> Result<(), Fail> {
-    let text = heaviest_two(rt.alloc())?;
-    assert_eq!(rt; text.as_str(), "total 10\n0 10 main\n2 5 a\n");
-    Ok(())
+    expect_text(heaviest_two(rt.alloc()), "total 10\n0 10 main\n2 5 a\n")
 }
 
 #[test]
@@ -371,8 +359,7 @@ fn a_report_is_over_the_value_that_it_names(rt: HostRuntime) -> Result<(), Fail>
              {\"depth\":1,\"left\":0,\"name\":\"b\",\"right\":4,\"weight\":2,\"x\":0}],\"total\":2}",
         ),
     ] {
-        let answer = answered_by_value(rt.alloc(), value, kind)?;
-        assert_eq!(rt; answer.as_str(), want);
+        expect_text(answered_by_value(rt.alloc(), value, kind), want)?;
     }
     Ok(())
 }
@@ -404,8 +391,7 @@ fn reports_of_three_values(rt: HostRuntime) -> Result<(), Fail> {
         (2, Kind::Total, "9"),
         (2, top(Rank::Cum, 20), "total 9\n4 9 a\n5 5 b\n"),
     ] {
-        let answer = answered_of_values(rt.alloc(), &rows, 3, value, kind)?;
-        assert_eq!(rt; answer.as_str(), want);
+        expect_text(answered_of_values(rt.alloc(), &rows, 3, value, kind), want)?;
     }
     Ok(())
 }
@@ -428,8 +414,7 @@ fn reports_of_four_values(rt: HostRuntime) -> Result<(), Fail> {
              {\"depth\":2,\"left\":0,\"name\":\"b\",\"right\":5,\"weight\":5,\"x\":0}],\"total\":9}",
         ),
     ] {
-        let answer = answered_of_values(rt.alloc(), &rows, 4, value, kind)?;
-        assert_eq!(rt; answer.as_str(), want);
+        expect_text(answered_of_values(rt.alloc(), &rows, 4, value, kind), want)?;
     }
     Ok(())
 }
@@ -517,8 +502,7 @@ fn rows_of_one_value_have_reports(rt: HostRuntime) -> Result<(), Fail> {
             "total 7\n5 5 c\n2 2 a\n0 7 main\n",
         ),
     ] {
-        let answer = kept_stacks_answered(rt.alloc(), focus, ignore, kind)?;
-        assert_eq!(rt; answer.as_str(), want);
+        expect_text(kept_stacks_answered(rt.alloc(), focus, ignore, kind), want)?;
     }
     Ok(())
 }

@@ -11,6 +11,7 @@ use stack_text::{
 };
 use std::alloc::Global;
 use std::test::Fail;
+use test_support::{expect_printed, expect_text};
 
 // One sample of the frame f and of weight 7, of the type cpu in ns.
 #[test]
@@ -67,8 +68,7 @@ fn the_value_of_a_sample_is_that_of_the_type_asked_for(rt: HostRuntime) -> Resul
         (ValueChoice::Named("samples"), "f 3\n"),
         (ValueChoice::Named("cpu"), "f 30\n"),
     ] {
-        let rows = read(rt.alloc(), TWO_SAMPLE_TYPES, choice)?;
-        assert_eq!(rt; rows.as_str(), want);
+        expect_text(read(rt.alloc(), TWO_SAMPLE_TYPES, choice), want)?;
     }
     Ok(())
 }
@@ -126,8 +126,7 @@ fn samples_are_merged_to_rows(rt: HostRuntime) -> Result<(), Fail> {
         (INLINED_AND_BARE_LOCATIONS, "0xff;c;b;a 2\n"),
         (TWO_EQUAL_SAMPLES, "f 12\n"),
     ] {
-        let rows = read_merged(rt.alloc(), bytes)?;
-        assert_eq!(rt; rows.as_str(), want);
+        expect_text(read_merged(rt.alloc(), bytes), want)?;
     }
     Ok(())
 }
@@ -135,9 +134,10 @@ fn samples_are_merged_to_rows(rt: HostRuntime) -> Result<(), Fail> {
 // a, inlined into b, inlined into c, under a location without lines at 0xff; the value is 2.
 #[test]
 fn inlined_lines_and_bare_locations(rt: HostRuntime) -> Result<(), Fail> {
-    let rows = read(rt.alloc(), INLINED_AND_BARE_LOCATIONS, ValueChoice::Default)?;
-    assert_eq!(rt; rows.as_str(), "0xff;c;b;a 2\n");
-    Ok(())
+    expect_text(
+        read(rt.alloc(), INLINED_AND_BARE_LOCATIONS, ValueChoice::Default),
+        "0xff;c;b;a 2\n",
+    )
 }
 
 // The frames of a profile's first sample, leaf first.
@@ -166,8 +166,7 @@ fn unfolded(alloc: Global, bytes: &[u8]) -> Result<Vec<Name>, Fail> {
 #[test]
 fn the_leaf_is_unfolded_first(rt: HostRuntime) -> Result<(), Fail> {
     let names = unfolded(rt.alloc(), INLINED_AND_BARE_LOCATIONS)?;
-    assert_eq!(rt; joined(rt.alloc(), &names)?.as_str(), "a b c 0xff ");
-    Ok(())
+    expect_text(joined(rt.alloc(), &names), "a b c 0xff ")
 }
 
 // The profile of a row of two values by each of them, and its sample types.
@@ -201,8 +200,7 @@ fn both_types(alloc: Global, profile: &Profile) -> Result<String, Fail> {
 
 #[test]
 fn each_value_is_exported_as_a_sample_type(rt: HostRuntime) -> Result<(), Fail> {
-    assert_eq!(rt; two_values(rt.alloc())?.as_str(), "f 3\nf 30\n2");
-    Ok(())
+    expect_text(two_values(rt.alloc()), "f 3\nf 30\n2")
 }
 
 fn text_of_top(alloc: Global, top: &Top) -> Result<String, Fail> {
@@ -244,8 +242,7 @@ fn samples_are_counted_by_name(rt: HostRuntime) -> Result<(), Fail> {
         (TWO_EQUAL_SAMPLES, "total 12\n12 12 f\n"),
         (ONE_NAME_OF_THREE, "total 15\n15 15 0x7\n"),
     ] {
-        let top = read_top(rt.alloc(), bytes)?;
-        assert_eq!(rt; top.as_str(), want);
+        expect_text(read_top(rt.alloc(), bytes), want)?;
     }
     Ok(())
 }
@@ -253,9 +250,10 @@ fn samples_are_counted_by_name(rt: HostRuntime) -> Result<(), Fail> {
 #[test]
 fn a_sample_counts_a_recursive_name_once(rt: HostRuntime) -> Result<(), Fail> {
     let bytes = exported_text(rt.alloc(), "a;b;a 3\nb 2\nc;b 0\n")?;
-    let top = read_top(rt.alloc(), bytes.as_slice())?;
-    assert_eq!(rt; top.as_str(), "total 5\n3 3 a\n2 5 b\n");
-    Ok(())
+    expect_text(
+        read_top(rt.alloc(), bytes.as_slice()),
+        "total 5\n3 3 a\n2 5 b\n",
+    )
 }
 
 #[test]
@@ -285,9 +283,10 @@ fn read_by_key(alloc: Global, bytes: &[u8]) -> Result<String, Fail> {
 
 #[test]
 fn samples_are_read_wherever_hashes_begin(rt: HostRuntime) -> Result<(), Fail> {
-    let texts = read_by_key(rt.alloc(), TWO_EQUAL_SAMPLES)?;
-    assert_eq!(rt; texts.as_str(), "f 12\n|f 7\nf 5\n|total 12\n12 12 f\n");
-    Ok(())
+    expect_text(
+        read_by_key(rt.alloc(), TWO_EQUAL_SAMPLES),
+        "f 12\n|f 7\nf 5\n|total 12\n12 12 f\n",
+    )
 }
 
 #[test]
@@ -301,7 +300,7 @@ fn faults_of_samples_are_printed(rt: HostRuntime) -> Result<(), Fail> {
         (BatchFault::Width { count: 6 }, "B6 Width count 6"),
     ];
     for (fault, want) in rows {
-        assert_eq!(rt; format!(in rt.alloc(); "{fault}")?.as_str(), want);
+        expect_printed(rt.alloc(), &fault, want)?;
     }
     Ok(())
 }

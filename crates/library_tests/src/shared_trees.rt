@@ -6,6 +6,7 @@ use flame_report::{Columns, Kind, Query, Rank, report};
 use stack_text::Batch;
 use std::alloc::Global;
 use std::test::Fail;
+use test_support::expect_text;
 
 const WORKED: &str = "main;a;b 3\nmain;a 2\nmain;c 5\n";
 
@@ -59,23 +60,19 @@ fn told(alloc: Global, rows: &Batch) -> Result<String, Fail> {
 
 #[test]
 fn a_shared_tree_stays(rt: HostRuntime) -> Result<(), Fail> {
-    let told = told(rt.alloc(), &rows_of(rt.alloc(), WORKED)?)?;
-    assert_eq!(rt;
-        told.as_str(),
-        "shared 10 2, tree 11 3; next 15, now 11, shared 10 2, tree 15 3"
-    );
-    Ok(())
+    expect_text(
+        told(rt.alloc(), &rows_of(rt.alloc(), WORKED)?),
+        "shared 10 2, tree 11 3; next 15, now 11, shared 10 2, tree 15 3",
+    )
 }
 
 #[test]
 fn a_shared_tree_of_several_pages_stays(rt: HostRuntime) -> Result<(), Fail> {
     let text = many(rt.alloc(), 1000)?;
-    let told = told(rt.alloc(), &rows_of(rt.alloc(), text.as_str())?)?;
-    assert_eq!(rt;
-        told.as_str(),
-        "shared 1000 0, tree 1001 1; next 1005, now 1001, shared 1000 0, tree 1005 1"
-    );
-    Ok(())
+    expect_text(
+        told(rt.alloc(), &rows_of(rt.alloc(), text.as_str())?),
+        "shared 1000 0, tree 1001 1; next 1005, now 1001, shared 1000 0, tree 1005 1",
+    )
 }
 
 // What a shared tree and the grower's tell when rows were added at once.
@@ -98,8 +95,7 @@ fn a_shared_tree_stays_where_rows_are_added_at_once(rt: HostRuntime) -> Result<(
         ("d 4\n", "shared 10 2, tree 14 2"),
         ("main;a 1\nmain;a 2\nd 4\n", "shared 10 2, tree 17 5"),
     ] {
-        let told = told_of_row(rt.alloc(), text)?;
-        assert_eq!(rt; told.as_str(), want);
+        expect_text(told_of_row(rt.alloc(), text), want)?;
     }
     Ok(())
 }
@@ -117,8 +113,7 @@ fn a_shared_tree_stays_where_its_grower_is_taken(rt: HostRuntime) -> Result<(), 
         ("main;a 1\n", "shared 10 2, tree 11 3"),
         ("main;a 1\nmain;a 2\nd 4\n", "shared 10 2, tree 17 5"),
     ] {
-        let told = told_with_rows(rt.alloc(), text)?;
-        assert_eq!(rt; told.as_str(), want);
+        expect_text(told_with_rows(rt.alloc(), text), want)?;
     }
     Ok(())
 }
@@ -151,12 +146,10 @@ fn told_of_resets(alloc: Global, rows: &Batch) -> Result<String, Fail> {
 
 #[test]
 fn a_reset_empties_the_tree(rt: HostRuntime) -> Result<(), Fail> {
-    let told = told_of_resets(rt.alloc(), &rows_of(rt.alloc(), WORKED)?)?;
-    assert_eq!(rt;
-        told.as_str(),
-        "next 0 0, dropped 10 2, kept 0 0, again 7 7"
-    );
-    Ok(())
+    expect_text(
+        told_of_resets(rt.alloc(), &rows_of(rt.alloc(), WORKED)?),
+        "next 0 0, dropped 10 2, kept 0 0, again 7 7",
+    )
 }
 
 // Whether two trees answer a query in one way.

@@ -17,6 +17,7 @@ use std::io;
 use std::io::ErrorKind;
 use std::random::RandomSource;
 use std::test::Fail;
+use test_support::{expect_printed, expect_text};
 
 #[test]
 fn names_are_made_of_texts_that_a_line_can_hold(rt: HostRuntime) -> Result<(), Fail> {
@@ -133,8 +134,7 @@ fn folded_text_is_read_to_its_rows(rt: HostRuntime) -> Result<(), Fail> {
         ("a 00000000000000000000000007\nx 0\n", "a 7\nx 0\n"),
         ("a 9223372036854775807\n", "a 9223372036854775807\n"),
     ] {
-        let rows = read_again(rt.alloc(), text)?;
-        assert_eq!(rt; rows.as_str(), want);
+        expect_text(read_again(rt.alloc(), text), want)?;
     }
     Ok(())
 }
@@ -165,9 +165,7 @@ fn counts(alloc: Global, text: &str) -> Result<String, Fail> {
 #[test]
 fn one_batch_has_fifty_thousand_rows(rt: HostRuntime) -> Result<(), Fail> {
     let text = many_lines(rt.alloc(), 50_000)?;
-    let counts = counts(rt.alloc(), text.as_str())?;
-    assert_eq!(rt; counts.as_str(), "50000 1000 [50000] 50");
-    Ok(())
+    expect_text(counts(rt.alloc(), text.as_str()), "50000 1000 [50000] 50")
 }
 
 #[test]
@@ -210,8 +208,7 @@ fn an_aggregate_has_each_stack_once(rt: HostRuntime) -> Result<(), Fail> {
         ("b 2\na;b 1\n 4\nb 3\nc 0\n", " 4\na;b 1\nb 5\n"),
         ("a!;x 1\na;b 1\n", "a;b 1\na!;x 1\n"),
     ] {
-        let rows = aggregated(rt.alloc(), text)?;
-        assert_eq!(rt; rows.as_str(), want);
+        expect_text(aggregated(rt.alloc(), text), want)?;
     }
     Ok(())
 }
@@ -305,7 +302,7 @@ fn faults_of_folded_text_are_printed(rt: HostRuntime) -> Result<(), Fail> {
         (FoldedFault::NoMemory, "F6 NoMemory"),
     ];
     for (fault, want) in rows {
-        assert_eq!(rt; format!(in rt.alloc(); "{fault}")?.as_str(), want);
+        expect_printed(rt.alloc(), &fault, want)?;
     }
     Ok(())
 }
@@ -321,7 +318,7 @@ fn refusals_of_a_row_are_printed(rt: HostRuntime) -> Result<(), Fail> {
         (PushFault::NoMemory, "Q2 NoMemory"),
     ];
     for (fault, want) in rows {
-        assert_eq!(rt; format!(in rt.alloc(); "{fault}")?.as_str(), want);
+        expect_printed(rt.alloc(), &fault, want)?;
     }
     Ok(())
 }
@@ -333,7 +330,7 @@ fn refusals_of_a_name_are_printed(rt: HostRuntime) -> Result<(), Fail> {
         (NameFault::NoMemory, "L2 NoMemory"),
     ];
     for (fault, want) in rows {
-        assert_eq!(rt; format!(in rt.alloc(); "{fault}")?.as_str(), want);
+        expect_printed(rt.alloc(), &fault, want)?;
     }
     Ok(())
 }
@@ -372,12 +369,10 @@ fn text_of_two_values(alloc: Global) -> Result<String, Fail> {
 
 #[test]
 fn each_value_of_a_batch_is_written(rt: HostRuntime) -> Result<(), Fail> {
-    let written = text_of_two_values(rt.alloc())?;
-    assert_eq!(rt;
-        written.as_str(),
-        "b 0\na 1\nc 0\nb 0\n|b 2\na 0\nc 0\nb 3\n|[1, 5]"
-    );
-    Ok(())
+    expect_text(
+        text_of_two_values(rt.alloc()),
+        "b 0\na 1\nc 0\nb 0\n|b 2\na 0\nc 0\nb 3\n|[1, 5]",
+    )
 }
 
 // How many frames each row has, and its values.
@@ -416,17 +411,16 @@ const ROWS_OF_FOUR_VALUES: &str = "2 [0, 2, 3, 4], 0 [1, 0, 0, 7], 1 [0, 0, 0, 0
 
 #[test]
 fn rows_of_a_batch_are_lent_in_order(rt: HostRuntime) -> Result<(), Fail> {
-    let rows = lent_rows(rt.alloc(), &of_four_values(rt.alloc())?)?;
-    assert_eq!(rt; rows.as_str(), ROWS_OF_FOUR_VALUES);
-    Ok(())
+    expect_text(
+        lent_rows(rt.alloc(), &of_four_values(rt.alloc())?),
+        ROWS_OF_FOUR_VALUES,
+    )
 }
 
 #[test]
 fn rows_of_a_batch_are_given_away_in_order(rt: HostRuntime) -> Result<(), Fail> {
     let rows = of_four_values(rt.alloc())?.into_rows(rt.alloc())?;
-    let text = owned_rows(rt.alloc(), rows.as_slice())?;
-    assert_eq!(rt; text.as_str(), ROWS_OF_FOUR_VALUES);
-    Ok(())
+    expect_text(owned_rows(rt.alloc(), rows.as_slice()), ROWS_OF_FOUR_VALUES)
 }
 
 fn shared_text(alloc: Global, batch: &Batch) -> Result<String, Fail> {
@@ -435,12 +429,10 @@ fn shared_text(alloc: Global, batch: &Batch) -> Result<String, Fail> {
 
 #[test]
 fn a_batch_is_shared_with_all_its_values(rt: HostRuntime) -> Result<(), Fail> {
-    let text = shared_text(rt.alloc(), &of_four_values(rt.alloc())?)?;
-    assert_eq!(rt;
-        text.as_str(),
-        "a;b 0\n 1\na 0\na;b 2\n 0\na 0\na;b 3\n 0\na 0\na;b 4\n 7\na 0\n[1, 2, 3, 11]\n"
-    );
-    Ok(())
+    expect_text(
+        shared_text(rt.alloc(), &of_four_values(rt.alloc())?),
+        "a;b 0\n 1\na 0\na;b 2\n 0\na 0\na;b 3\n 0\na 0\na;b 4\n 7\na 0\n[1, 2, 3, 11]\n",
+    )
 }
 
 #[test]
@@ -479,9 +471,7 @@ fn depths(alloc: Global, rows: &[WeightedStack]) -> Result<String, Fail> {
 #[test]
 fn weighted_stacks_are_given_away(rt: HostRuntime) -> Result<(), Fail> {
     let rows = some_stacks(rt.alloc())?.into_rows();
-    let text = depths(rt.alloc(), rows.as_slice())?;
-    assert_eq!(rt; text.as_str(), "1 2, 2 1, 1 0, ");
-    Ok(())
+    expect_text(depths(rt.alloc(), rows.as_slice()), "1 2, 2 1, 1 0, ")
 }
 
 // The rows `b 2`, `a;b 1`, `b 3` and `c 0`.
@@ -511,9 +501,10 @@ fn aggregate_of_two_values(alloc: Global) -> Result<String, Fail> {
 
 #[test]
 fn an_aggregate_keeps_what_weighs_by_any_value(rt: HostRuntime) -> Result<(), Fail> {
-    let written = aggregate_of_two_values(rt.alloc())?;
-    assert_eq!(rt; written.as_str(), "a 1\nb 0\n|a 0\nb 5\n|[1, 5]");
-    Ok(())
+    expect_text(
+        aggregate_of_two_values(rt.alloc()),
+        "a 1\nb 0\n|a 0\nb 5\n|[1, 5]",
+    )
 }
 
 // Why a batch of two values, which holds the greatest total of the first, refuses a row of these values.

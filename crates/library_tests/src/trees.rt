@@ -7,6 +7,7 @@ use call_tree::{CallTree, Grower};
 use stack_text::{Batch, Hashing, MAX_DEPTH, WeightedStacks, Width, write_stacks};
 use std::alloc::{AllocError, Global};
 use std::test::Fail;
+use test_support::expect_text;
 
 // Plans the rows of each folded text, and credits them where the text stands beside `true`.
 fn grow(alloc: Global, grower: &mut Grower, steps: &[(&str, bool)]) -> Result<(), Fail> {
@@ -73,9 +74,7 @@ const WORKED_ANSWERS: &str =
 
 #[test]
 fn a_grown_tree_answers_for_its_rows(rt: HostRuntime) -> Result<(), Fail> {
-    let told = told(rt.alloc(), &[(WORKED, true)])?;
-    assert_eq!(rt; told.as_str(), WORKED_ANSWERS);
-    Ok(())
+    expect_text(told(rt.alloc(), &[(WORKED, true)]), WORKED_ANSWERS)
 }
 
 // All that a tree answers to which each row is added by itself. Its hashes begin at a key.
@@ -94,11 +93,11 @@ fn add_each(alloc: Global, grower: &mut Grower, lines: &[&str]) -> Result<(), Fa
 
 #[test]
 fn rows_are_added_at_once(rt: HostRuntime) -> Result<(), Fail> {
-    let by_row = told_row_by_row(rt.alloc(), &["main;a;b 3\n", "main;c 5\n", "main;a 2\n"])?;
-    assert_eq!(rt; by_row.as_str(), WORKED_ANSWERS);
-    let together = told_row_by_row(rt.alloc(), &[WORKED])?;
-    assert_eq!(rt; together.as_str(), WORKED_ANSWERS);
-    Ok(())
+    expect_text(
+        told_row_by_row(rt.alloc(), &["main;a;b 3\n", "main;c 5\n", "main;a 2\n"]),
+        WORKED_ANSWERS,
+    )?;
+    expect_text(told_row_by_row(rt.alloc(), &[WORKED]), WORKED_ANSWERS)
 }
 
 fn told_with_batches(alloc: Global, first: &str, second: &str) -> Result<String, Fail> {
@@ -110,9 +109,10 @@ fn told_with_batches(alloc: Global, first: &str, second: &str) -> Result<String,
 
 #[test]
 fn a_grower_is_taken_and_given_with_rows(rt: HostRuntime) -> Result<(), Fail> {
-    let told = told_with_batches(rt.alloc(), "main;c 5\nmain;a 1\n", "main;a;b 3\nmain;a 1\n")?;
-    assert_eq!(rt; told.as_str(), WORKED_ANSWERS);
-    Ok(())
+    expect_text(
+        told_with_batches(rt.alloc(), "main;c 5\nmain;a 1\n", "main;a;b 3\nmain;a 1\n"),
+        WORKED_ANSWERS,
+    )
 }
 
 #[test]
@@ -126,9 +126,7 @@ fn a_grown_tree_weighs_stacks(rt: HostRuntime) -> Result<(), Fail> {
 #[test]
 fn a_dropped_plan_shows_in_no_call(rt: HostRuntime) -> Result<(), Fail> {
     let steps = [(WORKED, true), ("main;d 4\ne 1\nmain;a 7\n", false)];
-    let told = told(rt.alloc(), &steps)?;
-    assert_eq!(rt; told.as_str(), WORKED_ANSWERS);
-    Ok(())
+    expect_text(told(rt.alloc(), &steps), WORKED_ANSWERS)
 }
 
 // A row, a plan below it that is dropped, and one beside that which is kept.
@@ -140,9 +138,10 @@ const BESIDE_A_DROPPED_PLAN: [(&str, bool); 3] = [
 
 #[test]
 fn what_a_dropped_plan_left_can_be_credited_beside(rt: HostRuntime) -> Result<(), Fail> {
-    let told = told(rt.alloc(), &BESIDE_A_DROPPED_PLAN)?;
-    assert_eq!(rt; told.as_str(), "total 4\na 1\na;c 3\n\na 1/4\nc 3/3\n");
-    Ok(())
+    expect_text(
+        told(rt.alloc(), &BESIDE_A_DROPPED_PLAN),
+        "total 4\na 1\na;c 3\n\na 1/4\nc 3/3\n",
+    )
 }
 
 #[test]
@@ -154,22 +153,18 @@ fn what_a_dropped_plan_left_weighs_nothing(rt: HostRuntime) -> Result<(), Fail> 
 
 #[test]
 fn recursion_counts_once(rt: HostRuntime) -> Result<(), Fail> {
-    let told = told(rt.alloc(), &[("main;f;g;f 4\n", true)])?;
-    assert_eq!(rt;
-        told.as_str(),
-        "total 4\nmain;f;g;f 4\n\nf 4/4\ng 0/4\nmain 0/4\n"
-    );
-    Ok(())
+    expect_text(
+        told(rt.alloc(), &[("main;f;g;f 4\n", true)]),
+        "total 4\nmain;f;g;f 4\n\nf 4/4\ng 0/4\nmain 0/4\n",
+    )
 }
 
 #[test]
 fn stack_order_is_by_names(rt: HostRuntime) -> Result<(), Fail> {
-    let told = told(rt.alloc(), &[("a!;x 1\na;b 1\n 6\na;b 2\nz 0\n", true)])?;
-    assert_eq!(rt;
-        told.as_str(),
-        "total 10\n 6\na;b 3\na!;x 1\n\na 0/3\na! 0/1\nb 3/3\nx 1/1\n"
-    );
-    Ok(())
+    expect_text(
+        told(rt.alloc(), &[("a!;x 1\na;b 1\n 6\na;b 2\nz 0\n", true)]),
+        "total 10\n 6\na;b 3\na!;x 1\n\na 0/3\na! 0/1\nb 3/3\nx 1/1\n",
+    )
 }
 
 #[test]
@@ -181,21 +176,17 @@ fn the_empty_stack_has_a_weight(rt: HostRuntime) -> Result<(), Fail> {
 
 #[test]
 fn an_empty_tree_has_no_rows(rt: HostRuntime) -> Result<(), Fail> {
-    let told = told(rt.alloc(), &[])?;
-    assert_eq!(rt; told.as_str(), "total 0\n\n");
-    Ok(())
+    expect_text(told(rt.alloc(), &[]), "total 0\n\n")
 }
 
 #[test]
 fn the_greatest_total_is_held(rt: HostRuntime) -> Result<(), Fail> {
     let steps = [("a;b 9223372036854775806\n", true), ("a 1\n", true)];
-    let told = told(rt.alloc(), &steps)?;
-    assert_eq!(rt;
-        told.as_str(),
+    expect_text(
+        told(rt.alloc(), &steps),
         "total 9223372036854775807\na 1\na;b 9223372036854775806\n\n\
-         a 1/9223372036854775807\nb 9223372036854775806/9223372036854775806\n"
-    );
-    Ok(())
+         a 1/9223372036854775807\nb 9223372036854775806/9223372036854775806\n",
+    )
 }
 
 // The line of a stack of the greatest depth, of two names in turn.
@@ -404,9 +395,7 @@ fn told_by_two(alloc: Global) -> Result<String, Fail> {
 
 #[test]
 fn a_tree_has_what_weighs_by_any_value(rt: HostRuntime) -> Result<(), Fail> {
-    let told = told_by_two(rt.alloc())?;
-    assert_eq!(rt; told.as_str(), "a 1\nb 0\n|a 0\nb 2\n|[1, 2]");
-    Ok(())
+    expect_text(told_by_two(rt.alloc()), "a 1\nb 0\n|a 0\nb 2\n|[1, 2]")
 }
 
 fn stacks_text(alloc: Global, stacks: &WeightedStacks) -> Result<String, Fail> {
@@ -440,8 +429,7 @@ fn nested_stacks(alloc: Global, value: u32) -> Result<String, Fail> {
 #[test]
 fn a_tree_has_its_stacks_by_each_value(rt: HostRuntime) -> Result<(), Fail> {
     for (value, want) in [(0, " 6\na;b 2\na!;x 1\n"), (1, " 3\na 5\na;b 4\na!;x 1\n")] {
-        let stacks = nested_stacks(rt.alloc(), value)?;
-        assert_eq!(rt; stacks.as_str(), want);
+        expect_text(nested_stacks(rt.alloc(), value), want)?;
     }
     Ok(())
 }

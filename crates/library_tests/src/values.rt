@@ -6,6 +6,7 @@ use pprof_profile::{Profile, decode};
 use stack_text::{ValueChoice, batch_of};
 use std::alloc::Global;
 use std::test::Fail;
+use test_support::expect_text;
 
 fn all_rows(alloc: Global, profile: &Profile) -> Result<String, Fail> {
     let rows = batch_of(alloc, profile, ValueChoice::All)?;
@@ -34,15 +35,17 @@ fn sampled(alloc: Global, types: usize, values: &[u8]) -> Result<Vec<u8>, Fail> 
 
 #[test]
 fn all_values_of_two_types_are_taken_in_order(rt: HostRuntime) -> Result<(), Fail> {
-    let text = read_all(rt.alloc(), TWO_SAMPLE_TYPES)?;
-    assert_eq!(rt; text.as_str(), "f 3\nf 30\n[3, 30]\n");
-    Ok(())
+    expect_text(
+        read_all(rt.alloc(), TWO_SAMPLE_TYPES),
+        "f 3\nf 30\n[3, 30]\n",
+    )
 }
 
 #[test]
 fn four_types_are_taken(rt: HostRuntime) -> Result<(), Fail> {
     let four = sampled(rt.alloc(), 4, &[1, 2, 3, 4])?;
-    let text = read_all(rt.alloc(), four.as_slice())?;
-    assert_eq!(rt; text.as_str(), "0x0 1\n0x0 2\n0x0 3\n0x0 4\n[1, 2, 3, 4]\n");
-    Ok(())
+    expect_text(
+        read_all(rt.alloc(), four.as_slice()),
+        "0x0 1\n0x0 2\n0x0 3\n0x0 4\n[1, 2, 3, 4]\n",
+    )
 }

@@ -9,6 +9,7 @@ use pprof_profile::Profile;
 use stack_text::{Batch, ValueChoice, ValueUnit, aggregate, batch_of, profile_of, write_stacks};
 use std::alloc::Global;
 use std::test::Fail;
+use test_support::expect_text;
 
 // Each of these rows has as many values as its batch.
 const OF_THREE: &[(&str, &[u64])] = &[
@@ -50,9 +51,7 @@ const FOUR_SUMS: &str = "a 1\na;b 6\na 0\na;b 2\na 3\na;b 1\na 4\na;b 12\n[7, 2,
 fn batches_have_each_value(rt: HostRuntime) -> Result<(), Fail> {
     let text = all_text(rt.alloc(), &of_three(rt.alloc())?)?;
     assert_eq!(rt; text.as_str(), THREE_TEXT);
-    let text = all_text(rt.alloc(), &of_four(rt.alloc())?)?;
-    assert_eq!(rt; text.as_str(), FOUR_TEXT);
-    Ok(())
+    expect_text(all_text(rt.alloc(), &of_four(rt.alloc())?), FOUR_TEXT)
 }
 
 fn sums_text(alloc: Global, batch: &Batch) -> Result<String, Fail> {
@@ -63,9 +62,7 @@ fn sums_text(alloc: Global, batch: &Batch) -> Result<String, Fail> {
 fn aggregates_have_each_value(rt: HostRuntime) -> Result<(), Fail> {
     let sums = sums_text(rt.alloc(), &of_three(rt.alloc())?)?;
     assert_eq!(rt; sums.as_str(), THREE_SUMS);
-    let sums = sums_text(rt.alloc(), &of_four(rt.alloc())?)?;
-    assert_eq!(rt; sums.as_str(), FOUR_SUMS);
-    Ok(())
+    expect_text(sums_text(rt.alloc(), &of_four(rt.alloc())?), FOUR_SUMS)
 }
 
 fn rows_text(alloc: Global, tree: &CallTree) -> Result<String, Fail> {
@@ -82,9 +79,7 @@ fn grown_text(alloc: Global, batch: &Batch) -> Result<String, Fail> {
 fn trees_have_each_value(rt: HostRuntime) -> Result<(), Fail> {
     let rows = grown_text(rt.alloc(), &of_three(rt.alloc())?)?;
     assert_eq!(rt; rows.as_str(), THREE_SUMS);
-    let rows = grown_text(rt.alloc(), &of_four(rt.alloc())?)?;
-    assert_eq!(rt; rows.as_str(), FOUR_SUMS);
-    Ok(())
+    expect_text(grown_text(rt.alloc(), &of_four(rt.alloc())?), FOUR_SUMS)
 }
 
 // The folded report of a value, by the texts of its stacks.
@@ -125,8 +120,7 @@ fn a_tree_has_stacks_and_names_of_each_value(rt: HostRuntime) -> Result<(), Fail
         (2, "a 3\na;b 1\na 3/4\nb 1/1\n"),
         (3, "a 4\na;b 12\na 4/16\nb 12/12\n"),
     ] {
-        let told = grown_value(rt.alloc(), value)?;
-        assert_eq!(rt; told.as_str(), want);
+        expect_text(grown_value(rt.alloc(), value), want)?;
     }
     Ok(())
 }
@@ -167,7 +161,8 @@ fn exported_text(alloc: Global, batch: &Batch, units: &[ValueUnit]) -> Result<St
 fn profiles_have_each_value(rt: HostRuntime) -> Result<(), Fail> {
     let rows = exported_text(rt.alloc(), &of_three(rt.alloc())?, &UNITS[..3])?;
     assert_eq!(rt; rows.as_str(), THREE_TEXT);
-    let rows = exported_text(rt.alloc(), &of_four(rt.alloc())?, &UNITS)?;
-    assert_eq!(rt; rows.as_str(), FOUR_TEXT);
-    Ok(())
+    expect_text(
+        exported_text(rt.alloc(), &of_four(rt.alloc())?, &UNITS),
+        FOUR_TEXT,
+    )
 }

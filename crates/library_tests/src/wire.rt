@@ -7,6 +7,7 @@ use pprof_wire::{
     Field, Fields, NoMemory, Value, WireFault, packed, read_varint, write_field, write_varint,
 };
 use std::test::Fail;
+use test_support::expect_printed;
 
 /// How many fields the bytes have, and the fault after them: a caller that knows the public clauses alone.
 fn count_fields(bytes: &[u8]) -> (usize, Option<WireFault>)
@@ -257,10 +258,7 @@ const PRINTED: &[(WireFault, &str)] = &[
 #[test]
 fn faults_are_printed(rt: HostRuntime) -> Result<(), Fail> {
     for (fault, want) in PRINTED {
-        let printed = format!(in rt.alloc(); "{fault}")?;
-        assert_eq!(rt; printed.as_str(), *want);
+        expect_printed(rt.alloc(), fault, want)?;
     }
-    let printed = format!(in rt.alloc(); "{NoMemory}")?;
-    assert_eq!(rt; printed.as_str(), "NoMemory");
-    Ok(())
+    expect_printed(rt.alloc(), &NoMemory, "NoMemory")
 }

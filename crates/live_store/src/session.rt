@@ -46,11 +46,8 @@ impl<'a, N: StoreName> Model for Session<'a, N> {
 }
 
 impl<'a, N: StoreName> Session<'a, N> {
-    ghost use Rattle.std.specs.Borrow.{sem, follows_so};
-    ghost use Rattle.std.specs.Prelude.{⊤};
-    ghost use mathlib.Core.Option.{none};
-    ghost use mir.Syntax.{named};
-    ghost use Rattle.live_store.specs.contracts.session.Session.{the_row};
+    ghost use Rattle.std.specs.Borrow.{sem};
+    ghost use Rattle.live_store.specs.LentAnswers.{HasAsked, ends_so};
 
     /// The session of an empty log, which knows of no change.
     pub(crate) fn new(
@@ -194,15 +191,8 @@ impl<'a, N: StoreName> Session<'a, N> {
         ensures width { MatchResult result (λ _. (arc_value query.now).value < N.width) (λ fault.
             ((N.width ≤ (arc_value query.now).value) × (fault ≡ BookFault.Width N.width))
             ⊎ (((arc_value query.now).value < N.width) × IsUnseen fault)) }
-        ensures* ends { sem 𝓛
-            (follows_so (the_row (record { mir = named 1; lft = [] }) N.row N.StoreName)
-            (the_row (record { mir = named 1; lft = [] }) N.row N.StoreName)
-            self.entry.ghost_name none (λ _ _. ⊤) (λ end. (end.number ≡ self.entry.now.number)
-            × IfOk result
-            (λ answer. (end.log ≡ self.entry.now.log ++ receipt_after end.seen (ask (arc_value query.now)) ∷ [])
-            × ((receipt_after end.seen (ask (arc_value query.now))).reply ≡ answered answer.now)
-            × IsPrefix self.entry.now.seen end.seen)
-            × OnErr result ((end.log ≡ self.entry.now.log) × (end.seen ≡ self.entry.now.seen)))) }
+        ensures* ends { sem 𝓛 (ends_so N.row N.StoreName self.entry
+            (HasAsked self.entry.now (ask (arc_value query.now)) result)) }
     {
         self.report(alloc, query)?;
         Ok(self.last_answer())

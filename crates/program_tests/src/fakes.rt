@@ -1,5 +1,7 @@
 //! A reader and a writer that move few bytes at a time and fail, a runtime without random bytes, and runs on given
 //! bytes.
+//!
+//! A test compares one text: a proof pays for each comparison, and for each way out beside a value to drop.
 
 use flame_answers::{MAX_INPUT, NoProgress, Status};
 use flame_program::run;
@@ -148,7 +150,6 @@ pub fn run_on<'a, T: Threads + Wait + RandomSource + Sync>(
     alloc: Global,
     words: &'a [&'a str],
     input: &[u8],
-    limit: usize,
 ) -> (Status, Vec<u8>) {
     let mut reader = input;
     let mut written = Vec::new(alloc);
@@ -159,9 +160,49 @@ pub fn run_on<'a, T: Threads + Wait + RandomSource + Sync>(
         words,
         &mut reader,
         &mut written,
-        limit.min(MAX_INPUT),
+        MAX_INPUT,
     );
     (status, written)
+}
+
+/// How a run on these bytes ends: its status, how many bytes it wrote, and what it says.
+pub fn end_on<'a, T: Threads + Wait + RandomSource + Sync>(
+    rt: &T,
+    alloc: Global,
+    words: &'a [&'a str],
+    input: &[u8],
+) -> Result<String, Fail> {
+    let (status, written) = run_on(rt, alloc, words, input);
+    Ok(format!(in alloc; "{} {} {}", status.code, written.len(), status.cause)?)
+}
+
+/// What a run on these bytes wrote, which succeeds.
+pub fn report_of<'a, T: Threads + Wait + RandomSource + Sync>(
+    rt: &T,
+    alloc: Global,
+    words: &'a [&'a str],
+    input: &[u8],
+) -> Result<Vec<u8>, Fail> {
+    let (status, written) = run_on(rt, alloc, words, input);
+    match status.code {
+        0 => Ok(written),
+        code => Err(Fail::new(code)),
+    }
+}
+
+/// The same as text.
+pub fn report_text<'a, T: Threads + Wait + RandomSource + Sync>(
+    rt: &T,
+    alloc: Global,
+    words: &'a [&'a str],
+    input: &[u8],
+) -> Result<String, Fail> {
+    text_of(report_of(rt, alloc, words, input)?)
+}
+
+/// Bytes that are text.
+pub fn text_of(bytes: Vec<u8>) -> Result<String, Fail> {
+    Ok(String::from_utf8(bytes).ok().ok_or("no text")?)
 }
 
 /// Bytes, some times over.
@@ -173,20 +214,16 @@ pub fn repeated(alloc: Global, bytes: &[u8], times: usize) -> Result<Vec<u8>, Al
     Ok(all)
 }
 
-/// The report that these words ask for, of an input of this format.
+/// The report that these words ask for, of an input of this format, as text.
 pub fn report_on<'a, T: Threads + Wait + RandomSource + Sync>(
     rt: &T,
     alloc: Global,
     words: &'a [&'a str],
     format: &'a str,
     input: &[u8],
-) -> Result<Vec<u8>, Fail> {
+) -> Result<String, Fail> {
     let mut all = Vec::from_slice(alloc, words)?;
     all.push("--format")?;
     all.push(format)?;
-    let (status, written) = run_on(rt, alloc, all.as_slice(), input, MAX_INPUT);
-    match status.code {
-        0 => Ok(written),
-        code => Err(Fail::new(code)),
-    }
+    report_text(rt, alloc, all.as_slice(), input)
 }

@@ -1,9 +1,9 @@
 //! Reports on thousands of rows, on long names and on long inputs, by closed formulas.
 
-use crate::fakes::{repeated, report_on, run_on};
-use flame_answers::MAX_INPUT;
+use crate::fakes::{repeated, report_of, report_on, report_text};
 use std::alloc::{AllocError, Global};
 use std::test::Fail;
+use test_support::expect_text;
 
 // The samples are numbered from 128 to 3,199, and each weighs its number. Its leaf has the address 0x7f0000000000 + its
 // number, and its root the address 0xffffffffffffffff: locations without lines, which are called by their addresses.
@@ -34,27 +34,26 @@ fn profile(alloc: Global) -> Result<Vec<u8>, AllocError> {
 }
 
 // The profile's samples as folded text, in order.
-fn folded(alloc: Global) -> Result<Vec<u8>, AllocError> {
-    let mut text = Vec::new(alloc);
+fn folded(alloc: Global) -> Result<String, AllocError> {
+    let mut text = String::new(alloc);
     for number in 128..3_200u32 {
-        let line = format!(in alloc; "0xffffffffffffffff;0x7f0000000{number:03x} {number}\n")?;
-        text.extend_from_slice(line.as_bytes())?;
+        writeln!(text, "0xffffffffffffffff;0x7f0000000{number:03x} {number}")?;
     }
     Ok(text)
 }
 
-const REPORTS: [(&[&str], &[u8]); 9] = [
+const REPORTS: [(&[&str], &str); 9] = [
     (
         &["flame", "top", "--count", "2"],
-        b"total 5110272\n3199 3199 0x7f0000000c7f\n3198 3198 0x7f0000000c7e\n",
+        "total 5110272\n3199 3199 0x7f0000000c7f\n3198 3198 0x7f0000000c7e\n",
     ),
     (
         &["flame", "top", "--by", "cum", "--count", "2"],
-        b"total 5110272\n0 5110272 0xffffffffffffffff\n3199 3199 0x7f0000000c7f\n",
+        "total 5110272\n0 5110272 0xffffffffffffffff\n3199 3199 0x7f0000000c7f\n",
     ),
     (
         &["flame", "top", "--focus", "0x7f0000000c7f"],
-        b"total 3199\n3199 3199 0x7f0000000c7f\n0 3199 0xffffffffffffffff\n",
+        "total 3199\n3199 3199 0x7f0000000c7f\n0 3199 0xffffffffffffffff\n",
     ),
     (
         &[
@@ -67,20 +66,20 @@ const REPORTS: [(&[&str], &[u8]); 9] = [
             "--value",
             "cpu",
         ],
-        b"total 5107073\n3198 3198 0x7f0000000c7e\n",
+        "total 5107073\n3198 3198 0x7f0000000c7e\n",
     ),
     (
         &["flame", "top", "--ignore", "0xffffffffffffffff"],
-        b"total 0\n",
+        "total 0\n",
     ),
     (
         &["flame", "fold", "--focus", "0x7f0000000c7f"],
-        b"0xffffffffffffffff;0x7f0000000c7f 3199\n",
+        "0xffffffffffffffff;0x7f0000000c7f 3199\n",
     ),
-    (&["flame", "fold", "--ignore", "0xffffffffffffffff"], b""),
+    (&["flame", "fold", "--ignore", "0xffffffffffffffff"], ""),
     (
         &["flame", "flame", "--columns", "1"],
-        b"{\"columns\":1,\"rects\":[\
+        "{\"columns\":1,\"rects\":[\
           {\"depth\":0,\"left\":0,\"name\":\"\",\"right\":1,\"weight\":5110272,\"x\":0},\
           {\"depth\":1,\"left\":0,\"name\":\"0xffffffffffffffff\",\"right\":1,\"weight\":5110272,\"x\":0},\
           {\"depth\":2,\"left\":0,\"name\":\"0x7f0000000c7f\",\"right\":1,\"weight\":3199,\"x\":5107073}\
@@ -95,7 +94,7 @@ const REPORTS: [(&[&str], &[u8]); 9] = [
             "--focus",
             "0x7f0000000c7f",
         ],
-        b"{\"columns\":2,\"rects\":[\
+        "{\"columns\":2,\"rects\":[\
           {\"depth\":0,\"left\":0,\"name\":\"\",\"right\":2,\"weight\":3199,\"x\":0},\
           {\"depth\":1,\"left\":0,\"name\":\"0xffffffffffffffff\",\"right\":2,\"weight\":3199,\"x\":0},\
           {\"depth\":2,\"left\":0,\"name\":\"0x7f0000000c7f\",\"right\":2,\"weight\":3199,\"x\":0}\
@@ -107,40 +106,44 @@ const REPORTS: [(&[&str], &[u8]); 9] = [
 fn reports_with_options_on_thousands_of_rows(rt: HostRuntime) -> Result<(), Fail> {
     let profile = profile(rt.alloc())?;
     let folded = folded(rt.alloc())?;
-    for (place, (words, report)) in REPORTS.iter().enumerate() {
-        let of_profile = report_on(&rt, rt.alloc(), words, "pprof", profile.as_slice())?;
-        let of_folded = report_on(&rt, rt.alloc(), words, "folded", folded.as_slice())?;
-        assert_eq!(rt; of_profile.as_slice(), *report, "{place}");
-        assert_eq!(rt; of_folded.as_slice(), *report, "{place}");
+    for (words, report) in &REPORTS {
+        expect_text(
+            report_on(&rt, rt.alloc(), words, "pprof", profile.as_slice()),
+            report,
+        )?;
+        expect_text(
+            report_on(&rt, rt.alloc(), words, "folded", folded.as_bytes()),
+            report,
+        )?;
     }
     Ok(())
 }
 
 // Words, how many lines they ask for, and how these begin and end.
-const WHOLE: [(&[&str], usize, &[u8], &[u8]); 4] = [
+const WHOLE: [(&[&str], usize, &str, &str); 4] = [
     (
         &["flame", "fold"],
         3_072,
-        b"0xffffffffffffffff;0x7f0000000080 128\n0xffffffffffffffff;0x7f0000000081 129\n",
-        b"0xffffffffffffffff;0x7f0000000c7f 3199\n",
+        "0xffffffffffffffff;0x7f0000000080 128\n0xffffffffffffffff;0x7f0000000081 129\n",
+        "0xffffffffffffffff;0x7f0000000c7f 3199\n",
     ),
     (
         &["flame", "top"],
         21,
-        b"total 5110272\n3199 3199 0x7f0000000c7f\n",
-        b"\n3180 3180 0x7f0000000c6c\n",
+        "total 5110272\n3199 3199 0x7f0000000c7f\n",
+        "\n3180 3180 0x7f0000000c6c\n",
     ),
     (
         &["flame", "top", "--count", "5000"],
         3_074,
-        b"total 5110272\n3199 3199 0x7f0000000c7f\n",
-        b"\n128 128 0x7f0000000080\n0 5110272 0xffffffffffffffff\n",
+        "total 5110272\n3199 3199 0x7f0000000c7f\n",
+        "\n128 128 0x7f0000000080\n0 5110272 0xffffffffffffffff\n",
     ),
     (
         &["flame", "flame"],
         1,
-        b"{\"columns\":100,\"rects\":[{\"depth\":0,\"left\":0,\"name\":\"\",\"right\":100,\"weight\":5110272,\"x\":0},",
-        b"],\"total\":5110272}\n",
+        "{\"columns\":100,\"rects\":[{\"depth\":0,\"left\":0,\"name\":\"\",\"right\":100,\"weight\":5110272,\"x\":0},",
+        "],\"total\":5110272}\n",
     ),
 ];
 
@@ -149,13 +152,16 @@ fn whole_reports_on_thousands_of_rows(rt: HostRuntime) -> Result<(), Fail> {
     let profile = profile(rt.alloc())?;
     let folded = folded(rt.alloc())?;
     for (words, lines, beginning, end) in WHOLE {
-        let report = report_on(&rt, rt.alloc(), words, "folded", folded.as_slice())?;
-        let count = report.iter().filter(|byte| **byte == b'\n').count();
-        assert_eq!(rt; count, lines, "{lines}");
-        assert!(rt; report.as_slice().starts_with(beginning), "{lines}");
-        assert!(rt; report.as_slice().ends_with(end), "{lines}");
-        let of_profile = report_on(&rt, rt.alloc(), words, "pprof", profile.as_slice())?;
-        assert!(rt; of_profile.as_slice() == report.as_slice(), "{lines}");
+        let report = report_on(&rt, rt.alloc(), words, "folded", folded.as_bytes())?;
+        assert_eq!(rt; report.matches("\n").count(), lines);
+        assert!(rt;
+            report.starts_with(beginning) && report.ends_with(end),
+            "{lines}"
+        );
+        expect_text(
+            report_on(&rt, rt.alloc(), words, "pprof", profile.as_slice()),
+            report.as_str(),
+        )?;
     }
     Ok(())
 }
@@ -163,24 +169,17 @@ fn whole_reports_on_thousands_of_rows(rt: HostRuntime) -> Result<(), Fail> {
 #[test]
 fn an_export_of_thousands_of_rows(rt: HostRuntime) -> Result<(), Fail> {
     let folded = folded(rt.alloc())?;
-    let words = ["flame", "proto"];
-    let (status, exported) = run_on(
-        &rt,
-        rt.alloc(),
-        words.as_slice(),
-        folded.as_slice(),
-        MAX_INPUT,
-    );
-    assert_eq!(rt; status.code, 0);
-    let report = report_on(
-        &rt,
-        rt.alloc(),
-        &["flame", "fold"],
-        "pprof",
-        exported.as_slice(),
-    )?;
-    assert!(rt; report.as_slice() == folded.as_slice());
-    Ok(())
+    let exported = report_of(&rt, rt.alloc(), &["flame", "proto"], folded.as_bytes())?;
+    expect_text(
+        report_on(
+            &rt,
+            rt.alloc(),
+            &["flame", "fold"],
+            "pprof",
+            exported.as_slice(),
+        ),
+        folded.as_str(),
+    )
 }
 
 #[test]
@@ -189,41 +188,36 @@ fn many_options_on_a_long_input(rt: HostRuntime) -> Result<(), Fail> {
     let words = [
         "flame", "top", "--by", "cum", "--count", "2", "--focus", "a", "--ignore", "b",
     ];
-    let report = report_on(
-        &rt,
-        rt.alloc(),
-        words.as_slice(),
-        "folded",
-        input.as_slice(),
-    )?;
-    assert_eq!(rt;
-        report.as_slice(),
-        b"total 14000\n14000 14000 a\n0 14000 main\n".as_slice()
-    );
-    Ok(())
+    expect_text(
+        report_text(&rt, rt.alloc(), words.as_slice(), input.as_slice()),
+        "total 14000\n14000 14000 a\n0 14000 main\n",
+    )
+}
+
+// The line of a name of so many letters.
+fn long_line(alloc: Global, letters: usize) -> Result<String, AllocError> {
+    let mut line = String::new(alloc);
+    for _ in 0..letters {
+        line.push('x')?;
+    }
+    line.push_str(" 1\n")?;
+    Ok(line)
 }
 
 #[test]
 fn a_name_longer_than_three_reads(rt: HostRuntime) -> Result<(), Fail> {
-    let name = repeated(rt.alloc(), b"x", 210_000)?;
-    let mut line = Vec::from_slice(rt.alloc(), name.as_slice())?;
-    line.extend_from_slice(b" 1\n")?;
-    let report = report_on(
-        &rt,
-        rt.alloc(),
-        &["flame", "fold"],
-        "folded",
-        line.as_slice(),
-    )?;
-    assert!(rt; report.as_slice() == line.as_slice());
-    let report = report_on(
-        &rt,
-        rt.alloc(),
-        &["flame", "top"],
-        "folded",
-        line.as_slice(),
-    )?;
-    assert!(rt; report.as_slice().starts_with(b"total 1\n1 1 xxx"));
-    assert_eq!(rt; report.len(), 8 + 4 + 210_000 + 1);
+    let line = long_line(rt.alloc(), 210_000)?;
+    let words = ["flame", "fold"];
+    expect_text(
+        report_text(&rt, rt.alloc(), words.as_slice(), line.as_bytes()),
+        line.as_str(),
+    )
+}
+
+#[test]
+fn a_long_name_in_a_top_list(rt: HostRuntime) -> Result<(), Fail> {
+    let line = long_line(rt.alloc(), 210_000)?;
+    let report = report_text(&rt, rt.alloc(), &["flame", "top"], line.as_bytes())?;
+    assert!(rt; report.starts_with("total 1\n1 1 xxx") && report.len() == 8 + 4 + 210_000 + 1);
     Ok(())
 }

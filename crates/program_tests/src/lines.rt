@@ -1,9 +1,9 @@
 //! The lines that the program prints for its faults, by each subcommand that can meet them. What each line says of an
 //! input was worked by hand.
 
-use crate::fakes::{FOLD, TOP, repeated, run_on};
+use crate::fakes::{FOLD, TOP, end_on, repeated, report_of};
 use crate::profiles::deep_sample;
-use flame_answers::{MAX_INPUT, Outcome, Status, ToolFault};
+use flame_answers::{Outcome, Status, ToolFault};
 use live_report::LiveFault;
 use live_store::{BookFault, MakeFault, SessionFault};
 use op_book::AuditFault;
@@ -12,6 +12,7 @@ use std::random::RandomSource;
 use std::sync::Wait;
 use std::test::Fail;
 use std::thread::Threads;
+use test_support::expect_text;
 
 // Words for each way of reading folded text.
 const OF_FOLDED_TEXT: [&[&str]; 7] = [
@@ -35,8 +36,7 @@ const OF_PROFILES: [&[&str]; 7] = [
     &["flame", "live", "--format", "pprof", "--all"],
 ];
 
-// What the runs of these words on an input end with, one after the other: the status, how many bytes were written, and
-// the line.
+// How the runs of these words on an input end, one after the other.
 fn ends_of<'a, T: Threads + Wait + RandomSource + Sync>(
     rt: &T,
     alloc: Global,
@@ -45,16 +45,30 @@ fn ends_of<'a, T: Threads + Wait + RandomSource + Sync>(
 ) -> Result<String, Fail> {
     let mut ends = String::new(alloc);
     for words in all {
-        let (status, written) = run_on(rt, alloc, words, input, MAX_INPUT);
-        write!(ends, "{} {} {}", status.code, written.len(), status.cause)?;
+        ends.push_str(end_on(rt, alloc, words, input)?.as_str())?;
     }
     Ok(ends)
 }
 
-// What the runs of so many words end with where each refuses the input with this line.
-fn refusals(alloc: Global, line: &str, words: usize) -> Result<Vec<u8>, Fail> {
-    let end = format!(in alloc; "1 0 {line}")?;
-    Ok(repeated(alloc, end.as_bytes(), words)?)
+// How the runs of so many words end where each refuses the input with this line.
+fn refusals(alloc: Global, line: &str, words: usize) -> Result<String, Fail> {
+    let mut ends = String::new(alloc);
+    for _ in 0..words {
+        write!(ends, "1 0 {line}")?;
+    }
+    Ok(ends)
+}
+
+// Passes where the runs of all these words refuse the input with this line.
+fn expect_line<'a, T: Threads + Wait + RandomSource + Sync>(
+    rt: &T,
+    alloc: Global,
+    all: &'a [&'a [&'a str]],
+    input: &[u8],
+    line: &str,
+) -> Result<(), Fail> {
+    let wanted = refusals(alloc, line, all.len())?;
+    expect_text(ends_of(rt, alloc, all, input), wanted.as_str())
 }
 
 const FOLDED_TEXTS: [(&[u8], &str); 15] = [
@@ -81,9 +95,7 @@ const FOLDED_TEXTS: [(&[u8], &str); 15] = [
 #[test]
 fn lines_of_folded_text(rt: HostRuntime) -> Result<(), Fail> {
     for (input, line) in FOLDED_TEXTS {
-        let ends = ends_of(&rt, rt.alloc(), &OF_FOLDED_TEXT, input)?;
-        let want = refusals(rt.alloc(), line, OF_FOLDED_TEXT.len())?;
-        assert_eq!(rt; ends.as_bytes(), want.as_slice(), "{input:?}");
+        expect_line(&rt, rt.alloc(), &OF_FOLDED_TEXT, input, line)?;
     }
     Ok(())
 }
@@ -99,14 +111,7 @@ fn deep_line(alloc: Global, frames: usize) -> Result<Vec<u8>, Fail> {
 fn the_deepest_line(rt: HostRuntime) -> Result<(), Fail> {
     let deepest = deep_line(rt.alloc(), 65_535)?;
     for words in [TOP, FOLD] {
-        let (status, _) = run_on(
-            &rt,
-            rt.alloc(),
-            words.as_slice(),
-            deepest.as_slice(),
-            MAX_INPUT,
-        );
-        assert_eq!(rt; status.code, 0, "{words:?}");
+        let _report = report_of(&rt, rt.alloc(), words.as_slice(), deepest.as_slice())?;
     }
     Ok(())
 }
@@ -114,10 +119,13 @@ fn the_deepest_line(rt: HostRuntime) -> Result<(), Fail> {
 #[test]
 fn a_line_too_deep(rt: HostRuntime) -> Result<(), Fail> {
     let deeper = deep_line(rt.alloc(), 65_536)?;
-    let ends = ends_of(&rt, rt.alloc(), &OF_FOLDED_TEXT, deeper.as_slice())?;
-    let want = refusals(rt.alloc(), "flame: F4 Depth line 1\n", OF_FOLDED_TEXT.len())?;
-    assert_eq!(rt; ends.as_bytes(), want.as_slice());
-    Ok(())
+    expect_line(
+        &rt,
+        rt.alloc(),
+        &OF_FOLDED_TEXT,
+        deeper.as_slice(),
+        "flame: F4 Depth line 1\n",
+    )
 }
 
 #[test]
@@ -125,10 +133,13 @@ fn a_later_line_too_deep(rt: HostRuntime) -> Result<(), Fail> {
     let deeper = deep_line(rt.alloc(), 65_536)?;
     let mut text = Vec::from_slice(rt.alloc(), b"a 1\n")?;
     text.extend_from_slice(deeper.as_slice())?;
-    let ends = ends_of(&rt, rt.alloc(), &OF_FOLDED_TEXT, text.as_slice())?;
-    let want = refusals(rt.alloc(), "flame: F4 Depth line 2\n", OF_FOLDED_TEXT.len())?;
-    assert_eq!(rt; ends.as_bytes(), want.as_slice());
-    Ok(())
+    expect_line(
+        &rt,
+        rt.alloc(),
+        &OF_FOLDED_TEXT,
+        text.as_slice(),
+        "flame: F4 Depth line 2\n",
+    )
 }
 
 // Bytes that are no profile, or one without sample types.
@@ -152,9 +163,7 @@ const OTHER_BYTES: [(&[u8], &str); 11] = [
 #[test]
 fn lines_of_other_bytes(rt: HostRuntime) -> Result<(), Fail> {
     for (input, line) in OTHER_BYTES {
-        let ends = ends_of(&rt, rt.alloc(), &OF_PROFILES, input)?;
-        let want = refusals(rt.alloc(), line, OF_PROFILES.len())?;
-        assert_eq!(rt; ends.as_bytes(), want.as_slice(), "{input:?}");
+        expect_line(&rt, rt.alloc(), &OF_PROFILES, input, line)?;
     }
     Ok(())
 }
@@ -242,9 +251,7 @@ const CHANGES: [(usize, &[u8], &str); 20] = [
 fn lines_of_changed_profiles(rt: HostRuntime) -> Result<(), Fail> {
     for (place, field, line) in CHANGES {
         let input = changed(rt.alloc(), place, field)?;
-        let ends = ends_of(&rt, rt.alloc(), &OF_PROFILES, input.as_slice())?;
-        let want = refusals(rt.alloc(), line, OF_PROFILES.len())?;
-        assert_eq!(rt; ends.as_bytes(), want.as_slice(), "{field:?}");
+        expect_line(&rt, rt.alloc(), &OF_PROFILES, input.as_slice(), line)?;
     }
     Ok(())
 }
@@ -257,9 +264,7 @@ fn a_sample_too_deep(rt: HostRuntime) -> Result<(), Fail> {
         (8, "flame: B3 Depth sample 1\n"),
     ] {
         let input = changed(rt.alloc(), place, sample.as_slice())?;
-        let ends = ends_of(&rt, rt.alloc(), &OF_PROFILES, input.as_slice())?;
-        let want = refusals(rt.alloc(), line, OF_PROFILES.len())?;
-        assert_eq!(rt; ends.as_bytes(), want.as_slice(), "{place}");
+        expect_line(&rt, rt.alloc(), &OF_PROFILES, input.as_slice(), line)?;
     }
     Ok(())
 }
@@ -275,10 +280,13 @@ const OF_ANOTHER_VALUE: [&[&str]; 4] = [
 #[test]
 fn a_value_that_the_profile_has_not(rt: HostRuntime) -> Result<(), Fail> {
     let input = changed(rt.alloc(), 7, FIELDS[7])?;
-    let ends = ends_of(&rt, rt.alloc(), &OF_ANOTHER_VALUE, input.as_slice())?;
-    let want = refusals(rt.alloc(), "flame: B1 NoValue\n", OF_ANOTHER_VALUE.len())?;
-    assert_eq!(rt; ends.as_bytes(), want.as_slice());
-    Ok(())
+    expect_line(
+        &rt,
+        rt.alloc(),
+        &OF_ANOTHER_VALUE,
+        input.as_slice(),
+        "flame: B1 NoValue\n",
+    )
 }
 
 // The faults of a store, none of which an input makes.
@@ -348,12 +356,16 @@ const OF_A_STORE: [(LiveFault, &str); 18] = [
     (LiveFault::Warm, "5 flame: E6 Warm\n"),
 ];
 
+// The status of a store's fault, and its line.
+fn told(alloc: Global, fault: LiveFault) -> Result<String, Fail> {
+    let status = Status::of(Outcome::Fault(ToolFault::Live(fault)));
+    Ok(format!(in alloc; "{} {}", status.code, status.cause)?)
+}
+
 #[test]
 fn lines_of_a_store(rt: HostRuntime) -> Result<(), Fail> {
     for (fault, want) in OF_A_STORE {
-        let status = Status::of(Outcome::Fault(ToolFault::Live(fault)));
-        let end = format!(in rt.alloc(); "{} {}", status.code, status.cause)?;
-        assert_eq!(rt; end.as_str(), want);
+        expect_text(told(rt.alloc(), fault), want)?;
     }
     Ok(())
 }

@@ -1,8 +1,8 @@
 //! The exit status of a process, and what it says on the standard error.
 
-use crate::fakes::Narrow;
+use crate::fakes::{Narrow, text_of};
 use flame_answers::NoProgress;
-use flame_program::{End, run_process};
+use flame_program::run_process;
 use std::alloc::{AllocError, Global};
 use std::env::Args;
 use std::io;
@@ -12,6 +12,7 @@ use std::random::RandomSource;
 use std::sync::Wait;
 use std::test::Fail;
 use std::thread::Threads;
+use test_support::{expect_bytes, expect_text};
 
 const STORED: &[u8] = b"main;a;b 3\nmain;a 2\nmain;c 5\n";
 
@@ -23,12 +24,13 @@ fn owned(alloc: Global, words: &[&str]) -> Result<Args, AllocError> {
     Ok(all.into_iter())
 }
 
-// How a process with these words ends on the stored input, what it wrote, and what it said.
+// What a process with these words writes on the stored input, and behind a bar what it says. It ends with this code.
 fn process_on<T: Threads + Wait + RandomSource + Sync>(
     rt: &T,
     alloc: Global,
     words: io::Result<Args>,
-) -> (End, Vec<u8>, Vec<u8>) {
+    code: u8,
+) -> Result<String, Fail> {
     let mut reader = STORED;
     let mut written = Vec::new(alloc);
     let mut said = Vec::new(alloc);
@@ -41,57 +43,51 @@ fn process_on<T: Threads + Wait + RandomSource + Sync>(
         &mut written,
         &mut said,
     );
-    (end, written, said)
+    if end.code != ExitCode::from(code) {
+        return Err("another exit code".into());
+    }
+    written.push(b'|')?;
+    written.extend_from_slice(said.as_slice())?;
+    text_of(written)
 }
 
 #[test]
 fn reports_of_a_process(rt: HostRuntime) -> Result<(), Fail> {
-    let cases: [(&[&str], u8, &[u8], &[u8]); 3] = [
+    let cases: [(&[&str], u8, &str); 3] = [
         (
             &["flame", "top", "--by", "cum", "--count", "1"],
             0,
-            b"total 10\n0 10 main\n",
-            b"",
+            "total 10\n0 10 main\n|",
         ),
         (
             &["flame", "fold", "--format", "pprof"],
             1,
-            b"",
-            b"flame: P2 Wire W5 WireType\n",
+            "|flame: P2 Wire W5 WireType\n",
         ),
-        (
-            &["flame", "fold", "--focus", ""],
-            2,
-            b"",
-            b"flame: C1 Name\n",
-        ),
+        (&["flame", "fold", "--focus", ""], 2, "|flame: C1 Name\n"),
     ];
-    for (words, code, report, line) in cases {
+    for (words, code, told) in cases {
         let words = owned(rt.alloc(), words)?;
-        let (end, written, said) = process_on(&rt, rt.alloc(), Ok(words));
-        assert_eq!(rt; end.code, ExitCode::from(code));
-        assert_eq!(rt; written.as_slice(), report);
-        assert_eq!(rt; said.as_slice(), line);
+        expect_text(process_on(&rt, rt.alloc(), Ok(words), code), told)?;
     }
     Ok(())
 }
 
 #[test]
-fn processes_without_words(rt: HostRuntime) {
-    let cases: [(ErrorKind, u8, &[u8]); 2] = [
+fn processes_without_words(rt: HostRuntime) -> Result<(), Fail> {
+    let cases: [(ErrorKind, u8, &str); 2] = [
         (
             ErrorKind::InvalidData,
             2,
-            b"error: the words aren't text: invalid data\n",
+            "|error: the words aren't text: invalid data\n",
         ),
-        (ErrorKind::OutOfMemory, 4, b"flame: E4 NoMemory\n"),
+        (ErrorKind::OutOfMemory, 4, "|flame: E4 NoMemory\n"),
     ];
-    for (kind, code, line) in cases {
-        let (end, written, said) = process_on(&rt, rt.alloc(), Err(io::Error::from(kind)));
-        assert_eq!(rt; end.code, ExitCode::from(code));
-        assert!(rt; written.is_empty());
-        assert_eq!(rt; said.as_slice(), line);
+    for (kind, code, told) in cases {
+        let words = Err(io::Error::from(kind));
+        expect_text(process_on(&rt, rt.alloc(), words, code), told)?;
     }
+    Ok(())
 }
 
 #[test]
@@ -110,9 +106,7 @@ fn a_standard_error_that_fails(rt: HostRuntime) -> Result<(), Fail> {
         &mut writer,
         &mut errors,
     );
-    assert_eq!(rt; end.code, ExitCode::from(2));
-    assert!(rt; end.said.is_err());
-    assert_eq!(rt; errors.taken.as_slice(), b"flame".as_slice());
+    assert!(rt; end.code == ExitCode::from(2) && end.said.is_err());
     assert!(rt; writer.taken.is_empty());
-    Ok(())
+    expect_bytes(errors.taken.as_slice(), b"flame")
 }

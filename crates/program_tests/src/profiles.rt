@@ -1,12 +1,12 @@
 //! Reports on profiles: the vectors of the format.
 
-use crate::fakes::run_on;
-use flame_answers::MAX_INPUT;
+use crate::fakes::{report_of, report_text};
 use std::alloc::{AllocError, Global};
 use std::random::RandomSource;
 use std::sync::Wait;
 use std::test::Fail;
 use std::thread::Threads;
+use test_support::{expect_bytes, expect_text};
 
 static FOLD: [&str; 4] = ["flame", "fold", "--format", "pprof"];
 
@@ -39,45 +39,51 @@ static FLAME: [&str; 6] = ["flame", "flame", "--format", "pprof", "--columns", "
 
 #[test]
 fn reports_on_profiles(rt: HostRuntime) -> Result<(), Fail> {
-    let alloc = rt.alloc();
-    let mut chosen = Vec::from_slice(alloc, TWO_TYPES)?;
-    chosen.extend_from_slice(b"\x70\x01")?;
-    let mut unknown = Vec::from_slice(alloc, TWO_TYPES)?;
-    unknown.extend_from_slice(b"\x70\x05")?;
-    let cases: [(&[&str], &[u8], &[u8]); 10] = [
-        (FOLD.as_slice(), ONE_SAMPLE, b"f 7\n"),
-        (TOP.as_slice(), ONE_SAMPLE, b"total 7\n7 7 f\n"),
+    let cases: [(&[&str], &[u8], &str); 8] = [
+        (FOLD.as_slice(), ONE_SAMPLE, "f 7\n"),
+        (TOP.as_slice(), ONE_SAMPLE, "total 7\n7 7 f\n"),
         (
             FLAME.as_slice(),
             ONE_SAMPLE,
-            b"{\"columns\":2,\"rects\":[\
+            "{\"columns\":2,\"rects\":[\
               {\"depth\":0,\"left\":0,\"name\":\"\",\"right\":2,\"weight\":7,\"x\":0},\
               {\"depth\":1,\"left\":0,\"name\":\"f\",\"right\":2,\"weight\":7,\"x\":0}\
               ],\"total\":7}\n",
         ),
-        (FOLD.as_slice(), NAME_WITH_SEMICOLON, b"Lx: 7\n"),
-        (TOP.as_slice(), NAME_WITH_SEMICOLON, b"total 7\n7 7 Lx:\n"),
-        (FOLD.as_slice(), INLINED, b"0xff;c;b;a 2\n"),
-        (FOLD.as_slice(), TWO_TYPES, b"f 30\n"),
-        (FOLD_SAMPLES.as_slice(), TWO_TYPES, b"f 3\n"),
-        (FOLD.as_slice(), chosen.as_slice(), b"f 3\n"),
-        (FOLD.as_slice(), unknown.as_slice(), b"f 30\n"),
+        (FOLD.as_slice(), NAME_WITH_SEMICOLON, "Lx: 7\n"),
+        (TOP.as_slice(), NAME_WITH_SEMICOLON, "total 7\n7 7 Lx:\n"),
+        (FOLD.as_slice(), INLINED, "0xff;c;b;a 2\n"),
+        (FOLD.as_slice(), TWO_TYPES, "f 30\n"),
+        (FOLD_SAMPLES.as_slice(), TWO_TYPES, "f 3\n"),
     ];
-    for (place, (words, input, report)) in cases.iter().enumerate() {
-        let (status, written) = run_on(&rt, alloc, words, input, MAX_INPUT);
-        assert_eq!(rt; status.code, 0, "{place}");
-        assert_eq!(rt; written.as_slice(), *report, "{place}");
+    for (words, input, report) in cases {
+        expect_text(report_text(&rt, rt.alloc(), words, input), report)?;
     }
     Ok(())
+}
+
+// The folded text of the profile of two types with one field more.
+fn fold_with<T: Threads + Wait + RandomSource + Sync>(
+    rt: &T,
+    alloc: Global,
+    field: &[u8],
+) -> Result<String, Fail> {
+    let mut input = Vec::from_slice(alloc, TWO_TYPES)?;
+    input.extend_from_slice(field)?;
+    report_text(rt, alloc, FOLD.as_slice(), input.as_slice())
+}
+
+#[test]
+fn the_default_sample_type(rt: HostRuntime) -> Result<(), Fail> {
+    expect_text(fold_with(&rt, rt.alloc(), b"\x70\x01"), "f 3\n")?;
+    expect_text(fold_with(&rt, rt.alloc(), b"\x70\x05"), "f 30\n")
 }
 
 #[test]
 fn export_of_one_row(rt: HostRuntime) -> Result<(), Fail> {
     let words = ["flame", "proto", "--kind", "cpu", "--unit", "ns"];
-    let (status, written) = run_on(&rt, rt.alloc(), words.as_slice(), b"f 7\n", MAX_INPUT);
-    assert_eq!(rt; status.code, 0);
-    assert_eq!(rt; written.as_slice(), ONE_SAMPLE);
-    Ok(())
+    let exported = report_of(&rt, rt.alloc(), words.as_slice(), b"f 7\n")?;
+    expect_bytes(exported.as_slice(), ONE_SAMPLE)
 }
 
 // A profile of these samples' fields, which have f's one location.
@@ -88,15 +94,14 @@ fn profile_of(alloc: Global, samples: &[u8]) -> Result<Vec<u8>, AllocError> {
     Ok(bytes)
 }
 
-// What is written of a folded profile of these samples.
+// The folded text of a profile of these samples.
 fn fold_of<T: Threads + Wait + RandomSource + Sync>(
     rt: &T,
     alloc: Global,
     samples: &[u8],
-) -> Result<Vec<u8>, AllocError> {
+) -> Result<String, Fail> {
     let input = profile_of(alloc, samples)?;
-    let (_, written) = run_on(rt, alloc, FOLD.as_slice(), input.as_slice(), MAX_INPUT);
-    Ok(written)
+    report_text(rt, alloc, FOLD.as_slice(), input.as_slice())
 }
 
 #[test]
@@ -104,9 +109,7 @@ fn samples_of_the_greatest_total(rt: HostRuntime) -> Result<(), Fail> {
     let samples =
         b"\x12\x0e\x0a\x01\x01\x12\x09\x80\x80\x80\x80\x80\x80\x80\x80\x40\x12\x0e\x0a\x01\x01\x12\x09\xff\xff\xff\xff\
       \xff\xff\xff\xff\x3f";
-    let written = fold_of(&rt, rt.alloc(), samples)?;
-    assert_eq!(rt; written.as_slice(), b"f 9223372036854775807\n".as_slice());
-    Ok(())
+    expect_text(fold_of(&rt, rt.alloc(), samples), "f 9223372036854775807\n")
 }
 
 /// The field of a sample of f so many times, which weighs 7. Its length and that of its ids are given as varints.
@@ -130,8 +133,8 @@ pub(crate) fn deep_sample(
 #[test]
 fn the_deepest_sample(rt: HostRuntime) -> Result<(), Fail> {
     let sample = deep_sample(rt.alloc(), b"\x86\x80\x04", b"\xff\xff\x03", 65_535)?;
-    let written = fold_of(&rt, rt.alloc(), sample.as_slice())?;
-    assert_eq!(rt; written.len(), 2 * 65_535 + 2);
+    let text = fold_of(&rt, rt.alloc(), sample.as_slice())?;
+    assert_eq!(rt; text.len(), 2 * 65_535 + 2);
     Ok(())
 }
 
@@ -142,7 +145,8 @@ const SYSTEM_NAME: &[u8] =
 
 #[test]
 fn a_name_that_folded_text_cannot_hold(rt: HostRuntime) -> Result<(), Fail> {
-    let (_, written) = run_on(&rt, rt.alloc(), FOLD.as_slice(), SYSTEM_NAME, MAX_INPUT);
-    assert_eq!(rt; written.as_slice(), b"a:b c 7\n".as_slice());
-    Ok(())
+    expect_text(
+        report_text(&rt, rt.alloc(), FOLD.as_slice(), SYSTEM_NAME),
+        "a:b c 7\n",
+    )
 }

@@ -1,6 +1,6 @@
 //! Each subcommand on streams that fail, and on streams that move one byte at a time.
 
-use crate::fakes::{Dripping, Lasting, Narrow, Unrandom, repeated};
+use crate::fakes::{Dripping, Lasting, Narrow, Unrandom, repeated, text_of};
 use crate::profiles::ONE_SAMPLE;
 use flame_answers::{MAX_INPUT, NoProgress};
 use flame_program::run;
@@ -10,6 +10,7 @@ use std::random::RandomSource;
 use std::sync::Wait;
 use std::test::Fail;
 use std::thread::Threads;
+use test_support::{expect_bytes, expect_text};
 
 // The words of a subcommand, an input, and the report on it.
 #[derive(Clone, Copy)]
@@ -60,7 +61,7 @@ fn end_of_reading<T: Threads + Wait + RandomSource + Sync>(
     case: &Case,
     reader: &mut Dripping,
     limit: usize,
-) -> Result<String, AllocError> {
+) -> Result<String, Fail> {
     let mut written = Vec::new(alloc);
     let status = run(
         rt,
@@ -71,7 +72,7 @@ fn end_of_reading<T: Threads + Wait + RandomSource + Sync>(
         &mut written,
         limit.min(MAX_INPUT),
     );
-    format!(in alloc; "{} {} {}", status.code, written.len(), status.cause)
+    Ok(format!(in alloc; "{} {} {}", status.code, written.len(), status.cause)?)
 }
 
 // How runs end in which each read fails in turn, the last of them that which would find the end of the input.
@@ -80,7 +81,7 @@ fn ends_of_failing_reads<T: Threads + Wait + RandomSource + Sync>(
     alloc: Global,
     case: &Case,
     lasting: Lasting,
-) -> Result<String, AllocError> {
+) -> Result<String, Fail> {
     let mut ends = String::new(alloc);
     for reads in 0..case.input.len() + 1 {
         let mut reader = Dripping::new(case.input);
@@ -95,14 +96,21 @@ fn ends_of_failing_reads<T: Threads + Wait + RandomSource + Sync>(
     Ok(ends)
 }
 
+// An end so many times over.
+fn ends(alloc: Global, end: &str, times: usize) -> Result<String, Fail> {
+    text_of(repeated(alloc, end.as_bytes(), times)?)
+}
+
 #[test]
 fn each_read_fails_in_turn(rt: HostRuntime) -> Result<(), Fail> {
     for case in &CASES {
-        let want = repeated(rt.alloc(), b"3 0 flame: E1 Read\n", case.input.len() + 1)?;
-        let once = ends_of_failing_reads(&rt, rt.alloc(), case, Lasting::Once)?;
-        assert_eq!(rt; once.as_bytes(), want.as_slice(), "{:?}", case.words);
-        let lasting = ends_of_failing_reads(&rt, rt.alloc(), case, Lasting::FromThenOn)?;
-        assert_eq!(rt; lasting.as_bytes(), want.as_slice(), "{:?}", case.words);
+        let want = ends(rt.alloc(), "3 0 flame: E1 Read\n", case.input.len() + 1)?;
+        for lasting in [Lasting::Once, Lasting::FromThenOn] {
+            expect_text(
+                ends_of_failing_reads(&rt, rt.alloc(), case, lasting),
+                want.as_str(),
+            )?;
+        }
     }
     Ok(())
 }
@@ -113,8 +121,10 @@ fn no_byte_is_read_past_the_limit(rt: HostRuntime) -> Result<(), Fail> {
         let mut reader = Dripping::new(case.input);
         reader.reads_to_fault = Some(case.input.len());
         let limit = case.input.len().saturating_sub(1);
-        let end = end_of_reading(&rt, rt.alloc(), case, &mut reader, limit)?;
-        assert_eq!(rt; end.as_str(), "1 0 flame: E3 TooLong\n", "{:?}", case.words);
+        expect_text(
+            end_of_reading(&rt, rt.alloc(), case, &mut reader, limit),
+            "1 0 flame: E3 TooLong\n",
+        )?;
     }
     Ok(())
 }
@@ -124,32 +134,48 @@ fn no_random_bytes_are_a_fault_of_reading(rt: HostRuntime) -> Result<(), Fail> {
     let unrandom = Unrandom { rt: &rt };
     for case in &CASES {
         let mut reader = Dripping::new(case.input);
-        let end = end_of_reading(&unrandom, rt.alloc(), case, &mut reader, MAX_INPUT)?;
-        assert_eq!(rt; end.as_str(), "3 0 flame: E1 Read\n", "{:?}", case.words);
+        expect_text(
+            end_of_reading(&unrandom, rt.alloc(), case, &mut reader, MAX_INPUT),
+            "3 0 flame: E1 Read\n",
+        )?;
     }
     Ok(())
 }
 
-// The input is as long as the limit, and each read after its end would fail.
-#[test]
-fn streams_of_one_byte_change_nothing(rt: HostRuntime) {
-    for case in &CASES {
-        let mut reader = Dripping::new(case.input);
-        reader.reads_to_fault = Some(case.input.len() + 1);
-        let mut writer = Narrow::new(rt.alloc(), 1_000, 1);
-        let status = run(
-            &rt,
-            rt.alloc(),
-            &NoProgress,
-            case.words,
-            &mut reader,
-            &mut writer,
-            case.input.len().min(MAX_INPUT),
-        );
-        assert_eq!(rt; status.code, 0, "{:?}", case.words);
-        assert_eq!(rt; writer.taken.as_slice(), case.report, "{:?}", case.words);
-        assert!(rt; writer.is_flushed, "{:?}", case.words);
+// What a run writes to a writer that takes one byte at a time, and is flushed at the end. The input is as long as the
+// limit, and each read after its end would fail.
+fn written_by_bytes<T: Threads + Wait + RandomSource + Sync>(
+    rt: &T,
+    alloc: Global,
+    case: &Case,
+) -> Result<Vec<u8>, Fail> {
+    let mut reader = Dripping::new(case.input);
+    reader.reads_to_fault = Some(case.input.len() + 1);
+    let mut writer = Narrow::new(alloc, 1_000, 1);
+    let status = run(
+        rt,
+        alloc,
+        &NoProgress,
+        case.words,
+        &mut reader,
+        &mut writer,
+        case.input.len().min(MAX_INPUT),
+    );
+    match (status.code, writer.is_flushed) {
+        (0, true) => Ok(writer.taken),
+        (code, _) => Err(Fail::new(code)),
     }
+}
+
+#[test]
+fn streams_of_one_byte_change_nothing(rt: HostRuntime) -> Result<(), Fail> {
+    for case in &CASES {
+        expect_bytes(
+            written_by_bytes(&rt, rt.alloc(), case)?.as_slice(),
+            case.report,
+        )?;
+    }
+    Ok(())
 }
 
 // How a run ends that writes to this writer: its status, whether exactly the first bytes of its report were taken, so
@@ -160,7 +186,7 @@ fn end_of_writing<T: Threads + Wait + RandomSource + Sync>(
     case: &Case,
     writer: &mut Narrow,
     room: usize,
-) -> Result<String, AllocError> {
+) -> Result<String, Fail> {
     let mut reader = case.input;
     let status = run(
         rt,
@@ -172,7 +198,7 @@ fn end_of_writing<T: Threads + Wait + RandomSource + Sync>(
         MAX_INPUT,
     );
     let is_beginning = case.report.get(..room) == Some(writer.taken.as_slice());
-    format!(in alloc; "{} {is_beginning} {}", status.code, status.cause)
+    Ok(format!(in alloc; "{} {is_beginning} {}", status.code, status.cause)?)
 }
 
 // How runs end in which each byte in turn isn't taken any more. At most `each` bytes are taken at a write.
@@ -182,7 +208,7 @@ fn ends_of_failing_writes<T: Threads + Wait + RandomSource + Sync>(
     case: &Case,
     each: usize,
     lasting: Lasting,
-) -> Result<String, AllocError> {
+) -> Result<String, Fail> {
     let mut ends = String::new(alloc);
     for room in 0..case.report.len() {
         let mut writer = Narrow::new(alloc, room, each);
@@ -199,11 +225,13 @@ fn ends_of_failing_writes<T: Threads + Wait + RandomSource + Sync>(
 #[test]
 fn each_write_fails_in_turn(rt: HostRuntime) -> Result<(), Fail> {
     for case in &CASES {
-        let want = repeated(rt.alloc(), b"3 true flame: E2 Write\n", case.report.len())?;
-        let once = ends_of_failing_writes(&rt, rt.alloc(), case, 1, Lasting::Once)?;
-        assert_eq!(rt; once.as_bytes(), want.as_slice(), "{:?}", case.words);
-        let lasting = ends_of_failing_writes(&rt, rt.alloc(), case, 7, Lasting::FromThenOn)?;
-        assert_eq!(rt; lasting.as_bytes(), want.as_slice(), "{:?}", case.words);
+        let want = ends(rt.alloc(), "3 true flame: E2 Write\n", case.report.len())?;
+        for (each, lasting) in [(1, Lasting::Once), (7, Lasting::FromThenOn)] {
+            expect_text(
+                ends_of_failing_writes(&rt, rt.alloc(), case, each, lasting),
+                want.as_str(),
+            )?;
+        }
     }
     Ok(())
 }
@@ -212,13 +240,10 @@ fn each_write_fails_in_turn(rt: HostRuntime) -> Result<(), Fail> {
 fn a_write_that_takes_no_byte_is_a_fault(rt: HostRuntime) -> Result<(), Fail> {
     for case in &CASES {
         let mut writer = Narrow::new(rt.alloc(), 1_000, 0);
-        let end = end_of_writing(&rt, rt.alloc(), case, &mut writer, 0)?;
-        assert_eq!(rt;
-            end.as_str(),
+        expect_text(
+            end_of_writing(&rt, rt.alloc(), case, &mut writer, 0),
             "3 true flame: E2 Write\n",
-            "{:?}",
-            case.words
-        );
+        )?;
     }
     Ok(())
 }
@@ -229,13 +254,10 @@ fn a_flush_that_fails_is_a_fault(rt: HostRuntime) -> Result<(), Fail> {
     for case in &CASES {
         let mut writer = Narrow::new(rt.alloc(), 1_000, 1_000);
         writer.fails_at_flush = true;
-        let end = end_of_writing(&rt, rt.alloc(), case, &mut writer, case.report.len())?;
-        assert_eq!(rt;
-            end.as_str(),
+        expect_text(
+            end_of_writing(&rt, rt.alloc(), case, &mut writer, case.report.len()),
             "3 true flame: E2 Write\n",
-            "{:?}",
-            case.words
-        );
+        )?;
     }
     Ok(())
 }

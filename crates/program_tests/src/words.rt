@@ -1,7 +1,6 @@
 //! Words that are refused or ask for help, and what the program says of them.
 
-use crate::fakes::run_on;
-use flame_answers::MAX_INPUT;
+use crate::fakes::end_on;
 use std::test::Fail;
 
 const STORED: &[u8] = b"main;a;b 3\nmain;a 2\nmain;c 5\n";
@@ -53,11 +52,8 @@ fn refused_words(rt: HostRuntime) -> Result<(), Fail> {
         ),
     ];
     for (words, part) in cases {
-        let (status, written) = run_on(&rt, rt.alloc(), words, STORED, MAX_INPUT);
-        let said = status.cause.to_string(rt.alloc())?;
-        assert_eq!(rt; status.code, 2, "{part}");
-        assert!(rt; said.contains(part), "{said}");
-        assert!(rt; written.is_empty(), "{part}");
+        let end = end_on(&rt, rt.alloc(), words, STORED)?;
+        assert!(rt; end.starts_with("2 0 ") && end.contains(part), "{end}");
     }
     Ok(())
 }
@@ -70,11 +66,12 @@ fn usage_lines_name_the_program(rt: HostRuntime) -> Result<(), Fail> {
         &["out/flame_tool", "top", "--help"],
         &["out/flame_tool", "fold", "--by", "cum"],
     ];
-    for (place, words) in cases.iter().enumerate() {
-        let (status, _) = run_on(&rt, rt.alloc(), words, STORED, MAX_INPUT);
-        let said = status.cause.to_string(rt.alloc())?;
-        assert!(rt; said.contains("\nUsage: flame "), "{place}");
-        assert!(rt; !said.contains("flame_tool"), "{place}");
+    for words in cases {
+        let end = end_on(&rt, rt.alloc(), words, STORED)?;
+        assert!(rt;
+            end.contains("\nUsage: flame ") && !end.contains("flame_tool"),
+            "{end}"
+        );
     }
     Ok(())
 }

@@ -11,6 +11,7 @@ use std::alloc::Global;
 use std::marker::Brand;
 use std::sync::{Arc, Wait};
 use std::test::Fail;
+use test_support::expect_text;
 
 /// What a session does.
 #[derive(Clone, Copy)]
@@ -179,12 +180,10 @@ const TURNS_OF_THREE: &[Turn] = &[
 // The store has sessions and room for more, and no more was changed than these three did: their logs match the journal.
 #[test]
 fn three_sessions_match_their_journal(rt: HostRuntime) -> Result<(), Fail> {
-    let said = story(&rt, rt.alloc(), 100, 64, 3, TURNS_OF_THREE)?;
-    assert_eq!(rt;
-        said.as_str(),
-        "12: 0.0 1.0 2.0 0.1 1.1 1.2 2.1 0.2 0.3 0.4 0.5 0.6 "
-    );
-    Ok(())
+    expect_text(
+        story(&rt, rt.alloc(), 100, 64, 3, TURNS_OF_THREE),
+        "12: 0.0 1.0 2.0 0.1 1.1 1.2 2.1 0.2 0.3 0.4 0.5 0.6 ",
+    )
 }
 
 /// A session that asks the same again when another has changed what counts.
@@ -198,9 +197,10 @@ const TURNS_AROUND_CHANGES: &[Turn] = &[
 
 #[test]
 fn a_question_is_answered_anew(rt: HostRuntime) -> Result<(), Fail> {
-    let said = story(&rt, rt.alloc(), 10, 2, 2, TURNS_AROUND_CHANGES)?;
-    assert_eq!(rt; said.as_str(), "5: 0.0 1.0 0.1 1.1 0.2 ");
-    Ok(())
+    expect_text(
+        story(&rt, rt.alloc(), 10, 2, 2, TURNS_AROUND_CHANGES),
+        "5: 0.0 1.0 0.1 1.1 0.2 ",
+    )
 }
 
 // Sessions that each add a row, in order, and then each ask for the total.
@@ -281,9 +281,10 @@ const TURNS_AT_THE_LIMIT: &[Turn] = &[
 
 #[test]
 fn refused_sessions_match_their_journal(rt: HostRuntime) -> Result<(), Fail> {
-    let said = story(&rt, rt.alloc(), 1, 3, 3, TURNS_AT_THE_LIMIT)?;
-    assert_eq!(rt; said.as_str(), "3: 2.0 0.0 2.1 ");
-    Ok(())
+    expect_text(
+        story(&rt, rt.alloc(), 1, 3, 3, TURNS_AT_THE_LIMIT),
+        "3: 2.0 0.0 2.1 ",
+    )
 }
 
 // Two sessions, of which the one adds a thousand times.

@@ -11,6 +11,7 @@ use std::alloc::Global;
 use std::fmt::Write;
 use std::sync::Arc;
 use std::test::Fail;
+use test_support::{expect_printed, expect_text};
 
 /// What a session asks of a book: an addition of folded text, or, where there is none, a reset.
 #[derive(Drop)]
@@ -97,32 +98,29 @@ fn book_of(alloc: Global, limit: u32) -> Result<Book, Fail> {
 fn a_book_driven_by_hand(rt: HostRuntime) -> Result<(), Fail> {
     let alloc = rt.alloc();
     let steps = [add(0, 0, "a 1\n"), add(0, 0, "b 2\n"), add(0, 1, "b 2\n")];
-    let told = told_in_turn(alloc, book_of(alloc, 3)?, &steps)?;
-    assert_eq!(rt;
-        told.as_str(),
-        "placed 0 at 0; K2 Turn held 1; placed 1 at 1; 2 entries, 3"
-    );
-    Ok(())
+    expect_text(
+        told_in_turn(alloc, book_of(alloc, 3)?, &steps),
+        "placed 0 at 0; K2 Turn held 1; placed 1 at 1; 2 entries, 3",
+    )
 }
 
 #[test]
 fn a_reset_between_two_additions(rt: HostRuntime) -> Result<(), Fail> {
     let alloc = rt.alloc();
     let steps = [add(0, 0, "a 1\n"), reset(0, 1), add(0, 2, "b 2\n")];
-    let told = told_in_turn(alloc, book_of(alloc, 10)?, &steps)?;
-    assert_eq!(rt;
-        told.as_str(),
-        "placed 0 at 0; placed 1 at 1; placed 2 at 2; 3 entries, 2"
-    );
-    Ok(())
+    expect_text(
+        told_in_turn(alloc, book_of(alloc, 10)?, &steps),
+        "placed 0 at 0; placed 1 at 1; placed 2 at 2; 3 entries, 2",
+    )
 }
 
 #[test]
 fn an_empty_book_is_reset(rt: HostRuntime) -> Result<(), Fail> {
     let alloc = rt.alloc();
-    let told = told_in_turn(alloc, book_of(alloc, 10)?, &[reset(1, 0)])?;
-    assert_eq!(rt; told.as_str(), "placed 0 at 0; 1 entries, 0");
-    Ok(())
+    expect_text(
+        told_in_turn(alloc, book_of(alloc, 10)?, &[reset(1, 0)]),
+        "placed 0 at 0; 1 entries, 0",
+    )
 }
 
 #[test]
@@ -134,12 +132,10 @@ fn a_full_book_takes_no_more(rt: HostRuntime) -> Result<(), Fail> {
         add(0, 1, "c 1\n"),
         reset(1, 1),
     ];
-    let told = told_in_turn(alloc, book_of(alloc, 2)?, &steps)?;
-    assert_eq!(rt;
-        told.as_str(),
-        "placed 0 at 0; placed 1 at 1; K3 Full held 2; K3 Full held 2; 2 entries, 0"
-    );
-    Ok(())
+    expect_text(
+        told_in_turn(alloc, book_of(alloc, 2)?, &steps),
+        "placed 0 at 0; placed 1 at 1; K3 Full held 2; K3 Full held 2; 2 entries, 0",
+    )
 }
 
 #[test]
@@ -153,13 +149,11 @@ fn the_first_cause_is_told(rt: HostRuntime) -> Result<(), Fail> {
         reset(0, 1),
         reset(0, 0),
     ];
-    let told = told_in_turn(alloc, book_of(alloc, 0)?, &steps)?;
-    assert_eq!(rt;
-        told.as_str(),
+    expect_text(
+        told_in_turn(alloc, book_of(alloc, 0)?, &steps),
         "K1 Session; K2 Turn held 0; K3 Full held 0; \
-         K1 Session; K2 Turn held 0; K3 Full held 0; 0 entries, 0"
-    );
-    Ok(())
+         K1 Session; K2 Turn held 0; K3 Full held 0; 0 entries, 0",
+    )
 }
 
 #[test]
@@ -170,13 +164,11 @@ fn the_limit_of_weights(rt: HostRuntime) -> Result<(), Fail> {
         add(0, 1, "b 2\n"),
         add(0, 1, "b 1\n"),
     ];
-    let told = told_in_turn(alloc, book_of(alloc, 10)?, &steps)?;
-    assert_eq!(rt;
-        told.as_str(),
+    expect_text(
+        told_in_turn(alloc, book_of(alloc, 10)?, &steps),
         "placed 0 at 0; K4 Heavy value 0 held 9223372036854775806; placed 1 at 1; \
-         2 entries, 9223372036854775807"
-    );
-    Ok(())
+         2 entries, 9223372036854775807",
+    )
 }
 
 #[test]
@@ -188,13 +180,11 @@ fn what_stood_before_a_reset_weighs_nothing(rt: HostRuntime) -> Result<(), Fail>
         reset(0, 1),
         add(0, 2, "a 1\n"),
     ];
-    let told = told_in_turn(alloc, book_of(alloc, 10)?, &steps)?;
-    assert_eq!(rt;
-        told.as_str(),
+    expect_text(
+        told_in_turn(alloc, book_of(alloc, 10)?, &steps),
         "placed 0 at 0; K4 Heavy value 0 held 9223372036854775807; \
-         placed 1 at 1; placed 2 at 2; 3 entries, 1"
-    );
-    Ok(())
+         placed 1 at 1; placed 2 at 2; 3 entries, 1",
+    )
 }
 
 fn total_of(tree: &CallTree) -> u64 {
@@ -240,9 +230,10 @@ fn prepared_and_settled(alloc: Global, book: &mut Book) -> Result<String, Fail> 
 
 #[test]
 fn a_prepared_change_is_made_when_it_is_settled(rt: HostRuntime) -> Result<(), Fail> {
-    let told = prepared_in_turn(rt.alloc())?;
-    assert_eq!(rt; told.as_str(), "0 1 1 at 0; 1 3 3 at 1; 3 0 0 at 2; ");
-    Ok(())
+    expect_text(
+        prepared_in_turn(rt.alloc()),
+        "0 1 1 at 0; 1 3 3 at 1; 3 0 0 at 2; ",
+    )
 }
 
 // A change that is prepared and let go.
@@ -330,30 +321,20 @@ fn told_of_two_values(alloc: Global) -> Result<String, Fail> {
 
 #[test]
 fn a_book_of_two_values(rt: HostRuntime) -> Result<(), Fail> {
-    let said = told_of_two_values(rt.alloc())?;
-    assert_eq!(rt;
-        said.as_str(),
-        "[1, 0] None; [1, 2] None; [1, 2] Some(Width { held: 2 }); "
-    );
-    Ok(())
+    expect_text(
+        told_of_two_values(rt.alloc()),
+        "[1, 0] None; [1, 2] None; [1, 2] Some(Width { held: 2 }); ",
+    )
 }
 
 #[test]
 fn another_width_is_printed(rt: HostRuntime) -> Result<(), Fail> {
-    let printed = format!(in rt.alloc(); "{}", BookFault::Width { held: 2 })
-        .ok()
-        .ok_or("no memory")?;
-    assert_eq!(rt; printed.as_str(), "K6 Width held 2");
-    Ok(())
+    expect_printed(rt.alloc(), &BookFault::Width { held: 2 }, "K6 Width held 2")
 }
 
 #[test]
 fn want_of_memory_is_printed(rt: HostRuntime) -> Result<(), Fail> {
-    let printed = format!(in rt.alloc(); "{}", BookFault::NoMemory)
-        .ok()
-        .ok_or("no memory")?;
-    assert_eq!(rt; printed.as_str(), "K5 NoMemory");
-    Ok(())
+    expect_printed(rt.alloc(), &BookFault::NoMemory, "K5 NoMemory")
 }
 
 fn add_and_reset(alloc: Global, book: &mut Book) -> Result<(), Fail> {

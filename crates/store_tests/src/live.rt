@@ -9,6 +9,7 @@ use std::alloc::Global;
 use std::sync::{Arc, Mutex, Wait};
 use std::test::Fail;
 use std::thread::Threads;
+use test_support::{expect_printed, expect_text};
 
 // What is written, or why nothing is.
 fn written<R: Threads + Wait + Sync>(
@@ -46,9 +47,10 @@ fn no_rows_have_empty_reports(rt: HostRuntime) -> Result<(), Fail> {
     let alloc = rt.alloc();
     let batch = batch_of(alloc, "")?;
     let options = LiveOptions::new(2, false, true);
-    let said = written(&rt, alloc, batch, options)?;
-    assert_eq!(rt; said.as_str(), "audited 5 operations\n");
-    Ok(())
+    expect_text(
+        written(&rt, alloc, batch, options),
+        "audited 5 operations\n",
+    )
 }
 
 #[test]
@@ -56,12 +58,10 @@ fn each_value_behind_a_warm_start(rt: HostRuntime) -> Result<(), Fail> {
     let alloc = rt.alloc();
     let batch = row_of(alloc, "a", &[1, 2])?;
     let options = LiveOptions::new(2, true, true);
-    let said = written(&rt, alloc, batch, options)?;
-    assert_eq!(rt;
-        said.as_str(),
-        "value 0\na 1\nvalue 1\na 2\naudited 8 operations\n"
-    );
-    Ok(())
+    expect_text(
+        written(&rt, alloc, batch, options),
+        "value 0\na 1\nvalue 1\na 2\naudited 8 operations\n",
+    )
 }
 
 #[test]
@@ -69,9 +69,10 @@ fn one_worker_behind_a_warm_start(rt: HostRuntime) -> Result<(), Fail> {
     let alloc = rt.alloc();
     let batch = batch_of(alloc, "b 1\na 2\n")?;
     let options = LiveOptions::new(1, false, true);
-    let said = written(&rt, alloc, batch, options)?;
-    assert_eq!(rt; said.as_str(), "a 2\nb 1\naudited 6 operations\n");
-    Ok(())
+    expect_text(
+        written(&rt, alloc, batch, options),
+        "a 2\nb 1\naudited 6 operations\n",
+    )
 }
 
 // How faults are printed, each with whether something was wanting, so that the store refused nothing.
@@ -109,8 +110,7 @@ fn printed_faults() -> [(LiveFault, &'static str, bool); 15] {
 #[test]
 fn faults_are_printed_by_their_causes(rt: HostRuntime) -> Result<(), Fail> {
     for (fault, wanted, is_shortage) in printed_faults() {
-        let said = format!(in rt.alloc(); "{fault}")?;
-        assert_eq!(rt; said.as_str(), wanted);
+        expect_printed(rt.alloc(), &fault, wanted)?;
         assert!(rt; fault.is_shortage() == is_shortage, "{wanted}");
     }
     Ok(())
@@ -119,18 +119,10 @@ fn faults_are_printed_by_their_causes(rt: HostRuntime) -> Result<(), Fail> {
 // What each library says of it, which `live` tells as one fault.
 #[test]
 fn want_of_memory_has_a_line_in_each_library(rt: HostRuntime) -> Result<(), Fail> {
-    let said = format!(in rt.alloc();
-        "{}, {}, {}, {}",
-        MakeFault::NoMemory,
-        SessionFault::NoMemory,
-        WorkersFault::NoMemory,
-        AuditFault::NoMemory
-    )?;
-    assert_eq!(rt;
-        said.as_str(),
-        "S3 NoMemory, N3 NoMemory, G2 NoMemory, A6 NoMemory"
-    );
-    Ok(())
+    expect_printed(rt.alloc(), &MakeFault::NoMemory, "S3 NoMemory")?;
+    expect_printed(rt.alloc(), &SessionFault::NoMemory, "N3 NoMemory")?;
+    expect_printed(rt.alloc(), &WorkersFault::NoMemory, "G2 NoMemory")?;
+    expect_printed(rt.alloc(), &AuditFault::NoMemory, "A6 NoMemory")
 }
 
 // How many rows were heard of.

@@ -16,6 +16,7 @@ use std::alloc::Global;
 use std::marker::Brand;
 use std::sync::Wait;
 use std::test::Fail;
+use test_support::{expect_printed, expect_text};
 
 // The weight of all that was added, or why the question is refused.
 fn total<N: StoreName>(
@@ -139,20 +140,16 @@ fn a_store_has_one_session_to_sixty_four(rt: HostRuntime) -> Result<(), Fail> {
             "{sessions}"
         );
     }
-    let printed = format!(in rt.alloc(); "{}", MakeFault::Sessions)?;
-    assert_eq!(rt; printed.as_str(), "S1 Sessions");
-    Ok(())
+    expect_printed(rt.alloc(), &MakeFault::Sessions, "S1 Sessions")
 }
 
 #[test]
 fn closed_store_gives_its_journal(rt: HostRuntime) -> Result<(), Fail> {
     let alloc = rt.alloc();
-    let told = closed::<Brand, HostRuntime>(&rt, alloc, Blank::make(alloc, 10, 2, Width::one())?)?;
-    assert_eq!(rt;
-        told.as_str(),
-        "Ok(0) Ok(1) Ok(3) Ok(2) Ok(7) Some(AllGiven) 2 3; 0 1 1 7 2"
-    );
-    Ok(())
+    expect_text(
+        closed::<Brand, HostRuntime>(&rt, alloc, Blank::make(alloc, 10, 2, Width::one())?),
+        "Ok(0) Ok(1) Ok(3) Ok(2) Ok(7) Some(AllGiven) 2 3; 0 1 1 7 2",
+    )
 }
 
 // What a session answers a query of some kind.
@@ -473,33 +470,34 @@ fn kinds_with<R: Wait>(rt: &R, alloc: Global, hashing: Hashing) -> Result<String
 
 #[test]
 fn a_session_answers_each_kind_of_query(rt: HostRuntime) -> Result<(), Fail> {
-    let told = told_of(&rt, rt.alloc(), 10, 2, 1, Story::EachKind)?;
-    assert_eq!(rt; told.as_str(), KEPT_REPORTS);
-    Ok(())
+    expect_text(
+        told_of(&rt, rt.alloc(), 10, 2, 1, Story::EachKind),
+        KEPT_REPORTS,
+    )
 }
 
 // Two stores hash from the same start, and one from another.
 #[test]
 fn no_answer_depends_on_how_names_are_hashed(rt: HostRuntime) -> Result<(), Fail> {
     for key in [7, 7, 8] {
-        let told = kinds_with(&rt, rt.alloc(), Hashing::of_key(key))?;
-        assert_eq!(rt; told.as_str(), KEPT_REPORTS);
+        expect_text(
+            kinds_with(&rt, rt.alloc(), Hashing::of_key(key)),
+            KEPT_REPORTS,
+        )?;
     }
     Ok(())
 }
 
 #[test]
 fn a_session_of_two_values(rt: HostRuntime) -> Result<(), Fail> {
-    let told = told_of(&rt, rt.alloc(), 10, 2, 2, Story::TwoValues)?;
-    assert_eq!(rt;
-        told.as_str(),
+    expect_text(
+        told_of(&rt, rt.alloc(), 10, 2, 2, Story::TwoValues),
         "Ok(0)|Ok(1)|Err(Width { held: 2 })|1|2|total 2\n2 2 b\n|\
          {\"columns\":4,\"rects\":[\
          {\"depth\":0,\"left\":0,\"name\":\"\",\"right\":4,\"weight\":2,\"x\":0},\
          {\"depth\":1,\"left\":0,\"name\":\"b\",\"right\":4,\"weight\":2,\"x\":0}],\"total\":2}|\
-         b 2\n|Width { held: 2 }|"
-    );
-    Ok(())
+         b 2\n|Width { held: 2 }|",
+    )
 }
 
 #[test]
@@ -515,46 +513,43 @@ fn sessions_of_three_and_of_four_values(rt: HostRuntime) -> Result<(), Fail> {
             "Ok(0)|Ok(1)|Err(Width { held: 4 })|11|22|33|44|Width { held: 4 }|",
         ),
     ] {
-        let told = told_of(&rt, rt.alloc(), 10, 2, values, Story::FourValues)?;
-        assert_eq!(rt; told.as_str(), wanted);
+        expect_text(
+            told_of(&rt, rt.alloc(), 10, 2, values, Story::FourValues),
+            wanted,
+        )?;
     }
     Ok(())
 }
 
 #[test]
 fn the_limit_of_each_value(rt: HostRuntime) -> Result<(), Fail> {
-    let told = told_of(&rt, rt.alloc(), 10, 2, 2, Story::LimitOfEach)?;
-    assert_eq!(rt;
-        told.as_str(),
-        "Ok(0)|Ok(1)|Err(Heavy { value: 0, held: 9223372036854775807 })|"
-    );
-    Ok(())
+    expect_text(
+        told_of(&rt, rt.alloc(), 10, 2, 2, Story::LimitOfEach),
+        "Ok(0)|Ok(1)|Err(Heavy { value: 0, held: 9223372036854775807 })|",
+    )
 }
 
 #[test]
 fn an_answer_is_kept_while_others_make_changes(rt: HostRuntime) -> Result<(), Fail> {
-    let told = told_of(&rt, rt.alloc(), 301, 2, 1, Story::KeptAnswer)?;
-    assert_eq!(rt;
-        told.as_str(),
-        "main;a 7\n300|main;a 7\n|b 300\nmain;a 307\n"
-    );
-    Ok(())
+    expect_text(
+        told_of(&rt, rt.alloc(), 301, 2, 1, Story::KeptAnswer),
+        "main;a 7\n300|main;a 7\n|b 300\nmain;a 307\n",
+    )
 }
 
 #[test]
 fn a_session_that_ends_holds_up_no_other(rt: HostRuntime) -> Result<(), Fail> {
-    let told = told_of(&rt, rt.alloc(), 100, 4, 1, Story::OthersEnd)?;
-    assert_eq!(rt; told.as_str(), "Ok(0) 50 Ok(50) 100");
-    Ok(())
+    expect_text(
+        told_of(&rt, rt.alloc(), 100, 4, 1, Story::OthersEnd),
+        "Ok(0) 50 Ok(50) 100",
+    )
 }
 
 // Neither what a session was refused nor its end gives its number to another, and all four are given.
 #[test]
 fn sessions_are_numbered_in_order(rt: HostRuntime) -> Result<(), Fail> {
-    let told = told_of(&rt, rt.alloc(), 0, 4, 1, Story::Numbers)?;
-    assert_eq!(rt;
-        told.as_str(),
-        "0; 1; 2 Some(Full { held: 0 }); 3 Some(Full { held: 0 }); N1 AllGiven; N1 AllGiven; "
-    );
-    Ok(())
+    expect_text(
+        told_of(&rt, rt.alloc(), 0, 4, 1, Story::Numbers),
+        "0; 1; 2 Some(Full { held: 0 }); 3 Some(Full { held: 0 }); N1 AllGiven; N1 AllGiven; ",
+    )
 }

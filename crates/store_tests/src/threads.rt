@@ -15,6 +15,7 @@ use std::sync::{Arc, Mutex, Wait};
 use std::test::Fail;
 use std::thread;
 use std::thread::Threads;
+use test_support::expect_text;
 
 // A session that adds a batch a hundred times. It gives how many receipts it has.
 fn add_hundred<N: StoreName, R: Wait>(
@@ -70,9 +71,10 @@ fn two_threads_add_at_once(rt: HostRuntime) -> Result<(), Fail> {
     let alloc = rt.alloc();
     let batch = batch_of(alloc, "main;a 1\n")?;
     let blank = Blank::make(alloc, 200, 2, Width::one())?;
-    let told = threaded::<Brand, HostRuntime>(&rt, alloc, blank, &batch)?;
-    assert_eq!(rt; told.as_str(), "100 100; 200 200");
-    Ok(())
+    expect_text(
+        threaded::<Brand, HostRuntime>(&rt, alloc, blank, &batch),
+        "100 100; 200 200",
+    )
 }
 
 /// How many operations each of eight sessions does. For a longer run by hand, write 10,000 here, and call

@@ -12,6 +12,7 @@ use std::alloc::Global;
 use std::marker::Brand;
 use std::sync::{Arc, Wait};
 use std::test::Fail;
+use test_support::expect_text;
 
 /// What a session does.
 #[derive(Clone, Copy)]
@@ -263,13 +264,11 @@ const TWO_SESSIONS: &[Turn] = &[
 
 #[test]
 fn two_sessions_audited(rt: HostRuntime) -> Result<(), Fail> {
-    let said = story(&rt, rt.alloc(), 10, 2, TWO_SESSIONS, Change::AsTold)?;
-    assert_eq!(rt;
-        said.as_str(),
+    expect_text(
+        story(&rt, rt.alloc(), 10, 2, TWO_SESSIONS, Change::AsTold),
         "placed 0; placed 1; heard; 3 at 2; placed 2; 7 at 3; \
-         | 0.0 1.0 0.1 1.1 1.2 | a 1\nb 2\nc 4\n"
-    );
-    Ok(())
+         | 0.0 1.0 0.1 1.1 1.2 | a 1\nb 2\nc 4\n",
+    )
 }
 
 #[test]
@@ -300,24 +299,20 @@ const TOLD_AND_UNTOLD: &[Turn] = &[
 
 #[test]
 fn told_and_untold_sessions(rt: HostRuntime) -> Result<(), Fail> {
-    let said = story(&rt, rt.alloc(), 10, 2, TOLD_AND_UNTOLD, Change::AsTold)?;
-    assert_eq!(rt;
-        said.as_str(),
+    expect_text(
+        story(&rt, rt.alloc(), 10, 2, TOLD_AND_UNTOLD, Change::AsTold),
         "placed 0; 1 at 1; heard; 1 at 1; placed 1; heard; 3 at 2; \
-         | 0.0 1.0 1.1 1.2 0.1 | a 1\nb 2\n"
-    );
-    Ok(())
+         | 0.0 1.0 1.1 1.2 0.1 | a 1\nb 2\n",
+    )
 }
 
 #[test]
 fn an_addition_logged_before_earlier_reports(rt: HostRuntime) -> Result<(), Fail> {
-    let said = story(&rt, rt.alloc(), 10, 2, TOLD_AND_UNTOLD, Change::LastFirst)?;
-    assert_eq!(rt;
-        said.as_str(),
+    expect_text(
+        story(&rt, rt.alloc(), 10, 2, TOLD_AND_UNTOLD, Change::LastFirst),
         "placed 0; 1 at 1; heard; 1 at 1; placed 1; heard; 3 at 2; \
-         | A3 Order session 1 index 1| a 1\nb 2\n"
-    );
-    Ok(())
+         | A3 Order session 1 index 1| a 1\nb 2\n",
+    )
 }
 
 /// A session that is told nothing asks behind each change of another.
@@ -334,13 +329,11 @@ const UNTOLD: &[Turn] = &[
 
 #[test]
 fn untold_session_sees_published_addition(rt: HostRuntime) -> Result<(), Fail> {
-    let said = story(&rt, rt.alloc(), 10, 2, UNTOLD, Change::AsTold)?;
-    assert_eq!(rt;
-        said.as_str(),
+    expect_text(
+        story(&rt, rt.alloc(), 10, 2, UNTOLD, Change::AsTold),
         "0 at 0; placed 0; 1 at 1; 1 at 1; placed 1; 0 at 2; placed 2; 2 at 3; \
-         | 1.0 0.0 0.1 1.1 0.2 1.2 0.3 1.3 | b 2\n"
-    );
-    Ok(())
+         | 1.0 0.0 0.1 1.1 0.2 1.2 0.3 1.3 | b 2\n",
+    )
 }
 
 /// A session that hears of a late change, then of earlier ones, and then of a later one.
@@ -364,14 +357,12 @@ const OLDER_AND_NEWER: &[Turn] = &[
 
 #[test]
 fn an_older_change_takes_nothing_back(rt: HostRuntime) -> Result<(), Fail> {
-    let said = story(&rt, rt.alloc(), 10, 2, OLDER_AND_NEWER, Change::AsTold)?;
-    assert_eq!(rt;
-        said.as_str(),
+    expect_text(
+        story(&rt, rt.alloc(), 10, 2, OLDER_AND_NEWER, Change::AsTold),
         "placed 0; placed 1; placed 2; heard; 7 at 3; heard; heard; 7 at 3; \
          placed 3; placed 4; heard; 8 at 5; heard; placed 5; 24 at 6; \
-         | 0.0 0.1 0.2 1.0 1.1 0.3 0.4 1.2 1.3 1.4 | d 8\ne 16\n"
-    );
-    Ok(())
+         | 0.0 0.1 0.2 1.0 1.1 0.3 0.4 1.2 1.3 1.4 | d 8\ne 16\n",
+    )
 }
 
 const FULL: &[Turn] = &[
@@ -385,13 +376,11 @@ const FULL: &[Turn] = &[
 
 #[test]
 fn store_limits(rt: HostRuntime) -> Result<(), Fail> {
-    let said = story(&rt, rt.alloc(), 2, 1, FULL, Change::AsTold)?;
-    assert_eq!(rt;
-        said.as_str(),
+    expect_text(
+        story(&rt, rt.alloc(), 2, 1, FULL, Change::AsTold),
         "placed 0; 1 at 1; placed 1; K3 Full held 2; K3 Full held 2; 2 at 2; \
-         | 0.0 0.1 0.2 0.3 | a 1\nb 1\n"
-    );
-    Ok(())
+         | 0.0 0.1 0.2 0.3 | a 1\nb 1\n",
+    )
 }
 
 /// Two sessions of a store that takes one change, of which the one is refused its first.
@@ -403,12 +392,10 @@ const REFUSED: &[Turn] = &[
 
 #[test]
 fn a_refusal_tells_its_cause(rt: HostRuntime) -> Result<(), Fail> {
-    let said = story(&rt, rt.alloc(), 1, 2, REFUSED, Change::AsTold)?;
-    assert_eq!(rt;
-        said.as_str(),
-        "placed 0; K3 Full held 1; 1 at 1; | 0.0 1.0 | a 1\n"
-    );
-    Ok(())
+    expect_text(
+        story(&rt, rt.alloc(), 1, 2, REFUSED, Change::AsTold),
+        "placed 0; K3 Full held 1; 1 at 1; | 0.0 1.0 | a 1\n",
+    )
 }
 
 /// A session beside one that leaves room for a weight of 1.
@@ -421,13 +408,11 @@ const HEAVY: &[Turn] = &[
 
 #[test]
 fn a_session_that_was_refused_adds_a_smaller_batch(rt: HostRuntime) -> Result<(), Fail> {
-    let said = story(&rt, rt.alloc(), 10, 2, HEAVY, Change::AsTold)?;
-    assert_eq!(rt;
-        said.as_str(),
+    expect_text(
+        story(&rt, rt.alloc(), 10, 2, HEAVY, Change::AsTold),
         "placed 0; K4 Heavy value 0 held 9223372036854775806; placed 1; 9223372036854775807 at 2; \
-         | 0.0 1.0 1.1 | a 9223372036854775806\nb 1\n"
-    );
-    Ok(())
+         | 0.0 1.0 1.1 | a 9223372036854775806\nb 1\n",
+    )
 }
 
 const RESET_BETWEEN: &[Turn] = &[
@@ -440,12 +425,10 @@ const RESET_BETWEEN: &[Turn] = &[
 
 #[test]
 fn a_reset_between_two_additions(rt: HostRuntime) -> Result<(), Fail> {
-    let said = story(&rt, rt.alloc(), 10, 1, RESET_BETWEEN, Change::AsTold)?;
-    assert_eq!(rt;
-        said.as_str(),
-        "placed 0; placed 1; 0 at 2; placed 2; 2 at 3; | 0.0 0.1 0.2 0.3 0.4 | b 2\n"
-    );
-    Ok(())
+    expect_text(
+        story(&rt, rt.alloc(), 10, 1, RESET_BETWEEN, Change::AsTold),
+        "placed 0; placed 1; 0 at 2; placed 2; 2 at 3; | 0.0 0.1 0.2 0.3 0.4 | b 2\n",
+    )
 }
 
 const RESET_OF_THE_HEAVY: &[Turn] = &[
@@ -459,13 +442,11 @@ const RESET_OF_THE_HEAVY: &[Turn] = &[
 
 #[test]
 fn what_stood_before_a_reset_weighs_nothing(rt: HostRuntime) -> Result<(), Fail> {
-    let said = story(&rt, rt.alloc(), 10, 1, RESET_OF_THE_HEAVY, Change::AsTold)?;
-    assert_eq!(rt;
-        said.as_str(),
+    expect_text(
+        story(&rt, rt.alloc(), 10, 1, RESET_OF_THE_HEAVY, Change::AsTold),
         "placed 0; placed 1; K4 Heavy value 0 held 9223372036854775807; placed 2; placed 3; \
-         1 at 4; | 0.0 0.1 0.2 0.3 0.4 | a 1\n"
-    );
-    Ok(())
+         1 at 4; | 0.0 0.1 0.2 0.3 0.4 | a 1\n",
+    )
 }
 
 const FULL_BY_A_RESET: &[Turn] = &[
@@ -478,10 +459,8 @@ const FULL_BY_A_RESET: &[Turn] = &[
 
 #[test]
 fn a_full_store_takes_no_reset(rt: HostRuntime) -> Result<(), Fail> {
-    let said = story(&rt, rt.alloc(), 2, 1, FULL_BY_A_RESET, Change::AsTold)?;
-    assert_eq!(rt;
-        said.as_str(),
-        "placed 0; placed 1; K3 Full held 2; K3 Full held 2; 0 at 2; | 0.0 0.1 0.2 | "
-    );
-    Ok(())
+    expect_text(
+        story(&rt, rt.alloc(), 2, 1, FULL_BY_A_RESET, Change::AsTold),
+        "placed 0; placed 1; K3 Full held 2; K3 Full held 2; 0 at 2; | 0.0 0.1 0.2 | ",
+    )
 }

@@ -18,6 +18,7 @@ use std::sync::{Mutex, Wait};
 use std::test::Fail;
 use std::thread;
 use std::thread::Threads;
+use test_support::expect_text;
 
 /// How often each worker called. A call is wrong where it isn't the worker's next: before its first step, behind it,
 /// before its second step, and so on.
@@ -262,8 +263,10 @@ fn each_list_has_a_thread(rt: HostRuntime) -> Result<(), Fail> {
         alone: AtomicU64::new(0),
     };
     let lists: &[&[Deed]] = &[&[Deed::Total(0)], &[Deed::Total(0)]];
-    let said = story(&rt, rt.alloc(), TEN_CHANGES, lists, &gate)?;
-    assert_eq!(rt; said.as_str(), "0: 1 None; 1: 1 None; 0.0 1.0 | next Ok(2)");
+    expect_text(
+        story(&rt, rt.alloc(), TEN_CHANGES, lists, &gate),
+        "0: 1 None; 1: 1 None; 0.0 1.0 | next Ok(2)",
+    )?;
     assert_eq!(rt; gate.there.load(Ordering::SeqCst), 2);
     assert_eq!(rt; gate.alone.load(Ordering::SeqCst), 0);
     Ok(())
@@ -285,12 +288,10 @@ const ONE_OF_THREE: &[&[Deed]] = &[
 // The store has two sessions more, and room for seven changes more. Nobody opens these, or makes those.
 #[test]
 fn workers_alone_change_their_store(rt: HostRuntime) -> Result<(), Fail> {
-    let said = counted(&rt, rt.alloc(), TEN_CHANGES, ONE_OF_THREE)?;
-    assert_eq!(rt;
-        said.as_str(),
-        "0: 0 None; 1: 5 None; 2: 0 None; 1.0 1.1 1.2 1.3 1.4 | next Ok(3); [0, 10, 0] calls, 0 wrong"
-    );
-    Ok(())
+    expect_text(
+        counted(&rt, rt.alloc(), TEN_CHANGES, ONE_OF_THREE),
+        "0: 0 None; 1: 5 None; 2: 0 None; 1.0 1.1 1.2 1.3 1.4 | next Ok(3); [0, 10, 0] calls, 0 wrong",
+    )
 }
 
 /// A worker of more steps than a byte counts beside one of a few, which is refused its last but one.
@@ -402,8 +403,7 @@ fn refusals() -> [Refusal; 7] {
 #[test]
 fn a_worker_stops_where_it_is_refused(rt: HostRuntime) -> Result<(), Fail> {
     for (size, deeds, wanted) in refusals() {
-        let said = counted(&rt, rt.alloc(), size, &[deeds])?;
-        assert_eq!(rt; said.as_str(), wanted);
+        expect_text(counted(&rt, rt.alloc(), size, &[deeds]), wanted)?;
     }
     Ok(())
 }
@@ -413,12 +413,10 @@ const A_RESET: &[Deed] = &[Deed::Reset];
 // A store of five sessions has none for the sixth list, and none is left behind that.
 #[test]
 fn no_worker_starts_where_a_session_is_refused(rt: HostRuntime) -> Result<(), Fail> {
-    let said = counted(&rt, rt.alloc(), TEN_CHANGES, &[A_RESET; 7])?;
-    assert_eq!(rt;
-        said.as_str(),
-        "G1 Session worker 5 fault N1 AllGiven| next Err(AllGiven); [0, 0, 0, 0, 0, 0, 0] calls, 0 wrong"
-    );
-    Ok(())
+    expect_text(
+        counted(&rt, rt.alloc(), TEN_CHANGES, &[A_RESET; 7]),
+        "G1 Session worker 5 fault N1 AllGiven| next Err(AllGiven); [0, 0, 0, 0, 0, 0, 0] calls, 0 wrong",
+    )
 }
 
 #[test]
@@ -428,12 +426,10 @@ fn a_gate_holds_a_worker_around_its_step(rt: HostRuntime) -> Result<(), Fail> {
         first: AtomicU64::new(0),
     };
     let lists: &[&[Deed]] = &[&[Deed::Add("a 1\n")], &[Deed::Total(0); 3]];
-    let said = story(&rt, rt.alloc(), TEN_CHANGES, lists, &gate)?;
-    assert_eq!(rt;
-        said.as_str(),
-        "0: 1 None; 1: 3 None; 1.0 0.0 1.1 1.2 | next Ok(2)"
-    );
-    Ok(())
+    expect_text(
+        story(&rt, rt.alloc(), TEN_CHANGES, lists, &gate),
+        "0: 1 None; 1: 3 None; 1.0 0.0 1.1 1.2 | next Ok(2)",
+    )
 }
 
 /// Some rows, and then the total.
@@ -606,7 +602,8 @@ fn addition_seen_by_other_session(rt: HostRuntime) -> Result<(), Fail> {
     let alloc = rt.alloc();
     let lists = lists_of(alloc, &[&[Deed::Total(0)]])?;
     let blank = Blank::make(alloc, 10, 3, width_of(1)?)?;
-    let told = held_worker::<Brand, HostRuntime>(&rt, alloc, blank, lists)?;
-    assert_eq!(rt; told.as_str(), "true 0 1 1 0| 0.0 0.1 1.0 2.0 ");
-    Ok(())
+    expect_text(
+        held_worker::<Brand, HostRuntime>(&rt, alloc, blank, lists),
+        "true 0 1 1 0| 0.0 0.1 1.0 2.0 ",
+    )
 }

@@ -5,7 +5,7 @@ use Rattle.profile_rows.specs.Values.{BatchState}
 use Rattle.profile_rows.specs.Aggregate.{aggregates_of}
 use Rattle.op_book.specs.Books.{BookState, HasSpaceFor, IsOrderly, IsTreeAfter}
 use Rattle.op_book.specs.Changes.{change_op}
-use Rattle.op_book.specs.declared.book.Change.{Change}
+use Rattle.op_book.specs.declared.book.changing.Change.{Change}
 use Rattle.op_book.specs.Operations.{operations_of, add, reset}
 use Rattle.op_book.proofs.EntryLaws.{KeepLimit-whole, profile_after-reset}
 use Rattle.op_book.proofs.Readiness.{IsTreeAfter-added}

@@ -1,11 +1,12 @@
 #!/usr/bin/env python3
 """Times sessions over published versions beside a book behind one lock, in one run, and prints both and their ratios.
 
-    bench/versions.py [--nodes 20000] [--rounds 3] [--work FOLDER]
+    bench/versions.py [--nodes 20000] [--rounds 3] [--cases WORDS] [--work FOLDER]
 
 The rows have 34 frames and are random walks in a seeded call graph, as in additions.py. The first are one addition that
 builds a tree of so many nodes; then each case has its own threads add batches or ask for reports. All cases run in turn
-on both stores, several rounds, and the least time of each counts. `rate` is the lock's time by the versions': above 1
+on both stores, several rounds, and the least time of each counts. An addition behind the lock may wait for a layout of
+the whole tree, so in a greater tree fewer are made beside layouts. `rate` is the lock's time by the versions': above 1
 the versions are faster. `longest` is the longest single step, of the round in which it was least. At last it prints the
 peak memory of a store to which rows are added one by one, without an old report and with one that a session holds.
 
@@ -54,9 +55,16 @@ def write_rows(folder, options):
     return len(stacks)
 
 
-def times_of(program, store, case, tree_rows, file):
+def steps_of(case, nodes):
+    """How many steps the first thread takes in a tree of so many nodes."""
+    _, _, _, steps, _, report, _, _ = case
+    return steps * 20_000 // max(nodes, 20_000) if report == "flame" else steps
+
+
+def times_of(program, store, case, tree_rows, nodes, file):
     """Nanoseconds a step, and the longest step, of the threads that count."""
-    _, work, threads, steps, batch_rows, report, who, sessions = case
+    _, work, threads, _, batch_rows, report, who, sessions = case
+    steps = steps_of(case, nodes)
     said = output_of([program, store, work, threads, tree_rows, steps, batch_rows, report, sessions, "none"], file)
     found = re.findall(r"steps (\d+) nanoseconds (\d+) longest (\d+)", said)
     rows = [tuple(map(int, numbers)) for numbers in found]
@@ -82,6 +90,7 @@ def read_options():
     reader.add_argument("--names", type=int, default=3_000, help="how many functions there are")
     reader.add_argument("--additions", type=int, default=20_000, help="how many rows there are to add")
     reader.add_argument("--rounds", type=int, default=3)
+    reader.add_argument("--cases", default="", help="only the cases with these words in their names")
     reader.add_argument("--seed", type=int, default=7)
     reader.add_argument("--work", type=pathlib.Path, help="a folder outside the repository that is kept")
     return reader.parse_args()
@@ -94,14 +103,15 @@ def run(options, work):
     tree_rows = write_rows(work, options)
     print(f"{tree_rows} rows build a tree of {options.nodes} nodes")
     print(f"load {os.getloadavg()[0]:.1f} on {os.cpu_count()} cores", flush=True)
+    cases = [case for case in CASES if options.cases in case[0]]
     least = {}
     for _ in range(options.rounds):
-        for case in CASES:
+        for case in cases:
             for store in STORES:
-                times = times_of(program, store, case, tree_rows, work / "rows.folded")
+                times = times_of(program, store, case, tree_rows, options.nodes, work / "rows.folded")
                 least[case, store] = min(times, least.get((case, store), times))
     print(f"{'nanoseconds a step':<50}{'versions':>12}{'lock':>12}{'rate':>8}{'longest':>12}{'of lock':>12}")
-    for case in CASES:
+    for case in cases:
         (ours, longest), (lock, of_lock) = (least[case, store] for store in STORES)
         print(f"{case[0]:<50}{ours:>12.0f}{lock:>12.0f}{lock / ours:>8.2f}{longest:>12}{of_lock:>12}")
     for held in ("none", "held"):

@@ -3,11 +3,19 @@
 #![tactic(auto)]
 
 #[cfg(test)]
+mod changed_drafts;
+#[cfg(test)]
 mod drafts;
+#[cfg(test)]
+mod folded_lines;
+#[cfg(test)]
+mod hashing;
 #[cfg(test)]
 mod helpers;
 #[cfg(test)]
 mod hostile_messages;
+#[cfg(test)]
+mod message_faults;
 #[cfg(test)]
 mod messages;
 #[cfg(test)]
@@ -16,6 +24,10 @@ mod reports;
 mod samples;
 #[cfg(test)]
 mod shared_trees;
+#[cfg(test)]
+mod slow_trees;
+#[cfg(test)]
+mod stack_reports;
 #[cfg(test)]
 mod stacks;
 #[cfg(test)]

@@ -1,28 +1,28 @@
 //! What no clause says of reports: that calls succeed with ample memory, and what they answer on worked rows.
 
-use crate::helpers::{batch_of, grower_of, pairs_of, rows_of, stack_of};
+use crate::helpers::{grower_of, rows_of};
 use call_tree::CallTree;
 use flame_report::{
     Answer, Columns, Flame, Kind, Label, MAX_COLUMNS, Query, Rank, flame_json, report, report_of,
-    report_of_stacks, top_list, top_text,
+    top_list, top_text,
 };
-use stack_text::{Batch, Hashing, Name, WeightedStacks, folded_totals};
+use stack_text::{Batch, Hashing, Name, folded_totals};
 use std::alloc::Global;
 use std::test::Fail;
 use test_support::expect_text;
 
 const THREE: &str = "main;a;b 3\nmain;a 2\nmain;c 5\n";
 
-fn top(rank: Rank, count: u32) -> Kind {
+pub(crate) fn top(rank: Rank, count: u32) -> Kind {
     Kind::Top { rank, count }
 }
 
-fn flame(columns: u32) -> Result<Kind, Fail> {
+pub(crate) fn flame(columns: u32) -> Result<Kind, Fail> {
     let columns = Columns::new(columns).ok_or("no such columns")?;
     Ok(Kind::Flame { columns })
 }
 
-fn some_name(alloc: Global, text: &str) -> Result<Option<Name>, Fail> {
+pub(crate) fn some_name(alloc: Global, text: &str) -> Result<Option<Name>, Fail> {
     if text.is_empty() {
         return Ok(None);
     }
@@ -46,7 +46,7 @@ fn layout_text(alloc: Global, flame: &Flame) -> Result<String, Fail> {
     Ok(text)
 }
 
-fn answer_text(alloc: Global, answer: &Answer) -> Result<String, Fail> {
+pub(crate) fn answer_text(alloc: Global, answer: &Answer) -> Result<String, Fail> {
     match answer {
         Answer::Total(total) => Ok(format!(in alloc; "{total}")?),
         Answer::Top(top) => Ok(
@@ -86,8 +86,8 @@ fn answer_by_tree(alloc: Global, rows: &Batch, query: &Query) -> Result<String, 
     answer_of_tree(alloc, grower.tree(), query)
 }
 
-// The answer over rows, which their tree must give too, wherever hashes begin.
-fn answer_by_both(alloc: Global, rows: &Batch, query: &Query) -> Result<String, Fail> {
+/// The answer over rows, which their tree must give too, wherever hashes begin.
+pub(crate) fn answer_by_both(alloc: Global, rows: &Batch, query: &Query) -> Result<String, Fail> {
     let by_rows = answer_of_rows(alloc, Hashing::fixed(), rows, query)?;
     if by_rows != answer_by_tree(alloc, rows, query)? {
         return Err("the tree answers otherwise".into());
@@ -328,181 +328,5 @@ fn a_label_has_the_text_of_its_name(rt: HostRuntime) -> Result<(), Fail> {
     let name = Name::make(rt.alloc(), "a b")?;
     let label = Label::of(&name)?;
     assert_eq!(rt; label.text(), "a b");
-    Ok(())
-}
-
-// The answer over the rows `a` [1, 0] and `b` [0, 2], by a value.
-fn answered_by_value(alloc: Global, value: u32, kind: Kind) -> Result<String, Fail> {
-    let rows = pairs_of(alloc, &[("a", [1, 0]), ("b", [0, 2])])?;
-    let query = Query {
-        focus: None,
-        ignore: None,
-        value,
-        kind,
-    };
-    answer_by_both(alloc, &rows, &query)
-}
-
-#[test]
-fn a_report_is_over_the_value_that_it_names(rt: HostRuntime) -> Result<(), Fail> {
-    for (value, kind, want) in [
-        (0, Kind::Total, "1"),
-        (1, Kind::Total, "2"),
-        (1, top(Rank::Flat, 20), "total 2\n2 2 b\n"),
-        (1, Kind::Folded, "b 2\n"),
-        (0, Kind::Folded, "a 1\n"),
-        (
-            1,
-            flame(4)?,
-            "{\"columns\":4,\"rects\":[\
-             {\"depth\":0,\"left\":0,\"name\":\"\",\"right\":4,\"weight\":2,\"x\":0},\
-             {\"depth\":1,\"left\":0,\"name\":\"b\",\"right\":4,\"weight\":2,\"x\":0}],\"total\":2}",
-        ),
-    ] {
-        expect_text(answered_by_value(rt.alloc(), value, kind), want)?;
-    }
-    Ok(())
-}
-
-// The answer over rows of so many values, by one of them.
-fn answered_of_values(
-    alloc: Global,
-    rows: &[(&str, &[u64])],
-    width: u32,
-    value: u32,
-    kind: Kind,
-) -> Result<String, Fail> {
-    let rows = batch_of(alloc, width, rows)?;
-    let query = Query {
-        focus: None,
-        ignore: None,
-        value,
-        kind,
-    };
-    answer_by_both(alloc, &rows, &query)
-}
-
-#[test]
-fn reports_of_three_values(rt: HostRuntime) -> Result<(), Fail> {
-    let rows: [(&str, &[u64]); 2] = [("a;b", &[0, 2, 5]), ("a", &[1, 0, 4])];
-    for (value, kind, want) in [
-        (0, Kind::Folded, "a 1\n"),
-        (1, Kind::Total, "2"),
-        (2, Kind::Total, "9"),
-        (2, top(Rank::Cum, 20), "total 9\n4 9 a\n5 5 b\n"),
-    ] {
-        expect_text(answered_of_values(rt.alloc(), &rows, 3, value, kind), want)?;
-    }
-    Ok(())
-}
-
-#[test]
-fn reports_of_four_values(rt: HostRuntime) -> Result<(), Fail> {
-    let rows: [(&str, &[u64]); 2] = [("a;b", &[0, 2, 0, 5]), ("a", &[1, 0, 3, 4])];
-    for (value, kind, want) in [
-        (2, Kind::Total, "3"),
-        (3, Kind::Total, "9"),
-        (3, top(Rank::Flat, 20), "total 9\n5 5 b\n4 9 a\n"),
-        (2, Kind::Folded, "a 3\n"),
-        (3, Kind::Folded, "a 4\na;b 5\n"),
-        (
-            3,
-            flame(9)?,
-            "{\"columns\":9,\"rects\":[\
-             {\"depth\":0,\"left\":0,\"name\":\"\",\"right\":9,\"weight\":9,\"x\":0},\
-             {\"depth\":1,\"left\":0,\"name\":\"a\",\"right\":9,\"weight\":9,\"x\":0},\
-             {\"depth\":2,\"left\":0,\"name\":\"b\",\"right\":5,\"weight\":5,\"x\":0}],\"total\":9}",
-        ),
-    ] {
-        expect_text(answered_of_values(rt.alloc(), &rows, 4, value, kind), want)?;
-    }
-    Ok(())
-}
-
-fn push_stacks(
-    alloc: Global,
-    rows: &mut WeightedStacks,
-    stacks: &[(&str, u64)],
-) -> Result<(), Fail> {
-    for (frames, weight) in stacks {
-        let stack = stack_of(alloc, frames)?;
-        rows.push(stack, *weight).ok().ok_or("refused")?;
-    }
-    Ok(())
-}
-
-fn stacks_of(alloc: Global, stacks: &[(&str, u64)]) -> Result<WeightedStacks, Fail> {
-    let mut rows = WeightedStacks::new(alloc);
-    push_stacks(alloc, &mut rows, stacks)?;
-    Ok(rows)
-}
-
-// Rows of one value, one of them twice and one of no weight.
-const STACKS: &[(&str, u64)] = &[
-    ("main;c", 5),
-    ("main;a;b", 1),
-    ("z", 0),
-    ("main;a", 2),
-    ("main;a;b", 2),
-];
-
-fn stacks_answered_by(alloc: Global, hashing: Hashing, query: &Query) -> Result<String, Fail> {
-    let rows = stacks_of(alloc, STACKS)?;
-    let answer = report_of_stacks(alloc, hashing, rows, query)?;
-    answer_text(alloc, &answer)
-}
-
-// The answer over these rows, the same wherever hashes begin.
-fn stacks_answered(alloc: Global, query: &Query) -> Result<String, Fail> {
-    let answer = stacks_answered_by(alloc, Hashing::fixed(), query)?;
-    if answer != stacks_answered_by(alloc, Hashing::of_key(7), query)? {
-        return Err("the key changes the answer".into());
-    }
-    Ok(answer)
-}
-
-// The same, of the rows with the focus and without the ignored name; an empty text is none.
-fn kept_stacks_answered(
-    alloc: Global,
-    focus: &str,
-    ignore: &str,
-    kind: Kind,
-) -> Result<String, Fail> {
-    let query = Query {
-        focus: some_name(alloc, focus)?,
-        ignore: some_name(alloc, ignore)?,
-        value: 3,
-        kind,
-    };
-    stacks_answered(alloc, &query)
-}
-
-#[test]
-fn rows_of_one_value_have_reports(rt: HostRuntime) -> Result<(), Fail> {
-    for (focus, ignore, kind, want) in [
-        ("", "", Kind::Total, "10"),
-        ("", "", top(Rank::Cum, 2), "total 10\n0 10 main\n2 5 a\n"),
-        ("", "", Kind::Folded, "main;a 2\nmain;a;b 3\nmain;c 5\n"),
-        (
-            "",
-            "",
-            flame(2)?,
-            "{\"columns\":2,\"rects\":[\
-             {\"depth\":0,\"left\":0,\"name\":\"\",\"right\":2,\"weight\":10,\"x\":0},\
-             {\"depth\":1,\"left\":0,\"name\":\"main\",\"right\":2,\"weight\":10,\"x\":0},\
-             {\"depth\":2,\"left\":0,\"name\":\"a\",\"right\":1,\"weight\":5,\"x\":0},\
-             {\"depth\":2,\"left\":1,\"name\":\"c\",\"right\":2,\"weight\":5,\"x\":5}],\"total\":10}",
-        ),
-        ("a", "", Kind::Folded, "main;a 2\nmain;a;b 3\n"),
-        ("a", "b", Kind::Total, "2"),
-        (
-            "",
-            "b",
-            top(Rank::Flat, 20),
-            "total 7\n5 5 c\n2 2 a\n0 7 main\n",
-        ),
-    ] {
-        expect_text(kept_stacks_answered(rt.alloc(), focus, ignore, kind), want)?;
-    }
     Ok(())
 }

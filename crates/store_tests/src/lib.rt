@@ -8,9 +8,21 @@ mod audits;
 #[cfg(test)]
 mod books;
 #[cfg(test)]
+mod changed_logs;
+#[cfg(test)]
+mod held_workers;
+#[cfg(test)]
 mod helpers;
 #[cfg(test)]
+mod journals;
+#[cfg(test)]
 mod live;
+#[cfg(test)]
+mod refused_workers;
+#[cfg(test)]
+mod store_ends;
+#[cfg(test)]
+mod store_values;
 #[cfg(test)]
 mod stores;
 #[cfg(test)]

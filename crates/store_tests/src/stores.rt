@@ -4,22 +4,21 @@
 
 ghost use Rattle.std.specs.Prelude.{◌≡◌};
 
-use crate::helpers::{
-    KEPT_REPORTS, ROWS, add, add_batch, add_often, answer_text, batch_of, kept_query, kinds,
-    query_of, reply_text, row_of, value_query, width_of,
-};
-use flame_report::{Answer, Columns, Kind, Rank};
+use crate::helpers::{KEPT_REPORTS, ROWS, add, answer_text, kept_query, kinds, query_of, width_of};
+use crate::store_ends::{kept_answer, numbers, others_end};
+use crate::store_values::{four_values, limit_of_each, two_values};
+use flame_report::{Answer, Kind};
 use live_store::{Blank, BookFault, MakeFault, Session, Store, StoreName};
-use op_book::{Journal, Receipt, Reply};
-use stack_text::{Hashing, MAX_TOTAL, Width};
+use op_book::Journal;
+use stack_text::{Hashing, Width};
 use std::alloc::Global;
 use std::marker::Brand;
 use std::sync::Wait;
 use std::test::Fail;
 use test_support::{expect_printed, expect_text};
 
-// The weight of all that was added, or why the question is refused.
-fn total<N: StoreName>(
+/// The weight of all that was added, or why the question is refused.
+pub(crate) fn total<N: StoreName>(
     alloc: Global,
     session: &mut Session<'_, N>,
 ) -> Result<Result<u64, BookFault>, Fail> {
@@ -176,229 +175,6 @@ fn each_kind<N: StoreName, R: Wait>(
     for kind in kinds()? {
         text.push_str(report_on(alloc, session, kind)?.as_str())?;
         text.push('|')?;
-    }
-    Ok(text)
-}
-
-// A row of one frame.
-#[derive(Drop)]
-struct Row<'a> {
-    frame: &'a str,
-    values: &'a [u64],
-}
-
-fn make_row<'a>(frame: &'a str, values: &'a [u64]) -> Row<'a> {
-    Row { frame, values }
-}
-
-// The place that a row is given, or why it is refused.
-fn add_row<N: StoreName, R: Wait>(
-    rt: &R,
-    alloc: Global,
-    session: &mut Session<'_, N>,
-    row: &Row,
-) -> Result<Result<u64, BookFault>, Fail> {
-    let batch = row_of(alloc, row.frame, row.values)?;
-    Ok(add_batch(rt, alloc, session, batch))
-}
-
-// What a session is told of each row.
-fn add_rows<N: StoreName, R: Wait>(
-    rt: &R,
-    alloc: Global,
-    session: &mut Session<'_, N>,
-    rows: &[Row],
-) -> Result<String, Fail> {
-    let mut text = String::new(alloc);
-    for row in rows {
-        let placed = add_row(rt, alloc, session, row)?;
-        write!(text, "{placed:?}|")?;
-    }
-    Ok(text)
-}
-
-// What a session answers by a value, or why it refuses the question.
-fn answer_by<N: StoreName>(
-    alloc: Global,
-    session: &mut Session<'_, N>,
-    value: u32,
-    kind: Kind,
-) -> Result<String, Fail> {
-    let query = value_query(alloc, value, kind)?;
-    reply_text(alloc, session, &query)
-}
-
-// What a session answers to questions of values and kinds.
-fn answers_by<N: StoreName>(alloc: Global, session: &mut Session<'_, N>) -> Result<String, Fail> {
-    let top = Kind::Top {
-        rank: Rank::Flat,
-        count: 20,
-    };
-    let columns = Columns::new(4).ok_or("no such columns")?;
-    let mut text = String::new(alloc);
-    for (value, kind) in [
-        (0, Kind::Total),
-        (1, Kind::Total),
-        (1, top),
-        (1, Kind::Flame { columns }),
-        (1, Kind::Folded),
-        (2, Kind::Total),
-    ] {
-        text.push_str(answer_by(alloc, session, value, kind)?.as_str())?;
-        text.push('|')?;
-    }
-    Ok(text)
-}
-
-// A session that adds a row by each of two values: what it answers by each, and what it refuses.
-fn two_values<N: StoreName, R: Wait>(
-    rt: &R,
-    alloc: Global,
-    session: &mut Session<'_, N>,
-) -> Result<String, Fail> {
-    let rows = [
-        make_row("a", &[1, 0]),
-        make_row("b", &[0, 2]),
-        make_row("c", &[3]),
-    ];
-    let added = add_rows(rt, alloc, session, &rows)?;
-    let answers = answers_by(alloc, session)?;
-    Ok(format!(in alloc; "{added}{answers}")?)
-}
-
-// A session that fills the first of two values: what it is told.
-fn limit_of_each<N: StoreName, R: Wait>(
-    rt: &R,
-    alloc: Global,
-    session: &mut Session<'_, N>,
-) -> Result<String, Fail> {
-    let rows = [
-        make_row("a", &[MAX_TOTAL, 0]),
-        make_row("b", &[0, 1]),
-        make_row("b", &[1, 0]),
-    ];
-    add_rows(rt, alloc, session, &rows)
-}
-
-// A session that adds rows by each of four values: what it is told, and its total by each value.
-fn four_values<N: StoreName, R: Wait>(
-    rt: &R,
-    alloc: Global,
-    session: &mut Session<'_, N>,
-) -> Result<String, Fail> {
-    let rows = [
-        make_row("a", &[1, 2, 3, 4]),
-        make_row("b", &[10, 20, 30, 40]),
-        make_row("c", &[100, 200, 300]),
-    ];
-    let mut text = add_rows(rt, alloc, session, &rows)?;
-    for value in 0..5 {
-        let total = answer_by(alloc, session, value, Kind::Total)?;
-        write!(text, "{}|", total.as_str())?;
-    }
-    Ok(text)
-}
-
-// The first answer of a session's log.
-fn first_answer(alloc: Global, receipts: &[Receipt]) -> Result<String, Fail> {
-    for receipt in receipts {
-        if let Reply::Answered(answer) = &receipt.reply {
-            return answer_text(alloc, answer);
-        }
-    }
-    Err("no answer".into())
-}
-
-// An answer that a session holds while another makes so many changes. It is followed by how many receipts that one has.
-fn held_answer<N: StoreName, R: Wait>(
-    rt: &R,
-    alloc: Global,
-    first: &mut Session<'_, N>,
-    second: &mut Session<'_, N>,
-    changes: usize,
-) -> Result<String, Fail> {
-    let batch = batch_of(alloc, "main;a 1\nb 1\n")?;
-    let query = query_of(alloc, Kind::Folded)?;
-    let answer = first.ask(alloc, &query)?;
-    let made = add_often(rt, alloc, second, &batch, changes);
-    let text = answer_text(alloc, answer)?;
-    Ok(format!(in alloc; "{text}{made}|")?)
-}
-
-// What is held, what the log then has, and what is answered then.
-fn kept_answer<N: StoreName, R: Wait>(
-    rt: &R,
-    alloc: Global,
-    first: &mut Session<'_, N>,
-    second: &mut Session<'_, N>,
-) -> Result<String, Fail> {
-    let _place = add(rt, alloc, first, "main;a 7\n")?;
-    let held = held_answer(rt, alloc, first, second, 300)?;
-    let kept = first_answer(alloc, first.log())?;
-    let late = answer_by(alloc, first, 0, Kind::Folded)?;
-    Ok(format!(in alloc; "{held}{kept}|{late}")?)
-}
-
-// The total that the next session answers. It ends with that.
-fn total_once<N: StoreName, R: Wait>(
-    rt: &R,
-    alloc: Global,
-    store: &Store<N>,
-) -> Result<Result<u64, BookFault>, Fail> {
-    let mut session = store.session(rt, alloc)?;
-    total(alloc, &mut session)
-}
-
-// A session that goes on, while others end behind their first report: what these are told, and how many receipts it
-// has.
-fn others_end<N: StoreName, R: Wait>(
-    rt: &R,
-    alloc: Global,
-    store: &Store<N>,
-    session: &mut Session<'_, N>,
-) -> Result<String, Fail> {
-    let batch = batch_of(alloc, "main;a 1\n")?;
-    let early = total_once(rt, alloc, store)?;
-    let half = add_often(rt, alloc, session, &batch, 50);
-    let late = total_once(rt, alloc, store)?;
-    let all = add_often(rt, alloc, session, &batch, 50);
-    Ok(format!(in alloc; "{early:?} {half} {late:?} {all}")?)
-}
-
-// The number of the next session, which is refused a reset and ends with that, or why there is none.
-fn next_number<N: StoreName, R: Wait>(
-    rt: &R,
-    alloc: Global,
-    store: &Store<N>,
-) -> Result<String, Fail> {
-    match store.session(rt, alloc) {
-        Ok(session) => refused_number(rt, alloc, session),
-        Err(fault) => Ok(format!(in alloc; "{fault}; ")?),
-    }
-}
-
-fn refused_number<N: StoreName, R: Wait>(
-    rt: &R,
-    alloc: Global,
-    session: Session<'_, N>,
-) -> Result<String, Fail> {
-    let mut session = session;
-    let fault = session.reset(rt, alloc).err();
-    let number = session.number();
-    Ok(format!(in alloc; "{number} {fault:?}; ")?)
-}
-
-// The numbers of two sessions, and of those that are given behind them.
-fn numbers<N: StoreName, R: Wait>(
-    rt: &R,
-    alloc: Global,
-    store: &Store<N>,
-    first: u32,
-    second: u32,
-) -> Result<String, Fail> {
-    let mut text = format!(in alloc; "{first}; {second}; ")?;
-    for _ in 0..4 {
-        text.push_str(next_number(rt, alloc, store)?.as_str())?;
     }
     Ok(text)
 }

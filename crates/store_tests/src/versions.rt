@@ -3,14 +3,15 @@
 
 ghost use Rattle.std.specs.Prelude.{◌≡◌};
 
+use crate::changed_logs::{Change, given};
 use crate::helpers::{audit_text, batch_of, close, open, query_of, reply_text};
-use flame_report::{Answer, Items, Kind};
+use flame_report::Kind;
 use live_store::{Blank, BookFault, Placed, Session, Store, StoreName, Told};
-use op_book::{Journal, Receipt, Reply, SessionLog};
+use op_book::{Journal, SessionLog};
 use stack_text::{Width, write_stacks};
 use std::alloc::Global;
 use std::marker::Brand;
-use std::sync::{Arc, Wait};
+use std::sync::Wait;
 use std::test::Fail;
 use test_support::expect_text;
 
@@ -130,75 +131,6 @@ fn logs_of<N: StoreName, R: Wait>(
     match told_in_turn(rt, alloc, &mut sessions, &mut told, turns) {
         Ok(told) => Ok((close(alloc, sessions)?, told)),
         Err(fail) => Err(fail),
-    }
-}
-
-/// How logs are changed before they are audited.
-#[derive(Clone, Copy)]
-enum Change {
-    AsTold,
-    /// The last receipt of the last log stands first.
-    LastFirst,
-    /// The first receipt of the last log is missing.
-    WithoutFirst,
-    /// The first two receipts of the last log stand the other way round.
-    Exchanged,
-    /// The last receipt of the last log has the total 8.
-    OtherTotal,
-    /// There is one log more of session 0.
-    FirstTwice,
-}
-
-fn change_last(alloc: Global, receipts: &mut [Receipt]) -> Result<(), Fail> {
-    let last = receipts.last_mut().ok_or("no receipt")?;
-    last.reply = Reply::Answered(Arc::new(alloc, Answer::Total(8))?);
-    Ok(())
-}
-
-fn changed(alloc: Global, log: SessionLog, change: Change) -> Result<SessionLog, Fail> {
-    let session = log.session;
-    let mut receipts = log.receipts.into_vec();
-    if receipts.len() < 2 {
-        return Err("too few receipts".into());
-    }
-    match change {
-        Change::AsTold | Change::FirstTwice => {}
-        Change::LastFirst => receipts.rotate_right(1),
-        Change::WithoutFirst => drop(receipts.remove(0)),
-        Change::Exchanged => receipts.swap(0, 1),
-        Change::OtherTotal => change_last(alloc, &mut receipts)?,
-    }
-    Ok(SessionLog {
-        session,
-        receipts: Items::new(receipts),
-    })
-}
-
-fn with_log(logs: Vec<SessionLog>, log: SessionLog) -> Result<Vec<SessionLog>, Fail> {
-    let mut logs = logs;
-    logs.push(log).ok().ok_or("no memory")?;
-    Ok(logs)
-}
-
-fn with_last_changed(
-    alloc: Global,
-    logs: Vec<SessionLog>,
-    change: Change,
-) -> Result<Vec<SessionLog>, Fail> {
-    let mut logs = logs;
-    let last = logs.pop().ok_or("no log")?;
-    with_log(logs, changed(alloc, last, change)?)
-}
-
-fn given(alloc: Global, logs: Vec<SessionLog>, change: Change) -> Result<Vec<SessionLog>, Fail> {
-    let first = SessionLog {
-        session: 0,
-        receipts: Items::new(Vec::new(alloc)),
-    };
-    match change {
-        Change::AsTold => Ok(logs),
-        Change::FirstTwice => with_log(logs, first),
-        _ => with_last_changed(alloc, logs, change),
     }
 }
 

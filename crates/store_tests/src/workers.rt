@@ -3,12 +3,10 @@
 
 ghost use Rattle.std.specs.Prelude.{◌≡◌};
 
-use crate::helpers::{
-    audit_text, batch_of, come, query_of, reply_text, row_of, value_query, width_of,
-};
+use crate::helpers::{audit_text, batch_of, come, row_of, value_query, width_of};
 use flame_report::Kind;
 use live_store::{
-    Blank, FinishedWorker, Gate, Session, SessionFault, Store, StoreName, WorkersFault, run_workers,
+    Blank, FinishedWorker, Gate, SessionFault, Store, StoreName, WorkersFault, run_workers,
 };
 use op_book::{Journal, Op, SessionLog};
 use std::alloc::Global;
@@ -16,7 +14,6 @@ use std::marker::Brand;
 use std::sync::atomic::{AtomicU64, Ordering};
 use std::sync::{Mutex, Wait};
 use std::test::Fail;
-use std::thread;
 use std::thread::Threads;
 use test_support::expect_text;
 
@@ -114,7 +111,7 @@ impl Gate for Holding {
 
 /// What a worker is to do.
 #[derive(Clone, Copy)]
-enum Deed {
+pub(crate) enum Deed {
     /// An addition of folded text.
     Add(&'static str),
     /// An addition of one row of these values.
@@ -141,7 +138,7 @@ fn list_of(alloc: Global, deeds: &[Deed]) -> Result<Vec<Op>, Fail> {
     Ok(list)
 }
 
-fn lists_of(alloc: Global, all: &[&[Deed]]) -> Result<Vec<Vec<Op>>, Fail> {
+pub(crate) fn lists_of(alloc: Global, all: &[&[Deed]]) -> Result<Vec<Vec<Op>>, Fail> {
     let mut lists = Vec::new(alloc);
     for deeds in all {
         lists.push(list_of(alloc, deeds)?).ok().ok_or("no memory")?;
@@ -149,9 +146,13 @@ fn lists_of(alloc: Global, all: &[&[Deed]]) -> Result<Vec<Vec<Op>>, Fail> {
     Ok(lists)
 }
 
-// Of each worker its session, its receipts and where it stopped, and the run of all or why the logs don't match the
-// journal.
-fn told(alloc: Global, journal: &Journal, all: Vec<FinishedWorker>) -> Result<String, Fail> {
+/// Of each worker its session, its receipts and where it stopped, and the run of all or why the logs don't match the
+/// journal.
+pub(crate) fn told(
+    alloc: Global,
+    journal: &Journal,
+    all: Vec<FinishedWorker>,
+) -> Result<String, Fail> {
     let mut text = String::new(alloc);
     let mut logs: Vec<SessionLog> = Vec::new(alloc);
     for one in all {
@@ -209,10 +210,10 @@ fn worked<N: StoreName, G: Gate, R: Threads + Wait + Sync>(
 
 /// How many changes and sessions a store takes, and how many values a row has.
 #[derive(Clone, Copy)]
-struct StoreSize {
-    limit: u32,
-    sessions: u32,
-    width: u32,
+pub(crate) struct StoreSize {
+    pub(crate) limit: u32,
+    pub(crate) sessions: u32,
+    pub(crate) width: u32,
 }
 
 // The same of a store of this size and of these lists.
@@ -229,8 +230,8 @@ fn story<G: Gate, R: Threads + Wait + Sync>(
     worked::<Brand, G, R>(rt, alloc, blank, lists, gate)
 }
 
-// The same, and the calls that the workers made.
-fn counted<R: Threads + Wait + Sync>(
+/// The same, and the calls that the workers made.
+pub(crate) fn counted<R: Threads + Wait + Sync>(
     rt: &R,
     alloc: Global,
     size: StoreSize,
@@ -250,7 +251,7 @@ fn told_with<R: Wait>(
     Ok(format!(in alloc; "{told}; {calls}")?)
 }
 
-const TEN_CHANGES: StoreSize = StoreSize {
+pub(crate) const TEN_CHANGES: StoreSize = StoreSize {
     limit: 10,
     sessions: 5,
     width: 1,
@@ -319,106 +320,6 @@ fn gates_are_told_of_each_step_in_order(rt: HostRuntime) -> Result<(), Fail> {
     Ok(())
 }
 
-/// A store's size, what one worker is to do, how many receipts it has, where and why it stops, and the run.
-type Refusal = (StoreSize, &'static [Deed], &'static str);
-
-const fn of_size(limit: u32, width: u32) -> StoreSize {
-    StoreSize {
-        limit,
-        sessions: 2,
-        width,
-    }
-}
-
-fn refusals() -> [Refusal; 7] {
-    [
-        (
-            of_size(2, 1),
-            &[
-                Deed::Add("a 1\n"),
-                Deed::Total(0),
-                Deed::Reset,
-                Deed::Add("b 1\n"),
-                Deed::Total(0),
-            ],
-            "0: 3 Some(Stop { step: 3, cause: Book(Full { held: 2 }) }); 0.0 0.1 0.2 \
-             | next Ok(1); [8] calls, 0 wrong",
-        ),
-        (
-            of_size(0, 1),
-            &[Deed::Total(0), Deed::Reset, Deed::Total(0)],
-            "0: 1 Some(Stop { step: 1, cause: Book(Full { held: 0 }) }); 0.0 \
-             | next Ok(1); [4] calls, 0 wrong",
-        ),
-        (
-            of_size(9, 1),
-            &[
-                Deed::Add("a 9223372036854775806\n"),
-                Deed::Add("b 2\n"),
-                Deed::Total(0),
-            ],
-            "0: 1 Some(Stop { step: 1, cause: Book(Heavy { value: 0, held: 9223372036854775806 }) }); 0.0 \
-             | next Ok(1); [4] calls, 0 wrong",
-        ),
-        (
-            of_size(9, 2),
-            &[
-                Deed::Row(&[0, 9223372036854775807]),
-                Deed::Row(&[1, 0]),
-                Deed::Row(&[1, 1]),
-            ],
-            "0: 2 Some(Stop { step: 2, cause: Book(Heavy { value: 1, held: 9223372036854775807 }) }); 0.0 0.1 \
-             | next Ok(1); [6] calls, 0 wrong",
-        ),
-        (
-            of_size(9, 3),
-            &[
-                Deed::Row(&[1, 2, 3]),
-                Deed::Total(2),
-                Deed::Row(&[1, 2, 3, 4]),
-            ],
-            "0: 2 Some(Stop { step: 2, cause: Book(Width { held: 3 }) }); 0.0 0.1 \
-             | next Ok(1); [6] calls, 0 wrong",
-        ),
-        (
-            of_size(9, 3),
-            &[Deed::Total(2), Deed::Total(3)],
-            "0: 1 Some(Stop { step: 1, cause: Book(Width { held: 3 }) }); 0.0 \
-             | next Ok(1); [4] calls, 0 wrong",
-        ),
-        (
-            of_size(9, 4),
-            &[
-                Deed::Row(&[1, 2, 3, 4]),
-                Deed::Total(3),
-                Deed::Total(4),
-                Deed::Total(0),
-            ],
-            "0: 2 Some(Stop { step: 2, cause: Book(Width { held: 4 }) }); 0.0 0.1 \
-             | next Ok(1); [6] calls, 0 wrong",
-        ),
-    ]
-}
-
-#[test]
-fn a_worker_stops_where_it_is_refused(rt: HostRuntime) -> Result<(), Fail> {
-    for (size, deeds, wanted) in refusals() {
-        expect_text(counted(&rt, rt.alloc(), size, &[deeds]), wanted)?;
-    }
-    Ok(())
-}
-
-const A_RESET: &[Deed] = &[Deed::Reset];
-
-// A store of five sessions has none for the sixth list, and none is left behind that.
-#[test]
-fn no_worker_starts_where_a_session_is_refused(rt: HostRuntime) -> Result<(), Fail> {
-    expect_text(
-        counted(&rt, rt.alloc(), TEN_CHANGES, &[A_RESET; 7]),
-        "G1 Session worker 5 fault N1 AllGiven| next Err(AllGiven); [0, 0, 0, 0, 0, 0, 0] calls, 0 wrong",
-    )
-}
-
 #[test]
 fn a_gate_holds_a_worker_around_its_step(rt: HostRuntime) -> Result<(), Fail> {
     let gate = Holding {
@@ -464,146 +365,4 @@ fn workers_match_their_journal(rt: HostRuntime) -> Result<(), Fail> {
     assert_eq!(rt; said.as_str().matches(".").count(), 256);
     assert!(rt; said.as_str().ends_with(last.as_str()));
     Ok(())
-}
-
-/// Holds workers before their steps until they may go on.
-#[derive(Drop)]
-struct Held {
-    /// How often the first worker has come to its first step.
-    there: AtomicU64,
-    /// 1 once they may go on.
-    open: AtomicU64,
-    /// How many went on.
-    gone: AtomicU64,
-}
-
-impl Gate for Held {
-    fn before<R: Wait>(&self, _rt: &R, worker: usize, step: usize) {
-        if worker == 0 && step == 0 {
-            let _ = self.there.fetch_add(1, Ordering::SeqCst);
-        }
-        let _ = come(&self.open, 1);
-        let _ = self.gone.fetch_add(1, Ordering::SeqCst);
-    }
-
-    fn after<R: Wait>(&self, _rt: &R, _worker: usize, _step: usize) {}
-}
-
-// A session that adds and asks, and another that hears of it and asks: what they are told.
-fn other_hears<N: StoreName, R: Wait>(
-    rt: &R,
-    alloc: Global,
-    first: &mut Session<'_, N>,
-    second: &mut Session<'_, N>,
-) -> Result<String, Fail> {
-    let batch = batch_of(alloc, "a 1\n")?;
-    let query = query_of(alloc, Kind::Total)?;
-    let placed = first.add(rt, alloc, batch).ok().ok_or("refused")?;
-    let own = reply_text(alloc, first, &query)?;
-    second.hear(&placed.told);
-    let other = reply_text(alloc, second, &query)?;
-    Ok(format!(in alloc; "{} {own} {other}", placed.place)?)
-}
-
-// The same, beside whether a worker was held before it, and how many had gone on by its end.
-fn told_beside<N: StoreName, R: Wait>(
-    rt: &R,
-    alloc: Global,
-    first: &mut Session<'_, N>,
-    second: &mut Session<'_, N>,
-    gate: &Held,
-) -> Result<String, Fail> {
-    let is_held = come(&gate.there, 1);
-    let told = other_hears(rt, alloc, first, second);
-    let gone = gate.gone.load(Ordering::SeqCst);
-    gate.open.store(1, Ordering::SeqCst);
-    Ok(format!(in alloc; "{is_held} {} {gone}", told?)?)
-}
-
-/// The logs of some sessions, and what these were told.
-type Logs = (Vec<SessionLog>, String);
-
-// The logs of two sessions and of workers.
-fn logs_of(
-    alloc: Global,
-    first: SessionLog,
-    second: SessionLog,
-    all: Vec<FinishedWorker>,
-) -> Result<Vec<SessionLog>, Fail> {
-    let mut logs = vec![in alloc; first, second]?;
-    for one in all {
-        logs.push(one.log).ok().ok_or("no memory")?;
-    }
-    Ok(logs)
-}
-
-// The same beside what was told.
-fn with_logs(
-    alloc: Global,
-    told: Result<String, Fail>,
-    first: SessionLog,
-    second: SessionLog,
-    all: Option<Result<Vec<FinishedWorker>, WorkersFault>>,
-) -> Result<Logs, Fail> {
-    let told = told?;
-    let all = all.ok_or("no thread")??;
-    Ok((logs_of(alloc, first, second, all)?, told))
-}
-
-// What two sessions are told beside a worker that is held, and the logs of all.
-fn beside_a_worker<N: StoreName, R: Threads + Wait + Sync>(
-    rt: &R,
-    alloc: Global,
-    store: &Store<N>,
-    lists: Vec<Vec<Op>>,
-    gate: &Held,
-) -> Result<Logs, Fail> {
-    let mut first = store.session(rt, alloc)?;
-    let mut second = store.session(rt, alloc)?;
-    let (told, all) = thread::scope(thread::scope_env(), rt, |scope| {
-        let worker = scope.spawn(move || run_workers(rt, alloc, store, lists, gate));
-        let told = told_beside(rt, alloc, &mut first, &mut second, gate);
-        (told, worker.ok().map(|worker| worker.join(rt)))
-    });
-    with_logs(alloc, told, first.close(), second.close(), all)
-}
-
-// What was told, and the run of all or why the logs don't match the journal.
-fn audited(alloc: Global, journal: &Journal, logs: Result<Logs, Fail>) -> Result<String, Fail> {
-    let (logs, told) = logs?;
-    let steps = audit_text(alloc, journal, &logs)?;
-    Ok(format!(in alloc; "{told}| {steps}")?)
-}
-
-// The same of a store of three sessions.
-fn held_worker<N: StoreName, R: Threads + Wait + Sync>(
-    rt: &R,
-    alloc: Global,
-    blank: Blank,
-    lists: Vec<Vec<Op>>,
-) -> Result<String, Fail>
-    requires { blank
-        ≡ record { limit = N.limit; sessions = N.sessions; width = N.width; history = N.history } }
-{
-    let gate = Held {
-        there: AtomicU64::new(0),
-        open: AtomicU64::new(0),
-        gone: AtomicU64::new(0),
-    };
-    let store = Store::<N>::start(blank);
-    let logs = beside_a_worker(rt, alloc, &store, lists, &gate);
-    let journal = store.close(rt);
-    audited(alloc, &journal, logs)
-}
-
-// The one worker is the first, though its session is the third.
-#[test]
-fn addition_seen_by_other_session(rt: HostRuntime) -> Result<(), Fail> {
-    let alloc = rt.alloc();
-    let lists = lists_of(alloc, &[&[Deed::Total(0)]])?;
-    let blank = Blank::make(alloc, 10, 3, width_of(1)?)?;
-    expect_text(
-        held_worker::<Brand, HostRuntime>(&rt, alloc, blank, lists),
-        "true 0 1 1 0| 0.0 0.1 1.0 2.0 ",
-    )
 }

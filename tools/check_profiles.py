@@ -9,6 +9,7 @@ a real profile with bytes changed here and there, random splices of fields, and 
 
 Run it at the top of the repository: python3 tools/check_profiles.py. It is no part of the gate.
 """
+import ast
 import pathlib
 import random
 import re
@@ -238,10 +239,13 @@ def own_answer(data):
 
 
 def vectors():
-    """The byte lists that the tests of messages name, read from their text."""
+    """The byte strings that the tests of messages name, read from their text."""
     text = (TOP / "crates/library_tests/src/messages.rt").read_text()
-    for body in re.findall(r"const [A-Z_]+: &\[u8\] = &\[(.*?)\];", text, re.DOTALL):
-        yield bytes(int(byte, 16) for byte in re.findall(r"0x([0-9a-f]{2})", body))
+    found = re.findall(r'const [A-Z_]+: &\[u8\] =\s*(b"(?:[^"\\]|\\.)*");', text, re.DOTALL)
+    if not found:
+        raise SystemExit("the tests of messages name no byte strings")
+    for literal in found:
+        yield ast.literal_eval(re.sub(r"\\\n\s*", "", literal))
 
 
 def limits(base):

@@ -12,6 +12,7 @@ use std::random::RandomSource;
 use std::sync::Wait;
 use std::test::Fail;
 use std::thread::Threads;
+use test_support::expect_text;
 
 /// The words that ask for the top list.
 pub static TOP: [&str; 2] = ["flame", "top"];
@@ -226,4 +227,19 @@ pub fn report_on<'a, T: Threads + Wait + RandomSource + Sync>(
     all.push("--format")?;
     all.push(format)?;
     report_text(rt, alloc, all.as_slice(), input)
+}
+
+/// Passes where the reports that these words ask for are those that stand beside them, of a profile and of folded text.
+pub fn expect_reports<'a, T: Threads + Wait + RandomSource + Sync>(
+    rt: &T,
+    alloc: Global,
+    reports: &'a [(&'a [&'a str], &'a str)],
+    profile: &[u8],
+    folded: &[u8],
+) -> Result<(), Fail> {
+    for (words, report) in reports {
+        expect_text(report_on(rt, alloc, words, "pprof", profile), report)?;
+        expect_text(report_on(rt, alloc, words, "folded", folded), report)?;
+    }
+    Ok(())
 }

@@ -1,8 +1,11 @@
 //! Reports on thousands of rows, on long names and on long inputs, by closed formulas.
 
-use crate::fakes::{repeated, report_of, report_on, report_text};
+use crate::fakes::{expect_reports, repeated, report_of, report_on, report_text};
 use std::alloc::{AllocError, Global};
+use std::random::RandomSource;
+use std::sync::Wait;
 use std::test::Fail;
+use std::thread::Threads;
 use test_support::expect_text;
 
 // The samples are numbered from 128 to 3,199, and each weighs its number. Its leaf has the address 0x7f0000000000 + its
@@ -106,17 +109,13 @@ const REPORTS: [(&[&str], &str); 9] = [
 fn reports_with_options_on_thousands_of_rows(rt: HostRuntime) -> Result<(), Fail> {
     let profile = profile(rt.alloc())?;
     let folded = folded(rt.alloc())?;
-    for (words, report) in &REPORTS {
-        expect_text(
-            report_on(&rt, rt.alloc(), words, "pprof", profile.as_slice()),
-            report,
-        )?;
-        expect_text(
-            report_on(&rt, rt.alloc(), words, "folded", folded.as_bytes()),
-            report,
-        )?;
-    }
-    Ok(())
+    expect_reports(
+        &rt,
+        rt.alloc(),
+        &REPORTS,
+        profile.as_slice(),
+        folded.as_bytes(),
+    )
 }
 
 // Words, how many lines they ask for, and how these begin and end.
@@ -147,23 +146,48 @@ const WHOLE: [(&[&str], usize, &str, &str); 4] = [
     ),
 ];
 
+// Passes where a report has so many lines, and begins and ends like this.
+fn expect_shape(report: &str, lines: usize, beginning: &str, end: &str) -> Result<(), Fail> {
+    let is_whole = report.starts_with(beginning) && report.ends_with(end);
+    if is_whole && report.matches("\n").count() == lines {
+        return Ok(());
+    }
+    Err("another shape".into())
+}
+
+// Passes where folded text has such a report, and the profile the same.
+fn expect_whole<'a, T: Threads + Wait + RandomSource + Sync>(
+    rt: &T,
+    alloc: Global,
+    profile: &[u8],
+    folded: &str,
+    (words, lines, beginning, end): (&'a [&'a str], usize, &str, &str),
+) -> Result<(), Fail> {
+    let report = report_on(rt, alloc, words, "folded", folded.as_bytes())?;
+    expect_shape(report.as_str(), lines, beginning, end)?;
+    expect_text(
+        report_on(rt, alloc, words, "pprof", profile),
+        report.as_str(),
+    )
+}
+
+fn expect_all_whole<T: Threads + Wait + RandomSource + Sync>(
+    rt: &T,
+    alloc: Global,
+    profile: &[u8],
+    folded: &str,
+) -> Result<(), Fail> {
+    for whole in WHOLE {
+        expect_whole(rt, alloc, profile, folded, whole)?;
+    }
+    Ok(())
+}
+
 #[test]
 fn whole_reports_on_thousands_of_rows(rt: HostRuntime) -> Result<(), Fail> {
     let profile = profile(rt.alloc())?;
     let folded = folded(rt.alloc())?;
-    for (words, lines, beginning, end) in WHOLE {
-        let report = report_on(&rt, rt.alloc(), words, "folded", folded.as_bytes())?;
-        assert_eq!(rt; report.matches("\n").count(), lines);
-        assert!(rt;
-            report.starts_with(beginning) && report.ends_with(end),
-            "{lines}"
-        );
-        expect_text(
-            report_on(&rt, rt.alloc(), words, "pprof", profile.as_slice()),
-            report.as_str(),
-        )?;
-    }
-    Ok(())
+    expect_all_whole(&rt, rt.alloc(), profile.as_slice(), folded.as_str())
 }
 
 #[test]
@@ -194,30 +218,36 @@ fn many_options_on_a_long_input(rt: HostRuntime) -> Result<(), Fail> {
     )
 }
 
-// The line of a name of so many letters.
-fn long_line(alloc: Global, letters: usize) -> Result<String, AllocError> {
-    let mut line = String::new(alloc);
+// A text with so many letters in the middle.
+fn long_text(
+    alloc: Global,
+    before: &str,
+    letters: usize,
+    after: &str,
+) -> Result<String, AllocError> {
+    let mut text = String::from_str(alloc, before)?;
     for _ in 0..letters {
-        line.push('x')?;
+        text.push('x')?;
     }
-    line.push_str(" 1\n")?;
-    Ok(line)
+    text.push_str(after)?;
+    Ok(text)
 }
 
 #[test]
 fn a_name_longer_than_three_reads(rt: HostRuntime) -> Result<(), Fail> {
-    let line = long_line(rt.alloc(), 210_000)?;
-    let words = ["flame", "fold"];
+    let line = long_text(rt.alloc(), "", 210_000, " 1\n")?;
     expect_text(
-        report_text(&rt, rt.alloc(), words.as_slice(), line.as_bytes()),
+        report_text(&rt, rt.alloc(), &["flame", "fold"], line.as_bytes()),
         line.as_str(),
     )
 }
 
 #[test]
 fn a_long_name_in_a_top_list(rt: HostRuntime) -> Result<(), Fail> {
-    let line = long_line(rt.alloc(), 210_000)?;
-    let report = report_text(&rt, rt.alloc(), &["flame", "top"], line.as_bytes())?;
-    assert!(rt; report.starts_with("total 1\n1 1 xxx") && report.len() == 8 + 4 + 210_000 + 1);
-    Ok(())
+    let line = long_text(rt.alloc(), "", 210_000, " 1\n")?;
+    let list = long_text(rt.alloc(), "total 1\n1 1 ", 210_000, "\n")?;
+    expect_text(
+        report_text(&rt, rt.alloc(), &["flame", "top"], line.as_bytes()),
+        list.as_str(),
+    )
 }

@@ -1,6 +1,6 @@
 //! What the options change, worked by hand.
 
-use crate::fakes::{end_on, report_of, report_on, report_text};
+use crate::fakes::{end_on, expect_reports, report_of, report_text};
 use std::test::Fail;
 use test_support::expect_text;
 
@@ -77,14 +77,7 @@ const REPORTS: [(&[&str], &str); 13] = [
 fn reports_with_options(rt: HostRuntime) -> Result<(), Fail> {
     let export = ["flame", "proto", "--kind", "cpu"];
     let profile = report_of(&rt, rt.alloc(), export.as_slice(), STORED)?;
-    for (words, report) in &REPORTS {
-        expect_text(report_on(&rt, rt.alloc(), words, "folded", STORED), report)?;
-        expect_text(
-            report_on(&rt, rt.alloc(), words, "pprof", profile.as_slice()),
-            report,
-        )?;
-    }
-    Ok(())
+    expect_reports(&rt, rt.alloc(), &REPORTS, profile.as_slice(), STORED)
 }
 
 #[test]

@@ -5,6 +5,15 @@ use std::test::Fail;
 
 const STORED: &[u8] = b"main;a;b 3\nmain;a 2\nmain;c 5\n";
 
+// Passes where a run is refused for its words, writes nothing, and says this among other things.
+fn expect_refusal(end: Result<String, Fail>, part: &str) -> Result<(), Fail> {
+    let end = end?;
+    if end.starts_with("2 0 ") && end.contains(part) {
+        return Ok(());
+    }
+    Err(Fail::new(end.as_str()))
+}
+
 #[test]
 fn refused_words(rt: HostRuntime) -> Result<(), Fail> {
     let cases: [(&[&str], &str); 15] = [
@@ -52,10 +61,18 @@ fn refused_words(rt: HostRuntime) -> Result<(), Fail> {
         ),
     ];
     for (words, part) in cases {
-        let end = end_on(&rt, rt.alloc(), words, STORED)?;
-        assert!(rt; end.starts_with("2 0 ") && end.contains(part), "{end}");
+        expect_refusal(end_on(&rt, rt.alloc(), words, STORED), part)?;
     }
     Ok(())
+}
+
+// Passes where a usage line names the program, and not the file that it was called by.
+fn expect_own_name(end: Result<String, Fail>) -> Result<(), Fail> {
+    let end = end?;
+    if end.contains("\nUsage: flame ") && !end.contains("flame_tool") {
+        return Ok(());
+    }
+    Err(Fail::new(end.as_str()))
 }
 
 #[test]
@@ -67,11 +84,7 @@ fn usage_lines_name_the_program(rt: HostRuntime) -> Result<(), Fail> {
         &["out/flame_tool", "fold", "--by", "cum"],
     ];
     for words in cases {
-        let end = end_on(&rt, rt.alloc(), words, STORED)?;
-        assert!(rt;
-            end.contains("\nUsage: flame ") && !end.contains("flame_tool"),
-            "{end}"
-        );
+        expect_own_name(end_on(&rt, rt.alloc(), words, STORED))?;
     }
     Ok(())
 }

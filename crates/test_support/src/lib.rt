@@ -2,7 +2,7 @@
 //! into each test, where the proof pays for it again.
 #![tactic(auto)]
 
-ghost use Rattle.std.specs.Prelude.{◌≡◌, MatchResult, OnOk, string_bytes};
+ghost use Rattle.std.specs.Prelude.{◌≡◌, IfSome, MatchResult, OnOk, string_bytes};
 
 use std::alloc::Global;
 use std::fmt::Display;
@@ -28,7 +28,9 @@ pub fn expect_text(made: Result<String, Fail>, wanted: &str) -> Result<(), Fail>
 /// # Errors
 ///
 /// A test's failure: want of memory, or both texts.
-pub fn expect_printed<D: Display>(alloc: Global, value: &D, wanted: &str) -> Result<(), Fail> {
+pub fn expect_printed<D: Display>(alloc: Global, value: &D, wanted: &str) -> Result<(), Fail>
+    ensures { OnOk result (IfSome (D.output value.now) (λ printed. printed ≡ wanted.now)) }
+{
     let text = format!(in alloc; "{value}")?;
     expect_text(Ok(text), wanted)
 }

@@ -1,22 +1,17 @@
 -- What faults of an input say, and the text of answers.
-use Rattle.std.proofs.Common.{◌≡◌, ◌≢◌, ℕ, List, refl, sym, ap, ◌∙◌, subst, inl, inr}
+use Rattle.std.proofs.Common.{◌≡◌, ◌≢◌, ℕ, List, refl, sym, ap, ◌∙◌, subst}
 use Rattle.std.specs.Prelude.{Option, Some, None, Result, Ok, Err, MatchResult}
 use Rattle.pprof_profile.specs.declared.faults.ProfileFault.{ProfileFault}
 use Rattle.pprof_profile.specs.declared.faults.ProfileFault.TheVariants as profile
 use Rattle.pprof_profile.specs.declared.messages.Draft.{Draft}
 use Rattle.pprof_profile.specs.Profiles.{IsProfile, IsProfileFault}
 use Rattle.profile_rows.specs.declared.weighted_stacks.WeightedStack.{WeightedStack}
-use Rattle.folded_text.specs.declared.folded.FoldedFault.{FoldedFault}
-use Rattle.folded_text.specs.declared.folded.FoldedFault.TheVariants as folded
 use Rattle.profile_samples.specs.declared.sampling.BatchFault.{BatchFault}
 use Rattle.profile_samples.specs.declared.sampling.BatchFault.TheVariants as batch
 use Rattle.profile_samples.specs.declared.sampling.ValueChoice.{ValueChoice}
 use Rattle.profile_samples.specs.declared.sampling.ValueChoice.TheVariants.{Default, Named}
 use Rattle.profile_samples.specs.declared.sampling.ValueChoice.TheVariants as choices
-use Rattle.folded_text.specs.FoldedText.{IsFirstFault, IsFoldedText, IsWorkFault}
 use Rattle.profile_samples.specs.Samples.{AreStacksOf, IsFirstStacksFault, chosen_type_of, type_named}
-use Rattle.profile_samples.specs.MergedSamples.{IsMergedBatch}
-use Rattle.folded_text.specs.TextSums.{IsMergedText}
 use Rattle.flame_report.specs.Answers.{answer_by, kept_by}
 use Rattle.flame_report.specs.declared.query.Kind.{Kind}
 use Rattle.flame_report.specs.declared.query.Query.{Query}
@@ -24,28 +19,9 @@ use Rattle.flame_words.specs.declared.request.Source.{Source}
 use Rattle.flame_answers.specs.declared.outcomes.ToolFault.{ToolFault}
 use Rattle.flame_answers.specs.declared.outcomes.ToolFault.TheVariants as tool
 use Rattle.flame_words.specs.declared.request.Format.TheVariants.{Folded, Pprof}
-use Rattle.flame_answers.specs.Answers.{AreRowsIn, AreMergedIn, HasNoRows, IsAnswerOfProfile, IsAnswerOfText, IsChoice, IsFaultIn, IsRefusedIn, IsReport, answer_text, batch_fault_of, folded_fault_of, profile_fault_of}
+use Rattle.flame_answers.specs.Answers.{AreRowsIn, HasNoRows, IsAnswerOfProfile, IsAnswerOfText, IsChoice, IsFaultIn, IsRefusedIn, IsReport, answer_text, batch_fault_of, profile_fault_of}
 
 -- ---- folded text
-
-refused_folded : (value : Option (List ℕ)) (input : List ℕ) (fault : FoldedFault) → IsFirstFault input fault → ((rows : List WeightedStack) → IsFoldedText input rows → fault ≡ folded.NoMemory)
-    → fault ≢ folded.NoMemory → (IsFirstFault input fault × (fault ≢ folded.NoMemory)) × HasNoRows Folded value input
-refused_folded value input fault first rows other = ((first, other), λ found this. other (rows found this))
-
-pub folded_refused : (value : Option (List ℕ)) (input : List ℕ) (fault : FoldedFault) → IsFirstFault input fault → ((rows : List WeightedStack) → IsFoldedText input rows → fault ≡ folded.NoMemory)
-    → IsRefusedIn Folded value input (folded_fault_of fault)
-folded_refused value input (folded.NotUtf8 line) first rows = refused_folded value input (folded.NotUtf8 line) first rows (λ e. cc)
-folded_refused value input (folded.NoCount line) first rows = refused_folded value input (folded.NoCount line) first rows (λ e. cc)
-folded_refused value input (folded.Count line) first rows = refused_folded value input (folded.Count line) first rows (λ e. cc)
-folded_refused value input (folded.Depth line) first rows = refused_folded value input (folded.Depth line) first rows (λ e. cc)
-folded_refused value input (folded.Heavy line) first rows = refused_folded value input (folded.Heavy line) first rows (λ e. cc)
-folded_refused value input folded.NoMemory first rows = tt
-
--- what work on a text's rows ends without a result by
-pub work_refused : (value : Option (List ℕ)) (input : List ℕ) (fault : FoldedFault) → IsWorkFault input fault → ((rows : List WeightedStack) → IsFoldedText input rows → fault ≡ folded.NoMemory)
-    → IsRefusedIn Folded value input (folded_fault_of fault)
-work_refused value input fault (inl first) rows = folded_refused value input fault first rows
-work_refused value input fault (inr late) rows = subst (λ (f : FoldedFault). IsRefusedIn Folded value input (folded_fault_of f)) (sym late.0) tt
 
 -- a query that keeps every row of folded text is answered by all of them
 IsReport-of_text : (source : Source) (query : Query) (kind : Kind) (input text : List ℕ) → source.format ≡ Folded → query.kind ≡ kind → ((rows : List WeightedStack) → kept_by query rows ≡ rows)
@@ -136,12 +112,3 @@ batch_refused value input draft choice (batch.Negative at) is only chosen first 
 batch_refused value input draft choice (batch.Depth at) is only chosen first rows = refused_batch value input draft choice (batch.Depth at) is only chosen first rows (λ e. cc)
 batch_refused value input draft choice (batch.Heavy at) is only chosen first rows = refused_batch value input draft choice (batch.Heavy at) is only chosen first rows (λ e. cc)
 batch_refused value input draft choice batch.NoMemory is only chosen first rows = tt
-
--- the sums of a batch are sums of the input
-pub AreMergedIn-batch : (value : Option (List ℕ)) (input : List ℕ) (draft : Draft) (choice : ValueChoice) (sums : List WeightedStack) → IsProfile input draft → IsChoice value choice → IsMergedBatch draft choice sums
-    → AreMergedIn Pprof value input sums
-AreMergedIn-batch value input draft choice sums is chosen this =
-    record { rows = this.rows; spelled = record { draft = draft; profile = is; choice = choice; chosen = chosen; sampled = this.sampled }; same = this.same }
-
-pub AreMergedIn-text : (value : Option (List ℕ)) (input : List ℕ) (sums : List WeightedStack) → IsMergedText input sums → AreMergedIn Folded value input sums
-AreMergedIn-text value input sums this = record { rows = this.rows; spelled = this.folded; same = this.same }

@@ -17,11 +17,8 @@ use Rattle.profile_samples.specs.declared.sampling.ValueChoice.TheVariants.{Defa
 use Rattle.profile_samples.specs.declared.sampling.ValueChoice.TheVariants as choices
 use Rattle.profile_samples.specs.Batches.{IsBatchOf, IsFirstBatchFault, chosen_types_of, one_from}
 use Rattle.profile_samples.specs.Samples.{type_named}
-use Rattle.live_report.specs.declared.fault.LiveFault.{LiveFault}
-use Rattle.live_report.specs.declared.fault.LiveFault.TheVariants as live
-use Rattle.flame_words.specs.declared.request.Format.{Format}
 use Rattle.flame_words.specs.declared.request.Format.TheVariants.{Folded, Pprof}
-use Rattle.flame_answers.specs.Answers.{HasLiveFault, HasNoBatch, IsBatchIn, IsLiveChoice, IsLiveRefused, batch_fault_of, folded_fault_of, profile_fault_of, store_fault_of}
+use Rattle.flame_answers.specs.Answers.{HasLiveFault, HasNoBatch, IsLiveChoice, IsLiveRefused, batch_fault_of, folded_fault_of, profile_fault_of}
 
 -- ---- folded text
 
@@ -102,14 +99,3 @@ samples_refused all value input draft choice (batch.Negative at) is only chosen 
 samples_refused all value input draft choice (batch.Depth at) is only chosen first batches = no_batch all value input draft choice (batch.Depth at) is only chosen first batches (λ e. cc)
 samples_refused all value input draft choice (batch.Heavy at) is only chosen first batches = no_batch all value input draft choice (batch.Heavy at) is only chosen first batches (λ e. cc)
 samples_refused all value input draft choice batch.NoMemory is only chosen first batches = tt
-
--- ---- the store
-
-pub store_refused : (format : Format) (all : Bool) (value : Option (List ℕ)) (input : List ℕ) (found : BatchState) → IsBatchIn format all value input found → (fault : LiveFault) → IsLiveRefused format all value input (store_fault_of fault)
-store_refused format all value input found this live.Start = ((found, this), λ e. cc)
-store_refused format all value input found this (live.Make fault) = ((found, this), λ e. cc)
-store_refused format all value input found this (live.Session fault) = ((found, this), λ e. cc)
-store_refused format all value input found this (live.Book fault) = ((found, this), λ e. cc)
-store_refused format all value input found this (live.Audit fault) = ((found, this), λ e. cc)
-store_refused format all value input found this live.Warm = ((found, this), λ e. cc)
-store_refused format all value input found this live.NoMemory = tt

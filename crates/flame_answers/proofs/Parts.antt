@@ -1,6 +1,6 @@
 -- What reads and writes in parts take and leave together.
-use Rattle.std.proofs.Common.{◌≡◌, ◌∙◌, ◌++◌, ◌+◌, ◌-◌, ◌≤◌, ℕ, List, [], Option, ap, sym, subst, refl, length, take, drop, arith, append_assoc, append-nil, length-append, length-drop, take_all, take-append-drop}
-use Rattle.std.proofs.KnownBytes.{Appends-trans, Appends-nil}
+use Rattle.std.proofs.Common.{◌≡◌, ◌∙◌, ◌++◌, ◌+◌, ◌-◌, ◌≤◌, ℕ, List, [], Option, ap, sym, subst, length, take, drop, arith, append_assoc, append-nil, length-append, length-drop, take_all, take-append-drop}
+use Rattle.std.proofs.KnownBytes.{Appends-trans}
 use Rattle.std.proofs.Math.Seq.{take-append_seam}
 use Rattle.std.specs.Io.KnownBytes.{Appends}
 use Rattle.flame_answers.specs.Parts.{AppendsBeginning}
@@ -10,9 +10,6 @@ pub record IsWrittenSoFar (text rest : List ℕ) (before after : Option (List �
   pub written : List ℕ
   pub parts : text ≡ written ++ rest
   pub appended : Appends before after written
-
-pub nothing_written : (text : List ℕ) (before : Option (List ℕ)) → IsWrittenSoFar text text before before
-nothing_written text before = record { written = []; parts = refl; appended = Appends-nil before }
 
 pub more_written : (text rest : List ℕ) (before mid after : Option (List ℕ)) (count : ℕ) → IsWrittenSoFar text rest before mid
     → Appends mid after (take count rest) → IsWrittenSoFar text (drop count rest) before after

@@ -1,5 +1,5 @@
 -- What a layout keeps from row to row.
-use Rattle.std.proofs.Common.{ℕ, ◌≡◌, ◌<◌, ◌≤◌, ◌+◌, ◌-◌, List, [], ◌∷◌, ◌++◌, length, take, get_or, refl, sym, ap, subst, ◌∙◌, arith, zero, suc, replicate, inl, inr}
+use Rattle.std.proofs.Common.{ℕ, ◌≡◌, ◌<◌, ◌≤◌, ◌+◌, ◌-◌, List, [], ◌∷◌, ◌++◌, length, take, get_or, sym, ap, subst, ◌∙◌, arith, zero, suc, replicate, inl, inr}
 use Rattle.std.proofs.lemmas.List.{length-append, length-take-le, length-replicate, get_or_append_left, get_or-append_right, get_or-take, get_or-replicate, get_or_push, take-take, take_all}
 use Rattle.std.proofs.lemmas.List.Sums.{common_prefix_len-le}
 use Rattle.std.proofs.lemmas.Bool.{cases_lt}
@@ -32,10 +32,6 @@ held_above held rows (suc n) up h is some =
     ∙ is.1 _ ((common_prefix_len-le (eq_by_cmp name_cmp) (stack_at rows n) (stack_at rows (suc n))).0)
     ∙ ap (held_weight rows (suc n)) (order.take_common names_total names_same (stack_at rows n) (stack_at rows (suc n)))
     ∙ held_weight-new rows (suc n) (common_prefix_len (eq_by_cmp name_cmp) (stack_at rows n) (stack_at rows (suc n))) up h (omega arith)
-
-pub held_above-first : (rows : List WeightedStack) (n : ℕ) → known_at rows n ≡ 0 → held_weight rows n (stack_at rows n) ≡ 0
-held_above-first rows zero e = refl
-held_above-first rows (suc n) e = absurd (omega arith)
 
 -- what two neighbours share
 pub same_take : (rows : List WeightedStack) (n e : ℕ) → e < known_at rows (suc n) → take e (stack_at rows n) ≡ take e (stack_at rows (suc n))

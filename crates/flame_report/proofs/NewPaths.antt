@@ -38,10 +38,6 @@ among-append q (p ∷ ps) qs =
     elim (eq_by_cmp stack_cmp q p) as (λ b. (b || is_among q (ps ++ qs)) ≡ ((b || is_among q ps) || is_among q qs)) [ true ↦ refl | false ↦ among-append q ps qs ]
 
 -- a list of paths that begin with one name
-among-map_nil : (f : List ℕ) (ps : List Path) → is_among [] (map (λ p. f ∷ p) ps) ≡ false
-among-map_nil f [] = refl
-among-map_nil f (p ∷ ps) = among-map_nil f ps
-
 among-map : (r : Ordering) (n f : List ℕ) (q : Path) (ps : List Path) → name_cmp n f ≡ r → is_among (n ∷ q) (map (λ p. f ∷ p) ps) ≡ match_ordering r false (is_among q ps) false
 among-map Less n f q [] e = refl
 among-map Equal n f q [] e = refl

@@ -4,7 +4,7 @@ use Rattle.std.specs.declared.cmp.Ordering.TheVariants.{Less}
 use Rattle.std.specs.Ordering.{eq_by_cmp}
 use Rattle.std.specs.Cmp.{IsTotalOrder}
 use Rattle.std.specs.FinMap.{IsAntisymmetric, slice_cmp-IsAntisymmetric, nat_cmp-IsAntisymmetric}
-use Rattle.std.specs.Cmp.Lexicographic.{nat_list_cmp_total, lists_total}
+use Rattle.std.specs.Cmp.Lexicographic.{nat_list_cmp_total}
 use Rattle.std.specs.List.{common_prefix_len}
 use Rattle.std.proofs.lemmas.List.Sums.{sum_by-cons, sum_by-take-drop, sum_by_more, sum_by-take-le}
 use Rattle.std.proofs.lemmas.Bool.{cases_Bool, both_ways, cases_eq}
@@ -24,9 +24,6 @@ names_total = nat_list_cmp_total
 
 pub names_same : IsAntisymmetric name_cmp
 names_same = slice_cmp-IsAntisymmetric nat_cmp-IsAntisymmetric
-
-pub stacks_total : IsTotalOrder stack_cmp
-stacks_total = lists_total names_total
 
 pub weight_where-cons : (test : List (List ℕ) → Bool) (row : WeightedStack) (rows : List WeightedStack) → weight_where test (row ∷ rows) ≡ cond (test row.stack) row.weight 0 + weight_where test rows
 weight_where-cons test row rows = sum_by-cons (λ r. cond (test r.stack) r.weight 0) row rows
@@ -85,15 +82,6 @@ no_more_rows rows path i j d up h inside here gone =
       | inl z ↦ both_ways _ gone (subst (λ n. begins_with name_cmp path (stack_of rows n d) ≡ true) (let q : j + k ≡ j = omega arith in q) there')
       | inr z ↦ both_ways _ gone (order.prefix_between names_total names_same path _ _ _ here (up i j d h inside) (up j (j + k) d (omega (arith, z)) at.0) there')
     ]))
-
--- before the first row of a path comes none
-pub no_earlier_rows : (rows : List WeightedStack) (path : List (List ℕ)) (i : ℕ) (d : WeightedStack) → IsAscending rows → i + 1 < length rows → begins_with name_cmp path (stack_of rows (i + 1) d) ≡ true
-    → begins_with name_cmp path (stack_of rows i d) ≡ false → (k : ℕ) → k < i + 1 → begins_with name_cmp path (stack_of rows k d) ≡ false
-no_earlier_rows rows path i d up inside here gone k h =
-    is_false _ (λ there. elim (cases_eq k i) [
-      | inl z ↦ both_ways _ gone (subst (λ n. begins_with name_cmp path (stack_of rows n d) ≡ true) z there)
-      | inr z ↦ both_ways _ gone (order.prefix_between names_total names_same path _ _ _ there (up k i d (omega (arith, z)) (omega arith)) (up i (i + 1) d (omega arith) inside) here)
-    ])
 
 -- a path begins where the rows before its first one end, but for the rows whose stacks are parts of it
 pub path_start-first : (rows : List WeightedStack) (path : List (List ℕ)) (i : ℕ) (d : WeightedStack) → IsAscending rows → i < length rows → begins_with name_cmp path (stack_of rows i d) ≡ true

@@ -3,10 +3,9 @@ use Rattle.std.proofs.Common.{◌≡◌, ◌≢◌, ℕ, ◌^◌, ◌<◌, ◌�
 use Rattle.std.specs.Prelude.{Option, Some, None, MatchOption, not, ◌==◌, nat_le}
 use Rattle.std.specs.Char.{digit_value}
 use Rattle.std.specs.List.{AllByRecursion, list_all}
-use Rattle.std.specs.Str.{IsUtf8}
 use Rattle.std.specs.Str.Parse.{AllDigits, IsNumeral, digits_value}
 use Rattle.std.proofs.lemmas.Bool.{and_parts, eqb-false, leb-true, le-ltb, lt-ltb, ne_eqb, not-true}
-use Rattle.std.proofs.lemmas.List.Elements.{All-from_recursion, recursion_from_All}
+use Rattle.std.proofs.lemmas.List.Elements.{recursion_from_All}
 use Rattle.profile_rows.specs.Names.{IsName}
 use Rattle.flame_report.specs.declared.query.Kind.{Kind}
 use Rattle.flame_words.specs.declared.request.Format.{Format}
@@ -59,35 +58,6 @@ is_name_text-name text name =
     let some = name.not_empty in
     let long : (length text == 0) ≡ false = ne_eqb (length text) 0 (λ e. absurd (omega (arith, some, e))) in
     rw long (plain_each text (recursion_from_All (λ byte. byte ≢ 59) text name.no_separator) (recursion_from_All (λ byte. byte ≢ 10) text name.no_line_feed))
-
-not_byte : (byte other : ℕ) → not (byte == other) ≡ true → byte ≢ other
-not_byte byte other e same = eqb-false byte other (not-true (byte == other) e) same
-
-plain_parts : (text : List ℕ) → list_all is_plain text ≡ true → AllByRecursion (λ byte. byte ≢ 59) text × AllByRecursion (λ byte. byte ≢ 10) text
-plain_parts [] e = (tt, tt)
-plain_parts (byte ∷ text) e =
-    let here = and_parts (is_plain byte) (list_all is_plain text) e in
-    let parts = and_parts (not (byte == 59)) (not (byte == 10)) here.0 in
-    let rest = plain_parts text here.1 in
-    ((not_byte byte 59 parts.0, rest.0), (not_byte byte 10 parts.1, rest.1))
-
--- and a text that passes it is a name's
-name_of_test : (text : List ℕ) → IsUtf8 text → is_name_text text ≡ true → IsName text
-name_of_test text utf8 e =
-    let parts = and_parts (not (length text == 0)) (list_all is_plain text) e in
-    let plain = plain_parts text parts.1 in
-    record {
-      utf8 = utf8;
-      not_empty = filled text parts.0;
-      no_separator = All-from_recursion (λ byte. byte ≢ 59) text plain.0;
-      no_line_feed = All-from_recursion (λ byte. byte ≢ 10) text plain.1;
-    }
-
-pub is_name_text-other : (text : List ℕ) → IsUtf8 text → ¬ IsName text → is_name_text text ≡ false
-is_name_text-other text utf8 other = elim (is_name_text text) as (λ b. is_name_text text ≡ b → b ≡ false) [
-  | true ↦ λ e. absurd (other (name_of_test text utf8 e))
-  | false ↦ λ e. refl
-] refl
 
 -- ---- reports by names
 

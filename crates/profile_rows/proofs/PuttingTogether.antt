@@ -1,5 +1,5 @@
 -- Rows in the order of their stacks, put together one after the other.
-use Rattle.std.proofs.Common.{◌≡◌, ℕ, suc, ◌+◌, ◌-◌, ◌<◌, ◌^◌, Bool, true, false, cond, List, [], ◌∷◌, ◌++◌, length, get_or, refl, sym, ap, ◌∙◌, subst, arith, inl, inr, length-append, length-set, zero-add}
+use Rattle.std.proofs.Common.{◌≡◌, ℕ, suc, ◌+◌, ◌-◌, ◌<◌, Bool, true, false, cond, List, [], ◌∷◌, ◌++◌, length, get_or, refl, sym, ap, ◌∙◌, subst, arith, inl, inr, length-append, length-set, zero-add}
 use Rattle.std.specs.Prelude.{All, IsSorted}
 use Rattle.std.specs.declared.cmp.Ordering.{Ordering}
 use Rattle.std.specs.declared.cmp.Ordering.TheVariants.{Less, Equal, Greater}
@@ -136,11 +136,6 @@ behind row rest sorted = λ k d lt. sorted_far lower (ranks_by stack_cmp_total (
 module _ (all sums new left rest : List WeightedStack) (row : WeightedStack) (so_far : IsPuttingTogether all sums left) (is : left ≡ row ∷ rest) where
   sorted_left : IsSorted by_stack (row ∷ rest)
   sorted_left = subst (IsSorted by_stack) is so_far.sorted
-
-  pub fits_left : total_of all < 2 ^ 63 → total_of sums + row.weight < 2 ^ 63
-  fits_left fits =
-      let here : total_of left ≡ row.weight + total_of rest = ap total_of is ∙ sum_by-cons (λ (r : WeightedStack). r.weight) row rest in
-      omega (arith, here, so_far.total, fits)
 
   pub reached_first : AreUpTo row.stack sums
   reached_first = subst (All (λ (r : WeightedStack). AreUpTo r.stack sums)) is so_far.reached 0 no_row (omega arith)

@@ -202,19 +202,6 @@ module _ (totals : List ℕ) (rows : List WeightedStack) (values : List ℕ) (si
 
 -- ---- reading
 
--- the values of a row lie within those of all rows
-pub times_within : (at n m : ℕ) → at < n → at * m + m ≤ n * m
-times_within at zero m lt = absurd (omega arith)
-times_within zero (suc n) m lt =
-    let none = no_times m in
-    let times = suc_times n m in
-    omega arith
-times_within (suc at) (suc n) m lt =
-    let here = suc_times at m in
-    let times = suc_times n m in
-    let rest = times_within at n m (omega arith) in
-    omega arith
-
 module _ (totals : List ℕ) (rows : List WeightedStack) (values : List ℕ) (batch : BatchState)
     (seen : batch_with totals rows values ≡ batch) where
   pub seen-length : length rows ≡ length batch.rows

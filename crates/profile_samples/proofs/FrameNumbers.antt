@@ -50,16 +50,7 @@ number_by-name draft function =
     ∙ ap (option_or (option_map (number_of draft) (cleaned_name_of (string_at draft.strings function.name)))) (string_number draft function.system_name)
     ∙ option_or-map (number_of draft) (cleaned_name_of (string_at draft.strings function.name)) (cleaned_name_of (string_at draft.strings function.system_name))
 
--- the number of a line's name is that of its function's, or of the address
-pub line_numbered : (f : List ℕ → ℕ) (name : Option (List ℕ)) (address : List ℕ) → unwrap_or (option_map f name) (f address) ≡ f (unwrap_or name address)
-line_numbered f (Some name) address = refl
-line_numbered f None address = refl
-
 -- ---- the names stand among those that are numbered
-
-cut_or : (x y : Bool) → (x || y) ≡ true → (x ≡ false → y ≡ true)
-cut_or true y e h = absurd (false≢true (sym h))
-cut_or false y e h = e
 
 or_right : (x y : Bool) → y ≡ true → (x || y) ≡ true
 or_right true y e = refl
@@ -298,16 +289,6 @@ location_numbered_at draft ids frames deepest names id found this h =
     item_with-found (λ location. location.id) draft.locations id found (subst (λ i. has_double i ≡ false) this.ids_are this.single)
     (subst (λ (i : List ℕ). MatchOption found ((at : ℕ) → slice_get i at ≢ Some id) (λ at. slice_get i at ≡ Some id)) this.ids_are h)
 
-get_map : {A B : Type 0} (f : A → B) (items : List A) (at : ℕ) → slice_get (map f items) at ≡ option_map f (slice_get items at)
-get_map f [] zero = refl
-get_map f [] (suc at) = refl
-get_map f (item ∷ items) zero = refl
-get_map f (item ∷ items) (suc at) = get_map f items at
-
-pub numbers_at_place : (draft : Draft) (frames : List FrameNumbers) (at : ℕ) → frames ≡ map (location_numbers draft) draft.locations
-    → slice_get frames at ≡ option_map (location_numbers draft) (slice_get draft.locations at)
-numbers_at_place draft frames at are = ap (λ fs. slice_get fs at) are ∙ get_map (location_numbers draft) draft.locations at
-
 -- the numbers of lines, where there are some
 map_twice : (draft : Draft) (address : ℕ) (lines : List Line) → map (line_number draft address) lines ≡ map (number_of draft) (map (line_name draft.strings draft.functions address) lines)
 map_twice draft address [] = refl
@@ -316,10 +297,6 @@ map_twice draft address (line ∷ lines) = ap (λ numbers. line_number draft add
 pub numbers_of_lines : (draft : Draft) (address : ℕ) (lines : List Line) → 0 < length lines → map (line_number draft address) lines ≡ map (number_of draft) (frames_from draft.strings draft.functions address lines)
 numbers_of_lines draft address [] some = absurd (omega (arith, some))
 numbers_of_lines draft address (line ∷ lines) some = map_twice draft address (line ∷ lines)
-
-pub numbers_of_no_lines : (draft : Draft) (address : ℕ) (lines : List Line) → length lines ≡ 0 → number_of draft (address_name address) ∷ [] ≡ map (number_of draft) (frames_from draft.strings draft.functions address lines)
-numbers_of_no_lines draft address [] none = refl
-numbers_of_no_lines draft address (line ∷ lines) none = absurd (omega (arith, none))
 
 -- ---- the names that are there, one by one
 

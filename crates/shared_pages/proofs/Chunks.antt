@@ -192,6 +192,3 @@ module _ {X : Type 0} where
                 (λ ne. let size_is = ap length (other i ne) in omega (arith, size_is, are.full i (omega (arith, i_lt, count))))
                 (cases_eq i k);
           }
-
-  pub no_chunks : (size : ℕ) → AreChunks {X = X} size []
-  no_chunks size = record { some = λ k lt. absurd (omega arith); few = λ k lt. absurd (omega arith); full = λ k lt. absurd (omega arith) }

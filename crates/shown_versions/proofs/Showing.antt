@@ -1,16 +1,14 @@
 -- Each step keeps the rule of what is shown.
-use Rattle.std.proofs.Common.{◌≡◌, ◌≢◌, ◌⊎◌, ℕ, List, [], ◌∷◌, ◌++◌, fold, set, Some, None, refl, sym, ap, ◌∙◌, subst, ⊎_elim}
-use Rattle.std.specs.Prelude.{IfSome}
+use Rattle.std.proofs.Common.{◌≡◌, ◌≢◌, ◌⊎◌, ℕ, List, [], ◌∷◌, ◌++◌, fold, set, Some, None, refl, ◌∙◌, subst, ⊎_elim}
 use mathlib.Core.Option.{some}
 use mathlib.Core.List.{IsPrefix}
 use lib.ListN.{get_elem?}
 use Rattle.left_right.specs.Register.{Admits, Turns, TurnsAt, Forks, Merges}
 use Rattle.atomic_table.proofs.Lists.{at_set, at_snoc}
-use Rattle.logbook.specs.Pages.{Book}
 use Rattle.change_history.proofs.Fronts.{prefix_self, prefix_trans}
 use Rattle.shown_versions.specs.declared.known.KnownVersion.{KnownVersion}
 use Rattle.shown_versions.specs.declared.rule.View.{View}
-use Rattle.shown_versions.specs.Views.{newcomer, knower, Covers, Keeps, Shows, IsOf}
+use Rattle.shown_versions.specs.Views.{newcomer, knower, Covers, Keeps, Shows}
 
 covers_itself : (x : KnownVersion) → Covers x (knower x)
 covers_itself x = (refl, refl, prefix_self x.seen.log)
@@ -53,21 +51,6 @@ pub merges : (seat : ℕ) (v : View) (other : ℕ) (w : View) → Merges Keeps s
 merges seat v other w x views h at apart there =
     let mine : Covers x w = ⊎_elim (λ (t : (other ≡ seat) × (w ≡ w)). absurd (apart t.0)) (λ (t : (other ≢ seat) × (get_elem? views other ≡ some w)). h other w t.1) (at_set views seat other w w there) in
     keeps_set x (set views seat w) other newcomer (keeps_set x views seat w h mine) tt
-
--- what a view knows of says which history the version shown is of, and how wide its rows are
-pub covers_book : (x : KnownVersion) (v : View) (b : Book) (width : ℕ) → Covers x v → IsOf v b width → x.seen.book ≡ b
-covers_book x v b width = by v.known
-  where
-    by : (o : _) → Covers x (record { known = o }) → IsOf (record { known = o }) b width → x.seen.book ≡ b
-    by None h is = absurd (cc (is.0))
-    by (Some s) h is = let same : s.seen.book ≡ b = cc (is.0) in h.0 ∙ same
-
-pub covers_width : (x : KnownVersion) (v : View) (b : Book) (width : ℕ) → Covers x v → IsOf v b width → x.width ≡ width
-covers_width x v b width = by v.known
-  where
-    by : (o : _) → Covers x (record { known = o }) → IsOf (record { known = o }) b width → x.width ≡ width
-    by None h is = absurd (cc (is.0))
-    by (Some s) h is = let same : s.width ≡ width = cc (is.1) in h.1 ∙ same
 
 -- what is pending before the last version doesn't matter, since that one decides
 pub last_decides : {S : Type 0} (f : KnownVersion → S) (s : S) (xs : List KnownVersion) (x : KnownVersion) → fold (λ _ v. f v) s (xs ++ x ∷ []) ≡ f x

@@ -19,19 +19,12 @@ pub record AreAdded (names : List (List ℕ)) (before now : List (List Node)) (v
   pub done : IsCredited (plain_of names before value) (plain_of names now value) (take count (rows_at value rows))
   pub others : (other : ℕ) → (other ≡ value → ⊥) → nodes_of now other ≡ nodes_of before other
 
-pub AreAdded-start : (names : List (List ℕ)) (all : List (List Node)) (value : ℕ) (rows : List Row) → AreTrees names all → AreAdded names all all value rows 0
-AreAdded-start names all value rows trees =
-    record { trees = trees; width = refl; done = IsCredited-start (plain_of names all value); others = λ other ne. refl }
-
 -- ---- the values so far
 
 pub record AreAddedTo (names : List (List ℕ)) (before now : List (List Node)) (rows : List Row) (count : ℕ) : Type 0 where
   pub trees : AreTrees names now
   pub width : length now ≡ length before
   pub credited : AreCredited (tree_of names before) (tree_of names now) rows count
-
-pub AreAddedTo-start : (names : List (List ℕ)) (all : List (List Node)) (rows : List Row) → AreTrees names all → AreAddedTo names all all rows 0
-AreAddedTo-start names all rows trees = record { trees = trees; width = refl; credited = AreCredited-start (tree_of names all) rows }
 
 plain_is : (names : List (List ℕ)) (all : List (List Node)) (value : ℕ) → plain_of names all value ≡ plain_at (tree_of names all) value
 plain_is names all value = seen_plain names all (tree_of names all) value refl

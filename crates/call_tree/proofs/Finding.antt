@@ -1,6 +1,5 @@
 -- The walk over all nodes that follows one stack from the root.
-use Rattle.std.proofs.Common.{◌≡◌, ◌≢◌, ℕ, zero, suc, ◌+◌, ◌<◌, ◌≤◌, true, false, cond, List, [], ◌∷◌, ◌++◌, length, take, get_or, refl, sym, ap, ◌∙◌, arith, ⊎_elim}
-use Rattle.std.proofs.Math.Seq.{take-length}
+use Rattle.std.proofs.Common.{◌≡◌, ℕ, zero, suc, ◌+◌, ◌<◌, ◌≤◌, true, false, cond, List, [], ◌∷◌, ◌++◌, length, take, get_or, refl, sym, ap, ◌∙◌, arith, ⊎_elim}
 use Rattle.std.proofs.lemmas.List.{take_more, same_from_push}
 use Rattle.std.proofs.lemmas.List.Sums.{sum_by-cons}
 use Rattle.std.proofs.lemmas.Bool.{cases_eq}
@@ -10,7 +9,7 @@ use Rattle.profile_rows.proofs.RowLaws.{same_from_is_same_stack, is_same_stack-s
 use Rattle.call_tree.specs.declared.node.Node.{Node}
 use Rattle.call_tree.specs.State.{name_at, node_at, stack_at}
 use Rattle.call_tree.specs.Shape.{node_rows, at, IsTree}
-use Rattle.call_tree.proofs.Shapes.{node_at-node_rows, stack_at-child, stack_at-root, length-node_rows}
+use Rattle.call_tree.proofs.Shapes.{stack_at-child, stack_at-root}
 
 weight_if_other : (stack : List (List ℕ)) (row : WeightedStack) → (row.stack ≡ stack → ⊥) → weight_if (is_same_stack stack) row ≡ 0
 weight_if_other stack row ne =
@@ -120,20 +119,3 @@ module _ (names : List (List ℕ)) (nodes : List Node) (stack : List (List ℕ))
           (both.1 ∙ ap (λ n. get_or stack n []) same)))
           (λ ne. omega (arith, shorter))
           (cases_eq d depth)
-
-pub IsFound-end : (names : List (List ℕ)) (nodes : List Node) (stack : List (List ℕ)) (index place depth : ℕ) → IsTree names nodes
-    → IsFound names nodes stack index place depth → depth ≡ length stack → weight_of (node_rows names nodes) stack ≡ (at nodes place).own
-IsFound-end names nodes stack index place depth tree found full =
-    let size = length-node_rows names nodes in
-    let here : stack_at (node_rows names nodes) place ≡ stack = found.here ∙ ap (λ n. take n stack) full ∙ take-length stack in
-    weight_of-at (node_rows names nodes) stack place (omega (arith, size, found.within)) here
-    (λ j lt e. tree.apart j place (omega (arith, size)) found.within (e ∙ sym here))
-    ∙ ap (λ row. row.weight) (node_at-node_rows names nodes place)
-
-pub IsFound-nowhere : (names : List (List ℕ)) (nodes : List Node) (stack : List (List ℕ)) (index place depth : ℕ)
-    → IsFound names nodes stack index place depth → length nodes ≤ index → depth ≢ length stack → weight_of (node_rows names nodes) stack ≡ 0
-IsFound-nowhere names nodes stack index place depth found all short =
-    let size = length-node_rows names nodes in
-    weight_of-none (node_rows names nodes) stack (λ j lt e.
-    let le = found.longest j (length stack) (omega (arith, size)) (omega arith) (e ∙ sym (take-length stack)) in
-    short (omega (arith, le, found.deep)))

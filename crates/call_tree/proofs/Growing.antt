@@ -10,30 +10,8 @@ use Rattle.profile_rows.specs.Aggregate.{Weighted, aggregate_of, with_row, with_
 use Rattle.profile_rows.proofs.FourValues.{value_of-past}
 use Rattle.call_tree.specs.State.{TreeState, PlainTree, AreGrown, AreStates, IsAppended, IsFresh, IsGrown, nodes_at, plain_at, name_at, weights_of, no_row}
 use Rattle.call_tree.specs.Plans.{AreCredited, AreFirstPlaces, ArePlaces, IsCredited, place_at}
-use Rattle.call_tree.proofs.Indexing.{IsGrown-refl, IsGrown-trans, IsGrown-named, IsGrown-added}
+use Rattle.call_tree.proofs.Indexing.{IsGrown-added}
 use Rattle.call_tree.proofs.Trees.{nodes_at-past}
-
-pub AreGrown-refl : (tree : TreeState) → AreGrown tree tree
-AreGrown-refl tree = record { width = refl; count = refl; each = λ value lt. IsGrown-refl (plain_at tree value) }
-
-pub AreGrown-same : (before after : TreeState) → after ≡ before → AreGrown before after
-AreGrown-same before after e = subst (AreGrown before) (sym e) (AreGrown-refl before)
-
-pub AreGrown-trans : (a b c : TreeState) → AreGrown a b → AreGrown b c → AreGrown a c
-AreGrown-trans a b c g h = record {
-  width = h.width ∙ g.width;
-  count = h.count ∙ g.count;
-  each = λ value lt. IsGrown-trans (plain_at a value) (plain_at b value) (plain_at c value) (g.each value lt) (h.each value (omega (arith, lt, g.count)));
-}
-
-pub AreGrown-named : (before after : TreeState) (added : List ℕ) → after.width ≡ before.width → after.names ≡ before.names ++ added ∷ [] → after.values ≡ before.values
-    → AreGrown before after
-AreGrown-named before after added width names values = record {
-  width = width;
-  count = ap length values;
-  each = λ value lt. subst (IsGrown (plain_at before value)) (λ i. record { names = sym names i; nodes = get_or (sym values i) value [] })
-      (IsGrown-named (plain_at before value) added);
-}
 
 pub weights-grown : (before after : TreeState) → AreGrown before after → (value : ℕ) → weights_of after value ≡ weights_of before value
 weights-grown before after grown value =

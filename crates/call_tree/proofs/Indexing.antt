@@ -1,5 +1,5 @@
 -- The index from a parent and a name to a child, when a name or a node is added.
-use Rattle.std.proofs.Common.{◌≡◌, ℕ, zero, suc, ◌<◌, Bool, true, false, cond, ◌&&◌, ◌||◌, nat_eq, List, [], ◌∷◌, ◌++◌, length, Option, Some, None, refl, sym, ap, ◌∙◌, subst, arith, inl, inr, ⊎_elim, ◌⊎◌}
+use Rattle.std.proofs.Common.{◌≡◌, ℕ, zero, suc, ◌<◌, Bool, true, false, cond, ◌&&◌, ◌||◌, nat_eq, List, [], ◌∷◌, ◌++◌, length, Option, Some, None, refl, sym, ap, ◌∙◌, arith, inl, inr, ⊎_elim, ◌⊎◌}
 use Rattle.std.proofs.lemmas.List.{get_or_append_left, get_or_push, length_push, same_from_push}
 use Rattle.std.proofs.lemmas.List.Sums.{sum_by_push}
 use Rattle.std.proofs.lemmas.Bool.{cases_eq, eqb-true, eq-eqb}
@@ -37,19 +37,6 @@ IsIndex-none look tree none no_names = record {
 pub IsGrown-refl : (tree : PlainTree) → IsGrown tree tree
 IsGrown-refl tree = record { longer = omega arith; kept = λ k lt. refl; weights = refl; total = refl; more_names = omega arith; kept_names = λ k lt. refl }
 
-pub IsGrown-same : (before after : PlainTree) → after ≡ before → IsGrown before after
-IsGrown-same before after e = subst (IsGrown before) (sym e) (IsGrown-refl before)
-
-pub IsGrown-trans : (a b c : PlainTree) → IsGrown a b → IsGrown b c → IsGrown a c
-IsGrown-trans a b c g h = record {
-  longer = omega (arith, g.longer, h.longer);
-  kept = λ k lt. h.kept k (omega (arith, g.longer)) ∙ g.kept k lt;
-  weights = h.weights ∙ g.weights;
-  total = h.total ∙ g.total;
-  more_names = omega (arith, g.more_names, h.more_names);
-  kept_names = λ k lt. h.kept_names k (omega (arith, g.more_names)) ∙ g.kept_names k lt;
-}
-
 -- ---- a name more
 
 module _ (tree : PlainTree) (added : List ℕ) where
@@ -58,16 +45,6 @@ module _ (tree : PlainTree) (added : List ℕ) where
 
   kept_name : (n : ℕ) → n < length tree.names → name_at (tree.names ++ added ∷ []) n ≡ name_at tree.names n
   kept_name n lt = get_or_append_left tree.names (added ∷ []) [] n lt
-
-  pub IsGrown-named : IsGrown tree (record tree { names = tree.names ++ added ∷ [] })
-  IsGrown-named = record {
-    longer = omega arith;
-    kept = λ k lt. refl;
-    weights = refl;
-    total = refl;
-    more_names = omega (arith, length_push tree.names added);
-    kept_names = kept_name;
-  }
 
   pub IsIndex-named : (look : ℕ × ℕ → Option ℕ) → IsState tree → ((k : ℕ) → k < length tree.names → name_at tree.names k ≡ added → ⊥)
       → IsIndex look tree → IsIndex look (record tree { names = tree.names ++ added ∷ [] })

@@ -5,16 +5,11 @@ use Rattle.std.specs.List.{list_any}
 use Rattle.std.proofs.lemmas.List.{take_more, get_or_append_left, get_or_push, length_push}
 use Rattle.std.proofs.lemmas.List.Folds.{list_any-append}
 use Rattle.std.proofs.lemmas.Bool.{cases_eq, eqb-true, eq-eqb}
-use Rattle.profile_rows.specs.declared.weighted_stacks.WeightedStack.{WeightedStack}
 use Rattle.profile_rows.specs.Names.{is_same_name}
 use Rattle.profile_rows.specs.Rows.{has_name}
 use Rattle.profile_rows.proofs.SameNames.{same_from_is_same_name, is_same_name-self}
-use Rattle.call_tree.specs.State.{PlainTree, IsState, IsGrown, name_at, node_at, stack_at}
-use Rattle.call_tree.specs.Plans.{AreFirstPlaces, IsPlace, place_at}
+use Rattle.call_tree.specs.State.{PlainTree, IsState, IsGrown, name_at, stack_at}
 use Rattle.call_tree.specs.Walks.{has_number, IsOnPath}
-
-pub IsOnPath-start : (tree : PlainTree) (frames : List (List ℕ)) → IsState tree → IsOnPath tree [] frames 0 0
-IsOnPath-start tree frames state = record { place_lt = state.rooted; here = state.root; below = λ j lt. absurd (omega arith); seen_is = λ name. refl }
 
 pub same_bool : (a b : Bool) → (a ≡ true → b ≡ true) → (b ≡ true → a ≡ true) → a ≡ b
 same_bool true b f g = sym (f refl)
@@ -111,27 +106,3 @@ module _ (tree named : PlainTree) (seen : List ℕ) (frames : List (List ℕ)) (
         (subst (λ (ns : List (List ℕ)). (j : ℕ) → j < length (if there then seen else seen ++ number ∷ []) → get_or (if there then seen else seen ++ number ∷ []) j 0 < length ns) (sym names) (after_below there));
     seen_is = λ name. ap (λ ns. has_number ns name next) names ∙ ap (has_number named.names name) next_e ∙ after_seen there there_e name;
   }
-
--- ---- the credits so far
-
-pub AreFirstPlaces-start : (tree : PlainTree) (rows : List WeightedStack) → AreFirstPlaces tree rows [] 0
-AreFirstPlaces-start tree rows = record { size = refl; each = λ k lt. absurd (omega arith) }
-
-IsPlace-grown : (tree after : PlainTree) (frames : List (List ℕ)) (place : ℕ) → IsGrown tree after → IsPlace tree frames place → IsPlace after frames place
-IsPlace-grown tree after frames place grown one = record {
-  within = omega (arith, one.within, grown.longer);
-  stack = ap (λ row. row.stack) (grown.kept place one.within) ∙ one.stack;
-}
-
-pub AreFirstPlaces-step : (tree after : PlainTree) (rows : List WeightedStack) (places next : List ℕ) (i node : ℕ) → AreFirstPlaces tree rows places i → IsGrown tree after
-    → node < length after.nodes → stack_at after.nodes node ≡ stack_at rows i → next ≡ places ++ node ∷ [] → AreFirstPlaces after rows next (i + 1)
-AreFirstPlaces-step tree after rows places next i node are grown lt stack next_e = record {
-  size = ap length next_e ∙ length_push places node ∙ ap (λ n. n + 1) are.size;
-  each = λ k h. subst (λ ps. IsPlace after (node_at rows k).stack (place_at ps k)) (sym next_e) (⊎_elim
-      (λ e. subst (IsPlace after (node_at rows k).stack) (sym (get_or_push places node 0 k (are.size ∙ sym e)))
-      (subst (λ j. IsPlace after (node_at rows j).stack node) (sym e) (record { within = lt; stack = stack })))
-      (λ ne. let less : k < i = omega arith in
-      subst (IsPlace after (node_at rows k).stack) (sym (get_or_append_left places (node ∷ []) 0 k (omega (arith, are.size))))
-      (IsPlace-grown tree after _ _ grown (are.each k less)))
-      (cases_eq k i));
-}

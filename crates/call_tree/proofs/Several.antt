@@ -21,9 +21,6 @@ pub record IsPushing (before now : BatchState) (value : ℕ) (all left : List We
   pub here : with_rows (aggregates_of now.rows value) left ≡ with_rows (aggregates_of before.rows value) all
   pub others : (other : ℕ) → (other ≡ value → ⊥) → aggregates_of now.rows other ≡ aggregates_of before.rows other
 
-pub IsPushing-start : (batch : BatchState) (value : ℕ) (all left : List WeightedStack) → left ≡ all → IsPushing batch batch value all left
-IsPushing-start batch value all left e = record { width = refl; here = ap (with_rows (aggregates_of batch.rows value)) e; others = λ other apart. refl }
-
 pub IsPushing-step : (before now next : BatchState) (value : ℕ) (all left rest : List WeightedStack) (row : WeightedStack) (weights : List ℕ)
     → IsPushing before now value all left → left ≡ row ∷ rest
     → value_of value weights ≡ row.weight → ((other : ℕ) → (other ≡ value → ⊥) → value_of other weights ≡ 0)
@@ -45,13 +42,6 @@ pub record ArePushed (tree : TreeState) (batch : BatchState) (count : ℕ) : Typ
   pub width : batch.width ≡ tree.width
   pub done : (value : ℕ) → value < count → aggregates_of batch.rows value ≡ weights_of tree value
   pub left : (value : ℕ) → count ≤ value → aggregates_of batch.rows value ≡ finite.empty
-
-pub ArePushed-start : (tree : TreeState) (batch : BatchState) (width : ℕ) → width ≡ tree.width → batch ≡ record { width = width; rows = [] } → ArePushed tree batch 0
-ArePushed-start tree batch width width_is is = record {
-  width = ap (λ (b : BatchState). b.width) is ∙ width_is;
-  done = λ value lt. absurd (omega arith);
-  left = λ value le. ap (λ (b : BatchState). aggregates_of b.rows value) is;
-}
 
 pub ArePushed-step : (tree : TreeState) (batch next : BatchState) (count : ℕ) (rows : List WeightedStack) → ArePushed tree batch count
     → rows ≡ rows_of (weights_of tree count) → next.width ≡ batch.width

@@ -19,9 +19,6 @@ pub record AreSpelled (rows : List WeightedStack) (texts : List StackText) : Typ
   pub spelled : map plain_text texts ≡ map joined_row rows
   pub named : All (λ (row : WeightedStack). All IsName row.stack) rows
 
-pub AreSpelled-nil : AreSpelled [] []
-AreSpelled-nil = record { spelled = refl; named = λ k d lt. absurd (omega arith) }
-
 AreSpelled-push : (rows : List WeightedStack) (before next : List StackText) (row : WeightedStack) (text : StackText) → AreSpelled rows before
     → plain_text text ≡ joined_row row → All IsName row.stack → next ≡ before ++ text ∷ [] → AreSpelled (rows ++ row ∷ []) next
 AreSpelled-push rows before next row text so_far text_is named next_is = record {

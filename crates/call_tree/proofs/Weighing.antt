@@ -163,9 +163,6 @@ pub record HaveRoom (size : ℕ) (before now : List (List ℕ)) (index : ℕ) : 
   pub kept : AreTables size now
   pub longer : (k : ℕ) → k < index → size < length (table_of now k)
 
-pub HaveRoom-start : (size : ℕ) (tables : List (List ℕ)) → AreTables size tables → HaveRoom size tables tables 0
-HaveRoom-start size tables are = record { count = refl; same = λ nodes. refl; kept = are; longer = λ k lt. absurd (omega arith) }
-
 module _ (size : ℕ) (before now : List (List ℕ)) (index : ℕ) (room : HaveRoom size before now index) (lt : index < length now) where
   pub HaveRoom-had : size < length (table_of now index) → HaveRoom size before now (index + 1)
   HaveRoom-had has = record {
@@ -209,17 +206,7 @@ module _ (size : ℕ) (before now : List (List ℕ)) (index : ℕ) (room : HaveR
       nothing (w ∷ t) (suc node) e = nothing t node e
 
 -- tables with room serve one node more
-pub AreTables-longer : (size more : ℕ) (tables : List (List ℕ)) → more ≡ size + 1 → AreTables size tables
-    → ((k : ℕ) → k < length tables → size < length (table_of tables k)) → AreTables more tables
-AreTables-longer size more tables more_is are longer = record {
-  long = λ k lt. let long = longer k lt in omega (arith, long, more_is);
-  empty = λ k node past. are.empty k node (omega (arith, past, more_is));
-}
-
 -- empty tables serve no nodes
-pub AreTables-none : (tables : List (List ℕ)) → ((k : ℕ) → table_of tables k ≡ []) → AreTables 0 tables
-AreTables-none tables none = record { long = λ k lt. omega arith; empty = λ k node past. ap (λ t. get_or t node 0) (none k) }
-
 pub nodes_of-none : (first : List Node) (tables : List (List ℕ)) → first ≡ [] → (value : ℕ) → nodes_of (all_of first tables) value ≡ []
 nodes_of-none first tables none zero = none
 nodes_of-none first tables none (suc k) = ap (λ nodes. get_or (map (weighed nodes) tables) k []) none ∙ nothing tables k

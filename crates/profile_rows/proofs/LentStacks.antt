@@ -51,14 +51,6 @@ pub record HasSums (width : ℕ) (rows : List Row) (entries : List LentEntry) : 
   pub sums : (value : ℕ) (test : List (List ℕ) → Bool)
       → sum_by (entry_if test) (by_value value entries) ≡ weight_where test (rows_at value rows)
 
-pub HasSums-none : (width : ℕ) (entries : List LentEntry) → entries ≡ [] → HasSums width [] entries
-HasSums-none width entries is = subst (HasSums width []) (sym is) (record {
-  widths = λ k d lt. absurd (omega arith);
-  weighty = λ k d lt. absurd (omega arith);
-  sorted = λ value. tt;
-  sums = λ value test. refl;
-})
-
 -- ---- what the map answers
 
 pub held-value : (value : ℕ) (none : List ℕ) (stack : List (List ℕ)) (entries : List LentEntry) → value_of value none ≡ 0

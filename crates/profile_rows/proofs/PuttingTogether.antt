@@ -1,11 +1,11 @@
 -- Rows in the order of their stacks, put together one after the other.
-use Rattle.std.proofs.Common.{◌≡◌, ℕ, suc, ◌+◌, ◌-◌, ◌<◌, Bool, true, false, cond, List, [], ◌∷◌, ◌++◌, length, get_or, refl, sym, ap, ◌∙◌, subst, arith, inl, inr, length-append, length-set, zero-add}
+use Rattle.std.proofs.Common.{◌≡◌, ℕ, suc, ◌+◌, ◌-◌, ◌<◌, Bool, true, false, cond, List, [], ◌∷◌, ◌++◌, length, get_or, refl, sym, ap, ◌∙◌, subst, arith, inl, inr, length-append}
 use Rattle.std.specs.Prelude.{All, IsSorted}
 use Rattle.std.specs.declared.cmp.Ordering.{Ordering}
 use Rattle.std.specs.declared.cmp.Ordering.TheVariants.{Less, Equal, Greater}
 use Rattle.std.specs.Ordering.{is_lt, ordering_reverse}
 use Rattle.std.proofs.lemmas.Bool.{cases_eq}
-use Rattle.std.proofs.lemmas.List.Elements.{All-push, All-set}
+use Rattle.std.proofs.lemmas.List.Elements.{All-push}
 use Rattle.std.proofs.lemmas.List.Sorted.{ranks_by, sorted_far}
 use Rattle.std.proofs.lemmas.List.Sums.{sum_by-cons}
 use Rattle.std.proofs.lemmas.List.{get_or_default}
@@ -15,7 +15,6 @@ use Rattle.profile_rows.specs.declared.weighted_stacks.WeightedStack.{WeightedSt
 use Rattle.profile_rows.specs.Aggregate.{AreWeighty, IsAscending}
 use Rattle.profile_rows.specs.Merging.{AddsRow, AreUpTo, by_stack, row_at, with_added_at}
 use Rattle.profile_rows.specs.Rows.{is_same_stack, stack_cmp, total_of, weight_if, weight_of}
-use Rattle.profile_rows.proofs.MergedRows.{stack_kept}
 use Rattle.profile_rows.proofs.RowLaws.{stack_cmp_apart, stack_cmp_total}
 
 abbrev pub no_row : WeightedStack
@@ -87,22 +86,6 @@ module _ (rows all : List WeightedStack) (at weight : ℕ) (lt : at < length row
   abbrev written : WeightedStack
   written = record { stack = (row_at rows at).stack; weight = (row_at rows at).weight + weight }
 
-  pub IsAscending-added : IsAscending rows → IsAscending all
-  IsAscending-added up = subst IsAscending (sym is) (λ i j d less short.
-      let long : length (with_added_at rows at weight) ≡ length rows = length-set rows at written in
-      let read : (k : ℕ) → k < length rows → (get_or (with_added_at rows at weight) k d).stack ≡ (row_at rows k).stack =
-      λ k below. ap (λ (r : WeightedStack). r.stack) (get_or_default (with_added_at rows at weight) k d no_row (omega (arith, long, below))) ∙ stack_kept rows at k weight lt in
-      ap (λ s. stack_cmp s (get_or (with_added_at rows at weight) j d).stack) (read i (omega (arith, less, short, long)))
-      ∙ ap (stack_cmp (row_at rows i).stack) (read j (omega (arith, short, long)))
-      ∙ up i j no_row less (omega (arith, short, long)))
-
-  pub AreWeighty-added : 0 < weight → AreWeighty rows → AreWeighty all
-  AreWeighty-added some weighty = subst AreWeighty (sym is) (All-set (λ (row : WeightedStack). 0 < row.weight) rows at written (omega (arith, some)) weighty)
-
-  pub AreUpTo-added : (stack : List (List ℕ)) → AreUpTo stack rows → AreUpTo stack all
-  AreUpTo-added stack reached = subst (AreUpTo stack) (sym is)
-      (All-set (λ (r : WeightedStack). is_lt (stack_cmp stack r.stack) ≡ false) rows at written (reached at no_row lt) reached)
-
 -- ---- the loop
 
 -- the rows so far are put together, and these are left
@@ -113,16 +96,6 @@ pub record IsPuttingTogether (all sums left : List WeightedStack) : Type 0 where
   pub total : total_of sums + total_of left ≡ total_of all
   pub sorted : IsSorted by_stack left
   pub reached : All (λ (row : WeightedStack). AreUpTo row.stack sums) left
-
-pub IsPuttingTogether-start : (all sums left : List WeightedStack) → sums ≡ [] → left ≡ all → IsSorted by_stack all → IsPuttingTogether all sums left
-IsPuttingTogether-start all sums left none is sorted = subst (λ rows. IsPuttingTogether all rows left) (sym none) (subst (IsPuttingTogether all []) (sym is) (record {
-  ascending = λ i j d lt short. absurd (omega arith);
-  weighty = λ k d lt. absurd (omega arith);
-  weights = λ stack. zero-add (weight_of all stack);
-  total = zero-add (total_of all);
-  sorted = sorted;
-  reached = λ k d lt i e short. absurd (omega arith);
-}))
 
 -- the rows after the first are in order, and none of their stacks comes before its
 rest_sorted : (row : WeightedStack) (rest : List WeightedStack) → IsSorted by_stack (row ∷ rest) → IsSorted by_stack rest

@@ -1,5 +1,5 @@
 -- A tally written changes the tally of one name.
-use Rattle.std.proofs.Common.{◌≡◌, ◌≢◌, ℕ, ◌+◌, ◌^◌, ◌<◌, ◌≤◌, Bool, true, false, cond, ◌||◌, List, [], ◌∷◌, ◌++◌, Option, Some, refl, sym, ap, ◌∙◌, arith, zero-add, All, subst}
+use Rattle.std.proofs.Common.{◌≡◌, ℕ, ◌+◌, ◌<◌, ◌≤◌, Bool, true, false, cond, ◌||◌, List, [], ◌∷◌, ◌++◌, Option, Some, refl, sym, ap, ◌∙◌, arith, zero-add, All, subst}
 use Rattle.std.specs.Prelude.{unwrap_or}
 use Rattle.std.specs.HashMap as hash
 use Rattle.std.proofs.lemmas.Map.Text.{hash_map_updates_str}
@@ -8,7 +8,6 @@ use borrow.Author.Tests.{ne_eqb, eq-eqb}
 use denote.Ref.{Bor}
 use Rattle.std.proofs.lemmas.List.Folds.{list_any-append}
 use Rattle.std.specs.List.{AllByRecursion}
-use Rattle.std.specs.Map.{lookup}
 use Rattle.std.proofs.lemmas.List.Elements.{recursion_from_All}
 use Rattle.std.proofs.lemmas.List.Sums.{sum_by_push}
 use Rattle.profile_rows.specs.Names.{IsName, is_same_name}
@@ -77,34 +76,7 @@ has_name-push name frames frame = list_any-append (is_same_name name) frames (fr
     or-false false = refl
 
 -- one caller more, by cases of whether it and those before have the name
-one_caller : (before here : Bool) (t : Tally) (row weight : ℕ) → t.row < row
-    → cond here (frame_counted (counted_if before t row weight) row weight 0) (counted_if before t row weight) ≡ counted_if (before || here) t row weight
-one_caller true true t row weight fresh = sym (frame_counted-known (once_more t row weight) row weight 0 refl) ∙ same_tally _ _ (omega arith) refl refl
-one_caller true false t row weight fresh = refl
-one_caller false true t row weight fresh = sym (frame_counted-new t row weight 0 (λ same. omega arith)) ∙ same_tally _ _ (omega arith) refl refl
-one_caller false false t row weight fresh = refl
-
-pub callers_counted-push : (callers : List (List ℕ)) (frame : List ℕ) (row weight : ℕ) (name : List ℕ) (t : Tally) → t.row < row
-    → cond (is_same_name name frame) (frame_counted (callers_counted callers row weight name t) row weight 0) (callers_counted callers row weight name t)
-    ≡ callers_counted (callers ++ frame ∷ []) row weight name t
-callers_counted-push callers frame row weight name t fresh =
-    one_caller (has_name name callers) (is_same_name name frame) t row weight fresh ∙ ap (λ b. counted_if b t row weight) (sym (has_name-push name callers frame))
-
 -- a frame that the row hasn't had finds the tally as it was
-pub callers_counted-fits : (callers : List (List ℕ)) (row weight : ℕ) (name : List ℕ) (t : Tally) → t.cumulative + weight < 2 ^ 63
-    → (callers_counted callers row weight name t).row ≢ row → (callers_counted callers row weight name t).cumulative + weight < 2 ^ 63
-callers_counted-fits callers row weight name t fits =
-    elim (has_name name callers) as (λ b. (counted_if b t row weight).row ≢ row → (counted_if b t row weight).cumulative + weight < 2 ^ 63) [
-      | true ↦ λ apart. absurd (apart refl)
-      | false ↦ λ apart. fits
-    ]
-
-pub callers_counted-flat : (callers : List (List ℕ)) (row weight : ℕ) (name : List ℕ) (t : Tally) → (callers_counted callers row weight name t).flat ≡ t.flat
-callers_counted-flat callers row weight name t = elim (has_name name callers) as (λ b. (counted_if b t row weight).flat ≡ t.flat) [
-  | true ↦ refl
-  | false ↦ refl
-]
-
 -- ---- a row
 
 abbrev tally_from : Bool → Bool → ℕ → ℕ → Tally → Tally
@@ -167,26 +139,6 @@ IsTallyOf-counted rows row held name tally after names is counted = record {
     known true has some = named_in name row.stack (recursion_from_All IsName row.stack names) has
     known false has some = is.named (omega (arith, some))
 
--- a row without weight leaves the tallies
-IsTallyOf-weightless : (rows : List WeightedStack) (row : WeightedStack) (held : ℕ) (name : List ℕ) (tally : Tally) → row.weight ≡ 0 → IsTallyOf rows held name tally
-    → IsTallyOf (rows ++ row ∷ []) (held + row.weight) name tally
-IsTallyOf-weightless rows row held name tally none is = record {
-  flat = is.flat ∙ same (ends_with_name name);
-  cumulative = is.cumulative ∙ same (has_name name);
-  numbered = let low = is.numbered in omega arith;
-  named = is.named;
-}
-  where
-    nothing : (b : Bool) → cond b row.weight 0 ≡ 0
-    nothing true = none
-    nothing false = refl
-
-    same : (test : List (List ℕ) → Bool) → weight_where test rows ≡ weight_where test (rows ++ row ∷ [])
-    same test =
-        let here = nothing (test row.stack) in
-        let more = weight_where-push test rows row in
-        omega arith
-
 held_more : (rows : List WeightedStack) (row : WeightedStack) (held : ℕ) → held ≡ total_of rows → held + row.weight ≡ total_of (rows ++ row ∷ [])
 held_more rows row held is = ap (λ n. n + row.weight) is ∙ sym (sum_by_push (λ (row : WeightedStack). row.weight) rows row)
 
@@ -194,13 +146,6 @@ pub AreTalliesOf-counted : (rows : List WeightedStack) (row : WeightedStack) (he
     → ((name : List ℕ) → tally_at after name ≡ row_counted row (held + row.weight) name (tally_at tallies name)) → AreTalliesOf (rows ++ row ∷ []) (held + row.weight) after
 AreTalliesOf-counted rows row held tallies after names are counted = record {
   each = λ name. IsTallyOf-counted rows row held name (tally_at tallies name) (tally_at after name) names (are.each name) (counted name);
-  total = held_more rows row held are.total;
-}
-
-pub AreTalliesOf-weightless : (rows : List WeightedStack) (row : WeightedStack) (held : ℕ) (tallies : Tallies) → row.weight ≡ 0 → AreTalliesOf rows held tallies
-    → AreTalliesOf (rows ++ row ∷ []) (held + row.weight) tallies
-AreTalliesOf-weightless rows row held tallies none are = record {
-  each = λ name. IsTallyOf-weightless rows row held name (tally_at tallies name) none (are.each name);
   total = held_more rows row held are.total;
 }
 
@@ -218,17 +163,3 @@ AreTalliesOf-flat rows held tallies name are =
     let tally = (are.each name).flat in
     let all = are.total in
     omega arith
-
--- no rows have no weights
-pub AreTalliesOf-none : (tallies : Tallies) → tallies.entries ≡ [] → AreTalliesOf [] 0 tallies
-AreTalliesOf-none tallies empty = record {
-  each = λ name.
-      let none : tally_at tallies name ≡ zero_tally = ap (λ entries. unwrap_or (lookup (is_key name) entries) zero_tally) empty in
-      record {
-        flat = ap (λ (t : Tally). t.flat) none;
-        cumulative = ap (λ (t : Tally). t.cumulative) none;
-        numbered = subst (λ n. n ≤ 0) (sym (ap (λ (t : Tally). t.row) none)) (omega arith);
-        named = λ some. let same = ap (λ (t : Tally). t.cumulative) none in absurd (omega (arith, some, same));
-      };
-  total = refl;
-}

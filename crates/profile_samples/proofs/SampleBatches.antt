@@ -1,12 +1,11 @@
 -- What batch the samples of a profile give.
-use Rattle.std.proofs.Common.{◌≡◌, ℕ, zero, suc, ◌+◌, ◌^◌, ◌<◌, ◌≤◌, List, [], ◌∷◌, ◌++◌, length, take, drop, get_or, refl, sym, ap, ◌∙◌, subst, arith, ⊎_elim}
+use Rattle.std.proofs.Common.{◌≡◌, ℕ, zero, suc, ◌+◌, ◌^◌, ◌<◌, ◌≤◌, List, [], ◌∷◌, ◌++◌, length, take, drop, get_or, refl, sym, ap, ◌∙◌, subst, arith}
 use Rattle.std.specs.Prelude.{ℤ, pos, Option, Some, None, Result, Ok, Err, MatchResult, slice_get, is_some}
 use Rattle.std.specs.List.{All}
-use Rattle.std.proofs.Math.ListN.{set}
 use Rattle.std.proofs.Math.Seq.{drop-cons}
-use Rattle.std.proofs.lemmas.Bool.{cases_eq, false≢true}
+use Rattle.std.proofs.lemmas.Bool.{false≢true}
 use Rattle.std.proofs.lemmas.Grind.{common_steps, take_at_read}
-use Rattle.std.proofs.lemmas.List.{get_or-set_same, get_or-set_other, length-set, length-take-le, map-append, take_all, take-append-drop}
+use Rattle.std.proofs.lemmas.List.{map-append, take_all, take-append-drop}
 use Rattle.std.proofs.lemmas.List.Elements.{All-append}
 use Rattle.std.proofs.lemmas.List.Sums.{sum_by-append, sum_by-cons}
 use Rattle.pprof_profile.specs.declared.messages.Draft.{Draft}
@@ -15,7 +14,6 @@ use Rattle.pprof_profile.specs.Valid.{IsValidDraft}
 use Rattle.profile_rows.specs.declared.weighted_stacks.WeightedStack.{WeightedStack}
 use Rattle.profile_rows.specs.Rows.{total_of}
 use Rattle.profile_rows.specs.Values.{AreTotals, BatchState, HasRoom, IsBatch, Row, rows_at, value_of, weighing}
-use Rattle.profile_rows.proofs.FourValues.{value_of-take}
 use Rattle.profile_rows.proofs.RowValues.{total_of-push}
 use Rattle.profile_samples.specs.declared.sampling.BatchFault.{BatchFault}
 use Rattle.profile_samples.specs.declared.sampling.BatchFault.TheVariants as faults
@@ -78,27 +76,6 @@ chosen_types_within draft choices.All first width e = all_within (length draft.s
 pub record AreTaken (values : List ℤ) (first count : ℕ) (places : List ℕ) : Type 0 where
   pub size : length places ≡ 4
   pub each : (k : ℕ) → k < count → slice_get values (first + k) ≡ Some (pos (get_or places k 0))
-
-pub AreTaken-start : (values : List ℤ) (first : ℕ) → AreTaken values first 0 (0 ∷ 0 ∷ 0 ∷ 0 ∷ [])
-AreTaken-start values first = record { size = refl; each = λ k lt. absurd (omega (arith, lt)) }
-
-pub AreTaken-step : (values : List ℤ) (first count value : ℕ) (places next : List ℕ) → AreTaken values first count places → count < 4 → slice_get values (first + count) ≡ Some (pos value)
-    → next ≡ set places count value → AreTaken values first (count + 1) next
-AreTaken-step values first count value places next taken lt value_is next_is = subst (AreTaken values first (count + 1)) (sym next_is) (record {
-  size = length-set places count value ∙ taken.size;
-  each = λ k h. ⊎_elim
-      (λ e. ap (λ i. slice_get values (first + i)) e ∙ value_is
-      ∙ ap (λ v. Some (pos v)) (sym (ap (λ i. get_or (set places count value) i 0) e ∙ get_or-set_same places count value 0 (omega (arith, lt, taken.size)))))
-      (λ ne. taken.each k (omega (arith, h, ne)) ∙ ap (λ v. Some (pos v)) (sym (get_or-set_other places count k value 0 ne)))
-      (cases_eq k count);
-})
-
-pub AreTaken-count : (values : List ℤ) (first width : ℕ) (places : List ℕ) → AreTaken values first width places → width ≤ 4 → length (take width places) ≡ width
-AreTaken-count values first width places taken few = length-take-le width places (omega (arith, taken.size, few))
-
-pub AreTaken-values : (values : List ℤ) (first width : ℕ) (places : List ℕ) → AreTaken values first width places
-    → (value : ℕ) → value < width → slice_get values (first + value) ≡ Some (pos (value_of value (take width places)))
-AreTaken-values values first width places taken value lt = taken.each value lt ∙ ap (λ v. Some (pos v)) (sym (value_of-take value width places lt))
 
 -- ---- rows
 
@@ -300,13 +277,6 @@ pub record IsBatchSoFar (draft : Draft) (first width count : ℕ) (batch : Batch
   pub wide : batch.width ≡ width
   pub known : AreRowsOfSamples draft first batch.width (take count draft.samples) batch.rows
   pub is : IsBatch batch
-
-pub IsBatchSoFar-start : (draft : Draft) (first width : ℕ) (batch : BatchState) → batch ≡ record { width = width; rows = [] } → 0 < width → width ≤ 4 → IsBatchSoFar draft first width 0 batch
-IsBatchSoFar-start draft first width batch empty some few = subst (IsBatchSoFar draft first width 0) (sym empty) (record {
-  wide = refl;
-  known = refl;
-  is = record { some = some; few = few; widths = λ k d lt. absurd (omega (arith, lt)); fits = λ value. omega arith };
-})
 
 pub IsBatchSoFar-row : (draft : Draft) (first width count : ℕ) (sample : Sample) (batch : BatchState) (row : Row) (next : BatchState) → count < length draft.samples → sample ≡ get_or draft.samples count sample
     → IsBatchSoFar draft first width count batch → IsRowOfSample draft first batch.width sample row → ((value : ℕ) → HasRoom batch row.weights value)

@@ -108,9 +108,6 @@ place_answered texts known text missing is places =
 
 -- ---- texts added in turn
 
-pub with_text-known : (texts : List (List ℕ)) (text : List ℕ) → list_any (bytes_eq text) texts ≡ true → with_text texts text ≡ texts
-with_text-known texts text e = ap (λ b. cond b texts (texts ++ text ∷ [])) e
-
 pub with_text-new : (texts : List (List ℕ)) (text : List ℕ) → list_any (bytes_eq text) texts ≡ false → with_text texts text ≡ texts ++ text ∷ []
 with_text-new texts text e = ap (λ b. cond b texts (texts ++ text ∷ [])) e
 

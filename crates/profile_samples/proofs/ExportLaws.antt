@@ -20,11 +20,11 @@ use Rattle.profile_rows.specs.Names.{IsName, cleaned_name_of}
 use Rattle.profile_rows.specs.Rows.{IsBatchRow, total_of}
 use Rattle.profile_rows.specs.Values.{Row, rows_at, singles, value_of, weighing}
 use Rattle.profile_samples.specs.Samples.{AreSampleRows, AreStacksOf, IsSampleRow, address_name, first_name, frames_at, frames_of_id, item_with, named_by, string_at}
-use Rattle.profile_samples.specs.TextTables.{place_in, with_text, with_texts}
+use Rattle.profile_rows.specs.TextTables.{place_in, with_text, with_texts}
 use Rattle.profile_samples.specs.Export.{KindAndUnit, exported_function, exported_location, exported_profile_of, exported_sample, exported_type, id_in, names_of, profile_with, single_profile_of, strings_of, unit_texts}
 use Rattle.profile_rows.proofs.Cleaning.{cleaned-name}
 use Rattle.profile_rows.proofs.SameNames.{same_from_is_same_name, is_same_name-self}
-use Rattle.profile_samples.proofs.TextPlaces.{any_push, place_in-lt, turned}
+use Rattle.profile_rows.proofs.TextPlaces.{any_push, place_in-lt, turned}
 
 -- whether a text stands among texts
 abbrev pub stands_in : List (List ℕ) → List ℕ → Bool

@@ -13,11 +13,11 @@ use Rattle.profile_rows.specs.Values.{Row, rows_at, single, singles, weighing}
 use Rattle.folded_text.specs.declared.folded.FoldedFault.{FoldedFault}
 use Rattle.folded_text.specs.declared.folded.FoldedFault.TheVariants.{NoMemory}
 use Rattle.folded_text.specs.FoldedText.{IsFoldedText, IsWorkFault}
-use Rattle.profile_samples.specs.TextTables.{place_in, with_text, with_texts}
+use Rattle.profile_rows.specs.TextTables.{place_in, with_text, with_texts}
 use Rattle.profile_samples.specs.Export.{AreSamplesOf, IsExportOfText, single_profile_of, exported_sample, id_in, names_of}
 use Rattle.profile_samples.proofs.ExportLaws.{AllStand, RowsStand, rows_stand, stand_where, stands_in, with_text-stands, with_texts-own}
 use Rattle.folded_text.proofs.Reading.{IsFirstFault-folded, IsFoldedText-same}
-use Rattle.profile_samples.proofs.TextPlaces.{next_mapped, place_in-more, with_texts-append}
+use Rattle.profile_rows.proofs.TextPlaces.{next_mapped, place_in-more, with_texts-append}
 
 -- ---- a text that is there keeps its place
 

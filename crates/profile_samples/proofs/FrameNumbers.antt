@@ -20,12 +20,12 @@ use Rattle.profile_rows.specs.Rows.{has_name}
 use Rattle.profile_rows.proofs.SameNames.{same_from_is_same_name, is_same_name-self}
 use Rattle.profile_samples.specs.declared.name_numbers.FrameNumbers.{FrameNumbers}
 use Rattle.profile_samples.specs.Samples.{address_name, first_name, frames_at, frames_from, frames_of_id, frames_of_ids, function_name, item_with, line_name, location_frames, named_by, sample_stack_of, string_at}
-use Rattle.profile_samples.specs.TextTables.{place_in, with_text, with_texts}
+use Rattle.profile_rows.specs.TextTables.{place_in, with_text, with_texts}
 use Rattle.profile_samples.specs.CountedSamples.{AreSingle, names_at}
 use Rattle.profile_samples.specs.NameNumbers.{AreFrameNumbers, AreFunctionNumbers, address_names, frame_names, frame_numbers_of, given, has_number, line_number, location_numbers, number_at, number_by, number_of, numbers_of, numbers_of_id, once_of, string_names, string_numbers, with_number, with_numbers}
 use Rattle.profile_samples.proofs.ExportLaws.{AllStand, AreDistinct, distinct_with_texts, stand_where, stands_in, with_texts-own, with_texts-stands}
 use Rattle.profile_samples.proofs.ItemsById.{item_with-found}
-use Rattle.profile_samples.proofs.TextPlaces.{place_in-lt}
+use Rattle.profile_rows.proofs.TextPlaces.{place_in-lt}
 
 -- ---- numbers of strings and functions
 

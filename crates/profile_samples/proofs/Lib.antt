@@ -11,4 +11,3 @@ pub mod SampleBatches
 pub mod SampleRows
 pub mod MergedSamples
 pub mod NameTallies
-pub mod TextPlaces

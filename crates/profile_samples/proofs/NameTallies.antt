@@ -27,7 +27,7 @@ use Rattle.profile_samples.specs.declared.name_numbers.FrameNumbers.{FrameNumber
 use Rattle.profile_samples.specs.Samples.{frames_at, frames_of_id, frames_of_ids, item_with, location_frames, sample_stack_of}
 use Rattle.profile_samples.specs.NameNumbers.{frame_names}
 use Rattle.profile_samples.proofs.ExportLaws.{AllStand}
-use Rattle.profile_samples.proofs.TextPlaces.{no_text}
+use Rattle.profile_rows.proofs.TextPlaces.{no_text}
 use Rattle.profile_samples.proofs.FrameNumbers.{AreNumbersOf, frames-more, locations_stand}
 use Rattle.profile_samples.specs.CountedSamples.{AreNumbersOfIds, AreSingle, AreTalliesOfNames, Entry, entry_at, leaf_counted, names_at, names_counted, names_of, tally_of, zero_entry}
 

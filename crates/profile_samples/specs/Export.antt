@@ -14,7 +14,7 @@ use Rattle.folded_text.specs.FoldedText.{IsFoldedText}
 use Rattle.profile_rows.specs.Rows.{total_of}
 use Rattle.profile_rows.specs.Values.{Row, singles}
 use Rattle.profile_samples.specs.declared.exporting.ValueUnit.{ValueUnit}
-use Rattle.profile_samples.specs.TextTables.{place_in, with_texts}
+use Rattle.profile_rows.specs.TextTables.{place_in, with_texts}
 
 -- the kind and the unit of a value
 abbrev pub KindAndUnit : Type 0

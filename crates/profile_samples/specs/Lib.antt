@@ -6,5 +6,4 @@ pub mod IdPlaces
 pub mod MergedSamples
 pub mod NameNumbers
 pub mod Samples
-pub mod TextTables
 pub mod Unfolding

@@ -12,7 +12,7 @@ use Rattle.profile_samples.specs.declared.name_numbers.FrameNumbers.{FrameNumber
 use Rattle.profile_samples.specs.declared.string_names.StringName.{StringName}
 use Rattle.profile_samples.specs.declared.string_names.StringName.TheVariants.{Missing, Plain, Cleaned}
 use Rattle.profile_samples.specs.Samples.{address_name, function_name, item_with, line_name, location_frames}
-use Rattle.profile_samples.specs.TextTables.{place_in, with_texts}
+use Rattle.profile_rows.specs.TextTables.{place_in, with_texts}
 
 -- ---- numbers of names
 

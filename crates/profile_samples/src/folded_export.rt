@@ -7,7 +7,7 @@ ghost use Rattle.profile_rows.specs.declared.weighted_stacks.WeightedStack.{Weig
 ghost use Rattle.profile_samples.specs.Export.{AreSamplesOf, IsExportOfText, single_profile_of, id_in};
 ghost use Rattle.folded_text.specs.FoldedText.{IsFoldedText, IsLineFault, IsRowLine, IsWorkFault};
 ghost use Rattle.profile_rows.specs.Rows.{total_of};
-ghost use Rattle.profile_samples.specs.TextTables.{with_texts};
+ghost use Rattle.profile_rows.specs.TextTables.{with_texts};
 
 use crate::exporting::{ValueUnit, exported_draft};
 use crate::text_table::TextTable;

@@ -5,7 +5,7 @@ ghost use Rattle.std.specs.Prelude.{ℕ, ◌≡◌, ◌<◌, ◌≤◌, ◌↔�
 ghost use Rattle.std.specs.Option.{option_map};
 ghost use Rattle.profile_rows.specs.Names.{IsName, cleaned_name_of};
 ghost use Rattle.profile_samples.specs.Samples.{address_name, frames_of_ids, sample_stack_of};
-ghost use Rattle.profile_samples.specs.TextTables.{place_in, with_texts};
+ghost use Rattle.profile_rows.specs.TextTables.{place_in, with_texts};
 ghost use Rattle.profile_samples.specs.NameNumbers.{address_names, frame_names, frame_numbers_of, given, location_numbers, name_in, number_of, numbers_of, numbers_of_id, once_of, string_names};
 
 use crate::exporting::with_names;

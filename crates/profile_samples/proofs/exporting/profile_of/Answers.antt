@@ -8,7 +8,7 @@ use Rattle.profile_rows.specs.Names.{IsName}
 use Rattle.profile_samples.specs.declared.sampling.ValueChoice.TheVariants as choices
 use Rattle.profile_samples.specs.Export.{exported_draft, pair_of, pairs_of, profile_with, strings_of}
 use Rattle.profile_samples.specs.Batches.{IsBatchOf}
-use Rattle.profile_samples.specs.TextTables.{with_texts}
+use Rattle.profile_rows.specs.TextTables.{with_texts}
 use Rattle.profile_samples.proofs.ExportedBatches.{export_batch, export_one}
 use Rattle.profile_samples.proofs.ExportedRows.{stacks_first}
 use Rattle.profile_samples.proofs.exporting.profile_of.Goals as goal

@@ -2,8 +2,8 @@
 use Rattle.std.proofs.Common.{◌≡◌, ◌∷◌, [], ap, sym, ◌∙◌, arith, length, take}
 use Rattle.std.proofs.lemmas.List.{length-map, take_all}
 use Rattle.profile_samples.specs.Export.{pairs_of, unit_texts}
-use Rattle.profile_samples.specs.TextTables.{with_text, with_texts}
-use Rattle.profile_samples.proofs.TextPlaces.{next_text, next_with, with_texts-append}
+use Rattle.profile_rows.specs.TextTables.{with_text, with_texts}
+use Rattle.profile_rows.proofs.TextPlaces.{next_text, next_with, with_texts-append}
 use Rattle.profile_samples.proofs.exporting.strings_of.Goals as goal
 
 pub loop-name-preserved : goal.loop-name-preserved

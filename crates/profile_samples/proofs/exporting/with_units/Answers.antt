@@ -1,6 +1,6 @@
 -- The next value's kind and unit are added.
 use Rattle.std.proofs.Common.{ap, ◌∙◌, get_or}
-use Rattle.profile_samples.specs.TextTables.{with_text}
+use Rattle.profile_rows.specs.TextTables.{with_text}
 use Rattle.profile_samples.proofs.ExportedValues.{no_unit, units_more}
 use Rattle.profile_samples.proofs.exporting.with_units.Goals as goal
 

@@ -6,7 +6,7 @@ use Rattle.pprof_profile.specs.declared.messages.Sample.{Sample}
 use Rattle.pprof_profile.specs.Canonical.{sample_bytes, samples_bytes, FitsEach, FitsSample}
 use Rattle.profile_samples.specs.Export.{exported_sample, id_in}
 use Rattle.profile_rows.specs.Values.{singles}
-use Rattle.profile_samples.specs.TextTables.{with_texts}
+use Rattle.profile_rows.specs.TextTables.{with_texts}
 use denote.Ref.{Bor}
 use Rattle.profile_samples.proofs.ExportedRows.{AreSamplesOf-push}
 use Rattle.profile_samples.proofs.folded_export.push_row.Goals as goal

@@ -3,7 +3,7 @@ use Rattle.std.proofs.Common.{◌≡◌, ◌<◌, ◌+◌, ℕ, List, [], ◌∷
 use Rattle.std.proofs.lemmas.List.{get_or-map, length-map, take_more}
 use denote.Ref.{Bor}
 use Rattle.profile_samples.proofs.ExportedRows.{ids_with}
-use Rattle.profile_samples.proofs.TextPlaces.{next_with}
+use Rattle.profile_rows.proofs.TextPlaces.{next_with}
 use Rattle.profile_samples.proofs.folded_export.replace_ids.Goals as goal
 
 abbrev text_of : Bor (List ℕ) → List ℕ

@@ -1,6 +1,6 @@
 use Rattle.std.proofs.Common.{◌≡◌, map, take}
 use Rattle.profile_samples.specs.Export.{id_in}
-use Rattle.profile_samples.specs.TextTables.{with_texts}
+use Rattle.profile_rows.specs.TextTables.{with_texts}
 use Rattle.profile_samples.proofs.folded_export.replace_ids.Given as goal
 
 -- the frames so far have their places, and the ids are theirs

@@ -1,6 +1,6 @@
 use Rattle.std.proofs.Common.{◌≡◌, map, take}
 use Rattle.std.specs.Option.{option_map}
-use Rattle.profile_samples.specs.TextTables.{place_in}
+use Rattle.profile_rows.specs.TextTables.{place_in}
 use Rattle.profile_samples.specs.NameNumbers.{name_in}
 use Rattle.profile_samples.proofs.name_numbers.given_places.Given as goal
 

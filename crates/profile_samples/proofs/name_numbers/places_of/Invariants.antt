@@ -1,5 +1,5 @@
 use Rattle.std.proofs.Common.{◌≡◌, map, take}
-use Rattle.profile_samples.specs.TextTables.{place_in}
+use Rattle.profile_rows.specs.TextTables.{place_in}
 use Rattle.profile_samples.proofs.name_numbers.places_of.Given as goal
 
 -- the places so far

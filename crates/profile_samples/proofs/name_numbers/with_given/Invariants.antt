@@ -1,6 +1,6 @@
 use Rattle.std.proofs.Common.{◌≡◌, All, map, take}
 use Rattle.profile_rows.specs.Names.{IsName}
-use Rattle.profile_samples.specs.TextTables.{with_texts}
+use Rattle.profile_rows.specs.TextTables.{with_texts}
 use Rattle.profile_samples.specs.NameNumbers.{given, name_in}
 use Rattle.profile_samples.proofs.name_numbers.with_given.Given as goal
 

@@ -8,7 +8,7 @@ use Rattle.pprof_profile.specs.Valid.{IsValidDraft, has_double, location_ids}
 use Rattle.profile_rows.specs.Names.{IsName}
 use Rattle.profile_samples.specs.declared.name_numbers.FrameNumbers.{FrameNumbers}
 use Rattle.profile_samples.specs.Samples.{address_name}
-use Rattle.profile_samples.specs.TextTables.{place_in, with_texts}
+use Rattle.profile_rows.specs.TextTables.{place_in, with_texts}
 use Rattle.profile_samples.specs.NameNumbers.{address_names, frame_names, given, location_numbers, name_in, number_of, numbers_of, string_names}
 use Rattle.profile_samples.proofs.ItemsById.{ids_differ}
 use Rattle.profile_samples.proofs.FrameNumbers.{address_numbers_are, all_named, texts_named}

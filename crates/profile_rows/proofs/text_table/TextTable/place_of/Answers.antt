@@ -3,9 +3,9 @@ use Rattle.std.proofs.Common.{◌≡◌, ◌<◌, ◌^◌, ℕ, List, ap, sym, �
 use Rattle.std.specs.Prelude.{unwrap_or}
 use Rattle.std.proofs.lemmas.List.{length-map}
 use denote.Ref.{Bor}
-use Rattle.profile_samples.specs.TextTables.{place_in}
-use Rattle.profile_samples.proofs.TextPlaces.{place_answered, place_in-le}
-use Rattle.profile_samples.proofs.text_table.TextTable.place_of.Goals as goal
+use Rattle.profile_rows.specs.TextTables.{place_in}
+use Rattle.profile_rows.proofs.TextPlaces.{place_answered, place_in-le}
+use Rattle.profile_rows.proofs.text_table.TextTable.place_of.Goals as goal
 
 long : (c : goal.After-unwrap_or) → length c.args.self.now ≡ length c.texts-missing.result.now
 long c = ap length (sym c.texts-missing.ensures) ∙ length-map c.texts-missing.result.now (λ (text : Bor (List ℕ)). text.now)

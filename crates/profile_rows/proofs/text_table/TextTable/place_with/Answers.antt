@@ -4,9 +4,9 @@ use Rattle.std.specs.List.{list_any}
 use Rattle.std.specs.Str.{bytes_eq}
 use Rattle.std.proofs.lemmas.List.{length-map, map-append}
 use denote.Ref.{Bor}
-use Rattle.profile_samples.specs.TextTables.{AreTextPlaces, place_in}
-use Rattle.profile_samples.proofs.TextPlaces.{AreTextPlaces-push, none_at_end, place_in-le, place_in-with, with_text-new, with_text-there}
-use Rattle.profile_samples.proofs.text_table.TextTable.place_with.Goals as goal
+use Rattle.profile_rows.specs.TextTables.{AreTextPlaces, place_in}
+use Rattle.profile_rows.proofs.TextPlaces.{AreTextPlaces-push, none_at_end, place_in-le, place_in-with, with_text-new, with_text-there}
+use Rattle.profile_rows.proofs.text_table.TextTable.place_with.Goals as goal
 
 long : (texts : List (List ℕ)) (lent : List (Bor (List ℕ))) → map (λ (text : Bor (List ℕ)). text.now) lent ≡ texts → length texts ≡ length lent
 long texts lent same = ap length (sym same) ∙ length-map lent (λ (text : Bor (List ℕ)). text.now)

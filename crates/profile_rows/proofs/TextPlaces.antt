@@ -10,7 +10,7 @@ use Rattle.std.proofs.lemmas.Bool.{false≢true}
 use Rattle.std.proofs.lemmas.List.{take_more, length-map, map-append}
 use Rattle.std.proofs.lemmas.Map.Text.{hash_map_updates_str}
 use denote.Ref.{Bor}
-use Rattle.profile_samples.specs.TextTables.{AreTextPlaces, place_in, with_text, with_texts}
+use Rattle.profile_rows.specs.TextTables.{AreTextPlaces, place_in, with_text, with_texts}
 use Rattle.profile_rows.proofs.SameNames.{same_from_is_same_name, is_same_name-self}
 
 -- what a map that has the places answers

@@ -4,9 +4,9 @@ use Rattle.std.specs.List.{list_any}
 use Rattle.std.specs.Str.{bytes_eq}
 use Rattle.std.proofs.lemmas.List.{length-map, map-append}
 use denote.Ref.{Bor}
-use Rattle.profile_samples.specs.TextTables.{AreTextPlaces}
-use Rattle.profile_samples.proofs.TextPlaces.{AreTextPlaces-push, is_there}
-use Rattle.profile_samples.proofs.text_table.TextTable.with.Goals as goal
+use Rattle.profile_rows.specs.TextTables.{AreTextPlaces}
+use Rattle.profile_rows.proofs.TextPlaces.{AreTextPlaces-push, is_there}
+use Rattle.profile_rows.proofs.text_table.TextTable.with.Goals as goal
 
 pub invariant_of-result : goal.invariant_of-result
 invariant_of-result c =

@@ -1,7 +1,7 @@
 //! Texts that are numbered as they come.
 
 ghost use Rattle.std.specs.Prelude.{◌≡◌, ◌<◌, ◌^◌, [], IfOk, OnOk, map};
-ghost use Rattle.profile_samples.specs.TextTables.{place_in, with_text, with_texts};
+ghost use Rattle.profile_rows.specs.TextTables.{place_in, with_text, with_texts};
 
 use basics::NoMemory;
 use profile_rows::Hashing;
@@ -18,7 +18,7 @@ pub(crate) struct TextTable<'a> {
 
 impl<'a> Model for TextTable<'a> {
     ghost use Rattle.std.specs.Prelude.{List, ℕ, map};
-    ghost use Rattle.profile_samples.specs.TextTables.{AreTextPlaces};
+    ghost use Rattle.profile_rows.specs.TextTables.{AreTextPlaces};
 
     ghost Value = { List (List ℕ) };
 

@@ -14,8 +14,10 @@ pub mod Ranking
 pub mod RowLaws
 pub mod RowValues
 pub mod SameNames
+pub mod NumberedRows
 pub mod PuttingTogether
 pub mod TallyLaws
+pub mod TextPlaces
 pub mod UniqueRows
 pub mod Weighted
 pub mod WorkedAggregate

@@ -1,6 +1,6 @@
 -- Where texts stand, as texts are added.
 use Rattle.std.proofs.Common.{◌≡◌, ℕ, zero, suc, ◌+◌, ◌<◌, ◌≤◌, true, false, cond, ◌||◌, List, [], ◌∷◌, ◌++◌, length, take, map, get_or, Option, Some, None, refl, sym, ap, ◌∙◌, arith}
-use Rattle.std.specs.Prelude.{is_some, unwrap_or}
+use Rattle.std.specs.Prelude.{is_some, slice_index_or, unwrap_or}
 use Rattle.std.specs.List.{list_any}
 use Rattle.std.specs.HashMap as hash
 use Rattle.std.specs.HashMap.{HashMap}
@@ -48,6 +48,17 @@ place_in-more (first ∷ texts) more text some =
       | true ↦ λ e. refl
       | false ↦ λ e. ap (λ n. n + 1) (place_in-more texts more text e)
     ] some
+
+-- the text at a text's place
+pub text_at_place : (texts : List (List ℕ)) (text : List ℕ) → place_in texts text < length texts → slice_index_or texts (place_in texts text) [] ≡ text
+text_at_place [] text lt = absurd (omega (arith, lt))
+text_at_place (first ∷ texts) text lt =
+    elim (bytes_eq text first) as (λ b. bytes_eq text first ≡ b → cond b 0 (place_in texts text + 1) < suc (length texts) → slice_index_or (first ∷ texts) (cond b 0 (place_in texts text + 1)) [] ≡ text) [
+      | true ↦ λ is r. sym (same_from_is_same_name text first is)
+      | false ↦ λ is r.
+          let next : place_in texts text + 1 ≡ suc (place_in texts text) = omega arith in
+          ap (λ n. slice_index_or (first ∷ texts) n []) next ∙ text_at_place texts text (omega (arith, r))
+    ] refl lt
 
 pub any_push : (texts : List (List ℕ)) (text q : List ℕ) → list_any (bytes_eq q) (texts ++ text ∷ []) ≡ (list_any (bytes_eq q) texts || bytes_eq q text)
 any_push [] text q = elim (bytes_eq q text) as (λ b. (b || false) ≡ b) [ true ↦ refl | false ↦ refl ]
@@ -138,7 +149,7 @@ none_at_end texts text end = elim (list_any (bytes_eq text) texts) as (λ b. lis
 
 -- ---- a loop over texts that are lent
 
-shown_at : (items : List (Bor (List ℕ))) (k : ℕ) (item : Bor (List ℕ)) → get_or (map (λ (text : Bor (List ℕ)). text.now) items) k item.now ≡ (get_or items k item).now
+pub shown_at : (items : List (Bor (List ℕ))) (k : ℕ) (item : Bor (List ℕ)) → get_or (map (λ (text : Bor (List ℕ)). text.now) items) k item.now ≡ (get_or items k item).now
 shown_at [] zero item = refl
 shown_at [] (suc k) item = refl
 shown_at (first ∷ items) zero item = refl

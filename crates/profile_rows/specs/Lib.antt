@@ -13,5 +13,6 @@ pub mod Rows
 pub mod StackTexts
 pub mod Merging
 pub mod Tallies
+pub mod TextTables
 pub mod TopList
 pub mod Values

@@ -1,35 +1,62 @@
--- What each name weighs so far.
-use Rattle.std.specs.Prelude.{ℕ, ◌≡◌, ◌<◌, ◌≤◌, ◌+◌, ◌==◌, List, unwrap_or, if◌then◌else◌}
-use Rattle.std.specs.HashMap as hash
-use Rattle.std.specs.HashMap.{HashMap}
+-- What each name weighs so far, by its number.
+use Rattle.std.specs.Prelude.{ℕ, ◌≡◌, ◌<◌, ◌≤◌, ◌+◌, ◌==◌, ◌++◌, ◌∷◌, [], All, Bool, List, MatchOption, Option, length, map, slice_index_or, if◌then◌else◌}
+use Rattle.std.specs.List.{IsDistinct, list_any}
 use denote.Ref.{Bor}
-use Rattle.profile_rows.specs.declared.hashing.Hashing.{Hashing}
+use Rattle.profile_rows.specs.declared.frame_totals.CountedRows.{CountedRows}
+use Rattle.profile_rows.specs.declared.tallies.Tallies.{Tallies}
+use Rattle.profile_rows.specs.declared.tallies.Tally.{Tally}
 use Rattle.profile_rows.specs.declared.weighted_stacks.WeightedStack.{WeightedStack}
 use Rattle.profile_rows.specs.Names.{IsName, is_same_name}
 use Rattle.profile_rows.specs.Rows.{has_name, ends_with_name, weight_if, total_of, flat_weight_of, cumulative_weight_of}
-use Rattle.profile_rows.specs.declared.tallies.Tally.{Tally}
+use Rattle.profile_rows.specs.TextTables.{place_in}
 
-abbrev pub Tallies : Type 0
-Tallies = HashMap (Bor (List ℕ)) Tally Hashing
+-- ---- names by numbers
 
--- the tally of a name, which is 0 where no row so far has it
-abbrev pub tally_at : Tallies → List ℕ → Tally
-tally_at tallies name =
-    unwrap_or (hash.get_by (λ (key : Bor (List ℕ)). is_same_name name key.now) tallies)
-    (record { flat = 0; cumulative = 0; row = 0 })
+-- no two of these names are the same
+abbrev pub AreSingle : List (List ℕ) → Type 0
+AreSingle names = IsDistinct is_same_name names
 
--- a frame more in the row of this number, which weighs `own` as the leaf: only the row's first frame of a name adds the
--- row's weight
-abbrev pub frame_counted : Tally → ℕ → ℕ → ℕ → Tally
-frame_counted tally row weight own =
-    if tally.row == row then (record { flat = tally.flat + own; cumulative = tally.cumulative; row = tally.row })
-    else (record { flat = tally.flat + own; cumulative = tally.cumulative + weight; row = row })
+-- the names of these numbers
+abbrev pub names_at : List (List ℕ) → List ℕ → List (List ℕ)
+names_at names numbers = map (λ number. slice_index_or names number []) numbers
 
--- the callers in a row of this number and weight, for the tally of one name
-abbrev pub callers_counted : List (List ℕ) → ℕ → ℕ → List ℕ → Tally → Tally
-callers_counted callers number weight name tally =
-    if has_name name callers then (record { flat = tally.flat; cumulative = tally.cumulative + weight; row = number })
-    else tally
+-- whether a number is one of these
+abbrev pub has_number : ℕ → List ℕ → Bool
+has_number number numbers = list_any (λ other. other == number) numbers
+
+-- these numbers are those of the names in a stack, whose leaf, where it has one, has the name of the number `leaf`
+pub record IsNumberedStack (names stack : List (List ℕ)) (numbers : List ℕ) (leaf : Option ℕ) : Type 0 where
+  pub named : All IsName stack
+  pub inside : All (λ number. number < length names) numbers
+  pub same : (name : List ℕ) → has_name name (names_at names numbers) ≡ has_name name stack
+  pub last : MatchOption leaf (stack ≡ []) (λ number. (number < length names)
+      × (callers : List (List ℕ)) × (stack ≡ callers ++ slice_index_or names number [] ∷ []))
+
+-- ---- a row more
+
+-- the tally of a number, which is 0 where there is none
+abbrev pub tally_at : List Tally → ℕ → Tally
+tally_at tallies number = slice_index_or tallies number (record { flat = 0; cumulative = 0; row = 0 })
+
+-- the tally of a name, which is 0 where it has no number
+abbrev pub tally_of : List (List ℕ) → List Tally → List ℕ → Tally
+tally_of names tallies name = tally_at tallies (place_in names name)
+
+-- a frame of the name in the row of this number: only the row's first frame of a name adds the row's weight
+abbrev pub frame_counted : Tally → ℕ → ℕ → Tally
+frame_counted tally row weight =
+    if tally.row == row then tally
+    else (record { flat = tally.flat; cumulative = tally.cumulative + weight; row = row })
+
+-- frames of the names of these numbers, for the tally of one number
+abbrev pub numbers_counted : List ℕ → ℕ → ℕ → ℕ → Tally → Tally
+numbers_counted numbers row weight number tally =
+    if has_number number numbers then frame_counted tally row weight else tally
+
+-- the leaf of a row adds the row's weight as the leaf
+abbrev pub leaf_counted : Tally → ℕ → Tally
+leaf_counted tally weight =
+    record { flat = tally.flat + weight; cumulative = tally.cumulative; row = tally.row }
 
 -- a row more, for the tally of one name
 abbrev pub row_counted : WeightedStack → ℕ → List ℕ → Tally → Tally
@@ -39,6 +66,8 @@ row_counted row number name tally = record {
   row = if has_name name row.stack then number else tally.row;
 }
 
+-- ---- rows
+
 -- the tally of a text after these rows, which are numbered up to `last`; a text that weighs something is a name
 pub record IsTallyOf (rows : List WeightedStack) (last : ℕ) (name : List ℕ) (tally : Tally) : Type 0 where
   pub flat : tally.flat ≡ flat_weight_of rows name
@@ -46,7 +75,15 @@ pub record IsTallyOf (rows : List WeightedStack) (last : ℕ) (name : List ℕ) 
   pub numbered : tally.row ≤ last
   pub named : 0 < tally.cumulative → IsName name
 
--- the tallies of these rows, which weigh `held` together: a row's number is the weight up to it
-pub record AreTalliesOf (rows : List WeightedStack) (held : ℕ) (tallies : Tallies) : Type 0 where
-  pub each : (name : List ℕ) → IsTallyOf rows held name (tally_at tallies name)
-  pub total : held ≡ total_of rows
+-- the tallies of names in these rows: a row's number is the weight up to it
+pub record AreTalliesOf (rows : List WeightedStack) (names : List (List ℕ)) (tallies : Tallies) : Type 0 where
+  pub single : AreSingle names
+  pub many : length tallies.names.items ≡ length names
+  pub each : (name : List ℕ) → IsTallyOf rows tallies.total name (tally_of names tallies.names.items name)
+  pub total : tallies.total ≡ total_of rows
+
+-- these rows are counted; the numbers that are kept are those of the frames that are
+pub record HasCounted (rows : List WeightedStack) (counted : CountedRows) : Type 0 where
+  pub tallies : AreTalliesOf rows counted.names counted.tallies
+  pub inside : All (λ number. number < length counted.names) counted.numbers.items
+  pub frames : names_at counted.names counted.numbers.items ≡ map (λ (frame : Bor (List ℕ)). frame.now) counted.frames.items

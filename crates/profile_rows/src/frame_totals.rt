@@ -1,22 +1,22 @@
 //! What the names of rows weigh, without the rows.
 
-ghost use Rattle.std.specs.Prelude.{ℕ, ◌≡◌, ◌+◌, ◌^◌, ◌<◌, ◌++◌, ◌∷◌, [], All, List, IfOk, OnOk, map};
-ghost use Rattle.std.specs.HashMap.{hasher_of};
+ghost use Rattle.std.specs.Prelude.{ℕ, ◌≡◌, ◌≤◌, ◌+◌, ◌^◌, ◌<◌, ◌++◌, ◌∷◌, [], All, List, IfOk, OnOk, length, map, take};
 ghost use Rattle.std.specs.Option.{option_copied};
 ghost use Rattle.profile_rows.specs.declared.weighted_stacks.WeightedStack.{WeightedStack};
 ghost use Rattle.profile_rows.specs.Names.{IsName};
 ghost use Rattle.profile_rows.specs.Rows.{kept_rows};
-ghost use Rattle.profile_rows.specs.Tallies.{AreTalliesOf};
+ghost use Rattle.profile_rows.specs.Tallies.{AreTalliesOf, HasCounted};
+ghost use Rattle.profile_rows.specs.TextTables.{place_in, with_text};
 ghost use Rattle.profile_rows.specs.TopList.{AreTotalsOf};
 
 use crate::hashing::Hashing;
 use crate::keeping::keeps;
 use crate::name::Name;
-use crate::tallies::{Tally, count_stack, weighted};
+use crate::tallies::{Tallies, Tally};
+use crate::text_table::TextTable;
 use crate::weighted_stacks::{WeightedStack, WeightedStacks};
 use basics::NoMemory;
 use std::alloc::{AllocError, Global};
-use std::collections::HashMap;
 
 /// What a name weighs in rows, as pprof has it.
 #[derive(Drop, PartialEq, Eq)]
@@ -36,26 +36,104 @@ pub struct FrameTotals {
     pub frames: Vec<FrameTotal>,
 }
 
-/// Rows counted by the names of their frames, and not kept. What has been counted is what contracts say of both fields
+/// Rows counted by the names of their frames, and not kept. What has been counted is what contracts say of all fields
 /// together.
 #[derive(Drop)]
 pub struct CountedRows<'a> {
-    /// What each name weighs, by its text.
-    pub tallies: HashMap<&'a str, Tally, Hashing>,
-    /// What the rows weigh together.
-    pub total: u64,
+    pub names: TextTable<'a>,
+    pub tallies: Tallies,
+    /// The frames of the row before, of which the next may have many at the same places.
+    pub frames: Vec<&'a str>,
+    /// The numbers of their names.
+    pub numbers: Vec<usize>,
+}
+
+/// The number of a name, which no row has where it is new.
+fn number_of<'a>(
+    names: &mut TextTable<'a>,
+    tallies: &mut Tallies,
+    name: &'a str,
+) -> Result<usize, NoMemory>
+    ensures names { OnOk result (names.new ≡ with_text names.old name.now) }
+    ensures number { IfOk result (λ number. number ≡ place_in names.new name.now) }
+    ensures tallies { (rows : List WeightedStack) → AreTalliesOf rows names.old tallies.old
+        → OnOk result (AreTalliesOf rows names.new tallies.new) }
+{
+    let number = names.place_with(name)?;
+    if number == tallies.names.len() {
+        tallies.names.push(Tally::none())?;
+    }
+    Ok(number)
+}
+
+/// How many frames two rows share from their roots.
+fn shared_frames(before: &[&str], frames: &[&str]) -> usize
+    ensures within { (result ≤ length before.now) × (result ≤ length frames.now) }
+    ensures same { take result (map (λ frame. frame.now) before.now)
+        ≡ take result (map (λ frame. frame.now) frames.now) }
+{
+    for (at, frame) in before.iter().enumerate() {
+        if at >= frames.len() || *frame != frames[at] {
+            return at;
+        }
+    }
+    before.len()
 }
 
 impl<'a> CountedRows<'a> {
     /// No row yet, and `hashing` says how names will be hashed. Takes no memory.
     pub fn new(alloc: Global, hashing: Hashing) -> CountedRows<'a>
-        ensures counted { AreTalliesOf [] result.total result.tallies }
-        ensures hashing { hasher_of result.tallies ≡ hashing }
+        ensures { HasCounted [] result }
     {
+        let names = Vec::new(alloc);
         CountedRows {
-            tallies: HashMap::with_hasher(alloc, hashing),
-            total: 0,
+            names: TextTable::new(alloc, hashing),
+            tallies: Tallies { names, total: 0 },
+            frames: Vec::new(alloc),
+            numbers: Vec::new(alloc),
         }
+    }
+
+    /// Leaves of the row before what a row of these frames shares with it, and says how many frames that are.
+    fn keep_shared(&mut self, frames: &[&str]) -> usize
+        requires { (rows : List WeightedStack) × HasCounted rows self.old }
+        ensures within { result ≤ length frames.now }
+        ensures counted { (rows : List WeightedStack) → HasCounted rows self.old → HasCounted rows self.new }
+        ensures frames { map (λ frame. frame.now) self.new.frames.items
+            ≡ take result (map (λ frame. frame.now) frames.now) }
+    {
+        let shared = shared_frames(self.frames.as_slice(), frames);
+        self.frames.truncate(shared);
+        self.numbers.truncate(shared);
+        shared
+    }
+
+    /// Adds a frame with its number.
+    fn push_frame(&mut self, frame: &'a str) -> Result<(), NoMemory>
+        ensures counted { (rows : List WeightedStack) → HasCounted rows self.old
+            → OnOk result (HasCounted rows self.new) }
+        ensures frames { OnOk result (map (λ frame. frame.now) self.new.frames.items
+            ≡ map (λ frame. frame.now) self.old.frames.items ++ frame.now ∷ []) }
+    {
+        let number = number_of(&mut self.names, &mut self.tallies, frame)?;
+        self.frames.push(frame)?;
+        Ok(self.numbers.push(number)?)
+    }
+
+    /// Puts these frames with their numbers in the place of the row before, and looks up no name of those that it
+    /// shares.
+    fn number(&mut self, frames: &[&'a str]) -> Result<(), NoMemory>
+        requires { (rows : List WeightedStack) × HasCounted rows self.old }
+        ensures counted { (rows : List WeightedStack) → HasCounted rows self.old
+            → OnOk result (HasCounted rows self.new) }
+        ensures frames { OnOk result (map (λ frame. frame.now) self.new.frames.items
+            ≡ map (λ frame. frame.now) frames.now) }
+    {
+        let shared = self.keep_shared(frames);
+        for frame in &frames[shared..] {
+            self.push_frame(*frame)?;
+        }
+        Ok(())
     }
 
     /// Counts a row more, of these frames, root first.
@@ -64,18 +142,25 @@ impl<'a> CountedRows<'a> {
     ///
     /// `NoMemory`; the rows are then of no use.
     pub fn count(&mut self, frames: &[&'a str], weight: u64) -> Result<(), NoMemory>
-        requires fits { self.old.total + weight < 2 ^ 63 }
+        requires fits { self.old.tallies.total + weight < 2 ^ 63 }
         requires names { All IsName (map (λ frame. frame.now) frames.now) }
-        requires counted { (rows : List WeightedStack) × AreTalliesOf rows self.old.total self.old.tallies }
-        ensures { (rows : List WeightedStack) → AreTalliesOf rows self.old.total self.old.tallies
+        requires counted { (rows : List WeightedStack) × HasCounted rows self.old }
+        ensures { (rows : List WeightedStack) → HasCounted rows self.old
             → OnOk result
-            (AreTalliesOf
-            (rows ++ (record { stack = map (λ frame. frame.now) frames.now; weight = weight }) ∷ []) self.new.total
-            self.new.tallies) }
+            (HasCounted (rows ++ (record { stack = map (λ frame. frame.now) frames.now; weight = weight }) ∷ [])
+            self.new) }
     {
-        count_stack(&mut self.tallies, frames, weight, self.total)?;
-        self.total += weight;
+        self.number(frames)?;
+        let numbers = self.numbers.as_slice();
+        self.tallies.count(numbers, numbers.last().copied(), weight);
         Ok(())
+    }
+
+    /// What the rows weigh together.
+    pub fn total(&self) -> u64
+        ensures { result ≡ self.now.tallies.total }
+    {
+        self.tallies.total
     }
 
     /// What the names of the rows weigh.
@@ -84,15 +169,10 @@ impl<'a> CountedRows<'a> {
     ///
     /// `NoMemory`.
     pub fn totals(&self, alloc: Global) -> Result<FrameTotals, NoMemory>
-        requires { (rows : List WeightedStack) × AreTalliesOf rows self.now.total self.now.tallies }
-        ensures { (rows : List WeightedStack) → AreTalliesOf rows self.now.total self.now.tallies
-            → IfOk result (AreTotalsOf rows) }
+        requires { (rows : List WeightedStack) × HasCounted rows self.now }
+        ensures { (rows : List WeightedStack) → HasCounted rows self.now → IfOk result (AreTotalsOf rows) }
     {
-        let frames = weighted(alloc, &self.tallies)?;
-        Ok(FrameTotals {
-            total: self.total,
-            frames,
-        })
+        self.tallies.totals(alloc, self.names.texts())
     }
 }
 
@@ -114,10 +194,10 @@ fn count_batch_row<'a>(
     frames: &mut Vec<&'a str>,
     row: &'a WeightedStack,
 ) -> Result<(), NoMemory>
-    requires fits { rows.old.total + row.now.weight < 2 ^ 63 }
-    requires counted { (before : List WeightedStack) × AreTalliesOf before rows.old.total rows.old.tallies }
-    ensures { (before : List WeightedStack) → AreTalliesOf before rows.old.total rows.old.tallies
-        → OnOk result (AreTalliesOf (before ++ row.now ∷ []) rows.new.total rows.new.tallies) }
+    requires fits { rows.old.tallies.total + row.now.weight < 2 ^ 63 }
+    requires counted { (before : List WeightedStack) × HasCounted before rows.old }
+    ensures { (before : List WeightedStack) → HasCounted before rows.old
+        → OnOk result (HasCounted (before ++ row.now ∷ []) rows.new) }
 {
     replace_by_names(frames, row.stack.names())?;
     rows.count(frames.as_slice(), row.weight)

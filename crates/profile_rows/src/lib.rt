@@ -15,6 +15,7 @@ mod stack;
 mod stack_texts;
 mod summing;
 mod tallies;
+mod text_table;
 mod values;
 mod weighted_stacks;
 
@@ -29,6 +30,7 @@ pub use name::{Name, NameFault};
 pub use stack::{MAX_DEPTH, Stack};
 pub use stack_texts::StackText;
 pub use summing::aggregate_stacks;
-pub use tallies::Tally;
+pub use tallies::{Tallies, Tally};
+pub use text_table::TextTable;
 pub use values::{MAX_WIDTH, Weights, Width, first_heavy};
 pub use weighted_stacks::{MAX_TOTAL, PushFault, Refused, WeightedStack, WeightedStacks};

@@ -1,17 +1,14 @@
-//! What each name weighs in rows, by one pass and one look-up for each frame.
+//! What names weigh in rows, by their numbers.
 
-ghost use Rattle.std.specs.Prelude.{ℕ, ◌≡◌, ◌≢◌, ◌+◌, ◌^◌, ◌<◌, ◌++◌, ◌∷◌, [], All, List, IfOk, OnOk, map, if◌then◌else◌};
+ghost use Rattle.std.specs.Prelude.{ℕ, ◌≡◌, ◌≢◌, ◌+◌, ◌^◌, ◌<◌, ◌++◌, ◌∷◌, [], All, List, IfOk, length, map, slice_set};
 ghost use Rattle.profile_rows.specs.declared.weighted_stacks.WeightedStack.{WeightedStack};
-ghost use Rattle.profile_rows.specs.Names.{IsName, is_same_name};
-ghost use Rattle.profile_rows.specs.Tallies.{AreTalliesOf, callers_counted, frame_counted, row_counted, tally_at};
-ghost use Rattle.profile_rows.specs.TopList.{AreSumsOf};
+ghost use Rattle.profile_rows.specs.Tallies.{AreSingle, AreTalliesOf, IsNumberedStack, frame_counted, leaf_counted, numbers_counted, tally_at};
+ghost use Rattle.profile_rows.specs.TopList.{AreSumsOf, AreTotalsOf};
 
-use crate::frame_totals::FrameTotal;
-use crate::hashing::Hashing;
+use crate::frame_totals::{FrameTotal, FrameTotals};
 use crate::name::Name;
 use basics::NoMemory;
 use std::alloc::{AllocError, Global};
-use std::collections::HashMap;
 
 /// What a name weighs so far: as a leaf, and in the rows that have it. `row` is the number of the last of these, which
 /// is the weight counted up to it.
@@ -22,127 +19,135 @@ pub struct Tally {
     pub row: u64,
 }
 
-/// Counts a frame of a row: the row's weight where it is the row's first of its name, and `own` as the leaf.
-fn count_frame<'a>(
-    tallies: &mut HashMap<&'a str, Tally, Hashing>,
-    name: &'a str,
-    row: u64,
-    weight: u64,
-    own: u64,
-) -> Result<(), AllocError>
-    requires fits { (tally_at tallies.old name.now).row ≢ row
-        → (tally_at tallies.old name.now).cumulative + weight < 2 ^ 63 }
-    requires leaf { (tally_at tallies.old name.now).flat + own < 2 ^ 63 }
-    requires numbered { 0 < row }
-    ensures { OnOk result ((q : List ℕ) → tally_at tallies.new q
-        ≡ (if is_same_name q name.now then frame_counted (tally_at tallies.old q) row weight own
-        else tally_at tallies.old q)) }
-{
-    match tallies.get_mut(name) {
-        Some(tally) => {
-            tally.flat += own;
-            if tally.row != row {
-                tally.cumulative += weight;
-                tally.row = row;
-            }
-        }
-        None => {
-            let tally = Tally {
-                flat: own,
-                cumulative: weight,
-                row,
-            };
-            tallies.insert(name, tally)?;
+impl Tally {
+    /// That of a name which no row has.
+    pub fn none() -> Tally
+        ensures { result ≡ record { flat = 0; cumulative = 0; row = 0 } }
+    {
+        Tally {
+            flat: 0,
+            cumulative: 0,
+            row: 0,
         }
     }
-    Ok(())
 }
 
-/// Counts the callers in a row, each name once.
-fn count_callers<'a>(
-    tallies: &mut HashMap<&'a str, Tally, Hashing>,
-    callers: &[&'a str],
-    row: u64,
-    weight: u64,
-) -> Result<(), AllocError>
-    requires fits { (q : List ℕ) → (tally_at tallies.old q).cumulative + weight < 2 ^ 63 }
-    requires flat { (q : List ℕ) → (tally_at tallies.old q).flat < 2 ^ 63 }
-    requires numbered { (q : List ℕ) → (tally_at tallies.old q).row < row }
-    ensures { OnOk result
-        ((q : List ℕ)
-        → tally_at tallies.new q
-        ≡ callers_counted (map (λ frame. frame.now) callers.now) row weight q (tally_at tallies.old q)) }
+/// Counts a frame of the name of this number, where it is the row's first of its name.
+fn count_name(tallies: &mut Vec<Tally>, number: usize, row: u64, weight: u64)
+    requires inside { number < length tallies.old.items }
+    requires fits { (tally_at tallies.old.items number).row ≢ row
+        → (tally_at tallies.old.items number).cumulative + weight < 2 ^ 63 }
+    ensures { tallies.new.items
+        ≡ slice_set tallies.old.items number (frame_counted (tally_at tallies.old.items number) row weight) }
 {
-    for frame in callers {
-        count_frame(tallies, *frame, row, weight, 0)?;
-    }
-    Ok(())
-}
-
-/// Counts a row: each of its names once, and its leaf.
-fn count_row<'a>(
-    tallies: &mut HashMap<&'a str, Tally, Hashing>,
-    frames: &[&'a str],
-    row: u64,
-    weight: u64,
-) -> Result<(), AllocError>
-    requires cumulative { (q : List ℕ) → (tally_at tallies.old q).cumulative + weight < 2 ^ 63 }
-    requires flat { (q : List ℕ) → (tally_at tallies.old q).flat + weight < 2 ^ 63 }
-    requires numbered { (q : List ℕ) → (tally_at tallies.old q).row < row }
-    ensures { OnOk result ((q : List ℕ) → tally_at tallies.new q
-        ≡ row_counted (record { stack = map (λ frame. frame.now) frames.now; weight = weight }) row q
-        (tally_at tallies.old q)) }
-{
-    match frames.split_last() {
-        Some((leaf, callers)) => {
-            count_callers(tallies, callers, row, weight)?;
-            count_frame(tallies, *leaf, row, weight, weight)
-        }
-        None => Ok(()),
+    let tally = &mut tallies[number];
+    if tally.row != row {
+        tally.cumulative += weight;
+        tally.row = row;
     }
 }
 
-/// Counts a row of these frames to rows of the weight `held`. Its number is the weight up to it, which no other row of
-/// weight above 0 has; a row without weight adds nothing to any name.
-pub(crate) fn count_stack<'a>(
-    tallies: &mut HashMap<&'a str, Tally, Hashing>,
-    frames: &[&'a str],
-    weight: u64,
-    held: u64,
-) -> Result<(), AllocError>
-    requires fits { held + weight < 2 ^ 63 }
-    requires names { All IsName (map (λ frame. frame.now) frames.now) }
-    requires counted { (rows : List WeightedStack) × AreTalliesOf rows held tallies.old }
-    ensures { (rows : List WeightedStack) → AreTalliesOf rows held tallies.old
-        → OnOk result
-        (AreTalliesOf (rows ++ (record { stack = map (λ frame. frame.now) frames.now; weight = weight }) ∷ [])
-        (held + weight) tallies.new) }
+/// Counts the names of these numbers in a row, each once.
+fn count_names(tallies: &mut Vec<Tally>, numbers: &[usize], row: u64, weight: u64)
+    requires inside { All (λ number. number < length tallies.old.items) numbers.now }
+    requires fits { (number : ℕ) → number < length tallies.old.items
+        → (tally_at tallies.old.items number).row ≢ row
+        → (tally_at tallies.old.items number).cumulative + weight < 2 ^ 63 }
+    ensures many { length tallies.new.items ≡ length tallies.old.items }
+    ensures each { (number : ℕ) → tally_at tallies.new.items number
+        ≡ numbers_counted numbers.now row weight number (tally_at tallies.old.items number) }
 {
-    if weight == 0 {
-        return Ok(());
+    for number in numbers {
+        count_name(tallies, *number, row, weight);
     }
-    count_row(tallies, frames, held + weight, weight)
 }
 
-/// The names of cumulative weight above 0 with their weights, in any order.
-pub(crate) fn weighted(
-    alloc: Global,
-    tallies: &HashMap<&str, Tally, Hashing>,
-) -> Result<Vec<FrameTotal>, NoMemory>
-    requires { (rows : List WeightedStack) × (held : ℕ) × AreTalliesOf rows held tallies.now }
-    ensures { (rows : List WeightedStack) (held : ℕ) → AreTalliesOf rows held tallies.now
+/// Counts the leaf of a row.
+fn count_leaf(tallies: &mut Vec<Tally>, leaf: usize, weight: u64)
+    requires inside { leaf < length tallies.old.items }
+    requires fits { (tally_at tallies.old.items leaf).flat + weight < 2 ^ 63 }
+    ensures { tallies.new.items
+        ≡ slice_set tallies.old.items leaf (leaf_counted (tally_at tallies.old.items leaf) weight) }
+{
+    let tally = &mut tallies[leaf];
+    tally.flat += weight;
+}
+
+/// What each name weighs in rows so far, by its number, and what the rows weigh together. What has been counted is what
+/// contracts say of both fields.
+#[derive(Drop)]
+pub struct Tallies {
+    pub names: Vec<Tally>,
+    pub total: u64,
+}
+
+/// The names of cumulative weight above 0 with their weights.
+fn weighted(alloc: Global, names: &[&str], tallies: &Tallies) -> Result<Vec<FrameTotal>, NoMemory>
+    requires { (rows : List WeightedStack) × AreTalliesOf rows (map (λ name. name.now) names.now) tallies.now }
+    ensures { (rows : List WeightedStack) → AreTalliesOf rows (map (λ name. name.now) names.now) tallies.now
         → IfOk result (λ list. AreSumsOf rows list.items) }
 {
     let mut list = Vec::new(alloc);
-    for (name, tally) in tallies.iter() {
+    for (number, name) in names.iter().enumerate() {
+        let tally = &tallies.names[number];
         if tally.cumulative > 0 {
-            let name = Name::keep(alloc, *name)?;
             list.push(FrameTotal {
-                name,
+                name: Name::keep(alloc, *name)?,
                 flat: tally.flat,
                 cum: tally.cumulative,
             })?;
         }
     }
     Ok(list)
+}
+
+impl Tallies {
+    /// So many names without rows.
+    ///
+    /// # Errors
+    ///
+    /// `AllocError`.
+    pub fn without_rows(alloc: Global, count: usize) -> Result<Tallies, AllocError>
+        ensures { (names : List (List ℕ)) → AreSingle names → length names ≡ count
+            → IfOk result (AreTalliesOf [] names) }
+    {
+        let names = vec![in alloc; Tally::none(); count]?;
+        Ok(Tallies { names, total: 0 })
+    }
+
+    /// Counts a row more, of frames with the names of these numbers and a leaf of that number. The row's number is the
+    /// weight up to it, which no other row of weight above 0 has; a row without weight adds nothing to any name.
+    pub fn count(&mut self, numbers: &[usize], leaf: Option<usize>, weight: u64)
+        requires fits { self.old.total + weight < 2 ^ 63 }
+        requires counted { (names : List (List ℕ)) × (rows : List WeightedStack) × (stack : List (List ℕ))
+            × AreTalliesOf rows names self.old × IsNumberedStack names stack numbers.now leaf }
+        ensures { (names : List (List ℕ)) (rows : List WeightedStack) (stack : List (List ℕ))
+            → AreTalliesOf rows names self.old → IsNumberedStack names stack numbers.now leaf
+            → AreTalliesOf (rows ++ (record { stack = stack; weight = weight }) ∷ []) names self.new }
+    {
+        let row = self.total + weight;
+        self.total = row;
+        if weight == 0 {
+            return;
+        }
+        count_names(&mut self.names, numbers, row, weight);
+        if let Some(leaf) = leaf {
+            count_leaf(&mut self.names, leaf, weight);
+        }
+    }
+
+    /// What the names weigh, of which each has its number as its place.
+    ///
+    /// # Errors
+    ///
+    /// `NoMemory`.
+    pub fn totals(&self, alloc: Global, names: &[&str]) -> Result<FrameTotals, NoMemory>
+        requires { (rows : List WeightedStack) × AreTalliesOf rows (map (λ name. name.now) names.now) self.now }
+        ensures { (rows : List WeightedStack) → AreTalliesOf rows (map (λ name. name.now) names.now) self.now
+            → IfOk result (AreTotalsOf rows) }
+    {
+        let frames = weighted(alloc, names, self)?;
+        let total = self.total;
+        Ok(FrameTotals { total, frames })
+    }
 }

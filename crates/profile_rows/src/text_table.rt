@@ -3,15 +3,15 @@
 ghost use Rattle.std.specs.Prelude.{◌≡◌, ◌<◌, ◌^◌, [], IfOk, OnOk, map};
 ghost use Rattle.profile_rows.specs.TextTables.{place_in, with_text, with_texts};
 
+use crate::hashing::Hashing;
 use basics::NoMemory;
-use profile_rows::Hashing;
 use std::alloc::Global;
 use std::collections::HashMap;
 use std::marker::Model;
 
 /// Distinct texts in the order in which they came, each found by its bytes. A contract sees the list of them.
 #[derive(Drop)]
-pub(crate) struct TextTable<'a> {
+pub struct TextTable<'a> {
     places: HashMap<&'a str, usize, Hashing>,
     texts: Vec<&'a str>,
 }
@@ -56,6 +56,10 @@ impl<'a> TextTable<'a> {
     }
 
     /// The table with the text, which isn't added again where it is there.
+    ///
+    /// # Errors
+    ///
+    /// `NoMemory`.
     pub fn with(self, text: &'a str) -> Result<TextTable<'a>, NoMemory>
         ensures { IfOk result (λ table. table ≡ with_text self.entry text.now) }
     {
@@ -72,6 +76,10 @@ impl<'a> TextTable<'a> {
     }
 
     /// The place of a text, which is added where it is missing.
+    ///
+    /// # Errors
+    ///
+    /// `NoMemory`; the table is then as it was.
     pub fn place_with(&mut self, text: &'a str) -> Result<usize, NoMemory>
         ensures texts { OnOk result (self.new ≡ with_text self.old text.now) }
         ensures place { IfOk result (λ place. place ≡ place_in (with_text self.old text.now) text.now) }

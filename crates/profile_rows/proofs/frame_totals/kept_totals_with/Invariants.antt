@@ -1,9 +1,9 @@
 use Rattle.std.proofs.Common.{take}
 use Rattle.std.specs.Option.{option_copied}
 use Rattle.profile_rows.specs.Rows.{kept_rows}
-use Rattle.profile_rows.specs.Tallies.{AreTalliesOf}
+use Rattle.profile_rows.specs.Tallies.{HasCounted}
 use Rattle.profile_rows.proofs.frame_totals.kept_totals_with.Given as goal
 
 -- the kept rows so far are counted
 abbrev pub invariant-loop-row : goal.invariant-loop-row
-invariant-loop-row l = AreTalliesOf (kept_rows (option_copied l.focus) (option_copied l.ignored) (take l.row-index l.row-items)) l.rows.total l.rows.tallies
+invariant-loop-row l = HasCounted (kept_rows (option_copied l.focus) (option_copied l.ignored) (take l.row-index l.row-items)) l.rows

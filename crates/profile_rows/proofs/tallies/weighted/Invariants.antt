@@ -1,11 +1,8 @@
-use Rattle.std.proofs.Common.{◌≡◌, ◌++◌}
-use Rattle.std.specs.List.{AllByRecursion}
-use Rattle.profile_rows.proofs.Weighted.{IsNamed, weighted_in}
+use Rattle.std.proofs.Common.{◌≡◌, map, take}
+use Rattle.std.specs.List.{zip}
+use Rattle.profile_rows.proofs.Weighted.{weighted_in}
 use Rattle.profile_rows.proofs.tallies.weighted.Given as goal
 
--- the names so far, and those of the entries that are left, which have names for keys
-abbrev pub invariant-loop-name : goal.invariant-loop-name
-invariant-loop-name l = record {
-  whole : l.list.items ++ weighted_in l.name-iterator ≡ weighted_in l.tallies.entries;
-  names : AllByRecursion IsNamed l.name-iterator;
-}
+-- the names so far
+abbrev pub invariant-loop-number : goal.invariant-loop-number
+invariant-loop-number l = l.list.items ≡ weighted_in (take l.number (zip (map (λ name. name.now) l.names) l.tallies.names.items))

@@ -5,7 +5,7 @@ use Rattle.profile_rows.specs.declared.frame_totals.CountedRows.{CountedRows}
 use Rattle.profile_rows.specs.declared.frame_totals.FrameTotals.{FrameTotals}
 use Rattle.profile_rows.specs.Aggregate.{aggregate_of}
 use Rattle.profile_rows.specs.TopList.{AreTotalsOf}
-use Rattle.profile_rows.specs.Tallies.{AreTalliesOf}
+use Rattle.profile_rows.specs.Tallies.{HasCounted}
 use Rattle.folded_text.specs.FoldedText.{IsFoldedText}
 use Rattle.folded_text.specs.declared.text_rows.TextRows.{TextRows}
 use Rattle.folded_text.specs.TextRows.{AreKnownTexts, spelled_rows}
@@ -26,5 +26,5 @@ pub record AreTotalsOfText (text : List ℕ) (totals : FrameTotals) : Type 0 whe
 abbrev pub AreCounted : Option TextRows → CountedRows → List WeightedStack → Type 0
 AreCounted (Some sums) counted rows = (rows ≡ spelled_rows sums.rows.items)
     × AreKnownTexts sums.known sums.rows.items sums.total sums.are_joined
-    × AreTalliesOf [] counted.total counted.tallies
-AreCounted None counted rows = AreTalliesOf rows counted.total counted.tallies
+    × HasCounted [] counted
+AreCounted None counted rows = HasCounted rows counted

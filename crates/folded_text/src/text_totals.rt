@@ -5,7 +5,7 @@ ghost use Rattle.profile_rows.specs.declared.weighted_stacks.WeightedStack.{Weig
 ghost use Rattle.profile_rows.specs.Merging.{AreMergedSoFar};
 ghost use Rattle.profile_rows.specs.Names.{IsName};
 ghost use Rattle.profile_rows.specs.Rows.{total_of};
-ghost use Rattle.profile_rows.specs.Tallies.{AreTalliesOf};
+ghost use Rattle.profile_rows.specs.Tallies.{HasCounted};
 ghost use Rattle.profile_rows.specs.TopList.{AreTotalsOf};
 ghost use Rattle.folded_text.specs.FoldedText.{IsFoldedText, IsLineFault, IsRowLine, IsWorkFault, frames_of};
 ghost use Rattle.folded_text.specs.TextRows.{IsStackText, spelled_rows};
@@ -29,14 +29,13 @@ fn count_line<'a>(
     number: u64,
 ) -> Result<(), FoldedFault>
     requires one_line { All (λ byte. byte ≢ 10) line.now }
-    requires counted { (before : List WeightedStack) × AreTalliesOf before rows.old.total rows.old.tallies
-        × (total_of before < 2 ^ 63) }
-    ensures counted { (before : List WeightedStack) → AreTalliesOf before rows.old.total rows.old.tallies
+    requires counted { (before : List WeightedStack) × HasCounted before rows.old × (total_of before < 2 ^ 63) }
+    ensures counted { (before : List WeightedStack) → HasCounted before rows.old
         → OnOk result ((row : WeightedStack) × IsRowLine line.now row × (total_of before + row.weight < 2 ^ 63)
-        × AreTalliesOf (before ++ row ∷ []) rows.new.total rows.new.tallies) }
-    ensures fault { IfErr result (IsLineFault rows.old.total number line.now) }
+        × HasCounted (before ++ row ∷ []) rows.new) }
+    ensures fault { IfErr result (IsLineFault rows.old.tallies.total number line.now) }
 {
-    let weight = read_frames(frames, line, rows.total, number)?;
+    let weight = read_frames(frames, line, rows.total(), number)?;
     Ok(rows.count(frames.as_slice(), weight)?)
 }
 
@@ -46,10 +45,10 @@ fn count_rows<'a>(
     frames: &mut Vec<&'a str>,
     rows: &[TextRow<'a>],
 ) -> Result<(), NoMemory>
-    requires none { AreTalliesOf [] counted.old.total counted.old.tallies }
+    requires none { HasCounted [] counted.old }
     requires spelled { All (λ row. IsStackText row.text) rows.now }
     requires fits { total_of (spelled_rows rows.now) < 2 ^ 63 }
-    ensures { OnOk result (AreTalliesOf (spelled_rows rows.now) counted.new.total counted.new.tallies) }
+    ensures { OnOk result (HasCounted (spelled_rows rows.now) counted.new) }
 {
     for row in rows {
         replace_by_text(frames, row.text())?;
@@ -88,7 +87,7 @@ impl<'a> Counting<'a> {
         requires { (merged : List WeightedStack) × AreCounted self.old.waiting self.old.counted merged }
         ensures none { OnOk result (self.new.waiting ≡ None) }
         ensures counted { (merged : List WeightedStack) → AreCounted self.old.waiting self.old.counted merged
-            → OnOk result (AreTalliesOf merged self.new.counted.total self.new.counted.tallies) }
+            → OnOk result (HasCounted merged self.new.counted) }
     {
         if let Some(sums) = self.waiting.take() {
             count_rows(&mut self.counted, &mut self.frames, sums.rows.as_slice())?;

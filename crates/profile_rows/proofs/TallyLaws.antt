@@ -197,7 +197,7 @@ row_counted-none row names numbers number q t single this =
 -- ---- the tallies of rows, row by row
 
 -- a name of the stack is a name
-named_in : (name : List ℕ) (stack : List (List ℕ)) → AllByRecursion IsName stack → has_name name stack ≡ true → IsName name
+pub named_in : (name : List ℕ) (stack : List (List ℕ)) → AllByRecursion IsName stack → has_name name stack ≡ true → IsName name
 named_in name [] all has = absurd (false≢true has)
 named_in name (frame ∷ stack) all has = elim (is_same_name name frame) as (λ b. is_same_name name frame ≡ b → (b || has_name name stack) ≡ true → IsName name) [
   | true ↦ λ is e. subst IsName (sym (same_from_is_same_name name frame is)) all.0

@@ -17,15 +17,16 @@ use Rattle.pprof_profile.specs.declared.messages.Line.{Line}
 use Rattle.pprof_profile.specs.Valid.{has_double}
 use Rattle.profile_rows.specs.Names.{cleaned_name_of, is_same_name}
 use Rattle.profile_rows.specs.Rows.{has_name}
-use Rattle.profile_rows.proofs.SameNames.{same_from_is_same_name, is_same_name-self}
+use Rattle.profile_rows.proofs.SameNames.{is_same_name-self}
 use Rattle.profile_samples.specs.declared.name_numbers.FrameNumbers.{FrameNumbers}
 use Rattle.profile_samples.specs.Samples.{address_name, first_name, frames_at, frames_from, frames_of_id, frames_of_ids, function_name, item_with, line_name, location_frames, named_by, sample_stack_of, string_at}
+use Rattle.profile_rows.specs.Tallies.{AreSingle, has_number, names_at}
 use Rattle.profile_rows.specs.TextTables.{place_in, with_text, with_texts}
-use Rattle.profile_samples.specs.CountedSamples.{AreSingle, names_at}
-use Rattle.profile_samples.specs.NameNumbers.{AreFrameNumbers, AreFunctionNumbers, address_names, frame_names, frame_numbers_of, given, has_number, line_number, location_numbers, number_at, number_by, number_of, numbers_of, numbers_of_id, once_of, string_names, string_numbers, with_number, with_numbers}
+use Rattle.profile_rows.proofs.TallyLaws.{has_number-push}
+use Rattle.profile_samples.specs.NameNumbers.{AreFrameNumbers, AreFunctionNumbers, address_names, frame_names, frame_numbers_of, given, line_number, location_numbers, number_at, number_by, number_of, numbers_of, numbers_of_id, once_of, string_names, string_numbers, with_number, with_numbers}
 use Rattle.profile_samples.proofs.ExportLaws.{AllStand, AreDistinct, distinct_with_texts, stand_where, stands_in, with_texts-own, with_texts-stands}
 use Rattle.profile_samples.proofs.ItemsById.{item_with-found}
-use Rattle.profile_rows.proofs.TextPlaces.{place_in-lt}
+use Rattle.profile_rows.proofs.TextPlaces.{place_in-lt, text_at_place}
 
 -- ---- numbers of strings and functions
 
@@ -132,17 +133,6 @@ pub frame_names-single : (draft : Draft) → AreSingle (frame_names draft)
 frame_names-single draft =
     single (frame_names draft) (distinct_with_texts (with_texts [] (given (string_names draft))) (address_names draft) (distinct_with_texts [] (given (string_names draft)) tt))
 
--- the name of a name's number
-name_of_place : (names : List (List ℕ)) (name : List ℕ) → stands_in names name ≡ true → slice_index_or names (place_in names name) [] ≡ name
-name_of_place [] name e = absurd (false≢true e)
-name_of_place (first ∷ names) name e =
-    elim (bytes_eq name first) as (λ b. bytes_eq name first ≡ b → (b || stands_in names name) ≡ true → slice_index_or (first ∷ names) (cond b 0 (place_in names name + 1)) [] ≡ name) [
-      | true ↦ λ is r. sym (same_from_is_same_name name first is)
-      | false ↦ λ is r.
-          let next : place_in names name + 1 ≡ suc (place_in names name) = omega arith in
-          ap (λ n. slice_index_or (first ∷ names) n []) next ∙ name_of_place names name r
-    ] refl e
-
 below : (names frames : List (List ℕ)) → AllStand names frames → AllByRecursion (λ number. number < length names) (map (place_in names) frames)
 below names [] all = tt
 below names (frame ∷ frames) all = (place_in-lt names frame all.0, below names frames all.1)
@@ -151,13 +141,6 @@ pub numbers_below : (names frames : List (List ℕ)) → AllStand names frames �
 numbers_below names frames all = All-from_recursion (λ number. number < length names) (map (place_in names) frames) (below names frames all)
 
 -- ---- each number once
-
-pub has_number-push : (numbers : List ℕ) (number other : ℕ) → has_number other (numbers ++ number ∷ []) ≡ (has_number other numbers || eqb number other)
-has_number-push [] number other = elim (eqb number other) as (λ b. (b || false) ≡ b) [ true ↦ refl | false ↦ refl ]
-has_number-push (first ∷ numbers) number other = elim (eqb first other) as (λ b. (b || has_number other (numbers ++ number ∷ [])) ≡ ((b || has_number other numbers) || eqb number other)) [
-  | true ↦ refl
-  | false ↦ has_number-push numbers number other
-]
 
 pub with_numbers-push : (start numbers : List ℕ) (number : ℕ) → with_numbers start (numbers ++ number ∷ []) ≡ with_number (with_numbers start numbers) number
 with_numbers-push start [] number = refl
@@ -222,7 +205,7 @@ list_any-map names q (number ∷ numbers) = ap (λ b. is_same_name q (slice_inde
 any_placed : (names : List (List ℕ)) (q : List ℕ) (frames : List (List ℕ)) → AllStand names frames → list_any (λ number. is_same_name q (slice_index_or names number [])) (map (place_in names) frames) ≡ has_name q frames
 any_placed names q [] all = refl
 any_placed names q (frame ∷ frames) all =
-    ap (λ name. is_same_name q name || list_any (λ number. is_same_name q (slice_index_or names number [])) (map (place_in names) frames)) (name_of_place names frame all.0)
+    ap (λ name. is_same_name q name || list_any (λ number. is_same_name q (slice_index_or names number [])) (map (place_in names) frames)) (text_at_place names frame (place_in-lt names frame all.0))
     ∙ ap (λ b. is_same_name q frame || b) (any_placed names q frames all.1)
 
 -- what numbers say of the frames whose they are
@@ -244,7 +227,7 @@ numbered names frame frames all = record {
       ∙ any_placed names q (frame ∷ frames) all;
   leaf_inside = place_in-lt names frame all.0;
   callers = frames;
-  leaf = ap (λ name. name ∷ frames) (sym (name_of_place names frame all.0));
+  leaf = ap (λ name. name ∷ frames) (sym (text_at_place names frame (place_in-lt names frame all.0)));
 }
   where
     long : (frames : List (List ℕ)) → length (map (place_in names) frames) ≡ length frames

@@ -10,4 +10,4 @@ pub mod IdPlaces
 pub mod SampleBatches
 pub mod SampleRows
 pub mod MergedSamples
-pub mod NameTallies
+pub mod SampleNumbers

@@ -1,6 +1,5 @@
 -- The names of a profile's frames by numbers: equal names have one number.
-use Rattle.std.specs.Prelude.{ℕ, ℤ, pos, negsuc, ◌≡◌, ◌≤◌, ◌==◌, All, Bool, false, Option, Some, None, List, [], ◌∷◌, ◌++◌, length, map, slice_index_or, if◌then◌else◌}
-use Rattle.std.specs.List.{list_any}
+use Rattle.std.specs.Prelude.{ℕ, ℤ, pos, negsuc, ◌≡◌, ◌≤◌, All, false, Option, Some, None, List, [], ◌∷◌, ◌++◌, length, map, slice_index_or, if◌then◌else◌}
 use Rattle.std.specs.Option.{option_map, option_or}
 use Rattle.pprof_profile.specs.declared.messages.Draft.{Draft}
 use Rattle.pprof_profile.specs.declared.messages.Function.{Function}
@@ -12,6 +11,7 @@ use Rattle.profile_samples.specs.declared.name_numbers.FrameNumbers.{FrameNumber
 use Rattle.profile_samples.specs.declared.string_names.StringName.{StringName}
 use Rattle.profile_samples.specs.declared.string_names.StringName.TheVariants.{Missing, Plain, Cleaned}
 use Rattle.profile_samples.specs.Samples.{address_name, function_name, item_with, line_name, location_frames}
+use Rattle.profile_rows.specs.Tallies.{has_number}
 use Rattle.profile_rows.specs.TextTables.{place_in, with_texts}
 
 -- ---- numbers of names
@@ -73,10 +73,6 @@ line_number draft address line = number_of draft (line_name draft.strings draft.
 -- the numbers of the names of a location's frames, leaf first
 abbrev pub numbers_of : Draft → Location → List ℕ
 numbers_of draft location = map (number_of draft) (location_frames draft location)
-
--- whether a number is one of these
-abbrev pub has_number : ℕ → List ℕ → Bool
-has_number number numbers = list_any (λ other. other == number) numbers
 
 -- a number that is there isn't added again
 abbrev pub with_number : List ℕ → ℕ → List ℕ

@@ -10,12 +10,11 @@ ghost use Rattle.profile_rows.specs.TextTables.{with_texts};
 ghost use Rattle.profile_samples.specs.declared.sampling.ValueChoice.TheVariants.{Default};
 ghost use Rattle.profile_samples.specs.declared.sampling.ValueChoice.TheVariants as choices;
 
-use crate::text_table::TextTable;
 use basics::NoMemory;
 use pprof_profile::{
     Draft, Function, Items, Line, Location, Profile, Sample, Text, ValueType, check,
 };
-use profile_rows::{Batch, Hashing, Name, Stack, WeightedStack, Weights};
+use profile_rows::{Batch, Hashing, Name, Stack, TextTable, WeightedStack, Weights};
 use std::alloc::Global;
 
 /// What a value counts, and in which unit: as `cpu` and `nanoseconds`.

@@ -10,11 +10,10 @@ ghost use Rattle.profile_rows.specs.Rows.{total_of};
 ghost use Rattle.profile_rows.specs.TextTables.{with_texts};
 
 use crate::exporting::{ValueUnit, exported_draft};
-use crate::text_table::TextTable;
 use basics::NoMemory;
 use folded_text::{FoldedFault, LineTaker, read_frames, take_lines};
 use pprof_profile::{Items, WrittenSamples, encode_around};
-use profile_rows::Hashing;
+use profile_rows::{Hashing, TextTable};
 use std::alloc::Global;
 
 /// Rows as the samples of the profile that they are exported as: written when they come, their names numbered as they

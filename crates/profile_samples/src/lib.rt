@@ -12,7 +12,6 @@ mod merged_samples;
 mod name_numbers;
 mod sampling;
 mod string_names;
-mod text_table;
 mod unfolding;
 
 pub use batches::{batch_of, batch_of_with};

@@ -12,11 +12,10 @@ use crate::exporting::with_names;
 use crate::function_numbers::FunctionNumbers;
 use crate::id_places::IdPlaces;
 use crate::string_names::StringName;
-use crate::text_table::TextTable;
 use crate::unfolding::{address_name, location_ids};
 use basics::NoMemory;
 use pprof_profile::{Draft, Items, Location, Profile, Text};
-use profile_rows::{Hashing, MAX_DEPTH, Name};
+use profile_rows::{Hashing, MAX_DEPTH, Name, TextTable};
 use std::alloc::{AllocError, Global};
 use std::marker::Model;
 

@@ -3,7 +3,7 @@ use Rattle.std.proofs.Common.{◌∙◌, Some, None, ap, get_or, take}
 use Rattle.std.specs.declared.vec.Vec.{Vec}
 use Rattle.profile_samples.specs.CountedSamples.{AreNumbersOfIds}
 use Rattle.profile_samples.proofs.FrameNumbers.{found_numbers}
-use Rattle.profile_samples.proofs.NameTallies.{numbers_missing, numbers_more}
+use Rattle.profile_samples.proofs.SampleNumbers.{numbers_missing, numbers_more}
 use Rattle.profile_samples.proofs.counted_samples.gather_numbers.Goals as goal
 use Rattle.profile_samples.proofs.counted_samples.gather_numbers.Goals.{in-Some+in_ok-push_numbers, in_default}
 

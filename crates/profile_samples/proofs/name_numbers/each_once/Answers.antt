@@ -2,7 +2,7 @@
 use Rattle.std.proofs.Common.{◌≡◌, ◌+◌, ◌<◌, ◌++◌, ◌∷◌, [], ℕ, List, refl, ap, sym, ◌∙◌, get_or, length, set, subst, take, arith}
 use Rattle.std.proofs.lemmas.List.{get_or_default, take_more}
 use Rattle.std.specs.declared.vec.Vec.{Vec}
-use Rattle.profile_samples.specs.NameNumbers.{has_number}
+use Rattle.profile_rows.specs.Tallies.{has_number}
 use Rattle.profile_samples.proofs.FrameNumbers.{IsOnceSoFar, fresh_mark, once-push, once-same}
 use Rattle.profile_samples.proofs.name_numbers.each_once.Goals as goal
 use Rattle.profile_samples.proofs.name_numbers.each_once.Goals.{then-index-mark+in_ok-push, else-index-mark}

@@ -89,13 +89,13 @@ none_single : AreSingle []
 unfolding IsDistinct
 none_single = tt
 
-pub none_counted : (counted : CountedRows) → counted.names ≡ [] → counted.tallies.names.items ≡ [] → counted.tallies.total ≡ 0 → counted.frames.items ≡ [] → counted.numbers.items ≡ [] → HasCounted [] counted
+pub none_counted : (counted : CountedRows) → counted.names.texts ≡ [] → counted.tallies.names.items ≡ [] → counted.tallies.total ≡ 0 → counted.frames.items ≡ [] → counted.numbers.items ≡ [] → HasCounted [] counted
 none_counted counted names tallies total frames numbers = record {
   tallies = record {
     single = subst AreSingle (sym names) none_single;
     many = ap length tallies ∙ sym (ap length names);
     each = λ q.
-        let none : tally_of counted.names counted.tallies.names.items q ≡ zero_tally = ap (λ ts. tally_of counted.names ts q) tallies ∙ past (place_in counted.names q) in
+        let none : tally_of counted.names.texts counted.tallies.names.items q ≡ zero_tally = ap (λ ts. tally_of counted.names.texts ts q) tallies ∙ past (place_in counted.names.texts q) in
         record {
           flat = ap (λ (t : Tally). t.flat) none;
           cumulative = ap (λ (t : Tally). t.cumulative) none;
@@ -104,8 +104,8 @@ none_counted counted names tallies total frames numbers = record {
         };
     total = total;
   };
-  inside = subst (All (λ number. number < length counted.names)) (sym numbers) (All-from_recursion (λ number. number < length counted.names) [] tt);
-  frames = ap (names_at counted.names) numbers ∙ sym (ap texts_of frames);
+  inside = subst (All (λ number. number < length counted.names.texts)) (sym numbers) (All-from_recursion (λ number. number < length counted.names.texts) [] tt);
+  frames = ap (names_at counted.names.texts) numbers ∙ sym (ap texts_of frames);
 }
   where
     past : (number : ℕ) → tally_at [] number ≡ zero_tally
@@ -143,34 +143,34 @@ place-within names name = elim (list_any (bytes_eq name) names) as (λ b. list_a
     or_true false = refl
 
 -- a frame more, with its number
-pub frame_pushed : (rows : List WeightedStack) (old new : CountedRows) (frame : Bor (List ℕ)) (number : ℕ) → new.names ≡ with_text old.names frame.now → number ≡ place_in new.names frame.now
-    → AreTalliesOf rows new.names new.tallies → new.frames.items ≡ old.frames.items ++ frame ∷ [] → new.numbers.items ≡ old.numbers.items ++ number ∷ [] → HasCounted rows old → HasCounted rows new
+pub frame_pushed : (rows : List WeightedStack) (old new : CountedRows) (frame : Bor (List ℕ)) (number : ℕ) → new.names.texts ≡ with_text old.names.texts frame.now → number ≡ place_in new.names.texts frame.now
+    → AreTalliesOf rows new.names.texts new.tallies → new.frames.items ≡ old.frames.items ++ frame ∷ [] → new.numbers.items ≡ old.numbers.items ++ number ∷ [] → HasCounted rows old → HasCounted rows new
 frame_pushed rows old new frame number names place tallies frames numbers this =
-    let longer = length-with old.names frame.now in
+    let longer = length-with old.names.texts frame.now in
     let size = ap length names in
-    let low : number < length new.names = let within = place-within old.names frame.now in let same = ap (λ ns. place_in ns frame.now) names in omega (arith, within, size, place, same) in
-    let at : slice_index_or new.names number [] ≡ frame.now = ap (λ n. slice_index_or new.names n []) place ∙ text_at_place new.names frame.now (subst (λ n. n < length new.names) place low) in
+    let low : number < length new.names.texts = let within = place-within old.names.texts frame.now in let same = ap (λ ns. place_in ns frame.now) names in omega (arith, within, size, place, same) in
+    let at : slice_index_or new.names.texts number [] ≡ frame.now = ap (λ n. slice_index_or new.names.texts n []) place ∙ text_at_place new.names.texts frame.now (subst (λ n. n < length new.names.texts) place low) in
     record {
       tallies = tallies;
-      inside = subst (All (λ n. n < length new.names)) (sym numbers)
-          (All-push (λ n. n < length new.names) old.numbers.items number (λ k d lt. let within = this.inside k d lt in omega (arith, within, longer, size)) low);
-      frames = ap (names_at new.names) numbers
-          ∙ map-append (λ n. slice_index_or new.names n []) old.numbers.items (number ∷ [])
-          ∙ ap (λ ns. ns ++ slice_index_or new.names number [] ∷ []) (ap (λ ns. names_at ns old.numbers.items) names
-              ∙ names_at-with old.names frame.now old.numbers.items (recursion_from_All (λ n. n < length old.names) old.numbers.items this.inside) ∙ this.frames)
+      inside = subst (All (λ n. n < length new.names.texts)) (sym numbers)
+          (All-push (λ n. n < length new.names.texts) old.numbers.items number (λ k d lt. let within = this.inside k d lt in omega (arith, within, longer, size)) low);
+      frames = ap (names_at new.names.texts) numbers
+          ∙ map-append (λ n. slice_index_or new.names.texts n []) old.numbers.items (number ∷ [])
+          ∙ ap (λ ns. ns ++ slice_index_or new.names.texts number [] ∷ []) (ap (λ ns. names_at ns old.numbers.items) names
+              ∙ names_at-with old.names.texts frame.now old.numbers.items (recursion_from_All (λ n. n < length old.names.texts) old.numbers.items this.inside) ∙ this.frames)
           ∙ ap (λ name. texts_of old.frames.items ++ name ∷ []) at
           ∙ sym (ap texts_of frames ∙ map-append (λ (f : Bor (List ℕ)). f.now) old.frames.items (frame ∷ []));
     }
 
 -- the first frames, with their numbers
-pub frames_kept : (rows : List WeightedStack) (old new : CountedRows) (count : ℕ) → new.names ≡ old.names → new.tallies ≡ old.tallies → new.frames.items ≡ take count old.frames.items
+pub frames_kept : (rows : List WeightedStack) (old new : CountedRows) (count : ℕ) → new.names.texts ≡ old.names.texts → new.tallies ≡ old.tallies → new.frames.items ≡ take count old.frames.items
     → new.numbers.items ≡ take count old.numbers.items → HasCounted rows old → HasCounted rows new
 frames_kept rows old new count names tallies frames numbers this = record {
-  tallies = subst (λ ns. AreTalliesOf rows ns new.tallies) (sym names) (subst (AreTalliesOf rows old.names) (sym tallies) this.tallies);
+  tallies = subst (λ ns. AreTalliesOf rows ns new.tallies) (sym names) (subst (AreTalliesOf rows old.names.texts) (sym tallies) this.tallies);
   inside = subst (λ (ns : List (List ℕ)). All (λ n. n < length ns) new.numbers.items) (sym names)
-      (subst (All (λ n. n < length old.names)) (sym numbers) (All-take (λ n. n < length old.names) count old.numbers.items this.inside));
-  frames = ap (λ ns. names_at ns new.numbers.items) names ∙ ap (names_at old.names) numbers
-      ∙ sym (take-map (λ n. slice_index_or old.names n []) count old.numbers.items) ∙ ap (take count) this.frames
+      (subst (All (λ n. n < length old.names.texts)) (sym numbers) (All-take (λ n. n < length old.names.texts) count old.numbers.items this.inside));
+  frames = ap (λ ns. names_at ns new.numbers.items) names ∙ ap (names_at old.names.texts) numbers
+      ∙ sym (take-map (λ n. slice_index_or old.names.texts n []) count old.numbers.items) ∙ ap (take count) this.frames
       ∙ take-map (λ (f : Bor (List ℕ)). f.now) count old.frames.items ∙ sym (ap texts_of frames);
 }
 
@@ -227,14 +227,14 @@ leaf_of names stack numbers (Some number) is inside (before, last) = (
 
 -- the numbers of a row's frames, of which the last is the leaf's
 pub row_numbered : (rows : List WeightedStack) (counted : CountedRows) (frames : List (Bor (List ℕ))) (numbers : List ℕ) (leaf : Option ℕ) → HasCounted rows counted → texts_of counted.frames.items ≡ texts_of frames
-    → All IsName (texts_of frames) → numbers ≡ counted.numbers.items → leaf ≡ slice_get numbers (length numbers - 1) → IsNumberedStack counted.names (texts_of frames) numbers leaf
+    → All IsName (texts_of frames) → numbers ≡ counted.numbers.items → leaf ≡ slice_get numbers (length numbers - 1) → IsNumberedStack counted.names.texts (texts_of frames) numbers leaf
 row_numbered rows counted frames numbers leaf this same named lent last =
-    let stack : names_at counted.names numbers ≡ texts_of frames = ap (names_at counted.names) lent ∙ this.frames ∙ same in
-    let inside : All (λ n. n < length counted.names) numbers = subst (All (λ n. n < length counted.names)) (sym lent) this.inside in
+    let stack : names_at counted.names.texts numbers ≡ texts_of frames = ap (names_at counted.names.texts) lent ∙ this.frames ∙ same in
+    let inside : All (λ n. n < length counted.names.texts) numbers = subst (All (λ n. n < length counted.names.texts)) (sym lent) this.inside in
     record {
       named = named;
       inside = inside;
       same = λ name. ap (has_name name) stack;
-      last = leaf_of counted.names (texts_of frames) numbers leaf stack inside
+      last = leaf_of counted.names.texts (texts_of frames) numbers leaf stack inside
           (subst (λ o. MatchOption o (numbers ≡ []) (λ number. (before : List ℕ) × (numbers ≡ before ++ number ∷ []))) (sym last) (last_of numbers));
     }

@@ -84,6 +84,6 @@ pub record AreTalliesOf (rows : List WeightedStack) (names : List (List ℕ)) (t
 
 -- these rows are counted; the numbers that are kept are those of the frames that are
 pub record HasCounted (rows : List WeightedStack) (counted : CountedRows) : Type 0 where
-  pub tallies : AreTalliesOf rows counted.names counted.tallies
-  pub inside : All (λ number. number < length counted.names) counted.numbers.items
-  pub frames : names_at counted.names counted.numbers.items ≡ map (λ (frame : Bor (List ℕ)). frame.now) counted.frames.items
+  pub tallies : AreTalliesOf rows counted.names.texts counted.tallies
+  pub inside : All (λ number. number < length counted.names.texts) counted.numbers.items
+  pub frames : names_at counted.names.texts counted.numbers.items ≡ map (λ (frame : Bor (List ℕ)). frame.now) counted.frames.items

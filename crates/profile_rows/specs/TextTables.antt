@@ -21,6 +21,11 @@ abbrev pub with_texts : List (List ℕ) → List (List ℕ) → List (List ℕ)
 with_texts texts [] = texts
 with_texts texts (text ∷ more) = with_texts (with_text texts text) more
 
+-- texts by number, and how they are hashed
+pub record NumberedTexts : Type 0 where
+  pub texts : List (List ℕ)
+  pub hashing : Hashing
+
 -- the map has the place of each text, and nothing else
 abbrev pub AreTextPlaces : List (List ℕ) → HashMap (Bor (List ℕ)) ℕ Hashing → Type 0
 AreTextPlaces texts places = (text : List ℕ)

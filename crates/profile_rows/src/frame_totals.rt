@@ -54,10 +54,10 @@ fn number_of<'a>(
     tallies: &mut Tallies,
     name: &'a str,
 ) -> Result<usize, NoMemory>
-    ensures names { OnOk result (names.new ≡ with_text names.old name.now) }
-    ensures number { IfOk result (λ number. number ≡ place_in names.new name.now) }
-    ensures tallies { (rows : List WeightedStack) → AreTalliesOf rows names.old tallies.old
-        → OnOk result (AreTalliesOf rows names.new tallies.new) }
+    ensures names { OnOk result (names.new.texts ≡ with_text names.old.texts name.now) }
+    ensures number { IfOk result (λ number. number ≡ place_in names.new.texts name.now) }
+    ensures tallies { (rows : List WeightedStack) → AreTalliesOf rows names.old.texts tallies.old
+        → OnOk result (AreTalliesOf rows names.new.texts tallies.new) }
 {
     let number = names.place_with(name)?;
     if number == tallies.names.len() {
@@ -83,7 +83,8 @@ fn shared_frames(before: &[&str], frames: &[&str]) -> usize
 impl<'a> CountedRows<'a> {
     /// No row yet, and `hashing` says how names will be hashed. Takes no memory.
     pub fn new(alloc: Global, hashing: Hashing) -> CountedRows<'a>
-        ensures { HasCounted [] result }
+        ensures counted { HasCounted [] result }
+        ensures hashing { result.names.hashing ≡ hashing }
     {
         let names = Vec::new(alloc);
         CountedRows {

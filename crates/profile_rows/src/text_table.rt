@@ -9,7 +9,8 @@ use std::alloc::Global;
 use std::collections::HashMap;
 use std::marker::Model;
 
-/// Distinct texts in the order in which they came, each found by its bytes. A contract sees the list of them.
+/// Distinct texts in the order in which they came, each found by its bytes. A contract sees the list of them, and how
+/// they are hashed.
 #[derive(Drop)]
 pub struct TextTable<'a> {
     places: HashMap<&'a str, usize, Hashing>,
@@ -17,12 +18,16 @@ pub struct TextTable<'a> {
 }
 
 impl<'a> Model for TextTable<'a> {
-    ghost use Rattle.std.specs.Prelude.{List, ℕ, map};
-    ghost use Rattle.profile_rows.specs.TextTables.{AreTextPlaces};
+    ghost use Rattle.std.specs.Prelude.{map};
+    ghost use Rattle.std.specs.HashMap.{hasher_of};
+    ghost use Rattle.profile_rows.specs.TextTables.{AreTextPlaces, NumberedTexts};
 
-    ghost Value = { List (List ℕ) };
+    ghost Value = { NumberedTexts };
 
-    ghost view = { λ table. map (λ text. text.now) table.texts.items };
+    ghost view = { λ table. record {
+        texts = map (λ text. text.now) table.texts.items;
+        hashing = hasher_of table.places;
+    } };
 
     ghost invariant = { λ table. AreTextPlaces (map (λ text. text.now) table.texts.items) table.places };
 }
@@ -30,7 +35,8 @@ impl<'a> Model for TextTable<'a> {
 impl<'a> TextTable<'a> {
     /// No texts yet, and `hashing` says how they will be hashed. Takes no memory.
     pub fn new(alloc: Global, hashing: Hashing) -> TextTable<'a>
-        ensures { result ≡ [] }
+        ensures texts { result.texts ≡ [] }
+        ensures hashing { result.hashing ≡ hashing }
     {
         TextTable {
             places: HashMap::with_hasher(alloc, hashing),
@@ -40,7 +46,7 @@ impl<'a> TextTable<'a> {
 
     /// The texts, in order.
     pub fn texts(&self) -> &[&'a str]
-        ensures { map (λ text. text.now) result.now ≡ self.now }
+        ensures { map (λ text. text.now) result.now ≡ self.now.texts }
     {
         let texts: &Vec<&'a str> = &self.texts;
         texts.as_slice()
@@ -48,7 +54,7 @@ impl<'a> TextTable<'a> {
 
     /// The place of a text; where it is missing, how many texts there are.
     pub fn place_of(&self, text: &str) -> usize
-        ensures place { result ≡ place_in self.now text.now }
+        ensures place { result ≡ place_in self.now.texts text.now }
         ensures fits { result < 2 ^ 63 }
     {
         let missing = self.texts().len();
@@ -61,7 +67,7 @@ impl<'a> TextTable<'a> {
     ///
     /// `NoMemory`.
     pub fn with(self, text: &'a str) -> Result<TextTable<'a>, NoMemory>
-        ensures { IfOk result (λ table. table ≡ with_text self.entry text.now) }
+        ensures { IfOk result (λ table. table.texts ≡ with_text self.entry.texts text.now) }
     {
         if self.places.contains_key(text) {
             return Ok(self);
@@ -81,8 +87,8 @@ impl<'a> TextTable<'a> {
     ///
     /// `NoMemory`; the table is then as it was.
     pub fn place_with(&mut self, text: &'a str) -> Result<usize, NoMemory>
-        ensures texts { OnOk result (self.new ≡ with_text self.old text.now) }
-        ensures place { IfOk result (λ place. place ≡ place_in (with_text self.old text.now) text.now) }
+        ensures texts { OnOk result (self.new.texts ≡ with_text self.old.texts text.now) }
+        ensures place { IfOk result (λ place. place ≡ place_in (with_text self.old.texts text.now) text.now) }
         ensures fits { IfOk result (λ place. place < 2 ^ 63) }
     {
         let place = self.place_of(text);

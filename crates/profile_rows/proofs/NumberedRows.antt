@@ -69,7 +69,7 @@ named-new rows names next old new name number is place end total pushed are =
           omega (arith, left, right, many);
       each = λ q.
           let same : tally_of next new.names.items q ≡ tally_of names old.names.items q =
-              ap (λ ns. tally_of ns new.names.items q) longer ∙ ap (λ ts. tally_of (names ++ name ∷ []) ts q) pushed ∙ tally_of-push names old.names.items name q many in
+          ap (λ ns. tally_of ns new.names.items q) longer ∙ ap (λ ts. tally_of (names ++ name ∷ []) ts q) pushed ∙ tally_of-push names old.names.items name q many in
           subst (λ n. IsTallyOf rows n q (tally_of next new.names.items q)) (sym total) (subst (IsTallyOf rows old.total q) (sym same) (are.each q));
       total = total ∙ are.total;
     }
@@ -157,7 +157,7 @@ frame_pushed rows old new frame number names place tallies frames numbers this =
       frames = ap (names_at new.names.texts) numbers
           ∙ map-append (λ n. slice_index_or new.names.texts n []) old.numbers.items (number ∷ [])
           ∙ ap (λ ns. ns ++ slice_index_or new.names.texts number [] ∷ []) (ap (λ ns. names_at ns old.numbers.items) names
-              ∙ names_at-with old.names.texts frame.now old.numbers.items (recursion_from_All (λ n. n < length old.names.texts) old.numbers.items this.inside) ∙ this.frames)
+          ∙ names_at-with old.names.texts frame.now old.numbers.items (recursion_from_All (λ n. n < length old.names.texts) old.numbers.items this.inside) ∙ this.frames)
           ∙ ap (λ name. texts_of old.frames.items ++ name ∷ []) at
           ∙ sym (ap texts_of frames ∙ map-append (λ (f : Bor (List ℕ)). f.now) old.frames.items (frame ∷ []));
     }
@@ -187,7 +187,7 @@ next_frame frames rest shared i is lt within =
     ap (λ n. take n (texts_of frames)) next
     ∙ take_more (texts_of frames) (shared + i) [] (omega (arith, inside, long))
     ∙ ap (λ name. take (shared + i) (texts_of frames) ++ name ∷ []) (shown_at frames (shared + i) no_text
-      ∙ ap (λ (frame : Bor (List ℕ)). frame.now) (sym (ap (λ fs. get_or fs i no_text) is ∙ get_or-take (length frames - shared) (drop shared frames) i no_text (omega (arith, inside, within)) ∙ get_or-drop shared frames i no_text)))
+    ∙ ap (λ (frame : Bor (List ℕ)). frame.now) (sym (ap (λ fs. get_or fs i no_text) is ∙ get_or-take (length frames - shared) (drop shared frames) i no_text (omega (arith, inside, within)) ∙ get_or-drop shared frames i no_text)))
 
 pub all_frames : (frames rest : List (Bor (List ℕ))) (shared i : ℕ) → rest ≡ take (length frames - shared) (drop shared frames) → length rest ≤ i → shared ≤ length frames → take (shared + i) (texts_of frames) ≡ texts_of frames
 all_frames frames rest shared i is end within =
@@ -205,7 +205,7 @@ last_of (first ∷ number ∷ numbers) =
     let before : length (number ∷ numbers) - 1 ≡ length numbers = omega arith in
     subst (λ k. MatchOption (slice_get all k) (all ≡ []) (λ n. (before : List ℕ) × (all ≡ before ++ n ∷ []))) (sym end)
     (elim (slice_get (number ∷ numbers) (length numbers)) as (λ last. MatchOption last (number ∷ numbers ≡ []) (λ n. (before : List ℕ) × (number ∷ numbers ≡ before ++ n ∷ []))
-      → MatchOption last (all ≡ []) (λ n. (before : List ℕ) × (all ≡ before ++ n ∷ []))) [
+    → MatchOption last (all ≡ []) (λ n. (before : List ℕ) × (all ≡ before ++ n ∷ []))) [
       | None ↦ λ none. absurd (let long = ap length none in omega (arith, long))
       | Some n ↦ λ found. (first ∷ found.0, ap (λ ns. first ∷ ns) found.1)
     ] (subst (λ k. MatchOption (slice_get (number ∷ numbers) k) (number ∷ numbers ≡ []) (λ n. (before : List ℕ) × (number ∷ numbers ≡ before ++ n ∷ []))) before (last_of (number ∷ numbers))))

@@ -242,16 +242,16 @@ pub counted-leaf : (rows : List WeightedStack) (row : WeightedStack) (names : Li
     → new.names.items ≡ set mid leaf (leaf_counted (tally_at mid leaf) row.weight) → length new.names.items ≡ length mid → AreTalliesOf (rows ++ row ∷ []) names new
 counted-leaf rows row names numbers leaf old new mid are this some total many counted written long =
     AreTalliesOf-counted rows row names old new this.named are total (long ∙ many) (λ q.
-      changed_at mid new.names.items leaf (place_in names q) (λ t. leaf_counted t row.weight) (let low = this.last.0 in let all = are.many in omega (arith, low, all, many)) written
-      ∙ ap (λ t. cond (eqb leaf (place_in names q)) (leaf_counted t row.weight) t) (counted (place_in names q))
-      ∙ row_counted-leaf row names numbers leaf (old.total + row.weight) q (tally_of names old.names.items q) are.single this (fresh rows names old row.weight q some are))
+    changed_at mid new.names.items leaf (place_in names q) (λ t. leaf_counted t row.weight) (let low = this.last.0 in let all = are.many in omega (arith, low, all, many)) written
+    ∙ ap (λ t. cond (eqb leaf (place_in names q)) (leaf_counted t row.weight) t) (counted (place_in names q))
+    ∙ row_counted-leaf row names numbers leaf (old.total + row.weight) q (tally_of names old.names.items q) are.single this (fresh rows names old row.weight q some are))
 
 pub counted-none : (rows : List WeightedStack) (row : WeightedStack) (names : List (List ℕ)) (numbers : List ℕ) (old new : Tallies) → AreTalliesOf rows names old
     → IsNumberedStack names row.stack numbers None → new.total ≡ old.total + row.weight → length new.names.items ≡ length old.names.items
     → ((q : ℕ) → tally_at new.names.items q ≡ numbers_counted numbers (old.total + row.weight) row.weight q (tally_at old.names.items q)) → AreTalliesOf (rows ++ row ∷ []) names new
 counted-none rows row names numbers old new are this total many counted =
     AreTalliesOf-counted rows row names old new this.named are total many (λ q.
-      counted (place_in names q) ∙ row_counted-none row names numbers (old.total + row.weight) q (tally_of names old.names.items q) are.single this)
+    counted (place_in names q) ∙ row_counted-none row names numbers (old.total + row.weight) q (tally_of names old.names.items q) are.single this)
 
 -- a row without weight leaves what each name weighs
 pub counted-weightless : (rows : List WeightedStack) (row : WeightedStack) (names : List (List ℕ)) (old new : Tallies) → AreTalliesOf rows names old → row.weight ≡ 0

@@ -167,7 +167,7 @@ pub weighty_more : (names : List (List ℕ)) (tallies : List Tally) (number : �
 weighty_more names tallies number name tally old new same lt name_is tally_is some so_far pushed =
     pushed ∙ ap (λ list. list ++ entry_shown (name, tally) ∷ []) so_far
     ∙ ap (λ list. weighted_in (take number (zip names tallies)) ++ list) (sym (ap (λ b. cond b (entry_shown (name, tally) ∷ []) []) (lt-ltb 0 tally.cumulative some))
-      ∙ ap (λ n. weighted_in ((n, tally) ∷ [])) name_is ∙ ap (λ t. weighted_in ((slice_index_or names number [], t) ∷ [])) tally_is)
+    ∙ ap (λ n. weighted_in ((n, tally) ∷ [])) name_is ∙ ap (λ t. weighted_in ((slice_index_or names number [], t) ∷ [])) tally_is)
     ∙ sym (next_weighted names tallies number same lt)
 
 -- one that weighs nothing
@@ -178,5 +178,5 @@ weightless_more names tallies number tally list same lt tally_is none so_far =
     let nothing : tally.cumulative ≡ 0 = omega (arith, none) in
     so_far ∙ sym (append-nil (weighted_in (take number (zip names tallies))))
     ∙ ap (λ list. weighted_in (take number (zip names tallies)) ++ list) (sym (ap (λ n. cond (nat_lt 0 n) (entry_shown (name, tally) ∷ []) []) nothing)
-      ∙ ap (λ t. weighted_in ((name, t) ∷ [])) tally_is)
+    ∙ ap (λ t. weighted_in ((name, t) ∷ [])) tally_is)
     ∙ sym (next_weighted names tallies number same lt)

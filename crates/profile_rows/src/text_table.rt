@@ -25,8 +25,8 @@ impl<'a> Model for TextTable<'a> {
     ghost Value = { NumberedTexts };
 
     ghost view = { λ table. record {
-        texts = map (λ text. text.now) table.texts.items;
-        hashing = hasher_of table.places;
+      texts = map (λ text. text.now) table.texts.items;
+      hashing = hasher_of table.places;
     } };
 
     ghost invariant = { λ table. AreTextPlaces (map (λ text. text.now) table.texts.items) table.places };

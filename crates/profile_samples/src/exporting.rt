@@ -29,7 +29,7 @@ pub(crate) fn with_names<'a>(
     mut table: TextTable<'a>,
     names: &'a [Name],
 ) -> Result<TextTable<'a>, NoMemory>
-    ensures texts { IfOk result (λ more. more ≡ with_texts table.entry names.now) }
+    ensures texts { IfOk result (λ more. more.texts ≡ with_texts table.entry.texts names.now) }
     ensures each { OnOk result (All IsName names.now) }
 {
     for name in names {
@@ -44,7 +44,7 @@ fn names_of<'a>(
     hashing: Hashing,
     rows: &'a [WeightedStack],
 ) -> Result<TextTable<'a>, NoMemory>
-    ensures texts { IfOk result (λ names. names ≡ with_texts [] (flat_map (λ row. row.stack) rows.now)) }
+    ensures texts { IfOk result (λ names. names.texts ≡ with_texts [] (flat_map (λ row. row.stack) rows.now)) }
     ensures each { OnOk result (All (λ row. All IsName row.stack × (length row.stack ≤ 65535)) rows.now) }
 {
     let mut names = TextTable::new(alloc, hashing);
@@ -59,7 +59,7 @@ fn with_units<'a>(
     mut table: TextTable<'a>,
     units: &[ValueUnit<'a>],
 ) -> Result<TextTable<'a>, NoMemory>
-    ensures { IfOk result (λ more. more ≡ with_texts table.entry (unit_texts (pairs_of units.now))) }
+    ensures { IfOk result (λ more. more.texts ≡ with_texts table.entry.texts (unit_texts (pairs_of units.now))) }
 {
     for unit in units {
         table = table.with(unit.kind)?.with(unit.unit)?;
@@ -74,7 +74,7 @@ fn strings_of<'a>(
     units: &[ValueUnit<'a>],
     names: &TextTable<'a>,
 ) -> Result<TextTable<'a>, NoMemory>
-    ensures { IfOk result (λ strings. strings ≡ strings_of (pairs_of units.now) names.now) }
+    ensures { IfOk result (λ strings. strings.texts ≡ strings_of (pairs_of units.now) names.now.texts) }
 {
     let mut strings = with_units(TextTable::new(alloc, hashing).with("")?, units)?;
     for name in names.texts() {
@@ -85,7 +85,7 @@ fn strings_of<'a>(
 
 /// The id of a name's function and of its location.
 fn id_in(names: &TextTable, name: &str) -> u64
-    ensures { result ≡ id_in names.now name.now }
+    ensures { result ≡ id_in names.now.texts name.now }
 {
     names.place_of(name) as u64 + 1
 }
@@ -96,7 +96,8 @@ fn functions_of(
     names: &TextTable,
     strings: &TextTable,
 ) -> Result<Items<Function>, NoMemory>
-    ensures { IfOk result (λ functions. functions ≡ map (exported_function names.now strings.now) names.now) }
+    ensures { IfOk result (λ functions. functions
+        ≡ map (exported_function names.now.texts strings.now.texts) names.now.texts) }
 {
     let mut functions = Vec::with_capacity(alloc, names.texts().len())?;
     for name in names.texts() {
@@ -113,7 +114,7 @@ fn functions_of(
 
 /// The locations of the names.
 fn locations_of(alloc: Global, names: &TextTable) -> Result<Items<Location>, NoMemory>
-    ensures { IfOk result (λ locations. locations ≡ map (exported_location names.now) names.now) }
+    ensures { IfOk result (λ locations. locations ≡ map (exported_location names.now.texts) names.now.texts) }
 {
     let mut locations = Vec::with_capacity(alloc, names.texts().len())?;
     for name in names.texts() {
@@ -135,7 +136,7 @@ fn locations_of(alloc: Global, names: &TextTable) -> Result<Items<Location>, NoM
 
 /// The ids of a stack's locations, leaf first.
 fn location_ids(alloc: Global, names: &TextTable, stack: &[Name]) -> Result<Items<u64>, NoMemory>
-    ensures { IfOk result (λ ids. ids ≡ reverse (map (id_in names.now) stack.now)) }
+    ensures { IfOk result (λ ids. ids ≡ reverse (map (id_in names.now.texts) stack.now)) }
 {
     let mut ids = Vec::with_capacity(alloc, stack.len())?;
     for name in stack {
@@ -166,7 +167,7 @@ fn sample_of(
 ) -> Result<Sample, NoMemory>
     requires { All (λ weight. weight < 2 ^ 63) weights.now }
     ensures { IfOk result (λ sample. sample
-        ≡ exported_sample names.now (record { stack = stack.now; weights = weights.now })) }
+        ≡ exported_sample names.now.texts (record { stack = stack.now; weights = weights.now })) }
 {
     Ok(Sample {
         location_ids: location_ids(alloc, names, stack.names())?,
@@ -177,7 +178,7 @@ fn sample_of(
 
 /// The samples of a batch.
 fn samples_of(alloc: Global, names: &TextTable, batch: &Batch) -> Result<Items<Sample>, NoMemory>
-    ensures { IfOk result (λ samples. samples ≡ map (exported_sample names.now) batch.now.rows) }
+    ensures { IfOk result (λ samples. samples ≡ map (exported_sample names.now.texts) batch.now.rows) }
 {
     let count = batch.first().rows().len();
     let mut samples = Vec::with_capacity(alloc, count)?;
@@ -194,7 +195,7 @@ fn types_of(
     strings: &TextTable,
     units: &[ValueUnit],
 ) -> Result<Items<ValueType>, NoMemory>
-    ensures { IfOk result (λ types. types ≡ map (exported_type strings.now) (pairs_of units.now)) }
+    ensures { IfOk result (λ types. types ≡ map (exported_type strings.now.texts) (pairs_of units.now)) }
 {
     let mut types = Vec::with_capacity(alloc, units.len())?;
     for unit in units {
@@ -208,7 +209,7 @@ fn types_of(
 
 /// Copies of the texts.
 fn copies_of(alloc: Global, texts: &TextTable) -> Result<Items<Text>, NoMemory>
-    ensures { IfOk result (λ copies. copies ≡ texts.now) }
+    ensures { IfOk result (λ copies. copies ≡ texts.now.texts) }
 {
     let mut copies = Vec::with_capacity(alloc, texts.texts().len())?;
     for text in texts.texts() {
@@ -225,7 +226,7 @@ fn draft_of(
     strings: &TextTable,
     sample_types: Items<ValueType>,
 ) -> Result<Draft, NoMemory>
-    ensures { IfOk result (λ draft. draft ≡ draft_with names.now strings.now samples sample_types) }
+    ensures { IfOk result (λ draft. draft ≡ draft_with names.now.texts strings.now.texts samples sample_types) }
 {
     Ok(Draft {
         sample_types,
@@ -253,7 +254,7 @@ pub(crate) fn exported_draft(
     names: &TextTable,
     units: &[ValueUnit],
 ) -> Result<Draft, NoMemory>
-    ensures { IfOk result (λ draft. draft ≡ exported_draft names.now samples (pairs_of units.now)) }
+    ensures { IfOk result (λ draft. draft ≡ exported_draft names.now.texts samples (pairs_of units.now)) }
 {
     let strings = strings_of(alloc, hashing, units, names)?;
     let sample_types = types_of(alloc, &strings, units)?;

@@ -33,9 +33,9 @@ fn replace_ids<'a>(
     ids: &mut Vec<u64>,
     frames: &[&'a str],
 ) -> Result<(), NoMemory>
-    ensures names { OnOk result (names.new ≡ with_texts names.old (map (λ frame. frame.now) frames.now)) }
+    ensures names { OnOk result (names.new.texts ≡ with_texts names.old.texts (map (λ frame. frame.now) frames.now)) }
     ensures ids { OnOk result
-        (ids.new.items ≡ reverse (map (id_in names.new) (map (λ frame. frame.now) frames.now))) }
+        (ids.new.items ≡ reverse (map (id_in names.new.texts) (map (λ frame. frame.now) frames.now))) }
 {
     ids.clear();
     for frame in frames {
@@ -48,10 +48,10 @@ fn replace_ids<'a>(
 /// Adds the row of the frames in the buffer, which fits.
 fn push_row(rows: &mut SampledRows, weight: u64) -> Result<(), NoMemory>
     requires fits { rows.old.total + weight < 2 ^ 63 }
-    ensures { (before : List WeightedStack) → AreSamplesOf before rows.old.names rows.old.samples rows.old.total
+    ensures { (before : List WeightedStack) → AreSamplesOf before rows.old.names.texts rows.old.samples rows.old.total
         → OnOk result (AreSamplesOf
         (before ++ (record { stack = map (λ frame. frame.now) rows.old.frames.items; weight = weight }) ∷ [])
-        rows.new.names rows.new.samples rows.new.total) }
+        rows.new.names.texts rows.new.samples rows.new.total) }
 {
     replace_ids(&mut rows.names, &mut rows.ids, rows.frames.as_slice())?;
     rows.samples.push(rows.ids.as_slice(), &[weight as i64])?;
@@ -60,7 +60,7 @@ fn push_row(rows: &mut SampledRows, weight: u64) -> Result<(), NoMemory>
 }
 
 impl<'a> LineTaker<'a> for SampledRows<'a> {
-    ghost is_of = { λ sampled rows. AreSamplesOf rows sampled.names sampled.samples sampled.total };
+    ghost is_of = { λ sampled rows. AreSamplesOf rows sampled.names.texts sampled.samples sampled.total };
 
     fn take_line(&mut self, line: &'a [u8], number: u64) -> Result<(), FoldedFault> {
         let weight = read_frames(&mut self.frames, line, self.total, number)?;
@@ -76,9 +76,9 @@ fn profile_bytes(
     kind: &str,
     unit: &str,
 ) -> Result<Vec<u8>, NoMemory>
-    ensures canonical { (all : List WeightedStack) → AreSamplesOf all rows.now.names rows.now.samples rows.now.total
+    ensures canonical { (all : List WeightedStack) → AreSamplesOf all rows.now.names.texts rows.now.samples rows.now.total
         → IfOk result (λ bytes. bytes.items ≡ canonical_bytes_of (single_profile_of all kind.now unit.now)) }
-    ensures profile { (all : List WeightedStack) → AreSamplesOf all rows.now.names rows.now.samples rows.now.total
+    ensures profile { (all : List WeightedStack) → AreSamplesOf all rows.now.names.texts rows.now.samples rows.now.total
         → IfOk result (λ bytes. IsProfile bytes.items (single_profile_of all kind.now unit.now)) }
 {
     let units = [ValueUnit { kind, unit }];

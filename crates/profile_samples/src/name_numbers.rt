@@ -80,7 +80,7 @@ fn with_given<'a>(
     mut table: TextTable<'a>,
     names: &'a [StringName],
 ) -> Result<TextTable<'a>, NoMemory>
-    ensures texts { IfOk result (λ more. more ≡ with_texts table.entry (given (map name_in names.now))) }
+    ensures texts { IfOk result (λ more. more.texts ≡ with_texts table.entry.texts (given (map name_in names.now))) }
     ensures each { OnOk result (All IsName (given (map name_in names.now))) }
 {
     for name in names {
@@ -98,7 +98,7 @@ fn given_places(
     names: &[StringName],
 ) -> Result<Vec<Option<usize>>, AllocError>
     ensures { IfOk result
-        (λ places. places.items ≡ map (option_map (place_in table.now)) (map name_in names.now)) }
+        (λ places. places.items ≡ map (option_map (place_in table.now.texts)) (map name_in names.now)) }
 {
     let mut places = Vec::with_capacity(alloc, names.len())?;
     for name in names {
@@ -113,7 +113,7 @@ fn given_places(
 
 /// The places of names.
 fn places_of(alloc: Global, table: &TextTable, names: &[Name]) -> Result<Vec<usize>, AllocError>
-    ensures { IfOk result (λ places. places.items ≡ map (place_in table.now) names.now) }
+    ensures { IfOk result (λ places. places.items ≡ map (place_in table.now.texts) names.now) }
 {
     let mut places = Vec::with_capacity(alloc, names.len())?;
     for name in names {
@@ -236,7 +236,8 @@ impl<'a> Model for NumberedFrames<'a> {
     ghost view = { λ numbered. numbered.draft.now };
 
     ghost invariant = { λ numbered.
-        AreFrameNumbers numbered.draft.now numbered.places numbered.frames.items numbered.deepest numbered.names };
+        AreFrameNumbers numbered.draft.now numbered.places numbered.frames.items numbered.deepest
+        numbered.names.texts };
 }
 
 impl<'a> NumberedFrames<'a> {

@@ -8,7 +8,7 @@ use Rattle.folded_text.proofs.Counting.{AreTotalsOf-merged, only_totals}
 use Rattle.folded_text.proofs.text_totals.folded_totals.Goals as goal
 
 pub take_lines-requires : goal.take_lines-requires
-take_lines-requires c = λ k. ((refl, tt), ([], AreMergedSoFar-none [] refl, (sym (ap spelled_rows c.new-waiting.ensures.none), c.new-waiting.ensures.known, c.new-counted.ensures)))
+take_lines-requires c = λ k. ((refl, tt), ([], AreMergedSoFar-none [] refl, (sym (ap spelled_rows c.new-waiting.ensures.none), c.new-waiting.ensures.known, c.new-counted.ensures.counted)))
 
 pub count_waiting-requires : goal.count_waiting-requires
 count_waiting-requires c = let (rows, read, (merged, same, counted)) = c.in_ok-take_lines.ensures.taken in (merged, counted)

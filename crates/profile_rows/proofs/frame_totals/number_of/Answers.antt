@@ -14,8 +14,8 @@ pub returns-else-number-len-clause-tallies : goal.returns-else-number-len-clause
 returns-else-number-len-clause-tallies c = λ rows are.
     let other : c.in_ok-number.number ≡ length c.args.tallies.now.names.items → ⊥ = search rules in
     let most : c.in_ok-number.number ≤ length c.args.names.now.texts =
-        let le = place_in-le c.args.names.now.texts c.args.name.now in
-        let same = place_in-with c.args.names.now.texts c.args.name.now in
-        let place = c.in_ok-number.ensures.place in
-        omega (arith, le, same, place) in
+    let le = place_in-le c.args.names.now.texts c.args.name.now in
+    let same = place_in-with c.args.names.now.texts c.args.name.now in
+    let place = c.in_ok-number.ensures.place in
+    omega (arith, le, same, place) in
     named-known rows c.args.names.now.texts c.place_with.new.self.texts c.args.tallies.now c.args.name.now c.in_ok-number.number c.in_ok-number.ensures.texts c.in_ok-number.ensures.place other most are

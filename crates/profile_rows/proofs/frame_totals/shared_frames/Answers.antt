@@ -19,7 +19,7 @@ pub loop-at-preserved : goal.loop-at-preserved
 loop-at-preserved c =
     let at = c.loop-at.at in
     let same : (get_or c.args.before.now at no_text).now ≡ (get_or c.args.frames.now at no_text).now =
-        same_from_is_same_name _ _ (not-false _ (sym c.if-ne.ensures)) in
+    same_from_is_same_name _ _ (not-false _ (sym c.if-ne.ensures)) in
     record {
       inside = let lt = c.if-at-frames.false in omega (arith, lt);
       same = more c.args.before.now at c.loop-at-test.true ∙ ap (λ text. take at (map (λ (text : Bor (List ℕ)). text.now) c.args.before.now) ++ text ∷ []) same

@@ -26,7 +26,7 @@ totals_by-requires-clause-uncounted c =
     let names = c.names-2.result.now in
     let profile = c.args.profile.now in
     let many : length (frame_names profile) ≡ length names =
-        ap length (sym (c.names-2.ensures.names ∙ ap frame_names c.in_ok-frames.ensures)) ∙ length-map names (λ (name : Bor (List ℕ)). name.now) in
+    ap length (sym (c.names-2.ensures.names ∙ ap frame_names c.in_ok-frames.ensures)) ∙ length-map names (λ (name : Bor (List ℕ)). name.now) in
     c.in_ok-tallies.ensures (frame_names profile) (frame_names-single profile) many
 
 pub returns-clause-read : goal.returns-clause-read

@@ -22,7 +22,7 @@ returns-in-Ok c =
     ∙ ap (λ some. with_texts [] (flat_map (λ (row : WeightedStack). row.stack) some)) first ∙ ap (with_texts []) (stacks_first rows) in
     let made =
     c.in-Ok.ensures.valid.0 ∙ c.in_ok-draft.ensures
-    ∙ ap (λ samples. exported_draft c.in_ok-names.names samples units) c.in_ok-samples.ensures
+    ∙ ap (λ samples. exported_draft c.in_ok-names.names.texts samples units) c.in_ok-samples.ensures
     ∙ ap (λ names. profile_with names (strings_of units names) rows units) names in
     let each = subst (All (λ (row : WeightedStack). All IsName row.stack × (length row.stack ≤ 65535))) first c.in_ok-names.ensures.each in
     let is = c.first.ensures.batch in

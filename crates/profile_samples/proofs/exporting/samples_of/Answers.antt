@@ -23,7 +23,7 @@ sample_of-requires c =
 pub loop-at-preserved : goal.loop-at-preserved
 loop-at-preserved c =
     let rows = c.args.batch.now.rows in
-    let sample = exported_sample c.args.names.now in
+    let sample = exported_sample c.args.names.now.texts in
     let before = take c.loop-at.at rows in
     let made : c.in_ok-sample_of.field-0 ≡ sample (row_in rows c.loop-at.at) =
     c.in_ok-sample_of.ensures ∙ (λ i. sample (record { stack = c.row-row.ensures.stack i; weights = c.row-row.ensures.weights i })) in

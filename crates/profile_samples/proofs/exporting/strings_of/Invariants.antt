@@ -4,4 +4,4 @@ use Rattle.profile_samples.proofs.exporting.strings_of.Given as goal
 
 -- the strings with the names so far
 abbrev pub invariant-loop-name : goal.invariant-loop-name
-invariant-loop-name l = l.strings ≡ with_texts l.initial.strings (take l.name-index l.fn.names)
+invariant-loop-name l = l.strings.texts ≡ with_texts l.initial.strings.texts (take l.name-index l.fn.names.texts)

@@ -11,7 +11,7 @@ use Rattle.folded_text.proofs.Reading.{IsFoldedText-same}
 use Rattle.profile_samples.proofs.folded_export.export_folded.Goals as goal
 
 pub take_lines-requires : goal.take_lines-requires
-take_lines-requires c = λ k. ((refl, tt), AreSamplesOf-none c.new.result c.new-2.result c.new.ensures c.new-2.ensures)
+take_lines-requires c = λ k. ((refl, tt), AreSamplesOf-none c.new.result.texts c.new-2.result c.new.ensures.texts c.new-2.ensures)
 
 pub returns-in_err-take_lines-clause-exported : goal.returns-in_err-take_lines-clause-exported
 returns-in_err-take_lines-clause-exported c =

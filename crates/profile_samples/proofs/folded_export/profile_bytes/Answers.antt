@@ -9,7 +9,7 @@ use Rattle.profile_samples.proofs.folded_export.profile_bytes.Goals as goal
 
 pub returns-clause-profile : goal.returns-clause-profile
 returns-clause-profile c = λ all so_far.
-    let names = c.args.rows.now.names in
+    let names = c.args.rows.now.names.texts in
     let kind = c.args.kind.now in
     let unit = c.args.unit.now in
     let rows = singles all in

@@ -28,10 +28,10 @@ loop-frame-preserved c =
     let more = more_texts frames i c.loop-frame-test.true in
     let text = text_of (slice_index_or frames i none) in
     record {
-      names = next_with c.args.names.now c.loop-frame.names c.place_with.new.self seen all text
+      names = next_with c.args.names.now.texts c.loop-frame.names.texts c.place_with.new.self.texts seen all text
           c.in_ok-place_with.ensures.texts c.loop-frame.invariant.names more;
       ids = c.in_ok-push.ensures.items
           ∙ ap (λ ids. ids ++ (c.in_ok-place_with.field-0 + 1) ∷ []) c.loop-frame.invariant.ids
-          ∙ ids_with c.args.names.now c.loop-frame.names c.place_with.new.self seen all text
+          ∙ ids_with c.args.names.now.texts c.loop-frame.names.texts c.place_with.new.self.texts seen all text
           c.in_ok-place_with.field-0 c.in_ok-place_with.ensures.place c.in_ok-place_with.ensures.texts c.loop-frame.invariant.names more;
     }

@@ -4,4 +4,4 @@ use Rattle.profile_samples.proofs.name_numbers.places_of.Given as goal
 
 -- the places so far
 abbrev pub invariant-loop-name : goal.invariant-loop-name
-invariant-loop-name l = l.places.items ≡ map (place_in l.fn.table) (take l.name-index l.names)
+invariant-loop-name l = l.places.items ≡ map (place_in l.fn.table.texts) (take l.name-index l.names)

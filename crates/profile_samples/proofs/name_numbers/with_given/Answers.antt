@@ -4,7 +4,7 @@ use Rattle.std.proofs.lemmas.List.{map-append, take_all, take_more}
 use Rattle.std.proofs.lemmas.List.Elements.{All-push}
 use Rattle.profile_rows.specs.Names.{IsName}
 use Rattle.profile_samples.specs.declared.string_names.StringName.{StringName}
-use Rattle.profile_rows.specs.TextTables.{with_text, with_texts}
+use Rattle.profile_rows.specs.TextTables.{NumberedTexts, with_text, with_texts}
 use Rattle.profile_samples.specs.NameNumbers.{given, name_in}
 use Rattle.profile_samples.proofs.FrameNumbers.{given-push}
 use Rattle.profile_rows.proofs.TextPlaces.{with_texts-append}
@@ -45,11 +45,11 @@ loop-name-preserved c =
     let taken = take_more names c.loop-name.name-index c.name-item.result c.loop-name-test.true ∙ ap (λ n. take c.loop-name.name-index names ++ n ∷ []) (sym c.name-item.is) in
     elim c.match-text.branch [
       | in-Some+in_ok-table w ↦
-          more c.args.table c.loop-name.table c.match-text.table before after w.in-Some.text.now c.loop-name.invariant
+          more c.args.table.texts c.loop-name.table.texts c.match-text.table.texts before after w.in-Some.text.now c.loop-name.invariant
           (next_name names name c.loop-name.name-index (Some w.in-Some.text.now) taken w.in-Some.ensures.text)
-          (w.table-is ∙ w.in_ok-table.ensures) w.in-Some.ensures.name
-      | in_default w ↦ subst (λ table. IsSoFar c.args.table table after) (sym w.table-is)
-          (same c.args.table c.loop-name.table before after c.loop-name.invariant (next_name names name c.loop-name.name-index None taken w.in_default.ensures.text))
+          (ap (λ (table : NumberedTexts). table.texts) w.table-is ∙ w.in_ok-table.ensures) w.in-Some.ensures.name
+      | in_default w ↦ subst (λ table. IsSoFar c.args.table.texts table.texts after) (sym w.table-is)
+          (same c.args.table.texts c.loop-name.table.texts before after c.loop-name.invariant (next_name names name c.loop-name.name-index None taken w.in_default.ensures.text))
     ]
 
 pub returns-clause-each : goal.returns-clause-each

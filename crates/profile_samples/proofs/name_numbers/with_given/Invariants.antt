@@ -7,5 +7,5 @@ use Rattle.profile_samples.proofs.name_numbers.with_given.Given as goal
 -- the names so far are in the table
 abbrev pub invariant-loop-name : goal.invariant-loop-name
 invariant-loop-name l =
-    (l.table ≡ with_texts l.initial.table (given (map name_in (take l.name-index l.fn.names))))
+    (l.table.texts ≡ with_texts l.initial.table.texts (given (map name_in (take l.name-index l.fn.names))))
     × All IsName (given (map name_in (take l.name-index l.fn.names)))

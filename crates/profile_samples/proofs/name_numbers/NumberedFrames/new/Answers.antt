@@ -26,8 +26,8 @@ new-requires-2-clause-strings c =
     let names = c.names.view_is ∙ c.requires in
     let strings : map name_in c.names.inside.strings.items ≡ string_names draft = ap (λ (p : Names). p.0) names ∙ ap string_names (sym c.draft-draft.ensures.draft) in
     let addresses : c.names.inside.addresses.items ≡ address_names draft = ap (λ (p : Names). p.1) names ∙ ap address_names (sym c.draft-draft.ensures.draft) in
-    let front = c.in_ok-table.ensures.texts ∙ ap (λ t. with_texts t (given (map name_in c.as_slice.result.now))) c.new.ensures ∙ ap (λ s. with_texts [] (given s)) (ap (map name_in) c.as_slice.ensures.value ∙ strings) in
-    let table : c.in_ok-table-2.table ≡ frame_names draft =
+    let front = c.in_ok-table.ensures.texts ∙ ap (λ t. with_texts t (given (map name_in c.as_slice.result.now))) c.new.ensures.texts ∙ ap (λ s. with_texts [] (given s)) (ap (map name_in) c.as_slice.ensures.value ∙ strings) in
+    let table : c.in_ok-table-2.table.texts ≡ frame_names draft =
     c.in_ok-table-2.ensures.texts ∙ ap (λ t. with_texts t c.as_slice-2.result.now) front ∙ ap (with_texts (with_texts [] (given (string_names draft)))) (c.as_slice-2.ensures.value ∙ addresses) in
     c.as_slice-5.ensures.value ∙ c.in_ok-strings.ensures ∙ ap (λ t. map (option_map (place_in t)) (map name_in c.as_slice-3.result.now)) table
     ∙ ap (map (option_map (number_of draft))) (ap (map name_in) c.as_slice-3.ensures.value ∙ strings)
@@ -38,8 +38,8 @@ all_frames-requires-clause-addresses c =
     let names = c.names.view_is ∙ c.requires in
     let strings : map name_in c.names.inside.strings.items ≡ string_names draft = ap (λ (p : Names). p.0) names ∙ ap string_names (sym c.draft-draft.ensures.draft) in
     let addresses : c.names.inside.addresses.items ≡ address_names draft = ap (λ (p : Names). p.1) names ∙ ap address_names (sym c.draft-draft.ensures.draft) in
-    let front = c.in_ok-table.ensures.texts ∙ ap (λ t. with_texts t (given (map name_in c.as_slice.result.now))) c.new.ensures ∙ ap (λ s. with_texts [] (given s)) (ap (map name_in) c.as_slice.ensures.value ∙ strings) in
-    let table : c.in_ok-table-2.table ≡ frame_names draft =
+    let front = c.in_ok-table.ensures.texts ∙ ap (λ t. with_texts t (given (map name_in c.as_slice.result.now))) c.new.ensures.texts ∙ ap (λ s. with_texts [] (given s)) (ap (map name_in) c.as_slice.ensures.value ∙ strings) in
+    let table : c.in_ok-table-2.table.texts ≡ frame_names draft =
     c.in_ok-table-2.ensures.texts ∙ ap (λ t. with_texts t c.as_slice-2.result.now) front ∙ ap (with_texts (with_texts [] (given (string_names draft)))) (c.as_slice-2.ensures.value ∙ addresses) in
     c.as_slice-6.ensures.value ∙ c.in_ok-addresses.ensures ∙ ap (λ t. map (place_in t) c.as_slice-4.result.now) table
     ∙ ap (map (number_of draft)) (c.as_slice-4.ensures.value ∙ addresses)
@@ -59,8 +59,8 @@ invariant_of-result c =
     let names = c.names.view_is ∙ c.requires in
     let strings : map name_in c.names.inside.strings.items ≡ string_names draft = ap (λ (p : Names). p.0) names ∙ ap string_names (sym c.draft-draft.ensures.draft) in
     let addresses : c.names.inside.addresses.items ≡ address_names draft = ap (λ (p : Names). p.1) names ∙ ap address_names (sym c.draft-draft.ensures.draft) in
-    let front = c.in_ok-table.ensures.texts ∙ ap (λ t. with_texts t (given (map name_in c.as_slice.result.now))) c.new.ensures ∙ ap (λ s. with_texts [] (given s)) (ap (map name_in) c.as_slice.ensures.value ∙ strings) in
-    let table : c.in_ok-table-2.table ≡ frame_names draft =
+    let front = c.in_ok-table.ensures.texts ∙ ap (λ t. with_texts t (given (map name_in c.as_slice.result.now))) c.new.ensures.texts ∙ ap (λ s. with_texts [] (given s)) (ap (map name_in) c.as_slice.ensures.value ∙ strings) in
+    let table : c.in_ok-table-2.table.texts ≡ frame_names draft =
     c.in_ok-table-2.ensures.texts ∙ ap (λ t. with_texts t c.as_slice-2.result.now) front ∙ ap (with_texts (with_texts [] (given (string_names draft)))) (c.as_slice-2.ensures.value ∙ addresses) in
     let ids : c.in_ok-places.places ≡ location_ids draft = search rules in
     let valid : IsValidDraft draft = subst IsValidDraft (sym c.draft-draft.ensures.draft) c.draft-draft.ensures.valid in

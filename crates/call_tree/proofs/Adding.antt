@@ -13,7 +13,8 @@ use Rattle.call_tree.proofs.Trees.{nodes_at-tree, seen_plain}
 use Rattle.call_tree.proofs.Shapes.{length-node_rows}
 use Rattle.call_tree.proofs.Planned.{IsCredited-start, IsCredited-step, credit_within}
 
-pub record AreAdded (names : List (List ℕ)) (before now : List (List Node)) (value : ℕ) (rows : List Row) (count : ℕ) : Type 0 where
+pub record AreAdded
+    (names : List (List ℕ)) (before now : List (List Node)) (value : ℕ) (rows : List Row) (count : ℕ) : Type 0 where
   pub trees : AreTrees names now
   pub width : length now ≡ length before
   pub done : IsCredited (plain_of names before value) (plain_of names now value) (take count (rows_at value rows))
@@ -21,15 +22,18 @@ pub record AreAdded (names : List (List ℕ)) (before now : List (List Node)) (v
 
 -- ---- the values so far
 
-pub record AreAddedTo (names : List (List ℕ)) (before now : List (List Node)) (rows : List Row) (count : ℕ) : Type 0 where
+pub record AreAddedTo
+    (names : List (List ℕ)) (before now : List (List Node)) (rows : List Row) (count : ℕ) : Type 0 where
   pub trees : AreTrees names now
   pub width : length now ≡ length before
   pub credited : AreCredited (tree_of names before) (tree_of names now) rows count
 
-plain_is : (names : List (List ℕ)) (all : List (List Node)) (value : ℕ) → plain_of names all value ≡ plain_at (tree_of names all) value
+plain_is : (names : List (List ℕ)) (all : List (List Node)) (value : ℕ)
+    → plain_of names all value ≡ plain_at (tree_of names all) value
 plain_is names all value = seen_plain names all (tree_of names all) value refl
 
-module _ (names : List (List ℕ)) (before now : List (List Node)) (batch : List Row) (value : ℕ) (so_far : AreAddedTo names before now batch value) where
+module _ (names : List (List ℕ)) (before now : List (List Node))
+    (batch : List Row) (value : ℕ) (so_far : AreAddedTo names before now batch value) where
   -- this value's nodes are as they were
   left_is : nodes_at (tree_of names now) value ≡ nodes_at (tree_of names before) value
   left_is = so_far.credited.left value (omega arith)
@@ -37,7 +41,8 @@ module _ (names : List (List ℕ)) (before now : List (List Node)) (batch : List
   still : plain_at (tree_of names before) value ≡ plain_of names now value
   still = (λ i. record { names = names; nodes = sym left_is i }) ∙ sym (plain_is names now value)
 
-  pub places_now : (places : List ℕ) → ArePlaces (plain_at (tree_of names before) value) batch places → ArePlaces (plain_of names now value) batch places
+  pub places_now : (places : List ℕ) → ArePlaces (plain_at (tree_of names before) value) batch places
+      → ArePlaces (plain_of names now value) batch places
   places_now places are = subst (λ (tree : PlainTree). ArePlaces tree batch places) still are
 
   pub total_now : total_of (node_rows names (nodes_of now value)) ≡ total_of (nodes_at (tree_of names before) value)
@@ -45,20 +50,27 @@ module _ (names : List (List ℕ)) (before now : List (List Node)) (batch : List
 
   pub AreAddedTo-step : (next : List (List Node)) → AreTrees names next → length next ≡ length now
       → IsCredited (plain_of names now value) (plain_of names next value) (rows_at value batch)
-      → ((other : ℕ) → (other ≡ value → ⊥) → nodes_of next other ≡ nodes_of now other) → AreAddedTo names before next batch (value + 1)
+      → ((other : ℕ) → (other ≡ value → ⊥) → nodes_of next other ≡ nodes_of now other)
+      → AreAddedTo names before next batch (value + 1)
   AreAddedTo-step next trees width here others = record {
     trees = trees;
     width = width ∙ so_far.width;
-    credited = AreCredited-step (tree_of names before) (tree_of names now) (tree_of names next) batch value so_far.credited width refl
-        (subst (λ (tree : PlainTree). IsCredited tree (plain_at (tree_of names next) value) (rows_at value batch)) (plain_is names now value)
-        (subst (λ (tree : PlainTree). IsCredited (plain_of names now value) tree (rows_at value batch)) (plain_is names next value) here))
-        (λ other ne. nodes_at-tree names next other ∙ ap (node_rows names) (others other ne) ∙ sym (nodes_at-tree names now other));
+    credited = AreCredited-step
+        (tree_of names before) (tree_of names now) (tree_of names next) batch value so_far.credited width refl
+        (subst (λ (tree : PlainTree). IsCredited tree (plain_at (tree_of names next) value) (rows_at value batch))
+        (plain_is names now value)
+        (subst (λ (tree : PlainTree). IsCredited (plain_of names now value) tree (rows_at value batch))
+        (plain_is names next value) here))
+        (λ other ne. nodes_at-tree names next other
+        ∙ ap (node_rows names) (others other ne) ∙ sym (nodes_at-tree names now other));
   }
 
 -- ---- one row of one value, at its node
 
-module _ (names : List (List ℕ)) (before : List (List Node)) (old : TreeState) (old_is : tree_of names before ≡ old) (rows : List Row) (place weight : ℕ)
-    (one : length rows ≡ 1) (places : ArePlaces (plain_at old 0) rows (place ∷ [])) (light : total_of (nodes_at old 0) + total_of (rows_at 0 rows) < 2 ^ 63)
+module _ (names : List (List ℕ)) (before : List (List Node))
+    (old : TreeState) (old_is : tree_of names before ≡ old) (rows : List Row) (place weight : ℕ)
+    (one : length rows ≡ 1) (places : ArePlaces (plain_at old 0) rows (place ∷ []))
+    (light : total_of (nodes_at old 0) + total_of (rows_at 0 rows) < 2 ^ 63)
     (weight_is : weight ≡ value_of 0 (row_in rows 0).weights) where
   abbrev tree : PlainTree
   tree = plain_of names before 0
@@ -77,7 +89,8 @@ module _ (names : List (List ℕ)) (before : List (List Node)) (old : TreeState)
 
   pub row_within : place < length (nodes_of before 0)
   row_within =
-      let within = credit_within tree tree 0 rows (place ∷ []) are fits 0 first_lt (IsCredited-start tree) weight weight_is in
+      let within =
+      credit_within tree tree 0 rows (place ∷ []) are fits 0 first_lt (IsCredited-start tree) weight weight_is in
       omega (arith, within, length-node_rows names (nodes_of before 0))
 
   pub AreCredited-row : (now : List (List Node)) → length now ≡ length before
@@ -85,10 +98,15 @@ module _ (names : List (List ℕ)) (before : List (List Node)) (old : TreeState)
       → ((other : ℕ) → (other ≡ 0 → ⊥) → nodes_of now other ≡ nodes_of before other)
       → AreCredited (tree_of names before) (tree_of names now) rows 1
   AreCredited-row now width here others =
-      let first = IsCredited-step tree tree 0 rows (place ∷ []) are fits 0 first_lt (IsCredited-start tree) weight weight_is (plain_of names now 0) refl here in
-      let all : take 1 (rows_at 0 rows) ≡ rows_at 0 rows = take_all 1 (rows_at 0 rows) (omega (arith, one, length-map rows (weighing 0))) in
+      let first = IsCredited-step tree tree 0 rows
+      (place ∷ []) are fits 0 first_lt (IsCredited-start tree) weight weight_is (plain_of names now 0) refl here in
+      let all : take 1 (rows_at 0 rows) ≡ rows_at 0 rows =
+      take_all 1 (rows_at 0 rows) (omega (arith, one, length-map rows (weighing 0))) in
       let done = subst (IsCredited tree (plain_of names now 0)) all first in
-      AreCredited-step (tree_of names before) (tree_of names before) (tree_of names now) rows 0 (AreCredited-start (tree_of names before) rows) width refl
-      (subst (λ (t : PlainTree). IsCredited t (plain_at (tree_of names now) 0) (rows_at 0 rows)) (plain_is names before 0)
+      AreCredited-step (tree_of names before)
+      (tree_of names before) (tree_of names now) rows 0 (AreCredited-start (tree_of names before) rows) width refl
+      (subst
+      (λ (t : PlainTree). IsCredited t (plain_at (tree_of names now) 0) (rows_at 0 rows)) (plain_is names before 0)
       (subst (λ (t : PlainTree). IsCredited tree t (rows_at 0 rows)) (plain_is names now 0) done))
-      (λ other ne. nodes_at-tree names now other ∙ ap (node_rows names) (others other ne) ∙ sym (nodes_at-tree names before other))
+      (λ other ne. nodes_at-tree names now other
+      ∙ ap (node_rows names) (others other ne) ∙ sym (nodes_at-tree names before other))

@@ -1,5 +1,6 @@
 -- One weight more at one node's row.
-use Rattle.std.proofs.Common.{◌≡◌, ℕ, ◌+◌, ◌<◌, Bool, true, false, cond, List, [], ◌∷◌, length, sym, ap, ◌∙◌, subst, arith, ⊎_elim}
+use Rattle.std.proofs.Common.{◌≡◌, ℕ, ◌+◌, ◌<◌, Bool, true, false, cond, List, [], ◌∷◌, length, sym, ap, ◌∙◌, subst}
+use Rattle.std.proofs.Common.{arith, ⊎_elim}
 use Rattle.std.proofs.lemmas.List.{get_or-set_same, get_or-set_other, length-set}
 use Rattle.std.proofs.lemmas.List.Sums.{sum_by-set}
 use Rattle.std.proofs.lemmas.Bool.{cases_eq}
@@ -12,11 +13,14 @@ use Rattle.call_tree.specs.State.{no_row, node_at, stack_at, credited}
 pub length-credited : (rows : List WeightedStack) (k w : ℕ) → length (credited rows k w) ≡ length rows
 length-credited rows k w = length-set rows k _
 
-pub stack_at-credited : (rows : List WeightedStack) (k w j : ℕ) → k < length rows → stack_at (credited rows k w) j ≡ stack_at rows j
+pub stack_at-credited : (rows : List WeightedStack) (k w j : ℕ)
+    → k < length rows → stack_at (credited rows k w) j ≡ stack_at rows j
 stack_at-credited rows k w j lt =
     ⊎_elim
-    (λ e. subst (λ i. stack_at (credited rows k w) i ≡ stack_at rows i) (sym e) (ap (λ row. row.stack) (get_or-set_same rows k (record { stack = stack_at rows k; weight = (node_at rows k).weight + w }) no_row lt)))
-    (λ ne. ap (λ row. row.stack) (get_or-set_other rows k j (record { stack = stack_at rows k; weight = (node_at rows k).weight + w }) no_row ne))
+    (λ e. subst (λ i. stack_at (credited rows k w) i ≡ stack_at rows i) (sym e) (ap (λ row. row.stack)
+    (get_or-set_same rows k (record { stack = stack_at rows k; weight = (node_at rows k).weight + w }) no_row lt)))
+    (λ ne. ap (λ row. row.stack) (get_or-set_other rows k j
+    (record { stack = stack_at rows k; weight = (node_at rows k).weight + w }) no_row ne))
     (cases_eq j k)
 
 more_if : (b : Bool) (s a w : ℕ) (t : ℕ) → t + cond b a 0 ≡ s + cond b (a + w) 0 → t ≡ s + cond b w 0
@@ -29,13 +33,16 @@ weight_where-credited test rows k w lt =
     more_if (test (stack_at rows k)) _ (node_at rows k).weight w _
     (weight_where-set test rows k (record { stack = stack_at rows k; weight = (node_at rows k).weight + w }) no_row lt)
 
-pub total_of-credited : (rows : List WeightedStack) (k w : ℕ) → k < length rows → total_of (credited rows k w) ≡ total_of rows + w
+pub total_of-credited : (rows : List WeightedStack) (k w : ℕ)
+    → k < length rows → total_of (credited rows k w) ≡ total_of rows + w
 total_of-credited rows k w lt =
-    let all = sum_by-set (λ (row : WeightedStack). row.weight) rows k (record { stack = stack_at rows k; weight = (node_at rows k).weight + w }) no_row lt in
+    let all = sum_by-set (λ (row : WeightedStack). row.weight) rows k
+    (record { stack = stack_at rows k; weight = (node_at rows k).weight + w }) no_row lt in
     omega (arith, all)
 
 pub aggregate_of-credited : (rows : List WeightedStack) (k w : ℕ) → k < length rows
     → aggregate_of (credited rows k w) ≡ with_row (aggregate_of rows) (record { stack = stack_at rows k; weight = w })
 aggregate_of-credited rows k w lt =
     aggregate_of-more rows ((record { stack = stack_at rows k; weight = w }) ∷ []) (credited rows k w)
-    (λ s. weight_where-credited (is_same_stack s) rows k w lt ∙ ap (λ x. weight_of rows s + x) (sym (weight_where-one (is_same_stack s) (record { stack = stack_at rows k; weight = w }))))
+    (λ s. weight_where-credited (is_same_stack s) rows k w lt ∙ ap (λ x. weight_of rows s + x)
+    (sym (weight_where-one (is_same_stack s) (record { stack = stack_at rows k; weight = w }))))

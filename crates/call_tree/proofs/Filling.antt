@@ -1,5 +1,6 @@
 -- Four places that are filled with the values of a row, one after the other.
-use Rattle.std.proofs.Common.{◌≡◌, ℕ, zero, suc, ◌+◌, ◌<◌, ◌≤◌, true, false, ltb, List, [], ◌∷◌, length, take, get_or, refl, sym, ap, ◌∙◌, subst, arith, ⊎_elim}
+use Rattle.std.proofs.Common.{◌≡◌, ℕ, zero, suc, ◌+◌, ◌<◌, ◌≤◌, true, false, ltb, List, [], ◌∷◌, length, take, get_or}
+use Rattle.std.proofs.Common.{refl, sym, ap, ◌∙◌, subst, arith, ⊎_elim}
 use Rattle.std.proofs.Math.ListN.{set}
 use Rattle.std.proofs.lemmas.List.{get_or-set_same, get_or-set_other, length-set, length-take-le}
 use Rattle.std.proofs.lemmas.Bool.{cases_eq, ltb-true, ltb-false}
@@ -10,18 +11,22 @@ pub record IsFilled (value_at : ℕ → ℕ) (count : ℕ) (places : List ℕ) :
   pub size : length places ≡ 4
   pub each : (k : ℕ) → k < count → get_or places k 0 ≡ value_at k
 
-pub IsFilled-step : (value_at : ℕ → ℕ) (count value : ℕ) (places next : List ℕ) → IsFilled value_at count places → count < 4 → value ≡ value_at count
+pub IsFilled-step : (value_at : ℕ → ℕ) (count value : ℕ) (places next : List ℕ)
+    → IsFilled value_at count places → count < 4 → value ≡ value_at count
     → next ≡ set places count value → IsFilled value_at (count + 1) next
-IsFilled-step value_at count value places next filled lt value_is next_is = subst (IsFilled value_at (count + 1)) (sym next_is) (record {
-  size = length-set places count value ∙ filled.size;
-  each = λ k h. ⊎_elim
-      (λ e. ap (λ i. get_or (set places count value) i 0) e ∙ get_or-set_same places count value 0 (omega (arith, filled.size)) ∙ value_is ∙ ap value_at (sym e))
-      (λ ne. get_or-set_other places count k value 0 ne ∙ filled.each k (omega arith))
-      (cases_eq k count);
-})
+IsFilled-step value_at count value places next filled lt value_is next_is =
+    subst (IsFilled value_at (count + 1)) (sym next_is) (record {
+      size = length-set places count value ∙ filled.size;
+      each = λ k h. ⊎_elim
+          (λ e. ap (λ i. get_or (set places count value) i 0) e
+          ∙ get_or-set_same places count value 0 (omega (arith, filled.size)) ∙ value_is ∙ ap value_at (sym e))
+          (λ ne. get_or-set_other places count k value 0 ne ∙ filled.each k (omega arith))
+          (cases_eq k count);
+    })
 
 -- where all values are 0, nothing has to be filled in
-pub IsFilled-zeros : (value_at : ℕ → ℕ) (count : ℕ) → ((k : ℕ) → value_at k ≡ 0) → IsFilled value_at count (0 ∷ 0 ∷ 0 ∷ 0 ∷ [])
+pub IsFilled-zeros : (value_at : ℕ → ℕ) (count : ℕ)
+    → ((k : ℕ) → value_at k ≡ 0) → IsFilled value_at count (0 ∷ 0 ∷ 0 ∷ 0 ∷ [])
 IsFilled-zeros value_at count none = record { size = refl; each = λ k lt. zeros k ∙ sym (none k) }
   where
     zeros : (k : ℕ) → value_of k (0 ∷ 0 ∷ 0 ∷ 0 ∷ []) ≡ 0
@@ -31,10 +36,12 @@ IsFilled-zeros value_at count none = record { size = refl; each = λ k lt. zeros
     zeros (suc (suc (suc zero))) = refl
     zeros (suc (suc (suc (suc k)))) = refl
 
-pub length-filled : (value_at : ℕ → ℕ) (width : ℕ) (places : List ℕ) → IsFilled value_at width places → width ≤ 4 → length (take width places) ≡ width
+pub length-filled : (value_at : ℕ → ℕ) (width : ℕ) (places : List ℕ)
+    → IsFilled value_at width places → width ≤ 4 → length (take width places) ≡ width
 length-filled value_at width places filled few = length-take-le width places (omega (arith, filled.size, few))
 
-pub value_of-filled : (value_at : ℕ → ℕ) (width : ℕ) (places : List ℕ) → IsFilled value_at width places → width ≤ 4 → ((k : ℕ) → width ≤ k → value_at k ≡ 0)
+pub value_of-filled : (value_at : ℕ → ℕ) (width : ℕ) (places : List ℕ)
+    → IsFilled value_at width places → width ≤ 4 → ((k : ℕ) → width ≤ k → value_at k ≡ 0)
     → (value : ℕ) → value_of value (take width places) ≡ value_at value
 value_of-filled value_at width places filled few past value =
     elim (ltb value width) as (λ b. ltb value width ≡ b → value_of value (take width places) ≡ value_at value) [

@@ -1,5 +1,6 @@
 -- The walk over all nodes that follows one stack from the root.
-use Rattle.std.proofs.Common.{◌≡◌, ℕ, zero, suc, ◌+◌, ◌<◌, ◌≤◌, true, false, cond, List, [], ◌∷◌, ◌++◌, length, take, get_or, refl, sym, ap, ◌∙◌, arith, ⊎_elim}
+use Rattle.std.proofs.Common.{◌≡◌, ℕ, zero, suc, ◌+◌, ◌<◌, ◌≤◌, true, false, cond, List, [], ◌∷◌, ◌++◌, length, take}
+use Rattle.std.proofs.Common.{get_or, refl, sym, ap, ◌∙◌, arith, ⊎_elim}
 use Rattle.std.proofs.lemmas.List.{take_more, same_from_push}
 use Rattle.std.proofs.lemmas.List.Sums.{sum_by-cons}
 use Rattle.std.proofs.lemmas.Bool.{cases_eq}
@@ -11,41 +12,48 @@ use Rattle.call_tree.specs.State.{name_at, node_at, stack_at}
 use Rattle.call_tree.specs.Shape.{node_rows, at, IsTree}
 use Rattle.call_tree.proofs.Shapes.{stack_at-child, stack_at-root}
 
-weight_if_other : (stack : List (List ℕ)) (row : WeightedStack) → (row.stack ≡ stack → ⊥) → weight_if (is_same_stack stack) row ≡ 0
+weight_if_other : (stack : List (List ℕ)) (row : WeightedStack)
+    → (row.stack ≡ stack → ⊥) → weight_if (is_same_stack stack) row ≡ 0
 weight_if_other stack row ne =
     elim (is_same_stack stack row.stack) as (λ b. is_same_stack stack row.stack ≡ b → cond b row.weight 0 ≡ 0) [
       | true ↦ λ e. absurd (ne (sym (same_from_is_same_stack stack row.stack e)))
       | false ↦ λ e. refl
     ] refl
 
-pub weight_of-none : (rows : List WeightedStack) (stack : List (List ℕ)) → ((j : ℕ) → j < length rows → stack_at rows j ≡ stack → ⊥) → weight_of rows stack ≡ 0
+pub weight_of-none : (rows : List WeightedStack) (stack : List (List ℕ))
+    → ((j : ℕ) → j < length rows → stack_at rows j ≡ stack → ⊥) → weight_of rows stack ≡ 0
 weight_of-none [] stack none = refl
 weight_of-none (row ∷ rows) stack none =
     let rest = weight_of-none rows stack (λ j lt e. none (suc j) (omega arith) e) in
     let here = weight_if_other stack row (none 0 (omega arith)) in
     omega (arith, sum_by-cons (weight_if (is_same_stack stack)) row rows, rest, here)
 
-pub weight_of-at : (rows : List WeightedStack) (stack : List (List ℕ)) (k : ℕ) → k < length rows → stack_at rows k ≡ stack
+pub weight_of-at : (rows : List WeightedStack) (stack : List (List ℕ)) (k : ℕ)
+    → k < length rows → stack_at rows k ≡ stack
     → ((j : ℕ) → j < length rows → stack_at rows j ≡ stack → j ≡ k) → weight_of rows stack ≡ (node_at rows k).weight
 weight_of-at [] stack k lt e only = absurd (omega arith)
 weight_of-at (row ∷ rows) stack zero lt e only =
     let rest = weight_of-none rows stack (λ j h f. let no : suc j ≡ 0 = only (suc j) (omega arith) f in omega arith) in
-    let here : weight_if (is_same_stack stack) row ≡ row.weight = ap (λ b. cond b row.weight 0) (ap (is_same_stack stack) e ∙ is_same_stack-self stack) in
+    let here : weight_if (is_same_stack stack) row ≡ row.weight =
+    ap (λ b. cond b row.weight 0) (ap (is_same_stack stack) e ∙ is_same_stack-self stack) in
     omega (arith, sum_by-cons (weight_if (is_same_stack stack)) row rows, rest, here)
 weight_of-at (row ∷ rows) stack (suc k) lt e only =
-    let rest = weight_of-at rows stack k (omega arith) e (λ j h f. let yes : suc j ≡ suc k = only (suc j) (omega arith) f in omega arith) in
+    let rest = weight_of-at rows stack k
+    (omega arith) e (λ j h f. let yes : suc j ≡ suc k = only (suc j) (omega arith) f in omega arith) in
     let here = weight_if_other stack row (λ f. let no : 0 ≡ suc k = only 0 (omega arith) f in omega arith) in
     omega (arith, sum_by-cons (weight_if (is_same_stack stack)) row rows, rest, here)
 
 -- of the nodes below an index, the one at a place has the longest front of the stack
-pub record IsFound (names : List (List ℕ)) (nodes : List Node) (stack : List (List ℕ)) (index place depth : ℕ) : Type 0 where
+pub record IsFound
+    (names : List (List ℕ)) (nodes : List Node) (stack : List (List ℕ)) (index place depth : ℕ) : Type 0 where
   pub place_lt : place < index
   pub within : place < length nodes
   pub deep : depth ≤ length stack
   pub here : stack_at (node_rows names nodes) place ≡ take depth stack
   pub longest : (j d : ℕ) → j < index → d ≤ length stack → stack_at (node_rows names nodes) j ≡ take d stack → d ≤ depth
 
-front_length : (n m : ℕ) (stack : List (List ℕ)) → n ≤ length stack → m ≤ length stack → take n stack ≡ take m stack → n ≡ m
+front_length : (n m : ℕ) (stack : List (List ℕ))
+    → n ≤ length stack → m ≤ length stack → take n stack ≡ take m stack → n ≡ m
 front_length zero zero stack hn hm e = refl
 front_length zero (suc m) [] hn hm e = absurd (omega arith)
 front_length zero (suc m) (x ∷ xs) hn hm e = cc
@@ -56,7 +64,8 @@ front_length (suc n) (suc m) (x ∷ xs) hn hm e =
     let tails : take n xs ≡ take m xs = cc in
     let rest = front_length n m xs (omega arith) (omega arith) tails in omega (arith, rest)
 
-pub IsFound-start : (names : List (List ℕ)) (nodes : List Node) (stack : List (List ℕ)) → IsTree names nodes → IsFound names nodes stack 1 0 0
+pub IsFound-start : (names : List (List ℕ)) (nodes : List Node) (stack : List (List ℕ))
+    → IsTree names nodes → IsFound names nodes stack 1 0 0
 IsFound-start names nodes stack tree = record {
   place_lt = omega arith;
   within = tree.rooted;
@@ -64,16 +73,20 @@ IsFound-start names nodes stack tree = record {
   here = stack_at-root names nodes;
   longest = λ j d lt le e.
       let zero_j : j ≡ 0 = omega arith in
-      let root : take d stack ≡ take 0 stack = sym e ∙ ap (stack_at (node_rows names nodes)) zero_j ∙ stack_at-root names nodes in
+      let root : take d stack ≡ take 0 stack = sym e
+      ∙ ap (stack_at (node_rows names nodes)) zero_j ∙ stack_at-root names nodes in
       let same = front_length d 0 stack le (omega arith) root in omega (arith, same);
 }
 
-module _ (names : List (List ℕ)) (nodes : List Node) (stack : List (List ℕ)) (index place depth : ℕ) (tree : IsTree names nodes)
+module _ (names : List (List ℕ))
+    (nodes : List Node) (stack : List (List ℕ)) (index place depth : ℕ) (tree : IsTree names nodes)
     (found : IsFound names nodes stack index place depth) (pos : 0 < index) (lt : index < length nodes) where
-  child : stack_at (node_rows names nodes) index ≡ stack_at (node_rows names nodes) (at nodes index).parent ++ name_at names (at nodes index).name ∷ []
+  child : stack_at (node_rows names nodes) index
+      ≡ stack_at (node_rows names nodes) (at nodes index).parent ++ name_at names (at nodes index).name ∷ []
   child = stack_at-child names nodes index pos lt (tree.links index pos lt).0
 
-  pub IsFound-matched : depth < length stack → (at nodes index).parent ≡ place → name_at names (at nodes index).name ≡ get_or stack depth []
+  pub IsFound-matched : depth < length stack
+      → (at nodes index).parent ≡ place → name_at names (at nodes index).name ≡ get_or stack depth []
       → IsFound names nodes stack (index + 1) index (depth + 1)
   IsFound-matched more parent name =
       let here : stack_at (node_rows names nodes) index ≡ take (depth + 1) stack =
@@ -86,12 +99,14 @@ module _ (names : List (List ℕ)) (nodes : List Node) (stack : List (List ℕ))
         deep = omega arith;
         here = here;
         longest = λ j d h le e. ⊎_elim
-            (λ same. let d_is = front_length d (depth + 1) stack le (omega arith) (sym e ∙ ap (stack_at (node_rows names nodes)) same ∙ here) in omega (arith, d_is))
+            (λ same. let d_is = front_length d (depth + 1) stack le
+            (omega arith) (sym e ∙ ap (stack_at (node_rows names nodes)) same ∙ here) in omega (arith, d_is))
             (λ ne. let old = found.longest j d (omega arith) le e in omega (arith, old))
             (cases_eq j index);
       }
 
-  pub IsFound-passed : ((at nodes index).parent ≡ place → depth < length stack → name_at names (at nodes index).name ≡ get_or stack depth [] → ⊥)
+  pub IsFound-passed : ((at nodes index).parent ≡ place
+      → depth < length stack → name_at names (at nodes index).name ≡ get_or stack depth [] → ⊥)
       → IsFound names nodes stack (index + 1) place depth
   IsFound-passed other = record {
     place_lt = let p = found.place_lt in omega arith;
@@ -109,12 +124,14 @@ module _ (names : List (List ℕ)) (nodes : List Node) (stack : List (List ℕ))
       at_index (suc d) le e =
           let next : suc d ≡ d + 1 = omega arith in
           let more : take (d + 1) stack ≡ take d stack ++ get_or stack d [] ∷ [] = take_more stack d [] (omega arith) in
-          let both = same_from_push (stack_at (node_rows names nodes) (at nodes index).parent) (take d stack) (name_at names (at nodes index).name) (get_or stack d [])
+          let both = same_from_push (stack_at (node_rows names nodes) (at nodes index).parent)
+          (take d stack) (name_at names (at nodes index).name) (get_or stack d [])
           (sym child ∙ e ∙ ap (λ n. take n stack) next ∙ more) in
           let shorter = found.longest (at nodes index).parent d (tree.links index pos lt).0 (omega arith) both.0 in
           ⊎_elim
           (λ same. absurd (other
-          (tree.apart (at nodes index).parent place (omega (arith, (tree.links index pos lt).0)) found.within (both.0 ∙ ap (λ n. take n stack) same ∙ sym found.here))
+          (tree.apart (at nodes index).parent place (omega (arith, (tree.links index pos lt).0)) found.within
+          (both.0 ∙ ap (λ n. take n stack) same ∙ sym found.here))
           (omega arith)
           (both.1 ∙ ap (λ n. get_or stack n []) same)))
           (λ ne. omega (arith, shorter))

@@ -1,5 +1,7 @@
 -- The names of a tree with their weights: each name of weight is one of the tree's names, and stands there once.
-use Rattle.std.proofs.Common.{◌≡◌, ℕ, zero, suc, ◌+◌, ◌<◌, Bool, true, false, cond, ◌||◌, List, [], ◌∷◌, ◌++◌, length, map, filter, take, refl, sym, ap, ◌∙◌, subst, arith, IsPermutation, All, ◌⊎◌, inl, inr, ⊎_elim}
+use Rattle.std.proofs.Common.{◌≡◌, ℕ, zero, suc, ◌+◌, ◌<◌, Bool, true, false, cond, ◌||◌, List, [], ◌∷◌, ◌++◌, length}
+use Rattle.std.proofs.Common.{map, filter, take, refl, sym, ap, ◌∙◌, subst, arith, IsPermutation, All, ◌⊎◌, inl, inr}
+use Rattle.std.proofs.Common.{⊎_elim}
 use Rattle.std.specs.Prelude.{nat_lt}
 use Rattle.std.specs.List.{AllByRecursion}
 use Rattle.std.proofs.lemmas.List.{append-nil, take_more, map_push}
@@ -34,26 +36,33 @@ filter_append : (xs ys : List FrameTotal) → filter weighs (xs ++ ys) ≡ filte
 filter_append [] ys = refl
 filter_append (x ∷ xs) ys =
     let rest = filter_append xs ys in
-    elim (weighs x) as (λ b. cond b (x ∷ filter weighs (xs ++ ys)) (filter weighs (xs ++ ys)) ≡ cond b (x ∷ filter weighs xs) (filter weighs xs) ++ filter weighs ys) [
+    elim (weighs x) as (λ b. cond b (x ∷ filter weighs (xs ++ ys)) (filter weighs (xs ++ ys))
+    ≡ cond b (x ∷ filter weighs xs) (filter weighs xs) ++ filter weighs ys) [
       | true ↦ ap (λ zs. x ∷ zs) rest
       | false ↦ rest
     ]
 
 pub names_of_weight-more : (rows : List WeightedStack) (names : List (List ℕ)) (k : ℕ) → k < length names
-    → names_of_weight rows (take (k + 1) names) ≡ names_of_weight rows (take k names) ++ filter weighs (sums_at rows (name_at names k) ∷ [])
+    → names_of_weight rows (take (k + 1) names)
+    ≡ names_of_weight rows (take k names) ++ filter weighs (sums_at rows (name_at names k) ∷ [])
 names_of_weight-more rows names k lt =
-    ap (names_of_weight rows) (take_more names k [] lt) ∙ ap (filter weighs) (map_push (sums_at rows) (take k names) (name_at names k))
+    ap (names_of_weight rows) (take_more names k [] lt)
+    ∙ ap (filter weighs) (map_push (sums_at rows) (take k names) (name_at names k))
     ∙ filter_append (map (sums_at rows) (take k names)) (sums_at rows (name_at names k) ∷ [])
 
 -- the loop's step, as the code reads and writes
 module _ (rows : List WeightedStack) (names : List (List ℕ)) (k flat cum : ℕ) (name : List ℕ) (lt : k < length names)
-    (flat_is : flat ≡ flat_weight_of rows (name_at names k)) (cum_is : cum ≡ cumulative_weight_of rows (name_at names k))
+    (flat_is : flat ≡ flat_weight_of rows (name_at names k))
+    (cum_is : cum ≡ cumulative_weight_of rows (name_at names k))
     (totals next : List FrameTotal) (before : totals ≡ names_of_weight rows (take k names)) where
-  pub named : 0 < cum → name ≡ name_at names k → next ≡ totals ++ (record { name = name; flat = flat; cum = cum }) ∷ [] → next ≡ names_of_weight rows (take (k + 1) names)
+  pub named : 0 < cum → name ≡ name_at names k → next ≡ totals ++ (record { name = name; flat = flat; cum = cum }) ∷ []
+      → next ≡ names_of_weight rows (take (k + 1) names)
   named some name_is next_is =
       let total : FrameTotal = record { name = name; flat = flat; cum = cum } in
-      let here : total ≡ sums_at rows (name_at names k) = λ i. record { name = name_is i; flat = flat_is i; cum = cum_is i } in
-      let kept : nat_lt 0 (cumulative_weight_of rows (name_at names k)) ≡ true = ap (nat_lt 0) (sym cum_is) ∙ lt-ltb 0 cum some in
+      let here : total ≡ sums_at rows (name_at names k) =
+      λ i. record { name = name_is i; flat = flat_is i; cum = cum_is i } in
+      let kept : nat_lt 0 (cumulative_weight_of rows (name_at names k)) ≡ true = ap (nat_lt 0) (sym cum_is)
+      ∙ lt-ltb 0 cum some in
       next_is ∙ ap (λ xs. xs ++ total ∷ []) before
       ∙ ap (λ x. names_of_weight rows (take k names) ++ x ∷ []) here
       ∙ ap (λ b. names_of_weight rows (take k names) ++ cond b (sums_at rows (name_at names k) ∷ []) []) (sym kept)
@@ -73,25 +82,32 @@ module _ (rows : List WeightedStack) where
   of names = names_of_weight rows names
 
   weighs_cons : (name first : List ℕ) (names : List (List ℕ))
-      → occurrences name (of (first ∷ names)) ≡ cond (nat_lt 0 (cumulative_weight_of rows first)) (mark name (sums_at rows first)) 0 + occurrences name (of names)
-  weighs_cons name first names = elim (nat_lt 0 (cumulative_weight_of rows first)) as (λ b. occurrences name (cond b (sums_at rows first ∷ of names) (of names)) ≡ cond b (mark name (sums_at rows first)) 0 + occurrences name (of names)) [
-    | true ↦ sum_by-cons (mark name) (sums_at rows first) (of names)
-    | false ↦ omega arith
-  ]
+      → occurrences name (of (first ∷ names)) ≡ cond
+      (nat_lt 0 (cumulative_weight_of rows first)) (mark name (sums_at rows first)) 0 + occurrences name (of names)
+  weighs_cons name first names = elim (nat_lt 0
+      (cumulative_weight_of rows first)) as (λ b. occurrences name (cond b (sums_at rows first ∷ of names) (of names))
+      ≡ cond b (mark name (sums_at rows first)) 0 + occurrences name (of names)) [
+        | true ↦ sum_by-cons (mark name) (sums_at rows first) (of names)
+        | false ↦ omega arith
+      ]
 
   zero_if : (b : Bool) → let none : ℕ = 0 in cond b none none ≡ none
   zero_if true = refl
   zero_if false = refl
 
-  none_first : (name first : List ℕ) → (name ≡ first → ⊥) → cond (nat_lt 0 (cumulative_weight_of rows first)) (mark name (sums_at rows first)) 0 ≡ 0
+  none_first : (name first : List ℕ)
+      → (name ≡ first → ⊥) → cond (nat_lt 0 (cumulative_weight_of rows first)) (mark name (sums_at rows first)) 0 ≡ 0
   none_first name first apart =
-      let no : mark name (sums_at rows first) ≡ 0 = elim (is_same_name name first) as (λ b. is_same_name name first ≡ b → cond b 1 0 ≡ (let none : ℕ = 0 in none)) [
+      let no : mark name (sums_at rows first) ≡ 0 = elim (is_same_name name first) as (λ b. is_same_name name first ≡ b
+      → cond b 1 0 ≡ (let none : ℕ = 0 in none)) [
         | true ↦ λ e. absurd (apart (same_from_is_same_name name first e))
         | false ↦ λ e. refl
       ] refl in
-      ap (λ m. cond (nat_lt 0 (cumulative_weight_of rows first)) m 0) no ∙ zero_if (nat_lt 0 (cumulative_weight_of rows first))
+      ap (λ m. cond (nat_lt 0 (cumulative_weight_of rows first)) m 0) no
+      ∙ zero_if (nat_lt 0 (cumulative_weight_of rows first))
 
-  absent : (name : List ℕ) (names : List (List ℕ)) → ((k : ℕ) → k < length names → name_at names k ≡ name → ⊥) → occurrences name (of names) ≡ 0
+  absent : (name : List ℕ) (names : List (List ℕ))
+      → ((k : ℕ) → k < length names → name_at names k ≡ name → ⊥) → occurrences name (of names) ≡ 0
   absent name [] none = refl
   absent name (first ∷ names) none =
       let rest = absent name names (λ k lt e. none (suc k) (omega arith) e) in
@@ -104,15 +120,19 @@ module _ (rows : List WeightedStack) where
       → occurrences name (of names) ≡ cond (nat_lt 0 (cumulative_weight_of rows name)) 1 0
   present name [] k lt e unlike = absurd (omega arith)
   present name (first ∷ names) zero lt e unlike =
-      let rest = absent name names (λ j h f. let same : 0 ≡ suc j = unlike 0 (suc j) (omega arith) (omega arith) (e ∙ sym f) in omega arith) in
-      let here : cond (nat_lt 0 (cumulative_weight_of rows first)) (mark name (sums_at rows first)) 0 ≡ cond (nat_lt 0 (cumulative_weight_of rows name)) 1 0 =
+      let rest = absent name names
+      (λ j h f. let same : 0 ≡ suc j = unlike 0 (suc j) (omega arith) (omega arith) (e ∙ sym f) in omega arith) in
+      let here : cond (nat_lt 0 (cumulative_weight_of rows first)) (mark name (sums_at rows first)) 0
+      ≡ cond (nat_lt 0 (cumulative_weight_of rows name)) 1 0 =
       ap (λ n. cond (nat_lt 0 (cumulative_weight_of rows n)) (mark name (sums_at rows n)) 0) e
       ∙ ap (λ b. cond (nat_lt 0 (cumulative_weight_of rows name)) (cond b 1 0) 0) (is_same_name-self name) in
       let cons = weighs_cons name first names in
       omega (arith, rest, here, cons)
   present name (first ∷ names) (suc k) lt e unlike =
-      let rest = present name names k (omega arith) e (λ i j hi hj f. let same : suc i ≡ suc j = unlike (suc i) (suc j) (omega arith) (omega arith) f in omega arith) in
-      let here = none_first name first (λ f. let same : 0 ≡ suc k = unlike 0 (suc k) (omega arith) lt (sym f ∙ sym e) in omega arith) in
+      let rest = present name names k (omega arith) e (λ i j hi hj f. let same : suc i ≡ suc j =
+      unlike (suc i) (suc j) (omega arith) (omega arith) f in omega arith) in
+      let here = none_first name first
+      (λ f. let same : 0 ≡ suc k = unlike 0 (suc k) (omega arith) lt (sym f ∙ sym e) in omega arith) in
       let cons = weighs_cons name first names in
       omega (arith, rest, here, cons)
 
@@ -120,17 +140,20 @@ module _ (rows : List WeightedStack) where
   weights [] = tt
   weights (first ∷ names) =
       let rest = weights names in
-      elim (nat_lt 0 (cumulative_weight_of rows first)) as (λ b. AllByRecursion (λ sums. sums ≡ sums_at rows sums.name) (cond b (sums_at rows first ∷ of names) (of names))) [
+      elim (nat_lt 0 (cumulative_weight_of rows first)) as (λ b. AllByRecursion
+      (λ sums. sums ≡ sums_at rows sums.name) (cond b (sums_at rows first ∷ of names) (of names))) [
         | true ↦ (refl, rest)
         | false ↦ rest
       ]
 
 -- whether a name has a number
-search_name : (name : List ℕ) (names : List (List ℕ)) → ((k : ℕ) × (k < length names) × (name_at names k ≡ name)) ⊎ ((k : ℕ) → k < length names → name_at names k ≡ name → ⊥)
+search_name : (name : List ℕ) (names : List (List ℕ)) → ((k : ℕ) × (k < length names) × (name_at names k ≡ name))
+    ⊎ ((k : ℕ) → k < length names → name_at names k ≡ name → ⊥)
 search_name name [] = inr (λ k lt e. absurd (omega arith))
 search_name name (first ∷ names) =
     elim (is_same_name name first) as (λ b. is_same_name name first ≡ b
-    → ((k : ℕ) × (k < length (first ∷ names)) × (name_at (first ∷ names) k ≡ name)) ⊎ ((k : ℕ) → k < length (first ∷ names) → name_at (first ∷ names) k ≡ name → ⊥)) [
+    → ((k : ℕ) × (k < length (first ∷ names)) × (name_at (first ∷ names) k ≡ name))
+    ⊎ ((k : ℕ) → k < length (first ∷ names) → name_at (first ∷ names) k ≡ name → ⊥)) [
       | true ↦ λ e. inl (0, omega arith, sym (same_from_is_same_name name first e))
       | false ↦ λ e. ⊎_elim
           (λ found. inl (suc found.0, omega (arith, found.1), found.2))
@@ -138,43 +161,54 @@ search_name name (first ∷ names) =
           (search_name name names)
     ] refl
   where
-    later : is_same_name name first ≡ false → ((k : ℕ) → k < length names → name_at names k ≡ name → ⊥) → (k : ℕ) → k < length (first ∷ names) → name_at (first ∷ names) k ≡ name → ⊥
-    later e none zero lt f = let yes : is_same_name name first ≡ true = ap (is_same_name name) f ∙ is_same_name-self name in cc
+    later : is_same_name name first ≡ false → ((k : ℕ) → k < length names → name_at names k ≡ name → ⊥)
+        → (k : ℕ) → k < length (first ∷ names) → name_at (first ∷ names) k ≡ name → ⊥
+    later e none zero lt f = let yes : is_same_name name first ≡ true = ap (is_same_name name) f
+        ∙ is_same_name-self name in cc
     later e none (suc k) lt f = none k (omega arith) f
 
 module _ (names : List (List ℕ)) (nodes : List Node) (tree : IsTree names nodes) where
   -- a name that the tree hasn't stands in no stack
-  unnamed_to : (name : List ℕ) → ((k : ℕ) → k < length names → name_at names k ≡ name → ⊥) → (count k : ℕ) → k < count → k < length nodes
+  unnamed_to : (name : List ℕ)
+      → ((k : ℕ) → k < length names → name_at names k ≡ name → ⊥) → (count k : ℕ) → k < count → k < length nodes
       → has_name name (stack_at (node_rows names nodes) k) ≡ false
   unnamed_to name none zero k below lt = absurd (omega arith)
   unnamed_to name none (suc count) zero below lt = ap (has_name name) (stack_at-root names nodes)
   unnamed_to name none (suc count) (suc k) below lt =
       let links = tree.links (suc k) (omega arith) lt in
-      let parent = unnamed_to name none count (at nodes (suc k)).parent (omega (arith, links.0, below)) (omega (arith, links.0, lt)) in
+      let parent = unnamed_to name none count
+      (at nodes (suc k)).parent (omega (arith, links.0, below)) (omega (arith, links.0, lt)) in
       ap (has_name name) (stack_at-child names nodes (suc k) (omega arith) lt links.0)
-      ∙ has_name-next name (stack_at (node_rows names nodes) (at nodes (suc k)).parent) (name_at names (at nodes (suc k)).name)
+      ∙ has_name-next name
+      (stack_at (node_rows names nodes) (at nodes (suc k)).parent) (name_at names (at nodes (suc k)).name)
       ∙ (λ i. parent i || is_same_name name (name_at names (at nodes (suc k)).name))
       ∙ other (is_same_name name (name_at names (at nodes (suc k)).name)) refl links.1
     where
-      other : (b : Bool) → is_same_name name (name_at names (at nodes (suc k)).name) ≡ b → (at nodes (suc k)).name < length names → b ≡ false
+      other : (b : Bool) → is_same_name name (name_at names (at nodes (suc k)).name) ≡ b
+          → (at nodes (suc k)).name < length names → b ≡ false
       other true e name_lt = absurd (none (at nodes (suc k)).name name_lt (sym (same_from_is_same_name name _ e)))
       other false e name_lt = refl
 
-  nameless : (name : List ℕ) → ((k : ℕ) → k < length names → name_at names k ≡ name → ⊥) → cumulative_weight_of (node_rows names nodes) name ≡ 0
+  nameless : (name : List ℕ) → ((k : ℕ) → k < length names → name_at names k ≡ name → ⊥)
+      → cumulative_weight_of (node_rows names nodes) name ≡ 0
   nameless name none = weightless (node_rows names nodes)
-      (λ k lt. unnamed_to name none (length nodes) k (omega (arith, lt, length-node_rows names nodes)) (omega (arith, lt, length-node_rows names nodes)))
+      (λ k lt. unnamed_to name none (length nodes) k
+      (omega (arith, lt, length-node_rows names nodes)) (omega (arith, lt, length-node_rows names nodes)))
     where
-      weightless : (rows : List WeightedStack) → ((k : ℕ) → k < length rows → has_name name (stack_at rows k) ≡ false) → cumulative_weight_of rows name ≡ 0
+      weightless : (rows : List WeightedStack)
+          → ((k : ℕ) → k < length rows → has_name name (stack_at rows k) ≡ false) → cumulative_weight_of rows name ≡ 0
       weightless [] h = refl
       weightless (row ∷ rows) h =
           let rest = weightless rows (λ k lt. h (suc k) (omega arith)) in
           let here = ap (λ b. cond b row.weight 0) (h 0 (omega arith)) in
           omega (arith, sum_by-cons (weight_if (has_name name)) row rows, rest, here)
 
-  once : (name : List ℕ) → occurrences name (names_of_weight (node_rows names nodes) names) ≡ cond (nat_lt 0 (cumulative_weight_of (node_rows names nodes) name)) 1 0
+  once : (name : List ℕ) → occurrences name (names_of_weight (node_rows names nodes) names)
+      ≡ cond (nat_lt 0 (cumulative_weight_of (node_rows names nodes) name)) 1 0
   once name = ⊎_elim
       (λ found. present (node_rows names nodes) name names found.0 found.1 found.2 tree.unlike)
-      (λ none. absent (node_rows names nodes) name names none ∙ sym (ap (λ n. cond (nat_lt 0 n) 1 0) (nameless name none)))
+      (λ none. absent (node_rows names nodes) name names none
+      ∙ sym (ap (λ n. cond (nat_lt 0 n) 1 0) (nameless name none)))
       (search_name name names)
 
   pub AreSumsOf-tree : AreSumsOf (node_rows names nodes) (names_of_weight (node_rows names nodes) names)
@@ -182,18 +216,24 @@ module _ (names : List (List ℕ)) (nodes : List Node) (tree : IsTree names node
 
 -- ---- the same of other rows and of another order
 
-pub AreSumsOf-permutation : (rows : List WeightedStack) (xs ys : List FrameTotal) → IsPermutation xs ys → AreSumsOf rows xs → AreSumsOf rows ys
+pub AreSumsOf-permutation : (rows : List WeightedStack) (xs ys : List FrameTotal)
+    → IsPermutation xs ys → AreSumsOf rows xs → AreSumsOf rows ys
 AreSumsOf-permutation rows xs ys moved are = record {
   weights = All-permutation (λ sums. sums ≡ sums_at rows sums.name) xs ys moved are.weights;
   once = λ name. sum_by-IsPermutation (mark name) xs ys moved ∙ are.once name;
 }
 
-pub AreSumsOf-aggregate : (rows : List WeightedStack) (xs : List FrameTotal) → AreSumsOf rows xs → AreSumsOf (rows_of (aggregate_of rows)) xs
+pub AreSumsOf-aggregate : (rows : List WeightedStack) (xs : List FrameTotal)
+    → AreSumsOf rows xs → AreSumsOf (rows_of (aggregate_of rows)) xs
 AreSumsOf-aggregate rows xs are =
-    let flat : (name : List ℕ) → flat_weight_of (rows_of (aggregate_of rows)) name ≡ flat_weight_of rows name = λ name. weight_where-rows_of (ends_with_name name) rows in
-    let cumulative : (name : List ℕ) → cumulative_weight_of (rows_of (aggregate_of rows)) name ≡ cumulative_weight_of rows name = λ name. weight_where-rows_of (has_name name) rows in
-    let same : (name : List ℕ) → sums_at rows name ≡ sums_at (rows_of (aggregate_of rows)) name = λ name i. record { name = name; flat = sym (flat name) i; cum = sym (cumulative name) i } in
+    let flat : (name : List ℕ) → flat_weight_of (rows_of (aggregate_of rows)) name ≡ flat_weight_of rows name =
+    λ name. weight_where-rows_of (ends_with_name name) rows in
+    let cumulative : (name : List ℕ) → cumulative_weight_of (rows_of (aggregate_of rows)) name
+    ≡ cumulative_weight_of rows name = λ name. weight_where-rows_of (has_name name) rows in
+    let same : (name : List ℕ) → sums_at rows name ≡ sums_at (rows_of (aggregate_of rows)) name =
+    λ name i. record { name = name; flat = sym (flat name) i; cum = sym (cumulative name) i } in
     record {
-      weights = subst (λ (f : List ℕ → FrameTotal). All (λ sums. sums ≡ f sums.name) xs) (λ i name. same name i) are.weights;
+      weights =
+          subst (λ (f : List ℕ → FrameTotal). All (λ sums. sums ≡ f sums.name) xs) (λ i name. same name i) are.weights;
       once = λ name. are.once name ∙ ap (λ n. cond (nat_lt 0 n) 1 0) (sym (cumulative name));
     }

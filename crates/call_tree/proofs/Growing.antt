@@ -1,5 +1,6 @@
 -- A tree that grows, and is credited, by each of its values.
-use Rattle.std.proofs.Common.{◌≡◌, ℕ, ◌+◌, ◌<◌, ◌≤◌, true, false, ltb, Bool, List, [], ◌∷◌, ◌++◌, length, get_or, refl, sym, ap, ◌∙◌, subst, arith, ⊎_elim}
+use Rattle.std.proofs.Common.{◌≡◌, ℕ, ◌+◌, ◌<◌, ◌≤◌, true, false, ltb, Bool, List, [], ◌∷◌, ◌++◌, length, get_or, refl}
+use Rattle.std.proofs.Common.{sym, ap, ◌∙◌, subst, arith, ⊎_elim}
 use Rattle.std.specs.FinMap as map
 use Rattle.std.specs.List.{AllByRecursion}
 use Rattle.std.proofs.lemmas.List.{get_or-map, length-map}
@@ -8,22 +9,27 @@ use Rattle.std.proofs.lemmas.Bool.{cases_eq, ltb-true, ltb-false}
 use Rattle.profile_rows.specs.Values.{BatchState, IsBatch, Row, rows_at, weighing}
 use Rattle.profile_rows.specs.Aggregate.{Weighted, aggregate_of, with_row, with_rows}
 use Rattle.profile_rows.proofs.FourValues.{value_of-past}
-use Rattle.call_tree.specs.State.{TreeState, PlainTree, AreGrown, AreStates, IsAppended, IsFresh, IsGrown, nodes_at, plain_at, name_at, weights_of, no_row}
+use Rattle.call_tree.specs.State.{TreeState, PlainTree, AreGrown, AreStates, IsAppended, IsFresh, IsGrown, nodes_at}
+use Rattle.call_tree.specs.State.{plain_at, name_at, weights_of, no_row}
 use Rattle.call_tree.specs.Plans.{AreCredited, AreFirstPlaces, ArePlaces, IsCredited, place_at}
 use Rattle.call_tree.proofs.Indexing.{IsGrown-added}
 use Rattle.call_tree.proofs.Trees.{nodes_at-past}
 
-pub weights-grown : (before after : TreeState) → AreGrown before after → (value : ℕ) → weights_of after value ≡ weights_of before value
+pub weights-grown : (before after : TreeState)
+    → AreGrown before after → (value : ℕ) → weights_of after value ≡ weights_of before value
 weights-grown before after grown value =
-    elim (ltb value (length before.values)) as (λ b. ltb value (length before.values) ≡ b → weights_of after value ≡ weights_of before value) [
+    elim (ltb value (length before.values)) as (λ b. ltb value (length before.values) ≡ b
+    → weights_of after value ≡ weights_of before value) [
       | true ↦ λ e. (grown.each value (ltb-true value (length before.values) e)).weights
       | false ↦ λ e.
           let past = ltb-false value (length before.values) e in
           let count = grown.count in
-          ap aggregate_of (nodes_at-past after value (omega (arith, past, count)) ∙ sym (nodes_at-past before value past))
+          ap aggregate_of
+          (nodes_at-past after value (omega (arith, past, count)) ∙ sym (nodes_at-past before value past))
     ] refl
 
-pub AreGrown-appended : (before after : TreeState) (parent name : ℕ) (counts : Bool) → AreStates before → IsFresh (plain_at before 0) parent name counts
+pub AreGrown-appended : (before after : TreeState) (parent name : ℕ) (counts : Bool)
+    → AreStates before → IsFresh (plain_at before 0) parent name counts
     → IsAppended before parent name after → AreGrown before after
 AreGrown-appended before after parent name counts states fresh appended = record {
   width = appended.width;
@@ -34,17 +40,25 @@ AreGrown-appended before after parent name counts states fresh appended = record
       let stack = states.stacks value parent lt in
       subst (IsGrown (plain_at before value)) (λ i. record {
         names = sym appended.names i;
-        nodes = ((λ j. nodes_at before value ++ (record { stack = stack j ++ name_at before.names name ∷ []; weight = 0 }) ∷ []) ∙ sym (appended.each value values_lt)) i;
+        nodes = ((λ j. nodes_at before value ++ (record {
+          stack =
+              stack j ++ name_at before.names name ∷ [];
+          weight = 0;
+        }) ∷ []) ∙ sym (appended.each value values_lt)) i;
       })
-      (IsGrown-added (plain_at before value) parent name (states.each value lt) (omega (arith, size, fresh.parent_lt)) fresh.name_lt
-      (λ k k_lt e. fresh.fresh k (omega (arith, size, k_lt)) (sym (states.stacks value k lt) ∙ e ∙ ap (λ s. s ++ name_at before.names name ∷ []) stack)));
+      (IsGrown-added (plain_at before value) parent name
+      (states.each value lt) (omega (arith, size, fresh.parent_lt)) fresh.name_lt
+      (λ k k_lt e. fresh.fresh k (omega (arith, size, k_lt))
+      (sym (states.stacks value k lt) ∙ e ∙ ap (λ s. s ++ name_at before.names name ∷ []) stack)));
 }
 
 -- ---- credits by one value after the other
 
 pub AreCredited-step : (before now next : TreeState) (rows : List Row) (count : ℕ) → AreCredited before now rows count
-    → next.width ≡ now.width → next.names ≡ now.names → IsCredited (plain_at now count) (plain_at next count) (rows_at count rows)
-    → ((other : ℕ) → (other ≡ count → ⊥) → nodes_at next other ≡ nodes_at now other) → AreCredited before next rows (count + 1)
+    → next.width ≡ now.width
+    → next.names ≡ now.names → IsCredited (plain_at now count) (plain_at next count) (rows_at count rows)
+    → ((other : ℕ) → (other ≡ count → ⊥) → nodes_at next other ≡ nodes_at now other)
+    → AreCredited before next rows (count + 1)
 AreCredited-step before now next rows count so_far width names here others = record {
   width = width ∙ so_far.width;
   names = names ∙ so_far.names;
@@ -59,58 +73,74 @@ AreCredited-step before now next rows count so_far width names here others = rec
 }
 
 pub AreCredited-start : (tree : TreeState) (rows : List Row) → AreCredited tree tree rows 0
-AreCredited-start tree rows = record { width = refl; names = refl; done = λ value lt. absurd (omega arith); left = λ value le. refl }
+AreCredited-start tree rows =
+    record { width = refl; names = refl; done = λ value lt. absurd (omega arith); left = λ value le. refl }
 
-with_rows-weightless : (value : ℕ) (weights : Weighted) (rows : List Row) → AllByRecursion (λ row. length row.weights ≤ value) rows → with_rows weights (rows_at value rows) ≡ weights
+with_rows-weightless : (value : ℕ) (weights : Weighted) (rows : List Row)
+    → AllByRecursion (λ row. length row.weights ≤ value) rows → with_rows weights (rows_at value rows) ≡ weights
 with_rows-weightless value weights [] all = refl
 with_rows-weightless value weights (row ∷ rows) all =
-    ap (λ n. with_rows (with_row weights (record { stack = row.stack; weight = n })) (rows_at value rows)) (value_of-past value row.weights all.0)
+    ap (λ n. with_rows (with_row weights (record { stack = row.stack; weight = n })) (rows_at value rows))
+    (value_of-past value row.weights all.0)
     ∙ with_rows-weightless value weights rows all.1
 
-pub weights-credited : (before now : TreeState) (rows : BatchState) (count : ℕ) → IsBatch rows → rows.width ≡ count → AreCredited before now rows.rows count
+pub weights-credited : (before now : TreeState) (rows : BatchState) (count : ℕ)
+    → IsBatch rows → rows.width ≡ count → AreCredited before now rows.rows count
     → (value : ℕ) → weights_of now value ≡ with_rows (weights_of before value) (rows_at value rows.rows)
 weights-credited before now rows count batch width credited value =
-    elim (ltb value count) as (λ b. ltb value count ≡ b → weights_of now value ≡ with_rows (weights_of before value) (rows_at value rows.rows)) [
+    elim (ltb value count) as (λ b. ltb value count ≡ b
+    → weights_of now value ≡ with_rows (weights_of before value) (rows_at value rows.rows)) [
       | true ↦ λ e. (credited.done value (ltb-true value count e)).weights
       | false ↦ λ e.
           let past = ltb-false value count e in
           ap aggregate_of (credited.left value past)
-          ∙ sym (with_rows-weightless value (weights_of before value) rows.rows (narrow rows.rows (recursion_from_All _ rows.rows batch.widths) past))
+          ∙ sym (with_rows-weightless value
+          (weights_of before value) rows.rows (narrow rows.rows (recursion_from_All _ rows.rows batch.widths) past))
     ] refl
   where
-    narrow : (rs : List Row) → AllByRecursion (λ row. length row.weights ≡ rows.width) rs → count ≤ value → AllByRecursion (λ row. length row.weights ≤ value) rs
+    narrow : (rs : List Row) → AllByRecursion (λ row. length row.weights ≡ rows.width) rs
+        → count ≤ value → AllByRecursion (λ row. length row.weights ≤ value) rs
     narrow [] all past = tt
     narrow (row ∷ rs) all past = let here = all.0 in (omega (arith, here, width, past), narrow rs all.1 past)
 
 -- ---- the places of a batch's rows
 
 -- the places in the tree as it was are those in the tree by any value
-pub ArePlaces-by : (tree : TreeState) (rows : List Row) (places : List ℕ) (value : ℕ) → AreStates tree → value < tree.width → ArePlaces (plain_at tree 0) rows places
+pub ArePlaces-by : (tree : TreeState) (rows : List Row) (places : List ℕ) (value : ℕ)
+    → AreStates tree → value < tree.width → ArePlaces (plain_at tree 0) rows places
     → ArePlaces (plain_at tree value) rows places
 ArePlaces-by tree rows places value states lt are = record {
   size = are.size;
   each = λ k k_lt.
       let place = are.each k k_lt in
       let size = states.sizes value lt in
-      record { within = omega (arith, size, place.within); stack = states.stacks value (place_at places k) lt ∙ place.stack };
+      record {
+        within = omega (arith, size, place.within);
+        stack = states.stacks value (place_at places k) lt
+            ∙ place.stack;
+      };
 }
 
-pub ArePlaces-first : (tree : PlainTree) (rows : List Row) (places : List ℕ) → AreFirstPlaces tree (rows_at 0 rows) places (length (rows_at 0 rows)) → ArePlaces tree rows places
+pub ArePlaces-first : (tree : PlainTree) (rows : List Row) (places : List ℕ)
+    → AreFirstPlaces tree (rows_at 0 rows) places (length (rows_at 0 rows)) → ArePlaces tree rows places
 ArePlaces-first tree rows places are = record {
   size = are.size ∙ length-map rows (weighing 0);
   each = λ k k_lt.
       let place = are.each k (omega (arith, k_lt, length-map rows (weighing 0))) in
       record {
         within = place.within;
-        stack = place.stack ∙ ap (λ row. row.stack) (get_or-map (weighing 0) rows k (record { stack = []; weights = [] }) no_row k_lt);
+        stack = place.stack
+            ∙ ap (λ row. row.stack) (get_or-map (weighing 0) rows k (record { stack = []; weights = [] }) no_row k_lt);
       };
 }
 
 -- a tree of the root alone has nothing by any value
-pub weights-root : (tree : TreeState) → AreStates tree → ((value : ℕ) → value < tree.width → nodes_at tree value ≡ no_row ∷ [])
+pub weights-root : (tree : TreeState)
+    → AreStates tree → ((value : ℕ) → value < tree.width → nodes_at tree value ≡ no_row ∷ [])
     → (value : ℕ) → weights_of tree value ≡ map.empty
 weights-root tree states root value =
     elim (ltb value tree.width) as (λ b. ltb value tree.width ≡ b → weights_of tree value ≡ map.empty) [
       | true ↦ λ e. ap aggregate_of (root value (ltb-true value tree.width e))
-      | false ↦ λ e. ap aggregate_of (nodes_at-past tree value (omega (arith, ltb-false value tree.width e, states.width)))
+      | false ↦ λ e. ap aggregate_of
+          (nodes_at-past tree value (omega (arith, ltb-false value tree.width e, states.width)))
     ] refl

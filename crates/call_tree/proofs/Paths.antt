@@ -1,5 +1,6 @@
 -- The walk that makes room for one stack, and the loop that makes room for all rows.
-use Rattle.std.proofs.Common.{◌≡◌, ℕ, suc, ◌+◌, ◌<◌, Bool, true, false, ◌||◌, nat_eq, List, [], ◌∷◌, ◌++◌, length, take, get_or, refl, sym, ap, ◌∙◌, subst, arith, ⊎_elim}
+use Rattle.std.proofs.Common.{◌≡◌, ℕ, suc, ◌+◌, ◌<◌, Bool, true, false, ◌||◌, nat_eq, List, [], ◌∷◌, ◌++◌, length, take}
+use Rattle.std.proofs.Common.{get_or, refl, sym, ap, ◌∙◌, subst, arith, ⊎_elim}
 use Rattle.std.specs.Prelude.{if◌then◌else◌}
 use Rattle.std.specs.List.{list_any}
 use Rattle.std.proofs.lemmas.List.{take_more, get_or_append_left, get_or_push, length_push}
@@ -17,15 +18,18 @@ same_bool false true f g = g refl
 same_bool false false f g = refl
 
 -- has_name of a stack that goes on by one name
-pub has_name-next : (name : List ℕ) (stack : List (List ℕ)) (last : List ℕ) → has_name name (stack ++ last ∷ []) ≡ (has_name name stack || is_same_name name last)
-has_name-next name stack last = list_any-append (is_same_name name) stack (last ∷ []) ∙ ap (λ b. has_name name stack || b) (or_false (is_same_name name last))
+pub has_name-next : (name : List ℕ) (stack : List (List ℕ)) (last : List ℕ)
+    → has_name name (stack ++ last ∷ []) ≡ (has_name name stack || is_same_name name last)
+has_name-next name stack last = list_any-append (is_same_name name) stack (last ∷ [])
+    ∙ ap (λ b. has_name name stack || b) (or_false (is_same_name name last))
   where
     or_false : (b : Bool) → (b || false) ≡ b
     or_false true = refl
     or_false false = refl
 
 -- equal numbers are equal names
-has_number-own : (names : List (List ℕ)) (n : ℕ) (numbers : List ℕ) → n < length names → ((j : ℕ) → j < length numbers → get_or numbers j 0 < length names)
+has_number-own : (names : List (List ℕ)) (n : ℕ) (numbers : List ℕ)
+    → n < length names → ((j : ℕ) → j < length numbers → get_or numbers j 0 < length names)
     → ((i j : ℕ) → i < length names → j < length names → name_at names i ≡ name_at names j → i ≡ j)
     → has_number names (name_at names n) numbers ≡ list_any (nat_eq n) numbers
 has_number-own names n [] lt below unlike = refl
@@ -33,12 +37,15 @@ has_number-own names n (m ∷ numbers) lt below unlike =
     let m_lt = below 0 (omega arith) in
     let here : is_same_name (name_at names n) (name_at names m) ≡ nat_eq n m = same_bool _ _
     (λ e. eq-eqb n m (unlike n m lt m_lt (same_from_is_same_name _ _ e)))
-    (λ e. ap (is_same_name (name_at names n)) (ap (name_at names) (sym (eqb-true n m e))) ∙ is_same_name-self (name_at names n)) in
+    (λ e. ap (is_same_name (name_at names n)) (ap (name_at names) (sym (eqb-true n m e)))
+    ∙ is_same_name-self (name_at names n)) in
     let rest = has_number-own names n numbers lt (λ j h. below (suc j) (omega arith)) unlike in
     λ i. here i || rest i
 
-has_number-grown : (names more : List (List ℕ)) (name : List ℕ) (numbers : List ℕ) → ((j : ℕ) → j < length numbers → get_or numbers j 0 < length names)
-    → ((k : ℕ) → k < length names → name_at more k ≡ name_at names k) → has_number more name numbers ≡ has_number names name numbers
+has_number-grown : (names more : List (List ℕ)) (name : List ℕ) (numbers : List ℕ)
+    → ((j : ℕ) → j < length numbers → get_or numbers j 0 < length names)
+    → ((k : ℕ) → k < length names → name_at more k ≡ name_at names k)
+    → has_number more name numbers ≡ has_number names name numbers
 has_number-grown names more name [] below kept = refl
 has_number-grown names more name (m ∷ numbers) below kept =
     let here = ap (is_same_name name) (kept m (below 0 (omega arith))) in
@@ -47,7 +54,8 @@ has_number-grown names more name (m ∷ numbers) below kept =
 
 module _ (tree named : PlainTree) (seen : List ℕ) (frames : List (List ℕ)) (i place number : ℕ) (lt : i < length frames)
     (path : IsOnPath tree seen frames i place) (interned : IsGrown tree named) (nodes : named.nodes ≡ tree.nodes)
-    (number_lt : number < length named.names) (number_is : name_at named.names number ≡ get_or frames i []) (state : IsState named) where
+    (number_lt : number < length named.names)
+    (number_is : name_at named.names number ≡ get_or frames i []) (state : IsState named) where
   below_named : (j : ℕ) → j < length seen → get_or seen j 0 < length named.names
   below_named j h = let b = path.below j h in let m = interned.more_names in omega (arith, b, m)
 
@@ -58,14 +66,17 @@ module _ (tree named : PlainTree) (seen : List ℕ) (frames : List (List ℕ)) (
   seen_now name = has_number-grown tree.names named.names name seen path.below interned.kept_names ∙ path.seen_is name
 
   pub there_is : list_any (nat_eq number) seen ≡ has_name (name_at named.names number) (stack_at named.nodes place)
-  there_is = sym (has_number-own named.names number seen number_lt below_named state.unlike) ∙ seen_now (name_at named.names number)
+  there_is = sym (has_number-own named.names number seen number_lt below_named state.unlike)
+      ∙ seen_now (name_at named.names number)
       ∙ ap (has_name (name_at named.names number)) (sym stack_now)
 
   pub parent_lt : place < length named.nodes
   parent_lt = let p = path.place_lt in let n = ap length nodes in omega (arith, p, n)
 
-  last_frame : (name : List ℕ) → has_name name (take (i + 1) frames) ≡ (has_name name (take i frames) || is_same_name name (get_or frames i []))
-  last_frame name = ap (has_name name) (take_more frames i [] lt) ∙ has_name-next name (take i frames) (get_or frames i [])
+  last_frame : (name : List ℕ)
+      → has_name name (take (i + 1) frames) ≡ (has_name name (take i frames) || is_same_name name (get_or frames i []))
+  last_frame name = ap (has_name name) (take_more frames i [] lt)
+      ∙ has_name-next name (take i frames) (get_or frames i [])
 
   absorbed : (a b : Bool) → (b ≡ true → a ≡ true) → a ≡ (a || b)
   absorbed true b f = refl
@@ -82,27 +93,36 @@ module _ (tree named : PlainTree) (seen : List ℕ) (frames : List (List ℕ)) (
       seen_now name
       ∙ absorbed (has_name name (take i frames)) (is_same_name name (get_or frames i []))
       (λ s. let name_is : name ≡ name_at named.names number = same_from_is_same_name name _ s ∙ sym number_is in
-      ap (λ n. has_name n (take i frames)) name_is ∙ ap (has_name (name_at named.names number)) (sym stack_now) ∙ sym there_is ∙ sym e)
+      ap (λ n. has_name n (take i frames)) name_is
+      ∙ ap (has_name (name_at named.names number)) (sym stack_now) ∙ sym there_is ∙ sym e)
       ∙ sym (last_frame name)
   after_seen false e name =
       list_any-append (λ m. is_same_name name (name_at named.names m)) seen (number ∷ [])
-      ∙ (λ j. seen_now name j || (or_false (is_same_name name (name_at named.names number)) ∙ ap (is_same_name name) number_is) j)
+      ∙ (λ j. seen_now name j
+      || (or_false (is_same_name name (name_at named.names number)) ∙ ap (is_same_name name) number_is) j)
       ∙ sym (last_frame name)
 
-  after_below : (there : Bool) (j : ℕ) → j < length (if there then seen else seen ++ number ∷ []) → get_or (if there then seen else seen ++ number ∷ []) j 0 < length named.names
+  after_below : (there : Bool) (j : ℕ) → j < length (if there then seen else seen ++ number ∷ [])
+      → get_or (if there then seen else seen ++ number ∷ []) j 0 < length named.names
   after_below true j h = below_named j h
   after_below false j h = ⊎_elim
       (λ e. let last = get_or_push seen number 0 j (sym e) in omega (arith, last, number_lt))
-      (λ ne. let less : j < length seen = omega (arith, length_push seen number) in let old = get_or_append_left seen (number ∷ []) 0 j less in let b = below_named j less in omega (arith, old, b))
+      (λ ne. let less : j < length seen = omega (arith, length_push seen number) in let old =
+      get_or_append_left seen (number ∷ []) 0 j less in let b = below_named j less in omega (arith, old, b))
       (cases_eq j (length seen))
 
-  pub IsOnPath-step : (after : PlainTree) (there : Bool) (next : List ℕ) (child : ℕ) → there ≡ list_any (nat_eq number) seen → next ≡ (if there then seen else seen ++ number ∷ [])
-      → after.names ≡ named.names → child < length after.nodes → stack_at after.nodes child ≡ stack_at named.nodes place ++ name_at named.names number ∷ []
+  pub IsOnPath-step : (after : PlainTree) (there : Bool) (next : List ℕ) (child : ℕ)
+      → there ≡ list_any (nat_eq number) seen → next ≡ (if there then seen else seen ++ number ∷ [])
+      → after.names ≡ named.names → child < length after.nodes
+      → stack_at after.nodes child ≡ stack_at named.nodes place ++ name_at named.names number ∷ []
       → IsOnPath after next frames (i + 1) child
   IsOnPath-step after there next child there_e next_e names child_lt child_stack = record {
     place_lt = child_lt;
-    here = child_stack ∙ ap (λ s. s ++ name_at named.names number ∷ []) stack_now ∙ ap (λ n. take i frames ++ n ∷ []) number_is ∙ sym (take_more frames i [] lt);
+    here = child_stack ∙ ap (λ s. s ++ name_at named.names number ∷ []) stack_now
+        ∙ ap (λ n. take i frames ++ n ∷ []) number_is ∙ sym (take_more frames i [] lt);
     below = subst (λ (s : List ℕ). (j : ℕ) → j < length s → get_or s j 0 < length after.names) (sym next_e)
-        (subst (λ (ns : List (List ℕ)). (j : ℕ) → j < length (if there then seen else seen ++ number ∷ []) → get_or (if there then seen else seen ++ number ∷ []) j 0 < length ns) (sym names) (after_below there));
-    seen_is = λ name. ap (λ ns. has_number ns name next) names ∙ ap (has_number named.names name) next_e ∙ after_seen there there_e name;
+        (subst (λ (ns : List (List ℕ)). (j : ℕ) → j < length (if there then seen else seen ++ number ∷ [])
+        → get_or (if there then seen else seen ++ number ∷ []) j 0 < length ns) (sym names) (after_below there));
+    seen_is = λ name. ap (λ ns. has_number ns name next) names
+        ∙ ap (has_number named.names name) next_e ∙ after_seen there there_e name;
   }

@@ -1,5 +1,6 @@
 -- One weight more at one node.
-use Rattle.std.proofs.Common.{◌≡◌, ℕ, ◌+◌, ◌<◌, ◌^◌, not, List, length, get_or, refl, sym, ap, ◌∙◌, subst, arith, ⊎_elim}
+use Rattle.std.proofs.Common.{◌≡◌, ℕ, ◌+◌, ◌<◌, ◌^◌, not, List, length, get_or, refl, sym, ap, ◌∙◌, subst, arith}
+use Rattle.std.proofs.Common.{⊎_elim}
 use Rattle.std.proofs.Math.ListN.{set}
 use Rattle.std.proofs.lemmas.List.{get_or-set_same, get_or-set_other, length-set, get_or_read}
 use Rattle.std.proofs.lemmas.List.Sums.{get_or-le-sum_by}
@@ -56,25 +57,30 @@ module _ (names : List (List ℕ)) (old : List Node) (start w : ℕ) (tree : IsT
         let p = ap (λ node. node.parent) (framed k) in let n = ap (λ node. node.name) (framed k) in
         (omega (arith, p, old_links.0), omega (arith, n, old_links.1));
     counts = λ k pos h. ap (λ node. node.counts) (framed k) ∙ tree.counts k pos (omega (arith, length-done))
-        ∙ ap (λ (node : Node). not (has_name (name_at names node.name) (stack_at (node_rows names old) node.parent))) (sym (framed k))
+        ∙ ap (λ (node : Node). not (has_name (name_at names node.name) (stack_at (node_rows names old) node.parent)))
+        (sym (framed k))
         ∙ ap (λ stack. not (has_name (name_at names (at done k).name) stack)) (sym (stack_done (at done k).parent));
     deep = λ k h. let e = ap length (stack_done k) in omega (arith, e, tree.deep k (omega (arith, length-done)));
-    apart = λ i j hi hj e. tree.apart i j (omega (arith, length-done)) (omega (arith, length-done)) (sym (stack_done i) ∙ e ∙ stack_done j);
+    apart = λ i j hi hj e. tree.apart i j
+        (omega (arith, length-done)) (omega (arith, length-done)) (sym (stack_done i) ∙ e ∙ stack_done j);
     unlike = tree.unlike;
     fits = let d = whole_done in omega (arith, d, fits);
   }
 
 -- ---- the same, as the code reads and writes
 
-pub read_is : (nodes : List Node) (k : ℕ) (node : Node) → k < length nodes → node ≡ get_or nodes k node → node ≡ at nodes k
+pub read_is : (nodes : List Node) (k : ℕ) (node : Node)
+    → k < length nodes → node ≡ get_or nodes k node → node ≡ at nodes k
 read_is nodes k node lt e = get_or_read nodes k node lt e no_node
 
 pub record IsDone (names : List (List ℕ)) (old last : List Node) (start w : ℕ) : Type 0 where
   pub tree : IsTree names last
   pub rows : node_rows names last ≡ credited (node_rows names old) start w
 
-pub finished : (names : List (List ℕ)) (old last : List Node) (start w : ℕ) (node : Node) → IsTree names old → start < length old
-    → total_of (node_rows names old) + w < 2 ^ 63 → node ≡ at old start → last ≡ set old start (heavier node w) → IsDone names old last start w
+pub finished : (names : List (List ℕ)) (old last : List Node) (start w : ℕ) (node : Node)
+    → IsTree names old → start < length old
+    → total_of (node_rows names old) + w < 2 ^ 63
+    → node ≡ at old start → last ≡ set old start (heavier node w) → IsDone names old last start w
 finished names old last start w node tree lt fits read wrote =
     let last_is : last ≡ done names old start w tree lt fits = wrote ∙ ap (λ n. set old start (heavier n w)) read in
     subst (λ ns. IsDone names old ns start w) (sym last_is)
@@ -84,6 +90,8 @@ pub weight_fits : (names : List (List ℕ)) (old : List Node) (start w : ℕ) (n
     → total_of (node_rows names old) + w < 2 ^ 63 → node ≡ at old start → node.own + w < 2 ^ 63
 weight_fits names old start w node lt fits read =
     let own = ap (λ n. n.own) read in
-    let row : (node_at (node_rows names old) start).weight ≡ (at old start).own = ap (λ row. row.weight) (node_at-node_rows names old start) in
-    let part = get_or-le-sum_by (λ (row : WeightedStack). row.weight) (node_rows names old) start no_row (omega (arith, length-node_rows names old, lt)) in
+    let row : (node_at (node_rows names old) start).weight ≡ (at old start).own =
+    ap (λ row. row.weight) (node_at-node_rows names old start) in
+    let part = get_or-le-sum_by (λ (row : WeightedStack). row.weight)
+    (node_rows names old) start no_row (omega (arith, length-node_rows names old, lt)) in
     omega (arith, own, row, part, fits)

@@ -1,5 +1,6 @@
 -- The weights of a tree's maps are those of the nodes that they stand for.
-use Rattle.std.proofs.Common.{◌≡◌, ℕ, ◌+◌, ◌<◌, ◌≤◌, ◌^◌, true, false, ltb, List, [], ◌∷◌, length, refl, sym, ap, ◌∙◌, arith}
+use Rattle.std.proofs.Common.{◌≡◌, ℕ, ◌+◌, ◌<◌, ◌≤◌, ◌^◌, true, false, ltb, List, [], ◌∷◌, length, refl, sym, ap, ◌∙◌}
+use Rattle.std.proofs.Common.{arith}
 use Rattle.std.proofs.lemmas.Bool.{ltb-true, ltb-false}
 use Rattle.profile_rows.specs.Rows.{total_of, weight_of}
 use Rattle.profile_rows.specs.Aggregate.{weight_in}
@@ -8,13 +9,15 @@ use Rattle.profile_rows.specs.Values.{BatchState, rows_at, value_of}
 use Rattle.profile_rows.proofs.FourValues.{value_of-past}
 use Rattle.profile_rows.proofs.EntryLaws.{weight_where-rows_of}
 use Rattle.profile_rows.proofs.RowLaws.{weight_in-aggregate_of}
-use Rattle.call_tree.specs.State.{TreeState, AreGrown, AreStates, weights_of, total_in, no_row, nodes_at, node_at, stack_at}
+use Rattle.call_tree.specs.State.{TreeState, AreGrown, AreStates, weights_of, total_in, no_row, nodes_at, node_at}
+use Rattle.call_tree.specs.State.{stack_at}
 use Rattle.call_tree.specs.Nodes.{HasTotal}
 use Rattle.call_tree.specs.Plans.{AreCredited}
 use Rattle.call_tree.proofs.Finding.{weight_of-at, weight_of-none}
 use Rattle.call_tree.proofs.Trees.{nodes_at-past}
 
-pub total_in-weights_of : (tree : TreeState) (value : ℕ) → total_in (weights_of tree value) ≡ total_of (nodes_at tree value)
+pub total_in-weights_of : (tree : TreeState) (value : ℕ)
+    → total_in (weights_of tree value) ≡ total_of (nodes_at tree value)
 total_in-weights_of tree value = weight_where-rows_of (λ stack. true) (nodes_at tree value)
 
 module _ (tree : TreeState) (states : AreStates tree) where
@@ -32,12 +35,16 @@ module _ (tree : TreeState) (states : AreStates tree) where
         | false ↦ λ e. let none = total_in-past value (ltb-false value tree.width e) in omega (arith, none)
       ] refl
 
-  pub weight_in-past : (stack : List (List ℕ)) (value : ℕ) → tree.width ≤ value → weight_in (weights_of tree value) stack ≡ 0
+  pub weight_in-past : (stack : List (List ℕ)) (value : ℕ)
+      → tree.width ≤ value → weight_in (weights_of tree value) stack ≡ 0
   weight_in-past stack value le =
-      weight_in-aggregate_of (nodes_at tree value) stack ∙ ap (λ rows. weight_of rows stack) (nodes_at-past tree value (past value le))
+      weight_in-aggregate_of (nodes_at tree value) stack
+      ∙ ap (λ rows. weight_of rows stack) (nodes_at-past tree value (past value le))
 
-  pub weight_in-found : (stack : List (List ℕ)) (value place : ℕ) → value < tree.width → place < length (nodes_at tree 0)
-      → stack_at (nodes_at tree 0) place ≡ stack → weight_in (weights_of tree value) stack ≡ (node_at (nodes_at tree value) place).weight
+  pub weight_in-found : (stack : List (List ℕ)) (value place : ℕ)
+      → value < tree.width → place < length (nodes_at tree 0)
+      → stack_at (nodes_at tree 0) place ≡ stack
+      → weight_in (weights_of tree value) stack ≡ (node_at (nodes_at tree value) place).weight
   weight_in-found stack value place lt within here =
       let rows = nodes_at tree value in
       let size = states.sizes value lt in
@@ -46,7 +53,8 @@ module _ (tree : TreeState) (states : AreStates tree) where
       ∙ weight_of-at rows stack place (omega (arith, size, within)) is
       (λ j j_lt e. (states.each value lt).apart j place j_lt (omega (arith, size, within)) (e ∙ sym is))
 
-  pub weight_in-nowhere : (stack : List (List ℕ)) → ((k : ℕ) → k < length (nodes_at tree 0) → stack_at (nodes_at tree 0) k ≡ stack → ⊥)
+  pub weight_in-nowhere : (stack : List (List ℕ))
+      → ((k : ℕ) → k < length (nodes_at tree 0) → stack_at (nodes_at tree 0) k ≡ stack → ⊥)
       → (value : ℕ) → weight_in (weights_of tree value) stack ≡ 0
   weight_in-nowhere stack none value =
       elim (ltb value tree.width) as (λ b. ltb value tree.width ≡ b → weight_in (weights_of tree value) stack ≡ 0) [
@@ -54,15 +62,18 @@ module _ (tree : TreeState) (states : AreStates tree) where
             let lt = ltb-true value tree.width e in
             let size = states.sizes value lt in
             weight_in-aggregate_of (nodes_at tree value) stack
-            ∙ weight_of-none (nodes_at tree value) stack (λ j j_lt f. none j (omega (arith, size, j_lt)) (sym (states.stacks value j lt) ∙ f))
+            ∙ weight_of-none (nodes_at tree value) stack
+            (λ j j_lt f. none j (omega (arith, size, j_lt)) (sym (states.stacks value j lt) ∙ f))
         | false ↦ λ e. weight_in-past stack value (ltb-false value tree.width e)
       ] refl
 
 -- ---- the total that a tree holds
 
-pub total-grown : (before after : TreeState) → AreGrown before after → (value : ℕ) → total_of (nodes_at after value) ≡ total_of (nodes_at before value)
+pub total-grown : (before after : TreeState)
+    → AreGrown before after → (value : ℕ) → total_of (nodes_at after value) ≡ total_of (nodes_at before value)
 total-grown before after grown value =
-    elim (ltb value (length before.values)) as (λ b. ltb value (length before.values) ≡ b → total_of (nodes_at after value) ≡ total_of (nodes_at before value)) [
+    elim (ltb value (length before.values)) as (λ b. ltb value (length before.values) ≡ b
+    → total_of (nodes_at after value) ≡ total_of (nodes_at before value)) [
       | true ↦ λ e. (grown.each value (ltb-true value (length before.values) e)).total
       | false ↦ λ e.
           let past = ltb-false value (length before.values) e in
@@ -78,31 +89,35 @@ HasTotal-same before after total held width same = record {
 }
 
 pub HasTotal-root : (tree : TreeState) (total : List ℕ) → length total ≡ tree.width → length tree.values ≡ tree.width
-    → ((value : ℕ) → value_of value total ≡ 0) → ((value : ℕ) → value < tree.width → nodes_at tree value ≡ no_row ∷ []) → HasTotal tree total
+    → ((value : ℕ) → value_of value total ≡ 0)
+    → ((value : ℕ) → value < tree.width → nodes_at tree value ≡ no_row ∷ []) → HasTotal tree total
 HasTotal-root tree total width count zero root = record {
   width = width;
   each = λ value. zero value ∙ sym (nothing value);
 }
   where
     nothing : (value : ℕ) → total_of (nodes_at tree value) ≡ 0
-    nothing value = elim (ltb value tree.width) as (λ b. ltb value tree.width ≡ b → total_of (nodes_at tree value) ≡ 0) [
-      | true ↦ λ e. ap total_of (root value (ltb-true value tree.width e))
-      | false ↦ λ e. ap total_of (nodes_at-past tree value (omega (arith, count, ltb-false value tree.width e)))
-    ] refl
+    nothing value =
+        elim (ltb value tree.width) as (λ b. ltb value tree.width ≡ b → total_of (nodes_at tree value) ≡ 0) [
+          | true ↦ λ e. ap total_of (root value (ltb-true value tree.width e))
+          | false ↦ λ e. ap total_of (nodes_at-past tree value (omega (arith, count, ltb-false value tree.width e)))
+        ] refl
 
-pub HasTotal-credited : (before next : TreeState) (batch : BatchState) (total more sum : List ℕ) → HasTotal before total → values.AreTotals batch more
+pub HasTotal-credited : (before next : TreeState) (batch : BatchState) (total more sum : List ℕ)
+    → HasTotal before total → values.AreTotals batch more
     → batch.width ≡ before.width → AreCredited before next batch.rows before.width → length sum ≡ length total
     → ((value : ℕ) → value_of value sum ≡ value_of value total + value_of value more) → HasTotal next sum
 HasTotal-credited before next batch total more sum held added width credited size sums = record {
   width = size ∙ held.width ∙ sym credited.width;
-  each = λ value. elim (ltb value before.width) as (λ b. ltb value before.width ≡ b → value_of value sum ≡ total_of (nodes_at next value)) [
-    | true ↦ λ e.
-        let done = (credited.done value (ltb-true value before.width e)).total in
-        omega (arith, done, sums value, held.each value, added.each value)
-    | false ↦ λ e.
-        let past = ltb-false value before.width e in
-        let none = value_of-past value more (omega (arith, past, added.width, width)) in
-        let same = ap total_of (credited.left value past) in
-        omega (arith, none, same, sums value, held.each value)
-  ] refl;
+  each = λ value. elim (ltb value before.width) as (λ b. ltb value before.width ≡ b
+      → value_of value sum ≡ total_of (nodes_at next value)) [
+        | true ↦ λ e.
+            let done = (credited.done value (ltb-true value before.width e)).total in
+            omega (arith, done, sums value, held.each value, added.each value)
+        | false ↦ λ e.
+            let past = ltb-false value before.width e in
+            let none = value_of-past value more (omega (arith, past, added.width, width)) in
+            let same = ap total_of (credited.left value past) in
+            omega (arith, none, same, sums value, held.each value)
+      ] refl;
 }

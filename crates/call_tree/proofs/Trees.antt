@@ -1,35 +1,45 @@
 -- A tree by each of its values.
-use Rattle.std.proofs.Common.{◌≡◌, ℕ, zero, suc, ◌<◌, ◌≤◌, Bool, not, List, [], ◌∷◌, ◌++◌, length, map, get_or, refl, sym, ap, ◌∙◌, subst, arith, ⊎_elim}
+use Rattle.std.proofs.Common.{◌≡◌, ℕ, zero, suc, ◌<◌, ◌≤◌, Bool, not, List, [], ◌∷◌, ◌++◌, length, map, get_or, refl}
+use Rattle.std.proofs.Common.{sym, ap, ◌∙◌, subst, arith, ⊎_elim}
 use Rattle.std.proofs.Math.ListN as list
 use Rattle.std.proofs.lemmas.List.{length-map}
 use Rattle.std.proofs.lemmas.Bool.{cases_eq}
 use Rattle.profile_rows.specs.declared.weighted_stacks.WeightedStack.{WeightedStack}
 use Rattle.profile_rows.specs.Rows.{has_name}
 use Rattle.call_tree.specs.declared.node.Node.{Node}
-use Rattle.call_tree.specs.State.{TreeState, PlainTree, AreStates, IsState, IsAppended, IsFresh, name_at, nodes_at, plain_at, stack_at}
+use Rattle.call_tree.specs.State.{TreeState, PlainTree, AreStates, IsState, IsAppended, IsFresh, name_at, nodes_at}
+use Rattle.call_tree.specs.State.{plain_at, stack_at}
 use Rattle.call_tree.specs.Shape.{IsTree, link_of, node_rows, stacks_from}
 use Rattle.call_tree.specs.Nodes.{AreAlike, AreTrees, nodes_of, tree_of, without_weight}
 use Rattle.call_tree.proofs.Shapes.{IsState-tree, length-node_rows, node_at-node_rows}
 use Rattle.call_tree.proofs.Appending.{IsTree-added, node_rows-added, node_rows-named}
 
-pub nodes_at-tree : (names : List (List ℕ)) (all : List (List Node)) (value : ℕ) → nodes_at (tree_of names all) value ≡ node_rows names (nodes_of all value)
+pub nodes_at-tree : (names : List (List ℕ)) (all : List (List Node)) (value : ℕ)
+    → nodes_at (tree_of names all) value ≡ node_rows names (nodes_of all value)
 nodes_at-tree names all value = list.get_or-map (node_rows names) all value []
 
-pub length-nodes_at : (names : List (List ℕ)) (all : List (List Node)) (value : ℕ) → length (nodes_at (tree_of names all) value) ≡ length (nodes_of all value)
-length-nodes_at names all value = ap length (nodes_at-tree names all value) ∙ length-node_rows names (nodes_of all value)
+pub length-nodes_at : (names : List (List ℕ)) (all : List (List Node)) (value : ℕ)
+    → length (nodes_at (tree_of names all) value) ≡ length (nodes_of all value)
+length-nodes_at names all value = ap length (nodes_at-tree names all value)
+    ∙ length-node_rows names (nodes_of all value)
 
 -- the nodes as contracts see them, of a tree that is lent
-pub seen : (names : List (List ℕ)) (all : List (List Node)) (tree : TreeState) (value : ℕ) → tree_of names all ≡ tree → node_rows names (nodes_of all value) ≡ nodes_at tree value
+pub seen : (names : List (List ℕ)) (all : List (List Node)) (tree : TreeState) (value : ℕ)
+    → tree_of names all ≡ tree → node_rows names (nodes_of all value) ≡ nodes_at tree value
 seen names all tree value e = sym (nodes_at-tree names all value) ∙ ap (λ t. nodes_at t value) e
 
-pub seen_plain : (names : List (List ℕ)) (all : List (List Node)) (tree : TreeState) (value : ℕ) → tree_of names all ≡ tree
+pub seen_plain : (names : List (List ℕ)) (all : List (List Node)) (tree : TreeState) (value : ℕ)
+    → tree_of names all ≡ tree
     → ◌≡◌ {A = PlainTree} (record { names = names; nodes = node_rows names (nodes_of all value) }) (plain_at tree value)
 seen_plain names all tree value e = λ i. record { names = ap (λ t. t.names) e i; nodes = seen names all tree value e i }
 
-pub length-seen : (names : List (List ℕ)) (all : List (List Node)) (tree : TreeState) (value : ℕ) → tree_of names all ≡ tree → length (nodes_of all value) ≡ length (nodes_at tree value)
-length-seen names all tree value e = sym (length-node_rows names (nodes_of all value)) ∙ ap length (seen names all tree value e)
+pub length-seen : (names : List (List ℕ)) (all : List (List Node)) (tree : TreeState) (value : ℕ)
+    → tree_of names all ≡ tree → length (nodes_of all value) ≡ length (nodes_at tree value)
+length-seen names all tree value e = sym (length-node_rows names (nodes_of all value))
+    ∙ ap length (seen names all tree value e)
 
-pub value_lt : (names : List (List ℕ)) (all : List (List Node)) (tree : TreeState) (value : ℕ) → tree_of names all ≡ tree → value < tree.width → value < length all
+pub value_lt : (names : List (List ℕ)) (all : List (List Node)) (tree : TreeState) (value : ℕ)
+    → tree_of names all ≡ tree → value < tree.width → value < length all
 value_lt names all tree value e lt = let width = ap (λ t. t.width) e in omega (arith, width, lt)
 
 nothing_past : (rows : List (List WeightedStack)) (k : ℕ) → length rows ≤ k → get_or rows k [] ≡ []
@@ -46,60 +56,79 @@ links-without : (nodes : List Node) → map link_of (map without_weight nodes) �
 links-without [] = refl
 links-without (n ∷ nodes) = ap (λ rest. link_of n ∷ rest) (links-without nodes)
 
-pub stack_at-alike : (names : List (List ℕ)) (nodes others : List Node) (k : ℕ) → map without_weight nodes ≡ map without_weight others
+pub stack_at-alike : (names : List (List ℕ)) (nodes others : List Node) (k : ℕ)
+    → map without_weight nodes ≡ map without_weight others
     → stack_at (node_rows names nodes) k ≡ stack_at (node_rows names others) k
 stack_at-alike names nodes others k e =
-    let links : map link_of nodes ≡ map link_of others = sym (links-without nodes) ∙ ap (map link_of) e ∙ links-without others in
+    let links : map link_of nodes ≡ map link_of others = sym (links-without nodes)
+    ∙ ap (map link_of) e ∙ links-without others in
     ap (λ row. row.stack) (node_at-node_rows names nodes k) ∙ ap (λ ls. get_or (stacks_from names [] ls) k []) links
     ∙ sym (ap (λ row. row.stack) (node_at-node_rows names others k))
 
-pub length-alike : (nodes others : List Node) → map without_weight nodes ≡ map without_weight others → length nodes ≡ length others
+pub length-alike : (nodes others : List Node)
+    → map without_weight nodes ≡ map without_weight others → length nodes ≡ length others
 length-alike nodes others e = sym (length-map nodes without_weight) ∙ ap length e ∙ length-map others without_weight
 
-pub AreStates-trees : (names : List (List ℕ)) (all : List (List Node)) → AreAlike all → AreTrees names all → AreStates (tree_of names all)
+pub AreStates-trees : (names : List (List ℕ)) (all : List (List Node))
+    → AreAlike all → AreTrees names all → AreStates (tree_of names all)
 AreStates-trees names all alike trees = record {
   some = alike.some;
   width = length-map all (node_rows names);
-  each = λ value lt. subst (λ (rows : List WeightedStack). IsState (record { names = names; nodes = rows })) (sym (nodes_at-tree names all value)) (IsState-tree names (nodes_of all value) (trees value lt));
-  sizes = λ value lt. length-nodes_at names all value ∙ length-alike (nodes_of all value) (nodes_of all 0) (alike.each value lt) ∙ sym (length-nodes_at names all 0);
-  stacks = λ value k lt. ap (λ rows. stack_at rows k) (nodes_at-tree names all value) ∙ stack_at-alike names (nodes_of all value) (nodes_of all 0) k (alike.each value lt)
+  each = λ value lt. subst (λ (rows : List WeightedStack). IsState (record { names = names; nodes = rows }))
+      (sym (nodes_at-tree names all value)) (IsState-tree names (nodes_of all value) (trees value lt));
+  sizes = λ value lt. length-nodes_at names all value
+      ∙ length-alike (nodes_of all value) (nodes_of all 0) (alike.each value lt) ∙ sym (length-nodes_at names all 0);
+  stacks = λ value k lt. ap (λ rows. stack_at rows k) (nodes_at-tree names all value)
+      ∙ stack_at-alike names (nodes_of all value) (nodes_of all 0) k (alike.each value lt)
       ∙ ap (λ rows. stack_at rows k) (sym (nodes_at-tree names all 0));
 }
 
 -- ---- a name more
 
-map_same : (f g : List Node → List WeightedStack) (all : List (List Node)) → ((value : ℕ) → value < length all → f (nodes_of all value) ≡ g (nodes_of all value)) → map f all ≡ map g all
+map_same : (f g : List Node → List WeightedStack) (all : List (List Node))
+    → ((value : ℕ) → value < length all → f (nodes_of all value) ≡ g (nodes_of all value)) → map f all ≡ map g all
 map_same f g [] same = refl
-map_same f g (nodes ∷ all) same = λ i. same 0 (omega arith) i ∷ map_same f g all (λ value lt. same (suc value) (omega arith)) i
+map_same f g (nodes ∷ all) same =
+    λ i. same 0 (omega arith) i ∷ map_same f g all (λ value lt. same (suc value) (omega arith)) i
 
-pub values_named : (names : List (List ℕ)) (all : List (List Node)) (added : List ℕ) → AreTrees names all → ((i : ℕ) → i < length names → name_at names i ≡ added → ⊥)
+pub values_named : (names : List (List ℕ)) (all : List (List Node)) (added : List ℕ)
+    → AreTrees names all → ((i : ℕ) → i < length names → name_at names i ≡ added → ⊥)
     → map (node_rows (names ++ added ∷ [])) all ≡ map (node_rows names) all
 values_named names all added trees absent =
-    map_same (node_rows (names ++ added ∷ [])) (node_rows names) all (λ value lt. node_rows-named names (nodes_of all value) added (trees value lt) absent)
+    map_same (node_rows (names ++ added ∷ []))
+    (node_rows names) all (λ value lt. node_rows-named names (nodes_of all value) added (trees value lt) absent)
 
 -- ---- a node more
 
-module _ (names : List (List ℕ)) (all next : List (List Node)) (parent name : ℕ) (counts : Bool) (trees : AreTrees names all) (alike : AreAlike all)
+module _ (names : List (List ℕ))
+    (all next : List (List Node)) (parent name : ℕ) (counts : Bool) (trees : AreTrees names all) (alike : AreAlike all)
     (fresh : IsFresh (plain_at (tree_of names all) 0) parent name counts) (count : length next ≡ length all)
     (pushed : (value : ℕ) → value < length all
-    → nodes_of next value ≡ nodes_of all value ++ (record { parent = parent; name = name; counts = counts; own = 0 }) ∷ []) where
-  stack_is : (value k : ℕ) → value < length all → stack_at (node_rows names (nodes_of all value)) k ≡ stack_at (nodes_at (tree_of names all) 0) k
-  stack_is value k lt = stack_at-alike names (nodes_of all value) (nodes_of all 0) k (alike.each value lt) ∙ ap (λ rows. stack_at rows k) (sym (nodes_at-tree names all 0))
+    → nodes_of next value
+    ≡ nodes_of all value ++ (record { parent = parent; name = name; counts = counts; own = 0 }) ∷ []) where
+  stack_is : (value k : ℕ) → value < length all
+      → stack_at (node_rows names (nodes_of all value)) k ≡ stack_at (nodes_at (tree_of names all) 0) k
+  stack_is value k lt = stack_at-alike names (nodes_of all value) (nodes_of all 0) k (alike.each value lt)
+      ∙ ap (λ rows. stack_at rows k) (sym (nodes_at-tree names all 0))
 
   size_is : (value : ℕ) → value < length all → length (nodes_of all value) ≡ length (nodes_at (tree_of names all) 0)
-  size_is value lt = length-alike (nodes_of all value) (nodes_of all 0) (alike.each value lt) ∙ sym (length-nodes_at names all 0)
+  size_is value lt = length-alike (nodes_of all value) (nodes_of all 0) (alike.each value lt)
+      ∙ sym (length-nodes_at names all 0)
 
   parent_lt : (value : ℕ) → value < length all → parent < length (nodes_of all value)
   parent_lt value lt = omega (arith, size_is value lt, fresh.parent_lt)
 
-  counted : (value : ℕ) → value < length all → counts ≡ not (has_name (name_at names name) (stack_at (node_rows names (nodes_of all value)) parent))
-  counted value lt = fresh.counted ∙ ap (λ stack. not (has_name (name_at names name) stack)) (sym (stack_is value parent lt))
+  counted : (value : ℕ) → value < length all
+      → counts ≡ not (has_name (name_at names name) (stack_at (node_rows names (nodes_of all value)) parent))
+  counted value lt = fresh.counted
+      ∙ ap (λ stack. not (has_name (name_at names name) stack)) (sym (stack_is value parent lt))
 
   deep : (value : ℕ) → value < length all → length (stack_at (node_rows names (nodes_of all value)) parent) < 65535
   deep value lt = let same = ap length (stack_is value parent lt) in omega (arith, same, fresh.deep)
 
   none : (value : ℕ) → value < length all → (k : ℕ) → k < length (nodes_of all value)
-      → stack_at (node_rows names (nodes_of all value)) k ≡ stack_at (node_rows names (nodes_of all value)) parent ++ name_at names name ∷ [] → ⊥
+      → stack_at (node_rows names (nodes_of all value)) k
+      ≡ stack_at (node_rows names (nodes_of all value)) parent ++ name_at names name ∷ [] → ⊥
   none value lt k k_lt e = fresh.fresh k (omega (arith, size_is value lt, k_lt))
       (sym (stack_is value k lt) ∙ e ∙ ap (λ stack. stack ++ name_at names name ∷ []) (stack_is value parent lt))
 
@@ -107,7 +136,8 @@ module _ (names : List (List ℕ)) (all next : List (List Node)) (parent name : 
   AreTrees-appended value next_lt =
       let lt : value < length all = omega (arith, next_lt, count) in
       subst (IsTree names) (sym (pushed value lt))
-      (IsTree-added names (nodes_of all value) parent name counts (trees value lt) (parent_lt value lt) fresh.name_lt (counted value lt) (deep value lt) (none value lt))
+      (IsTree-added names (nodes_of all value) parent name counts
+      (trees value lt) (parent_lt value lt) fresh.name_lt (counted value lt) (deep value lt) (none value lt))
 
   pub IsAppended-trees : IsAppended (tree_of names all) parent name (tree_of names next)
   IsAppended-trees = record {
@@ -117,14 +147,18 @@ module _ (names : List (List ℕ)) (all next : List (List Node)) (parent name : 
     each = λ value values_lt.
         let lt : value < length all = omega (arith, values_lt, length-map all (node_rows names)) in
         nodes_at-tree names next value ∙ ap (node_rows names) (pushed value lt)
-        ∙ node_rows-added names (nodes_of all value) parent name counts (trees value lt) (parent_lt value lt) fresh.name_lt (counted value lt) (deep value lt) (none value lt)
-        ∙ (λ i. sym (nodes_at-tree names all value) i ++ (record { stack = stack_is value parent lt i ++ name_at names name ∷ []; weight = 0 }) ∷ []);
+        ∙ node_rows-added names (nodes_of all value) parent name counts
+        (trees value lt) (parent_lt value lt) fresh.name_lt (counted value lt) (deep value lt) (none value lt)
+        ∙ (λ i. sym (nodes_at-tree names all value) i
+        ++ (record { stack = stack_is value parent lt i ++ name_at names name ∷ []; weight = 0 }) ∷ []);
   }
 
 -- ---- one weight more by one value
 
-pub AreTrees-raised : (names : List (List ℕ)) (all now : List (List Node)) (value : ℕ) → AreTrees names all → length now ≡ length all
-    → IsTree names (nodes_of now value) → ((other : ℕ) → (other ≡ value → ⊥) → nodes_of now other ≡ nodes_of all other) → AreTrees names now
+pub AreTrees-raised : (names : List (List ℕ)) (all now : List (List Node)) (value : ℕ)
+    → AreTrees names all → length now ≡ length all
+    → IsTree names (nodes_of now value)
+    → ((other : ℕ) → (other ≡ value → ⊥) → nodes_of now other ≡ nodes_of all other) → AreTrees names now
 AreTrees-raised names all now value trees count here others other lt = ⊎_elim
     (λ e. subst (λ v. IsTree names (nodes_of now v)) (sym e) here)
     (λ ne. subst (IsTree names) (sym (others other ne)) (trees other (omega (arith, lt, count))))

@@ -9,22 +9,28 @@ use Rattle.call_tree.specs.State.{stack_at}
 use Rattle.call_tree.specs.Shape.{node_rows}
 use Rattle.call_tree.proofs.Shapes.{stack_at-root}
 
-pub turned_step : (names : List (List ℕ)) (nodes : List Node) (start place parent : ℕ) (before next : List (List ℕ)) (name : List ℕ) → parent < length nodes
+pub turned_step : (names : List (List ℕ))
+    (nodes : List Node) (start place parent : ℕ) (before next : List (List ℕ)) (name : List ℕ) → parent < length nodes
     → stack_at (node_rows names nodes) start ≡ stack_at (node_rows names nodes) place ++ reverse before
-    → stack_at (node_rows names nodes) place ≡ stack_at (node_rows names nodes) parent ++ name ∷ [] → next ≡ before ++ name ∷ []
-    → (parent < length nodes) × (stack_at (node_rows names nodes) start ≡ stack_at (node_rows names nodes) parent ++ reverse next)
+    → stack_at (node_rows names nodes) place ≡ stack_at (node_rows names nodes) parent ++ name ∷ []
+    → next ≡ before ++ name ∷ []
+    → (parent < length nodes)
+    × (stack_at (node_rows names nodes) start ≡ stack_at (node_rows names nodes) parent ++ reverse next)
 turned_step names nodes start place parent before next name lt whole child next_is =
     let stack = stack_at (node_rows names nodes) parent in (
       lt,
       whole ∙ ap (λ s. s ++ reverse before) child ∙ append_assoc stack (name ∷ []) (reverse before)
-          ∙ ap (λ r. stack ++ r) (sym (reverse-append before (name ∷ []))) ∙ ap (λ ns. stack ++ reverse ns) (sym next_is),
+          ∙ ap (λ r. stack ++ r) (sym (reverse-append before (name ∷ [])))
+          ∙ ap (λ ns. stack ++ reverse ns) (sym next_is),
     )
 
 -- at the root nothing is left
 pub turned : (names : List (List ℕ)) (nodes : List Node) (start place : ℕ) (before : List (List ℕ)) → place ≡ 0
-    → stack_at (node_rows names nodes) start ≡ stack_at (node_rows names nodes) place ++ reverse before → stack_at (node_rows names nodes) start ≡ reverse before
+    → stack_at (node_rows names nodes) start ≡ stack_at (node_rows names nodes) place ++ reverse before
+    → stack_at (node_rows names nodes) start ≡ reverse before
 turned names nodes start place before end whole =
-    whole ∙ ap (λ p. stack_at (node_rows names nodes) p ++ reverse before) end ∙ ap (λ s. s ++ reverse before) (stack_at-root names nodes)
+    whole ∙ ap (λ p. stack_at (node_rows names nodes) p ++ reverse before) end
+    ∙ ap (λ s. s ++ reverse before) (stack_at-root names nodes)
 
 -- ---- the names as texts that are lent
 
@@ -32,14 +38,19 @@ turned names nodes start place before end whole =
 pub map-reverse : {X Y : Type 0} (f : X → Y) (xs : List X) → map f (reverse xs) ≡ reverse (map f xs)
 map-reverse f [] = refl
 map-reverse f (x ∷ xs) =
-    ap (map f) (reverse-append (x ∷ []) xs) ∙ map-append f (reverse xs) (x ∷ []) ∙ ap (λ ys. ys ++ f x ∷ []) (map-reverse f xs)
+    ap (map f) (reverse-append (x ∷ []) xs)
+    ∙ map-append f (reverse xs) (x ∷ []) ∙ ap (λ ys. ys ++ f x ∷ []) (map-reverse f xs)
     ∙ sym (reverse-append (f x ∷ []) (map f xs))
 
 -- one frame more, leaf first, is the first of them turned round
 pub turned_frames : (before next : List (Bor (List ℕ))) (frame : Bor (List ℕ)) → next ≡ before ++ frame ∷ []
-    → map (λ (frame : Bor (List ℕ)). frame.now) next ≡ map (λ (frame : Bor (List ℕ)). frame.now) before ++ frame.now ∷ []
-turned_frames before next frame next_is = ap (map (λ (frame : Bor (List ℕ)). frame.now)) next_is ∙ map-append (λ (frame : Bor (List ℕ)). frame.now) before (frame ∷ [])
+    → map (λ (frame : Bor (List ℕ)). frame.now) next
+    ≡ map (λ (frame : Bor (List ℕ)). frame.now) before ++ frame.now ∷ []
+turned_frames before next frame next_is = ap (map (λ (frame : Bor (List ℕ)). frame.now)) next_is
+    ∙ map-append (λ (frame : Bor (List ℕ)). frame.now) before (frame ∷ [])
 
-pub turned_names : (before next : List (List ℕ)) (name : List ℕ) → next ≡ before ++ name ∷ [] → IsName name → All IsName (reverse before) → All IsName (reverse next)
+pub turned_names : (before next : List (List ℕ)) (name : List ℕ)
+    → next ≡ before ++ name ∷ [] → IsName name → All IsName (reverse before) → All IsName (reverse next)
 turned_names before next name next_is is named =
-    subst (All IsName) (sym (ap reverse next_is ∙ reverse-append before (name ∷ []))) (All-cons IsName name (reverse before) is named)
+    subst (All IsName)
+    (sym (ap reverse next_is ∙ reverse-append before (name ∷ []))) (All-cons IsName name (reverse before) is named)

@@ -1,5 +1,6 @@
 -- Nodes with the weights of a table.
-use Rattle.std.proofs.Common.{◌≡◌, ℕ, zero, suc, ◌+◌, ◌<◌, List, [], ◌∷◌, ◌++◌, length, map, get_or, refl, sym, ap, ◌∙◌, subst, arith, ⊎_elim}
+use Rattle.std.proofs.Common.{◌≡◌, ℕ, zero, suc, ◌+◌, ◌<◌, List, [], ◌∷◌, ◌++◌, length, map, get_or, refl, sym, ap, ◌∙◌}
+use Rattle.std.proofs.Common.{subst, arith, ⊎_elim}
 use Rattle.std.proofs.Math.ListN.{set}
 use Rattle.std.proofs.Math.Seq.{map-set_same}
 use Rattle.std.proofs.lemmas.List.{get_or-map, length-map, get_or-set_same, get_or-set_other, length-set, length_push}
@@ -21,7 +22,8 @@ at-weighed (n ∷ nodes) [] (suc k) lt = at-weighed nodes [] k (omega arith)
 at-weighed (n ∷ nodes) (w ∷ table) zero lt = refl
 at-weighed (n ∷ nodes) (w ∷ table) (suc k) lt = at-weighed nodes table k (omega arith)
 
-pub without-weighed : (nodes : List Node) (table : List ℕ) → map without_weight (weighed nodes table) ≡ map without_weight nodes
+pub without-weighed : (nodes : List Node) (table : List ℕ)
+    → map without_weight (weighed nodes table) ≡ map without_weight nodes
 without-weighed [] table = refl
 without-weighed (n ∷ nodes) [] = ap (λ rest. without_weight n ∷ rest) (without-weighed nodes [])
 without-weighed (n ∷ nodes) (w ∷ table) = ap (λ rest. without_weight n ∷ rest) (without-weighed nodes table)
@@ -34,7 +36,8 @@ weighed-without (n ∷ nodes) (w ∷ table) = ap (λ rest. with_weight n w ∷ r
 
 pub weighed-alike : (nodes others : List Node) (table : List ℕ) → map without_weight nodes ≡ map without_weight others
     → weighed nodes table ≡ weighed others table
-weighed-alike nodes others table e = sym (weighed-without nodes table) ∙ ap (λ ns. weighed ns table) e ∙ weighed-without others table
+weighed-alike nodes others table e = sym (weighed-without nodes table)
+    ∙ ap (λ ns. weighed ns table) e ∙ weighed-without others table
 
 pub weighed-longer : (nodes : List Node) (table : List ℕ) → weighed nodes (table ++ 0 ∷ []) ≡ weighed nodes table
 weighed-longer [] table = refl
@@ -53,7 +56,8 @@ pub weighed-set : (nodes : List Node) (table : List ℕ) (k : ℕ) (weights : �
 weighed-set [] table k weights lt long = absurd (omega arith)
 weighed-set (n ∷ nodes) [] k weights lt long = absurd (omega arith)
 weighed-set (n ∷ nodes) (w ∷ table) zero weights lt long = refl
-weighed-set (n ∷ nodes) (w ∷ table) (suc k) weights lt long = ap (λ rest. with_weight n w ∷ rest) (weighed-set nodes table k weights (omega arith) (omega arith))
+weighed-set (n ∷ nodes) (w ∷ table) (suc k) weights lt long =
+    ap (λ rest. with_weight n w ∷ rest) (weighed-set nodes table k weights (omega arith) (omega arith))
 
 -- ---- by each value
 
@@ -77,7 +81,8 @@ length-nodes_of first tables (suc k) lt =
 pub AreAlike-all : (first : List Node) (tables : List (List ℕ)) → AreAlike (all_of first tables)
 AreAlike-all first tables = record { some = omega arith; each = each }
   where
-    each : (value : ℕ) → value < length (all_of first tables) → map without_weight (nodes_of (all_of first tables) value) ≡ map without_weight first
+    each : (value : ℕ) → value < length (all_of first tables)
+        → map without_weight (nodes_of (all_of first tables) value) ≡ map without_weight first
     each zero lt = refl
     each (suc k) lt =
         let in_tables : k < length tables = omega (arith, length-map tables (weighed first)) in
@@ -103,7 +108,8 @@ others-first first next tables place node same next_is (suc k) ne =
     λ i. get_or (map (λ table. weighed-alike next first table alike i) tables) k []
 
 -- a node written by a further value
-pub here-all : (first : List Node) (tables : List (List ℕ)) (value k place : ℕ) (node : Node) (next : List ℕ) → suc k ≡ value
+pub here-all : (first : List Node) (tables : List (List ℕ)) (value k place : ℕ) (node : Node) (next : List ℕ)
+    → suc k ≡ value
     → k < length tables → place < length first → place < length (table_of tables k)
     → without_weight node ≡ without_weight (at (nodes_of (all_of first tables) value) place)
     → next ≡ set (table_of tables k) place node.own
@@ -114,7 +120,8 @@ here-all first tables value k place node next e in_tables within long same next_
     let old = nodes_of-more first tables k in_tables in
     let links : without_weight node ≡ without_weight (at first place) =
     same ∙ ap (λ v. without_weight (at (nodes_of (all_of first tables) v) place)) (sym e)
-    ∙ ap (λ nodes. without_weight (at nodes place)) old ∙ ap without_weight (at-weighed first (table_of tables k) place within) in
+    ∙ ap (λ nodes. without_weight (at nodes place)) old
+    ∙ ap without_weight (at-weighed first (table_of tables k) place within) in
     let written : with_weight (at first place) weights ≡ node = ap (λ n. with_weight n weights) (sym links) in
     ap (nodes_of (all_of first (set tables k next))) (sym e)
     ∙ nodes_of-more first (set tables k next) k (omega (arith, size, in_tables))
@@ -123,11 +130,14 @@ here-all first tables value k place node next e in_tables within long same next_
     ∙ (λ i. set (sym old i) place (written i))
     ∙ ap (λ v. set (nodes_of (all_of first tables) v) place node) e
 
-pub AreTables-set : (size : ℕ) (tables : List (List ℕ)) (k place : ℕ) (weights : ℕ) (next : List ℕ) → AreTables size tables
-    → k < length tables → place < size → next ≡ set (table_of tables k) place weights → AreTables size (set tables k next)
+pub AreTables-set : (size : ℕ) (tables : List (List ℕ)) (k place : ℕ) (weights : ℕ) (next : List ℕ)
+    → AreTables size tables
+    → k < length tables
+    → place < size → next ≡ set (table_of tables k) place weights → AreTables size (set tables k next)
 AreTables-set size tables k place weights next are lt within next_is = record {
   long = λ j j_lt. ⊎_elim
-      (λ e. let here = ap length (ap (λ i. table_of (set tables k next) i) e ∙ get_or-set_same tables k next [] lt ∙ next_is) in
+      (λ e. let here =
+      ap length (ap (λ i. table_of (set tables k next) i) e ∙ get_or-set_same tables k next [] lt ∙ next_is) in
       omega (arith, here, length-set (table_of tables k) place weights, are.long k lt))
       (λ ne. let other = ap length (get_or-set_other tables k j next [] ne) in
       omega (arith, other, are.long j (omega (arith, j_lt, length-set tables k next))))
@@ -144,7 +154,8 @@ AreTables-set size tables k place weights next are lt within next_is = record {
 -- ---- one node more
 
 pub pushed-all : (first next : List Node) (tables after : List (List ℕ)) (node : Node) → node.own ≡ 0
-    → AreTables (length first) after → length after ≡ length tables → map (weighed first) after ≡ map (weighed first) tables → next ≡ first ++ node ∷ []
+    → AreTables (length first) after → length after ≡ length tables
+    → map (weighed first) after ≡ map (weighed first) tables → next ≡ first ++ node ∷ []
     → (value : ℕ) → value < length (all_of first tables)
     → nodes_of (all_of next after) value ≡ nodes_of (all_of first tables) value ++ node ∷ []
 pushed-all first next tables after node own are count same next_is zero lt = next_is
@@ -163,35 +174,43 @@ pub record HaveRoom (size : ℕ) (before now : List (List ℕ)) (index : ℕ) : 
   pub kept : AreTables size now
   pub longer : (k : ℕ) → k < index → size < length (table_of now k)
 
-module _ (size : ℕ) (before now : List (List ℕ)) (index : ℕ) (room : HaveRoom size before now index) (lt : index < length now) where
+module _ (size : ℕ)
+    (before now : List (List ℕ)) (index : ℕ) (room : HaveRoom size before now index) (lt : index < length now) where
   pub HaveRoom-had : size < length (table_of now index) → HaveRoom size before now (index + 1)
   HaveRoom-had has = record {
     count = room.count;
     same = room.same;
     kept = room.kept;
-    longer = λ k h. ⊎_elim (λ e. subst (λ j. size < length (table_of now j)) (sym e) has) (λ ne. room.longer k (omega arith)) (cases_eq k index);
+    longer = λ k h. ⊎_elim (λ e. subst (λ j. size < length (table_of now j)) (sym e) has)
+        (λ ne. room.longer k (omega arith)) (cases_eq k index);
   }
 
-  pub HaveRoom-made : (next : List (List ℕ)) (table : List ℕ) → length (table_of now index) ≡ size → table ≡ table_of now index ++ 0 ∷ []
+  pub HaveRoom-made : (next : List (List ℕ)) (table : List ℕ)
+      → length (table_of now index) ≡ size → table ≡ table_of now index ++ 0 ∷ []
       → next ≡ set now index table → HaveRoom size before next (index + 1)
-  HaveRoom-made next table short table_is next_is = subst (λ tables. HaveRoom size before tables (index + 1)) (sym next_is) (record {
-    count = length-set now index table ∙ room.count;
-    same = λ nodes. map-set_same (weighed nodes) now index table [] (ap (weighed nodes) table_is ∙ weighed-longer nodes (table_of now index)) ∙ room.same nodes;
-    kept = record {
-      long = λ j j_lt. ⊎_elim
-          (λ e. let is = ap length (ap (table_of (set now index table)) e ∙ here) in omega (arith, is, size_here))
-          (λ ne. let is = ap length (get_or-set_other now index j table [] ne) in omega (arith, is, room.kept.long j (omega (arith, j_lt, length-set now index table))))
-          (cases_eq j index);
-      empty = λ j node past. ⊎_elim
-          (λ e. ap (λ i. get_or (table_of (set now index table) i) node 0) e ∙ ap (λ t. get_or t node 0) (here ∙ table_is) ∙ nothing (table_of now index) node (room.kept.empty index node past))
-          (λ ne. ap (λ t. get_or t node 0) (get_or-set_other now index j table [] ne) ∙ room.kept.empty j node past)
-          (cases_eq j index);
-    };
-    longer = λ k h. ⊎_elim
-        (λ e. let is = ap length (ap (table_of (set now index table)) e ∙ here) in omega (arith, is, size_here))
-        (λ ne. let is = ap length (get_or-set_other now index k table [] ne) in omega (arith, is, room.longer k (omega arith)))
-        (cases_eq k index);
-  })
+  HaveRoom-made next table short table_is next_is =
+      subst (λ tables. HaveRoom size before tables (index + 1)) (sym next_is) (record {
+        count = length-set now index table ∙ room.count;
+        same = λ nodes. map-set_same (weighed nodes) now index table []
+            (ap (weighed nodes) table_is ∙ weighed-longer nodes (table_of now index)) ∙ room.same nodes;
+        kept = record {
+          long = λ j j_lt. ⊎_elim
+              (λ e. let is = ap length (ap (table_of (set now index table)) e ∙ here) in omega (arith, is, size_here))
+              (λ ne. let is = ap length (get_or-set_other now index j table [] ne) in omega
+              (arith, is, room.kept.long j (omega (arith, j_lt, length-set now index table))))
+              (cases_eq j index);
+          empty = λ j node past. ⊎_elim
+              (λ e. ap (λ i. get_or (table_of (set now index table) i) node 0) e ∙ ap (λ t. get_or t node 0)
+              (here ∙ table_is) ∙ nothing (table_of now index) node (room.kept.empty index node past))
+              (λ ne. ap (λ t. get_or t node 0) (get_or-set_other now index j table [] ne) ∙ room.kept.empty j node past)
+              (cases_eq j index);
+        };
+        longer = λ k h. ⊎_elim
+            (λ e. let is = ap length (ap (table_of (set now index table)) e ∙ here) in omega (arith, is, size_here))
+            (λ ne. let is =
+            ap length (get_or-set_other now index k table [] ne) in omega (arith, is, room.longer k (omega arith)))
+            (cases_eq k index);
+      })
     where
       here : table_of (set now index table) index ≡ table
       here = get_or-set_same now index table [] lt
@@ -207,7 +226,8 @@ module _ (size : ℕ) (before now : List (List ℕ)) (index : ℕ) (room : HaveR
 
 -- tables with room serve one node more
 -- empty tables serve no nodes
-pub nodes_of-none : (first : List Node) (tables : List (List ℕ)) → first ≡ [] → (value : ℕ) → nodes_of (all_of first tables) value ≡ []
+pub nodes_of-none : (first : List Node) (tables : List (List ℕ))
+    → first ≡ [] → (value : ℕ) → nodes_of (all_of first tables) value ≡ []
 nodes_of-none first tables none zero = none
 nodes_of-none first tables none (suc k) = ap (λ nodes. get_or (map (weighed nodes) tables) k []) none ∙ nothing tables k
   where

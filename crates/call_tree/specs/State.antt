@@ -1,5 +1,6 @@
 -- What contracts see of a tree.
-use Rattle.std.specs.Prelude.{ℕ, ◌≡◌, ◌<◌, ◌≤◌, ◌+◌, ◌^◌, Bool, ◌&&◌, not, nat_eq, nat_lt, Option, Some, List, [], ◌∷◌, ◌++◌, length, slice_index_or, slice_set}
+use Rattle.std.specs.Prelude.{ℕ, ◌≡◌, ◌<◌, ◌≤◌, ◌+◌, ◌^◌, Bool, ◌&&◌, not, nat_eq, nat_lt, Option, Some, List, [], ◌∷◌}
+use Rattle.std.specs.Prelude.{◌++◌, length, slice_index_or, slice_set}
 use Rattle.profile_rows.specs.declared.weighted_stacks.WeightedStack.{WeightedStack}
 use Rattle.profile_rows.specs.Rows.{has_name, total_of}
 use Rattle.profile_rows.specs.Aggregate.{Weighted, aggregate_of, rows_of}

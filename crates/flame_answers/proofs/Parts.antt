@@ -1,5 +1,6 @@
 -- What reads and writes in parts take and leave together.
-use Rattle.std.proofs.Common.{◌≡◌, ◌∙◌, ◌++◌, ◌+◌, ◌-◌, ◌≤◌, ℕ, List, [], Option, ap, sym, subst, length, take, drop, arith, append_assoc, append-nil, length-append, length-drop, take_all, take-append-drop}
+use Rattle.std.proofs.Common.{◌≡◌, ◌∙◌, ◌++◌, ◌+◌, ◌-◌, ◌≤◌, ℕ, List, [], Option, ap, sym, subst, length, take, drop}
+use Rattle.std.proofs.Common.{arith, append_assoc, append-nil, length-append, length-drop, take_all, take-append-drop}
 use Rattle.std.proofs.KnownBytes.{Appends-trans}
 use Rattle.std.proofs.Math.Seq.{take-append_seam}
 use Rattle.std.specs.Io.KnownBytes.{Appends}
@@ -11,7 +12,8 @@ pub record IsWrittenSoFar (text rest : List ℕ) (before after : Option (List �
   pub parts : text ≡ written ++ rest
   pub appended : Appends before after written
 
-pub more_written : (text rest : List ℕ) (before mid after : Option (List ℕ)) (count : ℕ) → IsWrittenSoFar text rest before mid
+pub more_written : (text rest : List ℕ) (before mid after : Option (List ℕ)) (count : ℕ)
+    → IsWrittenSoFar text rest before mid
     → Appends mid after (take count rest) → IsWrittenSoFar text (drop count rest) before after
 more_written text rest before mid after count so_far part = record {
   written = so_far.written ++ take count rest;
@@ -21,7 +23,8 @@ more_written text rest before mid after count so_far part = record {
 }
 
 -- the same, where the rest is cut by its length
-pub more_written_cut : (text rest : List ℕ) (before mid after : Option (List ℕ)) (count size : ℕ) → size ≡ length rest - count
+pub more_written_cut : (text rest : List ℕ) (before mid after : Option (List ℕ)) (count size : ℕ)
+    → size ≡ length rest - count
     → IsWrittenSoFar text rest before mid → Appends mid after (take count rest)
     → IsWrittenSoFar text (take size (drop count rest)) before after
 more_written_cut text rest before mid after count size is_rest so_far part =
@@ -33,7 +36,8 @@ pub beginning_written : (text rest : List ℕ) (before after : Option (List ℕ)
     → AppendsBeginning before after text
 beginning_written text rest before after so_far =
     let written = so_far.written in
-    let is_front : take (length written) text ≡ written = ap (take (length written)) so_far.parts ∙ take-append_seam written rest in
+    let is_front : take (length written) text ≡ written = ap (take (length written)) so_far.parts
+    ∙ take-append_seam written rest in
     let lengths : length text ≡ length written + length rest = ap length so_far.parts ∙ length-append written rest in
     (length written, omega arith, subst (Appends before after) (sym is_front) so_far.appended)
 
@@ -42,5 +46,6 @@ pub beginning_kept : (text rest : List ℕ) (before mid after : Option (List ℕ
 beginning_kept text rest before mid after so_far none = beginning_written text rest before after (record {
   written = so_far.written;
   parts = so_far.parts;
-  appended = subst (Appends before after) (append-nil so_far.written) (Appends-trans before mid after _ _ so_far.appended none);
+  appended = subst
+      (Appends before after) (append-nil so_far.written) (Appends-trans before mid after _ _ so_far.appended none);
 })

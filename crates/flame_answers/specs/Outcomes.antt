@@ -3,7 +3,8 @@ use Rattle.std.specs.Prelude.{ℕ, List, [], ◌∷◌, ◌++◌, Option, Some, 
 use Rattle.flame_answers.specs.declared.outcomes.Outcome.{Outcome}
 use Rattle.flame_answers.specs.declared.outcomes.Outcome.TheVariants.{Done, Words, Fault}
 use Rattle.flame_answers.specs.declared.outcomes.ToolFault.{ToolFault}
-use Rattle.flame_answers.specs.declared.outcomes.ToolFault.TheVariants.{Folded, Profile, Batch, Name, Sessions, Live, Read, Write, TooLong, NoMemory}
+use Rattle.flame_answers.specs.declared.outcomes.ToolFault.TheVariants.{Folded, Profile, Batch, Name, Sessions, Live}
+use Rattle.flame_answers.specs.declared.outcomes.ToolFault.TheVariants.{Read, Write, TooLong, NoMemory}
 use Rattle.live_report.specs.declared.fault.LiveFault.{LiveFault}
 use Rattle.live_report.specs.Faults.{is_shortage}
 

@@ -9,7 +9,8 @@ use Rattle.flame_answers.specs.declared.outcomes.Outcome.{Outcome}
 use Rattle.flame_answers.specs.declared.outcomes.Outcome.TheVariants.{Done, Words, Fault}
 use Rattle.flame_answers.specs.declared.outcomes.ToolFault.{ToolFault}
 use Rattle.flame_answers.specs.declared.outcomes.ToolFault.TheVariants as tool
-use Rattle.flame_answers.specs.declared.outcomes.ToolFault.TheVariants.{Folded, Profile, Batch, Name, Sessions, Read, Write, TooLong, NoMemory}
+use Rattle.flame_answers.specs.declared.outcomes.ToolFault.TheVariants.{Folded, Profile, Batch, Name, Sessions, Read}
+use Rattle.flame_answers.specs.declared.outcomes.ToolFault.TheVariants.{Write, TooLong, NoMemory}
 use Rattle.flame_answers.specs.declared.streams.ReadFault.{ReadFault}
 use Rattle.flame_answers.specs.declared.streams.ReadFault.TheVariants as reading
 use Rattle.flame_words.specs.declared.words.WordsFault.{WordsFault}

@@ -1,5 +1,7 @@
--- The paths of rows are those of some weight, in order; the rectangles of a layout are those of the paths that are wide enough.
-use Rattle.std.proofs.Common.{◌≡◌, ℕ, zero, suc, ◌+◌, ◌<◌, Bool, true, false, cond, ◌||◌, List, [], ◌∷◌, ◌++◌, length, map, filter, refl, sym, ap, subst, ◌∙◌, arith}
+-- The paths of rows are those of some weight, in order; the rectangles of a layout are those of the paths that are
+-- wide enough.
+use Rattle.std.proofs.Common.{◌≡◌, ℕ, zero, suc, ◌+◌, ◌<◌, Bool, true, false, cond, ◌||◌, List, [], ◌∷◌, ◌++◌, length}
+use Rattle.std.proofs.Common.{map, filter, refl, sym, ap, subst, ◌∙◌, arith}
 use Rattle.std.specs.Prelude.{nat_lt}
 use Rattle.std.specs.List.{AllByRecursion, AllPairs, Contains, list_any, flat_map}
 use Rattle.std.specs.declared.cmp.Ordering.TheVariants.{Less}
@@ -19,18 +21,23 @@ use Rattle.flame_report.proofs.NewPaths.{among-all, begins_row}
 use Rattle.flame_report.proofs.RowSums.{weight_where-cons}
 use Rattle.flame_report.proofs.Spans.{parents_are_shown}
 
-some_row : (rows : List WeightedStack) (path : List (List ℕ)) → 0 < path_weight rows path → list_any (begins_row path) (filter (λ row. nat_lt 0 row.weight) rows) ≡ true
+some_row : (rows : List WeightedStack) (path : List (List ℕ))
+    → 0 < path_weight rows path → list_any (begins_row path) (filter (λ row. nat_lt 0 row.weight) rows) ≡ true
 some_row [] path some = absurd (omega arith)
 some_row (row ∷ rows) path some =
     let cons = weight_where-cons (begins_with name_cmp path) row rows in
-    elim (nat_lt 0 row.weight) as (λ b. nat_lt 0 row.weight ≡ b → list_any (begins_row path) (cond b (row ∷ filter (λ row. nat_lt 0 row.weight) rows) (filter (λ row. nat_lt 0 row.weight) rows)) ≡ true) [
-      | true ↦ λ e. elim (begins_with name_cmp path row.stack) as (λ b. begins_with name_cmp path row.stack ≡ b → (b || list_any (begins_row path) (filter (λ row. nat_lt 0 row.weight) rows)) ≡ true) [
-        | true ↦ λ f. refl
-        | false ↦ λ f. let none : cond (begins_with name_cmp path row.stack) row.weight 0 ≡ 0 = ap (λ b. cond b row.weight 0) f in some_row rows path (omega arith)
-      ] refl
+    elim (nat_lt 0 row.weight) as (λ b. nat_lt 0 row.weight ≡ b → list_any (begins_row path)
+    (cond b (row ∷ filter (λ row. nat_lt 0 row.weight) rows) (filter (λ row. nat_lt 0 row.weight) rows)) ≡ true) [
+      | true ↦ λ e. elim (begins_with name_cmp path row.stack) as (λ b. begins_with name_cmp path row.stack ≡ b
+          → (b || list_any (begins_row path) (filter (λ row. nat_lt 0 row.weight) rows)) ≡ true) [
+            | true ↦ λ f. refl
+            | false ↦ λ f. let none : cond (begins_with name_cmp path row.stack) row.weight 0 ≡ 0 =
+                ap (λ b. cond b row.weight 0) f in some_row rows path (omega arith)
+          ] refl
       | false ↦ λ e.
           let least = ltb-false 0 row.weight e in
-          let none : cond (begins_with name_cmp path row.stack) row.weight 0 ≡ 0 = at_most (begins_with name_cmp path row.stack) row.weight (omega arith) in
+          let none : cond (begins_with name_cmp path row.stack) row.weight 0 ≡ 0 =
+          at_most (begins_with name_cmp path row.stack) row.weight (omega arith) in
           some_row rows path (omega arith)
     ] refl
   where
@@ -38,62 +45,77 @@ some_row (row ∷ rows) path some =
     at_most true n none = none
     at_most false n none = refl
 
-pub weighty_path : (rows : List WeightedStack) (path : List (List ℕ)) → 0 < path_weight rows path → Contains (paths_of rows) path
+pub weighty_path : (rows : List WeightedStack) (path : List (List ℕ))
+    → 0 < path_weight rows path → Contains (paths_of rows) path
 weighty_path rows path some =
     Contains-from_any {eq = is_same_stack} (λ x y same. same_from_is_same_stack x y same) path (paths_of rows)
-    (member-in_order stack_cmp stack_cmp_total stack_cmp_apart path (flat_map (λ row. prefixes row.stack) (filter (λ row. nat_lt 0 row.weight) rows))
+    (member-in_order stack_cmp stack_cmp_total stack_cmp_apart path
+    (flat_map (λ row. prefixes row.stack) (filter (λ row. nat_lt 0 row.weight) rows))
     ∙ among-all path (filter (λ row. nat_lt 0 row.weight) rows) ∙ some_row rows path some)
 
 -- ---- and a path that is listed weighs something
 
-some_weight : (rows : List WeightedStack) (path : List (List ℕ)) → list_any (begins_row path) (filter (λ row. nat_lt 0 row.weight) rows) ≡ true → 0 < path_weight rows path
+some_weight : (rows : List WeightedStack) (path : List (List ℕ))
+    → list_any (begins_row path) (filter (λ row. nat_lt 0 row.weight) rows) ≡ true → 0 < path_weight rows path
 some_weight [] path some = cc
 some_weight (row ∷ rows) path some =
     let cons = weight_where-cons (begins_with name_cmp path) row rows in
     elim (nat_lt 0 row.weight) as (λ b. nat_lt 0 row.weight ≡ b
-    → list_any (begins_row path) (cond b (row ∷ filter (λ row. nat_lt 0 row.weight) rows) (filter (λ row. nat_lt 0 row.weight) rows)) ≡ true → 0 < path_weight (row ∷ rows) path) [
+    → list_any (begins_row path) (cond b (row ∷ filter (λ row. nat_lt 0 row.weight) rows)
+    (filter (λ row. nat_lt 0 row.weight) rows)) ≡ true → 0 < path_weight (row ∷ rows) path) [
       | true ↦ λ e. elim (begins_with name_cmp path row.stack) as (λ b. begins_with name_cmp path row.stack ≡ b
-          → (b || list_any (begins_row path) (filter (λ row. nat_lt 0 row.weight) rows)) ≡ true → 0 < path_weight (row ∷ rows) path) [
+          → (b || list_any (begins_row path) (filter (λ row. nat_lt 0 row.weight) rows)) ≡ true
+          → 0 < path_weight (row ∷ rows) path) [
             | true ↦ λ f found.
-                let own : cond (begins_with name_cmp path row.stack) row.weight 0 ≡ row.weight = ap (λ b. cond b row.weight 0) f in
+                let own : cond (begins_with name_cmp path row.stack) row.weight 0 ≡ row.weight =
+                ap (λ b. cond b row.weight 0) f in
                 let weighs = ltb-true 0 row.weight e in omega arith
             | false ↦ λ f found. let rest = some_weight rows path found in omega arith
           ] refl
       | false ↦ λ e found. let rest = some_weight rows path found in omega arith
     ] refl some
 
-pub listed_weighs : (rows : List WeightedStack) (path : List (List ℕ)) → Contains (paths_of rows) path → 0 < path_weight rows path
+pub listed_weighs : (rows : List WeightedStack) (path : List (List ℕ))
+    → Contains (paths_of rows) path → 0 < path_weight rows path
 listed_weighs rows path found =
     some_weight rows path
     (sym (among-all path (filter (λ row. nat_lt 0 row.weight) rows))
-    ∙ sym (member-in_order stack_cmp stack_cmp_total stack_cmp_apart path (flat_map (λ row. prefixes row.stack) (filter (λ row. nat_lt 0 row.weight) rows)))
+    ∙ sym (member-in_order stack_cmp stack_cmp_total stack_cmp_apart path
+    (flat_map (λ row. prefixes row.stack) (filter (λ row. nat_lt 0 row.weight) rows)))
     ∙ list_any-from_Contains (eq_by_cmp_equiv stack_cmp_total) path (paths_of rows) found)
 
 -- ---- in order
 
-in_pairs : (paths : List (List (List ℕ))) → Rises stack_cmp stack_cmp_total stack_cmp_apart paths → AllPairs (λ a b. stack_cmp a b ≡ Less) paths
+in_pairs : (paths : List (List (List ℕ)))
+    → Rises stack_cmp stack_cmp_total stack_cmp_apart paths → AllPairs (λ a b. stack_cmp a b ≡ Less) paths
 in_pairs [] up = λ i j d lt short. absurd (omega arith)
 in_pairs (path ∷ paths) up =
-    AllPairs-cons (λ a b. stack_cmp a b ≡ Less) path paths (All-from_recursion (λ after. stack_cmp path after ≡ Less) paths up.0) (in_pairs paths up.1)
+    AllPairs-cons (λ a b. stack_cmp a b ≡ Less) path paths
+    (All-from_recursion (λ after. stack_cmp path after ≡ Less) paths up.0) (in_pairs paths up.1)
 
 pub paths_ascend : (rows : List WeightedStack) → AllPairs (λ a b. stack_cmp a b ≡ Less) (paths_of rows)
 paths_ascend rows =
     in_pairs (paths_of rows)
-    (in_order-Rises stack_cmp stack_cmp_total stack_cmp_apart (flat_map (λ row. prefixes row.stack) (filter (λ row. nat_lt 0 row.weight) rows)))
+    (in_order-Rises stack_cmp stack_cmp_total stack_cmp_apart
+    (flat_map (λ row. prefixes row.stack) (filter (λ row. nat_lt 0 row.weight) rows)))
 
-filter-map : {X Y : Type 0} (test : X → Bool) (f : Y → X) (ys : List Y) → filter test (map f ys) ≡ map f (filter (λ y. test (f y)) ys)
+filter-map : {X Y : Type 0} (test : X → Bool) (f : Y → X) (ys : List Y)
+    → filter test (map f ys) ≡ map f (filter (λ y. test (f y)) ys)
 filter-map test f [] = refl
 filter-map test f (y ∷ ys) =
-    elim (test (f y)) as (λ b. cond b (f y ∷ filter test (map f ys)) (filter test (map f ys)) ≡ map f (cond b (y ∷ filter (λ y. test (f y)) ys) (filter (λ y. test (f y)) ys))) [
+    elim (test (f y)) as (λ b. cond b (f y ∷ filter test (map f ys)) (filter test (map f ys))
+    ≡ map f (cond b (y ∷ filter (λ y. test (f y)) ys) (filter (λ y. test (f y)) ys))) [
       | true ↦ ap (λ more. f y ∷ more) (filter-map test f ys)
       | false ↦ filter-map test f ys
     ]
 
 pub drawn_in_order : (columns : ℕ) (rows : List WeightedStack)
-    → rectangles_of columns rows ≡ map (rectangle_at columns rows) (filter (λ path. is_shown (rectangle_at columns rows path)) (paths_of rows))
+    → rectangles_of columns rows
+    ≡ map (rectangle_at columns rows) (filter (λ path. is_shown (rectangle_at columns rows path)) (paths_of rows))
 drawn_in_order columns rows = filter-map is_shown (rectangle_at columns rows) (paths_of rows)
 
-wide_weighs : (columns : ℕ) (rows : List WeightedStack) (path : List (List ℕ)) → is_shown (rectangle_at columns rows path) ≡ true → 0 < path_weight rows path
+wide_weighs : (columns : ℕ) (rows : List WeightedStack) (path : List (List ℕ))
+    → is_shown (rectangle_at columns rows path) ≡ true → 0 < path_weight rows path
 wide_weighs columns rows path wide =
     let apart = ltb-true _ _ wide in
     elim (nat_lt 0 (path_weight rows path)) as (λ b. nat_lt 0 (path_weight rows path) ≡ b → 0 < path_weight rows path) [
@@ -107,7 +129,8 @@ wide_weighs columns rows path wide =
 
 module _ {X Y : Type 0} (test : X → Bool) (f : Y → X) where
   shifted : (x y : X) (xs : List X) → Contains xs y → Contains (x ∷ xs) y
-  shifted x y xs found = (suc found.0, (let low = found.1 in let more : suc found.0 < length (x ∷ xs) = omega arith in more), found.2)
+  shifted x y xs found =
+      (suc found.0, (let low = found.1 in let more : suc found.0 < length (x ∷ xs) = omega arith in more), found.2)
 
   pub kept : (ys : List Y) (y : Y) → Contains ys y → test (f y) ≡ true → Contains (filter test (map f ys)) (f y)
   kept [] y (k, lt, is) passes = absurd (omega arith)
@@ -130,14 +153,19 @@ passes test (y ∷ xs) x found =
       | false ↦ λ e rest. passes test xs x rest
     ] refl found
   where
-    step : test y ≡ true → Contains (y ∷ filter test xs) x → (Contains (filter test xs) x → test x ≡ true) → test x ≡ true
+    step : test y ≡ true
+        → Contains (y ∷ filter test xs) x → (Contains (filter test xs) x → test x ≡ true) → test x ≡ true
     step e (zero, lt, is) after = ap test (sym is) ∙ e
     step e (suc k, lt, is) after = after (k, (let low : k < length (filter test xs) = omega arith in low), is)
 
-pub shown_listed : (columns : ℕ) (rows : List WeightedStack) (path : List (List ℕ)) → is_shown (rectangle_at columns rows path) ≡ true → Contains (rectangles_of columns rows) (rectangle_at columns rows path)
-shown_listed columns rows path wide = kept is_shown (rectangle_at columns rows) (paths_of rows) path (weighty_path rows path (wide_weighs columns rows path wide)) wide
+pub shown_listed : (columns : ℕ) (rows : List WeightedStack) (path : List (List ℕ)) → is_shown
+    (rectangle_at columns rows path) ≡ true → Contains (rectangles_of columns rows) (rectangle_at columns rows path)
+shown_listed columns rows path wide = kept is_shown
+    (rectangle_at columns rows) (paths_of rows) path (weighty_path rows path (wide_weighs columns rows path wide)) wide
 
-pub parents_listed : (columns : ℕ) (rows : List WeightedStack) (path rest : List (List ℕ)) → Contains (rectangles_of columns rows) (rectangle_at columns rows (path ++ rest))
+pub parents_listed : (columns : ℕ) (rows : List WeightedStack) (path rest : List (List ℕ))
+    → Contains (rectangles_of columns rows) (rectangle_at columns rows (path ++ rest))
     → Contains (rectangles_of columns rows) (rectangle_at columns rows path)
 parents_listed columns rows path rest found =
-    shown_listed columns rows path (parents_are_shown columns rows path rest (passes is_shown (map (rectangle_at columns rows) (paths_of rows)) (rectangle_at columns rows (path ++ rest)) found))
+    shown_listed columns rows path (parents_are_shown columns rows path rest (passes is_shown
+    (map (rectangle_at columns rows) (paths_of rows)) (rectangle_at columns rows (path ++ rest)) found))

@@ -1,5 +1,6 @@
 -- The paths that a layout visits are the paths of the rows.
-use Rattle.std.proofs.Common.{ℕ, ◌≡◌, ◌<◌, ◌≤◌, ◌+◌, List, [], ◌∷◌, ◌++◌, length, take, drop, get_or, map, refl, sym, ap, subst, ◌∙◌, arith, zero, suc, true, false, inl, inr, Bool, ◌⊎◌, filter}
+use Rattle.std.proofs.Common.{ℕ, ◌≡◌, ◌<◌, ◌≤◌, ◌+◌, List, [], ◌∷◌, ◌++◌, length, take, drop, get_or, map, refl, sym}
+use Rattle.std.proofs.Common.{ap, subst, ◌∙◌, arith, zero, suc, true, false, inl, inr, Bool, ◌⊎◌, filter}
 use Rattle.std.specs.Prelude.{◌||◌, nat_lt}
 use Rattle.std.specs.List.{list_any, flat_map, AllByRecursion}
 use Rattle.profile_rows.proofs.Members.{same_members, in_order-Rises, member-in_order}
@@ -35,10 +36,12 @@ is_among path paths = list_any (λ p. eq_by_cmp stack_cmp path p) paths
 among-append : (q : Path) (ps qs : List Path) → is_among q (ps ++ qs) ≡ (is_among q ps || is_among q qs)
 among-append q [] qs = refl
 among-append q (p ∷ ps) qs =
-    elim (eq_by_cmp stack_cmp q p) as (λ b. (b || is_among q (ps ++ qs)) ≡ ((b || is_among q ps) || is_among q qs)) [ true ↦ refl | false ↦ among-append q ps qs ]
+    elim (eq_by_cmp stack_cmp q p) as (λ b. (b || is_among q (ps ++ qs))
+    ≡ ((b || is_among q ps) || is_among q qs)) [ true ↦ refl | false ↦ among-append q ps qs ]
 
 -- a list of paths that begin with one name
-among-map : (r : Ordering) (n f : List ℕ) (q : Path) (ps : List Path) → name_cmp n f ≡ r → is_among (n ∷ q) (map (λ p. f ∷ p) ps) ≡ match_ordering r false (is_among q ps) false
+among-map : (r : Ordering) (n f : List ℕ) (q : Path) (ps : List Path)
+    → name_cmp n f ≡ r → is_among (n ∷ q) (map (λ p. f ∷ p) ps) ≡ match_ordering r false (is_among q ps) false
 among-map Less n f q [] e = refl
 among-map Equal n f q [] e = refl
 among-map Greater n f q [] e = refl
@@ -53,21 +56,24 @@ among-prefixes [] (f ∷ s) = refl
 among-prefixes (n ∷ q) [] = refl
 among-prefixes (n ∷ q) (f ∷ s) =
     among-map (name_cmp n f) n f q (prefixes s) refl
-    ∙ elim (name_cmp n f) as (λ r. name_cmp n f ≡ r → match_ordering r false (is_among q (prefixes s)) false ≡ match_ordering (name_cmp f n) false (begins_with name_cmp q s) false) [
+    ∙ elim (name_cmp n f) as (λ r. name_cmp n f ≡ r → match_ordering r false (is_among q (prefixes s)) false
+    ≡ match_ordering (name_cmp f n) false (begins_with name_cmp q s) false) [
       | Less ↦ λ e. rw (order.turned names_total names_same n f Less e) refl
       | Equal ↦ λ e. rw (order.turned names_total names_same n f Equal e) (among-prefixes q s)
       | Greater ↦ λ e. rw (order.turned names_total names_same n f Greater e) refl
     ] refl
 
 -- a path that is left out of the paths of a stack is a short one
-among-drop : (k : ℕ) (q s : Path) → begins_with name_cmp q s ≡ true → k ≤ length q → is_among q (drop k (prefixes s)) ≡ true
+among-drop : (k : ℕ) (q s : Path)
+    → begins_with name_cmp q s ≡ true → k ≤ length q → is_among q (drop k (prefixes s)) ≡ true
 among-drop zero q s a h = among-prefixes q s ∙ a
 among-drop (suc k) [] s a h = absurd (omega arith)
 among-drop (suc k) (n ∷ q) [] a h = cc
 among-drop (suc k) (n ∷ q) (f ∷ s) a h =
     let fa : (name_cmp f n ≡ Equal) × (begins_with name_cmp q s ≡ true) = order.same_first _ _ a in
     let turned : name_cmp n f ≡ Equal = order.turned names_total names_same f n Equal fa.0 in
-    ap (is_among (n ∷ q)) (drop-map (λ p. f ∷ p) k (prefixes s)) ∙ among-map Equal n f q (drop k (prefixes s)) turned ∙ among-drop k q s fa.1 (omega arith)
+    ap (is_among (n ∷ q)) (drop-map (λ p. f ∷ p) k (prefixes s))
+    ∙ among-map Equal n f q (drop k (prefixes s)) turned ∙ among-drop k q s fa.1 (omega arith)
 
 -- what isn't in a list isn't in what is left of it
 among-rest : (q : Path) (k : ℕ) (ps : List Path) → is_among q ps ≡ false → is_among q (drop k ps) ≡ false
@@ -78,42 +84,52 @@ among-rest q (suc k) (p ∷ ps) a = among-rest q k ps (or_parts (eq_by_cmp stack
 abbrev pub begins_row : Path → WeightedStack → Bool
 begins_row q row = begins_with name_cmp q row.stack
 
-any-append : (q : Path) (xs ys : List WeightedStack) → list_any (begins_row q) (xs ++ ys) ≡ (list_any (begins_row q) xs || list_any (begins_row q) ys)
+any-append : (q : Path) (xs ys : List WeightedStack)
+    → list_any (begins_row q) (xs ++ ys) ≡ (list_any (begins_row q) xs || list_any (begins_row q) ys)
 any-append q [] ys = refl
 any-append q (x ∷ xs) ys =
-    elim (begins_row q x) as (λ b. (b || list_any (begins_row q) (xs ++ ys)) ≡ ((b || list_any (begins_row q) xs) || list_any (begins_row q) ys)) [ true ↦ refl | false ↦ any-append q xs ys ]
+    elim (begins_row q x) as (λ b. (b || list_any (begins_row q) (xs ++ ys)) ≡ ((b || list_any (begins_row q) xs)
+    || list_any (begins_row q) ys)) [ true ↦ refl | false ↦ any-append q xs ys ]
 
-any-at : (q : Path) (rows : List WeightedStack) (k : ℕ) (d : WeightedStack) → k < length rows → begins_row q (get_or rows k d) ≡ true → list_any (begins_row q) rows ≡ true
+any-at : (q : Path) (rows : List WeightedStack) (k : ℕ) (d : WeightedStack)
+    → k < length rows → begins_row q (get_or rows k d) ≡ true → list_any (begins_row q) rows ≡ true
 any-at q [] k d h a = absurd (omega arith)
 any-at q (row ∷ rows) zero d h a = rw a refl
 any-at q (row ∷ rows) (suc k) d h a =
     let rest : list_any (begins_row q) rows ≡ true = any-at q rows k d (omega arith) a in
     elim (begins_row q row) as (λ b. (b || list_any (begins_row q) rows) ≡ true) [ true ↦ refl | false ↦ rest ]
 
-same_or : (a d p : Bool) → (p ≡ false → d ≡ false) → (p ≡ true → (d ≡ true) ⊎ (a ≡ true)) → (a || d) ≡ (a || (p || false))
+same_or : (a d p : Bool)
+    → (p ≡ false → d ≡ false) → (p ≡ true → (d ≡ true) ⊎ (a ≡ true)) → (a || d) ≡ (a || (p || false))
 same_or true d p f g = refl
 same_or false d true f g = elim (g refl) [ inl e ↦ e | inr e ↦ cc ]
 same_or false d false f g = f refl
 
-known_part : (rows : List WeightedStack) (n : ℕ) (q : Path) → begins_with name_cmp q (stack_at rows (suc n)) ≡ true → length q < known_at rows (suc n) → begins_with name_cmp q (stack_at rows n) ≡ true
+known_part : (rows : List WeightedStack) (n : ℕ) (q : Path) → begins_with name_cmp q (stack_at rows (suc n)) ≡ true
+    → length q < known_at rows (suc n) → begins_with name_cmp q (stack_at rows n) ≡ true
 known_part rows n q a h =
-    subst (λ p. begins_with name_cmp p (stack_at rows n) ≡ true) (same_take rows n (length q) h ∙ order.take_prefix names_total names_same q (stack_at rows (suc n)) a)
+    subst (λ p. begins_with name_cmp p (stack_at rows n) ≡ true)
+    (same_take rows n (length q) h ∙ order.take_prefix names_total names_same q (stack_at rows (suc n)) a)
     (order.take_begins_with names_total names_same (length q) (stack_at rows n))
 
-new_or_known : (rows : List WeightedStack) (n : ℕ) (q : Path) → n < length rows → begins_with name_cmp q (stack_at rows n) ≡ true
-    → (is_among q (drop (known_at rows n) (prefixes (stack_at rows n))) ≡ true) ⊎ (list_any (begins_row q) (take n rows) ≡ true)
+new_or_known : (rows : List WeightedStack) (n : ℕ) (q : Path)
+    → n < length rows → begins_with name_cmp q (stack_at rows n) ≡ true
+    → (is_among q (drop (known_at rows n) (prefixes (stack_at rows n))) ≡ true)
+    ⊎ (list_any (begins_row q) (take n rows) ≡ true)
 new_or_known rows zero q h a = inl (among-prefixes q (stack_at rows zero) ∙ a)
 new_or_known rows (suc n) q h a = elim (cases_lt (length q) (known_at rows (suc n))) [
   | inl short ↦
       let d : WeightedStack = record { stack = []; weight = 0 } in
       let part = known_part rows n q a short in
-      let part' : begins_with name_cmp q (get_or rows n d).stack ≡ true = subst (λ t. begins_with name_cmp q t ≡ true) (stack_at-get rows n d (omega arith)) part in
+      let part' : begins_with name_cmp q (get_or rows n d).stack ≡ true =
+      subst (λ t. begins_with name_cmp q t ≡ true) (stack_at-get rows n d (omega arith)) part in
       inr (any-at q (take (suc n) rows) n d (omega (arith, length-take-le (suc n) rows (omega arith)))
       (subst (λ (r : WeightedStack). begins_row q r ≡ true) (sym (get_or-take (suc n) rows n d (omega arith))) part'))
   | inr long ↦ inl (among-drop (known_at rows (suc n)) q (stack_at rows (suc n)) a long)
 ]
 
-among-until : (rows : List WeightedStack) (n : ℕ) (q : Path) → n ≤ length rows → is_among q (paths_until rows n) ≡ list_any (begins_row q) (take n rows)
+among-until : (rows : List WeightedStack) (n : ℕ) (q : Path)
+    → n ≤ length rows → is_among q (paths_until rows n) ≡ list_any (begins_row q) (take n rows)
 among-until rows zero q h = refl
 among-until rows (suc n) q h =
     let d : WeightedStack = record { stack = []; weight = 0 } in
@@ -122,24 +138,30 @@ among-until rows (suc n) q h =
     let before = among-until rows n q (omega arith) in
     among-append q (paths_until rows n) (drop (known_at rows n) (prefixes (stack_at rows n)))
     ∙ ap (λ b. b || is_among q (drop (known_at rows n) (prefixes (stack_at rows n)))) before
-    ∙ same_or (list_any (begins_row q) (take n rows)) (is_among q (drop (known_at rows n) (prefixes (stack_at rows n)))) (begins_with name_cmp q (stack_at rows n))
-    (λ a. among-rest q (known_at rows n) (prefixes (stack_at rows n)) (among-prefixes q (stack_at rows n) ∙ a)) (new_or_known rows n q (omega arith))
+    ∙ same_or (list_any (begins_row q) (take n rows))
+    (is_among q (drop (known_at rows n) (prefixes (stack_at rows n)))) (begins_with name_cmp q (stack_at rows n))
+    (λ a. among-rest q (known_at rows n) (prefixes (stack_at rows n)) (among-prefixes q (stack_at rows n) ∙ a))
+    (new_or_known rows n q (omega arith))
     ∙ ap (λ t. list_any (begins_row q) (take n rows) || (begins_with name_cmp q t || false)) own
     ∙ sym (any-append q (take n rows) (get_or rows n d ∷ [])) ∙ ap (list_any (begins_row q)) (sym more)
 
-pub among-all : (q : Path) (rows : List WeightedStack) → is_among q (flat_map (λ row. prefixes row.stack) rows) ≡ list_any (begins_row q) rows
+pub among-all : (q : Path) (rows : List WeightedStack)
+    → is_among q (flat_map (λ row. prefixes row.stack) rows) ≡ list_any (begins_row q) rows
 among-all q [] = refl
-among-all q (row ∷ rows) = among-append q (prefixes row.stack) (flat_map (λ r. prefixes r.stack) rows) ∙ (λ i. among-prefixes q row.stack i || among-all q rows i)
+among-all q (row ∷ rows) = among-append q (prefixes row.stack) (flat_map (λ r. prefixes r.stack) rows)
+    ∙ (λ i. among-prefixes q row.stack i || among-all q rows i)
 
 abbrev Rising : List Path → Type 0
 Rising [] = Unit {0}
 Rising (p ∷ ps) = AllByRecursion (λ q. stack_cmp p q ≡ Less) ps × Rising ps
 
-each-append : (P : Path → Type 0) (ps qs : List Path) → AllByRecursion P ps → AllByRecursion P qs → AllByRecursion P (ps ++ qs)
+each-append : (P : Path → Type 0) (ps qs : List Path)
+    → AllByRecursion P ps → AllByRecursion P qs → AllByRecursion P (ps ++ qs)
 each-append P [] qs a b = b
 each-append P (p ∷ ps) qs a b = (a.0, each-append P ps qs a.1 b)
 
-each-weaken : (P Q : Path → Type 0) (ps : List Path) → ((p : Path) → P p → Q p) → AllByRecursion P ps → AllByRecursion Q ps
+each-weaken : (P Q : Path → Type 0) (ps : List Path)
+    → ((p : Path) → P p → Q p) → AllByRecursion P ps → AllByRecursion Q ps
 each-weaken P Q [] f a = tt
 each-weaken P Q (p ∷ ps) f a = (f p a.0, each-weaken P Q ps f a.1)
 
@@ -152,7 +174,8 @@ each-drop P zero ps a = a
 each-drop P (suc k) [] a = tt
 each-drop P (suc k) (p ∷ ps) a = each-drop P k ps a.1
 
-Rising-append : (ps qs : List Path) → Rising ps → Rising qs → AllByRecursion (λ p. AllByRecursion (λ q. stack_cmp p q ≡ Less) qs) ps → Rising (ps ++ qs)
+Rising-append : (ps qs : List Path)
+    → Rising ps → Rising qs → AllByRecursion (λ p. AllByRecursion (λ q. stack_cmp p q ≡ Less) qs) ps → Rising (ps ++ qs)
 Rising-append [] qs a b c = b
 Rising-append (p ∷ ps) qs a b c = (each-append (λ q. stack_cmp p q ≡ Less) ps qs a.0 c.0, Rising-append ps qs a.1 b c.1)
 
@@ -165,7 +188,8 @@ each-longer : (f : List ℕ) (ps : List Path) → AllByRecursion (λ q. stack_cm
 each-longer f [] = tt
 each-longer f (p ∷ ps) = (refl, each-longer f ps)
 
-each-map : (f : List ℕ) (x : Path) (ps : List Path) → AllByRecursion (λ q. stack_cmp x q ≡ Less) ps → AllByRecursion (λ q. stack_cmp (f ∷ x) q ≡ Less) (map (λ p. f ∷ p) ps)
+each-map : (f : List ℕ) (x : Path) (ps : List Path) → AllByRecursion (λ q. stack_cmp x q ≡ Less) ps
+    → AllByRecursion (λ q. stack_cmp (f ∷ x) q ≡ Less) (map (λ p. f ∷ p) ps)
 each-map f x [] a = tt
 each-map f x (p ∷ ps) a = (rw (tied_itself names_total f) a.0, each-map f x ps a.1)
 
@@ -185,21 +209,34 @@ until-begins : (rows : List WeightedStack) (n : ℕ) → AllByRecursion (BeginsE
 until-begins rows zero = tt
 until-begins rows (suc n) =
     each-append (BeginsEarlier rows (suc n)) (paths_until rows n) (drop (known_at rows n) (prefixes (stack_at rows n)))
-    (each-weaken (BeginsEarlier rows n) (BeginsEarlier rows (suc n)) (paths_until rows n) (λ p b. (b.0, (let h : b.0 < suc n = omega (arith, b.1) in h), b.2)) (until-begins rows n))
-    (each-drop (BeginsEarlier rows (suc n)) (known_at rows n) (prefixes (stack_at rows n)) (each-at (BeginsEarlier rows (suc n)) (prefixes (stack_at rows n)) (λ k h.
-    (n, (let l : n < suc n = omega arith in l), subst (λ p. begins_with name_cmp p (stack_at rows n) ≡ true) (sym (get_or-prefixes (stack_at rows n) k [] (omega (arith, length-prefixes (stack_at rows n))))) (order.take_begins_with names_total names_same k (stack_at rows n))))))
+    (each-weaken (BeginsEarlier rows n) (BeginsEarlier rows (suc n))
+    (paths_until rows n) (λ p b. (b.0, (let h : b.0 < suc n = omega (arith, b.1) in h), b.2)) (until-begins rows n))
+    (each-drop (BeginsEarlier rows (suc n)) (known_at rows n)
+    (prefixes (stack_at rows n)) (each-at (BeginsEarlier rows (suc n)) (prefixes (stack_at rows n)) (λ k h. (
+      n,
+      (let l : n < suc n = omega arith in l),
+      subst (λ p. begins_with name_cmp p (stack_at rows n) ≡ true)
+          (sym (get_or-prefixes (stack_at rows n) k [] (omega (arith, length-prefixes (stack_at rows n)))))
+          (order.take_begins_with names_total names_same k (stack_at rows n)),
+    ))))
 
 Rising-until : (rows : List WeightedStack) (n : ℕ) → IsAscending rows → n ≤ length rows → Rising (paths_until rows n)
 Rising-until rows zero up h = tt
 Rising-until rows (suc n) up h =
-    Rising-append (paths_until rows n) (drop (known_at rows n) (prefixes (stack_at rows n))) (Rising-until rows n up (omega arith)) (Rising-drop (known_at rows n) _ (Rising-prefixes (stack_at rows n)))
-    (each-weaken (BeginsEarlier rows n) (λ p. AllByRecursion (λ q. stack_cmp p q ≡ Less) (drop (known_at rows n) (prefixes (stack_at rows n)))) (paths_until rows n)
+    Rising-append (paths_until rows n) (drop (known_at rows n) (prefixes (stack_at rows n)))
+    (Rising-until rows n up (omega arith)) (Rising-drop (known_at rows n) _ (Rising-prefixes (stack_at rows n)))
+    (each-weaken (BeginsEarlier rows n) (λ p. AllByRecursion
+    (λ q. stack_cmp p q ≡ Less) (drop (known_at rows n) (prefixes (stack_at rows n)))) (paths_until rows n)
     (λ p b. each-at (λ q. stack_cmp p q ≡ Less) (drop (known_at rows n) (prefixes (stack_at rows n))) (λ k l.
-    let deep : known_at rows n + k ≤ length (stack_at rows n) = omega (arith, length-drop (known_at rows n) (prefixes (stack_at rows n)), length-prefixes (stack_at rows n)) in
-    let is = get_or-drop (known_at rows n) (prefixes (stack_at rows n)) k [] ∙ get_or-prefixes (stack_at rows n) (known_at rows n + k) [] deep in
+    let deep : known_at rows n + k ≤ length (stack_at rows n) =
+    omega (arith, length-drop (known_at rows n) (prefixes (stack_at rows n)), length-prefixes (stack_at rows n)) in
+    let is = get_or-drop (known_at rows n) (prefixes (stack_at rows n)) k []
+    ∙ get_or-prefixes (stack_at rows n) (known_at rows n + k) [] deep in
     subst (λ q. stack_cmp p q ≡ Less) (sym is)
-    (order.before_new names_total names_same p (take (known_at rows n + k) (stack_at rows n)) (stack_at rows b.0) (stack_at rows n) b.2
-    (in_order rows b.0 n up b.1 (omega arith)) (order.take_begins_with names_total names_same (known_at rows n + k) (stack_at rows n))
+    (order.before_new names_total names_same p
+    (take (known_at rows n + k) (stack_at rows n)) (stack_at rows b.0) (stack_at rows n) b.2
+    (in_order rows b.0 n up b.1 (omega arith))
+    (order.take_begins_with names_total names_same (known_at rows n + k) (stack_at rows n))
     (new_path-first rows n (known_at rows n + k) up (omega arith) (omega arith) deep b.0 b.1))))
     (until-begins rows n))
 
@@ -210,11 +247,15 @@ weighty (row ∷ rows) all =
     let rest : filter (λ row. nat_lt 0 row.weight) rows ≡ rows = weighty rows (λ k d h. all (suc k) d (omega arith)) in
     rw here (ap (λ more. row ∷ more) rest)
 
-pub paths_until-whole : (rows : List WeightedStack) → IsAscending rows → AreWeighty rows → paths_until rows (length rows) ≡ paths_of rows
+pub paths_until-whole : (rows : List WeightedStack)
+    → IsAscending rows → AreWeighty rows → paths_until rows (length rows) ≡ paths_of rows
 paths_until-whole rows up all =
     same_members stack_cmp stack_cmp_total stack_cmp_apart (paths_until rows (length rows)) (paths_of rows)
     (Rising-until rows (length rows) up (omega arith))
-    (in_order-Rises stack_cmp stack_cmp_total stack_cmp_apart (flat_map (λ row. prefixes row.stack) (filter (λ row. nat_lt 0 row.weight) rows)))
-    (λ q. among-until rows (length rows) q (omega arith) ∙ ap (list_any (begins_row q)) (take_all (length rows) rows (omega arith)) ∙ sym (among-all q rows)
+    (in_order-Rises stack_cmp stack_cmp_total stack_cmp_apart
+    (flat_map (λ row. prefixes row.stack) (filter (λ row. nat_lt 0 row.weight) rows)))
+    (λ q. among-until rows (length rows) q (omega arith)
+    ∙ ap (list_any (begins_row q)) (take_all (length rows) rows (omega arith)) ∙ sym (among-all q rows)
     ∙ ap (λ kept. is_among q (flat_map (λ row. prefixes row.stack) kept)) (sym (weighty rows all))
-    ∙ sym (member-in_order stack_cmp stack_cmp_total stack_cmp_apart q (flat_map (λ row. prefixes row.stack) (filter (λ row. nat_lt 0 row.weight) rows))))
+    ∙ sym (member-in_order stack_cmp stack_cmp_total stack_cmp_apart q
+    (flat_map (λ row. prefixes row.stack) (filter (λ row. nat_lt 0 row.weight) rows))))

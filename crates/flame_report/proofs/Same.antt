@@ -7,7 +7,8 @@ use Rattle.folded_text.specs.FoldedText.{rows_text}
 use Rattle.profile_rows.specs.Layout.{rectangles_of}
 use Rattle.profile_rows.specs.Rows.{total_of}
 use Rattle.profile_rows.specs.TopList.{top_list_of}
-use Rattle.profile_rows.proofs.AnswerLaws.{aggregate_of-rows_of, kept_rows-same, top_list_of-same_aggregate, rectangles_of-same}
+use Rattle.profile_rows.proofs.AnswerLaws.{aggregate_of-rows_of, kept_rows-same, top_list_of-same_aggregate}
+use Rattle.profile_rows.proofs.AnswerLaws.{rectangles_of-same}
 use Rattle.profile_rows.proofs.EntryLaws.{weight_where-same}
 use Rattle.flame_report.specs.Answers.{answer_by, answer_of, kept_by, ranking_of, rect_of}
 use Rattle.flame_report.specs.declared.answer.Answer.TheVariants as answer
@@ -19,7 +20,8 @@ use Rattle.flame_report.specs.declared.query.Kind.{Kind}
 use Rattle.flame_report.specs.declared.query.Kind.TheVariants as kind
 use Rattle.flame_report.specs.declared.query.Query.{Query}
 
-total_of-same : (rows others : List WeightedStack) → aggregate_of rows ≡ aggregate_of others → total_of rows ≡ total_of others
+total_of-same : (rows others : List WeightedStack)
+    → aggregate_of rows ≡ aggregate_of others → total_of rows ≡ total_of others
 total_of-same rows others same = weight_where-same (λ stack. true) rows others same
 
 abbrev top_from : ℕ → List FrameTotal → Top
@@ -28,24 +30,34 @@ top_from total rows = record { total = total; rows = rows }
 abbrev flame_from : ℕ → ℕ → List Rect → Flame
 flame_from total columns rects = record { total = total; columns = columns; rects = rects }
 
-answer_by-same : (asked : Kind) (rows others : List WeightedStack) → aggregate_of rows ≡ aggregate_of others → answer_by asked rows ≡ answer_by asked others
+answer_by-same : (asked : Kind) (rows others : List WeightedStack)
+    → aggregate_of rows ≡ aggregate_of others → answer_by asked rows ≡ answer_by asked others
 answer_by-same kind.Total rows others same = ap answer.Total (total_of-same rows others same)
 answer_by-same (kind.Top rank count) rows others same =
-    ap (λ total. answer.Top (top_from total (top_list_of (ranking_of rank) count rows))) (total_of-same rows others same)
-    ∙ ap (λ list. answer.Top (top_from (total_of others) list)) (top_list_of-same_aggregate (ranking_of rank) count rows others same)
+    ap (λ total. answer.Top (top_from total (top_list_of (ranking_of rank) count rows)))
+    (total_of-same rows others same)
+    ∙ ap (λ list. answer.Top (top_from (total_of others) list))
+    (top_list_of-same_aggregate (ranking_of rank) count rows others same)
 answer_by-same (kind.Flame columns) rows others same =
-    ap (λ total. answer.Flame (flame_from total columns (map rect_of (rectangles_of columns rows)))) (total_of-same rows others same)
-    ∙ ap (λ rectangles. answer.Flame (flame_from (total_of others) columns (map rect_of rectangles))) (rectangles_of-same columns rows others same)
+    ap (λ total. answer.Flame (flame_from total columns (map rect_of (rectangles_of columns rows))))
+    (total_of-same rows others same)
+    ∙ ap (λ rectangles. answer.Flame (flame_from (total_of others) columns (map rect_of rectangles)))
+    (rectangles_of-same columns rows others same)
 answer_by-same kind.Folded rows others same = ap (λ weights. answer.Folded (rows_text (rows_of weights))) same
 
-pub answer_of-same : (query : Query) (rows others : List WeightedStack) → aggregate_of rows ≡ aggregate_of others → answer_of rows query ≡ answer_of others query
+pub answer_of-same : (query : Query) (rows others : List WeightedStack)
+    → aggregate_of rows ≡ aggregate_of others → answer_of rows query ≡ answer_of others query
 answer_of-same query rows others same =
-    answer_by-same query.kind (kept_by query rows) (kept_by query others) (kept_rows-same query.focus query.ignore rows others same)
+    answer_by-same query.kind
+    (kept_by query rows) (kept_by query others) (kept_rows-same query.focus query.ignore rows others same)
 
 -- the rows of the aggregate have the answer
-pub answer_of-rows_of : (query : Query) (rows held : List WeightedStack) → aggregate_of rows ≡ aggregate_of held → answer_of (rows_of (aggregate_of held)) query ≡ answer_of rows query
-answer_of-rows_of query rows held same = answer_of-same query (rows_of (aggregate_of held)) rows (aggregate_of-rows_of held ∙ sym same)
+pub answer_of-rows_of : (query : Query) (rows held : List WeightedStack)
+    → aggregate_of rows ≡ aggregate_of held → answer_of (rows_of (aggregate_of held)) query ≡ answer_of rows query
+answer_of-rows_of query rows held same =
+    answer_of-same query (rows_of (aggregate_of held)) rows (aggregate_of-rows_of held ∙ sym same)
 
-pub if_ok_seen : {T E Y : Type 0} (seen : T → Y) (result : Result T E) (a b : Y) → a ≡ b → IfOk result (λ x. seen x ≡ a) → IfOk result (λ x. seen x ≡ b)
+pub if_ok_seen : {T E Y : Type 0} (seen : T → Y) (result : Result T E) (a b : Y)
+    → a ≡ b → IfOk result (λ x. seen x ≡ a) → IfOk result (λ x. seen x ≡ b)
 if_ok_seen seen (Ok x) a b same is = is ∙ same
 if_ok_seen seen (Err e) a b same is = tt

@@ -13,10 +13,12 @@ use Rattle.flame_report.specs.declared.answer.Rect.{Rect}
 
 -- what was added piece by piece is one list
 pub one_list : (t a b c d e f g h i : List Token)
-    → ((((((((t ++ a) ++ b) ++ c) ++ d) ++ e) ++ f) ++ g) ++ h) ++ i ≡ t ++ (a ++ (b ++ (c ++ (d ++ (e ++ (f ++ (g ++ (h ++ i))))))))
+    → ((((((((t ++ a) ++ b) ++ c) ++ d) ++ e) ++ f) ++ g) ++ h) ++ i
+    ≡ t ++ (a ++ (b ++ (c ++ (d ++ (e ++ (f ++ (g ++ (h ++ i))))))))
 one_list t a b c d e f g h i = simp append_assoc
 
-rects_back : (rects : List Rect) (rest : List Token) → items_tokens (items_outline (items_from (map rect_data rects))) ++ rest ≡ rects_tokens rects ++ (end_array ∷ rest)
+rects_back : (rects : List Rect) (rest : List Token)
+    → items_tokens (items_outline (items_from (map rect_data rects))) ++ rest ≡ rects_tokens rects ++ (end_array ∷ rest)
 rects_back [] rest = refl
 rects_back (rect ∷ rects) rest =
     append_assoc (rect_tokens rect) (items_tokens (items_outline (items_from (map rect_data rects)))) rest
@@ -25,7 +27,8 @@ rects_back (rect ∷ rects) rest =
 
 tokens_back : (flame : Flame) → json_tokens (outline (flame_data flame)) ≡ flame_tokens flame
 tokens_back flame =
-    ap (λ tokens. begin_object ∷ (member_token (codes "columns") flame.columns ++ (key (codes "rects") ∷ begin_array ∷ tokens)))
+    ap (λ tokens.
+    begin_object ∷ (member_token (codes "columns") flame.columns ++ (key (codes "rects") ∷ begin_array ∷ tokens)))
     (rects_back flame.rects (member_token (codes "total") flame.total ++ end_object ∷ []))
 
 pub print-flame_tokens : (flame : Flame) → print (flame_tokens flame) ≡ flame_json_of flame

@@ -6,7 +6,8 @@ use Rattle.std.specs.Option.{option_eq}
 use Rattle.std.specs.Cmp.{IsEquivalence, unsigned_Decides}
 use lib.Pointwise.{pointwise_decides}
 use Rattle.profile_rows.proofs.EqualRows.{both_decide, decided-IsEquivalence, is_same_name-decides}
-use Rattle.flame_report.specs.Equality.{rank_eq, kind_eq, query_eq, frame_total_eq, top_eq, rect_eq, flame_eq, answer_eq}
+use Rattle.flame_report.specs.Equality.{rank_eq, kind_eq, query_eq, frame_total_eq, top_eq, rect_eq, flame_eq}
+use Rattle.flame_report.specs.Equality.{answer_eq}
 use Rattle.flame_report.specs.declared.answer.Answer.{Answer}
 use Rattle.flame_report.specs.declared.answer.Answer.TheVariants as answer
 use Rattle.flame_report.specs.declared.answer.Flame.{Flame}

@@ -1,7 +1,8 @@
 -- The JSON text of a layout, as `serde_json` writes a value without white space: an object of the columns, the
 -- rectangles and the total, and for each rectangle an object. The keys are in the order of their bytes.
 use Rattle.std.specs.Prelude.{ℕ, List, [], ◌∷◌, codes, map}
-use Rattle.serde_json.specs.Data.{Data, unsigned, number, string, array, object, Items, no_items, item, no_members, member}
+use Rattle.serde_json.specs.Data.{Data, unsigned, number, string, array, object, Items, no_items, item, no_members}
+use Rattle.serde_json.specs.Data.{member}
 use Rattle.serde_json.specs.Written.{compact_text}
 use Rattle.flame_report.specs.declared.answer.Flame.{Flame}
 use Rattle.flame_report.specs.declared.answer.Rect.{Rect}

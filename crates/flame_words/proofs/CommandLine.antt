@@ -1,6 +1,7 @@
 -- What the command makes of words.
 use Rattle.std.proofs.Common.{◌≡◌, ◌⊎◌, ◌||◌, Bool, List, [], ◌∷◌, true, false, refl, inl, inr}
-use Rattle.clap.specs.Words.{HasKind, IsAmong, Kinds, Text, fault_of, is_simple, is_simple_and_free, kind_of, subcommand_of}
+use Rattle.clap.specs.Words.{HasKind, IsAmong, Kinds, Text, fault_of, is_simple, is_simple_and_free, kind_of}
+use Rattle.clap.specs.Words.{subcommand_of}
 use Rattle.clap.specs.declared.error.Error.{Error}
 use Rattle.clap.specs.declared.error.kind.ErrorKind.{ErrorKind}
 use Rattle.clap.specs.declared.error.kind.ErrorKind.TheVariants.{OutOfMemory}
@@ -17,7 +18,8 @@ pub is_computed : is_simple program_app ≡ true
 unfolding clap_on_literals
 is_computed = refl
 
-no_reading : (kinds : Kinds) (kind : ErrorKind) (reading : Reading) → IsAmong kind kinds → unless_faulty kinds reading ≡ refused
+no_reading : (kinds : Kinds) (kind : ErrorKind) (reading : Reading)
+    → IsAmong kind kinds → unless_faulty kinds reading ≡ refused
 no_reading [] kind reading among = absurd among
 no_reading (first ∷ kinds) kind reading among = refl
 
@@ -32,7 +34,8 @@ no_fault [] reading none = refl
 no_fault (kind ∷ kinds) reading none = absurd (cc)
 
 -- without a fault the words are read by their subcommand
-pub read_at_success : (words : List Text) → fault_of program_app words ≡ [] → reading_of words ≡ asked_by (subcommand_of program_app words)
+pub read_at_success : (words : List Text)
+    → fault_of program_app words ≡ [] → reading_of words ≡ asked_by (subcommand_of program_app words)
 read_at_success words none = no_fault (fault_of program_app words) (asked_by (subcommand_of program_app words)) none
 
 pub or_no : (a b : Bool) → b ≡ false → (a || b) ≡ a

@@ -39,7 +39,8 @@ IsNumeral-number text e =
     let parts = and_parts (not (length text == 0)) (list_all is_digit text) e in
     (filled text parts.0, all_digits text parts.1)
 
-pub number_found : (text : List ℕ) (found : Option ℕ) → is_number text ≡ true → MatchOption found (2 ^ 32 ≤ digits_value 10 text) (λ number. (number ≡ digits_value 10 text) × (number < 2 ^ 32))
+pub number_found : (text : List ℕ) (found : Option ℕ) → is_number text ≡ true
+    → MatchOption found (2 ^ 32 ≤ digits_value 10 text) (λ number. (number ≡ digits_value 10 text) × (number < 2 ^ 32))
     → found ≡ number_named text
 number_found text None e h = rw (e, le-ltb (digits_value 10 text) (2 ^ 32) h) refl
 number_found text (Some number) e h =
@@ -48,7 +49,8 @@ number_found text (Some number) e h =
 
 -- ---- names
 
-plain_each : (text : List ℕ) → AllByRecursion (λ byte. byte ≢ 59) text → AllByRecursion (λ byte. byte ≢ 10) text → list_all is_plain text ≡ true
+plain_each : (text : List ℕ)
+    → AllByRecursion (λ byte. byte ≢ 59) text → AllByRecursion (λ byte. byte ≢ 10) text → list_all is_plain text ≡ true
 plain_each [] a b = refl
 plain_each (byte ∷ text) a b = rw (ne_eqb byte 59 a.0, ne_eqb byte 10 b.0) (plain_each text a.1 b.1)
 
@@ -57,23 +59,28 @@ pub is_name_text-name : (text : List ℕ) → IsName text → is_name_text text 
 is_name_text-name text name =
     let some = name.not_empty in
     let long : (length text == 0) ≡ false = ne_eqb (length text) 0 (λ e. absurd (omega (arith, some, e))) in
-    rw long (plain_each text (recursion_from_All (λ byte. byte ≢ 59) text name.no_separator) (recursion_from_All (λ byte. byte ≢ 10) text name.no_line_feed))
+    rw long (plain_each text (recursion_from_All (λ byte. byte ≢ 59) text name.no_separator)
+    (recursion_from_All (λ byte. byte ≢ 10) text name.no_line_feed))
 
 -- ---- reports by names
 
-pub misnamed_focus : (kind : Kind) (format : Format) (value focus ignore : Option (List ℕ)) (fault : WordsFault) → IsNameFault focus fault → IsUnread (named_report kind format value focus ignore) fault
+pub misnamed_focus : (kind : Kind) (format : Format) (value focus ignore : Option (List ℕ)) (fault : WordsFault)
+    → IsNameFault focus fault → IsUnread (named_report kind format value focus ignore) fault
 misnamed_focus kind format value focus ignore (Refused text) h = absurd h
 misnamed_focus kind format value focus ignore BadName h = rw h refl
 misnamed_focus kind format value focus ignore Sessions h = absurd h
 misnamed_focus kind format value focus ignore NoMemory h = tt
 
-pub misnamed_ignore : (kind : Kind) (format : Format) (value focus ignore : Option (List ℕ)) (fault : WordsFault) → is_name_if_given focus ≡ true → IsNameFault ignore fault
+pub misnamed_ignore : (kind : Kind) (format : Format) (value focus ignore : Option (List ℕ)) (fault : WordsFault)
+    → is_name_if_given focus ≡ true → IsNameFault ignore fault
     → IsUnread (named_report kind format value focus ignore) fault
 misnamed_ignore kind format value focus ignore (Refused text) named h = absurd h
 misnamed_ignore kind format value focus ignore BadName named h = rw (named, h) refl
 misnamed_ignore kind format value focus ignore Sessions named h = absurd h
 misnamed_ignore kind format value focus ignore NoMemory named h = tt
 
-pub named_asked : (kind : Kind) (format : Format) (value focus ignore : Option (List ℕ)) → is_name_if_given focus ≡ true → is_name_if_given ignore ≡ true
-    → named_report kind format value focus ignore ≡ asked (Report (record { format = format; value = value }) (record { focus = focus; ignore = ignore; value = 0; kind = kind }))
+pub named_asked : (kind : Kind) (format : Format) (value focus ignore : Option (List ℕ))
+    → is_name_if_given focus ≡ true → is_name_if_given ignore ≡ true
+    → named_report kind format value focus ignore ≡ asked (Report
+    (record { format = format; value = value }) (record { focus = focus; ignore = ignore; value = 0; kind = kind }))
 named_asked kind format value focus ignore one other = rw (one, other) refl

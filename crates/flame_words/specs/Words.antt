@@ -1,9 +1,11 @@
 -- The command line: the command, and what words ask for.
-use Rattle.std.specs.Prelude.{ℕ, ◌≡◌, ⊤, ◌&&◌, true, false, List, [], ◌∷◌, Option, Some, None, Result, Ok, Err, codes, map, if◌then◌else◌}
+use Rattle.std.specs.Prelude.{ℕ, ◌≡◌, ⊤, ◌&&◌, true, false, List, [], ◌∷◌, Option, Some, None, Result, Ok, Err, codes}
+use Rattle.std.specs.Prelude.{map, if◌then◌else◌}
 use Rattle.std.specs.Borrow.{Bor}
 use Rattle.std.specs.Str.{bytes_eq}
 use Rattle.clap.specs.declared.builder.action.ArgAction.TheVariants.{SetTrue}
-use Rattle.clap.specs.Words.{App, Kinds, Row, Rule, Text, fault_of, first_of, new_app, new_rule, subcommand_of, with_rule, with_subcommand}
+use Rattle.clap.specs.Words.{App, Kinds, Row, Rule, Text, fault_of, first_of, new_app, new_rule, subcommand_of}
+use Rattle.clap.specs.Words.{with_rule, with_subcommand}
 use Rattle.flame_report.specs.declared.query.Kind.{Kind}
 use Rattle.flame_report.specs.declared.query.Kind.TheVariants as kind
 use Rattle.flame_words.specs.declared.request.Format.{Format}
@@ -12,7 +14,8 @@ use Rattle.flame_words.specs.declared.request.Request.TheVariants.{Report, Expor
 use Rattle.flame_words.specs.LiveOptions.{PlainOptions, options_of}
 use Rattle.flame_words.specs.declared.words.WordsFault.{WordsFault}
 use Rattle.flame_words.specs.declared.words.WordsFault.TheVariants.{Refused, BadName, Sessions, NoMemory}
-use Rattle.flame_words.specs.Options.{flame_kind, format_named, is_name_if_given, is_set, sessions_in, text_or, top_kind}
+use Rattle.flame_words.specs.Options.{flame_kind, format_named, is_name_if_given, is_set, sessions_in, text_or}
+use Rattle.flame_words.specs.Options.{top_kind}
 
 -- ---- the command
 

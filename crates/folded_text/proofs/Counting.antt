@@ -16,27 +16,35 @@ use Rattle.folded_text.specs.TextSums.{AreTotalsOfText}
 use Rattle.folded_text.proofs.Reading.{IsFirstFault-folded, IsFoldedText-same}
 
 -- what counting answers decides the sums of the rows that a text is folded text of
-pub only_totals : (text : List ℕ) (outcome : Result FrameTotals FoldedFault) → MatchResult outcome (AreTotalsOfText text) (IsWorkFault text)
-    → (rows : List WeightedStack) → IsFoldedText text rows → MatchResult outcome (AreTotalsOf rows) (λ fault. fault ≡ NoMemory)
+pub only_totals : (text : List ℕ) (outcome : Result FrameTotals FoldedFault)
+    → MatchResult outcome (AreTotalsOfText text) (IsWorkFault text)
+    → (rows : List WeightedStack)
+    → IsFoldedText text rows → MatchResult outcome (AreTotalsOf rows) (λ fault. fault ≡ NoMemory)
 only_totals text (Ok totals) counted rows folded =
-    subst (λ some. AreTotalsOf some totals) (IsFoldedText-same text counted.rows rows counted.folded folded) counted.totals_rows
+    subst (λ some. AreTotalsOf some totals)
+    (IsFoldedText-same text counted.rows rows counted.folded folded) counted.totals_rows
 only_totals text (Err fault) counted rows folded = elim counted [
   | inl first ↦ IsFirstFault-folded text rows fault folded first
   | inr late ↦ late.0
 ]
 
-sums_at-same : (rows merged : List WeightedStack) (name : List ℕ) → AreMergedSoFar rows merged → sums_at merged name ≡ sums_at rows name
+sums_at-same : (rows merged : List WeightedStack) (name : List ℕ)
+    → AreMergedSoFar rows merged → sums_at merged name ≡ sums_at rows name
 sums_at-same rows merged name same =
     let all = AreMergedSoFar-same rows merged same in
-    ap (λ w. let sums : FrameTotal = record { name = name; flat = w; cum = cumulative_weight_of merged name } in sums) (weight_where-same (ends_with_name name) merged rows all)
-    ∙ ap (λ w. let sums : FrameTotal = record { name = name; flat = flat_weight_of rows name; cum = w } in sums) (weight_where-same (has_name name) merged rows all)
+    ap (λ w. let sums : FrameTotal = record { name = name; flat = w; cum = cumulative_weight_of merged name } in sums)
+    (weight_where-same (ends_with_name name) merged rows all)
+    ∙ ap (λ w. let sums : FrameTotal = record { name = name; flat = flat_weight_of rows name; cum = w } in sums)
+    (weight_where-same (has_name name) merged rows all)
 
 -- what names weigh in rows is what they weigh where some are put together
-pub AreTotalsOf-merged : (rows merged : List WeightedStack) (totals : FrameTotals) → AreMergedSoFar rows merged → AreTotalsOf merged totals → AreTotalsOf rows totals
+pub AreTotalsOf-merged : (rows merged : List WeightedStack) (totals : FrameTotals)
+    → AreMergedSoFar rows merged → AreTotalsOf merged totals → AreTotalsOf rows totals
 AreTotalsOf-merged rows merged totals same these = record {
   sums = record {
     weights = λ at d lt. these.sums.weights at d lt ∙ sums_at-same rows merged _ same;
-    once = λ name. these.sums.once name ∙ ap (λ w. if nat_lt 0 w then 1 else 0) (weight_where-same (has_name name) merged rows (AreMergedSoFar-same rows merged same));
+    once = λ name. these.sums.once name ∙ ap (λ w. if nat_lt 0 w then 1 else 0)
+        (weight_where-same (has_name name) merged rows (AreMergedSoFar-same rows merged same));
   };
   total = these.total ∙ same.total;
 }

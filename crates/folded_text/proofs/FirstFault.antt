@@ -15,45 +15,56 @@ use Rattle.folded_text.proofs.Reading.{AreRowLines-same, IsFirstFault-folded, fa
 abbrev IsOneFault : FoldedFault → FoldedFault → Type 0
 IsOneFault fault other = (fault ≡ NoMemory) ⊎ ((other ≡ NoMemory) ⊎ (fault ≡ other))
 
-NotUtf8-NoCount : (held number : ℕ) (line : List ℕ) (x y : ℕ) → IsLineFault held number line (NotUtf8 x) → IsLineFault held number line (NoCount y) → ⊥
+NotUtf8-NoCount : (held number : ℕ) (line : List ℕ) (x y : ℕ)
+    → IsLineFault held number line (NotUtf8 x) → IsLineFault held number line (NoCount y) → ⊥
 NotUtf8-NoCount held number line x y ha hb = ha.1 hb.1
 
-NotUtf8-Count : (held number : ℕ) (line : List ℕ) (x y : ℕ) → IsLineFault held number line (NotUtf8 x) → IsLineFault held number line (Count y) → ⊥
+NotUtf8-Count : (held number : ℕ) (line : List ℕ) (x y : ℕ)
+    → IsLineFault held number line (NotUtf8 x) → IsLineFault held number line (Count y) → ⊥
 NotUtf8-Count held number line x y ha hb = ha.1 hb.1
 
-NotUtf8-Depth : (held number : ℕ) (line : List ℕ) (x y : ℕ) → IsLineFault held number line (NotUtf8 x) → IsLineFault held number line (Depth y) → ⊥
+NotUtf8-Depth : (held number : ℕ) (line : List ℕ) (x y : ℕ)
+    → IsLineFault held number line (NotUtf8 x) → IsLineFault held number line (Depth y) → ⊥
 NotUtf8-Depth held number line x y ha hb = ha.1 hb.1
 
-NotUtf8-Heavy : (held number : ℕ) (line : List ℕ) (x y : ℕ) → IsLineFault held number line (NotUtf8 x) → IsLineFault held number line (Heavy y) → ⊥
+NotUtf8-Heavy : (held number : ℕ) (line : List ℕ) (x y : ℕ)
+    → IsLineFault held number line (NotUtf8 x) → IsLineFault held number line (Heavy y) → ⊥
 NotUtf8-Heavy held number line x y ha hb = ha.1 hb.2.utf8
 
-NoCount-Count : (held number : ℕ) (line : List ℕ) (x y : ℕ) → IsLineFault held number line (NoCount x) → IsLineFault held number line (Count y) → ⊥
+NoCount-Count : (held number : ℕ) (line : List ℕ) (x y : ℕ)
+    → IsLineFault held number line (NoCount x) → IsLineFault held number line (Count y) → ⊥
 NoCount-Count held number line x y ha hb = ha.2 hb.2 hb.3 hb.4
 
-NoCount-Depth : (held number : ℕ) (line : List ℕ) (x y : ℕ) → IsLineFault held number line (NoCount x) → IsLineFault held number line (Depth y) → ⊥
+NoCount-Depth : (held number : ℕ) (line : List ℕ) (x y : ℕ)
+    → IsLineFault held number line (NoCount x) → IsLineFault held number line (Depth y) → ⊥
 NoCount-Depth held number line x y ha hb = ha.2 hb.2 hb.3 hb.4
 
-NoCount-Heavy : (held number : ℕ) (line : List ℕ) (x y : ℕ) → IsLineFault held number line (NoCount x) → IsLineFault held number line (Heavy y) → ⊥
+NoCount-Heavy : (held number : ℕ) (line : List ℕ) (x y : ℕ)
+    → IsLineFault held number line (NoCount x) → IsLineFault held number line (Heavy y) → ⊥
 NoCount-Heavy held number line x y ha hb = ha.2 hb.2.counted.0 hb.2.counted.1 hb.2.counted.2.count
 
-Count-Depth : (held number : ℕ) (line : List ℕ) (x y : ℕ) → IsLineFault held number line (Count x) → IsLineFault held number line (Depth y) → ⊥
+Count-Depth : (held number : ℕ) (line : List ℕ) (x y : ℕ)
+    → IsLineFault held number line (Count x) → IsLineFault held number line (Depth y) → ⊥
 Count-Depth held number line x y ha hb =
     let same = HasCount-same line ha.2 hb.2 ha.3 hb.3 ha.4 hb.4 in
     omega (arith, ap (digits_value 10) same.1, ha.5, hb.5)
 
-Count-Heavy : (held number : ℕ) (line : List ℕ) (x y : ℕ) → IsLineFault held number line (Count x) → IsLineFault held number line (Heavy y) → ⊥
+Count-Heavy : (held number : ℕ) (line : List ℕ) (x y : ℕ)
+    → IsLineFault held number line (Count x) → IsLineFault held number line (Heavy y) → ⊥
 Count-Heavy held number line x y ha hb =
     let same = shared line hb.1 ha.2 ha.3 hb.2 ha.4 in
     let small = hb.2.fits in
     omega (arith, same.weight, small, ha.5)
 
-Depth-Heavy : (held number : ℕ) (line : List ℕ) (x y : ℕ) → IsLineFault held number line (Depth x) → IsLineFault held number line (Heavy y) → ⊥
+Depth-Heavy : (held number : ℕ) (line : List ℕ) (x y : ℕ)
+    → IsLineFault held number line (Depth x) → IsLineFault held number line (Heavy y) → ⊥
 Depth-Heavy held number line x y ha hb =
     let same = shared line hb.1 ha.2 ha.3 hb.2 ha.4 in
     let deep = hb.2.depth in
     omega (arith, ap length same.frames, deep, ha.6)
 
-one_fault : (held number : ℕ) (line : List ℕ) (fault other : FoldedFault) → IsLineFault held number line fault → IsLineFault held number line other → IsOneFault fault other
+one_fault : (held number : ℕ) (line : List ℕ) (fault other : FoldedFault)
+    → IsLineFault held number line fault → IsLineFault held number line other → IsOneFault fault other
 one_fault held number line NoMemory other ha hb = inl refl
 one_fault held number line (NotUtf8 x) (NotUtf8 y) ha hb = inr (inr (ap NotUtf8 (ha.0 ∙ sym hb.0)))
 one_fault held number line (NotUtf8 x) (NoCount y) ha hb = absurd (NotUtf8-NoCount held number line x y ha hb)
@@ -87,8 +98,10 @@ one_fault held number line (Heavy x) (Heavy y) ha hb = inr (inr (ap Heavy (ha.0 
 one_fault held number line (Heavy x) NoMemory ha hb = inr (inl refl)
 
 -- at one place the lines before spell the same rows, and of two places the first is a row's
-pub IsFirstFault-same : (text : List ℕ) (fault other : FoldedFault) → IsFirstFault text fault → IsFirstFault text other → IsOneFault fault other
-IsFirstFault-same text fault other (before, line, after, rows, cut, known, fits, some, there) (others, line_b, after_b, rows_b, cut_b, known_b, fits_b, some_b, there_b) =
+pub IsFirstFault-same : (text : List ℕ) (fault other : FoldedFault)
+    → IsFirstFault text fault → IsFirstFault text other → IsOneFault fault other
+IsFirstFault-same text fault other (before, line, after, rows, cut, known, fits, some, there)
+    (others, line_b, after_b, rows_b, cut_b, known_b, fits_b, some_b, there_b) =
     elim (cuts before line after others line_b after_b (sym cut ∙ cut_b)) [
       | inl same ↦
           let known_here : AreRowLines before rows_b = subst (λ ls. AreRowLines ls rows_b) (sym same.0) known_b in
@@ -98,13 +111,17 @@ IsFirstFault-same text fault other (before, line, after, rows, cut, known, fits,
           (subst (λ ls. IsLineFault (total_of rows) (length ls + 1) line_b other) (sym same.0)
           (subst (λ rs. IsLineFault (total_of rs) (length others + 1) line_b other) one there_b)) in
           one_fault (total_of rows) (length before + 1) line fault other there here
-      | inr (inl within) ↦ inr (inl (faultless_at others line_b within.0 rows_b rows (length others + 1) other (subst (λ ls. AreRowLines ls rows) within.1 known) fits known_b some_b there_b))
-      | inr (inr within) ↦ inl (faultless_at before line within.0 rows rows_b (length before + 1) fault (subst (λ ls. AreRowLines ls rows_b) within.1 known_b) fits_b known some there)
+      | inr (inl within) ↦ inr (inl (faultless_at others line_b within.0 rows_b rows
+          (length others + 1) other (subst (λ ls. AreRowLines ls rows) within.1 known) fits known_b some_b there_b))
+      | inr (inr within) ↦ inl (faultless_at before line within.0 rows rows_b
+          (length before + 1) fault (subst (λ ls. AreRowLines ls rows_b) within.1 known_b) fits_b known some there)
     ]
 
 -- what reading answers to a text with a first fault
-pub only_fault : (text : List ℕ) (outcome : Result (List WeightedStack) FoldedFault) → MatchResult outcome (λ batch. IsFoldedText text batch) (λ fault. IsFirstFault text fault)
-    → (first : FoldedFault) → first ≢ NoMemory → IsFirstFault text first → MatchResult outcome (λ batch. ⊥) (λ fault. (fault ≡ NoMemory) ⊎ (fault ≡ first))
+pub only_fault : (text : List ℕ) (outcome : Result (List WeightedStack) FoldedFault)
+    → MatchResult outcome (λ batch. IsFoldedText text batch) (λ fault. IsFirstFault text fault)
+    → (first : FoldedFault) → first ≢ NoMemory
+    → IsFirstFault text first → MatchResult outcome (λ batch. ⊥) (λ fault. (fault ≡ NoMemory) ⊎ (fault ≡ first))
 only_fault text (Ok batch) read first some there = some (IsFirstFault-folded text batch first read there)
 only_fault text (Err fault) read first some there =
     elim (IsFirstFault-same text fault first read there) [

@@ -1,5 +1,6 @@
 -- The frames of a stack text: each can be a name.
-use Rattle.std.proofs.Common.{◌≡◌, ◌≢◌, ℕ, ◌<◌, true, false, cond, eqb, List, [], ◌∷◌, length, refl, arith, filter, All, lit<}
+use Rattle.std.proofs.Common.{◌≡◌, ◌≢◌, ℕ, ◌<◌, true, false, cond, eqb, List, [], ◌∷◌, length, refl, arith, filter, All}
+use Rattle.std.proofs.Common.{lit<}
 use Rattle.std.specs.List.{slice_split, AllByRecursion}
 use Rattle.std.proofs.lemmas.List.Elements.{All-from_recursion, recursion_from_All, All-weaker}
 use borrow.Author.Tests.{eqb-false}
@@ -18,7 +19,9 @@ filled : (P : List ℕ → Type 0) (parts : List (List ℕ)) → AllByRecursion 
     → AllByRecursion (λ part. (0 < length part) × P part) (filter (λ part. not (length part == 0)) parts)
 filled P [] all = tt
 filled P (part ∷ parts) all =
-    elim (not (length part == 0)) as (λ b. not (length part == 0) ≡ b → AllByRecursion (λ part. (0 < length part) × P part) (cond b (part ∷ filter (λ part. not (length part == 0)) parts) (filter (λ part. not (length part == 0)) parts))) [
+    elim (not (length part == 0)) as (λ b. not (length part == 0) ≡ b
+    → AllByRecursion (λ part. (0 < length part) × P part) (cond b
+    (part ∷ filter (λ part. not (length part == 0)) parts) (filter (λ part. not (length part == 0)) parts))) [
       | true ↦ λ e. ((some part e, all.0), filled P parts all.1)
       | false ↦ λ e. filled P parts all.1
     ] refl
@@ -30,7 +33,8 @@ Plain byte = (byte ≢ 59) × (byte ≢ 10)
 abbrev Piece : List ℕ → Type 0
 Piece piece = IsUtf8 piece × AllByRecursion Plain piece
 
-both : (parts : List (List ℕ)) → AllByRecursion IsUtf8 parts → AllByRecursion (AllByRecursion Plain) parts → AllByRecursion Piece parts
+both : (parts : List (List ℕ))
+    → AllByRecursion IsUtf8 parts → AllByRecursion (AllByRecursion Plain) parts → AllByRecursion Piece parts
 both [] utf8 plain = tt
 both (part ∷ parts) utf8 plain = ((utf8.0, plain.0), both parts utf8.1 plain.1)
 
@@ -48,10 +52,13 @@ name_from frame h =
 pub frames_of-IsName : (text : List ℕ) → IsUtf8 text → All (λ byte. byte ≢ 10) text → All IsName (frames_of text)
 frames_of-IsName text utf8 one_line =
     let bytes : AllByRecursion (λ byte. eqb byte 59 ≡ false → Plain byte) text =
-    recursion_from_All (λ byte. eqb byte 59 ≡ false → Plain byte) text (λ k d lt e. (eqb-false _ 59 e, one_line k d lt)) in
-    let parts = both (slice_split (λ byte. eqb byte 59) text) (pieces-IsUtf8 59 text (lit< tt) utf8) (pieces (λ byte. eqb byte 59) Plain text bytes) in
+    recursion_from_All
+    (λ byte. eqb byte 59 ≡ false → Plain byte) text (λ k d lt e. (eqb-false _ 59 e, one_line k d lt)) in
+    let parts = both (slice_split (λ byte. eqb byte 59) text)
+    (pieces-IsUtf8 59 text (lit< tt) utf8) (pieces (λ byte. eqb byte 59) Plain text bytes) in
     All-weaker (λ frame. (0 < length frame) × Piece frame) IsName name_from (frames_of text)
-    (All-from_recursion (λ frame. (0 < length frame) × Piece frame) (frames_of text) (filled Piece (slice_split (λ byte. eqb byte 59) text) parts))
+    (All-from_recursion (λ frame. (0 < length frame) × Piece frame)
+    (frames_of text) (filled Piece (slice_split (λ byte. eqb byte 59) text) parts))
 
 abbrev full : List (List ℕ) → List (List ℕ)
 full parts = filter (λ part. not (length part == 0)) parts

@@ -9,12 +9,14 @@ use Rattle.folded_text.specs.StackOrder.{AreDigits, digits_of, front_of, number_
 use Rattle.folded_text.proofs.StackOrder.{stack_text_cmp_total}
 
 -- numbers that begin lower are lower
-lower : (high other : ℕ) (digits others : List ℕ) → length digits ≡ length others → AreDigits digits → AreDigits others → high < other → number_of high digits < number_of other others
+lower : (high other : ℕ) (digits others : List ℕ) → length digits ≡ length others
+    → AreDigits digits → AreDigits others → high < other → number_of high digits < number_of other others
 lower high other [] [] same are also below = below
 lower high other [] (o ∷ others) same are also below = absurd (omega (arith, same))
 lower high other (d ∷ digits) [] same are also below = absurd (omega (arith, same))
 lower high other (d ∷ digits) (o ∷ others) same are also below =
-    lower (high * 512 + d) (other * 512 + o) digits others (omega (arith, same)) are.1 also.1 (omega (arith, are.0, below))
+    lower (high * 512 + d)
+    (other * 512 + o) digits others (omega (arith, same)) are.1 also.1 (omega (arith, are.0, below))
 
 length-digits : (count : ℕ) (text : List ℕ) → length (digits_of count text) ≡ count
 length-digits zero text = refl
@@ -25,34 +27,45 @@ as_long : (count : ℕ) (text other : List ℕ) → length (digits_of count text
 as_long count text other = length-digits count text ∙ sym (length-digits count other)
 
 -- the lower number is that of the lower text
-pub lower_text : (count high : ℕ) (text other : List ℕ) → AreDigits (digits_of count text) → AreDigits (digits_of count other)
+pub lower_text : (count high : ℕ) (text other : List ℕ)
+    → AreDigits (digits_of count text) → AreDigits (digits_of count other)
     → number_of high (digits_of count text) < number_of high (digits_of count other) → stack_text_cmp text other ≡ Less
 lower_text zero high text other are also below = absurd (omega (arith, below))
 lower_text (suc count) high [] [] are also below = absurd (omega (arith, below))
 lower_text (suc count) high [] (b ∷ other) are also below = refl
 lower_text (suc count) high (a ∷ text) [] are also below =
-    let above = lower (high * 512 + 0) (high * 512 + (place_of a + 1)) (digits_of count []) (digits_of count text) (as_long count [] text) also.1 are.1 (omega arith) in
+    let above = lower (high * 512 + 0) (high * 512 + (place_of a + 1))
+    (digits_of count []) (digits_of count text) (as_long count [] text) also.1 are.1 (omega arith) in
     absurd (omega (arith, below, above))
 lower_text (suc count) high (a ∷ text) (b ∷ other) are also below =
-    by_place (lower_text count (high * 512 + (place_of b + 1)) text other are.1 also.1) (nat_cmp (place_of a) (place_of b)) refl (ranks (place_of a) (place_of b))
+    by_place (lower_text count (high * 512 + (place_of b + 1)) text other are.1 also.1)
+    (nat_cmp (place_of a) (place_of b)) refl (ranks (place_of a) (place_of b))
   where
-    by_place : (number_of (high * 512 + (place_of b + 1)) (digits_of count text) < number_of (high * 512 + (place_of b + 1)) (digits_of count other) → stack_text_cmp text other ≡ Less)
-        → (o : Ordering) → nat_cmp (place_of a) (place_of b) ≡ o → MatchOrdering o (place_of a < place_of b) (place_of a ≡ place_of b) (place_of b < place_of a) → stack_text_cmp (a ∷ text) (b ∷ other) ≡ Less
+    by_place : (number_of (high * 512 + (place_of b + 1)) (digits_of count text) < number_of
+        (high * 512 + (place_of b + 1)) (digits_of count other) → stack_text_cmp text other ≡ Less)
+        → (o : Ordering) → nat_cmp (place_of a) (place_of b) ≡ o → MatchOrdering o (place_of a < place_of b)
+        (place_of a ≡ place_of b) (place_of b < place_of a) → stack_text_cmp (a ∷ text) (b ∷ other) ≡ Less
     by_place rest Less is ranked = ap (λ o. ordering_then o (stack_text_cmp text other)) is
     by_place rest Equal is ranked =
         ap (λ o. ordering_then o (stack_text_cmp text other)) is
-        ∙ rest (subst (λ place. number_of (high * 512 + (place + 1)) (digits_of count text) < number_of (high * 512 + (place_of b + 1)) (digits_of count other)) ranked below)
+        ∙ rest (subst (λ place. number_of (high * 512 + (place + 1))
+        (digits_of count text) < number_of (high * 512 + (place_of b + 1)) (digits_of count other)) ranked below)
     by_place rest Greater is ranked =
-        let above = lower (high * 512 + (place_of b + 1)) (high * 512 + (place_of a + 1)) (digits_of count other) (digits_of count text) (as_long count other text) also.1 are.1 (omega (arith, ranked)) in
+        let above = lower (high * 512 + (place_of b + 1)) (high * 512 + (place_of a + 1)) (digits_of count other)
+        (digits_of count text) (as_long count other text) also.1 are.1 (omega (arith, ranked)) in
         absurd (omega (arith, below, above))
 
 -- where fronts differ, they are in the order of the texts
-pub fronts_decide : (text other : List ℕ) → AreDigits (digits_of 7 text) → AreDigits (digits_of 7 other) → nat_cmp (front_of text) (front_of other) ≢ Equal
+pub fronts_decide : (text other : List ℕ)
+    → AreDigits (digits_of 7 text) → AreDigits (digits_of 7 other) → nat_cmp (front_of text) (front_of other) ≢ Equal
     → nat_cmp (front_of text) (front_of other) ≡ stack_text_cmp text other
-fronts_decide text other are also apart = decide (nat_cmp (front_of text) (front_of other)) refl (ranks (front_of text) (front_of other))
+fronts_decide text other are also apart =
+    decide (nat_cmp (front_of text) (front_of other)) refl (ranks (front_of text) (front_of other))
   where
-    decide : (o : Ordering) → nat_cmp (front_of text) (front_of other) ≡ o → MatchOrdering o (front_of text < front_of other) (front_of text ≡ front_of other) (front_of other < front_of text)
+    decide : (o : Ordering) → nat_cmp (front_of text) (front_of other) ≡ o → MatchOrdering o
+        (front_of text < front_of other) (front_of text ≡ front_of other) (front_of other < front_of text)
         → nat_cmp (front_of text) (front_of other) ≡ stack_text_cmp text other
     decide Less is ranked = is ∙ sym (lower_text 7 0 text other are also ranked)
     decide Equal is ranked = absurd (apart is)
-    decide Greater is ranked = is ∙ sym (stack_text_cmp_total.antisymm text other ∙ ap ordering_reverse (lower_text 7 0 other text also are ranked))
+    decide Greater is ranked = is ∙ sym
+        (stack_text_cmp_total.antisymm text other ∙ ap ordering_reverse (lower_text 7 0 other text also are ranked))

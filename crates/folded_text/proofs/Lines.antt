@@ -1,5 +1,7 @@
 -- The lines of a text, as `bstr` gives them and as the grammar has them.
-use Rattle.std.proofs.Common.{◌≡◌, ◌≢◌, ℕ, ◌+◌, ◌-◌, ◌<◌, ◌≤◌, Bool, true, false, cond, ◌&&◌, eqb, eqb-true, ltb, List, [], ◌∷◌, ◌++◌, length, get_or, take, drop, map, refl, sym, ap, ◌∙◌, inl, inr, arith, length-append, subst}
+use Rattle.std.proofs.Common.{◌≡◌, ◌≢◌, ℕ, ◌+◌, ◌-◌, ◌<◌, ◌≤◌, Bool, true, false, cond, ◌&&◌, eqb, eqb-true, ltb, List}
+use Rattle.std.proofs.Common.{[], ◌∷◌, ◌++◌, length, get_or, take, drop, map, refl, sym, ap, ◌∙◌, inl, inr, arith}
+use Rattle.std.proofs.Common.{length-append, subst}
 use Rattle.std.specs.List.{slice_split, onto_first, AllByRecursion, All}
 use Rattle.std.specs.Str.Lines.{lines, lines_of_parts, strip_carriage_return}
 use Rattle.std.proofs.lemmas.List.{take_all, drop_all, take_at, drop_at, get_or_at, get_or_append_left, append_assoc}
@@ -15,7 +17,8 @@ abbrev pub IsFeed : ℕ → Bool
 IsFeed byte = eqb byte 10
 
 -- a text without a line feed is one line, as it is
-lone : (text : List ℕ) → 0 < length text → AllByRecursion (λ byte. IsFeed byte ≡ false) text → map without_terminator (lines_of text) ≡ lines text
+lone : (text : List ℕ) → 0 < length text
+    → AllByRecursion (λ byte. IsFeed byte ≡ false) text → map without_terminator (lines_of text) ≡ lines text
 lone text some none =
     let each : All (λ byte. IsFeed byte ≡ false) text = All-from_recursion (λ byte. IsFeed byte ≡ false) text none in
     let long : line_len text ≡ length text = line_len-none text (λ k lt. eqb-false _ 10 (each k 0 lt)) in
@@ -26,10 +29,13 @@ lone text some none =
     ∙ ap (λ l. text ∷ l) (lines-empty [] refl) in
     let parts : slice_split IsFeed text ≡ text ∷ [] = slice_split_none IsFeed text each in
     let last : eqb (get_or text (length text - 1) 0) 10 ≡ false = each (length text - 1) 0 (omega arith) in
-    ap (map without_terminator) step ∙ ap (λ l. l ∷ []) (ends text some last) ∙ sym (ap lines_of_parts parts ∙ kept text some)
+    ap (map without_terminator) step
+    ∙ ap (λ l. l ∷ []) (ends text some last) ∙ sym (ap lines_of_parts parts ∙ kept text some)
   where
-    ends : (text : List ℕ) → 0 < length text → eqb (get_or text (length text - 1) 0) 10 ≡ false → without_terminator text ≡ text
-    ends text some last = ap (λ b. cond (ltb 0 (length text) && b) (no_cr (take (length text - 1) text)) text) last ∙ both (ltb 0 (length text))
+    ends : (text : List ℕ)
+        → 0 < length text → eqb (get_or text (length text - 1) 0) 10 ≡ false → without_terminator text ≡ text
+    ends text some last = ap (λ b. cond (ltb 0 (length text) && b) (no_cr (take (length text - 1) text)) text) last
+        ∙ both (ltb 0 (length text))
       where
         both : (b : Bool) → cond (b && false) (no_cr (take (length text - 1) text)) text ≡ text
         both true = refl
@@ -44,9 +50,11 @@ unended front =
     let long : length (front ++ 10 ∷ []) ≡ length front + 1 = length-append front (10 ∷ []) in
     let last : length (front ++ 10 ∷ []) - 1 ≡ length front = omega arith in
     let feed : eqb (get_or (front ++ 10 ∷ []) (length (front ++ 10 ∷ []) - 1) 0) 10 ≡ true =
-    ap (λ n. eqb (get_or (front ++ 10 ∷ []) n 0) 10) last ∙ ap (λ b. eqb b 10) (get_or_at front 10 [] 0 (length front) refl) in
+    ap (λ n. eqb (get_or (front ++ 10 ∷ []) n 0) 10) last
+    ∙ ap (λ b. eqb b 10) (get_or_at front 10 [] 0 (length front) refl) in
     let some : ltb 0 (length (front ++ 10 ∷ [])) ≡ true = lt-ltb 0 _ (omega arith) in
-    ap (λ b. cond (b && eqb (get_or (front ++ 10 ∷ []) (length (front ++ 10 ∷ []) - 1) 0) 10) (no_cr (take (length (front ++ 10 ∷ []) - 1) (front ++ 10 ∷ []))) (front ++ 10 ∷ [])) some
+    ap (λ b. cond (b && eqb (get_or (front ++ 10 ∷ []) (length (front ++ 10 ∷ []) - 1) 0) 10)
+    (no_cr (take (length (front ++ 10 ∷ []) - 1) (front ++ 10 ∷ []))) (front ++ 10 ∷ [])) some
     ∙ ap (λ b. cond b (no_cr (take (length (front ++ 10 ∷ []) - 1) (front ++ 10 ∷ []))) (front ++ 10 ∷ [])) feed
     ∙ ap (λ n. no_cr (take n (front ++ 10 ∷ []))) last
     ∙ ap no_cr (take_at front (10 ∷ []) (length front) refl)
@@ -54,23 +62,28 @@ unended front =
   where
     one_return : (front : List ℕ) → no_cr front ≡ strip_carriage_return front
     one_return [] = refl
-    one_return (byte ∷ front) = ap (λ b. cond (b && eqb (get_or (byte ∷ front) (length (byte ∷ front) - 1) 0) 13) (take (length (byte ∷ front) - 1) (byte ∷ front)) (byte ∷ front)) (lt-ltb 0 (length (byte ∷ front)) (omega arith))
+    one_return (byte ∷ front) = ap (λ b. cond (b && eqb (get_or (byte ∷ front) (length (byte ∷ front) - 1) 0) 13) (take
+        (length (byte ∷ front) - 1) (byte ∷ front)) (byte ∷ front)) (lt-ltb 0 (length (byte ∷ front)) (omega arith))
 
-pub more_parts : (front text : List ℕ) → lines_of_parts (front ∷ slice_split IsFeed text) ≡ strip_carriage_return front ∷ lines_of_parts (slice_split IsFeed text)
+pub more_parts : (front text : List ℕ) → lines_of_parts (front ∷ slice_split IsFeed text)
+    ≡ strip_carriage_return front ∷ lines_of_parts (slice_split IsFeed text)
 more_parts front text =
     let (part, parts, e) = slice_split-some text in
     ap (λ z. lines_of_parts (front ∷ z)) e ∙ ap (λ z. strip_carriage_return front ∷ lines_of_parts z) (sym e)
   where
-    slice_split-some : (text : List ℕ) → (part : List ℕ) × (parts : List (List ℕ)) × (slice_split IsFeed text ≡ part ∷ parts)
+    slice_split-some : (text : List ℕ)
+        → (part : List ℕ) × (parts : List (List ℕ)) × (slice_split IsFeed text ≡ part ∷ parts)
     slice_split-some [] = ([], [], refl)
     slice_split-some (byte ∷ text) =
-        elim (IsFeed byte) as (λ b. (part : List ℕ) × (parts : List (List ℕ)) × (cond b ([] ∷ slice_split IsFeed text) (onto_first byte (slice_split IsFeed text)) ≡ part ∷ parts)) [
+        elim (IsFeed byte) as (λ b. (part : List ℕ) × (parts : List (List ℕ))
+        × (cond b ([] ∷ slice_split IsFeed text) (onto_first byte (slice_split IsFeed text)) ≡ part ∷ parts)) [
           | true ↦ ([], slice_split IsFeed text, refl)
           | false ↦ let rest = slice_split-some text in (byte ∷ rest.0, rest.1, ap (onto_first byte) rest.2)
         ]
 
 -- a text with a line feed is the line before it, and the lines after it
-cut : (front back : List ℕ) → AllByRecursion (λ byte. IsFeed byte ≡ false) front → map without_terminator (lines_of back) ≡ lines back
+cut : (front back : List ℕ)
+    → AllByRecursion (λ byte. IsFeed byte ≡ false) front → map without_terminator (lines_of back) ≡ lines back
     → map without_terminator (lines_of (front ++ 10 ∷ back)) ≡ lines (front ++ 10 ∷ back)
 cut front back none rest =
     let each : All (λ byte. IsFeed byte ≡ false) front = All-from_recursion (λ byte. IsFeed byte ≡ false) front none in
@@ -85,9 +98,11 @@ cut front back none rest =
     lines-step (front ++ 10 ∷ back) (omega arith)
     ∙ ap (λ n. take n (front ++ 10 ∷ back) ∷ lines_of (drop n (front ++ 10 ∷ back))) first
     ∙ ap (λ l. take (length front + 1) l ∷ lines_of (drop (length front + 1) l)) regroup
-    ∙ ap (λ l. l ∷ lines_of (drop (length front + 1) ((front ++ 10 ∷ []) ++ back))) (take_at (front ++ 10 ∷ []) back (length front + 1) ended)
+    ∙ ap (λ l. l ∷ lines_of (drop (length front + 1) ((front ++ 10 ∷ []) ++ back)))
+    (take_at (front ++ 10 ∷ []) back (length front + 1) ended)
     ∙ ap (λ l. (front ++ 10 ∷ []) ∷ lines_of l) (drop_at (front ++ 10 ∷ []) back (length front + 1) ended) in
-    let parts : slice_split IsFeed (front ++ 10 ∷ back) ≡ front ∷ slice_split IsFeed back = slice_split_at IsFeed front 10 back each refl in
+    let parts : slice_split IsFeed (front ++ 10 ∷ back) ≡ front ∷ slice_split IsFeed back =
+    slice_split_at IsFeed front 10 back each refl in
     ap (map without_terminator) step
     ∙ ap (λ l. l ∷ map without_terminator (lines_of back)) (unended front)
     ∙ ap (λ l. strip_carriage_return front ∷ l) rest
@@ -101,8 +116,10 @@ same_lines (suc n) (byte ∷ text) small =
       | inl none ↦ lone (byte ∷ text) (omega arith) none
       | inr (front, feed, back, e, passes, none) ↦
           let at_feed : byte ∷ text ≡ front ++ 10 ∷ back = e ∙ ap (λ z. front ++ z ∷ back) (eqb-true feed 10 passes) in
-          let long : length (byte ∷ text) ≡ length front + length (10 ∷ back) = ap length at_feed ∙ length-append front (10 ∷ back) in
-          subst (λ t. map without_terminator (lines_of t) ≡ lines t) (sym at_feed) (cut front back none (same_lines n back (omega arith)))
+          let long : length (byte ∷ text) ≡ length front + length (10 ∷ back) = ap length at_feed
+          ∙ length-append front (10 ∷ back) in
+          subst (λ t. map without_terminator (lines_of t) ≡ lines t)
+          (sym at_feed) (cut front back none (same_lines n back (omega arith)))
     ]
 
 -- what `bstr` gives as the lines of a text are its lines
@@ -112,11 +129,13 @@ lines_of-lines text = same_lines (length text) text (omega arith)
 -- no line holds a line feed
 pub lines-one_line : (text : List ℕ) → All (All (λ byte. byte ≢ 10)) (lines text)
 lines-one_line text =
-    let bytes : AllByRecursion (λ byte. IsFeed byte ≡ false → byte ≢ 10) text = recursion_from_All (λ byte. IsFeed byte ≡ false → byte ≢ 10) text (λ k d lt e. eqb-false _ 10 e) in
+    let bytes : AllByRecursion (λ byte. IsFeed byte ≡ false → byte ≢ 10) text =
+    recursion_from_All (λ byte. IsFeed byte ≡ false → byte ≢ 10) text (λ k d lt e. eqb-false _ 10 e) in
     let parts = pieces IsFeed (λ byte. byte ≢ 10) text bytes in
     All-from_recursion (All (λ byte. byte ≢ 10)) (lines text) (each (slice_split IsFeed text) parts)
   where
-    each : (parts : List (List ℕ)) → AllByRecursion (AllByRecursion (λ byte. byte ≢ 10)) parts → AllByRecursion (All (λ byte. byte ≢ 10)) (lines_of_parts parts)
+    each : (parts : List (List ℕ)) → AllByRecursion (AllByRecursion (λ byte. byte ≢ 10)) parts
+        → AllByRecursion (All (λ byte. byte ≢ 10)) (lines_of_parts parts)
     each [] all = tt
     each (part ∷ []) all =
         elim (eqb (length part) 0) as (λ b. AllByRecursion (All (λ byte. byte ≢ 10)) (cond b [] (part ∷ []))) [
@@ -125,9 +144,10 @@ lines-one_line text =
         ]
     each (part ∷ next ∷ parts) all =
         let plain : All (λ byte. byte ≢ 10) part = All-from_recursion (λ byte. byte ≢ 10) part all.0 in (
-          elim (eqb (get_or part (length part - 1) 0) 13) as (λ b. All (λ byte. byte ≢ 10) (cond b (take (length part - 1) part) part)) [
-            | true ↦ All-take (λ byte. byte ≢ 10) (length part - 1) part plain
-            | false ↦ plain
-          ],
+          elim (eqb (get_or part (length part - 1) 0) 13) as (λ b. All
+              (λ byte. byte ≢ 10) (cond b (take (length part - 1) part) part)) [
+                | true ↦ All-take (λ byte. byte ≢ 10) (length part - 1) part plain
+                | false ↦ plain
+              ],
           each (next ∷ parts) all.1,
         )

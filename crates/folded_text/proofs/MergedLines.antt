@@ -17,21 +17,34 @@ both (Ok done) a b join = join a b
 both (Err fault) a b join = tt
 
 -- a row of the line's stack, which weighs more now
-pub added_to : (at weight : ℕ) (line text digits : List ℕ) (merged new : List WeightedStack) (outcome : Result (Unit {0}) FoldedFault)
-    → IsUtf8 line → HasCount line text digits → weight ≡ digits_value 10 digits → weight < 2 ^ 63 → IsPlacedAt frames_of merged text at
+pub added_to : (at weight : ℕ)
+    (line text digits : List ℕ) (merged new : List WeightedStack) (outcome : Result (Unit {0}) FoldedFault)
+    → IsUtf8 line → HasCount line text digits
+    → weight ≡ digits_value 10 digits → weight < 2 ^ 63 → IsPlacedAt frames_of merged text at
     → OnOk outcome (new ≡ with_added_at merged at weight) → OnOk outcome (total_of merged + weight < 2 ^ 63)
     → OnOk outcome ((row : WeightedStack) × IsRowLine line row × AddsRow merged new row)
 added_to at weight line text digits merged new (Ok done) utf8 count value small there added fits =
     let row : WeightedStack = record { stack = frames_of text; weight = weight } in
-    let same : row ≡ record { stack = (row_at merged at).stack; weight = weight } = ap (λ s. let r : WeightedStack = record { stack = s; weight = weight } in r) (sym there.1) in
-    (row, IsRowLine-read line text digits weight utf8 count value there.2 small, subst (λ rows. AddsRow merged rows row) (sym added) (AddsRow-added merged at weight row there.0 fits same))
+    let same : row ≡ record { stack = (row_at merged at).stack; weight = weight } =
+    ap (λ s. let r : WeightedStack = record { stack = s; weight = weight } in r) (sym there.1) in (
+      row,
+      IsRowLine-read line text digits weight utf8 count value there.2 small,
+      subst (λ rows. AddsRow merged rows row) (sym added) (AddsRow-added merged at weight row there.0 fits same),
+    )
 added_to at weight line text digits merged new (Err fault) utf8 count value small there added fits = tt
 
 -- a row of the line's stack that can weigh no more
-pub refused_at : (at weight number held : ℕ) (line text digits : List ℕ) (merged : List WeightedStack) (outcome : Result (Unit {0}) FoldedFault)
-    → IsUtf8 line → HasCount line text digits → weight ≡ digits_value 10 digits → weight < 2 ^ 63 → IsPlacedAt frames_of merged text at
-    → IfErr outcome (λ fault. (fault ≡ Heavy number) × (2 ^ 63 ≤ held + weight)) → IfErr outcome (IsLineFault held number line)
+pub refused_at : (at weight number held : ℕ)
+    (line text digits : List ℕ) (merged : List WeightedStack) (outcome : Result (Unit {0}) FoldedFault)
+    → IsUtf8 line → HasCount line text digits
+    → weight ≡ digits_value 10 digits → weight < 2 ^ 63 → IsPlacedAt frames_of merged text at
+    → IfErr outcome (λ fault. (fault ≡ Heavy number) × (2 ^ 63 ≤ held + weight))
+    → IfErr outcome (IsLineFault held number line)
 refused_at at weight number held line text digits merged (Ok done) utf8 count value small there fault = tt
 refused_at at weight number held line text digits merged (Err found) utf8 count value small there fault =
-    subst (IsLineFault held number line) (sym fault.0)
-    (refl, record { stack = frames_of text; weight = weight }, IsRowLine-read line text digits weight utf8 count value there.2 small, fault.1)
+    subst (IsLineFault held number line) (sym fault.0) (
+      refl,
+      record { stack = frames_of text; weight = weight },
+      IsRowLine-read line text digits weight utf8 count value there.2 small,
+      fault.1,
+    )

@@ -1,5 +1,6 @@
 -- What a text is folded text of.
-use Rattle.std.proofs.Common.{◌≡◌, ◌≢◌, ℕ, ◌+◌, ◌^◌, ◌<◌, ◌≤◌, List, [], ◌∷◌, ◌++◌, length, map, refl, sym, ap, ◌∙◌, arith, lit<, subst, append_assoc, length-append}
+use Rattle.std.proofs.Common.{◌≡◌, ◌≢◌, ℕ, ◌+◌, ◌^◌, ◌<◌, ◌≤◌, List, [], ◌∷◌, ◌++◌, length, map, refl, sym, ap, ◌∙◌}
+use Rattle.std.proofs.Common.{arith, lit<, subst, append_assoc, length-append}
 use Rattle.std.proofs.Math.ListN.{get_or-append}
 use Rattle.std.proofs.lemmas.List.{get_or_at, append-nil, nil_from_length}
 use Rattle.std.proofs.lemmas.List.Sums.{sum_by-cons, sum_by-append, sum_by_push}
@@ -10,7 +11,8 @@ use Rattle.profile_rows.specs.declared.weighted_stacks.WeightedStack.{WeightedSt
 use Rattle.folded_text.specs.declared.folded.FoldedFault.{FoldedFault}
 use Rattle.folded_text.specs.declared.folded.FoldedFault.TheVariants.{NotUtf8, NoCount, Count, Depth, Heavy, NoMemory}
 use Rattle.profile_rows.specs.Rows.{total_of}
-use Rattle.folded_text.specs.FoldedText.{HasCount, IsRowLine, AreRowLines, IsFoldedText, IsLineFault, IsFirstFault, IsFittingFault, frames_of}
+use Rattle.folded_text.specs.FoldedText.{HasCount, IsRowLine, AreRowLines, IsFoldedText, IsLineFault, IsFirstFault}
+use Rattle.folded_text.specs.FoldedText.{IsFittingFault, frames_of}
 use Rattle.std.specs.Prelude.{Result, Ok, Err, MatchResult, All}
 use Rattle.std.specs.declared.iter.Enumerate.{Enumerate}
 use Rattle.bstr.specs.Text.{lines_of, without_terminator}
@@ -19,18 +21,21 @@ use Rattle.folded_text.proofs.Lines.{lines-one_line, lines_of-lines}
 
 same_row : (a b : WeightedStack) → a.stack ≡ b.stack → a.weight ≡ b.weight → a ≡ b
 same_row a b stack weight =
-    let swapped : a ≡ record { stack = b.stack; weight = a.weight } = ap (λ s. let row : WeightedStack = record { stack = s; weight = a.weight } in row) stack in
+    let swapped : a ≡ record { stack = b.stack; weight = a.weight } =
+    ap (λ s. let row : WeightedStack = record { stack = s; weight = a.weight } in row) stack in
     swapped ∙ ap (λ w. let row : WeightedStack = record { stack = b.stack; weight = w } in row) weight
 
 -- one line spells one row
 pub IsRowLine-same : (line : List ℕ) (a b : WeightedStack) → IsRowLine line a → IsRowLine line b → a ≡ b
 IsRowLine-same line a b one other =
-    let parts = HasCount-same line one.counted.0 other.counted.0 one.counted.1 other.counted.1 one.counted.2.count other.counted.2.count in
+    let parts = HasCount-same
+    line one.counted.0 other.counted.0 one.counted.1 other.counted.1 one.counted.2.count other.counted.2.count in
     same_row a b
     (one.counted.2.frames ∙ ap frames_of parts.0 ∙ sym other.counted.2.frames)
     (one.counted.2.weight ∙ ap (digits_value 10) parts.1 ∙ sym other.counted.2.weight)
 
-pub AreRowLines-same : (ls : List (List ℕ)) (rows others : List WeightedStack) → AreRowLines ls rows → AreRowLines ls others → rows ≡ others
+pub AreRowLines-same : (ls : List (List ℕ)) (rows others : List WeightedStack)
+    → AreRowLines ls rows → AreRowLines ls others → rows ≡ others
 AreRowLines-same [] rows others one other = one ∙ sym other
 AreRowLines-same ([] ∷ ls) rows others one other = AreRowLines-same ls rows others one other
 AreRowLines-same ((byte ∷ line) ∷ ls) [] others one other = absurd one
@@ -41,15 +46,18 @@ AreRowLines-same ((byte ∷ line) ∷ ls) (row ∷ rows) (r ∷ others) one othe
     ap (λ z. z ∷ rows) here ∙ ap (λ z. r ∷ z) rest
 
 -- one line more, that spells a row or is empty
-pub AreRowLines-push : (ls : List (List ℕ)) (rows : List WeightedStack) (line : List ℕ) (row : WeightedStack) → AreRowLines ls rows → 0 < length line → IsRowLine line row → AreRowLines (ls ++ line ∷ []) (rows ++ row ∷ [])
+pub AreRowLines-push : (ls : List (List ℕ)) (rows : List WeightedStack) (line : List ℕ) (row : WeightedStack)
+    → AreRowLines ls rows → 0 < length line → IsRowLine line row → AreRowLines (ls ++ line ∷ []) (rows ++ row ∷ [])
 AreRowLines-push [] [] [] row all some this = absurd (omega arith)
 AreRowLines-push [] [] (byte ∷ line) row all some this = (this, refl)
 AreRowLines-push [] (r ∷ rows) line row all some this = cc
 AreRowLines-push ([] ∷ ls) rows line row all some this = AreRowLines-push ls rows line row all some this
 AreRowLines-push ((byte ∷ l) ∷ ls) [] line row all some this = absurd all
-AreRowLines-push ((byte ∷ l) ∷ ls) (r ∷ rows) line row all some this = (all.0, AreRowLines-push ls rows line row all.1 some this)
+AreRowLines-push ((byte ∷ l) ∷ ls) (r ∷ rows) line row all some this =
+    (all.0, AreRowLines-push ls rows line row all.1 some this)
 
-pub AreRowLines-skip : (ls : List (List ℕ)) (rows : List WeightedStack) → AreRowLines ls rows → AreRowLines (ls ++ [] ∷ []) rows
+pub AreRowLines-skip : (ls : List (List ℕ)) (rows : List WeightedStack)
+    → AreRowLines ls rows → AreRowLines (ls ++ [] ∷ []) rows
 AreRowLines-skip [] rows all = all
 AreRowLines-skip ([] ∷ ls) rows all = AreRowLines-skip ls rows all
 AreRowLines-skip ((byte ∷ l) ∷ ls) [] all = absurd all
@@ -57,9 +65,11 @@ AreRowLines-skip ((byte ∷ l) ∷ ls) (r ∷ rows) all = (all.0, AreRowLines-sk
 
 -- the rows of lines that hold a line: those before it, its own, those after it
 abbrev pub CutAt : List (List ℕ) → List ℕ → List WeightedStack → Type 0
-CutAt before line rows = (front : List WeightedStack) × (row : WeightedStack) × (back : List WeightedStack) × (rows ≡ front ++ row ∷ back) × AreRowLines before front × IsRowLine line row
+CutAt before line rows = (front : List WeightedStack) × (row : WeightedStack)
+    × (back : List WeightedStack) × (rows ≡ front ++ row ∷ back) × AreRowLines before front × IsRowLine line row
 
-cut_at : (before : List (List ℕ)) (line : List ℕ) (after : List (List ℕ)) (rows : List WeightedStack) → AreRowLines (before ++ line ∷ after) rows → 0 < length line → CutAt before line rows
+cut_at : (before : List (List ℕ)) (line : List ℕ) (after : List (List ℕ)) (rows : List WeightedStack)
+    → AreRowLines (before ++ line ∷ after) rows → 0 < length line → CutAt before line rows
 cut_at [] [] after rows all some = absurd (omega arith)
 cut_at [] (byte ∷ line) after [] all some = absurd all
 cut_at [] (byte ∷ line) after (row ∷ rows) all some = ([], row, rows, refl, refl, all.0)
@@ -74,15 +84,22 @@ pub record Shares (line : List ℕ) (row : WeightedStack) (stack digits : List �
   pub weight : row.weight ≡ digits_value 10 digits
 
 -- a row of the line has the line's one count
-pub shared : (line : List ℕ) (row : WeightedStack) (stack digits : List ℕ) → IsRowLine line row → HasCount line stack digits → Shares line row stack digits
+pub shared : (line : List ℕ) (row : WeightedStack) (stack digits : List ℕ)
+    → IsRowLine line row → HasCount line stack digits → Shares line row stack digits
 shared line row stack digits this count =
     let parts = HasCount-same line this.counted.0 stack this.counted.1 digits this.counted.2.count count in
-    record { frames = this.counted.2.frames ∙ ap frames_of parts.0; weight = this.counted.2.weight ∙ ap (digits_value 10) parts.1 }
+    record {
+      frames = this.counted.2.frames
+          ∙ ap frames_of parts.0;
+      weight = this.counted.2.weight ∙ ap (digits_value 10) parts.1;
+    }
 
 -- a line that spells a row within the total has no fault but want of memory
-faultless : (held number : ℕ) (line : List ℕ) (row : WeightedStack) (fault : FoldedFault) → IsRowLine line row → held + row.weight < 2 ^ 63 → IsLineFault held number line fault → fault ≡ NoMemory
+faultless : (held number : ℕ) (line : List ℕ) (row : WeightedStack) (fault : FoldedFault)
+    → IsRowLine line row → held + row.weight < 2 ^ 63 → IsLineFault held number line fault → fault ≡ NoMemory
 faultless held number line row (NotUtf8 at) this fits h = absurd (h.1 this.utf8)
-faultless held number line row (NoCount at) this fits h = absurd (h.2 this.counted.0 this.counted.1 this.counted.2.count)
+faultless held number line row (NoCount at) this fits h =
+    absurd (h.2 this.counted.0 this.counted.1 this.counted.2.count)
 faultless held number line row (Count at) this fits h =
     let same = shared line row h.2 h.3 this h.4 in
     let small = this.fits in
@@ -97,7 +114,8 @@ faultless held number line row (Heavy at) this fits h =
 faultless held number line row NoMemory this fits h = refl
 
 -- a line among those of rows within the limit has no fault but want of memory
-pub faultless_at : (before : List (List ℕ)) (line : List ℕ) (after : List (List ℕ)) (front rows : List WeightedStack) (number : ℕ) (fault : FoldedFault) → AreRowLines (before ++ line ∷ after) rows → total_of rows < 2 ^ 63
+pub faultless_at : (before : List (List ℕ)) (line : List ℕ) (after : List (List ℕ)) (front rows : List WeightedStack)
+    (number : ℕ) (fault : FoldedFault) → AreRowLines (before ++ line ∷ after) rows → total_of rows < 2 ^ 63
     → AreRowLines before front → 0 < length line → IsLineFault (total_of front) number line fault → fault ≡ NoMemory
 faultless_at before line after front rows number fault all fits known some there =
     let cut_rows = cut_at before line after rows all some in
@@ -106,26 +124,34 @@ faultless_at before line after front rows number fault all fits known some there
     let parts = sum_by-append (λ (row : WeightedStack). row.weight) cut_rows.0 (cut_rows.1 ∷ cut_rows.2) in
     let row = sum_by-cons (λ (row : WeightedStack). row.weight) cut_rows.1 cut_rows.2 in
     let held = ap total_of same in
-    faultless (total_of front) number line cut_rows.1 fault cut_rows.5 (omega (arith, total, parts, row, fits, held)) there
+    faultless
+    (total_of front) number line cut_rows.1 fault cut_rows.5 (omega (arith, total, parts, row, fits, held)) there
 
 -- folded text has no first fault but want of memory
-pub IsFirstFault-folded : (text : List ℕ) (rows : List WeightedStack) (fault : FoldedFault) → IsFoldedText text rows → IsFirstFault text fault → fault ≡ NoMemory
+pub IsFirstFault-folded : (text : List ℕ) (rows : List WeightedStack) (fault : FoldedFault)
+    → IsFoldedText text rows → IsFirstFault text fault → fault ≡ NoMemory
 IsFirstFault-folded text rows fault folded (before, line, after, front, cut, known, fits, some, there) =
-    faultless_at before line after front rows (length before + 1) fault (subst (λ ls. AreRowLines ls rows) cut folded.rows_lines) folded.total_fits known some there
+    faultless_at before line after front rows (length before + 1) fault
+    (subst (λ ls. AreRowLines ls rows) cut folded.rows_lines) folded.total_fits known some there
 
 -- one text has one list of rows
-pub IsFoldedText-same : (text : List ℕ) (rows others : List WeightedStack) → IsFoldedText text rows → IsFoldedText text others → rows ≡ others
+pub IsFoldedText-same : (text : List ℕ) (rows others : List WeightedStack)
+    → IsFoldedText text rows → IsFoldedText text others → rows ≡ others
 IsFoldedText-same text rows others one other = AreRowLines-same (lines text) rows others one.rows_lines other.rows_lines
 
 -- what reading answers decides what a text is folded text of
-pub only_answer : (text : List ℕ) (outcome : Result (List WeightedStack) FoldedFault) → MatchResult outcome (λ batch. IsFoldedText text batch) (λ fault. IsFirstFault text fault)
-    → (rows : List WeightedStack) → IsFoldedText text rows → MatchResult outcome (λ batch. batch ≡ rows) (λ fault. fault ≡ NoMemory)
+pub only_answer : (text : List ℕ) (outcome : Result (List WeightedStack) FoldedFault)
+    → MatchResult outcome (λ batch. IsFoldedText text batch) (λ fault. IsFirstFault text fault)
+    → (rows : List WeightedStack)
+    → IsFoldedText text rows → MatchResult outcome (λ batch. batch ≡ rows) (λ fault. fault ≡ NoMemory)
 only_answer text (Ok batch) read rows folded = IsFoldedText-same text batch rows read folded
 only_answer text (Err fault) read rows folded = IsFirstFault-folded text rows fault folded read
 
 -- the row of a line that was read
-pub IsRowLine-read : (line stack digits : List ℕ) (weight : ℕ) → IsUtf8 line → HasCount line stack digits → weight ≡ digits_value 10 digits
-    → length (frames_of stack) ≤ 65535 → weight < 2 ^ 63 → IsRowLine line (record { stack = frames_of stack; weight = weight })
+pub IsRowLine-read : (line stack digits : List ℕ) (weight : ℕ)
+    → IsUtf8 line → HasCount line stack digits → weight ≡ digits_value 10 digits
+    → length (frames_of stack) ≤ 65535
+    → weight < 2 ^ 63 → IsRowLine line (record { stack = frames_of stack; weight = weight })
 IsRowLine-read line stack digits weight utf8 count value depth fits = record {
   utf8 = utf8;
   counted = (stack, digits, record { count = count; frames = refl; weight = value });
@@ -134,10 +160,12 @@ IsRowLine-read line stack digits weight utf8 count value depth fits = record {
 }
 
 -- the stack text of a line holds no line feed either
-pub text_one_line : (line text digits : List ℕ) → HasCount line text digits → All (λ byte. byte ≢ 10) line → All (λ byte. byte ≢ 10) text
+pub text_one_line : (line text digits : List ℕ)
+    → HasCount line text digits → All (λ byte. byte ≢ 10) line → All (λ byte. byte ≢ 10) text
 text_one_line line text digits count all = λ k d below.
     let long = length-append text (32 ∷ digits) in
-    subst (λ byte. byte ≢ 10) (get_or-append text (32 ∷ digits) d k below) (subst (All (λ byte. byte ≢ 10)) count.parts all k d (omega (arith, long, below)))
+    subst (λ byte. byte ≢ 10) (get_or-append text (32 ∷ digits) d k below)
+    (subst (All (λ byte. byte ≢ 10)) count.parts all k d (omega (arith, long, below)))
 
 -- ---- the loop over the lines
 
@@ -151,7 +179,8 @@ pub record IsReadTo (text : List ℕ) (rest : List (List ℕ)) (count : ℕ) (ro
 
 -- before the first of the numbered lines no row is read
 pub IsReadTo-begin : (text : List ℕ) (iterator numbered : Enumerate (List (List ℕ))) (rows : List WeightedStack)
-    → iterator ≡ numbered → numbered.iter ≡ map without_terminator (lines_of text) → numbered.count ≡ 0 → rows ≡ [] → IsReadTo text iterator.iter iterator.count rows
+    → iterator ≡ numbered → numbered.iter ≡ map without_terminator (lines_of text)
+    → numbered.count ≡ 0 → rows ≡ [] → IsReadTo text iterator.iter iterator.count rows
 IsReadTo-begin text iterator numbered rows same source first none = record {
   before = [];
   cut = sym (ap (λ (s : Enumerate (List (List ℕ))). s.iter) same ∙ source ∙ lines_of-lines text);
@@ -160,43 +189,56 @@ IsReadTo-begin text iterator numbered rows same source first none = record {
   fits = subst (λ some. total_of some < 2 ^ 63) (sym none) (lit< tt);
 }
 
-regroup : (text : List ℕ) (before rest : List (List ℕ)) (line : List ℕ) (next : List (List ℕ)) → lines text ≡ before ++ rest → rest ≡ line ∷ next → lines text ≡ (before ++ line ∷ []) ++ next
+regroup : (text : List ℕ) (before rest : List (List ℕ)) (line : List ℕ) (next : List (List ℕ))
+    → lines text ≡ before ++ rest → rest ≡ line ∷ next → lines text ≡ (before ++ line ∷ []) ++ next
 regroup text before rest line next cut e = cut ∙ ap (λ ls. before ++ ls) e ∙ sym (append_assoc before (line ∷ []) next)
 
-pub IsReadTo-row : (text : List ℕ) (rest : List (List ℕ)) (count : ℕ) (rows : List WeightedStack) (line : List ℕ) (next : List (List ℕ)) (after : ℕ) (row : WeightedStack) (all : List WeightedStack)
-    → IsReadTo text rest count rows → rest ≡ line ∷ next → after ≡ count + 1 → 0 < length line → IsRowLine line row → total_of rows + row.weight < 2 ^ 63 → all ≡ rows ++ row ∷ [] → IsReadTo text next after all
+pub IsReadTo-row : (text : List ℕ) (rest : List (List ℕ)) (count : ℕ) (rows : List WeightedStack)
+    (line : List ℕ) (next : List (List ℕ)) (after : ℕ) (row : WeightedStack) (all : List WeightedStack)
+    → IsReadTo text rest count rows → rest ≡ line ∷ next → after ≡ count + 1 → 0 < length line → IsRowLine line row
+    → total_of rows + row.weight < 2 ^ 63 → all ≡ rows ++ row ∷ [] → IsReadTo text next after all
 IsReadTo-row text rest count rows line next after row all so_far e number some this fits more =
-    let parts : total_of (rows ++ row ∷ []) ≡ total_of rows + row.weight = sum_by_push (λ (row : WeightedStack). row.weight) rows row in
+    let parts : total_of (rows ++ row ∷ []) ≡ total_of rows + row.weight =
+    sum_by_push (λ (row : WeightedStack). row.weight) rows row in
     let total : total_of all ≡ total_of (rows ++ row ∷ []) = ap total_of more in
     record {
       before = so_far.before ++ line ∷ [];
       cut = regroup text so_far.before rest line next so_far.cut e;
       counted = omega (arith, length-append so_far.before (line ∷ []), so_far.counted);
-      known = subst (AreRowLines (so_far.before ++ line ∷ [])) (sym more) (AreRowLines-push so_far.before rows line row so_far.known some this);
+      known = subst (AreRowLines (so_far.before ++ line ∷ []))
+          (sym more) (AreRowLines-push so_far.before rows line row so_far.known some this);
       fits = omega arith;
     }
 
-pub IsReadTo-skip : (text : List ℕ) (rest : List (List ℕ)) (count : ℕ) (rows : List WeightedStack) (line : List ℕ) (next : List (List ℕ)) (after : ℕ)
-    → IsReadTo text rest count rows → rest ≡ line ∷ next → after ≡ count + 1 → length line ≡ 0 → IsReadTo text next after rows
+pub IsReadTo-skip : (text : List ℕ)
+    (rest : List (List ℕ)) (count : ℕ) (rows : List WeightedStack) (line : List ℕ) (next : List (List ℕ)) (after : ℕ)
+    → IsReadTo text rest count rows
+    → rest ≡ line ∷ next → after ≡ count + 1 → length line ≡ 0 → IsReadTo text next after rows
 IsReadTo-skip text rest count rows line next after so_far e number none =
     let empty : line ≡ [] = nil_from_length line none in
     record {
       before = so_far.before ++ line ∷ [];
       cut = regroup text so_far.before rest line next so_far.cut e;
       counted = omega (arith, length-append so_far.before (line ∷ []), so_far.counted);
-      known = subst (λ l. AreRowLines (so_far.before ++ l ∷ []) rows) (sym empty) (AreRowLines-skip so_far.before rows so_far.known);
+      known = subst (λ l. AreRowLines (so_far.before ++ l ∷ []) rows)
+          (sym empty) (AreRowLines-skip so_far.before rows so_far.known);
       fits = so_far.fits;
     }
 
-pub IsReadTo-one_line : (text : List ℕ) (rest : List (List ℕ)) (count : ℕ) (rows : List WeightedStack) (line : List ℕ) (next : List (List ℕ)) → IsReadTo text rest count rows → rest ≡ line ∷ next → All (λ byte. byte ≢ 10) line
+pub IsReadTo-one_line : (text : List ℕ) (rest : List (List ℕ)) (count : ℕ) (rows : List WeightedStack) (line : List ℕ)
+    (next : List (List ℕ)) → IsReadTo text rest count rows → rest ≡ line ∷ next → All (λ byte. byte ≢ 10) line
 IsReadTo-one_line text rest count rows line next so_far e =
-    let each : All (All (λ byte. byte ≢ 10)) (so_far.before ++ line ∷ next) = subst (All (All (λ byte. byte ≢ 10))) (so_far.cut ∙ ap (λ ls. so_far.before ++ ls) e) (lines-one_line text) in
+    let each : All (All (λ byte. byte ≢ 10)) (so_far.before ++ line ∷ next) =
+    subst (All (All (λ byte. byte ≢ 10))) (so_far.cut ∙ ap (λ ls. so_far.before ++ ls) e) (lines-one_line text) in
     let long = length-append so_far.before (line ∷ next) in
-    subst (All (λ byte. byte ≢ 10)) (get_or_at so_far.before line next [] (length so_far.before) refl) (each (length so_far.before) [] (omega (arith, long)))
+    subst (All (λ byte. byte ≢ 10)) (get_or_at so_far.before line next [] (length so_far.before) refl)
+    (each (length so_far.before) [] (omega (arith, long)))
 
 -- a line with a fault is the first one
-pub IsReadTo-fault : (text : List ℕ) (rest : List (List ℕ)) (count : ℕ) (rows : List WeightedStack) (line : List ℕ) (next : List (List ℕ)) (fault : FoldedFault)
-    → IsReadTo text rest count rows → rest ≡ line ∷ next → 0 < length line → IsLineFault (total_of rows) (count + 1) line fault → IsFirstFault text fault
+pub IsReadTo-fault : (text : List ℕ) (rest : List (List ℕ))
+    (count : ℕ) (rows : List WeightedStack) (line : List ℕ) (next : List (List ℕ)) (fault : FoldedFault)
+    → IsReadTo text rest count rows → rest ≡ line ∷ next
+    → 0 < length line → IsLineFault (total_of rows) (count + 1) line fault → IsFirstFault text fault
 IsReadTo-fault text rest count rows line next fault so_far e some there = (
   so_far.before,
   line,
@@ -209,24 +251,32 @@ IsReadTo-fault text rest count rows line next fault so_far e some there = (
   subst (λ n. IsLineFault (total_of rows) (n + 1) line fault) so_far.counted there,
 )
 
-pub IsReadTo-end : (text : List ℕ) (rest : List (List ℕ)) (count : ℕ) (rows : List WeightedStack) → IsReadTo text rest count rows → rest ≡ [] → IsFoldedText text rows
+pub IsReadTo-end : (text : List ℕ) (rest : List (List ℕ)) (count : ℕ) (rows : List WeightedStack)
+    → IsReadTo text rest count rows → rest ≡ [] → IsFoldedText text rows
 IsReadTo-end text rest count rows so_far e =
     let whole : lines text ≡ so_far.before = so_far.cut ∙ ap (λ ls. so_far.before ++ ls) e ∙ append-nil so_far.before in
     record { rows_lines = subst (λ ls. AreRowLines ls rows) (sym whole) so_far.known; total_fits = so_far.fits }
 
 -- a line whose stack text and weight don't fit has that fault
-pub IsLineFault-fitting : (held number : ℕ) (line text digits : List ℕ) (weight : ℕ) (fault : FoldedFault) → IsUtf8 line → weight < 2 ^ 63 → HasCount line text digits → weight ≡ digits_value 10 digits
+pub IsLineFault-fitting : (held number : ℕ) (line text digits : List ℕ) (weight : ℕ) (fault : FoldedFault)
+    → IsUtf8 line → weight < 2 ^ 63 → HasCount line text digits → weight ≡ digits_value 10 digits
     → IsFittingFault held number text weight fault → IsLineFault held number line fault
 IsLineFault-fitting held number line text digits weight (NotUtf8 at) utf8 small count value h = absurd h
 IsLineFault-fitting held number line text digits weight (NoCount at) utf8 small count value h = absurd h
 IsLineFault-fitting held number line text digits weight (Count at) utf8 small count value h = absurd h
-IsLineFault-fitting held number line text digits weight (Depth at) utf8 small count value h = (h.0, utf8, text, digits, count, omega (arith, value, small), h.1)
-IsLineFault-fitting held number line text digits weight (Heavy at) utf8 small count value h =
-    (h.0, record { stack = frames_of text; weight = weight }, IsRowLine-read line text digits weight utf8 count value h.1 small, h.2)
+IsLineFault-fitting held number line text digits weight (Depth at) utf8 small count value h =
+    (h.0, utf8, text, digits, count, omega (arith, value, small), h.1)
+IsLineFault-fitting held number line text digits weight (Heavy at) utf8 small count value h = (
+  h.0,
+  record { stack = frames_of text; weight = weight },
+  IsRowLine-read line text digits weight utf8 count value h.1 small,
+  h.2,
+)
 IsLineFault-fitting held number line text digits weight NoMemory utf8 small count value h = absurd h
 
 -- where memory runs out the line spells a row that can follow
-pub IsLineFault-memory : (held total number : ℕ) (line text digits : List ℕ) (depth weight : ℕ) → total ≡ held → IsUtf8 line → total + weight < 2 ^ 63 → HasCount line text digits → weight ≡ digits_value 10 digits
+pub IsLineFault-memory : (held total number : ℕ) (line text digits : List ℕ) (depth weight : ℕ)
+    → total ≡ held → IsUtf8 line → total + weight < 2 ^ 63 → HasCount line text digits → weight ≡ digits_value 10 digits
     → depth ≡ length (frames_of text) → depth ≤ 65535 → IsLineFault held number line NoMemory
 IsLineFault-memory held total number line text digits depth weight same utf8 fits count value frames most = (
   record { stack = frames_of text; weight = weight },

@@ -1,5 +1,6 @@
 -- Texts without empty frames are in the order of their stacks.
-use Rattle.std.proofs.Common.{◌≡◌, ◌≢◌, ℕ, ◌+◌, ◌<◌, true, false, cond, eqb, List, [], ◌∷◌, ◌++◌, length, take, drop, filter, refl, sym, ap, ◌∙◌, arith}
+use Rattle.std.proofs.Common.{◌≡◌, ◌≢◌, ℕ, ◌+◌, ◌<◌, true, false, cond, eqb, List, [], ◌∷◌, ◌++◌, length, take, drop}
+use Rattle.std.proofs.Common.{filter, refl, sym, ap, ◌∙◌, arith}
 use Rattle.std.specs.Prelude.{◌==◌, not}
 use Rattle.std.specs.List.{AllByRecursion, join_with_byte, slice_split}
 use Rattle.std.specs.declared.cmp.Ordering.{Ordering}
@@ -36,9 +37,11 @@ ends_lower : (byte : ℕ) → byte ≢ 59 → text_byte_cmp 59 byte ≡ Less
 ends_lower byte other = ap (nat_cmp 0) (behind byte other) ∙ sym (nat_cmp_is 0 (byte + 1) Less (omega arith))
 
 ends_greater : (byte : ℕ) → byte ≢ 59 → text_byte_cmp byte 59 ≡ Greater
-ends_greater byte other = ap (λ n. nat_cmp n 0) (behind byte other) ∙ sym (nat_cmp_is (byte + 1) 0 Greater (omega arith))
+ends_greater byte other = ap (λ n. nat_cmp n 0) (behind byte other)
+    ∙ sym (nat_cmp_is (byte + 1) 0 Greater (omega arith))
 
-next : (o : Ordering) (a b : ℕ) → MatchOrdering o (a < b) (a ≡ b) (b < a) → MatchOrdering o (a + 1 < b + 1) (a + 1 ≡ b + 1) (b + 1 < a + 1)
+next : (o : Ordering) (a b : ℕ)
+    → MatchOrdering o (a < b) (a ≡ b) (b < a) → MatchOrdering o (a + 1 < b + 1) (a + 1 ≡ b + 1) (b + 1 < a + 1)
 next Less a b h = omega (arith, h)
 next Equal a b h = ap (λ n. n + 1) h
 next Greater a b h = omega (arith, h)
@@ -56,21 +59,27 @@ then_then Equal b c = refl
 then_then Greater b c = refl
 
 -- the bytes of two frames decide first, then what follows them
-within : (frames others : List (List ℕ)) → stack_text_cmp (tail frames) (tail others) ≡ stack_cmp frames others → (frame other : List ℕ) → Plain frame → Plain other
-    → stack_text_cmp (frame ++ tail frames) (other ++ tail others) ≡ ordering_then (slice_cmp nat_cmp frame other) (stack_cmp frames others)
+within : (frames others : List (List ℕ)) → stack_text_cmp (tail frames) (tail others) ≡ stack_cmp frames others
+    → (frame other : List ℕ) → Plain frame → Plain other
+    → stack_text_cmp (frame ++ tail frames) (other ++ tail others)
+    ≡ ordering_then (slice_cmp nat_cmp frame other) (stack_cmp frames others)
 within frames others rest [] [] plain also = rest
 within [] others rest [] (b ∷ other) plain also = refl
 within (f ∷ frames) others rest [] (b ∷ other) plain also =
-    ap (λ o. ordering_then o (stack_text_cmp (join_with_byte 59 (f ∷ frames)) (other ++ tail others))) (ends_lower b also.0)
+    ap (λ o. ordering_then o (stack_text_cmp (join_with_byte 59 (f ∷ frames)) (other ++ tail others)))
+    (ends_lower b also.0)
 within frames [] rest (a ∷ frame) [] plain also = refl
 within frames (f ∷ others) rest (a ∷ frame) [] plain also =
-    ap (λ o. ordering_then o (stack_text_cmp (frame ++ tail frames) (join_with_byte 59 (f ∷ others)))) (ends_greater a plain.0)
+    ap (λ o. ordering_then o (stack_text_cmp (frame ++ tail frames) (join_with_byte 59 (f ∷ others))))
+    (ends_greater a plain.0)
 within frames others rest (a ∷ frame) (b ∷ other) plain also =
-    ap (λ o. ordering_then o (stack_text_cmp (frame ++ tail frames) (other ++ tail others))) (goes_on a b plain.0 also.0)
+    ap (λ o. ordering_then o (stack_text_cmp (frame ++ tail frames) (other ++ tail others)))
+    (goes_on a b plain.0 also.0)
     ∙ ap (ordering_then (nat_cmp a b)) (within frames others rest frame other plain.1 also.1)
     ∙ then_then (nat_cmp a b) (slice_cmp nat_cmp frame other) (stack_cmp frames others)
 
-tails : (frames others : List (List ℕ)) → AllByRecursion Plain frames → AllByRecursion Plain others → stack_text_cmp (tail frames) (tail others) ≡ stack_cmp frames others
+tails : (frames others : List (List ℕ)) → AllByRecursion Plain frames
+    → AllByRecursion Plain others → stack_text_cmp (tail frames) (tail others) ≡ stack_cmp frames others
 tails [] [] plain also = refl
 tails [] (other ∷ others) plain also = refl
 tails (frame ∷ frames) [] plain also = refl
@@ -88,16 +97,19 @@ plain_frames (frame ∷ frames) all = (all.0.1, plain_frames frames all.1)
 
 -- a text of a frame is behind an empty one
 some_text : (frame : List ℕ) (frames : List (List ℕ)) → 0 < length frame
-    → (stack_text_cmp [] (join_with_byte 59 (frame ∷ frames)) ≡ Less) × (stack_text_cmp (join_with_byte 59 (frame ∷ frames)) [] ≡ Greater)
+    → (stack_text_cmp [] (join_with_byte 59 (frame ∷ frames)) ≡ Less)
+    × (stack_text_cmp (join_with_byte 59 (frame ∷ frames)) [] ≡ Greater)
 some_text [] frames some = absurd (omega (arith, some))
 some_text (byte ∷ frame) [] some = (refl, refl)
 some_text (byte ∷ frame) (f ∷ frames) some = (refl, refl)
 
-joined-cmp : (frames others : List (List ℕ)) → AllByRecursion Frame frames → AllByRecursion Frame others → stack_text_cmp (join_with_byte 59 frames) (join_with_byte 59 others) ≡ stack_cmp frames others
+joined-cmp : (frames others : List (List ℕ)) → AllByRecursion Frame frames → AllByRecursion Frame others
+    → stack_text_cmp (join_with_byte 59 frames) (join_with_byte 59 others) ≡ stack_cmp frames others
 joined-cmp [] [] all also = refl
 joined-cmp [] (other ∷ others) all also = (some_text other others also.0.0).0
 joined-cmp (frame ∷ frames) [] all also = (some_text frame frames all.0.0).1
-joined-cmp (frame ∷ frames) (other ∷ others) all also = tails (frame ∷ frames) (other ∷ others) (plain_frames (frame ∷ frames) all) (plain_frames (other ∷ others) also)
+joined-cmp (frame ∷ frames) (other ∷ others) all also =
+    tails (frame ∷ frames) (other ∷ others) (plain_frames (frame ∷ frames) all) (plain_frames (other ∷ others) also)
 
 -- ---- texts
 
@@ -105,10 +117,12 @@ some_piece : (part : List ℕ) → not (length part == 0) ≡ true → 0 < lengt
 some_piece [] e = cc
 some_piece (byte ∷ part) e = omega arith
 
-filled : (parts : List (List ℕ)) → AllByRecursion Plain parts → AllByRecursion Frame (filter (λ part. not (length part == 0)) parts)
+filled : (parts : List (List ℕ))
+    → AllByRecursion Plain parts → AllByRecursion Frame (filter (λ part. not (length part == 0)) parts)
 filled [] all = tt
 filled (part ∷ parts) all =
-    elim (not (length part == 0)) as (λ b. not (length part == 0) ≡ b → AllByRecursion Frame (cond b (part ∷ filter (λ part. not (length part == 0)) parts) (filter (λ part. not (length part == 0)) parts))) [
+    elim (not (length part == 0)) as (λ b. not (length part == 0) ≡ b → AllByRecursion Frame (cond b
+    (part ∷ filter (λ part. not (length part == 0)) parts) (filter (λ part. not (length part == 0)) parts))) [
       | true ↦ λ e. ((some_piece part e, all.0), filled parts all.1)
       | false ↦ λ e. filled parts all.1
     ] refl
@@ -118,10 +132,12 @@ bytes_apart [] = tt
 bytes_apart (byte ∷ text) = (eqb-false byte 59, bytes_apart text)
 
 frames_of-Frame : (text : List ℕ) → AllByRecursion Frame (frames_of text)
-frames_of-Frame text = filled (slice_split (λ byte. eqb byte 59) text) (pieces (λ byte. eqb byte 59) (λ byte. byte ≢ 59) text (bytes_apart text))
+frames_of-Frame text = filled
+    (slice_split (λ byte. eqb byte 59) text) (pieces (λ byte. eqb byte 59) (λ byte. byte ≢ 59) text (bytes_apart text))
 
 -- the order of texts without empty frames is that of their stacks
-pub joined_texts-cmp : (text other : List ℕ) → IsJoined text → IsJoined other → stack_text_cmp text other ≡ stack_cmp (frames_of text) (frames_of other)
+pub joined_texts-cmp : (text other : List ℕ)
+    → IsJoined text → IsJoined other → stack_text_cmp text other ≡ stack_cmp (frames_of text) (frames_of other)
 joined_texts-cmp text other joined also =
     ap (λ t. stack_text_cmp t other) joined ∙ ap (stack_text_cmp (join_with_byte 59 (frames_of text))) also
     ∙ joined-cmp (frames_of text) (frames_of other) (frames_of-Frame text) (frames_of-Frame other)
@@ -136,10 +152,12 @@ one_byte byte = sym (nat_cmp_is (place_of byte) (place_of byte) Equal refl)
 
 after_front : (front text other : List ℕ) → stack_text_cmp (front ++ text) (front ++ other) ≡ stack_text_cmp text other
 after_front [] text other = refl
-after_front (byte ∷ front) text other = ap (λ o. ordering_then o (stack_text_cmp (front ++ text) (front ++ other))) (one_byte byte) ∙ after_front front text other
+after_front (byte ∷ front) text other = ap (λ o. ordering_then o (stack_text_cmp (front ++ text) (front ++ other)))
+    (one_byte byte) ∙ after_front front text other
 
 -- texts that begin with the same bytes compare as what follows these
-pub past_front-cmp : (n : ℕ) (text other : List ℕ) → take n text ≡ take n other → stack_text_cmp (drop n text) (drop n other) ≡ stack_text_cmp text other
+pub past_front-cmp : (n : ℕ) (text other : List ℕ)
+    → take n text ≡ take n other → stack_text_cmp (drop n text) (drop n other) ≡ stack_text_cmp text other
 past_front-cmp n text other same =
     sym (after_front (take n text) (drop n text) (drop n other))
     ∙ ap (λ t. stack_text_cmp t (take n text ++ drop n other)) (take-append-drop n text)

@@ -1,5 +1,6 @@
 -- Rows whose stacks are texts, which are rows by their stack texts.
-use Rattle.std.proofs.Common.{◌≡◌, ℕ, suc, ◌<◌, ◌≤◌, true, false, cond, List, [], ◌∷◌, length, get_or, map, refl, sym, ap, ◌∙◌, arith}
+use Rattle.std.proofs.Common.{◌≡◌, ℕ, suc, ◌<◌, ◌≤◌, true, false, cond, List, [], ◌∷◌, length, get_or, map, refl, sym}
+use Rattle.std.proofs.Common.{ap, ◌∙◌, arith}
 use Rattle.std.specs.Prelude.{All}
 use Rattle.std.specs.List.{AllByRecursion, join_with_byte}
 use Rattle.std.specs.Str.{bytes_eq}
@@ -24,7 +25,8 @@ Named row = All IsName row.stack
 abbrev has : List ℕ → TextState → ℕ
 has text row = cond (bytes_eq row.text text) 1 0
 
-none : (text : List ℕ) (rows : List TextState) → ((j : ℕ) (d : TextState) → j < length rows → (get_or rows j d).text ≡ text → ⊥) → rows_with text rows ≡ 0
+none : (text : List ℕ) (rows : List TextState)
+    → ((j : ℕ) (d : TextState) → j < length rows → (get_or rows j d).text ≡ text → ⊥) → rows_with text rows ≡ 0
 none text [] other = refl
 none text (row ∷ rows) other =
     let rest = none text rows (λ j d lt. other (suc j) d (omega (arith, lt))) in
@@ -34,16 +36,19 @@ none text (row ∷ rows) other =
       | false ↦ λ e. let other : has text row ≡ 0 = ap (λ b. cond b 1 0) e in omega (arith, rest, count, other)
     ] refl
 
-once : (rows : List TextState) → ((i j : ℕ) (d : TextState) → i < j → j < length rows → (get_or rows i d).text ≡ (get_or rows j d).text → ⊥)
+once : (rows : List TextState)
+    → ((i j : ℕ) (d : TextState) → i < j → j < length rows → (get_or rows i d).text ≡ (get_or rows j d).text → ⊥)
     → (text : List ℕ) → rows_with text rows ≤ 1
 once [] apart text = omega arith
 once (row ∷ rows) apart text =
-    let most = once rows (λ i j d before lt. apart (suc i) (suc j) d (omega (arith, before)) (omega (arith, lt))) text in
+    let most =
+    once rows (λ i j d before lt. apart (suc i) (suc j) d (omega (arith, before)) (omega (arith, lt))) text in
     let count = sum_by-cons (has text) row rows in
     elim (bytes_eq row.text text) as (λ b. bytes_eq row.text text ≡ b → rows_with text (row ∷ rows) ≤ 1) [
       | true ↦ λ e.
           let same = same_from_is_same_name row.text text e in
-          let rest = none text rows (λ j d lt other. apart 0 (suc j) d (omega arith) (omega (arith, lt)) (same ∙ sym other)) in
+          let rest =
+          none text rows (λ j d lt other. apart 0 (suc j) d (omega arith) (omega (arith, lt)) (same ∙ sym other)) in
           let one : has text row ≡ 1 = ap (λ b. cond b 1 0) e in
           omega (arith, rest, count, one)
       | false ↦ λ e. let other : has text row ≡ 0 = ap (λ b. cond b 1 0) e in omega (arith, most, count, other)
@@ -54,9 +59,11 @@ once (row ∷ rows) apart text =
 cut_joined : (rows : List WeightedStack) → AllByRecursion Named rows → spelled_rows (map joined_row rows) ≡ rows
 cut_joined [] all = refl
 cut_joined (row ∷ rows) all = λ i.
-    (record { stack = frames_of-joined row.stack (recursion_from_All IsName row.stack all.0) i; weight = row.weight }) ∷ cut_joined rows all.1 i
+    (record { stack = frames_of-joined row.stack (recursion_from_All IsName row.stack all.0) i; weight = row.weight })
+    ∷ cut_joined rows all.1 i
 
-module _ (weights : Weighted) (texts : List StackText) (are : AreStackTexts weights texts) (rows : List TextState) (lent : rows ≡ map plain_text texts) where
+module _ (weights : Weighted) (texts : List StackText)
+    (are : AreStackTexts weights texts) (rows : List TextState) (lent : rows ≡ map plain_text texts) where
   spelled : rows ≡ map joined_row are.rows
   spelled = lent ∙ are.spelled
 
@@ -79,7 +86,8 @@ module _ (weights : Weighted) (texts : List StackText) (are : AreStackTexts weig
     text_here = ap (λ (row : TextState). row.text) here
 
     cut_here : frames_of (get_or rows k d).text ≡ plain.stack
-    cut_here = ap frames_of text_here ∙ frames_of-joined plain.stack (recursion_from_All IsName plain.stack (are.named k (record { stack = []; weight = 0 }) (omega (arith, lt, size))))
+    cut_here = ap frames_of text_here ∙ frames_of-joined plain.stack (recursion_from_All IsName plain.stack
+        (are.named k (record { stack = []; weight = 0 }) (omega (arith, lt, size))))
 
   pub AreTextRows-lent : AreTextRows rows
   AreTextRows-lent = record {

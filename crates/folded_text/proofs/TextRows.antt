@@ -1,6 +1,8 @@
 -- Rows by their stack texts, and the report that they make.
-use Rattle.std.proofs.Common.{◌≡◌, ℕ, ◌+◌, ◌<◌, ◌≤◌, ◌^◌, Bool, true, false, cond, eqb, List, [], ◌∷◌, ◌++◌, length, filter, get_or, set, refl, sym, ap, ◌∙◌, subst, inl, inr, arith, length-append}
-use Rattle.std.specs.Prelude.{All, IfOk, IfSome, IsPermutation, IsSorted, MatchResult, Option, Some, None, Result, Ok, Err, ◌==◌, not, sum_by}
+use Rattle.std.proofs.Common.{◌≡◌, ℕ, ◌+◌, ◌<◌, ◌≤◌, ◌^◌, Bool, true, false, cond, eqb, List, [], ◌∷◌, ◌++◌, length}
+use Rattle.std.proofs.Common.{filter, get_or, set, refl, sym, ap, ◌∙◌, subst, inl, inr, arith, length-append}
+use Rattle.std.specs.Prelude.{All, IfOk, IfSome, IsPermutation, IsSorted, MatchResult, Option, Some, None, Result, Ok}
+use Rattle.std.specs.Prelude.{Err, ◌==◌, not, sum_by}
 use Rattle.std.specs.List.{AllByRecursion, join_with_byte, slice_split}
 use Rattle.std.specs.Fmt.{decimal}
 use Rattle.std.specs.HashMap as hash
@@ -10,7 +12,8 @@ use Rattle.std.specs.declared.cmp.Ordering.TheVariants.{Less, Equal, Greater}
 use Rattle.std.specs.Ordering.{is_lt, ordering_reverse}
 use Rattle.std.proofs.lemmas.List.{get_or-map, length-map, map-append, map-set}
 use Rattle.std.proofs.lemmas.List.Elements.{All-from_recursion, All-push, All-set, recursion_from_All}
-use Rattle.std.proofs.lemmas.List.Sorted.{All-permutation, IsPermutation-map, ranks_by, sorted_far, sum_by-IsPermutation}
+use Rattle.std.proofs.lemmas.List.Sorted.{All-permutation, IsPermutation-map, ranks_by, sorted_far}
+use Rattle.std.proofs.lemmas.List.Sorted.{sum_by-IsPermutation}
 use Rattle.std.proofs.lemmas.List.Splits.{join_with_byte-slice_split, length-slice_split}
 use Rattle.std.proofs.lemmas.List.Sums.{get_or-le-sum_by, sum_by-cons, sum_by-set, sum_by_push}
 use Rattle.std.proofs.lemmas.Map.Text.{hash_map_updates_str}
@@ -29,7 +32,8 @@ use Rattle.folded_text.specs.declared.folded.FoldedFault.TheVariants.{NoMemory}
 use Rattle.folded_text.specs.FoldedText.{IsFoldedText, IsWorkFault, folded_text_of, frames_of, row_text, rows_text}
 use Rattle.folded_text.specs.StackOrder.{IsJoined}
 use Rattle.profile_rows.specs.StackTexts.{TextState}
-use Rattle.folded_text.specs.TextRows.{AreKnownTexts, AreTextRows, IsReportOfText, IsStackText, by_text, one_if_known, rows_with, spelled_row, spelled_rows, text_lines}
+use Rattle.folded_text.specs.TextRows.{AreKnownTexts, AreTextRows, IsReportOfText, IsStackText, by_text, one_if_known}
+use Rattle.folded_text.specs.TextRows.{rows_with, spelled_row, spelled_rows, text_lines}
 use Rattle.folded_text.proofs.Reading.{IsFirstFault-folded, IsFoldedText-same}
 use Rattle.folded_text.proofs.StackOrder.{joined_texts-cmp, stack_text_cmp_total}
 
@@ -38,34 +42,51 @@ use Rattle.folded_text.proofs.StackOrder.{joined_texts-cmp, stack_text_cmp_total
 abbrev full : List (List ℕ) → List (List ℕ)
 full parts = filter (λ part. not (length part == 0)) parts
 
-length-joined : (part : List ℕ) (parts : List (List ℕ)) → length (join_with_byte 59 (part ∷ parts)) + 1 ≡ sum_by length (part ∷ parts) + length (part ∷ parts)
+length-joined : (part : List ℕ) (parts : List (List ℕ))
+    → length (join_with_byte 59 (part ∷ parts)) + 1 ≡ sum_by length (part ∷ parts) + length (part ∷ parts)
 length-joined part [] = omega (arith, sum_by-cons length part [])
 length-joined part (next ∷ parts) =
-    omega (arith, sum_by-cons length part (next ∷ parts), length-append part (59 ∷ join_with_byte 59 (next ∷ parts)), length-joined next parts)
+    omega (
+      arith,
+      sum_by-cons length part (next ∷ parts),
+      length-append part (59 ∷ join_with_byte 59 (next ∷ parts)),
+      length-joined next parts,
+    )
 
-length-joined_some : (parts : List (List ℕ)) → 0 < length parts → length (join_with_byte 59 parts) + 1 ≡ sum_by length parts + length parts
+length-joined_some : (parts : List (List ℕ))
+    → 0 < length parts → length (join_with_byte 59 parts) + 1 ≡ sum_by length parts + length parts
 length-joined_some [] some = absurd (omega arith)
 length-joined_some (part ∷ parts) some = length-joined part parts
 
-full-some : (byte : ℕ) (part : List ℕ) (parts : List (List ℕ)) → full ((byte ∷ part) ∷ parts) ≡ (byte ∷ part) ∷ full parts
-full-some byte part parts = ap (λ b. cond (not b) ((byte ∷ part) ∷ full parts) (full parts)) (ne_eqb (length (byte ∷ part)) 0 (λ e. omega (arith, e)))
+full-some : (byte : ℕ) (part : List ℕ) (parts : List (List ℕ))
+    → full ((byte ∷ part) ∷ parts) ≡ (byte ∷ part) ∷ full parts
+full-some byte part parts = ap (λ b. cond (not b) ((byte ∷ part) ∷ full parts) (full parts))
+    (ne_eqb (length (byte ∷ part)) 0 (λ e. omega (arith, e)))
 
 -- empty parts have no bytes
 full-bytes : (parts : List (List ℕ)) → sum_by length (full parts) ≡ sum_by length parts
 full-bytes [] = refl
 full-bytes ([] ∷ parts) = omega (arith, full-bytes parts, sum_by-cons length [] parts)
-full-bytes ((byte ∷ part) ∷ parts) = omega (arith, ap (sum_by length) (full-some byte part parts), full-bytes parts, sum_by-cons length (byte ∷ part) (full parts), sum_by-cons length (byte ∷ part) parts)
+full-bytes ((byte ∷ part) ∷ parts) = omega (
+  arith,
+  ap (sum_by length) (full-some byte part parts),
+  full-bytes parts,
+  sum_by-cons length (byte ∷ part) (full parts),
+  sum_by-cons length (byte ∷ part) parts,
+)
 
 full-fewer : (parts : List (List ℕ)) → length (full parts) ≤ length parts
 full-fewer [] = omega arith
 full-fewer ([] ∷ parts) = let rest = full-fewer parts in omega arith
-full-fewer ((byte ∷ part) ∷ parts) = let rest = full-fewer parts in omega (arith, ap length (full-some byte part parts), rest)
+full-fewer ((byte ∷ part) ∷ parts) =
+    let rest = full-fewer parts in omega (arith, ap length (full-some byte part parts), rest)
 
 full-all : (parts : List (List ℕ)) → length (full parts) ≡ length parts → full parts ≡ parts
 full-all [] same = refl
 full-all ([] ∷ parts) same = let rest = full-fewer parts in absurd (omega (arith, same))
 full-all ((byte ∷ part) ∷ parts) same =
-    full-some byte part parts ∙ ap (λ rest. (byte ∷ part) ∷ rest) (full-all parts (omega (arith, ap length (full-some byte part parts), same)))
+    full-some byte part parts ∙ ap
+    (λ rest. (byte ∷ part) ∷ rest) (full-all parts (omega (arith, ap length (full-some byte part parts), same)))
 
 abbrev parts_of : List ℕ → List (List ℕ)
 parts_of text = slice_split (λ byte. eqb byte 59) text
@@ -73,16 +94,20 @@ parts_of text = slice_split (λ byte. eqb byte 59) text
 parts-length : (text : List ℕ) → length text + 1 ≡ sum_by length (parts_of text) + length (parts_of text)
 parts-length text =
     ap (λ t. length t + 1) (sym (join_with_byte-slice_split 59 text))
-    ∙ length-joined_some (parts_of text) (let some = length-slice_split (λ byte. eqb byte 59) text in omega (arith, some))
+    ∙ length-joined_some
+    (parts_of text) (let some = length-slice_split (λ byte. eqb byte 59) text in omega (arith, some))
 
 -- the bytes of the frames, and one for each, are no more than those of the text and one
 pub frames-within : (text : List ℕ) → sum_by length (frames_of text) + length (frames_of text) ≤ length text + 1
-frames-within text = let few = full-fewer (parts_of text) in omega (arith, parts-length text, full-bytes (parts_of text), few)
+frames-within text =
+    let few = full-fewer (parts_of text) in omega (arith, parts-length text, full-bytes (parts_of text), few)
 
 -- where they are as many, no part was left out
-pub IsJoined-measured : (text : List ℕ) → sum_by length (frames_of text) + length (frames_of text) ≡ length text + 1 → IsJoined text
+pub IsJoined-measured : (text : List ℕ)
+    → sum_by length (frames_of text) + length (frames_of text) ≡ length text + 1 → IsJoined text
 IsJoined-measured text whole =
-    let all : full (parts_of text) ≡ parts_of text = full-all (parts_of text) (omega (arith, whole, parts-length text, full-bytes (parts_of text))) in
+    let all : full (parts_of text) ≡ parts_of text =
+    full-all (parts_of text) (omega (arith, whole, parts-length text, full-bytes (parts_of text))) in
     sym (join_with_byte-slice_split 59 text) ∙ ap (join_with_byte 59) (sym all)
 
 -- ---- rows known by their texts
@@ -93,7 +118,8 @@ no_row = record { stack = []; weight = 0 }
 abbrev has : List ℕ → TextState → ℕ
 has text row = cond (bytes_eq row.text text) 1 0
 
-module _ (rows : List TextState) (at weight : ℕ) (found : TextState) (lt : at < length rows) (is : found ≡ get_or rows at found) where
+module _ (rows : List TextState)
+    (at weight : ℕ) (found : TextState) (lt : at < length rows) (is : found ≡ get_or rows at found) where
   abbrev more : TextState
   more = record { text = found.text; weight = found.weight + weight }
 
@@ -105,7 +131,8 @@ module _ (rows : List TextState) (at weight : ℕ) (found : TextState) (lt : at 
 
   pub spelled-added : spelled_rows (set rows at more) ≡ with_added_at (spelled_rows rows) at weight
   spelled-added = map-set spelled_row rows at more
-      ∙ ap (λ (r : WeightedStack). set (spelled_rows rows) at (let next : WeightedStack = record { stack = r.stack; weight = r.weight + weight } in next)) (sym here)
+      ∙ ap (λ (r : WeightedStack). set (spelled_rows rows) at
+      (let next : WeightedStack = record { stack = r.stack; weight = r.weight + weight } in next)) (sym here)
 
   pub weight-within : found.weight ≤ total_of (spelled_rows rows)
   weight-within =
@@ -113,20 +140,23 @@ module _ (rows : List TextState) (at weight : ℕ) (found : TextState) (lt : at 
       let same : (row_at (spelled_rows rows) at).weight ≡ found.weight = ap (λ (r : WeightedStack). r.weight) here in
       omega (arith, most, same)
 
-  pub AreKnownTexts-added : (known : RowsBySpelling) (total : ℕ) (are_joined : Bool) → total + weight < 2 ^ 63 → AreKnownTexts known rows total are_joined → AreKnownTexts known (set rows at more) (total + weight) are_joined
+  pub AreKnownTexts-added : (known : RowsBySpelling) (total : ℕ) (are_joined : Bool) → total + weight < 2 ^ 63
+      → AreKnownTexts known rows total are_joined → AreKnownTexts known (set rows at more) (total + weight) are_joined
   AreKnownTexts-added known total are_joined fits so_far =
       let total_is = so_far.total_is in
       let row : WeightedStack = record { stack = (row_at (spelled_rows rows) at).stack; weight = weight } in
       let adds = AddsRow-added (spelled_rows rows) at weight row in_rows (omega (arith, total_is, fits)) refl in
       record {
-        placed = subst (ArePlacedBy frames_of known) (sym spelled-added) (ArePlacedBy-added frames_of known (spelled_rows rows) at weight in_rows so_far.placed);
+        placed = subst (ArePlacedBy frames_of known)
+            (sym spelled-added) (ArePlacedBy-added frames_of known (spelled_rows rows) at weight in_rows so_far.placed);
         counted = λ text.
             let moved = sum_by-set (has text) rows at more found lt in
             let same : has text (get_or rows at found) ≡ has text more = ap (has text) (sym is) in
             let before = so_far.counted text in
             omega (arith, moved, same, before);
         weighty = All-set (λ (row : TextState). 0 < row.weight) rows at more
-            (let some : 0 < found.weight = subst (λ (r : TextState). 0 < r.weight) (sym is) (so_far.weighty at found lt) in omega (arith, some)) so_far.weighty;
+            (let some : 0 < found.weight = subst (λ (r : TextState). 0 < r.weight)
+            (sym is) (so_far.weighty at found lt) in omega (arith, some)) so_far.weighty;
         spelled = All-set (λ (row : TextState). IsStackText row.text) rows at more
             (subst (λ (r : TextState). IsStackText r.text) (sym is) (so_far.spelled at found lt)) so_far.spelled;
         joined = λ e. All-set (λ (row : TextState). IsJoined row.text) rows at more
@@ -135,41 +165,53 @@ module _ (rows : List TextState) (at weight : ℕ) (found : TextState) (lt : at 
         fits = fits;
       }
 
-pub spelled-push : (rows all : List TextState) (row : TextState) → all ≡ rows ++ row ∷ [] → spelled_rows all ≡ spelled_rows rows ++ spelled_row row ∷ []
+pub spelled-push : (rows all : List TextState) (row : TextState)
+    → all ≡ rows ++ row ∷ [] → spelled_rows all ≡ spelled_rows rows ++ spelled_row row ∷ []
 spelled-push rows all row is = ap spelled_rows is ∙ map-append spelled_row rows (row ∷ [])
 
-pub AreKnownTexts-push : (known after : RowsBySpelling) (rows all : List TextState) (row : TextState) (total place : ℕ) (are_joined both : Bool) → place ≡ length rows
-    → hash.UpdatesBy (λ x y. bytes_eq x.now y.now) (λ k. bytes_eq row.text k.now) known after (Some place) → all ≡ rows ++ row ∷ [] → row_spelled known row.text ≡ None
-    → IsStackText row.text → 0 < row.weight → total + row.weight < 2 ^ 63 → (both ≡ true → (are_joined ≡ true) × IsJoined row.text)
+pub AreKnownTexts-push : (known after : RowsBySpelling)
+    (rows all : List TextState) (row : TextState) (total place : ℕ) (are_joined both : Bool) → place ≡ length rows
+    → hash.UpdatesBy (λ x y. bytes_eq x.now y.now) (λ k. bytes_eq row.text k.now) known after (Some place)
+    → all ≡ rows ++ row ∷ [] → row_spelled known row.text ≡ None
+    → IsStackText row.text
+    → 0 < row.weight → total + row.weight < 2 ^ 63 → (both ≡ true → (are_joined ≡ true) × IsJoined row.text)
     → AreKnownTexts known rows total are_joined → AreKnownTexts after all (total + row.weight) both
-AreKnownTexts-push known after rows all row total place are_joined both end updates is none text some fits joins so_far = record {
-  placed = ArePlacedBy-push frames_of known after (spelled_rows rows) (spelled_rows all) row.text row.weight place (end ∙ sym (length-map rows spelled_row)) updates (spelled-push rows all row is) text.0 so_far.placed;
-  counted = λ other.
-      let leads = hash_map_updates_str row.text known after (Some place) updates other in
-      let before = so_far.counted other in
-      ap (rows_with other) is ∙ sum_by_push (has other) rows row
-      ∙ elim (bytes_eq row.text other) as (λ b. bytes_eq row.text other ≡ b → rows_with other rows + cond b 1 0 ≡ one_if_known (cond b (Some place) (row_spelled known other))) [
-        | true ↦ λ e.
-            let unknown : row_spelled known other ≡ None = subst (λ t. row_spelled known t ≡ None) (same_from_is_same_name row.text other e) none in
-            let nothing : rows_with other rows ≡ 0 = before ∙ ap one_if_known unknown in
-            omega (arith, nothing)
-        | false ↦ λ e. omega (arith, before)
-      ] refl
-      ∙ ap one_if_known (sym leads);
-  weighty = subst (All (λ (row : TextState). 0 < row.weight)) (sym is) (All-push (λ (row : TextState). 0 < row.weight) rows row so_far.weighty some);
-  spelled = subst (All (λ (row : TextState). IsStackText row.text)) (sym is)
-      (All-push (λ (row : TextState). IsStackText row.text) rows row so_far.spelled text);
-  joined = λ e. subst (All (λ (row : TextState). IsJoined row.text)) (sym is)
-      (All-push (λ (row : TextState). IsJoined row.text) rows row (so_far.joined (joins e).0) (joins e).1);
-  total_is = ap (λ t. t + row.weight) so_far.total_is ∙ sym (sum_by_push (λ (r : WeightedStack). r.weight) (spelled_rows rows) (spelled_row row)) ∙ ap total_of (sym (spelled-push rows all row is));
-  fits = fits;
-}
+AreKnownTexts-push
+    known after rows all row total place are_joined both end updates is none text some fits joins so_far = record {
+      placed = ArePlacedBy-push frames_of known after (spelled_rows rows) (spelled_rows all) row.text row.weight place
+          (end ∙ sym (length-map rows spelled_row)) updates (spelled-push rows all row is) text.0 so_far.placed;
+      counted = λ other.
+          let leads = hash_map_updates_str row.text known after (Some place) updates other in
+          let before = so_far.counted other in
+          ap (rows_with other) is ∙ sum_by_push (has other) rows row
+          ∙ elim (bytes_eq row.text other) as (λ b. bytes_eq row.text other ≡ b
+          → rows_with other rows + cond b 1 0 ≡ one_if_known (cond b (Some place) (row_spelled known other))) [
+            | true ↦ λ e.
+                let unknown : row_spelled known other ≡ None =
+                subst (λ t. row_spelled known t ≡ None) (same_from_is_same_name row.text other e) none in
+                let nothing : rows_with other rows ≡ 0 = before ∙ ap one_if_known unknown in
+                omega (arith, nothing)
+            | false ↦ λ e. omega (arith, before)
+          ] refl
+          ∙ ap one_if_known (sym leads);
+      weighty = subst (All (λ (row : TextState). 0 < row.weight))
+          (sym is) (All-push (λ (row : TextState). 0 < row.weight) rows row so_far.weighty some);
+      spelled = subst (All (λ (row : TextState). IsStackText row.text)) (sym is)
+          (All-push (λ (row : TextState). IsStackText row.text) rows row so_far.spelled text);
+      joined = λ e. subst (All (λ (row : TextState). IsJoined row.text)) (sym is)
+          (All-push (λ (row : TextState). IsJoined row.text) rows row (so_far.joined (joins e).0) (joins e).1);
+      total_is = ap (λ t. t + row.weight) so_far.total_is ∙ sym (sum_by_push (λ (r : WeightedStack). r.weight)
+          (spelled_rows rows) (spelled_row row)) ∙ ap total_of (sym (spelled-push rows all row is));
+      fits = fits;
+    }
 
 -- no text stands twice where each is counted by one look-up
-pub AreTextRows-known : (known : RowsBySpelling) (rows : List TextState) (total : ℕ) (are_joined : Bool) → are_joined ≡ true → AreKnownTexts known rows total are_joined → AreTextRows rows
+pub AreTextRows-known : (known : RowsBySpelling) (rows : List TextState) (total : ℕ) (are_joined : Bool)
+    → are_joined ≡ true → AreKnownTexts known rows total are_joined → AreTextRows rows
 AreTextRows-known known rows total are_joined e so_far = record {
   weighty = so_far.weighty;
-  once = λ text. let count = so_far.counted text in let most = at_most (row_spelled known text) in omega (arith, count, most);
+  once = λ text. let count =
+      so_far.counted text in let most = at_most (row_spelled known text) in omega (arith, count, most);
   joined = so_far.joined e;
 }
   where
@@ -178,9 +220,12 @@ AreTextRows-known known rows total are_joined e so_far = record {
     at_most (Some at) = omega arith
 
 -- no rows yet
-pub AreKnownTexts-none : (known : RowsBySpelling) (rows : List TextState) (total : ℕ) (are_joined : Bool) → rows ≡ [] → total ≡ 0 → ((text : List ℕ) → row_spelled known text ≡ None) → AreKnownTexts known rows total are_joined
+pub AreKnownTexts-none : (known : RowsBySpelling) (rows : List TextState) (total : ℕ) (are_joined : Bool) → rows ≡ []
+    → total ≡ 0 → ((text : List ℕ) → row_spelled known text ≡ None) → AreKnownTexts known rows total are_joined
 AreKnownTexts-none known rows total are_joined is nothing unknown = record {
-  placed = λ text. subst (λ o. IfSome o (λ at. (at < length (spelled_rows rows)) × ((row_at (spelled_rows rows) at).stack ≡ frames_of text) × (length (frames_of text) ≤ 65535))) (sym (unknown text)) tt;
+  placed = λ text. subst
+      (λ o. IfSome o (λ at. (at < length (spelled_rows rows)) × ((row_at (spelled_rows rows) at).stack ≡ frames_of text)
+      × (length (frames_of text) ≤ 65535))) (sym (unknown text)) tt;
   counted = λ text. ap (rows_with text) is ∙ ap one_if_known (sym (unknown text));
   weighty = subst (All (λ (row : TextState). 0 < row.weight)) (sym is) (λ at d lt. absurd (omega (arith, lt)));
   spelled = subst (All (λ (row : TextState). IsStackText row.text)) (sym is) (λ at d lt. absurd (omega (arith, lt)));
@@ -190,14 +235,17 @@ AreKnownTexts-none known rows total are_joined is nothing unknown = record {
 }
 
 -- what is known of rows so far, without the look-ups
-pub spelled-within : (known : RowsBySpelling) (rows : List TextState) (total : ℕ) (are_joined : Bool) → AreKnownTexts known rows total are_joined → total_of (spelled_rows rows) < 2 ^ 63
+pub spelled-within : (known : RowsBySpelling) (rows : List TextState) (total : ℕ) (are_joined : Bool)
+    → AreKnownTexts known rows total are_joined → total_of (spelled_rows rows) < 2 ^ 63
 spelled-within known rows total are_joined so_far = omega (arith, so_far.fits, so_far.total_is)
 
 -- sorted rows add up to the same
-pub spelled-moved : (rows sorted : List TextState) → IsPermutation rows sorted → (aggregate_of (spelled_rows sorted) ≡ aggregate_of (spelled_rows rows)) × (total_of (spelled_rows sorted) ≡ total_of (spelled_rows rows))
+pub spelled-moved : (rows sorted : List TextState) → IsPermutation rows sorted → (aggregate_of (spelled_rows sorted)
+    ≡ aggregate_of (spelled_rows rows)) × (total_of (spelled_rows sorted) ≡ total_of (spelled_rows rows))
 spelled-moved rows sorted moved =
     let same = IsPermutation-map spelled_row rows sorted moved in (
-      aggregate_of-same (spelled_rows sorted) (spelled_rows rows) (λ stack. sum_by-IsPermutation (weight_if (is_same_stack stack)) (spelled_rows rows) (spelled_rows sorted) same),
+      aggregate_of-same (spelled_rows sorted) (spelled_rows rows) (λ stack. sum_by-IsPermutation
+          (weight_if (is_same_stack stack)) (spelled_rows rows) (spelled_rows sorted) same),
       sum_by-IsPermutation (λ (row : WeightedStack). row.weight) (spelled_rows rows) (spelled_rows sorted) same,
     )
 
@@ -206,17 +254,21 @@ spelled-moved rows sorted moved =
 AreTextRows-moved : (rows sorted : List TextState) → IsPermutation rows sorted → AreTextRows rows → AreTextRows sorted
 AreTextRows-moved rows sorted moved texts = record {
   weighty = All-permutation (λ (row : TextState). 0 < row.weight) rows sorted moved texts.weighty;
-  once = λ text. let same = sum_by-IsPermutation (has text) rows sorted moved in let one = texts.once text in omega (arith, same, one);
+  once = λ text. let same =
+      sum_by-IsPermutation (has text) rows sorted moved in let one = texts.once text in omega (arith, same, one);
   joined = All-permutation (λ (row : TextState). IsJoined row.text) rows sorted moved texts.joined;
 }
 
 has-own : (text : List ℕ) (row : TextState) → row.text ≡ text → has text row ≡ 1
 has-own text row same = ap (λ b. cond b 1 0) (subst (λ t. bytes_eq row.text t ≡ true) same (is_same_name-self row.text))
 
-at_least : (text : List ℕ) (rows : List TextState) (j : ℕ) (d : TextState) → j < length rows → (get_or rows j d).text ≡ text → 1 ≤ rows_with text rows
-at_least text rows j d lt same = let most = get_or-le-sum_by (has text) rows j d lt in omega (arith, most, has-own text (get_or rows j d) same)
+at_least : (text : List ℕ) (rows : List TextState) (j : ℕ) (d : TextState)
+    → j < length rows → (get_or rows j d).text ≡ text → 1 ≤ rows_with text rows
+at_least text rows j d lt same =
+    let most = get_or-le-sum_by (has text) rows j d lt in omega (arith, most, has-own text (get_or rows j d) same)
 
-apart : (rows : List TextState) (i j : ℕ) (d : TextState) → i < j → j < length rows → ((text : List ℕ) → rows_with text rows ≤ 1) → (get_or rows i d).text ≡ (get_or rows j d).text → ⊥
+apart : (rows : List TextState) (i j : ℕ) (d : TextState) → i < j → j < length rows
+    → ((text : List ℕ) → rows_with text rows ≤ 1) → (get_or rows i d).text ≡ (get_or rows j d).text → ⊥
 apart [] i j d before lt once same = absurd (omega arith)
 apart (row ∷ rows) i zero d before lt once same = absurd (omega arith)
 apart (row ∷ rows) zero (suc j) d before lt once same =
@@ -226,7 +278,8 @@ apart (row ∷ rows) zero (suc j) d before lt once same =
     let one = once text in
     absurd (omega (arith, count, other, one, has-own text row refl))
 apart (row ∷ rows) (suc i) (suc j) d before lt once same =
-    apart rows i j d (omega arith) (omega arith) (λ text. let count = sum_by-cons (has text) row rows in let one = once text in omega (arith, count, one)) same
+    apart rows i j d (omega arith) (omega arith)
+    (λ text. let count = sum_by-cons (has text) row rows in let one = once text in omega (arith, count, one)) same
 
 strictly : (o p : Ordering) → p ≡ ordering_reverse o → is_lt o ≡ false → (o ≡ Equal → ⊥) → p ≡ Less
 strictly Less p e low other = cc
@@ -245,46 +298,58 @@ ascending rows texts sorted = λ i j d lt short.
     let other = get_or rows j e in
     let joined : IsJoined row.text = texts.joined i e (omega (arith, lt, within)) in
     let also : IsJoined other.text = texts.joined j e within in
-    let low = sorted_far (λ a b. is_lt (by_text a b)) (ranks_by stack_text_cmp_total (λ (row : TextState). row.text)) rows sorted i j e (omega (arith, lt)) within in
+    let low = sorted_far (λ a b. is_lt (by_text a b))
+    (ranks_by stack_text_cmp_total (λ (row : TextState). row.text)) rows sorted i j e (omega (arith, lt)) within in
     let less : stack_cmp (frames_of row.text) (frames_of other.text) ≡ Less =
-    strictly (stack_cmp (frames_of other.text) (frames_of row.text)) (stack_cmp (frames_of row.text) (frames_of other.text))
+    strictly
+    (stack_cmp (frames_of other.text) (frames_of row.text)) (stack_cmp (frames_of row.text) (frames_of other.text))
     (stack_cmp_total.antisymm (frames_of row.text) (frames_of other.text))
     (ap is_lt (sym (joined_texts-cmp other.text row.text also joined)) ∙ low)
     (λ tie. apart rows i j e lt within texts.once
-    (joined ∙ ap (join_with_byte 59) (sym (stack_cmp_apart (frames_of other.text) (frames_of row.text) tie)) ∙ sym also)) in
-    ap (λ (r : WeightedStack). stack_cmp r.stack (get_or (spelled_rows rows) j d).stack) (get_or-map spelled_row rows i e d (omega (arith, lt, within)))
+    (joined
+    ∙ ap (join_with_byte 59) (sym (stack_cmp_apart (frames_of other.text) (frames_of row.text) tie)) ∙ sym also)) in
+    ap (λ (r : WeightedStack). stack_cmp r.stack (get_or (spelled_rows rows) j d).stack)
+    (get_or-map spelled_row rows i e d (omega (arith, lt, within)))
     ∙ ap (λ (r : WeightedStack). stack_cmp (frames_of row.text) r.stack) (get_or-map spelled_row rows j e d within)
     ∙ less
 
-weighty : (rows : List TextState) → AllByRecursion (λ (row : TextState). 0 < row.weight) rows → AllByRecursion (λ (row : WeightedStack). 0 < row.weight) (spelled_rows rows)
+weighty : (rows : List TextState) → AllByRecursion (λ (row : TextState). 0 < row.weight) rows
+    → AllByRecursion (λ (row : WeightedStack). 0 < row.weight) (spelled_rows rows)
 weighty [] all = tt
 weighty (row ∷ rows) all = (all.0, weighty rows all.1)
 
-lines-joined : (rows : List TextState) → AllByRecursion (λ (row : TextState). IsJoined row.text) rows → text_lines rows ≡ rows_text (spelled_rows rows)
+lines-joined : (rows : List TextState)
+    → AllByRecursion (λ (row : TextState). IsJoined row.text) rows → text_lines rows ≡ rows_text (spelled_rows rows)
 lines-joined [] all = refl
 lines-joined (row ∷ rows) all =
     ap (λ text. (text ++ 32 ∷ decimal row.weight ++ 10 ∷ []) ++ text_lines rows) all.0
     ∙ ap (λ rest. row_text (spelled_row row) ++ rest) (lines-joined rows all.1)
 
 -- the lines of the rows in the order of their texts are the folded report
-pub lines-sorted : (rows sorted : List TextState) → AreTextRows rows → IsPermutation rows sorted → IsSorted by_text sorted → text_lines sorted ≡ folded_text_of (spelled_rows rows)
+pub lines-sorted : (rows sorted : List TextState) → AreTextRows rows
+    → IsPermutation rows sorted → IsSorted by_text sorted → text_lines sorted ≡ folded_text_of (spelled_rows rows)
 lines-sorted rows sorted texts moved up =
     let after = AreTextRows-moved rows sorted moved texts in
     let some : AreWeighty (spelled_rows sorted) =
-    All-from_recursion (λ (row : WeightedStack). 0 < row.weight) (spelled_rows sorted) (weighty sorted (recursion_from_All (λ (row : TextState). 0 < row.weight) sorted after.weighty)) in
+    All-from_recursion (λ (row : WeightedStack). 0 < row.weight) (spelled_rows sorted)
+    (weighty sorted (recursion_from_All (λ (row : TextState). 0 < row.weight) sorted after.weighty)) in
     lines-joined sorted (recursion_from_All (λ (row : TextState). IsJoined row.text) sorted after.joined)
     ∙ ap rows_text (sym (rows_of-aggregate (spelled_rows sorted) (ascending sorted after up) some))
     ∙ ap (λ weights. rows_text (rows_of weights)) (spelled-moved rows sorted moved).0
 
 -- what is written where all is well is another text where the two are the same
-pub as_text : {T E : Type 0} (bytes : T → List ℕ) (outcome : Result T E) (text other : List ℕ) → text ≡ other → IfOk outcome (λ written. bytes written ≡ text) → IfOk outcome (λ written. bytes written ≡ other)
+pub as_text : {T E : Type 0} (bytes : T → List ℕ) (outcome : Result T E) (text other : List ℕ)
+    → text ≡ other → IfOk outcome (λ written. bytes written ≡ text) → IfOk outcome (λ written. bytes written ≡ other)
 as_text bytes (Ok written) text other same is = is ∙ same
 as_text bytes (Err fault) text other same is = tt
 
 -- what reporting answers decides the report of the rows that a text is folded text of
-pub only_report : {T : Type 0} (bytes : T → List ℕ) (text : List ℕ) (outcome : Result T FoldedFault) → MatchResult outcome (λ report. IsReportOfText text (bytes report)) (IsWorkFault text)
-    → (rows : List WeightedStack) → IsFoldedText text rows → MatchResult outcome (λ report. bytes report ≡ folded_text_of rows) (λ fault. fault ≡ NoMemory)
-only_report bytes text (Ok report) reported rows folded = reported.whole ∙ ap folded_text_of (IsFoldedText-same text reported.rows rows reported.folded folded)
+pub only_report : {T : Type 0} (bytes : T → List ℕ) (text : List ℕ) (outcome : Result T FoldedFault)
+    → MatchResult outcome (λ report. IsReportOfText text (bytes report)) (IsWorkFault text)
+    → (rows : List WeightedStack) → IsFoldedText text rows
+    → MatchResult outcome (λ report. bytes report ≡ folded_text_of rows) (λ fault. fault ≡ NoMemory)
+only_report bytes text (Ok report) reported rows folded = reported.whole
+    ∙ ap folded_text_of (IsFoldedText-same text reported.rows rows reported.folded folded)
 only_report bytes text (Err fault) reported rows folded = elim reported [
   | inl first ↦ IsFirstFault-folded text rows fault folded first
   | inr late ↦ late.0

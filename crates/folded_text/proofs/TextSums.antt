@@ -10,9 +10,12 @@ use Rattle.folded_text.specs.TextSums.{IsMergedText}
 use Rattle.folded_text.proofs.Reading.{IsFirstFault-folded, IsFoldedText-same}
 
 -- what reading a text answers
-pub only_merged_text : (text : List ℕ) (outcome : Result (List WeightedStack) FoldedFault) → MatchResult outcome (IsMergedText text) (IsWorkFault text)
-    → (rows : List WeightedStack) → IsFoldedText text rows → MatchResult outcome (λ sums. aggregate_of sums ≡ aggregate_of rows) (λ fault. fault ≡ folded.NoMemory)
-only_merged_text text (Ok sums) read rows this = read.same ∙ ap aggregate_of (IsFoldedText-same text read.rows rows read.folded this)
+pub only_merged_text : (text : List ℕ) (outcome : Result (List WeightedStack) FoldedFault)
+    → MatchResult outcome (IsMergedText text) (IsWorkFault text)
+    → (rows : List WeightedStack) → IsFoldedText text rows
+    → MatchResult outcome (λ sums. aggregate_of sums ≡ aggregate_of rows) (λ fault. fault ≡ folded.NoMemory)
+only_merged_text text (Ok sums) read rows this = read.same
+    ∙ ap aggregate_of (IsFoldedText-same text read.rows rows read.folded this)
 only_merged_text text (Err fault) read rows this = elim read [
   | inl first ↦ IsFirstFault-folded text rows fault this first
   | inr late ↦ late.0

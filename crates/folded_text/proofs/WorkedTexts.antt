@@ -18,7 +18,8 @@ spaces-in-names : frames_of (codes "a b;c d") ≡ codes "a b" ∷ codes "c d" �
 spaces-in-names = refl
 
 -- written rows
-written : rows_text (row [] 5 ∷ row (a ∷ b ∷ []) 1 ∷ row (codes "a b" ∷ codes "c d" ∷ []) 7 ∷ []) ≡ text (codes " 5" ∷ codes "a;b 1" ∷ codes "a b;c d 7" ∷ [])
+written : rows_text (row [] 5 ∷ row (a ∷ b ∷ []) 1 ∷ row (codes "a b" ∷ codes "c d" ∷ []) 7 ∷ [])
+    ≡ text (codes " 5" ∷ codes "a;b 1" ∷ codes "a b;c d 7" ∷ [])
 unfolding digits
 written = refl
 
@@ -28,24 +29,31 @@ unfolding digits
 reported = ap rows_text (rows_of-computed mixed)
 
 -- a line that spells a row, of ASCII characters
-spelled : (stack digits : List ℕ) (frames : List (List ℕ)) (weight : ℕ) → IsUtf8 (stack ++ 32 ∷ digits) → IsNumeral 10 digits
+spelled : (stack digits : List ℕ) (frames : List (List ℕ)) (weight : ℕ)
+    → IsUtf8 (stack ++ 32 ∷ digits) → IsNumeral 10 digits
     → frames ≡ frames_of stack → weight ≡ digits_value 10 digits → length frames ≤ 65535 → weight < 2 ^ 63
     → IsRowLine (stack ++ 32 ∷ digits) (row frames weight)
 spelled stack digits frames weight utf8 numeral frames_are weight_is depth fits = record {
   utf8 = utf8;
-  counted = (stack, digits, record { count = record { parts = refl; numeral = numeral }; frames = frames_are; weight = weight_is });
+  counted = (
+    stack,
+    digits,
+    record { count = record { parts = refl; numeral = numeral }; frames = frames_are; weight = weight_is },
+  );
   depth = depth;
   fits = fits;
 }
 
--- Read rows: a carriage return before the line feed is dropped, an empty line is skipped, a stack may be empty, a count may
+-- Read rows: a carriage return before the line feed is dropped, an empty line is skipped, a stack may be empty, a
+-- count may
 -- have zeros in front, empty parts are dropped, and the last line needs no line feed.
 read : IsFoldedText (codes "a b;c d 7" ++ 13 ∷ 10 ∷ 10 ∷ codes " 05" ++ 10 ∷ codes "a;;b 1")
     (row (codes "a b" ∷ codes "c d" ∷ []) 7 ∷ row [] 5 ∷ row (a ∷ b ∷ []) 1 ∷ [])
 unfolding lib.Utf8.encode
 read = record {
   rows_lines = (
-    spelled (codes "a b;c d") (codes "7") _ 7 (codes "a b;c d 7", (refl, refl)) (omega arith, (omega arith, tt)) refl refl
+    spelled
+        (codes "a b;c d") (codes "7") _ 7 (codes "a b;c d 7", (refl, refl)) (omega arith, (omega arith, tt)) refl refl
         (omega arith) (omega arith),
     (
       spelled [] (codes "05") _ 5 (codes " 05", (refl, refl)) (omega arith, (omega arith, (omega arith, tt))) refl refl

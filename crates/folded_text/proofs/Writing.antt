@@ -1,5 +1,7 @@
 -- Rows as folded text, which is folded text of these rows.
-use Rattle.std.proofs.Common.{◌≡◌, ℕ, ◌+◌, ◌-◌, ◌^◌, ◌<◌, false, cond, eqb, List, [], ◌∷◌, ◌++◌, length, get_or, take, map, filter, refl, sym, ap, ◌∙◌, subst, lit<, arith, append_assoc, length-append, ◌⊎◌, inl, inr}
+use Rattle.std.proofs.Common.{◌≡◌, ℕ, ◌+◌, ◌-◌, ◌^◌, ◌<◌, false, cond, eqb, List, [], ◌∷◌, ◌++◌, length, get_or, take}
+use Rattle.std.proofs.Common.{map, filter, refl, sym, ap, ◌∙◌, subst, lit<, arith, append_assoc, length-append, ◌⊎◌}
+use Rattle.std.proofs.Common.{inl, inr}
 use Rattle.std.specs.Prelude.{◌==◌, not}
 use Rattle.std.specs.List.{AllByRecursion, All, slice_split, join_with_byte}
 use Rattle.std.specs.Fmt.{decimal}
@@ -11,7 +13,8 @@ use Rattle.std.proofs.lemmas.Fmt.{decimal_is_IsNumeral, IsAscii-decimal}
 use Rattle.std.proofs.lemmas.List.Elements.{All-from_recursion, recursion_from_All}
 use Rattle.std.proofs.lemmas.List.Splits.{slice_split_none, slice_split_at}
 use Rattle.std.proofs.lemmas.Str.{IsUtf8-append, IsUtf8-from_ascii, IsUtf8-nil}
-use Rattle.std.proofs.lemmas.List.{get_or-append_right, append-nil, flat_map_more, length-map, length-take-le, take_more}
+use Rattle.std.proofs.lemmas.List.{get_or-append_right, append-nil, flat_map_more, length-map, length-take-le}
+use Rattle.std.proofs.lemmas.List.{take_more}
 use Prim.Native.Nat.{zero, suc}
 use borrow.Author.Tests.{ne_eqb}
 use Rattle.profile_rows.specs.declared.weighted_stacks.WeightedStack.{WeightedStack}
@@ -27,15 +30,18 @@ use Rattle.folded_text.proofs.Lines.{IsFeed, more_parts}
 abbrev line_of : WeightedStack → List ℕ
 line_of row = join_with_byte 59 row.stack ++ 32 ∷ decimal row.weight
 
-all_append : {X : Type 0} (P : X → Type 0) (xs ys : List X) → AllByRecursion P xs → AllByRecursion P ys → AllByRecursion P (xs ++ ys)
+all_append : {X : Type 0} (P : X → Type 0) (xs ys : List X)
+    → AllByRecursion P xs → AllByRecursion P ys → AllByRecursion P (xs ++ ys)
 all_append P [] ys a b = b
 all_append P (x ∷ xs) ys a b = (a.0, all_append P xs ys a.1 b)
 
 -- ---- the stack text
 
-joined_plain : (names : List (List ℕ)) → AllByRecursion IsName names → AllByRecursion (λ byte. IsFeed byte ≡ false) (join_with_byte 59 names)
+joined_plain : (names : List (List ℕ))
+    → AllByRecursion IsName names → AllByRecursion (λ byte. IsFeed byte ≡ false) (join_with_byte 59 names)
 joined_plain [] all = tt
-joined_plain (name ∷ []) all = recursion_from_All (λ byte. IsFeed byte ≡ false) name (λ k d lt. ne_eqb _ 10 (all.0.no_line_feed k d lt))
+joined_plain (name ∷ []) all =
+    recursion_from_All (λ byte. IsFeed byte ≡ false) name (λ k d lt. ne_eqb _ 10 (all.0.no_line_feed k d lt))
 joined_plain (name ∷ next ∷ names) all =
     all_append (λ byte. IsFeed byte ≡ false) name (59 ∷ join_with_byte 59 (next ∷ names))
     (recursion_from_All (λ byte. IsFeed byte ≡ false) name (λ k d lt. ne_eqb _ 10 (all.0.no_line_feed k d lt)))
@@ -46,37 +52,45 @@ joined_utf8 [] all = IsUtf8-nil
 joined_utf8 (name ∷ []) all = all.0.utf8
 joined_utf8 (name ∷ next ∷ names) all =
     IsUtf8-append name (59 ∷ join_with_byte 59 (next ∷ names)) all.0.utf8
-    (IsUtf8-append (59 ∷ []) (join_with_byte 59 (next ∷ names)) (IsUtf8-from_ascii (59 ∷ []) semicolon) (joined_utf8 (next ∷ names) all.1))
+    (IsUtf8-append (59 ∷ [])
+    (join_with_byte 59 (next ∷ names)) (IsUtf8-from_ascii (59 ∷ []) semicolon) (joined_utf8 (next ∷ names) all.1))
   where
     semicolon : (i : ℕ) → get_or (59 ∷ []) i 0 < 128
     semicolon zero = lit< tt
     semicolon (suc i) = lit< tt
 
-kept : (name : List ℕ) (parts : List (List ℕ)) → IsName name → filter (λ piece. not (length piece == 0)) (name ∷ parts) ≡ name ∷ filter (λ piece. not (length piece == 0)) parts
+kept : (name : List ℕ) (parts : List (List ℕ)) → IsName name
+    → filter (λ piece. not (length piece == 0)) (name ∷ parts) ≡ name ∷ filter (λ piece. not (length piece == 0)) parts
 kept name parts is =
     let some = is.not_empty in
     let apart : length name ≡ 0 → ⊥ = λ e. omega arith in
-    ap (λ b. cond (not b) (name ∷ filter (λ piece. not (length piece == 0)) parts) (filter (λ piece. not (length piece == 0)) parts)) (ne_eqb (length name) 0 apart)
+    ap (λ b. cond (not b) (name ∷ filter (λ piece. not (length piece == 0)) parts)
+    (filter (λ piece. not (length piece == 0)) parts)) (ne_eqb (length name) 0 apart)
 
 uncut : (name : List ℕ) → IsName name → All (λ byte. eqb byte 59 ≡ false) name
 uncut name is k d lt = ne_eqb _ 59 (is.no_separator k d lt)
 
 -- cut again, they are the names
-pub frames_of-joined : (names : List (List ℕ)) → AllByRecursion IsName names → frames_of (join_with_byte 59 names) ≡ names
+pub frames_of-joined : (names : List (List ℕ))
+    → AllByRecursion IsName names → frames_of (join_with_byte 59 names) ≡ names
 frames_of-joined [] all = refl
 frames_of-joined (name ∷ []) all =
-    ap (filter (λ piece. not (length piece == 0))) (slice_split_none (λ byte. eqb byte 59) name (uncut name all.0)) ∙ kept name [] all.0
+    ap (filter (λ piece. not (length piece == 0))) (slice_split_none (λ byte. eqb byte 59) name (uncut name all.0))
+    ∙ kept name [] all.0
 frames_of-joined (name ∷ next ∷ names) all =
-    ap (filter (λ piece. not (length piece == 0))) (slice_split_at (λ byte. eqb byte 59) name 59 (join_with_byte 59 (next ∷ names)) (uncut name all.0) refl)
+    ap (filter (λ piece. not (length piece == 0)))
+    (slice_split_at (λ byte. eqb byte 59) name 59 (join_with_byte 59 (next ∷ names)) (uncut name all.0) refl)
     ∙ kept name (slice_split (λ byte. eqb byte 59) (join_with_byte 59 (next ∷ names))) all.0
     ∙ ap (λ frames. name ∷ frames) (frames_of-joined (next ∷ names) all.1)
 
 -- ---- the line
 
-numeral : (row : WeightedStack) → row.weight < 2 ^ 63 → IsNumeral 10 (decimal row.weight) × (digits_value 10 (decimal row.weight) ≡ row.weight)
+numeral : (row : WeightedStack)
+    → row.weight < 2 ^ 63 → IsNumeral 10 (decimal row.weight) × (digits_value 10 (decimal row.weight) ≡ row.weight)
 numeral row fits = decimal_is_IsNumeral row.weight (omega arith)
 
-digit_plain : (digits : List ℕ) → AllByRecursion IsAsciiDigit digits → AllByRecursion (λ byte. IsFeed byte ≡ false) digits
+digit_plain : (digits : List ℕ)
+    → AllByRecursion IsAsciiDigit digits → AllByRecursion (λ byte. IsFeed byte ≡ false) digits
 digit_plain [] all = tt
 digit_plain (byte ∷ digits) all = let digit = all.0 in (ne_eqb byte 10 (λ e. omega arith), digit_plain digits all.1)
 
@@ -88,7 +102,8 @@ line_plain row is =
 
 line_utf8 : (row : WeightedStack) → IsBatchRow row → IsUtf8 (line_of row)
 line_utf8 row is =
-    IsUtf8-append (join_with_byte 59 row.stack) (32 ∷ decimal row.weight) (joined_utf8 row.stack (recursion_from_All IsName row.stack is.names))
+    IsUtf8-append (join_with_byte 59 row.stack)
+    (32 ∷ decimal row.weight) (joined_utf8 row.stack (recursion_from_All IsName row.stack is.names))
     (IsUtf8-from_ascii (32 ∷ decimal row.weight) ascii)
   where
     ascii : (i : ℕ) → get_or (32 ∷ decimal row.weight) i 0 < 128
@@ -117,20 +132,28 @@ line_whole : (row : WeightedStack) → IsBatchRow row → strip_carriage_return 
 line_whole row is =
     let digits = decimal row.weight in
     let some = (numeral row is.fits).0.0 in
-    let long : length (line_of row) ≡ length (join_with_byte 59 row.stack) + length (32 ∷ decimal row.weight) = length-append (join_with_byte 59 row.stack) (32 ∷ decimal row.weight) in
-    let place : length (line_of row) - 1 - length (join_with_byte 59 row.stack) ≡ suc (length (decimal row.weight) - 1) = omega arith in
-    let last : get_or (line_of row) (length (line_of row) - 1) 0 ≡ get_or (decimal row.weight) (length (decimal row.weight) - 1) 0 =
-    get_or-append_right (join_with_byte 59 row.stack) (32 ∷ decimal row.weight) (length (join_with_byte 59 row.stack)) (length (line_of row) - 1) 0 refl (omega arith)
+    let long : length (line_of row) ≡ length (join_with_byte 59 row.stack) + length (32 ∷ decimal row.weight) =
+    length-append (join_with_byte 59 row.stack) (32 ∷ decimal row.weight) in
+    let place : length (line_of row) - 1 - length (join_with_byte 59 row.stack)
+    ≡ suc (length (decimal row.weight) - 1) = omega arith in
+    let last : get_or (line_of row) (length (line_of row) - 1) 0
+    ≡ get_or (decimal row.weight) (length (decimal row.weight) - 1) 0 =
+    get_or-append_right (join_with_byte 59 row.stack)
+    (32 ∷ decimal row.weight) (length (join_with_byte 59 row.stack)) (length (line_of row) - 1) 0 refl (omega arith)
     ∙ ap (λ n. get_or (32 ∷ decimal row.weight) n 0) place in
-    let digit = All-from_recursion IsAsciiDigit (decimal row.weight) (AllDigits-each (decimal row.weight) (numeral row is.fits).0.1) (length (decimal row.weight) - 1) 0 (omega arith) in
-    ap (λ b. cond b (take (length (line_of row) - 1) (line_of row)) (line_of row)) (ne_eqb (get_or (line_of row) (length (line_of row) - 1) 0) 13 (λ e. omega arith))
+    let digit = All-from_recursion IsAsciiDigit (decimal row.weight) (AllDigits-each
+    (decimal row.weight) (numeral row is.fits).0.1) (length (decimal row.weight) - 1) 0 (omega arith) in
+    ap (λ b. cond b (take (length (line_of row) - 1) (line_of row)) (line_of row))
+    (ne_eqb (get_or (line_of row) (length (line_of row) - 1) 0) 13 (λ e. omega arith))
 
 -- ---- the text
 
-lines-rows_text : (rows : List WeightedStack) → AllByRecursion IsBatchRow rows → lines (rows_text rows) ≡ map line_of rows
+lines-rows_text : (rows : List WeightedStack)
+    → AllByRecursion IsBatchRow rows → lines (rows_text rows) ≡ map line_of rows
 lines-rows_text [] all = refl
 lines-rows_text (row ∷ rows) all =
-    let regroup : rows_text (row ∷ rows) ≡ line_of row ++ 10 ∷ rows_text rows = append_assoc (line_of row) (10 ∷ []) (rows_text rows) in
+    let regroup : rows_text (row ∷ rows) ≡ line_of row ++ 10 ∷ rows_text rows =
+    append_assoc (line_of row) (10 ∷ []) (rows_text rows) in
     let plain = All-from_recursion (λ byte. IsFeed byte ≡ false) (line_of row) (line_plain row all.0) in
     ap lines regroup
     ∙ ap lines_of_parts (slice_split_at IsFeed (line_of row) 10 (rows_text rows) plain refl)
@@ -138,25 +161,33 @@ lines-rows_text (row ∷ rows) all =
     ∙ ap (λ line. line ∷ lines (rows_text rows)) (line_whole row all.0)
     ∙ ap (λ ls. line_of row ∷ ls) (lines-rows_text rows all.1)
 
-AreRowLines-cons : (line : List ℕ) (ls : List (List ℕ)) (row : WeightedStack) (rows : List WeightedStack) → 0 < length line → IsRowLine line row → AreRowLines ls rows → AreRowLines (line ∷ ls) (row ∷ rows)
+AreRowLines-cons : (line : List ℕ) (ls : List (List ℕ)) (row : WeightedStack) (rows : List WeightedStack)
+    → 0 < length line → IsRowLine line row → AreRowLines ls rows → AreRowLines (line ∷ ls) (row ∷ rows)
 AreRowLines-cons [] ls row rows some this rest = absurd (omega arith)
 AreRowLines-cons (byte ∷ line) ls row rows some this rest = (this, rest)
 
 spell : (rows : List WeightedStack) → AllByRecursion IsBatchRow rows → AreRowLines (map line_of rows) rows
 spell [] all = refl
 spell (row ∷ rows) all =
-    let long : length (line_of row) ≡ length (join_with_byte 59 row.stack) + length (32 ∷ decimal row.weight) = length-append (join_with_byte 59 row.stack) (32 ∷ decimal row.weight) in
+    let long : length (line_of row) ≡ length (join_with_byte 59 row.stack) + length (32 ∷ decimal row.weight) =
+    length-append (join_with_byte 59 row.stack) (32 ∷ decimal row.weight) in
     AreRowLines-cons (line_of row) (map line_of rows) row rows (omega arith) (line_spells row all.0) (spell rows all.1)
 
 -- rows that a batch can hold, written, are folded text of these rows
-pub rows_text-IsFoldedText : (rows : List WeightedStack) → All IsBatchRow rows → total_of rows < 2 ^ 63 → IsFoldedText (rows_text rows) rows
+pub rows_text-IsFoldedText : (rows : List WeightedStack)
+    → All IsBatchRow rows → total_of rows < 2 ^ 63 → IsFoldedText (rows_text rows) rows
 rows_text-IsFoldedText rows each fits =
     let all = recursion_from_All IsBatchRow rows each in
-    record { rows_lines = subst (λ ls. AreRowLines ls rows) (sym (lines-rows_text rows all)) (spell rows all); total_fits = fits }
+    record {
+      rows_lines =
+          subst (λ ls. AreRowLines ls rows) (sym (lines-rows_text rows all)) (spell rows all);
+      total_fits = fits;
+    }
 
 -- ---- the loops that write
 
-join-push : (c : ℕ) (names : List (List ℕ)) (name : List ℕ) → 0 < length names → join_with_byte c (names ++ name ∷ []) ≡ (join_with_byte c names ++ c ∷ []) ++ name
+join-push : (c : ℕ) (names : List (List ℕ)) (name : List ℕ)
+    → 0 < length names → join_with_byte c (names ++ name ∷ []) ≡ (join_with_byte c names ++ c ∷ []) ++ name
 join-push c [] name some = absurd (omega arith)
 join-push c (first ∷ []) name some = sym (append_assoc first (c ∷ []) name)
 join-push c (first ∷ next ∷ names) name some =
@@ -165,8 +196,10 @@ join-push c (first ∷ next ∷ names) name some =
     ∙ append_assoc first ((c ∷ join_with_byte c (next ∷ names)) ++ c ∷ []) name)
 
 -- one name more: a semicolon before it, but before the first
-pub join_more : (names : List (List ℕ)) (k : ℕ) (d start before after : List ℕ) → k < length names → before ≡ start ++ join_with_byte 59 (take k names)
-    → ((0 < k) × (after ≡ before ++ 59 ∷ [])) ⊎ ((k ≡ 0) × (after ≡ before)) → after ++ get_or names k d ≡ start ++ join_with_byte 59 (take (k + 1) names)
+pub join_more : (names : List (List ℕ)) (k : ℕ) (d start before after : List ℕ)
+    → k < length names → before ≡ start ++ join_with_byte 59 (take k names)
+    → ((0 < k) × (after ≡ before ++ 59 ∷ [])) ⊎ ((k ≡ 0) × (after ≡ before))
+    → after ++ get_or names k d ≡ start ++ join_with_byte 59 (take (k + 1) names)
 join_more names k d start before after lt so_far (inl (some, semicolon)) =
     let front = length-take-le k names (omega arith) in
     ap (λ l. l ++ get_or names k d) semicolon
@@ -182,7 +215,9 @@ join_more names k d start before after lt so_far (inr (none, same)) =
     ∙ ap (λ l. start ++ join_with_byte 59 l) (sym (take_more names k d lt))
 
 -- one row more
-pub rows_text_more : (rows : List WeightedStack) (k : ℕ) (d : WeightedStack) (before after : List ℕ) → k < length rows → before ≡ rows_text (take k rows) → after ≡ before ++ row_text (get_or rows k d) → after ≡ rows_text (take (k + 1) rows)
+pub rows_text_more : (rows : List WeightedStack) (k : ℕ) (d : WeightedStack) (before after : List ℕ)
+    → k < length rows → before ≡ rows_text (take k rows)
+    → after ≡ before ++ row_text (get_or rows k d) → after ≡ rows_text (take (k + 1) rows)
 rows_text_more rows k d before after lt so_far more =
     more ∙ ap (λ l. l ++ row_text (get_or rows k d)) so_far
     ∙ flat_map_more row_text [] (take k rows) (get_or rows k d)
@@ -193,7 +228,8 @@ rows_text_more rows k d before after lt so_far more =
 pub length-rows_at : (value : ℕ) (rows : List Row) → length (rows_at value rows) ≡ length rows
 length-rows_at value rows = length-map rows (weighing value)
 
-pub rows_at-row_in : (value : ℕ) (rows : List Row) (at : ℕ) (d : WeightedStack) → at < length rows → get_or (rows_at value rows) at d ≡ weighing value (row_in rows at)
+pub rows_at-row_in : (value : ℕ) (rows : List Row) (at : ℕ) (d : WeightedStack)
+    → at < length rows → get_or (rows_at value rows) at d ≡ weighing value (row_in rows at)
 rows_at-row_in value [] at d lt = absurd (omega arith)
 rows_at-row_in value (row ∷ rows) zero d lt = refl
 rows_at-row_in value (row ∷ rows) (suc at) d lt = rows_at-row_in value rows at d (omega arith)

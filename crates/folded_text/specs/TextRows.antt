@@ -1,5 +1,6 @@
 -- Rows whose stacks are known by their texts.
-use Rattle.std.specs.Prelude.{ℕ, ◌≡◌, ◌≢◌, ◌<◌, ◌≤◌, ◌^◌, All, Bool, true, length, List, ◌++◌, ◌∷◌, [], Option, Some, None, flat_map, map, sum_by, if◌then◌else◌}
+use Rattle.std.specs.Prelude.{ℕ, ◌≡◌, ◌≢◌, ◌<◌, ◌≤◌, ◌^◌, All, Bool, true, length, List, ◌++◌, ◌∷◌, [], Option, Some}
+use Rattle.std.specs.Prelude.{None, flat_map, map, sum_by, if◌then◌else◌}
 use Rattle.std.specs.Fmt.{decimal}
 use Rattle.std.specs.Str.{bytes_eq}
 use Rattle.std.specs.declared.cmp.Ordering.{Ordering}

@@ -1,6 +1,7 @@
 -- How the rows of a batch are dealt to workers.
 use Prim.Native.Nat.{zero, suc}
-use Rattle.std.specs.Prelude.{ℕ, ◌≡◌, ◌+◌, ◌*◌, Option, Some, None, List, [], ◌∷◌, IsSomeAnd, length, map, slice_get, sum_by}
+use Rattle.std.specs.Prelude.{ℕ, ◌≡◌, ◌+◌, ◌*◌, Option, Some, None, List, [], ◌∷◌, IsSomeAnd, length, map, slice_get}
+use Rattle.std.specs.Prelude.{sum_by}
 use Rattle.profile_rows.specs.Values.{BatchState, Row}
 use Rattle.flame_report.specs.declared.query.Kind.TheVariants.{Total}
 use Rattle.op_book.specs.Operations.{PlainOp, add, ask, reset}
@@ -27,7 +28,8 @@ warm_lists (Some batch) = (add batch ∷ total_at 0 ∷ reset ∷ []) ∷ []
 -- the reset of a warm start, which is the third receipt of the first log, is the store's second change: it stands
 -- behind the addition of that log alone, and before all other changes
 abbrev pub IsWarm : List SessionLog → Type 0
-IsWarm logs = IsSomeAnd (slice_get logs 0) (λ (log : SessionLog). IsSomeAnd (slice_get log.receipts 2) (λ receipt. receipt.at ≡ 1))
+IsWarm logs = IsSomeAnd
+    (slice_get logs 0) (λ (log : SessionLog). IsSomeAnd (slice_get log.receipts 2) (λ receipt. receipt.at ≡ 1))
 
 -- what all operations of lists weigh
 abbrev pub weigh : (PlainOp → ℕ) → List (List PlainOp) → ℕ

@@ -1,5 +1,7 @@
 -- What a session knows lasts, and grows by each step.
-use Rattle.std.proofs.Common.{◌≡◌, ℕ, zero, suc, ◌+◌, ◌*◌, ◌==◌, ◌<◌, ◌≤◌, ◌⊎◌, inl, inr, Bool, true, false, List, [], ◌∷◌, ◌++◌, length, take, map, get_or, slice_get, Option, Some, None, All, AllPairs, refl, sym, ap, ◌∙◌, subst, arith, length-append}
+use Rattle.std.proofs.Common.{◌≡◌, ℕ, zero, suc, ◌+◌, ◌*◌, ◌==◌, ◌<◌, ◌≤◌, ◌⊎◌, inl, inr, Bool, true, false, List, []}
+use Rattle.std.proofs.Common.{◌∷◌, ◌++◌, length, take, map, get_or, slice_get, Option, Some, None, All, AllPairs, refl}
+use Rattle.std.proofs.Common.{sym, ap, ◌∙◌, subst, arith, length-append}
 use Rattle.std.specs.Prelude.{MatchBool, IsSomeAnd, Result, Ok, Err, IfOk, OnOk, OnErr}
 use Rattle.std.specs.List.{filter}
 use Rattle.std.proofs.lemmas.List.{map-append, append-nil, length-map, take_all}
@@ -38,27 +40,39 @@ prefix_take (x ∷ xs) (y ∷ ys) (suc k) p le =
 abbrev IsTold : ℕ → PlainReceipt → Option PlainEntry → Type 0
 IsTold n r o = IsSomeAnd o (λ (entry : PlainEntry). (entry.session ≡ n) × (entry.op ≡ r.op) × (entry.reply ≡ r.reply))
 
-has_more : (n : ℕ) (seen more : List PlainEntry) (r : PlainReceipt) → IsPrefix seen more → HasEntry seen n r → HasEntry more n r
+has_more : (n : ℕ) (seen more : List PlainEntry) (r : PlainReceipt)
+    → IsPrefix seen more → HasEntry seen n r → HasEntry more n r
 has_more n seen more r p h = by (slice_get seen r.at) refl h
   where
     by : (o : Option PlainEntry) → slice_get seen r.at ≡ o → IsTold n r o → IsTold n r (slice_get more r.at)
     by None is facts = absurd facts
     by (Some e) is facts = subst (IsTold n r) (sym (prefix_get seen more r.at e p is)) facts
 
-is_sound_more : (n : ℕ) (seen more : List PlainEntry) (r : PlainReceipt) → IsPrefix seen more → IsSound n seen r → IsSound n more r
+is_sound_more : (n : ℕ) (seen more : List PlainEntry) (r : PlainReceipt)
+    → IsPrefix seen more → IsSound n seen r → IsSound n more r
 is_sound_more n seen more r p = by (is_change r.op)
   where
-    by : (b : Bool) → MatchBool b (HasEntry seen n r) ((r.at ≤ length seen) × (r.reply ≡ plain_answer (operations_of (take r.at seen)) r.op))
-        → MatchBool b (HasEntry more n r) ((r.at ≤ length more) × (r.reply ≡ plain_answer (operations_of (take r.at more)) r.op))
+    by : (b : Bool) → MatchBool b
+        (HasEntry seen n r) ((r.at ≤ length seen) × (r.reply ≡ plain_answer (operations_of (take r.at seen)) r.op))
+        → MatchBool b
+        (HasEntry more n r) ((r.at ≤ length more) × (r.reply ≡ plain_answer (operations_of (take r.at more)) r.op))
     by true h = has_more n seen more r p h
-    by false h = (omega (arith, prefix_length seen more p, h.0), h.1 ∙ ap (λ l. plain_answer (operations_of l) r.op) (sym (prefix_take seen more r.at p h.0)))
+    by false h = (
+      omega (arith, prefix_length seen more p, h.0),
+      h.1
+          ∙ ap (λ l. plain_answer (operations_of l) r.op) (sym (prefix_take seen more r.at p h.0)),
+    )
 
-pub borne_more : (n : ℕ) (log : List PlainReceipt) (seen more : List PlainEntry) → IsPrefix seen more → IsBorneOut n log seen → IsBorneOut n log more
+pub borne_more : (n : ℕ) (log : List PlainReceipt) (seen more : List PlainEntry)
+    → IsPrefix seen more → IsBorneOut n log seen → IsBorneOut n log more
 borne_more n log seen more p h = record {
-  own = prefix_trans (changes_of log) (changes_by n seen) (changes_by n more) h.own (prefix_map (λ (e : PlainEntry). e.op) (filter (λ (e : PlainEntry). e.session == n) seen) (filter (λ (e : PlainEntry). e.session == n) more) (prefix_filter (λ (e : PlainEntry). e.session == n) seen more p));
+  own = prefix_trans (changes_of log) (changes_by n seen) (changes_by n more) h.own
+      (prefix_map (λ (e : PlainEntry). e.op) (filter (λ (e : PlainEntry). e.session == n) seen) (filter
+      (λ (e : PlainEntry). e.session == n) more) (prefix_filter (λ (e : PlainEntry). e.session == n) seen more p));
   each = All-weaker (IsSound n seen) (IsSound n more) (λ r. is_sound_more n seen more r p) log h.each;
   rise = h.rise;
-  below = All-weaker (λ (r : PlainReceipt). key_of r ≤ 2 * length seen) (λ (r : PlainReceipt). key_of r ≤ 2 * length more) (λ r k. omega (arith, prefix_length seen more p, k)) log h.below;
+  below = All-weaker (λ (r : PlainReceipt). key_of r ≤ 2 * length seen) (λ (r : PlainReceipt).
+      key_of r ≤ 2 * length more) (λ r k. omega (arith, prefix_length seen more p, k)) log h.below;
 }
 
 pub borne_fresh : (n : ℕ) (seen : List PlainEntry) → IsBorneOut n [] seen
@@ -69,34 +83,45 @@ borne_fresh n seen = record {
   below = All-nil (λ (r : PlainReceipt). key_of r ≤ 2 * length seen);
 }
 
-rise_more : (log : List PlainReceipt) (r : PlainReceipt) (top : ℕ) → AllPairs Precedes log → All (λ (x : PlainReceipt). key_of x ≤ top) log → ((x : PlainReceipt) → key_of x ≤ top → Precedes x r) → AllPairs Precedes (log ++ r ∷ [])
-rise_more log r top rise below next = all_pairs_push Precedes log r rise (λ k d lt. next (get_or log k d) (below k d lt))
+rise_more : (log : List PlainReceipt) (r : PlainReceipt) (top : ℕ)
+    → AllPairs Precedes log → All (λ (x : PlainReceipt). key_of x ≤ top) log
+    → ((x : PlainReceipt) → key_of x ≤ top → Precedes x r) → AllPairs Precedes (log ++ r ∷ [])
+rise_more log r top rise below next =
+    all_pairs_push Precedes log r rise (λ k d lt. next (get_or log k d) (below k d lt))
 
 -- the changes of a log with one receipt more
-pub changes_of-ask : (log : List PlainReceipt) (r : PlainReceipt) → is_change r.op ≡ false → changes_of (log ++ r ∷ []) ≡ changes_of log
+pub changes_of-ask : (log : List PlainReceipt) (r : PlainReceipt)
+    → is_change r.op ≡ false → changes_of (log ++ r ∷ []) ≡ changes_of log
 changes_of-ask log r asks =
     ap (filter is_change) (map-append (λ (x : PlainReceipt). x.op) log (r ∷ []))
     ∙ filter-append is_change (map (λ (x : PlainReceipt). x.op) log) (r.op ∷ [])
     ∙ rw asks (append-nil (changes_of log))
 
-pub changes_of-change : (log : List PlainReceipt) (r : PlainReceipt) → is_change r.op ≡ true → changes_of (log ++ r ∷ []) ≡ changes_of log ++ r.op ∷ []
+pub changes_of-change : (log : List PlainReceipt) (r : PlainReceipt)
+    → is_change r.op ≡ true → changes_of (log ++ r ∷ []) ≡ changes_of log ++ r.op ∷ []
 changes_of-change log r changes =
     ap (filter is_change) (map-append (λ (x : PlainReceipt). x.op) log (r ∷ []))
     ∙ filter-append is_change (map (λ (x : PlainReceipt). x.op) log) (r.op ∷ [])
     ∙ rw changes refl
 
-pub changes_by-mine : (n : ℕ) (seen : List PlainEntry) (e : PlainEntry) → e.session ≡ n → changes_by n (seen ++ e ∷ []) ≡ changes_by n seen ++ e.op ∷ []
+pub changes_by-mine : (n : ℕ) (seen : List PlainEntry) (e : PlainEntry)
+    → e.session ≡ n → changes_by n (seen ++ e ∷ []) ≡ changes_by n seen ++ e.op ∷ []
 changes_by-mine n seen e mine =
     let passes : (e.session == n) ≡ true = grind (arith, nat_tests) in
-    ap (map (λ (x : PlainEntry). x.op)) (filter-append (λ (x : PlainEntry). x.session == n) seen (e ∷ []) ∙ rw passes refl)
+    ap (map (λ (x : PlainEntry). x.op))
+    (filter-append (λ (x : PlainEntry). x.session == n) seen (e ∷ []) ∙ rw passes refl)
     ∙ map-append (λ (x : PlainEntry). x.op) (filter (λ (x : PlainEntry). x.session == n) seen) (e ∷ [])
 
 -- a report was made of all that is known
-pub borne_asked : (n : ℕ) (log : List PlainReceipt) (seen : List PlainEntry) (query : Query) → IsBorneOut n log seen → IsBorneOut n (log ++ receipt_after seen (ask query) ∷ []) seen
+pub borne_asked : (n : ℕ) (log : List PlainReceipt) (seen : List PlainEntry) (query : Query)
+    → IsBorneOut n log seen → IsBorneOut n (log ++ receipt_after seen (ask query) ∷ []) seen
 borne_asked n log seen query h =
     let r = receipt_after seen (ask query) in record {
       own = subst (λ s. IsPrefix s (changes_by n seen)) (sym (changes_of-ask log r refl)) h.own;
-      each = All-push (IsSound n seen) log r h.each (omega arith, ap (λ l. plain_answer (operations_of l) (ask query)) (sym (take_all (length seen) seen (omega arith))));
+      each = All-push (IsSound n seen) log r h.each (
+        omega arith,
+        ap (λ l. plain_answer (operations_of l) (ask query)) (sym (take_all (length seen) seen (omega arith))),
+      );
       rise = rise_more log r (2 * length seen) h.rise h.below (λ x le. by x (key_of x) refl le);
       below = All-push (λ (x : PlainReceipt). key_of x ≤ 2 * length seen) log r h.below (omega arith);
     }
@@ -115,44 +140,58 @@ at_end [] x = refl
 at_end (y ∷ xs) x = at_end xs x
 
 -- a change of this session was placed behind all that is known, in its turn
-pub borne_changed : (n turn place : ℕ) (op : PlainOp) (log : List PlainReceipt) (seen new : List PlainEntry) → is_change op ≡ true → turn ≡ changes_told log → IsPlaced seen n turn op place new → IsBorneOut n log seen
-    → IsBorneOut n (log ++ change_told op place ∷ []) new × (changes_by n new ≡ changes_of (log ++ change_told op place ∷ []))
+pub borne_changed : (n turn place : ℕ) (op : PlainOp) (log : List PlainReceipt) (seen new : List PlainEntry)
+    → is_change op ≡ true → turn ≡ changes_told log → IsPlaced seen n turn op place new → IsBorneOut n log seen
+    → IsBorneOut n (log ++ change_told op place ∷ []) new
+    × (changes_by n new ≡ changes_of (log ++ change_told op place ∷ []))
 borne_changed n turn place op log seen new changes turn_is is h =
     let all = is.before in
     let e = entry_after all n turn op in
     let r = change_told op place in
     let here = borne_more n log seen all is.begins h in
     let more = borne_more n log all (all ++ e ∷ []) (e ∷ [], refl) here in
-    let sent : length (changes_of log) ≡ changes_told log = length-filter is_change (map (λ (x : PlainReceipt). x.op) log) in
-    let mine : length (filter (λ (x : PlainEntry). x.session == n) all) ≡ turns_of all n = length-filter (λ (x : PlainEntry). x.session == n) all in
-    let by : length (changes_by n all) ≡ turns_of all n = length-map (filter (λ (x : PlainEntry). x.session == n) all) (λ (x : PlainEntry). x.op) ∙ mine in
+    let sent : length (changes_of log) ≡ changes_told log =
+    length-filter is_change (map (λ (x : PlainReceipt). x.op) log) in
+    let mine : length (filter (λ (x : PlainEntry). x.session == n) all) ≡ turns_of all n =
+    length-filter (λ (x : PlainEntry). x.session == n) all in
+    let by : length (changes_by n all) ≡ turns_of all n =
+    length-map (filter (λ (x : PlainEntry). x.session == n) all) (λ (x : PlainEntry). x.op) ∙ mine in
     let turn_of = is.turn_is in
-    let whole : changes_of log ≡ changes_by n all = prefix_whole (changes_of log) (changes_by n all) here.own (omega (arith, sent, by, turn_is, turn_of)) in
-    let equal : changes_by n (all ++ e ∷ []) ≡ changes_of (log ++ r ∷ []) = changes_by-mine n all e refl ∙ (ap (λ l. l ++ op ∷ []) (sym whole) ∙ sym (changes_of-change log r changes)) in
+    let whole : changes_of log ≡ changes_by n all =
+    prefix_whole (changes_of log) (changes_by n all) here.own (omega (arith, sent, by, turn_is, turn_of)) in
+    let equal : changes_by n (all ++ e ∷ []) ≡ changes_of (log ++ r ∷ []) = changes_by-mine n all e refl
+    ∙ (ap (λ l. l ++ op ∷ []) (sym whole) ∙ sym (changes_of-change log r changes)) in
     let place_is = is.place_is in
     let key : key_of r ≡ 2 * length all + 1 = rw changes (ap (λ x. 2 * x + 1) place_is) in
     let long : length (all ++ e ∷ []) ≡ length all + 1 = omega (arith, length-append all (e ∷ [])) in
-    let entry : HasEntry (all ++ e ∷ []) n r = subst (IsTold n r) (sym (ap (slice_get (all ++ e ∷ [])) place_is ∙ at_end all e)) (refl, refl, is.reply_is) in
+    let entry : HasEntry (all ++ e ∷ []) n r =
+    subst (IsTold n r) (sym (ap (slice_get (all ++ e ∷ [])) place_is ∙ at_end all e)) (refl, refl, is.reply_is) in
     rw is.seen_is (
       record {
         own = ([], append-nil (changes_of (log ++ r ∷ [])) ∙ sym equal);
         each = All-push (IsSound n (all ++ e ∷ [])) log r more.each (rw changes entry);
         rise = rise_more log r (2 * length all) h.rise here.below (λ x le. inl (omega (arith, le, key)));
-        below = All-push (λ (x : PlainReceipt). key_of x ≤ 2 * length (all ++ e ∷ [])) log r more.below (omega (arith, key, long));
+        below = All-push
+            (λ (x : PlainReceipt). key_of x ≤ 2 * length (all ++ e ∷ [])) log r more.below (omega (arith, key, long));
       },
       equal,
     )
 
 -- ---- a change that was placed or refused
 
-pub borne_either : {P F : Type 0} (result : Result P F) (place : P → ℕ) (n : ℕ) (op : PlainOp) (log more : List PlainReceipt) (old new : List PlainEntry) → is_change op ≡ true
-    → IfOk result (λ p. IsPlaced old n (changes_told log) op (place p) new) → IfOk result (λ p. more ≡ log ++ change_told op (place p) ∷ []) → OnErr result (more ≡ log) → IsPrefix old new
+pub borne_either : {P F : Type 0} (result : Result P F) (place : P → ℕ)
+    (n : ℕ) (op : PlainOp) (log more : List PlainReceipt) (old new : List PlainEntry) → is_change op ≡ true
+    → IfOk result (λ p. IsPlaced old n (changes_told log) op (place p) new)
+    → IfOk result (λ p. more ≡ log ++ change_told op (place p) ∷ []) → OnErr result (more ≡ log) → IsPrefix old new
     → IsBorneOut n log old → IsBorneOut n more new × OnOk result (changes_by n new ≡ changes_of more)
-borne_either (Ok p) place n op log more old new changes is logged same begins h = rw logged (borne_changed n (changes_told log) (place p) op log old new changes refl is h)
-borne_either (Err f) place n op log more old new changes is logged same begins h = rw same (borne_more n log old new begins h, tt)
+borne_either (Ok p) place n op log more old new changes is logged same begins h =
+    rw logged (borne_changed n (changes_told log) (place p) op log old new changes refl is h)
+borne_either (Err f) place n op log more old new changes is logged same begins h =
+    rw same (borne_more n log old new begins h, tt)
 
 -- who knows the changes of a book knows the cause of its refusal
-pub shown_first : (state : BookState) (seen : List PlainEntry) (session turn : ℕ) (op : PlainOp) → seen ≡ state.entries → (fault : BookFault) → IsFirstBookFault state session turn op fault → IsShownBy seen session fault
+pub shown_first : (state : BookState) (seen : List PlainEntry) (session turn : ℕ) (op : PlainOp) → seen ≡ state.entries
+    → (fault : BookFault) → IsFirstBookFault state session turn op fault → IsShownBy seen session fault
 shown_first state seen session turn op same book.Session first = tt
 shown_first state seen session turn op same (book.Turn held) first = rw same first.1
 shown_first state seen session turn op same (book.Full held) first = rw same first.2

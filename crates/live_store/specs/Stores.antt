@@ -3,7 +3,8 @@ use Rattle.std.specs.Prelude.{ℕ, ◌≡◌, ◌≢◌, ◌<◌, ◌≤◌, ◌
 use Rattle.logbook.specs.Pages.{Book}
 use Rattle.profile_rows.specs.Rows.{total_of}
 use Rattle.profile_rows.specs.Values.{rows_at}
-use Rattle.op_book.specs.Operations.{MissesWidth, PlainEntry, PlainOp, PlainReceipt, changes_in, is_change, operations_of, profile_after, rows_added}
+use Rattle.op_book.specs.Operations.{MissesWidth, PlainEntry, PlainOp, PlainReceipt, changes_in, is_change}
+use Rattle.op_book.specs.Operations.{operations_of, profile_after, rows_added}
 use Rattle.op_book.specs.Runs.{turns_of}
 use Rattle.op_book.specs.declared.fault.BookFault.{BookFault}
 use Rattle.op_book.specs.declared.fault.BookFault.TheVariants as book

@@ -1,8 +1,10 @@
 -- What an entry more changes.
-use Rattle.std.proofs.Common.{◌≡◌, ℕ, suc, ◌+◌, ◌<◌, ◌≤◌, ◌^◌, Bool, true, false, cond, ◌||◌, List, [], ◌∷◌, ◌++◌, length, get_or, take, sym, refl, ap, subst, ◌∙◌, arith, inl, inr}
+use Rattle.std.proofs.Common.{◌≡◌, ℕ, suc, ◌+◌, ◌<◌, ◌≤◌, ◌^◌, Bool, true, false, cond, ◌||◌, List, [], ◌∷◌, ◌++◌}
+use Rattle.std.proofs.Common.{length, get_or, take, sym, refl, ap, subst, ◌∙◌, arith, inl, inr}
 use Rattle.std.proofs.Math.ListN.{get_or-append}
 use Rattle.std.proofs.lemmas.Bool.{cases_lt}
-use Rattle.std.proofs.lemmas.List.{append-nil, append_assoc, flat_map_more, get_or_push, length-append, map-append, map_push, take-append-le, take_all}
+use Rattle.std.proofs.lemmas.List.{append-nil, append_assoc, flat_map_more, get_or_push, length-append, map-append}
+use Rattle.std.proofs.lemmas.List.{map_push, take-append-le, take_all}
 use Rattle.std.proofs.lemmas.List.Folds.{list_any-append}
 use Rattle.std.proofs.lemmas.List.Sums.{sum_by-cons, sum_by_push, sum_by-append}
 use Rattle.std.specs.Prelude.{◌==◌}
@@ -10,46 +12,58 @@ use Rattle.std.specs.List.{flat_map, list_any}
 use Rattle.profile_rows.specs.declared.weighted_stacks.WeightedStack.{WeightedStack}
 use Rattle.profile_rows.specs.Rows.{total_of}
 use Rattle.profile_rows.specs.Values.{BatchState, rows_at, weighing}
-use Rattle.op_book.specs.Operations.{PlainEntry, PlainOp, add, reset, ask, addition_of, batches_after, changes_in, is_change, is_reset, operations_of, placed, plain_answer, profile_after, rows_added}
+use Rattle.op_book.specs.Operations.{PlainEntry, PlainOp, add, reset, ask, addition_of, batches_after, changes_in}
+use Rattle.op_book.specs.Operations.{is_change, is_reset, operations_of, placed, plain_answer, profile_after}
+use Rattle.op_book.specs.Operations.{rows_added}
 use Rattle.op_book.specs.Runs.{AreChanges, EachAfter, KeepLimit, turns_of}
 
-pub EachAfter-push : {X : Type 0} (Has : List X → X → Type 0) (items : List X) (last : X) → EachAfter Has items → Has items last → EachAfter Has (items ++ last ∷ [])
+pub EachAfter-push : {X : Type 0} (Has : List X → X → Type 0) (items : List X) (last : X)
+    → EachAfter Has items → Has items last → EachAfter Has (items ++ last ∷ [])
 EachAfter-push {X} Has items last each here at d lt =
     elim (cases_lt at (length items)) [
       | inl below ↦
-          let front : take at (items ++ last ∷ []) ≡ take at items = take-append-le at items (last ∷ []) (omega arith) in
-          let item : get_or (items ++ last ∷ []) at d ≡ get_or items at d = get_or-append items (last ∷ []) d at below in
+          let front : take at (items ++ last ∷ []) ≡ take at items =
+          take-append-le at items (last ∷ []) (omega arith) in
+          let item : get_or (items ++ last ∷ []) at d ≡ get_or items at d =
+          get_or-append items (last ∷ []) d at below in
           rw (front, item) (each at d below)
       | inr above ↦
           let size = length-append items (last ∷ []) in
           let place : length items ≡ at = omega arith in
-          let front : take at (items ++ last ∷ []) ≡ items = take-append-le at items (last ∷ []) (omega arith) ∙ ap (λ n. take n items) (sym place) ∙ take_all _ _ (omega arith) in
+          let front : take at (items ++ last ∷ []) ≡ items = take-append-le at items (last ∷ []) (omega arith)
+          ∙ ap (λ n. take n items) (sym place) ∙ take_all _ _ (omega arith) in
           let item : get_or (items ++ last ∷ []) at d ≡ last = get_or_push items last d at place in
           rw (front, item) here
     ]
 
-pub operations_of-push : (entries : List PlainEntry) (last : PlainEntry) → operations_of (entries ++ last ∷ []) ≡ operations_of entries ++ last.op ∷ []
+pub operations_of-push : (entries : List PlainEntry) (last : PlainEntry)
+    → operations_of (entries ++ last ∷ []) ≡ operations_of entries ++ last.op ∷ []
 operations_of-push entries last = map_push (λ (entry : PlainEntry). entry.op) entries last
 
 -- a reset behind these operations makes none of them count
 pub batches_after-reset : (operations : List PlainOp) → batches_after (operations ++ reset ∷ []) ≡ []
 batches_after-reset [] = refl
 batches_after-reset (op ∷ operations) =
-    let any : list_any is_reset (operations ++ reset ∷ []) ≡ true = list_any-append is_reset operations (reset ∷ []) ∙ or-true (list_any is_reset operations) in
-    ap (λ b. cond b (batches_after (operations ++ reset ∷ [])) (addition_of op ++ batches_after (operations ++ reset ∷ []))) any ∙ batches_after-reset operations
+    let any : list_any is_reset (operations ++ reset ∷ []) ≡ true = list_any-append is_reset operations (reset ∷ [])
+    ∙ or-true (list_any is_reset operations) in
+    ap (λ b. cond b (batches_after (operations ++ reset ∷ []))
+    (addition_of op ++ batches_after (operations ++ reset ∷ []))) any ∙ batches_after-reset operations
   where
     or-true : (b : Bool) → (b || true) ≡ true
     or-true true = refl
     or-true false = refl
 
 -- what another operation adds counts too
-pub batches_after-push : (operations : List PlainOp) (op : PlainOp) → is_reset op ≡ false → batches_after (operations ++ op ∷ []) ≡ batches_after operations ++ addition_of op
+pub batches_after-push : (operations : List PlainOp) (op : PlainOp)
+    → is_reset op ≡ false → batches_after (operations ++ op ∷ []) ≡ batches_after operations ++ addition_of op
 batches_after-push [] op kept = append-nil (addition_of op)
 batches_after-push (first ∷ operations) op kept =
     let rest = batches_after-push operations op kept in
     let any : list_any is_reset (operations ++ op ∷ []) ≡ list_any is_reset operations =
-    list_any-append is_reset operations (op ∷ []) ∙ ap (λ b. list_any is_reset operations || (b || false)) kept ∙ or-false (list_any is_reset operations) in
-    ap (λ b. cond b (batches_after (operations ++ op ∷ [])) (addition_of first ++ batches_after (operations ++ op ∷ []))) any
+    list_any-append is_reset operations (op ∷ [])
+    ∙ ap (λ b. list_any is_reset operations || (b || false)) kept ∙ or-false (list_any is_reset operations) in
+    ap (λ b. cond b
+    (batches_after (operations ++ op ∷ [])) (addition_of first ++ batches_after (operations ++ op ∷ []))) any
     ∙ ap (λ l. cond (list_any is_reset operations) l (addition_of first ++ l)) rest
     ∙ either (list_any is_reset operations) (addition_of first) (batches_after operations) (addition_of op)
   where
@@ -57,82 +71,105 @@ batches_after-push (first ∷ operations) op kept =
     or-false true = refl
     or-false false = refl
 
-    either : (b : Bool) (one more last : List BatchState) → cond b (more ++ last) (one ++ (more ++ last)) ≡ cond b more (one ++ more) ++ last
+    either : (b : Bool) (one more last : List BatchState)
+        → cond b (more ++ last) (one ++ (more ++ last)) ≡ cond b more (one ++ more) ++ last
     either true one more last = refl
     either false one more last = sym (append_assoc one more last)
 
 pub profile_after-reset : (operations : List PlainOp) → profile_after (operations ++ reset ∷ []) ≡ []
 profile_after-reset operations = ap (flat_map (λ (batch : BatchState). batch.rows)) (batches_after-reset operations)
 
-pub profile_after-push : (operations : List PlainOp) (op : PlainOp) → is_reset op ≡ false → profile_after (operations ++ op ∷ []) ≡ profile_after operations ++ rows_added op
+pub profile_after-push : (operations : List PlainOp) (op : PlainOp)
+    → is_reset op ≡ false → profile_after (operations ++ op ∷ []) ≡ profile_after operations ++ rows_added op
 profile_after-push operations (add batch) kept =
-    ap (flat_map (λ (batch : BatchState). batch.rows)) (batches_after-push operations (add batch) kept) ∙ sym (flat_map_more (λ (batch : BatchState). batch.rows) [] (batches_after operations) batch)
+    ap (flat_map (λ (batch : BatchState). batch.rows)) (batches_after-push operations (add batch) kept)
+    ∙ sym (flat_map_more (λ (batch : BatchState). batch.rows) [] (batches_after operations) batch)
 profile_after-push operations reset kept = absurd (cc)
 profile_after-push operations (ask query) kept =
-    ap (flat_map (λ (batch : BatchState). batch.rows)) (batches_after-push operations (ask query) kept ∙ append-nil (batches_after operations)) ∙ sym (append-nil (profile_after operations))
+    ap (flat_map (λ (batch : BatchState). batch.rows)) (batches_after-push operations (ask query) kept
+    ∙ append-nil (batches_after operations)) ∙ sym (append-nil (profile_after operations))
 
 -- by each value
 pub profile_at-push : (value : ℕ) (operations : List PlainOp) (op : PlainOp) → is_reset op ≡ false
-    → rows_at value (profile_after (operations ++ op ∷ [])) ≡ rows_at value (profile_after operations) ++ rows_at value (rows_added op)
+    → rows_at value (profile_after (operations ++ op ∷ []))
+    ≡ rows_at value (profile_after operations) ++ rows_at value (rows_added op)
 profile_at-push value operations op kept =
-    ap (rows_at value) (profile_after-push operations op kept) ∙ map-append (weighing value) (profile_after operations) (rows_added op)
+    ap (rows_at value) (profile_after-push operations op kept)
+    ∙ map-append (weighing value) (profile_after operations) (rows_added op)
 
 -- what counts then weighs what counted before and what is added
 pub total_at-push : (value : ℕ) (operations : List PlainOp) (op : PlainOp) → is_reset op ≡ false
-    → total_of (rows_at value (profile_after (operations ++ op ∷ []))) ≡ total_of (rows_at value (profile_after operations)) + total_of (rows_at value (rows_added op))
+    → total_of (rows_at value (profile_after (operations ++ op ∷ [])))
+    ≡ total_of (rows_at value (profile_after operations)) + total_of (rows_at value (rows_added op))
 total_at-push value operations op kept =
     ap total_of (profile_at-push value operations op kept)
-    ∙ sum_by-append (λ (row : WeightedStack). row.weight) (rows_at value (profile_after operations)) (rows_at value (rows_added op))
+    ∙ sum_by-append
+    (λ (row : WeightedStack). row.weight) (rows_at value (profile_after operations)) (rows_at value (rows_added op))
 
 -- what counts after one operation more weighs no more than before and what it adds
 pub profile_at-le : (value : ℕ) (operations : List PlainOp) (op : PlainOp)
-    → total_of (rows_at value (profile_after (operations ++ op ∷ []))) ≤ total_of (rows_at value (profile_after operations)) + total_of (rows_at value (rows_added op))
+    → total_of (rows_at value (profile_after (operations ++ op ∷ []))) ≤ total_of
+    (rows_at value (profile_after operations)) + total_of (rows_at value (rows_added op))
 profile_at-le value operations (add batch) =
     let whole = total_at-push value operations (add batch) refl in
     omega (arith, whole)
 profile_at-le value operations reset =
-    let whole : total_of (rows_at value (profile_after (operations ++ reset ∷ []))) ≡ 0 = ap (λ rows. total_of (rows_at value rows)) (profile_after-reset operations) in
+    let whole : total_of (rows_at value (profile_after (operations ++ reset ∷ []))) ≡ 0 =
+    ap (λ rows. total_of (rows_at value rows)) (profile_after-reset operations) in
     omega (arith, whole)
 profile_at-le value operations (ask query) =
-    let whole : total_of (rows_at value (profile_after (operations ++ ask query ∷ []))) ≡ total_of (rows_at value (profile_after operations)) = ap (λ rows. total_of (rows_at value rows)) (profile_after-push operations (ask query) refl ∙ append-nil (profile_after operations)) in
+    let whole : total_of (rows_at value (profile_after (operations ++ ask query ∷ [])))
+    ≡ total_of (rows_at value (profile_after operations)) = ap (λ rows. total_of (rows_at value rows))
+    (profile_after-push operations (ask query) refl ∙ append-nil (profile_after operations)) in
     omega (arith, whole)
 
-pub turns_of-push : (entries : List PlainEntry) (last : PlainEntry) (session : ℕ) → turns_of (entries ++ last ∷ []) session ≡ turns_of entries session + cond (last.session == session) 1 0
-turns_of-push entries last session = sum_by_push (λ (entry : PlainEntry). cond (entry.session == session) 1 0) entries last
+pub turns_of-push : (entries : List PlainEntry) (last : PlainEntry) (session : ℕ)
+    → turns_of (entries ++ last ∷ []) session ≡ turns_of entries session + cond (last.session == session) 1 0
+turns_of-push entries last session =
+    sum_by_push (λ (entry : PlainEntry). cond (entry.session == session) 1 0) entries last
 
 abbrev one_if : Bool → ℕ
 one_if b = cond b 1 0
 
 -- entries that are changes count as changes
-pub changes_in-entries : (entries : List PlainEntry) → AreChanges entries → changes_in (operations_of entries) ≡ length entries
+pub changes_in-entries : (entries : List PlainEntry)
+    → AreChanges entries → changes_in (operations_of entries) ≡ length entries
 changes_in-entries [] all = refl
 changes_in-entries (entry ∷ entries) all =
     let first : is_change entry.op ≡ true = all 0 entry (omega arith) in
     let rest = changes_in-entries entries (λ k d lt. all (suc k) d (omega arith)) in
-    let here : changes_in (operations_of (entry ∷ entries)) ≡ one_if (is_change entry.op) + changes_in (operations_of entries) = sum_by-cons (λ (op : PlainOp). one_if (is_change op)) entry.op (operations_of entries) in
+    let here : changes_in (operations_of (entry ∷ entries)) ≡ one_if (is_change entry.op) + changes_in (operations_of
+    entries) = sum_by-cons (λ (op : PlainOp). one_if (is_change op)) entry.op (operations_of entries) in
     let one : one_if (is_change entry.op) ≡ 1 = ap one_if first in
     omega (arith, here, one, rest)
 
 -- one more entry keeps the limit where what then counts does
 pub KeepLimit-push : (entries : List PlainEntry) (last : PlainEntry) → KeepLimit entries
-    → ((value : ℕ) → total_of (rows_at value (profile_after (operations_of entries ++ last.op ∷ []))) < 2 ^ 63) → KeepLimit (entries ++ last ∷ [])
+    → ((value : ℕ) → total_of (rows_at value (profile_after (operations_of entries ++ last.op ∷ []))) < 2 ^ 63)
+    → KeepLimit (entries ++ last ∷ [])
 KeepLimit-push entries last keep here count value =
     elim (cases_lt (length entries) count) [
       | inl beyond ↦
           let size = length-append entries (last ∷ []) in
-          let all : take count (entries ++ last ∷ []) ≡ entries ++ last ∷ [] = take_all count (entries ++ last ∷ []) (omega arith) in
-          subst (λ ops. total_of (rows_at value (profile_after ops)) < 2 ^ 63) (sym (ap operations_of all ∙ operations_of-push entries last)) (here value)
+          let all : take count (entries ++ last ∷ []) ≡ entries ++ last ∷ [] =
+          take_all count (entries ++ last ∷ []) (omega arith) in
+          subst (λ ops. total_of (rows_at value (profile_after ops)) < 2 ^ 63)
+          (sym (ap operations_of all ∙ operations_of-push entries last)) (here value)
       | inr within ↦
-          subst (λ es. total_of (rows_at value (profile_after (operations_of es))) < 2 ^ 63) (sym (take-append-le count entries (last ∷ []) within)) (keep count value)
+          subst (λ es. total_of (rows_at value (profile_after (operations_of es))) < 2 ^ 63)
+          (sym (take-append-le count entries (last ∷ []) within)) (keep count value)
     ]
 
 -- after all entries the limit is kept
-pub KeepLimit-whole : (entries : List PlainEntry) → KeepLimit entries → (value : ℕ) → total_of (rows_at value (profile_after (operations_of entries))) < 2 ^ 63
+pub KeepLimit-whole : (entries : List PlainEntry)
+    → KeepLimit entries → (value : ℕ) → total_of (rows_at value (profile_after (operations_of entries))) < 2 ^ 63
 KeepLimit-whole entries keep value =
-    subst (λ es. total_of (rows_at value (profile_after (operations_of es))) < 2 ^ 63) (take_all (length entries) entries (omega arith)) (keep (length entries) value)
+    subst (λ es. total_of (rows_at value (profile_after (operations_of es))) < 2 ^ 63)
+    (take_all (length entries) entries (omega arith)) (keep (length entries) value)
 
 -- a change after entries is told how many there are
-pub plain_answer-change : (entries : List PlainEntry) (op : PlainOp) → AreChanges entries → is_change op ≡ true → plain_answer (operations_of entries) op ≡ placed (length entries)
+pub plain_answer-change : (entries : List PlainEntry) (op : PlainOp)
+    → AreChanges entries → is_change op ≡ true → plain_answer (operations_of entries) op ≡ placed (length entries)
 plain_answer-change entries (add batch) all is = ap placed (changes_in-entries entries all)
 plain_answer-change entries reset all is = ap placed (changes_in-entries entries all)
 plain_answer-change entries (ask query) all is = absurd (cc)

@@ -1,5 +1,6 @@
 -- What the order of a run says of receipts that are known and in order in their logs.
-use Rattle.std.proofs.Common.{ℕ, ◌≡◌, ◌<◌, ◌≤◌, ◌⊎◌, inl, inr, Bool, true, false, List, length, get_or, All, AllPairs, refl, sym, ap, ◌∙◌, arith}
+use Rattle.std.proofs.Common.{ℕ, ◌≡◌, ◌<◌, ◌≤◌, ◌⊎◌, inl, inr, Bool, true, false, List, length, get_or, All, AllPairs}
+use Rattle.std.proofs.Common.{refl, sym, ap, ◌∙◌, arith}
 use Rattle.std.specs.Prelude.{IsPermutation, IsSorted}
 use Rattle.std.specs.Cmp.{nat_cmp_is}
 use Rattle.std.specs.Ordering.{is_lt, nat_cmp, ordering_then}
@@ -26,7 +27,8 @@ level x y same = sym (nat_cmp_is x y Equal same)
 
 abbrev StandsBefore : LoggedReceipt → LoggedReceipt → Type 0
 StandsBefore a b = (key_of a.receipt < key_of b.receipt)
-    ⊎ ((key_of a.receipt ≡ key_of b.receipt) × ((a.session < b.session) ⊎ ((a.session ≡ b.session) × (a.index ≤ b.index))))
+    ⊎ ((key_of a.receipt ≡ key_of b.receipt)
+    × ((a.session < b.session) ⊎ ((a.session ≡ b.session) × (a.index ≤ b.index))))
 
 -- of two receipts the one that isn't above stands before the other
 not_above : (a b : LoggedReceipt) → is_lt (run_cmp b a) ≡ false → StandsBefore a b
@@ -36,7 +38,8 @@ not_above a b no_less =
       | inr not_less ↦ elim (cases_eq (key_of b.receipt) (key_of a.receipt)) [
         | inr other ↦
             let first = below (key_of b.receipt) (key_of a.receipt) (omega (arith, not_less, other)) in
-            absurd (false≢true (sym no_less ∙ ap (λ (o : Ordering). is_lt (ordering_then o (ordering_then (nat_cmp b.session a.session) (nat_cmp b.index a.index)))) first))
+            absurd (false≢true (sym no_less ∙ ap (λ (o : Ordering). is_lt
+            (ordering_then o (ordering_then (nat_cmp b.session a.session) (nat_cmp b.index a.index)))) first))
         | inl same ↦
             let keys = level (key_of b.receipt) (key_of a.receipt) same in
             elim (cases_lt a.session b.session) [
@@ -44,15 +47,18 @@ not_above a b no_less =
               | inr not_less_session ↦ elim (cases_eq b.session a.session) [
                 | inr other ↦
                     let second = below b.session a.session (omega (arith, not_less_session, other)) in
-                    absurd (false≢true (sym no_less ∙ ap (λ (o : Ordering). is_lt (ordering_then o (ordering_then (nat_cmp b.session a.session) (nat_cmp b.index a.index)))) keys
+                    absurd (false≢true (sym no_less ∙ ap (λ (o : Ordering). is_lt
+                    (ordering_then o (ordering_then (nat_cmp b.session a.session) (nat_cmp b.index a.index)))) keys
                     ∙ ap (λ (o : Ordering). is_lt (ordering_then o (nat_cmp b.index a.index))) second))
                 | inl session ↦
                     let sessions = level b.session a.session session in
                     elim (cases_lt b.index a.index) [
                       | inl less ↦
                           let third = below b.index a.index less in
-                          absurd (false≢true (sym no_less ∙ ap (λ (o : Ordering). is_lt (ordering_then o (ordering_then (nat_cmp b.session a.session) (nat_cmp b.index a.index)))) keys
-                          ∙ ap (λ (o : Ordering). is_lt (ordering_then o (nat_cmp b.index a.index))) sessions ∙ ap is_lt third))
+                          absurd (false≢true (sym no_less ∙ ap (λ (o : Ordering). is_lt (ordering_then o
+                          (ordering_then (nat_cmp b.session a.session) (nat_cmp b.index a.index)))) keys
+                          ∙ ap (λ (o : Ordering). is_lt (ordering_then o (nat_cmp b.index a.index))) sessions
+                          ∙ ap is_lt third))
                       | inr not_less_index ↦ inr (sym same, inr (sym session, not_less_index))
                     ]
               ]
@@ -60,26 +66,33 @@ not_above a b no_less =
       ]
     ]
 
-stands_before : (all : List LoggedReceipt) → IsSorted run_cmp all → (i j : ℕ) (d : LoggedReceipt) → i < j → j < length all → StandsBefore (get_or all i d) (get_or all j d)
+stands_before : (all : List LoggedReceipt) → IsSorted run_cmp all
+    → (i j : ℕ) (d : LoggedReceipt) → i < j → j < length all → StandsBefore (get_or all i d) (get_or all j d)
 stands_before all sorted i j d lt j_lt =
     not_above (get_or all i d) (get_or all j d)
-    (sorted_far (λ (a : LoggedReceipt) (b : LoggedReceipt). is_lt (run_cmp a b)) (ranks_by run_cmp-total (λ (one : LoggedReceipt). one)) all sorted i j d (omega (arith, lt)) j_lt)
+    (sorted_far (λ (a : LoggedReceipt) (b : LoggedReceipt). is_lt (run_cmp a b))
+    (ranks_by run_cmp-total (λ (one : LoggedReceipt). one)) all sorted i j d (omega (arith, lt)) j_lt)
 
 -- the receipts of one log, in any order
-pub some_order : (logs : List SessionLog) (ordered : List LoggedReceipt) → HasOneLogEach logs → All IsInOrder (logged logs) → IsPermutation (logged logs) ordered → EachTwo InSomeOrder ordered
+pub some_order : (logs : List SessionLog) (ordered : List LoggedReceipt) → HasOneLogEach logs
+    → All IsInOrder (logged logs) → IsPermutation (logged logs) ordered → EachTwo InSomeOrder ordered
 some_order logs ordered one_each in_order perm =
-    EachTwo-permutation InSomeOrder (logged logs) ordered perm (in_some_order (logged logs) (in_own_order 0 logs one_each in_order))
+    EachTwo-permutation InSomeOrder
+    (logged logs) ordered perm (in_some_order (logged logs) (in_own_order 0 logs one_each in_order))
 
 -- two changes of a journal at one place are of one session
-same_session : (journal : JournalState) (a b : LoggedReceipt) → IsKnown journal a → IsKnown journal b → is_change a.receipt.op ≡ true → is_change b.receipt.op ≡ true → a.receipt.at ≡ b.receipt.at → a.session ≡ b.session
+same_session : (journal : JournalState) (a b : LoggedReceipt) → IsKnown journal a → IsKnown journal b → is_change
+    a.receipt.op ≡ true → is_change b.receipt.op ≡ true → a.receipt.at ≡ b.receipt.at → a.session ≡ b.session
 same_session journal a b known other change also place =
     let x = known_change journal a known change in
     let y = known_change journal b other also in
-    let item : x.entry ≡ y.entry = sym x.item ∙ ap (λ n. get_or journal.entries n x.entry) place ∙ get_or_default journal.entries b.receipt.at x.entry y.entry y.within ∙ y.item in
+    let item : x.entry ≡ y.entry = sym x.item ∙ ap (λ n. get_or journal.entries n x.entry) place
+    ∙ get_or_default journal.entries b.receipt.at x.entry y.entry y.within ∙ y.item in
     sym x.session_is ∙ ap (λ (e : PlainEntry). e.session) item ∙ y.session_is
 
 -- two changes have other places
-two_changes : (journal : JournalState) (a b : LoggedReceipt) → IsKnown journal a → IsKnown journal b → InSomeOrder a b → key_of a.receipt ≡ key_of b.receipt → is_change b.receipt.op ≡ true → ⊥
+two_changes : (journal : JournalState) (a b : LoggedReceipt) → IsKnown journal a
+    → IsKnown journal b → InSomeOrder a b → key_of a.receipt ≡ key_of b.receipt → is_change b.receipt.op ≡ true → ⊥
 two_changes journal a b known other some keys change = by_first (is_change a.receipt.op) refl
   where
     by_first : (c : Bool) → is_change a.receipt.op ≡ c → ⊥
@@ -97,7 +110,8 @@ two_changes journal a b known other some keys change = by_first (is_change a.rec
         let one : one_if true ≡ 1 = refl in let none : one_if false ≡ 0 = refl in
         omega (arith, x, y, keys, one, none)
 
-precedes : (journal : JournalState) (a b : LoggedReceipt) → IsKnown journal a → IsKnown journal b → InSomeOrder a b → StandsBefore a b → Precedes a.receipt b.receipt
+precedes : (journal : JournalState) (a b : LoggedReceipt)
+    → IsKnown journal a → IsKnown journal b → InSomeOrder a b → StandsBefore a b → Precedes a.receipt b.receipt
 precedes journal a b known other some (inl less) = inl less
 precedes journal a b known other some (inr (same, rest)) = by_second (is_change b.receipt.op) refl
   where
@@ -105,13 +119,15 @@ precedes journal a b known other some (inr (same, rest)) = by_second (is_change 
     by_second true change = absurd (two_changes journal a b known other some same change)
     by_second false report = inr (same, report)
 
-pub rising : (journal : JournalState) (logs : List SessionLog) (ordered : List LoggedReceipt) → HasOneLogEach logs → All (IsKnown journal) (logged logs) → All IsInOrder (logged logs)
+pub rising : (journal : JournalState) (logs : List SessionLog) (ordered : List LoggedReceipt)
+    → HasOneLogEach logs → All (IsKnown journal) (logged logs) → All IsInOrder (logged logs)
     → IsPermutation (logged logs) ordered → IsSorted run_cmp ordered → AreRising ordered
 rising journal logs ordered one_each known in_order perm sorted i j d lt j_lt =
     let all = All-permutation (IsKnown journal) (logged logs) ordered perm known in
     let some = some_order logs ordered one_each in_order perm in
     precedes journal (get_or ordered i d) (get_or ordered j d) (all i d (omega (arith, lt, j_lt))) (all j d j_lt)
-    (some i j d (omega (arith, lt, j_lt)) j_lt (λ same. omega (arith, same, lt))) (stands_before ordered sorted i j d lt j_lt)
+    (some i j d (omega (arith, lt, j_lt)) j_lt (λ same. omega (arith, same, lt)))
+    (stands_before ordered sorted i j d lt j_lt)
 
 own : (a b : LoggedReceipt) → InSomeOrder a b → StandsBefore a b → a.session ≡ b.session → a.index < b.index
 own a b some before session =
@@ -128,8 +144,10 @@ own a b some before session =
       ]
     ]
 
-pub own_order : (logs : List SessionLog) (ordered : List LoggedReceipt) → HasOneLogEach logs → All IsInOrder (logged logs) → IsPermutation (logged logs) ordered → IsSorted run_cmp ordered
+pub own_order : (logs : List SessionLog) (ordered : List LoggedReceipt)
+    → HasOneLogEach logs → All IsInOrder (logged logs) → IsPermutation (logged logs) ordered → IsSorted run_cmp ordered
     → AllPairs (λ (a : LoggedReceipt) (b : LoggedReceipt). a.session ≡ b.session → a.index < b.index) ordered
 own_order logs ordered one_each in_order perm sorted i j d lt j_lt =
     own (get_or ordered i d) (get_or ordered j d)
-    (some_order logs ordered one_each in_order perm i j d (omega (arith, lt, j_lt)) j_lt (λ same. omega (arith, same, lt))) (stands_before ordered sorted i j d lt j_lt)
+    (some_order logs ordered one_each in_order perm i j d
+    (omega (arith, lt, j_lt)) j_lt (λ same. omega (arith, same, lt))) (stands_before ordered sorted i j d lt j_lt)

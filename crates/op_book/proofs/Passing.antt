@@ -1,5 +1,6 @@
 -- Loops that look for the first item without a property.
-use Rattle.std.proofs.Common.{ℕ, ◌≡◌, ◌≢◌, ◌<◌, ◌≤◌, ◌+◌, true, false, List, ◌∷◌, ◌++◌, length, take, drop, get_or, All, Any, AllPairs, refl, sym, ap, subst, ◌∙◌}
+use Rattle.std.proofs.Common.{ℕ, ◌≡◌, ◌≢◌, ◌<◌, ◌≤◌, ◌+◌, true, false, List, ◌∷◌, ◌++◌, length, take, drop, get_or, All}
+use Rattle.std.proofs.Common.{Any, AllPairs, refl, sym, ap, subst, ◌∙◌}
 use Rattle.std.specs.Prelude.{◌==◌}
 use Rattle.std.specs.List.{list_any}
 use Rattle.std.proofs.lemmas.Bool.{eqb-true, eq-eqb, false≢true}
@@ -9,20 +10,26 @@ use Rattle.std.proofs.lemmas.List.Quantifiers.{all_pairs_push}
 use Rattle.op_book.specs.declared.entry.SessionLog.{SessionLog}
 use Rattle.op_book.specs.Matching.{HasOneLogEach, IsFirstWithout, IsSecondLog, LoggedReceipt}
 
-pub split_at : {X : Type 0} (xs : List X) (i : ℕ) (d : X) → i < length xs → xs ≡ take i xs ++ get_or xs i d ∷ drop (i + 1) xs
+pub split_at : {X : Type 0} (xs : List X) (i : ℕ) (d : X)
+    → i < length xs → xs ≡ take i xs ++ get_or xs i d ∷ drop (i + 1) xs
 split_at xs i d h = sym (take-append-drop i xs) ∙ ap (λ r. take i xs ++ r) (drop_more xs i d h)
 
 pub passed_all : {X : Type 0} (P : X → Type 0) (xs : List X) (n : ℕ) → length xs ≤ n → All P (take n xs) → All P xs
 passed_all P xs n h a = subst (λ ys. All P ys) (take_all n xs h) a
 
-pub pairs_more : {X : Type 0} (R : X → X → Type 0) (xs : List X) (i : ℕ) (d : X) → i < length xs → AllPairs R (take i xs) → All (λ x. R x (get_or xs i d)) (take i xs) → AllPairs R (take (i + 1) xs)
-pairs_more R xs i d h a b = subst (λ ys. AllPairs R ys) (sym (take_more xs i d h)) (all_pairs_push R (take i xs) (get_or xs i d) a b)
+pub pairs_more : {X : Type 0} (R : X → X → Type 0) (xs : List X) (i : ℕ) (d : X)
+    → i < length xs → AllPairs R (take i xs) → All (λ x. R x (get_or xs i d)) (take i xs) → AllPairs R (take (i + 1) xs)
+pairs_more R xs i d h a b =
+    subst (λ ys. AllPairs R ys) (sym (take_more xs i d h)) (all_pairs_push R (take i xs) (get_or xs i d) a b)
 
-pub pairs_all : {X : Type 0} (R : X → X → Type 0) (xs : List X) (n : ℕ) → length xs ≤ n → AllPairs R (take n xs) → AllPairs R xs
+pub pairs_all : {X : Type 0} (R : X → X → Type 0) (xs : List X) (n : ℕ)
+    → length xs ≤ n → AllPairs R (take n xs) → AllPairs R xs
 pairs_all R xs n h a = subst (λ ys. AllPairs R ys) (take_all n xs h) a
 
-pub first_without : (Has : LoggedReceipt → Type 0) (all : List LoggedReceipt) (i : ℕ) (one : LoggedReceipt) (session index : ℕ) → i < length all → one ≡ get_or all i one
-    → All Has (take i all) → (Has one → ⊥) → session ≡ one.session → index ≡ one.index → IsFirstWithout Has all session index
+pub first_without : (Has : LoggedReceipt → Type 0) (all : List LoggedReceipt)
+    (i : ℕ) (one : LoggedReceipt) (session index : ℕ) → i < length all → one ≡ get_or all i one
+    → All Has (take i all)
+    → (Has one → ⊥) → session ≡ one.session → index ≡ one.index → IsFirstWithout Has all session index
 first_without Has all i one session index h is each without session_is index_is = record {
   before = take i all;
   one = one;
@@ -35,16 +42,25 @@ first_without Has all i one session index h is each without session_is index_is 
 }
 
 -- whether a log so far is of a session
-pub has_session : (logs : List SessionLog) (session : ℕ) → list_any (λ (log : SessionLog). log.session == session) logs ≡ true → Any (λ (log : SessionLog). log.session ≡ session) logs
+pub has_session : (logs : List SessionLog) (session : ℕ) → list_any (λ (log : SessionLog). log.session == session) logs
+    ≡ true → Any (λ (log : SessionLog). log.session ≡ session) logs
 has_session logs session e =
     let (k, log, inside, there, same) = Any-from_list_any (λ (log : SessionLog). log.session == session) logs e in
     (k, log, inside, there, eqb-true log.session session same)
 
-pub has_no_session : (logs : List SessionLog) (session : ℕ) → list_any (λ (log : SessionLog). log.session == session) logs ≡ false → All (λ (log : SessionLog). log.session ≢ session) logs
+pub has_no_session : (logs : List SessionLog) (session : ℕ) → list_any
+    (λ (log : SessionLog). log.session == session) logs ≡ false → All (λ (log : SessionLog). log.session ≢ session) logs
 has_no_session logs session e k d lt same =
-    false≢true (sym e ∙ list_any-from_Any (λ (log : SessionLog). log.session == session) logs (k, get_or logs k d, lt, sym (get_or_default logs k d (get_or logs k d) lt), eq-eqb (get_or logs k d).session session same))
+    false≢true (sym e ∙ list_any-from_Any (λ (log : SessionLog). log.session == session) logs (
+      k,
+      get_or logs k d,
+      lt,
+      sym (get_or_default logs k d (get_or logs k d) lt),
+      eq-eqb (get_or logs k d).session session same,
+    ))
 
-pub second_log : (logs : List SessionLog) (i : ℕ) (log : SessionLog) → i < length logs → log ≡ get_or logs i log → HasOneLogEach (take i logs)
+pub second_log : (logs : List SessionLog) (i : ℕ) (log : SessionLog)
+    → i < length logs → log ≡ get_or logs i log → HasOneLogEach (take i logs)
     → Any (λ (earlier : SessionLog). earlier.session ≡ log.session) (take i logs) → IsSecondLog logs log.session
 second_log logs i log h is each again = record {
   before = take i logs;

@@ -6,4 +6,5 @@ use Rattle.op_book.specs.Matching.{LoggedReceipt, key_of, run_cmp}
 pub run_cmp-total : IsTotalOrder run_cmp
 run_cmp-total =
     then_total (on_total (λ (one : LoggedReceipt). key_of one.receipt) nat_cmp_total)
-    (then_total (on_total (λ (one : LoggedReceipt). one.session) nat_cmp_total) (on_total (λ (one : LoggedReceipt). one.index) nat_cmp_total))
+    (then_total (on_total (λ (one : LoggedReceipt). one.session) nat_cmp_total)
+    (on_total (λ (one : LoggedReceipt). one.index) nat_cmp_total))

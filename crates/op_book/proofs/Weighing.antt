@@ -1,5 +1,6 @@
 -- What logs, runs and journals weigh.
-use Rattle.std.proofs.Common.{ℕ, zero, suc, ◌≡◌, ◌<◌, ◌≤◌, ◌+◌, Bool, true, false, cond, ◌||◌, Option, Some, None, List, [], ◌∷◌, ◌++◌, get_or, length, filter, map, take, ap, sym, subst, ◌∙◌, refl, arith}
+use Rattle.std.proofs.Common.{ℕ, zero, suc, ◌≡◌, ◌<◌, ◌≤◌, ◌+◌, Bool, true, false, cond, ◌||◌, Option, Some, None, List}
+use Rattle.std.proofs.Common.{[], ◌∷◌, ◌++◌, get_or, length, filter, map, take, ap, sym, subst, ◌∙◌, refl, arith}
 use Rattle.std.specs.Prelude.{IsPermutation, nat_le, sum_by}
 use Rattle.std.specs.List.{flat_map, list_any}
 use Rattle.std.proofs.Math.ListN.{drop}
@@ -13,7 +14,9 @@ use Rattle.profile_rows.specs.Rows.{is_same_stack, weight_if, weight_of}
 use Rattle.profile_rows.specs.Values.{BatchState, Row, rows_at, weighing}
 use Rattle.op_book.specs.Logs.{counting_from, place_told, rows_from, rows_logged}
 use Rattle.op_book.specs.Matching.{LoggedReceipt, PlainStep, logged, logged_after, logged_from, step_of, steps_in}
-use Rattle.op_book.specs.Operations.{PlainEntry, PlainOp, PlainReceipt, PlainReply, add, reset, ask, placed, addition_of, batches_after, changes_in, is_change, is_reset, operations_of, plain_answer, profile_after, rows_added}
+use Rattle.op_book.specs.Operations.{PlainEntry, PlainOp, PlainReceipt, PlainReply, add, reset, ask, placed}
+use Rattle.op_book.specs.Operations.{addition_of, batches_after, changes_in, is_change, is_reset, operations_of}
+use Rattle.op_book.specs.Operations.{plain_answer, profile_after, rows_added}
 use Rattle.op_book.specs.Runs.{IsLegal}
 use Rattle.op_book.specs.declared.entry.SessionLog.{SessionLog}
 use Rattle.op_book.proofs.Counting.{either}
@@ -38,27 +41,34 @@ weigh_log weight receipts = sum_by (λ (receipt : PlainReceipt). weight receipt.
 abbrev pub weigh_logs : (PlainOp → PlainReply → ℕ) → List SessionLog → ℕ
 weigh_logs weight logs = sum_by (λ (log : SessionLog). weigh_log weight log.receipts) logs
 
-from_log : (weight : PlainOp → PlainReply → ℕ) (number session index : ℕ) (earlier : Option PlainReceipt) (receipts : List PlainReceipt)
-    → sum_by (λ (one : LoggedReceipt). weight one.receipt.op one.receipt.reply) (logged_from number session index earlier receipts) ≡ weigh_log weight receipts
+from_log : (weight : PlainOp → PlainReply → ℕ)
+    (number session index : ℕ) (earlier : Option PlainReceipt) (receipts : List PlainReceipt)
+    → sum_by (λ (one : LoggedReceipt). weight one.receipt.op one.receipt.reply)
+    (logged_from number session index earlier receipts) ≡ weigh_log weight receipts
 from_log weight number session index earlier [] = refl
 from_log weight number session index earlier (receipt ∷ later) =
-    let here = sum_by-cons (λ (one : LoggedReceipt). weight one.receipt.op one.receipt.reply) (record { number = number; session = session; index = index; earlier = earlier; receipt = receipt }) (logged_from (number + 1) session (index + 1) (Some receipt) later) in
+    let here = sum_by-cons (λ (one : LoggedReceipt). weight one.receipt.op one.receipt.reply)
+    (record { number = number; session = session; index = index; earlier = earlier; receipt = receipt })
+    (logged_from (number + 1) session (index + 1) (Some receipt) later) in
     let there = sum_by-cons (λ (receipt : PlainReceipt). weight receipt.op receipt.reply) receipt later in
     let rest = from_log weight (number + 1) session (index + 1) (Some receipt) later in
     omega (arith, here, there, rest)
 
 from_logs : (weight : PlainOp → PlainReply → ℕ) (number : ℕ) (logs : List SessionLog)
-    → sum_by (λ (one : LoggedReceipt). weight one.receipt.op one.receipt.reply) (logged_after number logs) ≡ weigh_logs weight logs
+    → sum_by (λ (one : LoggedReceipt). weight one.receipt.op one.receipt.reply) (logged_after number logs)
+    ≡ weigh_logs weight logs
 from_logs weight number [] = refl
 from_logs weight number (log ∷ logs) =
-    let parts = sum_by-append (λ (one : LoggedReceipt). weight one.receipt.op one.receipt.reply) (logged_from number log.session 0 None log.receipts) (logged_after (number + length log.receipts) logs) in
+    let parts = sum_by-append (λ (one : LoggedReceipt). weight one.receipt.op one.receipt.reply)
+    (logged_from number log.session 0 None log.receipts) (logged_after (number + length log.receipts) logs) in
     let first = from_log weight number log.session 0 None log.receipts in
     let rest = from_logs weight (number + length log.receipts) logs in
     let there = sum_by-cons (λ (log : SessionLog). weigh_log weight log.receipts) log logs in
     omega (arith, parts, first, rest, there)
 
 -- a run of all receipts weighs what they do
-pub run_weighs : (weight : PlainOp → PlainReply → ℕ) (logs : List SessionLog) (run : List PlainStep) → IsPermutation (steps_in logs) run
+pub run_weighs : (weight : PlainOp → PlainReply → ℕ) (logs : List SessionLog) (run : List PlainStep)
+    → IsPermutation (steps_in logs) run
     → sum_by (λ (step : PlainStep). weight step.op step.reply) run ≡ weigh_logs weight logs
 run_weighs weight logs run once =
     sum_by-IsPermutation (λ (step : PlainStep). weight step.op step.reply) (steps_in logs) run once
@@ -68,18 +78,22 @@ run_weighs weight logs run once =
 -- ---- what changes weigh
 
 -- reports weigh nothing
-pub of_changes : (weight : PlainOp → ℕ) → ((op : PlainOp) → is_change op ≡ false → weight op ≡ 0) → (operations : List PlainOp) → sum_by weight (filter is_change operations) ≡ sum_by weight operations
+pub of_changes : (weight : PlainOp → ℕ) → ((op : PlainOp) → is_change op ≡ false → weight op ≡ 0)
+    → (operations : List PlainOp) → sum_by weight (filter is_change operations) ≡ sum_by weight operations
 of_changes weight none [] = refl
 of_changes weight none (op ∷ operations) = by_case (is_change op) refl (of_changes weight none operations)
   where
-    by_case : (b : Bool) → is_change op ≡ b → sum_by weight (filter is_change operations) ≡ sum_by weight operations → sum_by weight (filter is_change (op ∷ operations)) ≡ sum_by weight (op ∷ operations)
+    by_case : (b : Bool) → is_change op ≡ b → sum_by weight (filter is_change operations) ≡ sum_by weight operations
+        → sum_by weight (filter is_change (op ∷ operations)) ≡ sum_by weight (op ∷ operations)
     by_case true change rest =
-        let kept = ap (λ b. sum_by weight (cond b (op ∷ filter is_change operations) (filter is_change operations))) change in
+        let kept =
+        ap (λ b. sum_by weight (cond b (op ∷ filter is_change operations) (filter is_change operations))) change in
         let here = sum_by-cons weight op (filter is_change operations) in
         let there = sum_by-cons weight op operations in
         omega (arith, kept, here, there, rest)
     by_case false report rest =
-        let kept = ap (λ b. sum_by weight (cond b (op ∷ filter is_change operations) (filter is_change operations))) report in
+        let kept =
+        ap (λ b. sum_by weight (cond b (op ∷ filter is_change operations) (filter is_change operations))) report in
         let there = sum_by-cons weight op operations in
         let one = none op report in
         omega (arith, kept, there, rest, one)
@@ -88,22 +102,27 @@ of_changes weight none (op ∷ operations) = by_case (is_change op) refl (of_cha
 abbrev pub added : ℕ → List (List ℕ) → PlainOp → ℕ
 added value stack op = weight_of (rows_at value (rows_added op)) stack
 
-pub weight_of-append : (value : ℕ) (stack : List (List ℕ)) (rows more : List Row) → weight_of (rows_at value (rows ++ more)) stack ≡ weight_of (rows_at value rows) stack + weight_of (rows_at value more) stack
+pub weight_of-append : (value : ℕ) (stack : List (List ℕ)) (rows more : List Row) → weight_of
+    (rows_at value (rows ++ more)) stack ≡ weight_of (rows_at value rows) stack + weight_of (rows_at value more) stack
 weight_of-append value stack rows more =
     ap (λ (rows : List WeightedStack). weight_of rows stack) (map-append (weighing value) rows more)
     ∙ sum_by-append (weight_if (is_same_stack stack)) (rows_at value rows) (rows_at value more)
 
 -- what counts weighs what the operations add
 pub counted : (value : ℕ) (stack : List (List ℕ)) (operations : List PlainOp)
-    → weight_of (rows_at value (flat_map (λ (batch : BatchState). batch.rows) (flat_map addition_of operations))) stack ≡ sum_by (added value stack) operations
+    → weight_of (rows_at value (flat_map (λ (batch : BatchState). batch.rows) (flat_map addition_of operations))) stack
+    ≡ sum_by (added value stack) operations
 counted value stack [] = refl
 counted value stack (add batch ∷ operations) =
     let rest = counted value stack operations in
     let here = sum_by-cons (added value stack) (add batch) operations in
-    let parts = weight_of-append value stack batch.rows (flat_map (λ (batch : BatchState). batch.rows) (flat_map addition_of operations)) in
+    let parts = weight_of-append value stack batch.rows
+    (flat_map (λ (batch : BatchState). batch.rows) (flat_map addition_of operations)) in
     omega (arith, rest, here, parts)
-counted value stack (reset ∷ operations) = let rest = counted value stack operations in let here = sum_by-cons (added value stack) reset operations in omega (arith, rest, here)
-counted value stack (ask query ∷ operations) = let rest = counted value stack operations in let here = sum_by-cons (added value stack) (ask query) operations in omega (arith, rest, here)
+counted value stack (reset ∷ operations) = let rest = counted value stack operations in let here =
+    sum_by-cons (added value stack) reset operations in omega (arith, rest, here)
+counted value stack (ask query ∷ operations) = let rest = counted value stack operations in let here =
+    sum_by-cons (added value stack) (ask query) operations in omega (arith, rest, here)
 
 -- ---- what logs tell of the rows that count
 
@@ -111,23 +130,28 @@ counted value stack (ask query ∷ operations) = let rest = counted value stack 
 abbrev added_from : ℕ → ℕ → List (List ℕ) → PlainOp → PlainReply → ℕ
 added_from place value stack op reply = cond (nat_le place (place_told reply)) (added value stack op) 0
 
-receipt_weighs : (place value : ℕ) (stack : List (List ℕ)) (receipt : PlainReceipt) → weight_of (rows_at value (rows_from place receipt)) stack ≡ added_from place value stack receipt.op receipt.reply
+receipt_weighs : (place value : ℕ) (stack : List (List ℕ)) (receipt : PlainReceipt)
+    → weight_of (rows_at value (rows_from place receipt)) stack ≡ added_from place value stack receipt.op receipt.reply
 receipt_weighs place value stack receipt = by_case (nat_le place (place_told receipt.reply))
   where
-    by_case : (b : Bool) → weight_of (rows_at value (cond b (rows_added receipt.op) [])) stack ≡ cond b (added value stack receipt.op) 0
+    by_case : (b : Bool)
+        → weight_of (rows_at value (cond b (rows_added receipt.op) [])) stack ≡ cond b (added value stack receipt.op) 0
     by_case true = refl
     by_case false = refl
 
-log_weighs : (place value : ℕ) (stack : List (List ℕ)) (receipts : List PlainReceipt) → weight_of (rows_at value (flat_map (rows_from place) receipts)) stack ≡ weigh_log (added_from place value stack) receipts
+log_weighs : (place value : ℕ) (stack : List (List ℕ)) (receipts : List PlainReceipt) → weight_of
+    (rows_at value (flat_map (rows_from place) receipts)) stack ≡ weigh_log (added_from place value stack) receipts
 log_weighs place value stack [] = refl
 log_weighs place value stack (receipt ∷ receipts) =
     let parts = weight_of-append value stack (rows_from place receipt) (flat_map (rows_from place) receipts) in
     let one = receipt_weighs place value stack receipt in
     let rest = log_weighs place value stack receipts in
-    let there = sum_by-cons (λ (receipt : PlainReceipt). added_from place value stack receipt.op receipt.reply) receipt receipts in
+    let there = sum_by-cons
+    (λ (receipt : PlainReceipt). added_from place value stack receipt.op receipt.reply) receipt receipts in
     omega (arith, parts, one, rest, there)
 
-logs_weigh : (place value : ℕ) (stack : List (List ℕ)) (logs : List SessionLog) → weight_of (rows_at value (rows_logged place logs)) stack ≡ weigh_logs (added_from place value stack) logs
+logs_weigh : (place value : ℕ) (stack : List (List ℕ)) (logs : List SessionLog)
+    → weight_of (rows_at value (rows_logged place logs)) stack ≡ weigh_logs (added_from place value stack) logs
 logs_weigh place value stack [] = refl
 logs_weigh place value stack (log ∷ logs) =
     let parts = weight_of-append value stack (flat_map (rows_from place) log.receipts) (rows_logged place logs) in
@@ -139,28 +163,35 @@ logs_weigh place value stack (log ∷ logs) =
 -- each change is told how many changes stand before it, the first so many
 abbrev AreInPlace : ℕ → List PlainStep → Type 0
 AreInPlace place [] = Unit {0}
-AreInPlace place (step ∷ run) = (is_change step.op ≡ true → step.reply ≡ placed place) × AreInPlace (place + cond (is_change step.op) 1 0) run
+AreInPlace place (step ∷ run) =
+    (is_change step.op ≡ true → step.reply ≡ placed place) × AreInPlace (place + cond (is_change step.op) 1 0) run
 
-told_place : (before : List PlainOp) (op : PlainOp) → is_change op ≡ true → plain_answer before op ≡ placed (changes_in before)
+told_place : (before : List PlainOp) (op : PlainOp)
+    → is_change op ≡ true → plain_answer before op ≡ placed (changes_in before)
 told_place before (add batch) change = refl
 told_place before reset change = refl
 told_place before (ask query) change = absurd (cc)
 
 in_place : (before : List PlainOp) (run : List PlainStep)
-    → ((at : ℕ) (item : PlainStep) → at < length run → (get_or run at item).reply ≡ plain_answer (before ++ map (λ (step : PlainStep). step.op) (take at run)) (get_or run at item).op)
+    → ((at : ℕ) (item : PlainStep) → at < length run → (get_or run at item).reply
+    ≡ plain_answer (before ++ map (λ (step : PlainStep). step.op) (take at run)) (get_or run at item).op)
     → AreInPlace (changes_in before) run
 in_place before [] legal = tt
 in_place before (step ∷ run) legal =
     let parts = sum_by-append (λ op. cond (is_change op) 1 0) before (step.op ∷ []) in
     let last = sum_by-cons (λ op. cond (is_change op) 1 0) step.op [] in
-    let count : changes_in (before ++ step.op ∷ []) ≡ changes_in before + cond (is_change step.op) 1 0 = omega (arith, parts, last) in (
-      (λ change. legal 0 step (omega arith) ∙ ap (λ ops. plain_answer ops step.op) (append-nil before) ∙ told_place before step.op change),
+    let count : changes_in (before ++ step.op ∷ []) ≡ changes_in before + cond (is_change step.op) 1 0 =
+    omega (arith, parts, last) in (
+      (λ change. legal 0 step (omega arith)
+          ∙ ap (λ ops. plain_answer ops step.op) (append-nil before) ∙ told_place before step.op change),
       subst (λ n. AreInPlace n run) count (in_place (before ++ step.op ∷ []) run (λ at item lt.
-          legal (suc at) item (omega (arith, lt)) ∙ ap (λ ops. plain_answer ops (get_or run at item).op) (sym (append_assoc before (step.op ∷ []) (map (λ (step : PlainStep). step.op) (take at run)))))),
+          legal (suc at) item (omega (arith, lt)) ∙ ap (λ ops. plain_answer ops (get_or run at item).op)
+          (sym (append_assoc before (step.op ∷ []) (map (λ (step : PlainStep). step.op) (take at run)))))),
     )
 
 -- a report adds nothing
-report_adds : (from value : ℕ) (stack : List (List ℕ)) (op : PlainOp) (reply : PlainReply) → is_change op ≡ false → added_from from value stack op reply ≡ 0
+report_adds : (from value : ℕ) (stack : List (List ℕ)) (op : PlainOp) (reply : PlainReply)
+    → is_change op ≡ false → added_from from value stack op reply ≡ 0
 report_adds from value stack (add batch) reply report = absurd (cc)
 report_adds from value stack reset reply report = absurd (cc)
 report_adds from value stack (ask query) reply report = by_case (nat_le from (place_told reply))
@@ -174,21 +205,27 @@ abbrev changes_of : List PlainStep → List PlainOp
 changes_of run = filter is_change (map (λ (step : PlainStep). step.op) run)
 
 -- behind the place from which on changes count, each counts
-sums_behind : (from place value : ℕ) (stack : List (List ℕ)) (run : List PlainStep) → from ≤ place → AreInPlace place run
-    → sum_by (λ (step : PlainStep). added_from from value stack step.op step.reply) run ≡ sum_by (added value stack) (changes_of run)
+sums_behind : (from place value : ℕ) (stack : List (List ℕ)) (run : List PlainStep)
+    → from ≤ place → AreInPlace place run
+    → sum_by (λ (step : PlainStep). added_from from value stack step.op step.reply) run
+    ≡ sum_by (added value stack) (changes_of run)
 sums_behind from place value stack [] le legal = refl
 sums_behind from place value stack (step ∷ run) le legal =
-    by_case (is_change step.op) refl (sums_behind from (place + cond (is_change step.op) 1 0) value stack run (omega (arith, le)) legal.1)
+    by_case (is_change step.op) refl
+    (sums_behind from (place + cond (is_change step.op) 1 0) value stack run (omega (arith, le)) legal.1)
   where
     by_case : (b : Bool) → is_change step.op ≡ b
-        → sum_by (λ (step : PlainStep). added_from from value stack step.op step.reply) run ≡ sum_by (added value stack) (changes_of run)
-        → sum_by (λ (step : PlainStep). added_from from value stack step.op step.reply) (step ∷ run) ≡ sum_by (added value stack) (changes_of (step ∷ run))
+        → sum_by (λ (step : PlainStep). added_from from value stack step.op step.reply) run
+        ≡ sum_by (added value stack) (changes_of run)
+        → sum_by (λ (step : PlainStep). added_from from value stack step.op step.reply) (step ∷ run)
+        ≡ sum_by (added value stack) (changes_of (step ∷ run))
     by_case true change rest =
         let kept = ap (λ b. sum_by (added value stack) (cond b (step.op ∷ changes_of run) (changes_of run))) change in
         let here = sum_by-cons (added value stack) step.op (changes_of run) in
         let there = sum_by-cons (λ (step : PlainStep). added_from from value stack step.op step.reply) step run in
         let one : added_from from value stack step.op step.reply ≡ added value stack step.op =
-        ap (λ reply. added_from from value stack step.op reply) (legal.0 change) ∙ ap (λ b. cond b (added value stack step.op) 0) (le-leb from place le) in
+        ap (λ reply. added_from from value stack step.op reply) (legal.0 change)
+        ∙ ap (λ b. cond b (added value stack step.op) 0) (le-leb from place le) in
         omega (arith, kept, here, there, one, rest)
     by_case false report rest =
         let kept = ap (λ b. sum_by (added value stack) (cond b (step.op ∷ changes_of run) (changes_of run))) report in
@@ -197,8 +234,10 @@ sums_behind from place value stack (step ∷ run) le legal =
         omega (arith, kept, there, one, rest)
 
 -- before it, none does
-sums : (gap from place value : ℕ) (stack : List (List ℕ)) (run : List PlainStep) → from ≡ place + gap → AreInPlace place run
-    → sum_by (λ (step : PlainStep). added_from from value stack step.op step.reply) run ≡ sum_by (added value stack) (drop gap (changes_of run))
+sums : (gap from place value : ℕ) (stack : List (List ℕ)) (run : List PlainStep)
+    → from ≡ place + gap → AreInPlace place run
+    → sum_by (λ (step : PlainStep). added_from from value stack step.op step.reply) run
+    ≡ sum_by (added value stack) (drop gap (changes_of run))
 sums zero from place value stack run is legal = sums_behind from place value stack run (omega (arith, is)) legal
 sums (suc gap) from place value stack [] is legal = refl
 sums (suc gap) from place value stack (step ∷ run) is legal =
@@ -207,18 +246,24 @@ sums (suc gap) from place value stack (step ∷ run) is legal =
     (λ next. sums (suc gap) from (place + 0) value stack run (omega (arith, is)) next)
   where
     by_case : (b : Bool) → is_change step.op ≡ b
-        → (AreInPlace (place + 1) run → sum_by (λ (step : PlainStep). added_from from value stack step.op step.reply) run ≡ sum_by (added value stack) (drop gap (changes_of run)))
-        → (AreInPlace (place + 0) run → sum_by (λ (step : PlainStep). added_from from value stack step.op step.reply) run ≡ sum_by (added value stack) (drop (suc gap) (changes_of run)))
-        → sum_by (λ (step : PlainStep). added_from from value stack step.op step.reply) (step ∷ run) ≡ sum_by (added value stack) (drop (suc gap) (changes_of (step ∷ run)))
+        → (AreInPlace (place + 1) run → sum_by (λ (step : PlainStep). added_from from value stack step.op step.reply)
+        run ≡ sum_by (added value stack) (drop gap (changes_of run)))
+        → (AreInPlace (place + 0) run → sum_by (λ (step : PlainStep). added_from from value stack step.op step.reply)
+        run ≡ sum_by (added value stack) (drop (suc gap) (changes_of run)))
+        → sum_by (λ (step : PlainStep). added_from from value stack step.op step.reply) (step ∷ run)
+        ≡ sum_by (added value stack) (drop (suc gap) (changes_of (step ∷ run)))
     by_case true change behind before =
-        let kept = ap (λ b. sum_by (added value stack) (drop (suc gap) (cond b (step.op ∷ changes_of run) (changes_of run)))) change in
+        let kept = ap (λ b. sum_by
+        (added value stack) (drop (suc gap) (cond b (step.op ∷ changes_of run) (changes_of run)))) change in
         let there = sum_by-cons (λ (step : PlainStep). added_from from value stack step.op step.reply) step run in
         let one : added_from from value stack step.op step.reply ≡ 0 =
-        ap (λ reply. added_from from value stack step.op reply) (legal.0 change) ∙ ap (λ b. cond b (added value stack step.op) 0) (lt-leb from place (omega (arith, is))) in
+        ap (λ reply. added_from from value stack step.op reply) (legal.0 change)
+        ∙ ap (λ b. cond b (added value stack step.op) 0) (lt-leb from place (omega (arith, is))) in
         let rest = behind (subst (λ b. AreInPlace (place + cond b 1 0) run) change legal.1) in
         omega (arith, kept, there, one, rest)
     by_case false report behind before =
-        let kept = ap (λ b. sum_by (added value stack) (drop (suc gap) (cond b (step.op ∷ changes_of run) (changes_of run)))) report in
+        let kept = ap (λ b. sum_by
+        (added value stack) (drop (suc gap) (cond b (step.op ∷ changes_of run) (changes_of run)))) report in
         let there = sum_by-cons (λ (step : PlainStep). added_from from value stack step.op step.reply) step run in
         let one = report_adds from value stack step.op step.reply report in
         let rest = before (subst (λ b. AreInPlace (place + cond b 1 0) run) report legal.1) in
@@ -233,27 +278,34 @@ none_before (add batch ∷ operations) none = ap (λ b. cond b (suc (counting_fr
 none_before (ask query ∷ operations) none = ap (λ b. cond b (suc (counting_from operations)) 0) none
 
 -- an operation behind which no reset stands
-count_first : (later : List PlainOp) (op : PlainOp) → addition_of op ++ flat_map addition_of later ≡ flat_map addition_of (drop (cond (is_reset op) 1 0) (op ∷ later))
+count_first : (later : List PlainOp) (op : PlainOp)
+    → addition_of op ++ flat_map addition_of later ≡ flat_map addition_of (drop (cond (is_reset op) 1 0) (op ∷ later))
 count_first later (add batch) = refl
 count_first later reset = refl
 count_first later (ask query) = refl
 
 -- the batches that count are those from the place on where counting begins
-pub batches_from : (operations : List PlainOp) → batches_after operations ≡ flat_map addition_of (drop (counting_from operations) operations)
+pub batches_from : (operations : List PlainOp)
+    → batches_after operations ≡ flat_map addition_of (drop (counting_from operations) operations)
 batches_from [] = refl
 batches_from (op ∷ later) = by_case (list_any is_reset later) refl (batches_from later) op
   where
-    by_case : (b : Bool) → list_any is_reset later ≡ b → batches_after later ≡ flat_map addition_of (drop (counting_from later) later) → (op : PlainOp) → batches_after (op ∷ later) ≡ flat_map addition_of (drop (counting_from (op ∷ later)) (op ∷ later))
+    by_case : (b : Bool) → list_any is_reset later ≡ b
+        → batches_after later ≡ flat_map addition_of (drop (counting_from later) later) → (op : PlainOp)
+        → batches_after (op ∷ later) ≡ flat_map addition_of (drop (counting_from (op ∷ later)) (op ∷ later))
     by_case true behind rest op =
         ap (λ b. cond b (batches_after later) (addition_of op ++ batches_after later)) behind
         ∙ rest
-        ∙ ap (λ b. flat_map addition_of (drop (cond b (suc (counting_from later)) (cond (is_reset op) 1 0)) (op ∷ later))) (sym behind)
+        ∙ ap (λ b. flat_map addition_of
+        (drop (cond b (suc (counting_from later)) (cond (is_reset op) 1 0)) (op ∷ later))) (sym behind)
     by_case false none rest op =
-        let all : batches_after later ≡ flat_map addition_of later = rest ∙ ap (λ n. flat_map addition_of (drop n later)) (none_before later none) in
+        let all : batches_after later ≡ flat_map addition_of later = rest
+        ∙ ap (λ n. flat_map addition_of (drop n later)) (none_before later none) in
         ap (λ b. cond b (batches_after later) (addition_of op ++ batches_after later)) none
         ∙ ap (λ batches. addition_of op ++ batches) all
         ∙ count_first later op
-        ∙ ap (λ b. flat_map addition_of (drop (cond b (suc (counting_from later)) (cond (is_reset op) 1 0)) (op ∷ later))) (sym none)
+        ∙ ap (λ b. flat_map addition_of
+        (drop (cond b (suc (counting_from later)) (cond (is_reset op) 1 0)) (op ∷ later))) (sym none)
 
 -- a test that is false changes nothing
 neither : (b : Bool) → (b || false) ≡ b
@@ -261,26 +313,34 @@ neither true = refl
 neither false = refl
 
 -- counting begins behind a reset that is the last of operations
-pub counting_from-reset : (operations : List PlainOp) → counting_from (operations ++ reset ∷ []) ≡ suc (length operations)
+pub counting_from-reset : (operations : List PlainOp)
+    → counting_from (operations ++ reset ∷ []) ≡ suc (length operations)
 counting_from-reset [] = refl
 counting_from-reset (op ∷ operations) =
     let any = list_any-append is_reset operations (reset ∷ []) ∙ either (list_any is_reset operations) in
-    ap (λ b. cond b (suc (counting_from (operations ++ reset ∷ []))) (cond (is_reset op) 1 0)) any ∙ ap suc (counting_from-reset operations)
+    ap (λ b. cond b (suc (counting_from (operations ++ reset ∷ []))) (cond (is_reset op) 1 0)) any
+    ∙ ap suc (counting_from-reset operations)
 
 -- another operation changes nothing of it
-pub counting_from-other : (operations : List PlainOp) (op : PlainOp) → is_reset op ≡ false → counting_from (operations ++ op ∷ []) ≡ counting_from operations
+pub counting_from-other : (operations : List PlainOp) (op : PlainOp)
+    → is_reset op ≡ false → counting_from (operations ++ op ∷ []) ≡ counting_from operations
 counting_from-other [] op other = ap (λ b. cond b 1 0) other
 counting_from-other (first ∷ operations) op other =
     let any : list_any is_reset (operations ++ op ∷ []) ≡ list_any is_reset operations =
-    list_any-append is_reset operations (op ∷ []) ∙ ap (λ b. list_any is_reset operations || (b || false)) other ∙ neither (list_any is_reset operations) in
+    list_any-append is_reset operations (op ∷ [])
+    ∙ ap (λ b. list_any is_reset operations || (b || false)) other ∙ neither (list_any is_reset operations) in
     ap (λ b. cond b (suc (counting_from (operations ++ op ∷ []))) (cond (is_reset first) 1 0)) any
-    ∙ ap (λ n. cond (list_any is_reset operations) (suc n) (cond (is_reset first) 1 0)) (counting_from-other operations op other)
+    ∙ ap (λ n. cond (list_any is_reset operations) (suc n) (cond (is_reset first) 1 0))
+    (counting_from-other operations op other)
 
 -- where counting begins after one entry more
-pub counting_from-more : (entries : List PlainEntry) (i behind : ℕ) (entry : PlainEntry) → i < length entries → entry ≡ get_or entries i entry
-    → behind ≡ cond (is_reset entry.op) (i + 1) (counting_from (operations_of (take i entries))) → behind ≡ counting_from (operations_of (take (i + 1) entries))
+pub counting_from-more : (entries : List PlainEntry) (i behind : ℕ) (entry : PlainEntry)
+    → i < length entries → entry ≡ get_or entries i entry
+    → behind ≡ cond (is_reset entry.op) (i + 1) (counting_from (operations_of (take i entries)))
+    → behind ≡ counting_from (operations_of (take (i + 1) entries))
 counting_from-more entries i behind entry lt is told =
-    told ∙ by_case (is_reset entry.op) refl ∙ ap counting_from (sym (ap operations_of (take_more entries i entry lt ∙ ap (λ e. take i entries ++ e ∷ []) (sym is)) ∙ operations_of-push (take i entries) entry))
+    told ∙ by_case (is_reset entry.op) refl ∙ ap counting_from (sym (ap operations_of (take_more entries i entry lt
+    ∙ ap (λ e. take i entries ++ e ∷ []) (sym is)) ∙ operations_of-push (take i entries) entry))
   where
     so_far : List PlainOp
     so_far = operations_of (take i entries)
@@ -293,17 +353,22 @@ counting_from-more entries i behind entry lt is told =
     reset_is reset is = refl
     reset_is (ask query) is = absurd (cc)
 
-    by_case : (b : Bool) → is_reset entry.op ≡ b → cond b (i + 1) (counting_from so_far) ≡ counting_from (so_far ++ entry.op ∷ [])
+    by_case : (b : Bool)
+        → is_reset entry.op ≡ b → cond b (i + 1) (counting_from so_far) ≡ counting_from (so_far ++ entry.op ∷ [])
     by_case true is =
         let count = counting_from-reset so_far in
-        let whole : counting_from (so_far ++ entry.op ∷ []) ≡ counting_from (so_far ++ reset ∷ []) = ap (λ op. counting_from (so_far ++ op ∷ [])) (reset_is entry.op is) in
+        let whole : counting_from (so_far ++ entry.op ∷ []) ≡ counting_from (so_far ++ reset ∷ []) =
+        ap (λ op. counting_from (so_far ++ op ∷ [])) (reset_is entry.op is) in
         omega (arith, count, whole, size)
     by_case false other = sym (counting_from-other so_far entry.op other)
 
 -- the rows that logs tell of, from the place on where counting begins, weigh for each stack what the profile does
-pub logged_rows_weigh : (logs : List SessionLog) (run : List PlainStep) (operations : List PlainOp) → IsPermutation (steps_in logs) run
-    → IsLegal (λ (step : PlainStep). step.op) (λ (step : PlainStep). step.reply) run → changes_of run ≡ operations → (value : ℕ) (stack : List (List ℕ))
-    → weight_of (rows_at value (rows_logged (counting_from operations) logs)) stack ≡ weight_of (rows_at value (profile_after operations)) stack
+pub logged_rows_weigh : (logs : List SessionLog) (run : List PlainStep) (operations : List PlainOp)
+    → IsPermutation (steps_in logs) run
+    → IsLegal (λ (step : PlainStep). step.op) (λ (step : PlainStep). step.reply) run
+    → changes_of run ≡ operations → (value : ℕ) (stack : List (List ℕ))
+    → weight_of (rows_at value (rows_logged (counting_from operations) logs)) stack
+    ≡ weight_of (rows_at value (profile_after operations)) stack
 logged_rows_weigh logs run operations once legal changes value stack =
     let from : ℕ = counting_from operations in
     logs_weigh from value stack logs
@@ -311,4 +376,5 @@ logged_rows_weigh logs run operations once legal changes value stack =
     ∙ sums from from 0 value stack run (omega arith) (in_place [] run legal)
     ∙ ap (λ ops. sum_by (added value stack) (drop from ops)) changes
     ∙ sym (counted value stack (drop from operations))
-    ∙ ap (λ batches. weight_of (rows_at value (flat_map (λ (batch : BatchState). batch.rows) batches)) stack) (sym (batches_from operations))
+    ∙ ap (λ batches. weight_of (rows_at value (flat_map (λ (batch : BatchState). batch.rows) batches)) stack)
+    (sym (batches_from operations))

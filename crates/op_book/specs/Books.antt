@@ -4,7 +4,8 @@ use Rattle.profile_rows.specs.Aggregate.{aggregates_of}
 use Rattle.profile_rows.specs.Rows.{total_of}
 use Rattle.profile_rows.specs.Values.{rows_at}
 use Rattle.call_tree.specs.State.{TreeState, weights_of}
-use Rattle.op_book.specs.Operations.{FitsWidth, MissesWidth, PlainOp, PlainEntry, PlainReceipt, is_change, operations_of, placed, plain_answer, profile_after, rows_added}
+use Rattle.op_book.specs.Operations.{FitsWidth, MissesWidth, PlainOp, PlainEntry, PlainReceipt, is_change}
+use Rattle.op_book.specs.Operations.{operations_of, placed, plain_answer, profile_after, rows_added}
 use Rattle.op_book.specs.Runs.{AreChanges, AreOfSessions, AreOfWidth, AreTurnsInOrder, IsLegalRun, KeepLimit, turns_of}
 use Rattle.op_book.specs.declared.fault.BookFault.{BookFault}
 use Rattle.op_book.specs.declared.fault.BookFault.TheVariants.{Session, Turn, Full, Width, Heavy, NoMemory, Version}

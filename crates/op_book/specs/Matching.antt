@@ -1,12 +1,16 @@
 -- When the logs of sessions match a journal, what refuses them first, and the run of a match.
-use Rattle.std.specs.Prelude.{ℕ, ◌≡◌, ◌≢◌, ◌<◌, ◌≤◌, ◌+◌, ◌*◌, ◌⊎◌, Option, Some, None, IfSome, IsSomeAnd, true, false, cond, slice_get, List, [], ◌∷◌, ◌++◌, All, AllPairs, Any, length, map, take, IsPermutation, IsSorted}
+use Rattle.std.specs.Prelude.{ℕ, ◌≡◌, ◌≢◌, ◌<◌, ◌≤◌, ◌+◌, ◌*◌, ◌⊎◌, Option, Some, None, IfSome, IsSomeAnd, true, false}
+use Rattle.std.specs.Prelude.{cond, slice_get, List, [], ◌∷◌, ◌++◌, All, AllPairs, Any, length, map, take}
+use Rattle.std.specs.Prelude.{IsPermutation, IsSorted}
 use Rattle.std.specs.Ordering.{nat_cmp, ordering_then}
 use Rattle.std.specs.declared.cmp.Ordering.{Ordering}
 use Rattle.op_book.specs.Books.{JournalState}
-use Rattle.op_book.specs.Operations.{PlainEntry, PlainOp, PlainReceipt, PlainReply, add, reset, ask, is_change, operations_of, plain_answer}
+use Rattle.op_book.specs.Operations.{PlainEntry, PlainOp, PlainReceipt, PlainReply, add, reset, ask, is_change}
+use Rattle.op_book.specs.Operations.{operations_of, plain_answer}
 use Rattle.op_book.specs.declared.entry.SessionLog.{SessionLog}
 use Rattle.op_book.specs.declared.fault.AuditFault.{AuditFault}
-use Rattle.op_book.specs.declared.fault.AuditFault.TheVariants.{TwoLogs, Stranger, Order, Missing, WrongAnswer, NoMemory}
+use Rattle.op_book.specs.declared.fault.AuditFault.TheVariants.{TwoLogs, Stranger, Order, Missing, WrongAnswer}
+use Rattle.op_book.specs.declared.fault.AuditFault.TheVariants.{NoMemory}
 
 -- a receipt in the logs: its number among all receipts, the session of its log, its place there, and the receipt before
 -- it there

@@ -1,5 +1,6 @@
 -- Operations, their plain answers, and what a journal has of them.
-use Rattle.std.specs.Prelude.{ℕ, ◌≡◌, ◌≢◌, ◌<◌, ◌≤◌, ◌++◌, Bool, true, false, if◌then◌else◌, List, [], ◌∷◌, count_by, map}
+use Rattle.std.specs.Prelude.{ℕ, ◌≡◌, ◌≢◌, ◌<◌, ◌≤◌, ◌++◌, Bool, true, false, if◌then◌else◌, List, [], ◌∷◌, count_by}
+use Rattle.std.specs.Prelude.{map}
 use Rattle.std.specs.List.{flat_map, list_any}
 use Rattle.std.specs.Arc.{arc_value}
 use Rattle.profile_rows.specs.Values.{BatchState, Row}

@@ -1,5 +1,6 @@
 -- What an audit finds when it goes through the receipts in the order of a run.
-use Rattle.std.specs.Prelude.{ℕ, ◌≡◌, ◌<◌, ◌≤◌, ◌^◌, Option, Some, None, false, List, AllPairs, get_or, length, map, take}
+use Rattle.std.specs.Prelude.{ℕ, ◌≡◌, ◌<◌, ◌≤◌, ◌^◌, Option, Some, None, false, List, AllPairs, get_or, length, map}
+use Rattle.std.specs.Prelude.{take}
 use Rattle.profile_rows.specs.Aggregate.{aggregates_of}
 use Rattle.profile_rows.specs.Rows.{total_of}
 use Rattle.profile_rows.specs.Values.{rows_at, value_of}

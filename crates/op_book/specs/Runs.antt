@@ -2,7 +2,8 @@
 use Rattle.std.specs.Prelude.{ℕ, ◌≡◌, ◌<◌, ◌^◌, ◌==◌, true, List, count_by, get_or, length, map, take}
 use Rattle.profile_rows.specs.Rows.{total_of}
 use Rattle.profile_rows.specs.Values.{rows_at}
-use Rattle.op_book.specs.Operations.{FitsWidth, PlainEntry, PlainOp, PlainReply, is_change, operations_of, plain_answer, profile_after}
+use Rattle.op_book.specs.Operations.{FitsWidth, PlainEntry, PlainOp, PlainReply, is_change, operations_of, plain_answer}
+use Rattle.op_book.specs.Operations.{profile_after}
 
 -- how many entries a session has
 abbrev pub turns_of : List PlainEntry → ℕ → ℕ

@@ -5,12 +5,15 @@ use Rattle.pprof_wire.specs.Fields.{PlainField, IsFieldSpelling}
 use Rattle.pprof_wire.proofs.ListLaws.{one_field_listed, fields_joined, one_number_listed, numbers_joined}
 use Rattle.pprof_profile.specs.Reading.{Table, Gathers, Spells, IsReadSoFar, IsUnpacked}
 
-pub gathers_joined : {M : Type 0} (table : Table M) (old mid new : M) (xs ys : List PlainField) → Gathers table old xs mid → Gathers table mid ys new
+pub gathers_joined : {M : Type 0} (table : Table M) (old mid new : M) (xs ys : List PlainField)
+    → Gathers table old xs mid → Gathers table mid ys new
     → Gathers table old (xs ++ ys) new
 gathers_joined {M = M} table old mid new [] ys left right = subst (λ (m : M). Gathers table m ys new) left right
-gathers_joined table old mid new (x ∷ xs) ys (next, first, others) right = (next, first, gathers_joined table next mid new xs ys others right)
+gathers_joined table old mid new (x ∷ xs) ys (next, first, others) right =
+    (next, first, gathers_joined table next mid new xs ys others right)
 
-pub spells_joined : {M : Type 0} (table : Table M) (old mid new : M) (a b : List ℕ) → Spells table old a mid → Spells table mid b new
+pub spells_joined : {M : Type 0} (table : Table M) (old mid new : M) (a b : List ℕ)
+    → Spells table old a mid → Spells table mid b new
     → Spells table old (a ++ b) new
 spells_joined table old mid new a b left right =
     record {
@@ -19,30 +22,38 @@ spells_joined table old mid new a b left right =
       gathered = gathers_joined table old mid new left.fields right.fields left.gathered right.gathered;
     }
 
-pub one_spelled : {M : Type 0} (table : Table M) (old new : M) (bytes : List ℕ) (field : PlainField) → IsFieldSpelling bytes field
+pub one_spelled : {M : Type 0} (table : Table M) (old new : M) (bytes : List ℕ) (field : PlainField)
+    → IsFieldSpelling bytes field
     → table old field.number field.value (Ok new) → Spells table old bytes new
 one_spelled table old new bytes field spelled step =
     record { fields = field ∷ []; listed = one_field_listed bytes field spelled; gathered = (new, step, refl) }
 
-pub read_more : {M : Type 0} (table : Table M) (old mid new : M) (bytes rest spelling after : List ℕ) (field : PlainField) → IsReadSoFar table old bytes mid rest
-    → rest ≡ spelling ++ after → IsFieldSpelling spelling field → table mid field.number field.value (Ok new) → IsReadSoFar table old bytes new after
+pub read_more : {M : Type 0} (table : Table M)
+    (old mid new : M) (bytes rest spelling after : List ℕ) (field : PlainField) → IsReadSoFar table old bytes mid rest
+    → rest ≡ spelling ++ after → IsFieldSpelling spelling field
+    → table mid field.number field.value (Ok new) → IsReadSoFar table old bytes new after
 read_more table old mid new bytes rest spelling after field so-far parts spelled step =
     record {
       front = so-far.front ++ spelling;
-      parts = so-far.parts ∙ ap (λ (left : List ℕ). so-far.front ++ left) parts ∙ sym (append_assoc so-far.front spelling after);
-      spelled = spells_joined table old mid new so-far.front spelling so-far.spelled (one_spelled table mid new spelling field spelled step);
+      parts = so-far.parts
+          ∙ ap (λ (left : List ℕ). so-far.front ++ left) parts ∙ sym (append_assoc so-far.front spelling after);
+      spelled = spells_joined table old mid new so-far.front spelling so-far.spelled
+          (one_spelled table mid new spelling field spelled step);
     }
 
 pub map_joined : {A : Type 0} (from : ℕ → A) (xs ys : List ℕ) → map from (xs ++ ys) ≡ map from xs ++ map from ys
 map_joined from [] ys = refl
 map_joined {A = A} from (x ∷ xs) ys = ap (λ (zs : List A). from x ∷ zs) (map_joined from xs ys)
 
-pub unpacked_more : {A : Type 0} (from : ℕ → A) (old mid : List A) (front spelling : List ℕ) (number : ℕ) → IsUnpacked from old front mid → IsVarint spelling number
+pub unpacked_more : {A : Type 0} (from : ℕ → A) (old mid : List A) (front spelling : List ℕ) (number : ℕ)
+    → IsUnpacked from old front mid → IsVarint spelling number
     → IsUnpacked from old (front ++ spelling) (mid ++ from number ∷ [])
 unpacked_more {A = A} from old mid front spelling number so-far spelled =
     record {
       numbers = so-far.numbers ++ number ∷ [];
-      listed = numbers_joined front spelling so-far.numbers (number ∷ []) so-far.listed (one_number_listed spelling number spelled);
-      appended = ap (λ (xs : List A). xs ++ from number ∷ []) so-far.appended ∙ append_assoc old (map from so-far.numbers) (from number ∷ [])
+      listed = numbers_joined front spelling so-far.numbers
+          (number ∷ []) so-far.listed (one_number_listed spelling number spelled);
+      appended = ap (λ (xs : List A). xs ++ from number ∷ []) so-far.appended
+          ∙ append_assoc old (map from so-far.numbers) (from number ∷ [])
           ∙ ap (λ (xs : List A). old ++ xs) (sym (map_joined from so-far.numbers (number ∷ [])));
     }

@@ -1,5 +1,6 @@
 -- Bytes are one profile, or no profile for one reason.
-use Rattle.std.proofs.Common.{◌≡◌, ◌≢◌, ℕ, ◌⊎◌, inl, inr, List, refl, sym, ap, ◌∙◌, Result, Ok, Err, Some, None, IfOk, IfErr, MatchResult}
+use Rattle.std.proofs.Common.{◌≡◌, ◌≢◌, ℕ, ◌⊎◌, inl, inr, List, refl, sym, ap, ◌∙◌, Result, Ok, Err, Some, None, IfOk}
+use Rattle.std.proofs.Common.{IfErr, MatchResult}
 use Rattle.pprof_profile.specs.declared.faults.ProfileFault.{ProfileFault}
 use Rattle.pprof_profile.specs.declared.faults.ProfileFault.TheVariants.{NoMemory}
 use Rattle.pprof_profile.specs.declared.messages.Draft.{Draft}
@@ -25,7 +26,8 @@ reading_fault_once : (bytes : List ℕ) (f g : ProfileFault) → IsReadingFault 
 reading_fault_once bytes f g left right =
     let one : Result Draft ProfileFault = Err f in
     let other : Result Draft ProfileFault = Err g in
-    let both : one ≡ other = reads_once draft_table draft_once no_draft bytes one other left.first right.first in cc both
+    let both : one ≡ other =
+    reads_once draft_table draft_once no_draft bytes one other left.first right.first in cc both
 
 pub profile_no_fault : (bytes : List ℕ) (a : Draft) (f : ProfileFault) → IsProfile bytes a → IsProfileFault bytes f → ⊥
 profile_no_fault bytes a f left (inl gzip) = left.plain gzip.0
@@ -41,8 +43,10 @@ profile_fault_once bytes f g (inl gzip) (inr (inr broken)) = absurd (broken.plai
 profile_fault_once bytes f g (inr (inl wrong)) (inl gzip) = absurd (wrong.plain gzip.0)
 profile_fault_once bytes f g (inr (inr broken)) (inl gzip) = absurd (broken.plain gzip.0)
 profile_fault_once bytes f g (inr (inl wrong)) (inr (inl other)) = reading_fault_once bytes f g wrong other
-profile_fault_once bytes f g (inr (inl wrong)) (inr (inr broken)) = absurd (spelled_no_fault bytes broken.draft f broken.spelled wrong)
-profile_fault_once bytes f g (inr (inr broken)) (inr (inl wrong)) = absurd (spelled_no_fault bytes broken.draft g broken.spelled wrong)
+profile_fault_once bytes f g (inr (inl wrong)) (inr (inr broken)) =
+    absurd (spelled_no_fault bytes broken.draft f broken.spelled wrong)
+profile_fault_once bytes f g (inr (inr broken)) (inr (inl wrong)) =
+    absurd (spelled_no_fault bytes broken.draft g broken.spelled wrong)
 profile_fault_once bytes f g (inr (inr broken)) (inr (inr other)) =
     let same = draft_spelled_once bytes broken.draft other.draft broken.spelled other.spelled in
     let both : Some f ≡ Some g = sym broken.first ∙ ap validity_fault same ∙ other.first in cc both
@@ -56,11 +60,18 @@ pub every_profile : (bytes : List ℕ) (result : Result Draft ProfileFault) → 
     → MatchResult result (λ read. read ≡ draft) (λ fault. fault ≡ NoMemory)
 every_profile bytes (Ok read) is wrong draft profile = draft_spelled_once bytes read draft is.spelled profile.spelled
 every_profile bytes (Err fault) is wrong draft profile =
-    elim (memory_or_not fault) [ inl memory ↦ memory | inr other ↦ absurd (profile_no_fault bytes draft fault profile (wrong other)) ]
+    elim (memory_or_not fault) [
+      | inl memory ↦ memory
+      | inr other ↦ absurd (profile_no_fault bytes draft fault profile (wrong other))
+    ]
 
 pub every_fault : (bytes : List ℕ) (result : Result Draft ProfileFault) → IfOk result (λ draft. IsProfile bytes draft)
-    → IfErr result (λ fault. fault ≢ NoMemory → IsProfileFault bytes fault) → (first : ProfileFault) → IsProfileFault bytes first
+    → IfErr result (λ fault. fault ≢ NoMemory → IsProfileFault bytes fault)
+    → (first : ProfileFault) → IsProfileFault bytes first
     → MatchResult result (λ read. ⊥) (λ fault. (fault ≡ NoMemory) ⊎ (fault ≡ first))
 every_fault bytes (Ok read) is wrong first faulty = profile_no_fault bytes read first is faulty
 every_fault bytes (Err fault) is wrong first faulty =
-    elim (memory_or_not fault) [ inl memory ↦ inl memory | inr other ↦ inr (profile_fault_once bytes fault first (wrong other) faulty) ]
+    elim (memory_or_not fault) [
+      | inl memory ↦ inl memory
+      | inr other ↦ inr (profile_fault_once bytes fault first (wrong other) faulty)
+    ]

@@ -1,5 +1,6 @@
 -- What is written is read back.
-use Rattle.std.proofs.Common.{◌≡◌, ℕ, zero, suc, ℤ, pos, ◌<◌, ◌^◌, Bool, true, false, List, [], ◌∷◌, ◌++◌, length, map, refl, sym, ap, ◌∙◌, subst, append_assoc, arith, Result, Ok, w64, FitsSigned}
+use Rattle.std.proofs.Common.{◌≡◌, ℕ, zero, suc, ℤ, pos, ◌<◌, ◌^◌, Bool, true, false, List, [], ◌∷◌, ◌++◌, length, map}
+use Rattle.std.proofs.Common.{refl, sym, ap, ◌∙◌, subst, append_assoc, arith, Result, Ok, w64, FitsSigned}
 use Rattle.std.proofs.lemmas.List.{append-nil}
 use Rattle.std.proofs.lemmas.List.Concat.{flat_map-append}
 use Rattle.std.proofs.lemmas.Int.{ints, to_z-of_z}
@@ -12,7 +13,8 @@ use Rattle.pprof_wire.proofs.ListLaws.{written_back}
 use Rattle.pprof_profile.specs.declared.faults.ProfileFault.{ProfileFault}
 use Rattle.pprof_profile.specs.Reading.{Table, Spells, IsUnpacked}
 use Rattle.pprof_profile.specs.Messages.{flag_of}
-use Rattle.pprof_profile.specs.Canonical.{bytes_of_fields, number_fields, content_fields, each_field, packed_bytes, number_of_flag}
+use Rattle.pprof_profile.specs.Canonical.{bytes_of_fields, number_fields, content_fields, each_field, packed_bytes}
+use Rattle.pprof_profile.specs.Canonical.{number_of_flag}
 use Rattle.pprof_profile.proofs.Gathering.{one_spelled, spells_joined}
 use Rattle.pprof_profile.proofs.Once.{numbers_once}
 
@@ -20,7 +22,8 @@ use Rattle.pprof_profile.proofs.Once.{numbers_once}
 abbrev pub Piece : {M : Type 0} → Table M → M → List PlainField → M → Type 0
 Piece table old fields new = Spells table old (bytes_of_fields fields) new
 
-pub pieces_joined : {M : Type 0} (table : Table M) (old mid new : M) (fs gs : List PlainField) → Piece table old fs mid → Piece table mid gs new → Piece table old (fs ++ gs) new
+pub pieces_joined : {M : Type 0} (table : Table M) (old mid new : M) (fs gs : List PlainField)
+    → Piece table old fs mid → Piece table mid gs new → Piece table old (fs ++ gs) new
 pieces_joined table old mid new fs gs left right =
     subst (λ (bytes : List ℕ). Spells table old bytes new) (sym (flat_map-append field_bytes_of fs gs))
     (spells_joined table old mid new (bytes_of_fields fs) (bytes_of_fields gs) left right)
@@ -28,33 +31,44 @@ pieces_joined table old mid new fs gs left right =
 no_piece : {M : Type 0} (table : Table M) (old new : M) → new ≡ old → Piece table old [] new
 no_piece table old new same = record { fields = []; listed = refl; gathered = same }
 
-one_piece : {M : Type 0} (table : Table M) (old new : M) (field : PlainField) → IsFieldNumber field.number → FitsValue field.value
+one_piece : {M : Type 0} (table : Table M) (old new : M) (field : PlainField)
+    → IsFieldNumber field.number → FitsValue field.value
     → table old field.number field.value (Ok new) → Piece table old (field ∷ []) new
 one_piece table old new field numbered fits step =
     subst (λ (bytes : List ℕ). Spells table old bytes new) (sym (append-nil (field_bytes_of field)))
     (one_spelled table old new (field_bytes_of field) field (written_back field numbered fits) step)
 
-pub number_piece : {M : Type 0} (table : Table M) (old new : M) (number value : ℕ) → IsFieldNumber number → value < 2 ^ 64
-    → table old number (varint value) (Ok new) → (value ≡ 0 → new ≡ old) → Piece table old (number_fields number value) new
+pub number_piece : {M : Type 0} (table : Table M) (old new : M) (number value : ℕ)
+    → IsFieldNumber number → value < 2 ^ 64
+    → table old number (varint value) (Ok new)
+    → (value ≡ 0 → new ≡ old) → Piece table old (number_fields number value) new
 number_piece table old new number zero numbered fits step absent = no_piece table old new (absent refl)
 number_piece table old new number (suc less) numbered fits step absent =
     one_piece table old new (record { number = number; value = varint (suc less) }) numbered fits step
 
-pub content_piece : {M : Type 0} (table : Table M) (old new : M) (number : ℕ) (bytes : List ℕ) → IsFieldNumber number → length bytes < 2 ^ 64
-    → table old number (content bytes) (Ok new) → (bytes ≡ [] → new ≡ old) → Piece table old (content_fields number bytes) new
+pub content_piece : {M : Type 0} (table : Table M) (old new : M) (number : ℕ) (bytes : List ℕ)
+    → IsFieldNumber number → length bytes < 2 ^ 64
+    → table old number (content bytes) (Ok new)
+    → (bytes ≡ [] → new ≡ old) → Piece table old (content_fields number bytes) new
 content_piece table old new number [] numbered fits step absent = no_piece table old new (absent refl)
 content_piece table old new number (byte ∷ bytes) numbered fits step absent =
     one_piece table old new (record { number = number; value = content (byte ∷ bytes) }) numbered fits step
 
-pub each_piece : {M A : Type 0} (table : Table M) (with : List A → M) (Good : A → Type 0) (number : ℕ) (bytes_of : A → List ℕ) → IsFieldNumber number
-    → ((xs : List A) (item : A) → Good item → table (with xs) number (content (bytes_of item)) (Ok (with (xs ++ item ∷ []))))
+pub each_piece : {M A : Type 0} (table : Table M)
+    (with : List A → M) (Good : A → Type 0) (number : ℕ) (bytes_of : A → List ℕ) → IsFieldNumber number
+    → ((xs : List A) (item : A)
+    → Good item → table (with xs) number (content (bytes_of item)) (Ok (with (xs ++ item ∷ []))))
     → ((item : A) → Good item → length (bytes_of item) < 2 ^ 64)
-    → (xs items : List A) → AllByRecursion Good items → Piece table (with xs) (each_field number (map bytes_of items)) (with (xs ++ items))
-each_piece table with Good number bytes_of numbered step short xs [] good = no_piece table (with xs) (with (xs ++ [])) (ap with (append-nil xs))
+    → (xs items : List A) → AllByRecursion Good items
+    → Piece table (with xs) (each_field number (map bytes_of items)) (with (xs ++ items))
+each_piece table with Good number bytes_of numbered step short xs [] good =
+    no_piece table (with xs) (with (xs ++ [])) (ap with (append-nil xs))
 each_piece {A = A} table with Good number bytes_of numbered step short xs (item ∷ items) good =
     let field : PlainField = record { number = number; value = content (bytes_of item) } in
-    subst (λ (ys : List A). Piece table (with xs) (each_field number (map bytes_of (item ∷ items))) (with ys)) (append_assoc xs (item ∷ []) items)
-    (pieces_joined table (with xs) (with (xs ++ item ∷ [])) (with ((xs ++ item ∷ []) ++ items)) (field ∷ []) (each_field number (map bytes_of items))
+    subst (λ (ys : List A). Piece table (with xs) (each_field number (map bytes_of (item ∷ items))) (with ys))
+    (append_assoc xs (item ∷ []) items)
+    (pieces_joined table (with xs) (with (xs ++ item ∷ []))
+    (with ((xs ++ item ∷ []) ++ items)) (field ∷ []) (each_field number (map bytes_of items))
     (one_piece table (with xs) (with (xs ++ item ∷ [])) field numbered (short item good.0) (step xs item good.0))
     (each_piece table with Good number bytes_of numbered step short (xs ++ item ∷ []) items good.1))
 
@@ -83,26 +97,43 @@ flag_below false = omega arith
 
 -- ---- packed numbers
 
-numbers_listed : {A : Type 0} (to : A → ℕ) (Good : A → Type 0) → ((item : A) → Good item → to item < 2 ^ 64) → (items : List A) → AllByRecursion Good items
+numbers_listed : {A : Type 0} (to : A → ℕ) (Good : A → Type 0)
+    → ((item : A) → Good item → to item < 2 ^ 64) → (items : List A) → AllByRecursion Good items
     → IsNumberList (packed_bytes (map to items)) (map to items)
 numbers_listed to Good below [] good = refl
-numbers_listed to Good below (item ∷ items) good =
-    (varint_of (to item), packed_bytes (map to items), refl, varint_of-spells (to item) (below item good.0), numbers_listed to Good below items good.1)
+numbers_listed to Good below (item ∷ items) good = (
+  varint_of (to item),
+  packed_bytes (map to items),
+  refl,
+  varint_of-spells (to item) (below item good.0),
+  numbers_listed to Good below items good.1,
+)
 
-mapped_back : {A : Type 0} (from : ℕ → A) (to : A → ℕ) (Good : A → Type 0) → ((item : A) → Good item → item ≡ from (to item)) → (items : List A)
+mapped_back : {A : Type 0} (from : ℕ → A) (to : A → ℕ) (Good : A → Type 0)
+    → ((item : A) → Good item → item ≡ from (to item)) → (items : List A)
     → AllByRecursion Good items → items ≡ map from (map to items)
 mapped_back from to Good back [] good = refl
 mapped_back {A = A} from to Good back (item ∷ items) good =
-    ap (λ (x : A). x ∷ items) (back item good.0) ∙ ap (λ (xs : List A). from (to item) ∷ xs) (mapped_back from to Good back items good.1)
+    ap (λ (x : A). x ∷ items) (back item good.0)
+    ∙ ap (λ (xs : List A). from (to item) ∷ xs) (mapped_back from to Good back items good.1)
 
-pub unpacked_back : {A : Type 0} (from : ℕ → A) (to : A → ℕ) (Good : A → Type 0) → ((item : A) → Good item → to item < 2 ^ 64)
-    → ((item : A) → Good item → item ≡ from (to item)) → (items : List A) → AllByRecursion Good items → IsUnpacked from [] (packed_bytes (map to items)) items
+pub unpacked_back : {A : Type 0} (from : ℕ → A) (to : A → ℕ) (Good : A → Type 0)
+    → ((item : A) → Good item → to item < 2 ^ 64)
+    → ((item : A) → Good item → item ≡ from (to item))
+    → (items : List A) → AllByRecursion Good items → IsUnpacked from [] (packed_bytes (map to items)) items
 unpacked_back from to Good below back items good =
-    record { numbers = map to items; listed = numbers_listed to Good below items good; appended = mapped_back from to Good back items good }
+    record {
+      numbers = map to items;
+      listed =
+          numbers_listed to Good below items good;
+      appended = mapped_back from to Good back items good;
+    }
 
-pub none_unpacked : {A : Type 0} (from : ℕ → A) (bytes : List ℕ) (items : List A) → IsUnpacked from [] bytes items → bytes ≡ [] → items ≡ []
+pub none_unpacked : {A : Type 0} (from : ℕ → A) (bytes : List ℕ) (items : List A)
+    → IsUnpacked from [] bytes items → bytes ≡ [] → items ≡ []
 none_unpacked {A = A} from bytes items unpacked empty =
     let one : Result (List A) ProfileFault = Ok items in
     let other : Result (List A) ProfileFault = Ok [] in
-    let both : one ≡ other = numbers_once from [] (content []) one other (subst (λ (xs : List ℕ). IsUnpacked from [] xs items) empty unpacked)
+    let both : one ≡ other = numbers_once from []
+    (content []) one other (subst (λ (xs : List ℕ). IsUnpacked from [] xs items) empty unpacked)
     (record { numbers = []; listed = refl; appended = refl }) in cc both

@@ -7,7 +7,8 @@ use Rattle.pprof_wire.proofs.ShortestVarints.{varint_of-spells}
 use Rattle.pprof_profile.specs.declared.messages.ValueType.{ValueType}
 use Rattle.pprof_profile.specs.declared.messages.Sample.{Sample}
 use Rattle.pprof_profile.specs.Reading.{Gathers, Spells}
-use Rattle.pprof_profile.specs.Messages.{signed_of, no_value_type, value_type_table, no_sample, sample_table, no_draft, draft_table}
+use Rattle.pprof_profile.specs.Messages.{signed_of, no_value_type, value_type_table, no_sample, sample_table, no_draft}
+use Rattle.pprof_profile.specs.Messages.{draft_table}
 use Rattle.pprof_profile.specs.ByFields.{values_at, last_or, IsOneMessage, AreAllMessages, IsValueTypeOf, IsSampleOf}
 
 abbrev number_field : ℕ → ℕ → PlainField
@@ -60,19 +61,30 @@ kind_and_unit = record { kind = pos 1; unit = pos 2 }
 
 kind_listed : IsFieldList (8 ∷ 1 ∷ []) kind_piece
 unfolding varint_of
-kind_listed =
-    (8 ∷ 1 ∷ [], [], refl, written_back (number_field 1 1) (record { least = omega arith; most = omega arith }) (omega arith), refl)
+kind_listed = (
+  8 ∷ 1 ∷ [],
+  [],
+  refl,
+  written_back (number_field 1 1) (record { least = omega arith; most = omega arith }) (omega arith),
+  refl,
+)
 
 unit_listed : IsFieldList (16 ∷ 2 ∷ []) unit_piece
 unfolding varint_of
-unit_listed =
-    (16 ∷ 2 ∷ [], [], refl, written_back (number_field 2 2) (record { least = omega arith; most = omega arith }) (omega arith), refl)
+unit_listed = (
+  16 ∷ 2 ∷ [],
+  [],
+  refl,
+  written_back (number_field 2 2) (record { least = omega arith; most = omega arith }) (omega arith),
+  refl,
+)
 
 kind_spelled : Spells value_type_table no_value_type (8 ∷ 1 ∷ []) kind_alone
 kind_spelled = record { fields = kind_piece; listed = kind_listed; gathered = (kind_alone, (refl, refl), refl) }
 
 unit_spelled_behind : Spells value_type_table kind_alone (16 ∷ 2 ∷ []) kind_and_unit
-unit_spelled_behind = record { fields = unit_piece; listed = unit_listed; gathered = (kind_and_unit, (refl, refl), refl) }
+unit_spelled_behind =
+    record { fields = unit_piece; listed = unit_listed; gathered = (kind_and_unit, (refl, refl), refl) }
 
 pieces_are_taken_together : Gathers draft_table no_draft two_pieces (record no_draft { period_type = kind_and_unit })
 pieces_are_taken_together = (
@@ -113,13 +125,24 @@ three = record no_sample { values = pos 3 ∷ [] }
 
 packed_listed : IsFieldList (18 ∷ 1 ∷ 7 ∷ []) packed_value
 unfolding varint_of
-packed_listed =
-    (18 ∷ 1 ∷ 7 ∷ [], [], refl, written_back (content_field 2 (7 ∷ [])) (record { least = omega arith; most = omega arith }) (omega arith), refl)
+packed_listed = (
+  18 ∷ 1 ∷ 7 ∷ [],
+  [],
+  refl,
+  written_back
+      (content_field 2 (7 ∷ [])) (record { least = omega arith; most = omega arith }) (omega arith),
+  refl,
+)
 
 single_listed : IsFieldList (16 ∷ 3 ∷ []) single_value
 unfolding varint_of
-single_listed =
-    (16 ∷ 3 ∷ [], [], refl, written_back (number_field 2 3) (record { least = omega arith; most = omega arith }) (omega arith), refl)
+single_listed = (
+  16 ∷ 3 ∷ [],
+  [],
+  refl,
+  written_back (number_field 2 3) (record { least = omega arith; most = omega arith }) (omega arith),
+  refl,
+)
 
 seven_listed : IsNumberList (7 ∷ []) (7 ∷ [])
 unfolding varint_of
@@ -136,7 +159,8 @@ seven_spelled =
 three_spelled : Spells sample_table no_sample (16 ∷ 3 ∷ []) three
 three_spelled = record { fields = single_value; listed = single_listed; gathered = (three, (refl, refl), refl) }
 
-samples_in_order : Gathers draft_table no_draft two_samples (record no_draft { samples = seven ∷ three ∷ []; period = pos 5 })
+samples_in_order : Gathers draft_table no_draft two_samples
+    (record no_draft { samples = seven ∷ three ∷ []; period = pos 5 })
 samples_in_order = (
   record no_draft { samples = seven ∷ [] },
   (record { item = seven; spelled = seven_spelled; appended = refl }, refl),

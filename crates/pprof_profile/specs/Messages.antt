@@ -9,7 +9,8 @@ use Rattle.pprof_profile.specs.declared.messages.Function.{Function}
 use Rattle.pprof_profile.specs.declared.messages.Location.{Location}
 use Rattle.pprof_profile.specs.declared.messages.Sample.{Sample}
 use Rattle.pprof_profile.specs.declared.messages.Draft.{Draft}
-use Rattle.pprof_profile.specs.Reading.{Table, SetsNumber, AddsNumbers, AddsText, AddsMessage, MergesMessage, At, Where, IsSkipped}
+use Rattle.pprof_profile.specs.Reading.{Table, SetsNumber, AddsNumbers, AddsText, AddsMessage, MergesMessage, At, Where}
+use Rattle.pprof_profile.specs.Reading.{IsSkipped}
 
 -- Of the number of a varint: an `uint64` is the number itself, an `int64` its two's complement, and a `bool` is true
 -- where the number is not 0.

@@ -5,7 +5,8 @@ use Rattle.std.specs.Str.{IsUtf8}
 use Rattle.pprof_wire.specs.declared.faults.WireFault.{WireFault}
 use Rattle.pprof_wire.specs.declared.faults.WireFault.TheVariants.{WireType}
 use Rattle.pprof_wire.specs.Varints.{IsVarintFault, IsNumberList}
-use Rattle.pprof_wire.specs.Fields.{FieldValue, varint, fixed64, fixed32, content, PlainField, IsFieldSpelling, IsFieldList, IsRestFault}
+use Rattle.pprof_wire.specs.Fields.{FieldValue, varint, fixed64, fixed32, content, PlainField, IsFieldSpelling}
+use Rattle.pprof_wire.specs.Fields.{IsFieldList, IsRestFault}
 use Rattle.pprof_profile.specs.declared.faults.ProfileFault.{ProfileFault}
 use Rattle.pprof_profile.specs.declared.faults.ProfileFault.TheVariants.{Wire, NotUtf8}
 

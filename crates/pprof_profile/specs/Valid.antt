@@ -1,8 +1,11 @@
 -- What makes a draft valid (profile.proto, the comments of message Profile and of the messages in it).
-use Rattle.std.specs.Prelude.{◌≡◌, ℕ, ℤ, pos, negsuc, Bool, true, false, not, ◌&&◌, ◌||◌, ◌==◌, nat_eq, nat_lt, cond, List, [], ◌∷◌, length, map, Option, Some, None}
+use Rattle.std.specs.Prelude.{◌≡◌, ℕ, ℤ, pos, negsuc, Bool, true, false, not, ◌&&◌, ◌||◌, ◌==◌, nat_eq, nat_lt, cond}
+use Rattle.std.specs.Prelude.{List, [], ◌∷◌, length, map, Option, Some, None}
 use Rattle.std.specs.List.{list_all, list_any}
 use Rattle.pprof_profile.specs.declared.faults.ProfileFault.{ProfileFault}
-use Rattle.pprof_profile.specs.declared.faults.ProfileFault.TheVariants.{NoStrings, FirstString, StringIndex, ZeroId, DoubleId, NoLocation, NoMapping, NoFunction, ValueCount}
+use Rattle.pprof_profile.specs.declared.faults.ProfileFault.TheVariants.{NoStrings, FirstString, StringIndex, ZeroId}
+use Rattle.pprof_profile.specs.declared.faults.ProfileFault.TheVariants.{DoubleId, NoLocation, NoMapping, NoFunction}
+use Rattle.pprof_profile.specs.declared.faults.ProfileFault.TheVariants.{ValueCount}
 use Rattle.pprof_profile.specs.declared.messages.ValueType.{ValueType}
 use Rattle.pprof_profile.specs.declared.messages.Line.{Line}
 use Rattle.pprof_profile.specs.declared.messages.Label.{Label}

@@ -1,5 +1,6 @@
 -- Laws of fields as lists of bytes.
-use Rattle.std.proofs.Common.{◌≡◌, ℕ, ◌+◌, ◌*◌, ◌/◌, ◌^◌, ◌<◌, ◌≤◌, ◌⊎◌, List, [], ◌∷◌, ◌++◌, length, take, drop, refl, sym, ap, ◌∙◌, arith, length-append, subst, inl, inr, append_assoc, bit_and, lit<}
+use Rattle.std.proofs.Common.{◌≡◌, ℕ, ◌+◌, ◌*◌, ◌/◌, ◌^◌, ◌<◌, ◌≤◌, ◌⊎◌, List, [], ◌∷◌, ◌++◌, length, take, drop, refl}
+use Rattle.std.proofs.Common.{sym, ap, ◌∙◌, arith, length-append, subst, inl, inr, append_assoc, bit_and, lit<}
 use Rattle.std.proofs.lemmas.List.{length-take-le, take-append-drop}
 use Rattle.std.proofs.lemmas.Nat.{and_mask}
 use Rattle.std.proofs.Math.Seq.{take-add}
@@ -8,11 +9,14 @@ use Rattle.pprof_wire.specs.declared.faults.WireFault.TheVariants.{Truncated, Lo
 use Rattle.pprof_wire.specs.Varints.{IsVarint, IsVarintFault, IsLongVarint}
 use Rattle.std.specs.Int.{w32, w64, from_le_bytes}
 use Rattle.pprof_wire.proofs.VarintLaws.{varint_once, varint_no_fault, varint_fault_once, cut_not_long}
-use Rattle.pprof_wire.specs.Fields.{FieldValue, varint, fixed64, fixed32, content, PlainField, IsDelimited, IsCutDelimited, IsFieldNumber, wire_type_of, IsValueSpelling, IsFieldSpelling, BeginsWithTag, IsCutValue, IsLongValue, IsTagFault, IsFrontFault}
+use Rattle.pprof_wire.specs.Fields.{FieldValue, varint, fixed64, fixed32, content, PlainField, IsDelimited}
+use Rattle.pprof_wire.specs.Fields.{IsCutDelimited, IsFieldNumber, wire_type_of, IsValueSpelling, IsFieldSpelling}
+use Rattle.pprof_wire.specs.Fields.{BeginsWithTag, IsCutValue, IsLongValue, IsTagFault, IsFrontFault}
 
 -- ---- what was read
 
-pub delimited_read : (bytes : List ℕ) (count prefix : ℕ) (rest inner : List ℕ) → IsVarint (take prefix bytes) count → rest ≡ drop prefix bytes
+pub delimited_read : (bytes : List ℕ) (count prefix : ℕ) (rest inner : List ℕ)
+    → IsVarint (take prefix bytes) count → rest ≡ drop prefix bytes
     → inner ≡ take count rest → count ≤ length rest → IsDelimited (take (prefix + length inner) bytes) inner
 delimited_read bytes count prefix rest inner spelled rest-is inner-is enough =
     let len : length inner ≡ count = ap length inner-is ∙ length-take-le count rest enough in
@@ -28,7 +32,8 @@ tag-parts tag number e = rw (and_mask tag 3) (omega arith)
 tag-low : (tag : ℕ) → bit_and tag 7 < 8
 tag-low tag = rw (and_mask tag 3) (omega arith)
 
-begins : (bytes : List ℕ) (len tag number : ℕ) → IsVarint (take len bytes) tag → number ≡ tag / 8 → BeginsWithTag bytes number (bit_and tag 7) (drop len bytes)
+begins : (bytes : List ℕ) (len tag number : ℕ)
+    → IsVarint (take len bytes) tag → number ≡ tag / 8 → BeginsWithTag bytes number (bit_and tag 7) (drop len bytes)
 begins bytes len tag number spelled e =
     record {
       tag = take len bytes;
@@ -37,18 +42,29 @@ begins bytes len tag number spelled e =
       low = tag-low tag;
     }
 
-pub number_fault : (fault : WireFault) (bytes : List ℕ) (len tag : ℕ) → IsVarint (take len bytes) tag → fault ≡ FieldNumber
+pub number_fault : (fault : WireFault) (bytes : List ℕ) (len tag : ℕ)
+    → IsVarint (take len bytes) tag → fault ≡ FieldNumber
     → (tag / 8 ≡ 0) ⊎ (2 ^ 29 ≤ tag / 8) → IsFrontFault fault bytes
 number_fault fault bytes len tag spelled fault-is range =
     rw fault-is (inr (tag / 8, bit_and tag 7, drop len bytes, begins bytes len tag (tag / 8) spelled refl, range))
 
-pub value_fault : (fault : WireFault) (bytes : List ℕ) (len tag number : ℕ) (rest : List ℕ) → IsVarint (take len bytes) tag → IsFieldNumber number → number ≡ tag / 8
-    → rest ≡ drop len bytes → ((n : ℕ) → IsFieldNumber n → IsTagFault fault n (bit_and tag 7) rest) → IsFrontFault fault bytes
+pub value_fault : (fault : WireFault) (bytes : List ℕ) (len tag number : ℕ) (rest : List ℕ)
+    → IsVarint (take len bytes) tag → IsFieldNumber number → number ≡ tag / 8
+    → rest ≡ drop len bytes
+    → ((n : ℕ) → IsFieldNumber n → IsTagFault fault n (bit_and tag 7) rest) → IsFrontFault fault bytes
 value_fault fault bytes len tag number rest spelled numbered e rest-is faulty =
-    inr (number, bit_and tag 7, drop len bytes, begins bytes len tag number spelled e, subst (IsTagFault fault number (bit_and tag 7)) rest-is (faulty number numbered))
+    inr (
+      number,
+      bit_and tag 7,
+      drop len bytes,
+      begins bytes len tag number spelled e,
+      subst (IsTagFault fault number (bit_and tag 7)) rest-is (faulty number numbered),
+    )
 
-pub field_read : (bytes : List ℕ) (len tag number : ℕ) (rest : List ℕ) (more : ℕ) (value : FieldValue) → IsVarint (take len bytes) tag → IsFieldNumber number
-    → number ≡ tag / 8 → rest ≡ drop len bytes → bit_and tag 7 ≡ wire_type_of value → IsValueSpelling (take more rest) value
+pub field_read : (bytes : List ℕ) (len tag number : ℕ) (rest : List ℕ) (more : ℕ) (value : FieldValue)
+    → IsVarint (take len bytes) tag → IsFieldNumber number
+    → number ≡ tag / 8
+    → rest ≡ drop len bytes → bit_and tag 7 ≡ wire_type_of value → IsValueSpelling (take more rest) value
     → IsFieldSpelling (take (len + more) bytes) (record { number = number; value = value })
 field_read bytes len tag number rest more value spelled numbered e rest-is typed valued =
     record {
@@ -56,7 +72,8 @@ field_read bytes len tag number rest more value spelled numbered e rest-is typed
       rest = take more (drop len bytes);
       parts = take-add len more bytes;
       numbered = numbered;
-      tagged = subst (λ (n : ℕ). IsVarint (take len bytes) (8 * number + n)) typed (subst (IsVarint (take len bytes)) (tag-parts tag number e) spelled);
+      tagged = subst (λ (n : ℕ). IsVarint (take len bytes) (8 * number + n)) typed
+          (subst (IsVarint (take len bytes)) (tag-parts tag number e) spelled);
       valued = subst (λ (bs : List ℕ). IsValueSpelling (take more bs) value) rest-is valued;
     }
 
@@ -72,15 +89,23 @@ same_front (p ∷ a) (q ∷ b) x y len same =
     let rest = same_front a b x y shorter tail in
     (let head : p ≡ q = cc in cc (rest.0), rest.1)
 
-delimited_once : (a b x y c d : List ℕ) → IsDelimited a c → IsDelimited b d → a ++ x ≡ b ++ y → (a ≡ b) × (x ≡ y) × (c ≡ d)
+delimited_once : (a b x y c d : List ℕ)
+    → IsDelimited a c → IsDelimited b d → a ++ x ≡ b ++ y → (a ≡ b) × (x ≡ y) × (c ≡ d)
 delimited_once a b x y c d left right same =
     let whole : left.prefix ++ (c ++ x) ≡ right.prefix ++ (d ++ y) =
-    sym (append_assoc left.prefix c x) ∙ ap (λ (front : List ℕ). front ++ x) (sym left.parts) ∙ same ∙ ap (λ (front : List ℕ). front ++ y) right.parts ∙ append_assoc right.prefix d y in
-    let prefixes = varint_once left.prefix right.prefix (c ++ x) (d ++ y) (length c) (length d) left.spelled right.spelled whole in
-    let contents = same_front c d x y prefixes.2 prefixes.1 in
-    (left.parts ∙ ap (λ (front : List ℕ). front ++ c) prefixes.0 ∙ ap (λ (inner : List ℕ). right.prefix ++ inner) contents.0 ∙ sym right.parts, contents.1, contents.0)
+    sym (append_assoc left.prefix c x) ∙ ap (λ (front : List ℕ). front ++ x) (sym left.parts)
+    ∙ same ∙ ap (λ (front : List ℕ). front ++ y) right.parts ∙ append_assoc right.prefix d y in
+    let prefixes =
+    varint_once left.prefix right.prefix (c ++ x) (d ++ y) (length c) (length d) left.spelled right.spelled whole in
+    let contents = same_front c d x y prefixes.2 prefixes.1 in (
+      left.parts ∙ ap (λ (front : List ℕ). front ++ c) prefixes.0
+          ∙ ap (λ (inner : List ℕ). right.prefix ++ inner) contents.0 ∙ sym right.parts,
+      contents.1,
+      contents.0,
+    )
 
-value_once : (v w : FieldValue) (a b x y : List ℕ) → wire_type_of v ≡ wire_type_of w → IsValueSpelling a v → IsValueSpelling b w → a ++ x ≡ b ++ y
+value_once : (v w : FieldValue) (a b x y : List ℕ)
+    → wire_type_of v ≡ wire_type_of w → IsValueSpelling a v → IsValueSpelling b w → a ++ x ≡ b ++ y
     → (a ≡ b) × (x ≡ y) × (v ≡ w)
 value_once (varint m) (varint n) a b x y typed left right same =
     let once = varint_once a b x y m n left right same in (once.0, once.1, ap varint once.2)
@@ -118,43 +143,56 @@ tag_once m n s t p q e = (omega arith, omega arith)
 regrouped : (bytes tag rest after : List ℕ) → bytes ≡ tag ++ rest → bytes ++ after ≡ tag ++ (rest ++ after)
 regrouped bytes tag rest after parts = ap (λ (front : List ℕ). front ++ after) parts ∙ append_assoc tag rest after
 
-pub field_once : (a b x y : List ℕ) (f g : PlainField) → IsFieldSpelling a f → IsFieldSpelling b g → a ++ x ≡ b ++ y → (a ≡ b) × (x ≡ y) × (f ≡ g)
+pub field_once : (a b x y : List ℕ) (f g : PlainField)
+    → IsFieldSpelling a f → IsFieldSpelling b g → a ++ x ≡ b ++ y → (a ≡ b) × (x ≡ y) × (f ≡ g)
 field_once a b x y f g left right same =
     let whole : left.tag ++ (left.rest ++ x) ≡ right.tag ++ (right.rest ++ y) =
     sym (regrouped a left.tag left.rest x left.parts) ∙ same ∙ regrouped b right.tag right.rest y right.parts in
-    let tags = varint_once left.tag right.tag (left.rest ++ x) (right.rest ++ y) (8 * f.number + wire_type_of f.value) (8 * g.number + wire_type_of g.value) left.tagged right.tagged whole in
-    let parts = tag_once f.number g.number (wire_type_of f.value) (wire_type_of g.value) (low-type f.value) (low-type g.value) tags.2 in
+    let tags = varint_once left.tag right.tag (left.rest ++ x) (right.rest ++ y)
+    (8 * f.number + wire_type_of f.value) (8 * g.number + wire_type_of g.value) left.tagged right.tagged whole in
+    let parts = tag_once f.number g.number
+    (wire_type_of f.value) (wire_type_of g.value) (low-type f.value) (low-type g.value) tags.2 in
     let values = value_once f.value g.value left.rest right.rest x y parts.1 left.valued right.valued tags.1 in (
-      left.parts ∙ ap (λ (tag : List ℕ). tag ++ left.rest) tags.0 ∙ ap (λ (rest : List ℕ). right.tag ++ rest) values.0 ∙ sym right.parts,
+      left.parts ∙ ap (λ (tag : List ℕ). tag ++ left.rest) tags.0
+          ∙ ap (λ (rest : List ℕ). right.tag ++ rest) values.0 ∙ sym right.parts,
       values.1,
-      ap (λ (n : ℕ). record { number = n; value = f.value }) parts.0 ∙ ap (λ (v : FieldValue). record { number = g.number; value = v }) values.2,
+      ap (λ (n : ℕ). record { number = n; value = f.value }) parts.0
+          ∙ ap (λ (v : FieldValue). record { number = g.number; value = v }) values.2,
     )
 
 -- ---- a field at the front and a fault exclude one another
 
 not-numbered : (number : ℕ) → IsFieldNumber number → (number ≡ 0) ⊎ (2 ^ 29 ≤ number) → ⊥
-not-numbered number numbered range = elim range [ inl zero-is ↦ absurd (omega (arith, numbered.least)) | inr large ↦ absurd (omega (arith, numbered.most)) ]
+not-numbered number numbered range = elim range [
+  | inl zero-is ↦ absurd (omega (arith, numbered.least))
+  | inr large ↦ absurd (omega (arith, numbered.most))
+]
 
 not_cut_delimited : (a x c : List ℕ) → IsDelimited a c → IsCutDelimited (a ++ x) → ⊥
 not_cut_delimited a x c spelled cut =
-    let whole : spelled.prefix ++ (c ++ x) ≡ cut.prefix ++ cut.rest = sym (regrouped a spelled.prefix c x spelled.parts) ∙ cut.parts in
-    let once = varint_once spelled.prefix cut.prefix (c ++ x) cut.rest (length c) cut.count spelled.spelled cut.spelled whole in
+    let whole : spelled.prefix ++ (c ++ x) ≡ cut.prefix ++ cut.rest = sym (regrouped a spelled.prefix c x spelled.parts)
+    ∙ cut.parts in
+    let once = varint_once spelled.prefix cut.prefix
+    (c ++ x) cut.rest (length c) cut.count spelled.spelled cut.spelled whole in
     absurd (omega (arith, length-append c x, ap length once.1, once.2, cut.short))
 
 not_varint_fault : (fault : WireFault) (a x c : List ℕ) → IsDelimited a c → IsVarintFault fault (a ++ x) → ⊥
 not_varint_fault fault a x c spelled faulty =
-    varint_no_fault fault spelled.prefix (c ++ x) (length c) spelled.spelled (subst (IsVarintFault fault) (regrouped a spelled.prefix c x spelled.parts) faulty)
+    varint_no_fault fault spelled.prefix (c ++ x)
+    (length c) spelled.spelled (subst (IsVarintFault fault) (regrouped a spelled.prefix c x spelled.parts) faulty)
 
 value_not_cut : (v : FieldValue) (a x : List ℕ) → IsValueSpelling a v → IsCutValue (wire_type_of v) (a ++ x) → ⊥
 value_not_cut (varint n) a x spelled (inl (inl p)) = varint_no_fault Truncated a x n spelled p.1
 value_not_cut (varint n) a x spelled (inl (inr p)) = absurd (omega (arith, p.0))
 value_not_cut (varint n) a x spelled (inr (inl p)) = absurd (omega (arith, p.0))
 value_not_cut (varint n) a x spelled (inr (inr p)) = absurd (omega (arith, p.0))
-value_not_cut (fixed64 n) a x spelled (inl (inl p)) = elim (p.0) [ inl e ↦ absurd (omega (arith, e)) | inr e ↦ absurd (omega (arith, e)) ]
+value_not_cut (fixed64 n) a x spelled (inl (inl p)) =
+    elim (p.0) [ inl e ↦ absurd (omega (arith, e)) | inr e ↦ absurd (omega (arith, e)) ]
 value_not_cut (fixed64 n) a x spelled (inl (inr p)) = absurd (omega (arith, p.0))
 value_not_cut (fixed64 n) a x spelled (inr (inl p)) = absurd (omega (arith, p.1, spelled.0, length-append a x))
 value_not_cut (fixed64 n) a x spelled (inr (inr p)) = absurd (omega (arith, p.0))
-value_not_cut (fixed32 n) a x spelled (inl (inl p)) = elim (p.0) [ inl e ↦ absurd (omega (arith, e)) | inr e ↦ absurd (omega (arith, e)) ]
+value_not_cut (fixed32 n) a x spelled (inl (inl p)) =
+    elim (p.0) [ inl e ↦ absurd (omega (arith, e)) | inr e ↦ absurd (omega (arith, e)) ]
 value_not_cut (fixed32 n) a x spelled (inl (inr p)) = absurd (omega (arith, p.0))
 value_not_cut (fixed32 n) a x spelled (inr (inl p)) = absurd (omega (arith, p.0))
 value_not_cut (fixed32 n) a x spelled (inr (inr p)) = absurd (omega (arith, p.1, spelled.0, length-append a x))
@@ -165,8 +203,10 @@ value_not_cut (content c) a x spelled (inr (inr p)) = absurd (omega (arith, p.0)
 
 value_not_long : (v : FieldValue) (a x : List ℕ) → IsValueSpelling a v → IsLongValue (wire_type_of v) (a ++ x) → ⊥
 value_not_long (varint n) a x spelled p = varint_no_fault LongVarint a x n spelled p.1
-value_not_long (fixed64 n) a x spelled p = elim (p.0) [ inl e ↦ absurd (omega (arith, e)) | inr e ↦ absurd (omega (arith, e)) ]
-value_not_long (fixed32 n) a x spelled p = elim (p.0) [ inl e ↦ absurd (omega (arith, e)) | inr e ↦ absurd (omega (arith, e)) ]
+value_not_long (fixed64 n) a x spelled p =
+    elim (p.0) [ inl e ↦ absurd (omega (arith, e)) | inr e ↦ absurd (omega (arith, e)) ]
+value_not_long (fixed32 n) a x spelled p =
+    elim (p.0) [ inl e ↦ absurd (omega (arith, e)) | inr e ↦ absurd (omega (arith, e)) ]
 value_not_long (content c) a x spelled p = not_varint_fault LongVarint a x c spelled p.1
 
 value_not_group : (v : FieldValue) → (wire_type_of v ≡ 3) ⊎ (wire_type_of v ≡ 4) → ⊥
@@ -181,7 +221,8 @@ value_not_unused (fixed64 n) p = absurd (omega (arith, p))
 value_not_unused (fixed32 n) p = absurd (omega (arith, p))
 value_not_unused (content c) p = absurd (omega (arith, p))
 
-value_no_tag_fault : (fault : WireFault) (number : ℕ) (v : FieldValue) (a x : List ℕ) → IsFieldNumber number → IsValueSpelling a v
+value_no_tag_fault : (fault : WireFault) (number : ℕ) (v : FieldValue) (a x : List ℕ)
+    → IsFieldNumber number → IsValueSpelling a v
     → IsTagFault fault number (wire_type_of v) (a ++ x) → ⊥
 value_no_tag_fault FieldNumber number v a x numbered spelled faulty = not-numbered number numbered faulty
 value_no_tag_fault Group number v a x numbered spelled faulty = value_not_group v faulty.1
@@ -189,17 +230,21 @@ value_no_tag_fault WireType number v a x numbered spelled faulty = value_not_unu
 value_no_tag_fault Truncated number v a x numbered spelled faulty = value_not_cut v a x spelled faulty.1
 value_no_tag_fault LongVarint number v a x numbered spelled faulty = value_not_long v a x spelled faulty.1
 
-pub field_no_fault : (fault : WireFault) (a x : List ℕ) (f : PlainField) → IsFieldSpelling a f → IsFrontFault fault (a ++ x) → ⊥
+pub field_no_fault : (fault : WireFault) (a x : List ℕ) (f : PlainField)
+    → IsFieldSpelling a f → IsFrontFault fault (a ++ x) → ⊥
 field_no_fault fault a x f spelled (inl faulty) =
     varint_no_fault fault spelled.tag (spelled.rest ++ x) (8 * f.number + wire_type_of f.value) spelled.tagged
     (subst (IsVarintFault fault) (regrouped a spelled.tag spelled.rest x spelled.parts) faulty)
 field_no_fault fault a x f spelled (inr (number, wire_type, rest, begun, faulty)) =
-    let whole : begun.tag ++ rest ≡ spelled.tag ++ (spelled.rest ++ x) = sym begun.parts ∙ regrouped a spelled.tag spelled.rest x spelled.parts in
-    let tags = varint_once begun.tag spelled.tag rest (spelled.rest ++ x) (8 * number + wire_type) (8 * f.number + wire_type_of f.value) begun.tagged spelled.tagged whole in
+    let whole : begun.tag ++ rest ≡ spelled.tag ++ (spelled.rest ++ x) = sym begun.parts
+    ∙ regrouped a spelled.tag spelled.rest x spelled.parts in
+    let tags = varint_once begun.tag spelled.tag rest (spelled.rest ++ x)
+    (8 * number + wire_type) (8 * f.number + wire_type_of f.value) begun.tagged spelled.tagged whole in
     let parts = tag_once number f.number wire_type (wire_type_of f.value) begun.low (low-type f.value) tags.2 in
     let there : IsTagFault fault f.number (wire_type_of f.value) (spelled.rest ++ x) =
     subst (λ (n : ℕ). IsTagFault fault n (wire_type_of f.value) (spelled.rest ++ x)) parts.0
-    (subst (λ (t : ℕ). IsTagFault fault number t (spelled.rest ++ x)) parts.1 (subst (IsTagFault fault number wire_type) tags.1 faulty)) in
+    (subst (λ (t : ℕ). IsTagFault fault number t (spelled.rest ++ x)) parts.1
+    (subst (IsTagFault fault number wire_type) tags.1 faulty)) in
     value_no_tag_fault fault f.number f.value spelled.rest x spelled.numbered spelled.valued there
 
 -- ---- a rest has one fault
@@ -274,24 +319,31 @@ front_fault_once f g bytes (inl left) (inr (n, t, rest, begun, faulty)) =
 front_fault_once f g bytes (inr (n, t, rest, begun, faulty)) (inl right) =
     absurd (varint_no_fault g begun.tag rest (8 * n + t) begun.tagged (subst (IsVarintFault g) begun.parts right))
 front_fault_once f g bytes (inr (m, s, rest, begun, faulty)) (inr (n, t, other, too, wrong)) =
-    let tags = varint_once begun.tag too.tag rest other (8 * m + s) (8 * n + t) begun.tagged too.tagged (sym begun.parts ∙ too.parts) in
+    let tags = varint_once begun.tag too.tag rest other
+    (8 * m + s) (8 * n + t) begun.tagged too.tagged (sym begun.parts ∙ too.parts) in
     let parts = tag_once m n s t begun.low too.low tags.2 in
     let there : IsTagFault f n t other =
-    subst (λ (k : ℕ). IsTagFault f k t other) parts.0 (subst (λ (k : ℕ). IsTagFault f m k other) parts.1 (subst (IsTagFault f m s) tags.1 faulty)) in
+    subst (λ (k : ℕ). IsTagFault f k t other) parts.0
+    (subst (λ (k : ℕ). IsTagFault f m k other) parts.1 (subst (IsTagFault f m s) tags.1 faulty)) in
     tag_fault_once f g n t other there wrong
 
 -- ---- what was read is what stands there
 
-pub field_read_once : (bytes spelling rest after : List ℕ) (len : ℕ) (read field : PlainField) → IsFieldSpelling (take len bytes) read → after ≡ drop len bytes
+pub field_read_once : (bytes spelling rest after : List ℕ) (len : ℕ) (read field : PlainField)
+    → IsFieldSpelling (take len bytes) read → after ≡ drop len bytes
     → bytes ≡ spelling ++ rest → IsFieldSpelling spelling field → (read ≡ field) × (after ≡ rest)
 field_read_once bytes spelling rest after len read field found after-is same spelled =
-    let once = field_once (take len bytes) spelling (drop len bytes) rest read field found spelled (take-append-drop len bytes ∙ same) in
+    let once = field_once
+    (take len bytes) spelling (drop len bytes) rest read field found spelled (take-append-drop len bytes ∙ same) in
     (once.2, after-is ∙ once.1)
 
-pub field_read_no_fault : (fault : WireFault) (bytes : List ℕ) (len : ℕ) (read : PlainField) → IsFieldSpelling (take len bytes) read → IsFrontFault fault bytes → ⊥
+pub field_read_no_fault : (fault : WireFault) (bytes : List ℕ) (len : ℕ) (read : PlainField)
+    → IsFieldSpelling (take len bytes) read → IsFrontFault fault bytes → ⊥
 field_read_no_fault fault bytes len read found faulty =
-    field_no_fault fault (take len bytes) (drop len bytes) read found (subst (IsFrontFault fault) (sym (take-append-drop len bytes)) faulty)
+    field_no_fault fault (take len bytes)
+    (drop len bytes) read found (subst (IsFrontFault fault) (sym (take-append-drop len bytes)) faulty)
 
-pub field_fault_stands : (fault : WireFault) (bytes spelling rest : List ℕ) (field : PlainField) → IsFrontFault fault bytes → bytes ≡ spelling ++ rest → IsFieldSpelling spelling field → ⊥
+pub field_fault_stands : (fault : WireFault) (bytes spelling rest : List ℕ) (field : PlainField)
+    → IsFrontFault fault bytes → bytes ≡ spelling ++ rest → IsFieldSpelling spelling field → ⊥
 field_fault_stands fault bytes spelling rest field faulty same spelled =
     field_no_fault fault spelling rest field spelled (subst (IsFrontFault fault) same faulty)

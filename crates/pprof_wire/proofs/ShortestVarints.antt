@@ -1,5 +1,6 @@
 -- Laws of the shortest spelling of a number.
-use Rattle.std.proofs.Common.{◌≡◌, ℕ, zero, suc, ◌+◌, ◌*◌, ◌/◌, ◌%◌, ◌^◌, ◌<◌, ◌≤◌, List, [], ◌∷◌, ◌++◌, length, refl, sym, ap, ◌∙◌, arith, subst, inl, inr, append_assoc}
+use Rattle.std.proofs.Common.{◌≡◌, ℕ, zero, suc, ◌+◌, ◌*◌, ◌/◌, ◌%◌, ◌^◌, ◌<◌, ◌≤◌, List, [], ◌∷◌, ◌++◌, length, refl}
+use Rattle.std.proofs.Common.{sym, ap, ◌∙◌, arith, subst, inl, inr, append_assoc}
 use Rattle.std.proofs.lemmas.Bool.{cases_lt, lt-ltb, le-ltb}
 use Rattle.pprof_wire.specs.Varints.{IsGroups, number_of, IsVarint, groups_of, varint_of}
 use Rattle.pprof_wire.proofs.VarintLaws.{scale-suc}
@@ -8,7 +9,8 @@ groups_of-last : (more number : ℕ) → number < 128 → groups_of more number 
 groups_of-last zero number small = refl
 groups_of-last (suc more) number small = rw (lt-ltb number 128 small) refl
 
-groups_of-more : (more number : ℕ) → 128 ≤ number → groups_of (suc more) number ≡ (number % 128 + 128) ∷ groups_of more (number / 128)
+groups_of-more : (more number : ℕ)
+    → 128 ≤ number → groups_of (suc more) number ≡ (number % 128 + 128) ∷ groups_of more (number / 128)
 groups_of-more more number large = rw (le-ltb number 128 large) refl
 
 quotient-step : (number limit : ℕ) → number < 128 * limit → number / 128 < limit
@@ -16,7 +18,8 @@ quotient-step number limit below = omega arith
 
 -- a number of one group less
 quotient-below : (more number : ℕ) → number < 2 ^ (7 * suc (suc more)) → number / 128 < 2 ^ (7 * suc more)
-quotient-below more number below = quotient-step number (2 ^ (7 * suc more)) (subst (λ (limit : ℕ). number < limit) (scale-suc (suc more)) below)
+quotient-below more number below =
+    quotient-step number (2 ^ (7 * suc more)) (subst (λ (limit : ℕ). number < limit) (scale-suc (suc more)) below)
 
 IsGroups-cons : (byte : ℕ) (bytes : List ℕ) → 128 ≤ byte → IsGroups bytes → IsGroups (byte ∷ bytes)
 IsGroups-cons byte [] large groups = absurd groups
@@ -32,7 +35,8 @@ pub record Spells (bytes : List ℕ) (number most : ℕ) : Type 0 where
 last-spells : (more number : ℕ) → number < 128 → Spells (number ∷ []) number (suc more)
 last-spells more number small = record { groups = small; value = omega arith; short = omega arith }
 
-more-spells : (more number : ℕ) (rest : List ℕ) → Spells rest (number / 128) (suc more) → Spells ((number % 128 + 128) ∷ rest) number (suc (suc more))
+more-spells : (more number : ℕ) (rest : List ℕ)
+    → Spells rest (number / 128) (suc more) → Spells ((number % 128 + 128) ∷ rest) number (suc (suc more))
 more-spells more number rest spelled =
     record {
       groups = IsGroups-cons (number % 128 + 128) rest (omega arith) spelled.groups;
@@ -40,12 +44,14 @@ more-spells more number rest spelled =
       short = omega (arith, spelled.short);
     }
 
-pub groups_of-spells : (more number : ℕ) → number < 2 ^ (7 * suc more) → Spells (groups_of more number) number (suc more)
+pub groups_of-spells : (more number : ℕ)
+    → number < 2 ^ (7 * suc more) → Spells (groups_of more number) number (suc more)
 groups_of-spells zero number below = last-spells 0 number below
 groups_of-spells (suc more) number below =
     elim (cases_lt number 128) [
       | inl small ↦ rw (groups_of-last (suc more) number small) (last-spells (suc more) number small)
-      | inr large ↦ rw (groups_of-more more number large) (more-spells more number (groups_of more (number / 128)) (groups_of-spells more (number / 128) (quotient-below more number below)))
+      | inr large ↦ rw (groups_of-more more number large) (more-spells more number
+          (groups_of more (number / 128)) (groups_of-spells more (number / 128) (quotient-below more number below)))
     ]
 
 pub varint_of-spells : (number : ℕ) → number < 2 ^ 64 → IsVarint (varint_of number) number
@@ -62,18 +68,25 @@ one-group byte number e = omega arith
 rest-number : (byte number rest : ℕ) → number ≡ byte % 128 + 128 * rest → number / 128 ≡ rest
 rest-number byte number rest e = omega arith
 
-groups_of-shortest : (more number : ℕ) (bytes : List ℕ) → IsGroups bytes → number ≡ number_of bytes → length (groups_of more number) ≤ length bytes
+groups_of-shortest : (more number : ℕ) (bytes : List ℕ)
+    → IsGroups bytes → number ≡ number_of bytes → length (groups_of more number) ≤ length bytes
 groups_of-shortest more number [] groups value = absurd groups
 groups_of-shortest zero number (byte ∷ rest) groups value = omega arith
-groups_of-shortest (suc more) number (byte ∷ []) groups value = rw (groups_of-last (suc more) number (one-group byte number value)) (omega arith)
+groups_of-shortest (suc more) number (byte ∷ []) groups value =
+    rw (groups_of-last (suc more) number (one-group byte number value)) (omega arith)
 groups_of-shortest (suc more) number (byte ∷ next ∷ rest) groups value =
     elim (cases_lt number 128) [
       | inl small ↦ rw (groups_of-last (suc more) number small) (omega arith)
       | inr large ↦ rw (groups_of-more more number large)
-          (omega (arith, groups_of-shortest more (number / 128) (next ∷ rest) groups.1 (rest-number byte number (number_of (next ∷ rest)) value)))
+          (omega (
+            arith,
+            groups_of-shortest more
+                (number / 128) (next ∷ rest) groups.1 (rest-number byte number (number_of (next ∷ rest)) value),
+          ))
     ]
 
-pub varint_of-shortest : (bytes : List ℕ) (number : ℕ) → IsVarint bytes number → length (varint_of number) ≤ length bytes
+pub varint_of-shortest : (bytes : List ℕ) (number : ℕ)
+    → IsVarint bytes number → length (varint_of number) ≤ length bytes
 unfolding varint_of
 varint_of-shortest bytes number spelled = groups_of-shortest 9 number bytes spelled.groups spelled.value
 
@@ -112,8 +125,11 @@ next-step (suc more) rest below large =
     }
 
 pub next-left : (groups : List ℕ) (rest : ℕ) → IsLeft groups rest → 128 ≤ rest → IsNextLeft groups rest
-next-left groups rest left large = subst (λ (bytes : List ℕ). IsNextLeft bytes rest) (sym left.are) (next-step left.more rest left.below large)
+next-left groups rest left large =
+    subst (λ (bytes : List ℕ). IsNextLeft bytes rest) (sym left.are) (next-step left.more rest left.below large)
 
 -- a group that was written, before the others
-pub pushed_next : (items groups : List ℕ) (byte : ℕ) (others : List ℕ) → groups ≡ byte ∷ others → (items ++ byte ∷ []) ++ others ≡ items ++ groups
-pushed_next items groups byte others are = append_assoc items (byte ∷ []) others ∙ ap (λ (bytes : List ℕ). items ++ bytes) (sym are)
+pub pushed_next : (items groups : List ℕ) (byte : ℕ) (others : List ℕ)
+    → groups ≡ byte ∷ others → (items ++ byte ∷ []) ++ others ≡ items ++ groups
+pushed_next items groups byte others are = append_assoc items (byte ∷ []) others
+    ∙ ap (λ (bytes : List ℕ). items ++ bytes) (sym are)

@@ -1,12 +1,14 @@
 -- Laws of varints as lists of bytes.
-use Rattle.std.proofs.Common.{◌≡◌, ℕ, suc, ◌+◌, ◌*◌, ◌%◌, ◌^◌, ◌<◌, ◌≤◌, List, [], ◌∷◌, ◌++◌, length, take, drop, get_or, refl, sym, ap, ◌∙◌, arith, length-append, bit_and, lit<, subst, ◌⊎◌, inl, inr}
+use Rattle.std.proofs.Common.{◌≡◌, ℕ, suc, ◌+◌, ◌*◌, ◌%◌, ◌^◌, ◌<◌, ◌≤◌, List, [], ◌∷◌, ◌++◌, length, take, drop}
+use Rattle.std.proofs.Common.{get_or, refl, sym, ap, ◌∙◌, arith, length-append, bit_and, lit<, subst, ◌⊎◌, inl, inr}
 use Rattle.std.proofs.Math.Nat.{pow-le-pow_right}
 use Rattle.std.proofs.lemmas.Nat.{pow-add, and_mask, shl_whole, mul-add-lt}
 use Rattle.std.proofs.lemmas.List.{length-take-le, take_more, drop_more, take-append-drop, drop_all}
 use Rattle.std.proofs.lemmas.Bool.{cases_lt}
 use Rattle.pprof_wire.specs.declared.faults.WireFault.{WireFault}
 use Rattle.pprof_wire.specs.declared.faults.WireFault.TheVariants.{Truncated, LongVarint, FieldNumber, Group, WireType}
-use Rattle.pprof_wire.specs.Varints.{IsGroups, number_of, IsVarint, AllContinue, IsCutVarint, IsLongVarint, IsVarintFault}
+use Rattle.pprof_wire.specs.Varints.{IsGroups, number_of, IsVarint, AllContinue, IsCutVarint, IsLongVarint}
+use Rattle.pprof_wire.specs.Varints.{IsVarintFault}
 
 -- ---- one more byte at the end
 
@@ -25,13 +27,16 @@ scale-suc n =
     let e : 7 * suc n ≡ 7 + 7 * n = omega arith in
     rw (e, pow-add 2 7 (7 * n)) refl
 
-number_of-step : (first byte low scale : ℕ) → first + 128 * (low + byte * scale) ≡ first + 128 * low + byte * (128 * scale)
+number_of-step : (first byte low scale : ℕ)
+    → first + 128 * (low + byte * scale) ≡ first + 128 * low + byte * (128 * scale)
 number_of-step first byte low scale = omega arith
 
-pub number_of-snoc : (front : List ℕ) (byte : ℕ) → number_of (front ++ byte ∷ []) ≡ number_of front + byte % 128 * 2 ^ (7 * length front)
+pub number_of-snoc : (front : List ℕ) (byte : ℕ)
+    → number_of (front ++ byte ∷ []) ≡ number_of front + byte % 128 * 2 ^ (7 * length front)
 number_of-snoc [] byte = omega arith
 number_of-snoc (first ∷ rest) byte =
-    rw (number_of-snoc rest byte, scale-suc (length rest)) (number_of-step (first % 128) (byte % 128) (number_of rest) (2 ^ (7 * length rest)))
+    rw (number_of-snoc rest byte, scale-suc (length rest))
+    (number_of-step (first % 128) (byte % 128) (number_of rest) (2 ^ (7 * length rest)))
 
 below-step : (first low scale : ℕ) → first < 128 → low < scale → first + 128 * low < 128 * scale
 below-step first low scale p q = omega arith
@@ -39,55 +44,72 @@ below-step first low scale p q = omega arith
 pub number_of-below : (bytes : List ℕ) → number_of bytes < 2 ^ (7 * length bytes)
 number_of-below [] = lit< tt
 number_of-below (byte ∷ rest) =
-    rw (scale-suc (length rest)) (below-step (byte % 128) (number_of rest) (2 ^ (7 * length rest)) (omega arith) (number_of-below rest))
+    rw (scale-suc (length rest))
+    (below-step (byte % 128) (number_of rest) (2 ^ (7 * length rest)) (omega arith) (number_of-below rest))
 
 -- ---- the reader's arithmetic
 
-pub masked-shifted : (byte count : ℕ) → count < 9 → bit_and byte 127 * 2 ^ (7 * count) % 2 ^ 64 ≡ byte % 128 * 2 ^ (7 * count)
+pub masked-shifted : (byte count : ℕ)
+    → count < 9 → bit_and byte 127 * 2 ^ (7 * count) % 2 ^ 64 ≡ byte % 128 * 2 ^ (7 * count)
 masked-shifted byte count small =
     rw (and_mask byte 7, shl_whole (byte % 128) 7 (7 * count) 64 (omega arith) (omega arith)) refl
 
 more-below : (low group scale : ℕ) → low < scale → group < 128 → low + group * scale < 128 * scale
 more-below low group scale p q = omega (arith, mul-add-lt group scale low 128 q p)
 
-pub next-below : (low byte count : ℕ) → low < 2 ^ (7 * count) → low + byte % 128 * 2 ^ (7 * count) < 2 ^ (7 * (count + 1))
+pub next-below : (low byte count : ℕ)
+    → low < 2 ^ (7 * count) → low + byte % 128 * 2 ^ (7 * count) < 2 ^ (7 * (count + 1))
 next-below low byte count p =
     let e : count + 1 ≡ suc count = omega arith in
     rw (e, scale-suc count) (more-below low (byte % 128) (2 ^ (7 * count)) p (omega arith))
 
 pub nine-fit : (count : ℕ) → count ≤ 9 → 2 ^ (7 * count) ≤ 2 ^ 63
-nine-fit count small = let h : 7 * count ≤ 63 = omega arith in pow-le-pow_right {n = 2} (lit< tt) {i = 7 * count} {j = 63} h
+nine-fit count small =
+    let h : 7 * count ≤ 63 = omega arith in pow-le-pow_right {n = 2} (lit< tt) {i = 7 * count} {j = 63} h
 
 pub fits-nine : (bytes : List ℕ) → length bytes ≤ 9 → number_of bytes < 2 ^ 64
 fits-nine bytes short = omega (arith, number_of-below bytes, nine-fit (length bytes) short)
 
 -- the number so far has room for one more group
-pub group-fits : (number byte count : ℕ) → count < 9 → number < 2 ^ (7 * count) → number + bit_and byte 127 * 2 ^ (7 * count) % 2 ^ 64 < 2 ^ 64
+pub group-fits : (number byte count : ℕ)
+    → count < 9 → number < 2 ^ (7 * count) → number + bit_and byte 127 * 2 ^ (7 * count) % 2 ^ 64 < 2 ^ 64
 group-fits number byte count small below =
-    rw (masked-shifted byte count small) (omega (arith, next-below number byte count below, nine-fit (count + 1) (omega arith)))
+    rw (masked-shifted byte count small)
+    (omega (arith, next-below number byte count below, nine-fit (count + 1) (omega arith)))
 
 -- the number of one more byte
-more_value : (bytes : List ℕ) (count number : ℕ) → count < 9 → count < length bytes → number ≡ number_of (take count bytes)
+more_value : (bytes : List ℕ) (count number : ℕ)
+    → count < 9 → count < length bytes → number ≡ number_of (take count bytes)
     → number + bit_and (get_or bytes count 0) 127 * 2 ^ (7 * count) % 2 ^ 64 ≡ number_of (take (count + 1) bytes)
 more_value bytes count number small within value =
     let len : length (take count bytes) ≡ count = length-take-le count bytes (omega arith) in
-    rw (masked-shifted (get_or bytes count 0) count small, take_more bytes count 0 within, number_of-snoc (take count bytes) (get_or bytes count 0), len, ← value) refl
+    rw (
+      masked-shifted (get_or bytes count 0) count small,
+      take_more bytes count 0 within,
+      number_of-snoc (take count bytes) (get_or bytes count 0),
+      len,
+      ← value,
+    ) refl
 
 -- the last byte of a spelling
-pub more_spelled : (bytes : List ℕ) (count number : ℕ) → count < 9 → count < length bytes → AllContinue (take count bytes) → number ≡ number_of (take count bytes)
-    → get_or bytes count 0 < 128 → IsVarint (take (count + 1) bytes) (number + bit_and (get_or bytes count 0) 127 * 2 ^ (7 * count) % 2 ^ 64)
+pub more_spelled : (bytes : List ℕ) (count number : ℕ)
+    → count < 9 → count < length bytes → AllContinue (take count bytes) → number ≡ number_of (take count bytes)
+    → get_or bytes count 0 < 128
+    → IsVarint (take (count + 1) bytes) (number + bit_and (get_or bytes count 0) 127 * 2 ^ (7 * count) % 2 ^ 64)
 more_spelled bytes count number small within continued value last =
     let len : length (take (count + 1) bytes) ≡ count + 1 = length-take-le (count + 1) bytes (omega arith) in
     let is = more_value bytes count number small within value in
     record {
-      groups = rw (take_more bytes count 0 within) (IsGroups-snoc (take count bytes) (get_or bytes count 0) continued last);
+      groups =
+          rw (take_more bytes count 0 within) (IsGroups-snoc (take count bytes) (get_or bytes count 0) continued last);
       short = omega arith;
       value = is;
       fits = rw is (fits-nine (take (count + 1) bytes) (omega arith));
     }
 
 -- a byte of a spelling that isn't the last
-pub more_read : (bytes : List ℕ) (count number : ℕ) → count < 9 → count < length bytes → AllContinue (take count bytes) → number ≡ number_of (take count bytes)
+pub more_read : (bytes : List ℕ) (count number : ℕ)
+    → count < 9 → count < length bytes → AllContinue (take count bytes) → number ≡ number_of (take count bytes)
     → 128 ≤ get_or bytes count 0
     → AllContinue (take (count + 1) bytes)
     × (number + bit_and (get_or bytes count 0) 127 * 2 ^ (7 * count) % 2 ^ 64 ≡ number_of (take (count + 1) bytes))
@@ -97,18 +119,21 @@ more_read bytes count number small within continued value large =
     let is = more_value bytes count number small within value in (
       rw (take_more bytes count 0 within) (AllContinue-snoc (take count bytes) (get_or bytes count 0) continued large),
       is,
-      rw is (subst (λ (n : ℕ). number_of (take (count + 1) bytes) < 2 ^ (7 * n)) len (number_of-below (take (count + 1) bytes))),
+      rw is (subst
+          (λ (n : ℕ). number_of (take (count + 1) bytes) < 2 ^ (7 * n)) len (number_of-below (take (count + 1) bytes))),
     )
 
 -- nine bytes that say that another follows, before a tenth
-pub is_long : (bytes : List ℕ) (count : ℕ) → count ≤ 9 → 9 ≤ count → 9 < length bytes → AllContinue (take count bytes) → 1 < get_or bytes 9 0 → IsLongVarint bytes
+pub is_long : (bytes : List ℕ) (count : ℕ) → count ≤ 9
+    → 9 ≤ count → 9 < length bytes → AllContinue (take count bytes) → 1 < get_or bytes 9 0 → IsLongVarint bytes
 is_long bytes count most least within continued large =
     let nine : count ≡ 9 = omega arith in
     record {
       front = take 9 bytes;
       tenth = get_or bytes 9 0;
       rest = drop 10 bytes;
-      parts = sym (take-append-drop 9 bytes) ∙ ap (λ (rest : List ℕ). take 9 bytes ++ rest) (drop_more bytes 9 0 within);
+      parts = sym (take-append-drop 9 bytes)
+          ∙ ap (λ (rest : List ℕ). take 9 bytes ++ rest) (drop_more bytes 9 0 within);
       nine = length-take-le 9 bytes (omega arith);
       continued = subst (λ (n : ℕ). AllContinue (take n bytes)) nine continued;
       large = large;
@@ -136,7 +161,8 @@ groups_end (p ∷ []) x groups all = absurd (omega (arith, all.0))
 groups_end (p ∷ r ∷ as') x groups all = groups_end (r ∷ as') x groups.1 all.1
 
 -- a spelling doesn't end among bytes that say that another follows
-pub groups_past : (front a x : List ℕ) (byte : ℕ) (rest : List ℕ) → AllContinue front → IsGroups a → a ++ x ≡ front ++ byte ∷ rest
+pub groups_past : (front a x : List ℕ) (byte : ℕ) (rest : List ℕ)
+    → AllContinue front → IsGroups a → a ++ x ≡ front ++ byte ∷ rest
     → (more : List ℕ) × (a ≡ front ++ byte ∷ more)
 groups_past front [] x byte rest all groups same = absurd groups
 groups_past [] (p ∷ as') x byte rest all groups same = (as', let head : p ≡ byte = cc in cc)
@@ -147,7 +173,8 @@ groups_past (f ∷ front) (p ∷ r ∷ as') x byte rest all groups same =
     let more = groups_past front (r ∷ as') x byte rest all.1 groups.1 tail in
     (more.0, let head : p ≡ f = cc in cc (more.1))
 
-pub varint_once : (a b x y : List ℕ) (m n : ℕ) → IsVarint a m → IsVarint b n → a ++ x ≡ b ++ y → (a ≡ b) × (x ≡ y) × (m ≡ n)
+pub varint_once : (a b x y : List ℕ) (m n : ℕ)
+    → IsVarint a m → IsVarint b n → a ++ x ≡ b ++ y → (a ≡ b) × (x ≡ y) × (m ≡ n)
 varint_once a b x y m n left right same =
     let once = groups_once a b x y left.groups right.groups same in
     (once.0, once.1, left.value ∙ ap number_of once.0 ∙ sym right.value)
@@ -158,9 +185,11 @@ only-one-more : (front more : List ℕ) (byte : ℕ) → length front ≡ 9 → 
 only-one-more front [] byte nine short = refl
 only-one-more front (m ∷ more) byte nine short = absurd (omega (arith, length-append front (byte ∷ m ∷ more)))
 
-large-tenth : (front : List ℕ) (byte : ℕ) → length front ≡ 9 → byte < 128 → 1 < byte → number_of (front ++ byte ∷ []) < 2 ^ 64 → ⊥
+large-tenth : (front : List ℕ) (byte : ℕ)
+    → length front ≡ 9 → byte < 128 → 1 < byte → number_of (front ++ byte ∷ []) < 2 ^ 64 → ⊥
 large-tenth front byte nine small large fits =
-    let value : number_of (front ++ byte ∷ []) ≡ number_of front + byte % 128 * 2 ^ 63 = number_of-snoc front byte ∙ ap (λ (n : ℕ). number_of front + byte % 128 * 2 ^ (7 * n)) nine in
+    let value : number_of (front ++ byte ∷ []) ≡ number_of front + byte % 128 * 2 ^ 63 = number_of-snoc front byte
+    ∙ ap (λ (n : ℕ). number_of front + byte % 128 * 2 ^ (7 * n)) nine in
     let same : byte % 128 ≡ byte = omega arith in
     omega (arith, value, same)
 
@@ -172,13 +201,17 @@ last-small (f ∷ g ∷ front) byte groups = last-small (g ∷ front) byte group
 varint_not_long : (a rest : List ℕ) (number : ℕ) → IsVarint a number → IsLongVarint (a ++ rest) → ⊥
 varint_not_long a rest number spelled long =
     let past = groups_past long.front a rest long.tenth long.rest long.continued spelled.groups long.parts in
-    let len : length (long.front ++ long.tenth ∷ past.0) ≤ 10 = subst (λ (bytes : List ℕ). length bytes ≤ 10) past.1 spelled.short in
-    let whole : a ≡ long.front ++ long.tenth ∷ [] = past.1 ∙ ap (λ (more : List ℕ). long.front ++ long.tenth ∷ more) (only-one-more long.front past.0 long.tenth long.nine len) in
+    let len : length (long.front ++ long.tenth ∷ past.0) ≤ 10 =
+    subst (λ (bytes : List ℕ). length bytes ≤ 10) past.1 spelled.short in
+    let whole : a ≡ long.front ++ long.tenth ∷ [] = past.1 ∙ ap (λ (more : List ℕ). long.front ++ long.tenth ∷ more)
+    (only-one-more long.front past.0 long.tenth long.nine len) in
     let groups : IsGroups (long.front ++ long.tenth ∷ []) = subst IsGroups whole spelled.groups in
-    let fits : number_of (long.front ++ long.tenth ∷ []) < 2 ^ 64 = subst (λ (bytes : List ℕ). number_of bytes < 2 ^ 64) whole (subst (λ (n : ℕ). n < 2 ^ 64) spelled.value spelled.fits) in
+    let fits : number_of (long.front ++ long.tenth ∷ []) < 2 ^ 64 = subst (λ (bytes : List ℕ). number_of bytes < 2 ^ 64)
+    whole (subst (λ (n : ℕ). n < 2 ^ 64) spelled.value spelled.fits) in
     large-tenth long.front long.tenth long.nine (last-small long.front long.tenth groups) long.large fits
 
-pub varint_no_fault : (fault : WireFault) (a rest : List ℕ) (number : ℕ) → IsVarint a number → IsVarintFault fault (a ++ rest) → ⊥
+pub varint_no_fault : (fault : WireFault) (a rest : List ℕ) (number : ℕ)
+    → IsVarint a number → IsVarintFault fault (a ++ rest) → ⊥
 varint_no_fault Truncated a rest number spelled faulty = groups_end a rest spelled.groups faulty.continued
 varint_no_fault LongVarint a rest number spelled faulty = varint_not_long a rest number spelled faulty
 varint_no_fault FieldNumber a rest number spelled faulty = faulty
@@ -186,7 +219,8 @@ varint_no_fault Group a rest number spelled faulty = faulty
 varint_no_fault WireType a rest number spelled faulty = faulty
 
 pub cut_not_long : (bytes : List ℕ) → IsCutVarint bytes → IsLongVarint bytes → ⊥
-cut_not_long bytes cut long = omega (arith, cut.short, ap length long.parts, length-append long.front (long.tenth ∷ long.rest), long.nine)
+cut_not_long bytes cut long =
+    omega (arith, cut.short, ap length long.parts, length-append long.front (long.tenth ∷ long.rest), long.nine)
 
 pub varint_fault_once : (f g : WireFault) (bytes : List ℕ) → IsVarintFault f bytes → IsVarintFault g bytes → f ≡ g
 varint_fault_once Truncated Truncated bytes left right = refl
@@ -205,34 +239,44 @@ varint_fault_once LongVarint WireType bytes left right = absurd right
 
 -- ---- what was read is what stands there
 
-pub varint_read_once : (bytes spelling rest : List ℕ) (read number len : ℕ) → IsVarint (take len bytes) read → len ≤ length bytes
+pub varint_read_once : (bytes spelling rest : List ℕ) (read number len : ℕ)
+    → IsVarint (take len bytes) read → len ≤ length bytes
     → bytes ≡ spelling ++ rest → IsVarint spelling number → (read ≡ number) × (len ≡ length spelling)
 varint_read_once bytes spelling rest read number len found within same spelled =
-    let once = varint_once (take len bytes) spelling (drop len bytes) rest read number found spelled (take-append-drop len bytes ∙ same) in
+    let once = varint_once
+    (take len bytes) spelling (drop len bytes) rest read number found spelled (take-append-drop len bytes ∙ same) in
     (once.2, sym (length-take-le len bytes within) ∙ ap length once.0)
 
-pub varint_read_no_fault : (fault : WireFault) (bytes : List ℕ) (read len : ℕ) → IsVarint (take len bytes) read → IsVarintFault fault bytes → ⊥
+pub varint_read_no_fault : (fault : WireFault) (bytes : List ℕ) (read len : ℕ)
+    → IsVarint (take len bytes) read → IsVarintFault fault bytes → ⊥
 varint_read_no_fault fault bytes read len found faulty =
-    varint_no_fault fault (take len bytes) (drop len bytes) read found (subst (IsVarintFault fault) (sym (take-append-drop len bytes)) faulty)
+    varint_no_fault fault (take len bytes)
+    (drop len bytes) read found (subst (IsVarintFault fault) (sym (take-append-drop len bytes)) faulty)
 
-pub varint_fault_stands : (fault : WireFault) (bytes spelling rest : List ℕ) (number : ℕ) → IsVarintFault fault bytes → bytes ≡ spelling ++ rest → IsVarint spelling number → ⊥
+pub varint_fault_stands : (fault : WireFault) (bytes spelling rest : List ℕ) (number : ℕ)
+    → IsVarintFault fault bytes → bytes ≡ spelling ++ rest → IsVarint spelling number → ⊥
 varint_fault_stands fault bytes spelling rest number faulty same spelled =
     varint_no_fault fault spelling rest number spelled (subst (IsVarintFault fault) same faulty)
 
 pub past_end : (at : ℕ) (bytes : List ℕ) → length bytes ≤ at → IsVarintFault Truncated (drop at bytes)
 past_end at bytes past = rw (drop_all at bytes past) (record { continued = tt; short = lit< tt })
 
-pub varint_rest_once : (bytes spelling rest after : List ℕ) (len read number : ℕ) → IsVarint (take len bytes) read → after ≡ drop len bytes
+pub varint_rest_once : (bytes spelling rest after : List ℕ) (len read number : ℕ)
+    → IsVarint (take len bytes) read → after ≡ drop len bytes
     → bytes ≡ spelling ++ rest → IsVarint spelling number → (read ≡ number) × (after ≡ rest)
 varint_rest_once bytes spelling rest after len read number found after-is same spelled =
-    let once = varint_once (take len bytes) spelling (drop len bytes) rest read number found spelled (take-append-drop len bytes ∙ same) in
+    let once = varint_once
+    (take len bytes) spelling (drop len bytes) rest read number found spelled (take-append-drop len bytes ∙ same) in
     (once.2, after-is ∙ once.1)
 
-tenth-cases : (front : List ℕ) (tenth : ℕ) → length front ≡ 9 → tenth < 128 → number_of (front ++ tenth ∷ []) < 2 ^ 64 → (1 < tenth) ⊎ (tenth ≤ 1) → tenth ≤ 1
+tenth-cases : (front : List ℕ) (tenth : ℕ)
+    → length front ≡ 9 → tenth < 128 → number_of (front ++ tenth ∷ []) < 2 ^ 64 → (1 < tenth) ⊎ (tenth ≤ 1) → tenth ≤ 1
 tenth-cases front tenth nine small fits (inl large) = absurd (large-tenth front tenth nine small large fits)
 tenth-cases front tenth nine small fits (inr done) = done
 
 -- the tenth byte of a spelling is 0 or 1
-pub tenth-small : (front : List ℕ) (tenth number : ℕ) → length front ≡ 9 → IsVarint (front ++ tenth ∷ []) number → tenth ≤ 1
+pub tenth-small : (front : List ℕ) (tenth number : ℕ)
+    → length front ≡ 9 → IsVarint (front ++ tenth ∷ []) number → tenth ≤ 1
 tenth-small front tenth number nine spelled =
-    tenth-cases front tenth nine (last-small front tenth spelled.groups) (subst (λ (n : ℕ). n < 2 ^ 64) spelled.value spelled.fits) (cases_lt 1 tenth)
+    tenth-cases front tenth nine (last-small front tenth spelled.groups)
+    (subst (λ (n : ℕ). n < 2 ^ 64) spelled.value spelled.fits) (cases_lt 1 tenth)

@@ -1,5 +1,6 @@
 -- Every answer depends on the aggregate of the rows alone.
-use Rattle.std.proofs.Common.{◌≡◌, ℕ, ◌+◌, ◌<◌, Bool, true, false, cond, ◌||◌, ◌&&◌, List, [], ◌∷◌, ◌++◌, length, map, filter, Option, refl, sym, ap, ◌∙◌, arith, zero-add}
+use Rattle.std.proofs.Common.{◌≡◌, ℕ, ◌+◌, ◌<◌, Bool, true, false, cond, ◌||◌, ◌&&◌, List, [], ◌∷◌, ◌++◌, length, map}
+use Rattle.std.proofs.Common.{filter, Option, refl, sym, ap, ◌∙◌, arith, zero-add}
 use Rattle.std.specs.Prelude.{nat_lt}
 use Rattle.std.specs.List.{list_any, flat_map}
 use Rattle.std.specs.declared.cmp.Ordering.{Ordering}
@@ -24,7 +25,8 @@ use Rattle.profile_rows.proofs.Ranking.{top_list_of-same}
 
 -- the rows of the aggregate add up to it again
 pub aggregate_of-rows_of : (rows : List WeightedStack) → aggregate_of (rows_of (aggregate_of rows)) ≡ aggregate_of rows
-aggregate_of-rows_of rows = aggregate_of-same (rows_of (aggregate_of rows)) rows (λ stack. weight_where-rows_of (is_same_stack stack) rows)
+aggregate_of-rows_of rows =
+    aggregate_of-same (rows_of (aggregate_of rows)) rows (λ stack. weight_where-rows_of (is_same_stack stack) rows)
 
 -- aggregates of parts, put together, add up to that of all
 pub aggregate_of-parts : (rows more : List WeightedStack)
@@ -41,23 +43,28 @@ aggregate_of-parts rows more =
 -- ---- kept rows
 
 weight_where-kept : (focus ignored : Option (List ℕ)) (test : List (List ℕ) → Bool) (rows : List WeightedStack)
-    → weight_where test (kept_rows focus ignored rows) ≡ weight_where (λ stack. is_kept focus ignored stack && test stack) rows
+    → weight_where test (kept_rows focus ignored rows)
+    ≡ weight_where (λ stack. is_kept focus ignored stack && test stack) rows
 weight_where-kept focus ignored test [] = refl
 weight_where-kept focus ignored test (row ∷ rows) =
     let rest = weight_where-kept focus ignored test rows in
     let all = sum_by-cons (weight_if (λ stack. is_kept focus ignored stack && test stack)) row rows in
     elim (is_kept focus ignored row.stack) as (λ b. is_kept focus ignored row.stack ≡ b
-    → weight_where test (cond b (row ∷ kept_rows focus ignored rows) (kept_rows focus ignored rows)) ≡ weight_where (λ stack. is_kept focus ignored stack && test stack) (row ∷ rows)) [
+    → weight_where test (cond b (row ∷ kept_rows focus ignored rows) (kept_rows focus ignored rows))
+    ≡ weight_where (λ stack. is_kept focus ignored stack && test stack) (row ∷ rows)) [
       | true ↦ λ e.
           let cons = sum_by-cons (weight_if test) row (kept_rows focus ignored rows) in
-          let here : weight_if (λ stack. is_kept focus ignored stack && test stack) row ≡ weight_if test row = ap (λ b. cond (b && test row.stack) row.weight 0) e in
+          let here : weight_if (λ stack. is_kept focus ignored stack && test stack) row ≡ weight_if test row =
+          ap (λ b. cond (b && test row.stack) row.weight 0) e in
           omega arith
       | false ↦ λ e.
-          let none : weight_if (λ stack. is_kept focus ignored stack && test stack) row ≡ 0 = ap (λ b. cond (b && test row.stack) row.weight 0) e in
+          let none : weight_if (λ stack. is_kept focus ignored stack && test stack) row ≡ 0 =
+          ap (λ b. cond (b && test row.stack) row.weight 0) e in
           omega arith
     ] refl
 
-pub kept_rows-same : (focus ignored : Option (List ℕ)) (rows others : List WeightedStack) → aggregate_of rows ≡ aggregate_of others
+pub kept_rows-same : (focus ignored : Option (List ℕ)) (rows others : List WeightedStack)
+    → aggregate_of rows ≡ aggregate_of others
     → aggregate_of (kept_rows focus ignored rows) ≡ aggregate_of (kept_rows focus ignored others)
 kept_rows-same focus ignored rows others same =
     aggregate_of-same (kept_rows focus ignored rows) (kept_rows focus ignored others)
@@ -68,14 +75,17 @@ kept_rows-same focus ignored rows others same =
 
 -- ---- top lists
 
-pub top_list_of-same_aggregate : (ranking : Ranking) (count : ℕ) (rows others : List WeightedStack) → aggregate_of rows ≡ aggregate_of others
+pub top_list_of-same_aggregate : (ranking : Ranking) (count : ℕ) (rows others : List WeightedStack)
+    → aggregate_of rows ≡ aggregate_of others
     → top_list_of ranking count rows ≡ top_list_of ranking count others
-top_list_of-same_aggregate ranking count rows others same = top_list_of-same ranking count rows others (λ test. weight_where-same test rows others same)
+top_list_of-same_aggregate ranking count rows others same =
+    top_list_of-same ranking count rows others (λ test. weight_where-same test rows others same)
 
 -- ---- paths
 
 -- a path is among the fronts of a stack that begins with it
-list_any-map : {A B : Type 0} (test : B → Bool) (f : A → B) (xs : List A) → list_any test (map f xs) ≡ list_any (λ x. test (f x)) xs
+list_any-map : {A B : Type 0} (test : B → Bool) (f : A → B) (xs : List A)
+    → list_any test (map f xs) ≡ list_any (λ x. test (f x)) xs
 list_any-map test f [] = refl
 list_any-map test f (x ∷ xs) = ap (λ b. test (f x) || b) (list_any-map test f xs)
 
@@ -84,19 +94,22 @@ list_any-never [] = refl
 list_any-never (x ∷ xs) = list_any-never xs
 
 list_any-after : (o : Ordering) (path : List (List ℕ)) (paths : List (List (List ℕ)))
-    → list_any (λ other. is_eq (ordering_then o (stack_cmp path other))) paths ≡ match_ordering (ordering_reverse o) false (list_any (is_same_stack path) paths) false
+    → list_any (λ other. is_eq (ordering_then o (stack_cmp path other))) paths
+    ≡ match_ordering (ordering_reverse o) false (list_any (is_same_stack path) paths) false
 list_any-after Less path paths = list_any-never paths
 list_any-after Equal path paths = refl
 list_any-after Greater path paths = list_any-never paths
 
-list_any-prefixes : (path stack : List (List ℕ)) → list_any (is_same_stack path) (prefixes stack) ≡ begins_with name_cmp path stack
+list_any-prefixes : (path stack : List (List ℕ))
+    → list_any (is_same_stack path) (prefixes stack) ≡ begins_with name_cmp path stack
 list_any-prefixes [] [] = refl
 list_any-prefixes (name ∷ path) [] = refl
 list_any-prefixes [] (frame ∷ stack) = refl
 list_any-prefixes (name ∷ path) (frame ∷ stack) =
     list_any-map (is_same_stack (name ∷ path)) (λ rest. frame ∷ rest) (prefixes stack)
     ∙ list_any-after (name_cmp name frame) path (prefixes stack)
-    ∙ ap (λ o. match_ordering o false (list_any (is_same_stack path) (prefixes stack)) false) (sym (nat_list_cmp_total.antisymm frame name))
+    ∙ ap (λ o. match_ordering o false (list_any (is_same_stack path) (prefixes stack)) false)
+    (sym (nat_list_cmp_total.antisymm frame name))
     ∙ ap (λ b. match_ordering (name_cmp frame name) false b false) (list_any-prefixes path stack)
 
 abbrev fronts : List WeightedStack → List (List (List ℕ))
@@ -104,21 +117,27 @@ fronts rows = flat_map (λ row. prefixes row.stack) rows
 
 -- the rows have the paths that weigh something
 list_any-paths : (path : List (List ℕ)) (rows : List WeightedStack)
-    → list_any (is_same_stack path) (fronts (filter (λ row. nat_lt 0 row.weight) rows)) ≡ nat_lt 0 (path_weight rows path)
+    → list_any (is_same_stack path) (fronts (filter (λ row. nat_lt 0 row.weight) rows))
+    ≡ nat_lt 0 (path_weight rows path)
 list_any-paths path [] = refl
 list_any-paths path (row ∷ rows) =
     let rest = list_any-paths path rows in
-    let cons : path_weight (row ∷ rows) path ≡ weight_if (begins_with name_cmp path) row + path_weight rows path = sum_by-cons (weight_if (begins_with name_cmp path)) row rows in
-    elim (nat_lt 0 row.weight) as (λ b. nat_lt 0 row.weight ≡ b → list_any (is_same_stack path) (fronts (cond b (row ∷ filter (λ row. nat_lt 0 row.weight) rows) (filter (λ row. nat_lt 0 row.weight) rows))) ≡ nat_lt 0 (path_weight (row ∷ rows) path)) [
+    let cons : path_weight (row ∷ rows) path ≡ weight_if (begins_with name_cmp path) row + path_weight rows path =
+    sum_by-cons (weight_if (begins_with name_cmp path)) row rows in
+    elim (nat_lt 0 row.weight) as (λ b. nat_lt 0 row.weight ≡ b → list_any (is_same_stack path)
+    (fronts (cond b (row ∷ filter (λ row. nat_lt 0 row.weight) rows) (filter (λ row. nat_lt 0 row.weight) rows)))
+    ≡ nat_lt 0 (path_weight (row ∷ rows) path)) [
       | true ↦ λ e.
           list_any-append (is_same_stack path) (prefixes row.stack) (fronts (filter (λ row. nat_lt 0 row.weight) rows))
-          ∙ ap (λ b. b || list_any (is_same_stack path) (fronts (filter (λ row. nat_lt 0 row.weight) rows))) (list_any-prefixes path row.stack)
+          ∙ ap (λ b. b || list_any (is_same_stack path) (fronts (filter (λ row. nat_lt 0 row.weight) rows)))
+          (list_any-prefixes path row.stack)
           ∙ ap (λ b. begins_with name_cmp path row.stack || b) rest
           ∙ with_first (begins_with name_cmp path row.stack) row.weight (path_weight rows path) (ltb-true 0 _ e)
           ∙ ap (nat_lt 0) (sym cons)
       | false ↦ λ e.
           let none : row.weight ≡ 0 = let most = ltb-false 0 _ e in omega arith in
-          let here : weight_if (begins_with name_cmp path) row ≡ 0 = ap (λ w. cond (begins_with name_cmp path row.stack) w 0) none ∙ nothing (begins_with name_cmp path row.stack) in
+          let here : weight_if (begins_with name_cmp path) row ≡ 0 = ap (λ w. cond
+          (begins_with name_cmp path row.stack) w 0) none ∙ nothing (begins_with name_cmp path row.stack) in
           let all : path_weight rows path ≡ path_weight (row ∷ rows) path = omega (arith, cons, here) in
           rest ∙ ap (nat_lt 0) all
     ] refl
@@ -131,11 +150,13 @@ list_any-paths path (row ∷ rows) =
     nothing true = refl
     nothing false = refl
 
-pub paths_of-same : (rows others : List WeightedStack) → aggregate_of rows ≡ aggregate_of others → paths_of rows ≡ paths_of others
+pub paths_of-same : (rows others : List WeightedStack)
+    → aggregate_of rows ≡ aggregate_of others → paths_of rows ≡ paths_of others
 paths_of-same rows others same =
     in_order-same stack_cmp stack_cmp_total stack_cmp_apart
     (fronts (filter (λ row. nat_lt 0 row.weight) rows)) (fronts (filter (λ row. nat_lt 0 row.weight) others))
-    (λ path. list_any-paths path rows ∙ ap (nat_lt 0) (weight_where-same (begins_with name_cmp path) rows others same) ∙ sym (list_any-paths path others))
+    (λ path. list_any-paths path rows ∙ ap (nat_lt 0) (weight_where-same (begins_with name_cmp path) rows others same)
+    ∙ sym (list_any-paths path others))
 
 -- ---- rectangles
 
@@ -149,18 +170,24 @@ rectangle_from columns path total start weight = record {
   right = column_at columns total (start + weight);
 }
 
-rectangle_at-same : (columns : ℕ) (rows others : List WeightedStack) → aggregate_of rows ≡ aggregate_of others → (path : List (List ℕ)) → rectangle_at columns rows path ≡ rectangle_at columns others path
+rectangle_at-same : (columns : ℕ) (rows others : List WeightedStack) → aggregate_of rows ≡ aggregate_of others
+    → (path : List (List ℕ)) → rectangle_at columns rows path ≡ rectangle_at columns others path
 rectangle_at-same columns rows others same path =
-    ap (λ total. rectangle_from columns path total (path_start rows path) (path_weight rows path)) (weight_where-same (λ stack. true) rows others same)
-    ∙ ap (λ start. rectangle_from columns path (total_of others) start (path_weight rows path)) (weight_where-same (lies_left_of name_cmp path) rows others same)
-    ∙ ap (λ weight. rectangle_from columns path (total_of others) (path_start others path) weight) (weight_where-same (begins_with name_cmp path) rows others same)
+    ap (λ total. rectangle_from columns path total (path_start rows path) (path_weight rows path))
+    (weight_where-same (λ stack. true) rows others same)
+    ∙ ap (λ start. rectangle_from columns path (total_of others) start (path_weight rows path))
+    (weight_where-same (lies_left_of name_cmp path) rows others same)
+    ∙ ap (λ weight. rectangle_from columns path (total_of others) (path_start others path) weight)
+    (weight_where-same (begins_with name_cmp path) rows others same)
 
 map-same : {A B : Type 0} (f g : A → B) → ((x : A) → f x ≡ g x) → (xs : List A) → map f xs ≡ map g xs
 map-same f g same [] = refl
 map-same f g same (x ∷ xs) = ap (λ y. y ∷ map f xs) (same x) ∙ ap (λ ys. g x ∷ ys) (map-same f g same xs)
 
-pub rectangles_of-same : (columns : ℕ) (rows others : List WeightedStack) → aggregate_of rows ≡ aggregate_of others → rectangles_of columns rows ≡ rectangles_of columns others
+pub rectangles_of-same : (columns : ℕ) (rows others : List WeightedStack)
+    → aggregate_of rows ≡ aggregate_of others → rectangles_of columns rows ≡ rectangles_of columns others
 rectangles_of-same columns rows others same =
     ap (filter is_shown)
-    (map-same (rectangle_at columns rows) (rectangle_at columns others) (rectangle_at-same columns rows others same) (paths_of rows)
+    (map-same (rectangle_at columns rows)
+    (rectangle_at columns others) (rectangle_at-same columns rows others same) (paths_of rows)
     ∙ ap (map (rectangle_at columns others)) (paths_of-same rows others same))

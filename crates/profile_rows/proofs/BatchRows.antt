@@ -11,13 +11,16 @@ use Rattle.profile_rows.specs.Rows.{IsBatchRow, total_of}
 pub weight-le-total : (rows : List WeightedStack) → All (λ (row : WeightedStack). row.weight ≤ total_of rows) rows
 weight-le-total rows k d lt = le rows k d lt
   where
-    le : (rows : List WeightedStack) (k : ℕ) (d : WeightedStack) → k < length rows → (get_or rows k d).weight ≤ total_of rows
+    le : (rows : List WeightedStack) (k : ℕ) (d : WeightedStack)
+        → k < length rows → (get_or rows k d).weight ≤ total_of rows
     le [] k d lt = absurd (omega arith)
     le (row ∷ rows) zero d lt = let cons = sum_by-cons (λ (row : WeightedStack). row.weight) row rows in omega arith
-    le (row ∷ rows) (suc k) d lt = let cons = sum_by-cons (λ (row : WeightedStack). row.weight) row rows in let rest = le rows k d (omega arith) in omega arith
+    le (row ∷ rows) (suc k) d lt = let cons = sum_by-cons (λ (row : WeightedStack). row.weight) row rows in let rest =
+        le rows k d (omega arith) in omega arith
 
 -- what a batch's rows are, from their stacks and their total
-pub all_batch_rows : (rows : List WeightedStack) → All (λ (row : WeightedStack). All IsName row.stack × (length row.stack ≤ 65535)) rows → total_of rows < 2 ^ 63 → All IsBatchRow rows
+pub all_batch_rows : (rows : List WeightedStack) → All (λ (row : WeightedStack). All IsName row.stack
+    × (length row.stack ≤ 65535)) rows → total_of rows < 2 ^ 63 → All IsBatchRow rows
 all_batch_rows rows each fits k d lt =
     let stack = each k d lt in
     let light = weight-le-total rows k d lt in

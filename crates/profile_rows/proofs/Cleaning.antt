@@ -1,5 +1,6 @@
 -- The names of a profile's texts.
-use Rattle.std.proofs.Common.{◌≡◌, ◌≢◌, ℕ, ◌+◌, ◌/◌, ◌%◌, ◌<◌, ◌≤◌, true, List, [], ◌∷◌, length, map, refl, sym, ap, ◌∙◌, subst, arith, ◌⊎◌, inl, inr}
+use Rattle.std.proofs.Common.{◌≡◌, ◌≢◌, ℕ, ◌+◌, ◌/◌, ◌%◌, ◌<◌, ◌≤◌, true, List, [], ◌∷◌, length, map, refl, sym, ap}
+use Rattle.std.proofs.Common.{◌∙◌, subst, arith, ◌⊎◌, inl, inr}
 use Rattle.std.specs.Prelude.{◌==◌, false, Some}
 use Rattle.std.specs.List.{AllByRecursion}
 use Rattle.std.specs.Str.{IsUtf8}
@@ -47,9 +48,11 @@ cleaned-plain : (byte : ℕ) → byte ≢ 59 → byte ≢ 10 → cleaned_byte by
 cleaned-plain byte other plain = rw (ne_eqb byte 59 other, ne_eqb byte 10 plain) refl
 
 cleaned-high : (byte : ℕ) → 128 ≤ byte → cleaned_byte byte ≡ byte
-cleaned-high byte high = cleaned-plain byte (λ e. absurd (omega (arith, e, high))) (λ e. absurd (omega (arith, e, high)))
+cleaned-high byte high =
+    cleaned-plain byte (λ e. absurd (omega (arith, e, high))) (λ e. absurd (omega (arith, e, high)))
 
-each : (P : ℕ → Type 0) (bytes : List ℕ) → ((byte : ℕ) → P (cleaned_byte byte)) → AllByRecursion P (map cleaned_byte bytes)
+each : (P : ℕ → Type 0) (bytes : List ℕ)
+    → ((byte : ℕ) → P (cleaned_byte byte)) → AllByRecursion P (map cleaned_byte bytes)
 each P [] h = tt
 each P (byte ∷ bytes) h = (h byte, each P bytes h)
 
@@ -59,12 +62,22 @@ each P (byte ∷ bytes) h = (h byte, each P bytes h)
 encode-cleaned : (c : ℕ) → 128 ≤ c → map cleaned_byte (encode c) ≡ encode c
 unfolding encode
 encode-cleaned c high = elim (cases_lt c 2048) [
-  | inl low ↦ rw (le-ltb c 128 high, lt-ltb c 2048 low) (cc (cleaned-high (192 + c / 64) (omega arith), cleaned-high (128 + c % 64) (omega arith)))
+  | inl low ↦ rw (le-ltb c 128 high, lt-ltb c 2048 low)
+      (cc (cleaned-high (192 + c / 64) (omega arith), cleaned-high (128 + c % 64) (omega arith)))
   | inr long ↦ elim (cases_lt c 65536) [
     | inl low ↦ rw (le-ltb c 128 high, le-ltb c 2048 long, lt-ltb c 65536 low)
-        (cc (cleaned-high (224 + c / 4096) (omega arith), cleaned-high (128 + (c / 64) % 64) (omega arith), cleaned-high (128 + c % 64) (omega arith)))
+        (cc (
+          cleaned-high (224 + c / 4096) (omega arith),
+          cleaned-high (128 + (c / 64) % 64) (omega arith),
+          cleaned-high (128 + c % 64) (omega arith),
+        ))
     | inr longest ↦ rw (le-ltb c 128 high, le-ltb c 2048 long, le-ltb c 65536 longest)
-        (cc (cleaned-high (240 + c / 262144) (omega arith), cleaned-high (128 + (c / 4096) % 64) (omega arith), cleaned-high (128 + (c / 64) % 64) (omega arith), cleaned-high (128 + c % 64) (omega arith)))
+        (cc (
+          cleaned-high (240 + c / 262144) (omega arith),
+          cleaned-high (128 + (c / 4096) % 64) (omega arith),
+          cleaned-high (128 + (c / 64) % 64) (omega arith),
+          cleaned-high (128 + c % 64) (omega arith),
+        ))
   ]
 ]
 
@@ -76,13 +89,16 @@ cleaned-utf8 (c ∷ characters) all =
     let joined = map-append cleaned_byte (encode c) (encodes characters) in
     let first : IsUtf8 (map cleaned_byte (encode c)) = elim (cases_lt c 128) [
       | inl low ↦ subst (λ bytes. IsUtf8 (map cleaned_byte bytes)) (sym (encode_ascii c low))
-          (IsUtf8-from_ascii (cleaned_byte c ∷ []) (IsAscii-from_all (cleaned_byte c ∷ []) (All-from_recursion (λ b. b < 128) (cleaned_byte c ∷ []) (cleaned-ascii c low, tt))))
+          (IsUtf8-from_ascii (cleaned_byte c ∷ []) (IsAscii-from_all (cleaned_byte c ∷ [])
+          (All-from_recursion (λ b. b < 128) (cleaned_byte c ∷ []) (cleaned-ascii c low, tt))))
       | inr high ↦ subst IsUtf8 (sym (encode-cleaned c high)) (IsUtf8-encode c parts.0)
     ] in
-    subst IsUtf8 (sym joined) (IsUtf8-append (map cleaned_byte (encode c)) (map cleaned_byte (encodes characters)) first rest)
+    subst IsUtf8
+    (sym joined) (IsUtf8-append (map cleaned_byte (encode c)) (map cleaned_byte (encodes characters)) first rest)
 
 pub IsUtf8-cleaned : (text : List ℕ) → IsUtf8 text → IsUtf8 (map cleaned_byte text)
-IsUtf8-cleaned text (characters, (scalar_each, spelled)) = subst (λ bytes. IsUtf8 (map cleaned_byte bytes)) spelled (cleaned-utf8 characters scalar_each)
+IsUtf8-cleaned text (characters, (scalar_each, spelled)) =
+    subst (λ bytes. IsUtf8 (map cleaned_byte bytes)) spelled (cleaned-utf8 characters scalar_each)
 
 -- ---- names
 
@@ -90,19 +106,24 @@ IsUtf8-cleaned text (characters, (scalar_each, spelled)) = subst (λ bytes. IsUt
 pub cleaned-name : (text : List ℕ) → IsName text → cleaned_name_of text ≡ Some text
 cleaned-name [] this = let some = this.not_empty in absurd (omega (arith, some))
 cleaned-name (byte ∷ bytes) this =
-    ap Some (same (byte ∷ bytes) (recursion_from_All (λ b. b ≢ 59) (byte ∷ bytes) this.no_separator) (recursion_from_All (λ b. b ≢ 10) (byte ∷ bytes) this.no_line_feed))
+    ap Some (same (byte ∷ bytes) (recursion_from_All (λ b. b ≢ 59) (byte ∷ bytes) this.no_separator)
+    (recursion_from_All (λ b. b ≢ 10) (byte ∷ bytes) this.no_line_feed))
   where
-    same : (text : List ℕ) → AllByRecursion (λ b. b ≢ 59) text → AllByRecursion (λ b. b ≢ 10) text → map cleaned_byte text ≡ text
+    same : (text : List ℕ)
+        → AllByRecursion (λ b. b ≢ 59) text → AllByRecursion (λ b. b ≢ 10) text → map cleaned_byte text ≡ text
     same [] a b = refl
-    same (byte ∷ text) a b = ap (λ z. z ∷ map cleaned_byte text) (cleaned-plain byte a.0 b.0) ∙ ap (λ t. byte ∷ t) (same text a.1 b.1)
+    same (byte ∷ text) a b = ap (λ z. z ∷ map cleaned_byte text) (cleaned-plain byte a.0 b.0)
+        ∙ ap (λ t. byte ∷ t) (same text a.1 b.1)
 
 -- what is cleaned can be a name
 pub IsName-cleaned : (text : List ℕ) → IsUtf8 text → 0 < length text → IsName (map cleaned_byte text)
 IsName-cleaned text utf8 some = record {
   utf8 = IsUtf8-cleaned text utf8;
   not_empty = let long = length-map text cleaned_byte in omega (arith, long, some);
-  no_separator = All-from_recursion (λ b. b ≢ 59) (map cleaned_byte text) (each (λ b. b ≢ 59) text cleaned-no_separator);
-  no_line_feed = All-from_recursion (λ b. b ≢ 10) (map cleaned_byte text) (each (λ b. b ≢ 10) text cleaned-no_line_feed);
+  no_separator =
+      All-from_recursion (λ b. b ≢ 59) (map cleaned_byte text) (each (λ b. b ≢ 59) text cleaned-no_separator);
+  no_line_feed =
+      All-from_recursion (λ b. b ≢ 10) (map cleaned_byte text) (each (λ b. b ≢ 10) text cleaned-no_line_feed);
 }
 
 -- a text that isn't empty has a byte

@@ -1,5 +1,6 @@
 -- A sum over rows is the sum over the entries of the map that they add up to.
-use Rattle.std.proofs.Common.{◌≡◌, ℕ, ◌+◌, Bool, true, false, cond, ◌&&◌, ltb, List, [], ◌∷◌, Some, None, refl, sym, ap, ◌∙◌, arith, sum_by, map}
+use Rattle.std.proofs.Common.{◌≡◌, ℕ, ◌+◌, Bool, true, false, cond, ◌&&◌, ltb, List, [], ◌∷◌, Some, None, refl, sym, ap}
+use Rattle.std.proofs.Common.{◌∙◌, arith, sum_by, map}
 use Rattle.std.specs.Option.{unwrap_or}
 use Rattle.std.specs.declared.cmp.Ordering.{Ordering}
 use Rattle.std.specs.Ordering.{is_eq, is_lt}
@@ -44,7 +45,8 @@ second false b p = absurd p
 sorted_head : (e f : Entry) (es : List Entry) → T (is_sorted stack_cmp (e ∷ f ∷ es)) → stack_cmp e.0 f.0 ≡ Less
 sorted_head e f es h = less _ (first _ _ (first _ _ h))
 
-none_below : (k : List (List ℕ)) (e : Entry) (es : List Entry) → stack_cmp k e.0 ≡ Less → T (is_sorted stack_cmp (e ∷ es)) → find stack_cmp k es ≡ None
+none_below : (k : List (List ℕ)) (e : Entry) (es : List Entry)
+    → stack_cmp k e.0 ≡ Less → T (is_sorted stack_cmp (e ∷ es)) → find stack_cmp k es ≡ None
 none_below k e [] lt h = refl
 none_below k e (f ∷ es) lt h =
     let next : stack_cmp k f.0 ≡ Less = stack_cmp_total.trans k e.0 f.0 lt (sorted_head e f es h) in
@@ -55,13 +57,18 @@ nothing true = refl
 nothing false = refl
 
 pub sum_put : (test : List (List ℕ) → Bool) (k : List (List ℕ)) (v : ℕ) (es : List Entry) → T (is_sorted stack_cmp es)
-    → sum_by (entry_if test) (put stack_cmp k v es) + cond (test k) (unwrap_or (find stack_cmp k es) 0) 0 ≡ sum_by (entry_if test) es + cond (test k) v 0
-sum_put test k v [] h = let one = sum_by-cons (entry_if test) (k, v) [] in let none = nothing (test k) in omega (arith, one, none)
+    → sum_by (entry_if test) (put stack_cmp k v es) + cond (test k) (unwrap_or (find stack_cmp k es) 0) 0
+    ≡ sum_by (entry_if test) es + cond (test k) v 0
+sum_put test k v [] h =
+    let one = sum_by-cons (entry_if test) (k, v) [] in let none = nothing (test k) in omega (arith, one, none)
 sum_put test k v (e ∷ es) h =
-    elim (stack_cmp k e.0) as (λ o. stack_cmp k e.0 ≡ o → sum_by (entry_if test) (by_order o ((k, v) ∷ e ∷ es) ((e.0, v) ∷ es) (e ∷ put stack_cmp k v es))
-    + cond (test k) (unwrap_or (cond (is_eq o) (Some e.1) (find stack_cmp k es)) 0) 0 ≡ sum_by (entry_if test) (e ∷ es) + cond (test k) v 0) [
+    elim (stack_cmp k e.0) as (λ o. stack_cmp k e.0 ≡ o
+    → sum_by (entry_if test) (by_order o ((k, v) ∷ e ∷ es) ((e.0, v) ∷ es) (e ∷ put stack_cmp k v es))
+    + cond (test k) (unwrap_or (cond (is_eq o) (Some e.1) (find stack_cmp k es)) 0) 0
+    ≡ sum_by (entry_if test) (e ∷ es) + cond (test k) v 0) [
       | Less ↦ λ o.
-          let none : cond (test k) (unwrap_or (find stack_cmp k es) 0) 0 ≡ 0 = ap (λ f. cond (test k) (unwrap_or f 0) 0) (none_below k e es o h) ∙ nothing (test k) in
+          let none : cond (test k) (unwrap_or (find stack_cmp k es) 0) 0 ≡ 0 =
+          ap (λ f. cond (test k) (unwrap_or f 0) 0) (none_below k e es o h) ∙ nothing (test k) in
           let cons = sum_by-cons (entry_if test) (k, v) (e ∷ es) in
           omega (arith, none, cons)
       | Equal ↦ λ o.
@@ -82,18 +89,22 @@ pub put_more : (b : Bool) (s a w t : ℕ) → t + cond b a 0 ≡ s + cond b (a +
 put_more true s a w t e = omega arith
 put_more false s a w t e = omega arith
 
-pub entries_where-with_row : (test : List (List ℕ) → Bool) (m : Weighted) (row : WeightedStack) → entries_where test (with_row m row) ≡ entries_where test m + weight_if test row
+pub entries_where-with_row : (test : List (List ℕ) → Bool) (m : Weighted) (row : WeightedStack)
+    → entries_where test (with_row m row) ≡ entries_where test m + weight_if test row
 entries_where-with_row test m row =
-    elim (ltb 0 row.weight) as (λ b. ltb 0 row.weight ≡ b → entries_where test (cond b (finite.insert m row.stack (weight_in m row.stack + row.weight)) m) ≡ entries_where test m + cond (test row.stack) row.weight 0) [
+    elim (ltb 0 row.weight) as (λ b. ltb 0 row.weight ≡ b → entries_where test (cond b (finite.insert m row.stack
+    (weight_in m row.stack + row.weight)) m) ≡ entries_where test m + cond (test row.stack) row.weight 0) [
       | true ↦ λ e.
           ap (sum_by (entry_if test)) (entries-insert stack_cmp_total m row.stack (weight_in m row.stack + row.weight))
           ∙ put_more (test row.stack) _ (weight_in m row.stack) row.weight _
-          (ap (λ o. sum_by (entry_if test) (put stack_cmp row.stack (weight_in m row.stack + row.weight) (finite.entries m)) + cond (test row.stack) (unwrap_or o 0) 0) (get-entries m row.stack)
+          (ap (λ o. sum_by (entry_if test) (put stack_cmp row.stack (weight_in m row.stack + row.weight)
+          (finite.entries m)) + cond (test row.stack) (unwrap_or o 0) 0) (get-entries m row.stack)
           ∙ sum_put test row.stack (weight_in m row.stack + row.weight) (finite.entries m) (entries_sorted m))
       | false ↦ λ e. no_more row.weight (entries_where test m) (test row.stack) e
     ] refl
 
-pub entries_where-with_rows : (test : List (List ℕ) → Bool) (m : Weighted) (rows : List WeightedStack) → entries_where test (with_rows m rows) ≡ entries_where test m + weight_where test rows
+pub entries_where-with_rows : (test : List (List ℕ) → Bool) (m : Weighted) (rows : List WeightedStack)
+    → entries_where test (with_rows m rows) ≡ entries_where test m + weight_where test rows
 entries_where-with_rows test m [] = omega arith
 entries_where-with_rows test m (row ∷ rows) =
     let rest = entries_where-with_rows test (with_row m row) rows in
@@ -102,17 +113,22 @@ entries_where-with_rows test m (row ∷ rows) =
     omega (arith, rest, here, cons)
 
 -- the law: a sum over rows is one over the map
-pub entries_where-aggregate_of : (test : List (List ℕ) → Bool) (rows : List WeightedStack) → entries_where test (aggregate_of rows) ≡ weight_where test rows
-entries_where-aggregate_of test rows = let all = entries_where-with_rows test finite.empty rows in let none = nothing_in test in omega (arith, all, none)
+pub entries_where-aggregate_of : (test : List (List ℕ) → Bool) (rows : List WeightedStack)
+    → entries_where test (aggregate_of rows) ≡ weight_where test rows
+entries_where-aggregate_of test rows =
+    let all = entries_where-with_rows test finite.empty rows in let none = nothing_in test in omega (arith, all, none)
   where
     nothing_in : (test : List (List ℕ) → Bool) → entries_where test finite.empty ≡ 0
     nothing_in test = ap (sum_by (entry_if test)) no_entries
 
-pub weight_where-same : (test : List (List ℕ) → Bool) (rows others : List WeightedStack) → aggregate_of rows ≡ aggregate_of others → weight_where test rows ≡ weight_where test others
-weight_where-same test rows others e = sym (entries_where-aggregate_of test rows) ∙ ap (entries_where test) e ∙ entries_where-aggregate_of test others
+pub weight_where-same : (test : List (List ℕ) → Bool) (rows others : List WeightedStack)
+    → aggregate_of rows ≡ aggregate_of others → weight_where test rows ≡ weight_where test others
+weight_where-same test rows others e = sym (entries_where-aggregate_of test rows)
+    ∙ ap (entries_where test) e ∙ entries_where-aggregate_of test others
 
 -- the entries' rows weigh as much as the entries
-pub weight_where-entries : (test : List (List ℕ) → Bool) (entries : List Entry) → weight_where test (map row_of entries) ≡ sum_by (entry_if test) entries
+pub weight_where-entries : (test : List (List ℕ) → Bool) (entries : List Entry)
+    → weight_where test (map row_of entries) ≡ sum_by (entry_if test) entries
 weight_where-entries test [] = refl
 weight_where-entries test (entry ∷ entries) =
     let rest = weight_where-entries test entries in
@@ -120,5 +136,7 @@ weight_where-entries test (entry ∷ entries) =
     let right = sum_by-cons (entry_if test) entry entries in
     omega (arith, rest, left, right)
 
-pub weight_where-rows_of : (test : List (List ℕ) → Bool) (rows : List WeightedStack) → weight_where test (rows_of (aggregate_of rows)) ≡ weight_where test rows
-weight_where-rows_of test rows = weight_where-entries test (finite.entries (aggregate_of rows)) ∙ entries_where-aggregate_of test rows
+pub weight_where-rows_of : (test : List (List ℕ) → Bool) (rows : List WeightedStack)
+    → weight_where test (rows_of (aggregate_of rows)) ≡ weight_where test rows
+weight_where-rows_of test rows = weight_where-entries test (finite.entries (aggregate_of rows))
+    ∙ entries_where-aggregate_of test rows

@@ -1,5 +1,6 @@
 -- `==` decides equality of names, stacks, rows and lists of rows.
-use Rattle.std.proofs.Common.{◌≡◌, ℕ, Bool, true, false, ◌&&◌, ◌-◌, ◌*◌, List, [], ◌∷◌, ◌++◌, length, refl, sym, ap, ◌∙◌, arith, take, drop, length-drop}
+use Rattle.std.proofs.Common.{◌≡◌, ℕ, Bool, true, false, ◌&&◌, ◌-◌, ◌*◌, List, [], ◌∷◌, ◌++◌, length, refl, sym, ap}
+use Rattle.std.proofs.Common.{◌∙◌, arith, take, drop, length-drop}
 use Rattle.std.specs.Prelude.{◌==◌}
 use Rattle.std.specs.Bool.{Decides, one_answer}
 use Rattle.std.specs.Cmp.{IsEquivalence, unsigned_Decides}
@@ -30,21 +31,30 @@ is_same_name-decides = pointwise_decides unsigned_Decides
 
 pub row_eq-decides : (a b : WeightedStack) → Decides (row_eq a b) (a ≡ b)
 row_eq-decides a b =
-    let parts = both_decide (pointwise (pointwise ◌==◌) a.stack b.stack) (a.weight == b.weight) (pointwise_decides is_same_name-decides a.stack b.stack) (unsigned_Decides a.weight b.weight) in
-    (λ e. let same = parts.0 e in λ i. record { stack = same.0 i; weight = same.1 i }, λ same. parts.1 (ap (λ (row : WeightedStack). row.stack) same, ap (λ (row : WeightedStack). row.weight) same))
+    let parts = both_decide (pointwise (pointwise ◌==◌) a.stack b.stack) (a.weight == b.weight)
+    (pointwise_decides is_same_name-decides a.stack b.stack) (unsigned_Decides a.weight b.weight) in (
+      λ e. let same = parts.0 e in λ i. record { stack = same.0 i; weight = same.1 i },
+      λ same. parts.1 (ap (λ (row : WeightedStack). row.stack) same, ap (λ (row : WeightedStack). row.weight) same),
+    )
 
 pub rows_eq-decides : (a b : List WeightedStack) → Decides (pointwise row_eq a b) (a ≡ b)
 rows_eq-decides = pointwise_decides row_eq-decides
 
 pub values_eq-decides : (a b : Row) → Decides (values_eq a b) (a ≡ b)
 values_eq-decides a b =
-    let parts = both_decide (pointwise (pointwise ◌==◌) a.stack b.stack) (pointwise ◌==◌ a.weights b.weights) (pointwise_decides is_same_name-decides a.stack b.stack) (is_same_name-decides a.weights b.weights) in
-    (λ e. let same = parts.0 e in λ i. record { stack = same.0 i; weights = same.1 i }, λ same. parts.1 (ap (λ (row : Row). row.stack) same, ap (λ (row : Row). row.weights) same))
+    let parts = both_decide (pointwise (pointwise ◌==◌) a.stack b.stack) (pointwise ◌==◌ a.weights b.weights)
+    (pointwise_decides is_same_name-decides a.stack b.stack) (is_same_name-decides a.weights b.weights) in (
+      λ e. let same = parts.0 e in λ i. record { stack = same.0 i; weights = same.1 i },
+      λ same. parts.1 (ap (λ (row : Row). row.stack) same, ap (λ (row : Row). row.weights) same),
+    )
 
 pub batch_eq-decides : (a b : BatchState) → Decides (batch_eq a b) (a ≡ b)
 batch_eq-decides a b =
-    let parts = both_decide (a.width == b.width) (pointwise values_eq a.rows b.rows) (unsigned_Decides a.width b.width) (pointwise_decides values_eq-decides a.rows b.rows) in
-    (λ e. let same = parts.0 e in λ i. record { width = same.0 i; rows = same.1 i }, λ same. parts.1 (ap (λ (batch : BatchState). batch.width) same, ap (λ (batch : BatchState). batch.rows) same))
+    let parts = both_decide (a.width == b.width) (pointwise values_eq a.rows b.rows)
+    (unsigned_Decides a.width b.width) (pointwise_decides values_eq-decides a.rows b.rows) in (
+      λ e. let same = parts.0 e in λ i. record { width = same.0 i; rows = same.1 i },
+      λ same. parts.1 (ap (λ (batch : BatchState). batch.width) same, ap (λ (batch : BatchState). batch.rows) same),
+    )
 
 -- ---- a batch is known by its parts
 
@@ -58,15 +68,19 @@ other_values_in-with_values m [] values sizes = sym (empty_list values (sizes �
 other_values_in-with_values m (row ∷ rows) values sizes =
     let times = suc_times (length rows) m in
     let left = length-drop m values in
-    ap (λ rest. take m values ++ rest) (other_values_in-with_values m rows (drop m values) (omega arith)) ∙ take-append-drop m values
+    ap (λ rest. take m values ++ rest) (other_values_in-with_values m rows (drop m values) (omega arith))
+    ∙ take-append-drop m values
 
 -- where the other values are as many as the rows have, rows that are equal have equal parts
-pub with_values-same_values : (m : ℕ) (rows others : List WeightedStack) (values more : List ℕ) → length values ≡ length rows * m → length more ≡ length others * m
+pub with_values-same_values : (m : ℕ) (rows others : List WeightedStack) (values more : List ℕ)
+    → length values ≡ length rows * m → length more ≡ length others * m
     → with_values m rows values ≡ with_values m others more → values ≡ more
 with_values-same_values m rows others values more sizes more_sizes same =
-    sym (other_values_in-with_values m rows values sizes) ∙ ap other_values_in same ∙ other_values_in-with_values m others more more_sizes
+    sym (other_values_in-with_values m rows values sizes)
+    ∙ ap other_values_in same ∙ other_values_in-with_values m others more more_sizes
 
-pub with_values-same_rows : (m : ℕ) (rows others : List WeightedStack) (values more : List ℕ) → with_values m rows values ≡ with_values m others more → rows ≡ others
+pub with_values-same_rows : (m : ℕ) (rows others : List WeightedStack) (values more : List ℕ)
+    → with_values m rows values ≡ with_values m others more → rows ≡ others
 with_values-same_rows m rows others values more same =
     sym (rows_at-with_values m rows values) ∙ ap (rows_at 0) same ∙ rows_at-with_values m others more
 
@@ -76,12 +90,16 @@ parts_eq totals rows values sums others more =
     ((length totals == length sums) && pointwise row_eq rows others) && pointwise ◌==◌ values more
 
 -- batches are equal where their parts are, whatever their totals of one width
-parts_eq-decides : (totals : List ℕ) (rows : List WeightedStack) (values sums : List ℕ) (others : List WeightedStack) (more : List ℕ)
+parts_eq-decides : (totals : List ℕ)
+    (rows : List WeightedStack) (values sums : List ℕ) (others : List WeightedStack) (more : List ℕ)
     → AreParts totals rows values → AreParts sums others more
-    → Decides (parts_eq totals rows values sums others more) (batch_with totals rows values ≡ batch_with sums others more)
+    → Decides
+    (parts_eq totals rows values sums others more) (batch_with totals rows values ≡ batch_with sums others more)
 parts_eq-decides totals rows values sums others more parts other_parts =
-    let first = both_decide (length totals == length sums) (pointwise row_eq rows others) (unsigned_Decides (length totals) (length sums)) (rows_eq-decides rows others) in
-    let all = both_decide ((length totals == length sums) && pointwise row_eq rows others) (pointwise ◌==◌ values more) first (is_same_name-decides values more) in (
+    let first = both_decide (length totals == length sums)
+    (pointwise row_eq rows others) (unsigned_Decides (length totals) (length sums)) (rows_eq-decides rows others) in
+    let all = both_decide ((length totals == length sums) && pointwise row_eq rows others)
+    (pointwise ◌==◌ values more) first (is_same_name-decides values more) in (
       λ e.
           let same = all.0 e in
           λ i. record { width = same.0.0 i; rows = with_values (same.0.0 i - 1) (same.0.1 i) (same.1 i) },
@@ -89,11 +107,16 @@ parts_eq-decides totals rows values sums others more parts other_parts =
           let width : length totals ≡ length sums = ap (λ (batch : BatchState). batch.width) same in
           let rows_same : with_values (length totals - 1) rows values ≡ with_values (length totals - 1) others more =
           ap (λ (batch : BatchState). batch.rows) same ∙ ap (λ n. with_values (n - 1) others more) (sym width) in
-          let sizes : length more ≡ length others * (length totals - 1) = other_parts.0 ∙ ap (λ n. length others * (n - 1)) (sym width) in
-          all.1 ((width, with_values-same_rows _ rows others values more rows_same), with_values-same_values _ rows others values more parts.0 sizes rows_same),
+          let sizes : length more ≡ length others * (length totals - 1) = other_parts.0
+          ∙ ap (λ n. length others * (n - 1)) (sym width) in
+          all.1 (
+            (width, with_values-same_rows _ rows others values more rows_same),
+            with_values-same_values _ rows others values more parts.0 sizes rows_same,
+          ),
     )
 
-module _ (totals : List ℕ) (rows : List WeightedStack) (values sums : List ℕ) (others : List WeightedStack) (more : List ℕ) (a b : BatchState)
+module _ (totals : List ℕ)
+    (rows : List WeightedStack) (values sums : List ℕ) (others : List WeightedStack) (more : List ℕ) (a b : BatchState)
     (parts : AreParts totals rows values) (other_parts : AreParts sums others more)
     (a_is : batch_with totals rows values ≡ a) (b_is : batch_with sums others more ≡ b) where
   pub parts_decide : Decides (parts_eq totals rows values sums others more) (a ≡ b)
@@ -104,4 +127,5 @@ module _ (totals : List ℕ) (rows : List WeightedStack) (values sums : List ℕ
   pub parts_compare : parts_eq totals rows values sums others more ≡ batch_eq a b
   parts_compare =
       let decided = batch_eq-decides a b in
-      one_answer (parts_eq totals rows values sums others more) (batch_eq a b) parts_decide (λ e. decided.0 e, λ same. decided.1 same)
+      one_answer (parts_eq totals rows values sums others more)
+      (batch_eq a b) parts_decide (λ e. decided.0 e, λ same. decided.1 same)

@@ -1,5 +1,6 @@
 -- Four places for one to four values, and what stands at a place.
-use Rattle.std.proofs.Common.{◌≡◌, ℕ, zero, suc, ◌+◌, ◌<◌, ◌≤◌, List, [], ◌∷◌, ◌++◌, length, get_or, refl, sym, ap, ◌∙◌, arith, take, drop, length-append, length-drop}
+use Rattle.std.proofs.Common.{◌≡◌, ℕ, zero, suc, ◌+◌, ◌<◌, ◌≤◌, List, [], ◌∷◌, ◌++◌, length, get_or, refl, sym, ap, ◌∙◌}
+use Rattle.std.proofs.Common.{arith, take, drop, length-append, length-drop}
 use Rattle.profile_rows.specs.Values.{IsPadded, value_of}
 
 pub value_of-past : (v : ℕ) (values : List ℕ) → length values ≤ v → value_of v values ≡ 0
@@ -78,7 +79,8 @@ IsPadded-places (suc (suc (suc zero))) a b c d some few past = record {
   taken = refl;
   rest = λ i. a ∷ b ∷ c ∷ sym (past 3 (omega arith)) i ∷ [];
 }
-IsPadded-places (suc (suc (suc (suc zero)))) a b c d some few past = record { some = some; few = few; taken = refl; rest = refl }
+IsPadded-places (suc (suc (suc (suc zero)))) a b c d some few past =
+    record { some = some; few = few; taken = refl; rest = refl }
 IsPadded-places (suc (suc (suc (suc (suc w))))) a b c d some few past = absurd (omega arith)
 
 -- ---- two rows of four places, added place by place

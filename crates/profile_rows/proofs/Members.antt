@@ -21,11 +21,13 @@ module _ {K : Type 0} (cmp : K → K → Ordering) (total : IsTotalOrder cmp) (a
   turn : (x y : K) (o : Ordering) → cmp x y ≡ o → cmp y x ≡ ordering_reverse o
   turn x y o e = total.antisymm y x ∙ ap ordering_reverse e
 
-  below_all : (x y : K) (ys : List K) → cmp x y ≡ Less → AllByRecursion (λ z. cmp y z ≡ Less) ys → AllByRecursion (λ z. cmp x z ≡ Less) ys
+  below_all : (x y : K) (ys : List K)
+      → cmp x y ≡ Less → AllByRecursion (λ z. cmp y z ≡ Less) ys → AllByRecursion (λ z. cmp x z ≡ Less) ys
   below_all x y [] less all = tt
   below_all x y (z ∷ ys) less all = (total.trans x y z less all.0, below_all x y ys less all.1)
 
-  all-with_member : (P : K → Type 0) (x : K) (xs : List K) → P x → AllByRecursion P xs → AllByRecursion P (with_member cmp x xs)
+  all-with_member : (P : K → Type 0) (x : K) (xs : List K)
+      → P x → AllByRecursion P xs → AllByRecursion P (with_member cmp x xs)
   all-with_member P x [] here all = (here, tt)
   all-with_member P x (y ∷ ys) here all =
       let rest = all-with_member P x ys here all.1 in
@@ -59,19 +61,24 @@ module _ {K : Type 0} (cmp : K → K → Ordering) (total : IsTotalOrder cmp) (a
   twice true b = refl
   twice false b = refl
 
-  member-with_member : (q x : K) (xs : List K) → is_member q (with_member cmp x xs) ≡ (eq_by_cmp cmp q x || is_member q xs)
+  member-with_member : (q x : K) (xs : List K)
+      → is_member q (with_member cmp x xs) ≡ (eq_by_cmp cmp q x || is_member q xs)
   member-with_member q x [] = refl
   member-with_member q x (y ∷ ys) =
       let rest = member-with_member q x ys in
-      elim (cmp x y) as (λ o. cmp x y ≡ o → is_member q (match_ordering o (x ∷ y ∷ ys) (y ∷ ys) (y ∷ with_member cmp x ys)) ≡ (eq_by_cmp cmp q x || is_member q (y ∷ ys))) [
+      elim (cmp x y) as (λ o. cmp x y ≡ o → is_member q (match_ordering o
+      (x ∷ y ∷ ys) (y ∷ ys) (y ∷ with_member cmp x ys)) ≡ (eq_by_cmp cmp q x || is_member q (y ∷ ys))) [
         | Less ↦ λ e. refl
-        | Equal ↦ λ e. twice (eq_by_cmp cmp q y) (is_member q ys) ∙ ap (λ z. eq_by_cmp cmp q z || is_member q (y ∷ ys)) (sym (apart x y e))
-        | Greater ↦ λ e. ap (λ b. eq_by_cmp cmp q y || b) rest ∙ either_way (eq_by_cmp cmp q y) (eq_by_cmp cmp q x) (is_member q ys)
+        | Equal ↦ λ e. twice (eq_by_cmp cmp q y) (is_member q ys)
+            ∙ ap (λ z. eq_by_cmp cmp q z || is_member q (y ∷ ys)) (sym (apart x y e))
+        | Greater ↦ λ e. ap (λ b. eq_by_cmp cmp q y || b) rest
+            ∙ either_way (eq_by_cmp cmp q y) (eq_by_cmp cmp q x) (is_member q ys)
       ] refl
 
   pub member-in_order : (q : K) (xs : List K) → is_member q (in_order cmp xs) ≡ is_member q xs
   member-in_order q [] = refl
-  member-in_order q (x ∷ xs) = member-with_member q x (in_order cmp xs) ∙ ap (λ b. eq_by_cmp cmp q x || b) (member-in_order q xs)
+  member-in_order q (x ∷ xs) = member-with_member q x (in_order cmp xs)
+      ∙ ap (λ b. eq_by_cmp cmp q x || b) (member-in_order q xs)
 
   is_eq-below : (q x : K) → cmp q x ≡ Less → eq_by_cmp cmp q x ≡ false
   is_eq-below q x e = ap is_eq e
@@ -84,7 +91,8 @@ module _ {K : Type 0} (cmp : K → K → Ordering) (total : IsTotalOrder cmp) (a
   present : (x : K) (xs : List K) → is_member x (x ∷ xs) ≡ true
   present x xs = ap (λ o. is_eq o || is_member x xs) (tied_itself total x)
 
-  same_first : (x : K) (xs : List K) (y : K) (ys : List K) → Rises (x ∷ xs) → Rises (y ∷ ys) → ((q : K) → is_member q (x ∷ xs) ≡ is_member q (y ∷ ys)) → x ≡ y
+  same_first : (x : K) (xs : List K) (y : K) (ys : List K)
+      → Rises (x ∷ xs) → Rises (y ∷ ys) → ((q : K) → is_member q (x ∷ xs) ≡ is_member q (y ∷ ys)) → x ≡ y
   same_first x xs y ys up_x up_y same =
       elim (cmp x y) as (λ o. cmp x y ≡ o → x ≡ y) [
         | Less ↦ λ e. absurd (clash (sym (present x xs) ∙ same x ∙ absent x (y ∷ ys) (e, below_all x y ys e up_y.0)))
@@ -112,9 +120,11 @@ module _ {K : Type 0} (cmp : K → K → Ordering) (total : IsTotalOrder cmp) (a
       elim (eq_by_cmp cmp q x) as (λ b. eq_by_cmp cmp q x ≡ b → is_member q xs ≡ is_member q ys) [
         | true ↦ λ e.
             let is_x : q ≡ x = apart q x (is_equal (cmp q x) e) in
-            ap (λ z. is_member z xs) is_x ∙ absent x xs up_x.0 ∙ sym (absent y ys up_y.0) ∙ ap (λ z. is_member z ys) (sym (is_x ∙ first))
+            ap (λ z. is_member z xs) is_x
+            ∙ absent x xs up_x.0 ∙ sym (absent y ys up_y.0) ∙ ap (λ z. is_member z ys) (sym (is_x ∙ first))
         | false ↦ λ e.
-            sym (ap (λ b. b || is_member q xs) e) ∙ same q ∙ ap (λ z. eq_by_cmp cmp q z || is_member q ys) (sym first) ∙ ap (λ b. b || is_member q ys) e
+            sym (ap (λ b. b || is_member q xs) e)
+            ∙ same q ∙ ap (λ z. eq_by_cmp cmp q z || is_member q ys) (sym first) ∙ ap (λ b. b || is_member q ys) e
       ] refl in
       ap (λ z. z ∷ xs) first ∙ ap (λ zs. y ∷ zs) (same_members xs ys up_x.1 up_y.1 rest)
 

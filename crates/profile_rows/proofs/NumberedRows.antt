@@ -1,10 +1,13 @@
 -- Names that are numbered as rows are counted.
-use Rattle.std.proofs.Common.{◌≡◌, ℕ, zero, suc, ◌+◌, ◌-◌, ◌<◌, ◌≤◌, Bool, true, false, cond, ◌||◌, List, [], ◌∷◌, ◌++◌, length, map, take, drop, get_or, refl, sym, ap, ◌∙◌, subst, arith, All, Option, Some, None}
+use Rattle.std.proofs.Common.{◌≡◌, ℕ, zero, suc, ◌+◌, ◌-◌, ◌<◌, ◌≤◌, Bool, true, false, cond, ◌||◌, List, [], ◌∷◌, ◌++◌}
+use Rattle.std.proofs.Common.{length, map, take, drop, get_or, refl, sym, ap, ◌∙◌, subst, arith, All, Option, Some}
+use Rattle.std.proofs.Common.{None}
 use Rattle.std.specs.Prelude.{MatchOption, slice_get, slice_index_or}
 use Rattle.std.specs.List.{AllByRecursion, IsDistinct, list_any}
 use Rattle.std.specs.Str.{bytes_eq}
 use Rattle.std.proofs.lemmas.Bool.{false≢true}
-use Rattle.std.proofs.lemmas.List.{get_or-drop, get_or-take, get_or_append_left, length-append, length-drop, length-map, length-take-le, map-append, take-map, take_all, take_more}
+use Rattle.std.proofs.lemmas.List.{get_or-drop, get_or-take, get_or_append_left, length-append, length-drop, length-map}
+use Rattle.std.proofs.lemmas.List.{length-take-le, map-append, take-map, take_all, take_more}
 use Rattle.std.proofs.lemmas.List.Elements.{All-push, All-take, All-from_recursion, recursion_from_All}
 use Rattle.std.proofs.Math.Seq.{get_or-append_seam}
 use denote.Ref.{Bor}
@@ -14,10 +17,12 @@ use Rattle.profile_rows.specs.declared.tallies.Tally.{Tally}
 use Rattle.profile_rows.specs.declared.weighted_stacks.WeightedStack.{WeightedStack}
 use Rattle.profile_rows.specs.Names.{IsName, is_same_name}
 use Rattle.profile_rows.specs.Rows.{has_name}
-use Rattle.profile_rows.specs.Tallies.{AreSingle, AreTalliesOf, HasCounted, IsNumberedStack, IsTallyOf, names_at, tally_at, tally_of}
+use Rattle.profile_rows.specs.Tallies.{AreSingle, AreTalliesOf, HasCounted, IsNumberedStack, IsTallyOf, names_at}
+use Rattle.profile_rows.specs.Tallies.{tally_at, tally_of}
 use Rattle.profile_rows.specs.TextTables.{place_in, with_text}
 use Rattle.profile_rows.proofs.TallyLaws.{zero_tally}
-use Rattle.profile_rows.proofs.TextPlaces.{any_push, no_text, none_at_end, place_in-lt, place_in-with, shown_at, text_at_place, turned, with_text-new, with_text-there}
+use Rattle.profile_rows.proofs.TextPlaces.{any_push, no_text, none_at_end, place_in-lt, place_in-with, shown_at}
+use Rattle.profile_rows.proofs.TextPlaces.{text_at_place, turned, with_text-new, with_text-there}
 use Rattle.profile_rows.proofs.SameNames.{is_same_name-self}
 
 abbrev texts_of : List (Bor (List ℕ)) → List (List ℕ)
@@ -25,22 +30,27 @@ texts_of frames = map (λ (frame : Bor (List ℕ)). frame.now) frames
 
 -- ---- a name more
 
-single_push : (names : List (List ℕ)) (name : List ℕ) → AreSingle names → list_any (bytes_eq name) names ≡ false → AreSingle (names ++ name ∷ [])
+single_push : (names : List (List ℕ)) (name : List ℕ)
+    → AreSingle names → list_any (bytes_eq name) names ≡ false → AreSingle (names ++ name ∷ [])
 unfolding IsDistinct
 single_push [] name single none = (tt, tt)
 single_push (first ∷ names) name single none =
-    elim (bytes_eq name first) as (λ b. bytes_eq name first ≡ b → (b || list_any (bytes_eq name) names) ≡ false → AreSingle (first ∷ names ++ name ∷ [])) [
+    elim (bytes_eq name first) as (λ b. bytes_eq name first ≡ b
+    → (b || list_any (bytes_eq name) names) ≡ false → AreSingle (first ∷ names ++ name ∷ [])) [
       | true ↦ λ is e. absurd (false≢true (sym e))
       | false ↦ λ is e. (apart names single.0 (turned name first is), single_push names name single.1 e)
     ] refl none
   where
-    apart : (others : List (List ℕ)) → AllByRecursion (λ (other : List ℕ). is_same_name first other ≡ false) others → is_same_name first name ≡ false
+    apart : (others : List (List ℕ))
+        → AllByRecursion (λ (other : List ℕ). is_same_name first other ≡ false) others → is_same_name first name ≡ false
         → AllByRecursion (λ (other : List ℕ). is_same_name first other ≡ false) (others ++ name ∷ [])
     apart [] all this = (this, tt)
     apart (other ∷ others) all this = (all.0, apart others all.1 this)
 
-tally_of-push : (names : List (List ℕ)) (tallies : List Tally) (name q : List ℕ) → length tallies ≡ length names → tally_of (names ++ name ∷ []) (tallies ++ zero_tally ∷ []) q ≡ tally_of names tallies q
-tally_of-push [] [] name q same = elim (bytes_eq q name) as (λ b. tally_at (zero_tally ∷ []) (cond b 0 (0 + 1)) ≡ zero_tally) [ true ↦ refl | false ↦ refl ]
+tally_of-push : (names : List (List ℕ)) (tallies : List Tally) (name q : List ℕ) → length tallies ≡ length names
+    → tally_of (names ++ name ∷ []) (tallies ++ zero_tally ∷ []) q ≡ tally_of names tallies q
+tally_of-push [] [] name q same = elim (bytes_eq q name) as (λ b. tally_at (zero_tally ∷ []) (cond b 0 (0 + 1))
+    ≡ zero_tally) [ true ↦ refl | false ↦ refl ]
 tally_of-push [] (tally ∷ tallies) name q same = absurd (omega (arith, same))
 tally_of-push (first ∷ names) [] name q same = absurd (omega (arith, same))
 tally_of-push (first ∷ names) (tally ∷ tallies) name q same =
@@ -48,17 +58,22 @@ tally_of-push (first ∷ names) (tally ∷ tallies) name q same =
     let here = place_in names q in
     let next : more + 1 ≡ suc more = omega arith in
     let before : suc here ≡ here + 1 = omega arith in
-    elim (bytes_eq q first) as (λ b. tally_at (tally ∷ tallies ++ zero_tally ∷ []) (cond b 0 (more + 1)) ≡ tally_at (tally ∷ tallies) (cond b 0 (here + 1))) [
+    elim (bytes_eq q first) as (λ b. tally_at (tally ∷ tallies ++ zero_tally ∷ []) (cond b 0 (more + 1))
+    ≡ tally_at (tally ∷ tallies) (cond b 0 (here + 1))) [
       | true ↦ refl
-      | false ↦ ap (tally_at (tally ∷ tallies ++ zero_tally ∷ [])) next ∙ tally_of-push names tallies name q (omega (arith, same)) ∙ ap (tally_at (tally ∷ tallies)) before
+      | false ↦ ap (tally_at (tally ∷ tallies ++ zero_tally ∷ [])) next
+          ∙ tally_of-push names tallies name q (omega (arith, same)) ∙ ap (tally_at (tally ∷ tallies)) before
     ]
 
 -- a name that is new has a tally of no row
-pub named-new : (rows : List WeightedStack) (names next : List (List ℕ)) (old new : Tallies) (name : List ℕ) (number : ℕ) → next ≡ with_text names name → number ≡ place_in (with_text names name) name
-    → number ≡ length old.names.items → new.total ≡ old.total → new.names.items ≡ old.names.items ++ zero_tally ∷ [] → AreTalliesOf rows names old → AreTalliesOf rows next new
+pub named-new : (rows : List WeightedStack) (names next : List (List ℕ)) (old new : Tallies)
+    (name : List ℕ) (number : ℕ) → next ≡ with_text names name → number ≡ place_in (with_text names name) name
+    → number ≡ length old.names.items → new.total ≡ old.total → new.names.items ≡ old.names.items ++ zero_tally ∷ []
+    → AreTalliesOf rows names old → AreTalliesOf rows next new
 named-new rows names next old new name number is place end total pushed are =
     let many = are.many in
-    let last : length names ≤ place_in names name = let same = place_in-with names name in omega (arith, many, place, end, same) in
+    let last : length names ≤ place_in names name =
+    let same = place_in-with names name in omega (arith, many, place, end, same) in
     let none : list_any (bytes_eq name) names ≡ false = none_at_end names name last in
     let longer : next ≡ names ++ name ∷ [] = is ∙ with_text-new names name none in
     record {
@@ -69,14 +84,18 @@ named-new rows names next old new name number is place end total pushed are =
           omega (arith, left, right, many);
       each = λ q.
           let same : tally_of next new.names.items q ≡ tally_of names old.names.items q =
-          ap (λ ns. tally_of ns new.names.items q) longer ∙ ap (λ ts. tally_of (names ++ name ∷ []) ts q) pushed ∙ tally_of-push names old.names.items name q many in
-          subst (λ n. IsTallyOf rows n q (tally_of next new.names.items q)) (sym total) (subst (IsTallyOf rows old.total q) (sym same) (are.each q));
+          ap (λ ns. tally_of ns new.names.items q) longer ∙ ap (λ ts. tally_of (names ++ name ∷ []) ts q) pushed
+          ∙ tally_of-push names old.names.items name q many in
+          subst (λ n. IsTallyOf rows n q (tally_of next new.names.items q))
+          (sym total) (subst (IsTallyOf rows old.total q) (sym same) (are.each q));
       total = total ∙ are.total;
     }
 
 -- a name that has a number leaves the tallies
-pub named-known : (rows : List WeightedStack) (names next : List (List ℕ)) (tallies : Tallies) (name : List ℕ) (number : ℕ) → next ≡ with_text names name → number ≡ place_in (with_text names name) name
-    → (number ≡ length tallies.names.items → ⊥) → number ≤ length names → AreTalliesOf rows names tallies → AreTalliesOf rows next tallies
+pub named-known : (rows : List WeightedStack) (names next : List (List ℕ)) (tallies : Tallies)
+    (name : List ℕ) (number : ℕ) → next ≡ with_text names name → number ≡ place_in (with_text names name) name
+    → (number ≡ length tallies.names.items → ⊥)
+    → number ≤ length names → AreTalliesOf rows names tallies → AreTalliesOf rows next tallies
 named-known rows names next tallies name number is place other most are =
     let many = are.many in
     let same = place_in-with names name in
@@ -89,13 +108,15 @@ none_single : AreSingle []
 unfolding IsDistinct
 none_single = tt
 
-pub none_counted : (counted : CountedRows) → counted.names.texts ≡ [] → counted.tallies.names.items ≡ [] → counted.tallies.total ≡ 0 → counted.frames.items ≡ [] → counted.numbers.items ≡ [] → HasCounted [] counted
+pub none_counted : (counted : CountedRows) → counted.names.texts ≡ [] → counted.tallies.names.items ≡ []
+    → counted.tallies.total ≡ 0 → counted.frames.items ≡ [] → counted.numbers.items ≡ [] → HasCounted [] counted
 none_counted counted names tallies total frames numbers = record {
   tallies = record {
     single = subst AreSingle (sym names) none_single;
     many = ap length tallies ∙ sym (ap length names);
     each = λ q.
-        let none : tally_of counted.names.texts counted.tallies.names.items q ≡ zero_tally = ap (λ ts. tally_of counted.names.texts ts q) tallies ∙ past (place_in counted.names.texts q) in
+        let none : tally_of counted.names.texts counted.tallies.names.items q ≡ zero_tally =
+        ap (λ ts. tally_of counted.names.texts ts q) tallies ∙ past (place_in counted.names.texts q) in
         record {
           flat = ap (λ (t : Tally). t.flat) none;
           cumulative = ap (λ (t : Tally). t.cumulative) none;
@@ -104,7 +125,8 @@ none_counted counted names tallies total frames numbers = record {
         };
     total = total;
   };
-  inside = subst (All (λ number. number < length counted.names.texts)) (sym numbers) (All-from_recursion (λ number. number < length counted.names.texts) [] tt);
+  inside = subst (All (λ number. number < length counted.names.texts))
+      (sym numbers) (All-from_recursion (λ number. number < length counted.names.texts) [] tt);
   frames = ap (names_at counted.names.texts) numbers ∙ sym (ap texts_of frames);
 }
   where
@@ -112,63 +134,81 @@ none_counted counted names tallies total frames numbers = record {
     past zero = refl
     past (suc number) = refl
 
-names_at-more : (names more : List (List ℕ)) (numbers : List ℕ) → AllByRecursion (λ number. number < length names) numbers → names_at (names ++ more) numbers ≡ names_at names numbers
+names_at-more : (names more : List (List ℕ)) (numbers : List ℕ) → AllByRecursion
+    (λ number. number < length names) numbers → names_at (names ++ more) numbers ≡ names_at names numbers
 names_at-more names more [] all = refl
 names_at-more names more (number ∷ numbers) all =
     ap (λ name. name ∷ names_at (names ++ more) numbers) (get_or_append_left names more [] number all.0)
     ∙ ap (λ ns. slice_index_or names number [] ∷ ns) (names_at-more names more numbers all.1)
 
 -- a name more changes no name of a number
-names_at-with : (names : List (List ℕ)) (name : List ℕ) (numbers : List ℕ) → AllByRecursion (λ number. number < length names) numbers → names_at (with_text names name) numbers ≡ names_at names numbers
-names_at-with names name numbers all = elim (list_any (bytes_eq name) names) as (λ b. names_at (cond b names (names ++ name ∷ [])) numbers ≡ names_at names numbers) [
-  | true ↦ refl
-  | false ↦ names_at-more names (name ∷ []) numbers all
-]
+names_at-with : (names : List (List ℕ)) (name : List ℕ) (numbers : List ℕ) → AllByRecursion
+    (λ number. number < length names) numbers → names_at (with_text names name) numbers ≡ names_at names numbers
+names_at-with names name numbers all = elim (list_any
+    (bytes_eq name) names) as (λ b. names_at (cond b names (names ++ name ∷ [])) numbers ≡ names_at names numbers) [
+      | true ↦ refl
+      | false ↦ names_at-more names (name ∷ []) numbers all
+    ]
 
 length-with : (names : List (List ℕ)) (name : List ℕ) → length names ≤ length (with_text names name)
-length-with names name = elim (list_any (bytes_eq name) names) as (λ b. length names ≤ length (cond b names (names ++ name ∷ []))) [
-  | true ↦ omega arith
-  | false ↦ let more = length-append names (name ∷ []) in omega (arith, more)
-]
+length-with names name =
+    elim (list_any (bytes_eq name) names) as (λ b. length names ≤ length (cond b names (names ++ name ∷ []))) [
+      | true ↦ omega arith
+      | false ↦ let more = length-append names (name ∷ []) in omega (arith, more)
+    ]
 
 -- a name that was added has its place before the end
-place-within : (names : List (List ℕ)) (name : List ℕ) → place_in (with_text names name) name < length (with_text names name)
-place-within names name = elim (list_any (bytes_eq name) names) as (λ b. list_any (bytes_eq name) names ≡ b → place_in (cond b names (names ++ name ∷ [])) name < length (cond b names (names ++ name ∷ []))) [
-  | true ↦ λ e. place_in-lt names name e
-  | false ↦ λ e. place_in-lt (names ++ name ∷ []) name (any_push names name name ∙ ap (λ b. list_any (bytes_eq name) names || b) (is_same_name-self name) ∙ or_true (list_any (bytes_eq name) names))
-] refl
+place-within : (names : List (List ℕ)) (name : List ℕ)
+    → place_in (with_text names name) name < length (with_text names name)
+place-within names name = elim (list_any (bytes_eq name) names) as (λ b. list_any (bytes_eq name) names ≡ b
+    → place_in (cond b names (names ++ name ∷ [])) name < length (cond b names (names ++ name ∷ []))) [
+      | true ↦ λ e. place_in-lt names name e
+      | false ↦ λ e. place_in-lt (names ++ name ∷ []) name (any_push names name name ∙ ap
+          (λ b. list_any (bytes_eq name) names || b) (is_same_name-self name)
+          ∙ or_true (list_any (bytes_eq name) names))
+    ] refl
   where
     or_true : (b : Bool) → (b || true) ≡ true
     or_true true = refl
     or_true false = refl
 
 -- a frame more, with its number
-pub frame_pushed : (rows : List WeightedStack) (old new : CountedRows) (frame : Bor (List ℕ)) (number : ℕ) → new.names.texts ≡ with_text old.names.texts frame.now → number ≡ place_in new.names.texts frame.now
-    → AreTalliesOf rows new.names.texts new.tallies → new.frames.items ≡ old.frames.items ++ frame ∷ [] → new.numbers.items ≡ old.numbers.items ++ number ∷ [] → HasCounted rows old → HasCounted rows new
+pub frame_pushed : (rows : List WeightedStack) (old new : CountedRows) (frame : Bor (List ℕ)) (number : ℕ)
+    → new.names.texts ≡ with_text old.names.texts frame.now → number ≡ place_in new.names.texts frame.now
+    → AreTalliesOf rows new.names.texts new.tallies → new.frames.items ≡ old.frames.items ++ frame ∷ []
+    → new.numbers.items ≡ old.numbers.items ++ number ∷ [] → HasCounted rows old → HasCounted rows new
 frame_pushed rows old new frame number names place tallies frames numbers this =
     let longer = length-with old.names.texts frame.now in
     let size = ap length names in
-    let low : number < length new.names.texts = let within = place-within old.names.texts frame.now in let same = ap (λ ns. place_in ns frame.now) names in omega (arith, within, size, place, same) in
-    let at : slice_index_or new.names.texts number [] ≡ frame.now = ap (λ n. slice_index_or new.names.texts n []) place ∙ text_at_place new.names.texts frame.now (subst (λ n. n < length new.names.texts) place low) in
+    let low : number < length new.names.texts = let within = place-within old.names.texts frame.now in let same =
+    ap (λ ns. place_in ns frame.now) names in omega (arith, within, size, place, same) in
+    let at : slice_index_or new.names.texts number [] ≡ frame.now = ap (λ n. slice_index_or new.names.texts n []) place
+    ∙ text_at_place new.names.texts frame.now (subst (λ n. n < length new.names.texts) place low) in
     record {
       tallies = tallies;
       inside = subst (All (λ n. n < length new.names.texts)) (sym numbers)
-          (All-push (λ n. n < length new.names.texts) old.numbers.items number (λ k d lt. let within = this.inside k d lt in omega (arith, within, longer, size)) low);
+          (All-push (λ n. n < length new.names.texts) old.numbers.items number
+          (λ k d lt. let within = this.inside k d lt in omega (arith, within, longer, size)) low);
       frames = ap (names_at new.names.texts) numbers
           ∙ map-append (λ n. slice_index_or new.names.texts n []) old.numbers.items (number ∷ [])
-          ∙ ap (λ ns. ns ++ slice_index_or new.names.texts number [] ∷ []) (ap (λ ns. names_at ns old.numbers.items) names
-          ∙ names_at-with old.names.texts frame.now old.numbers.items (recursion_from_All (λ n. n < length old.names.texts) old.numbers.items this.inside) ∙ this.frames)
+          ∙ ap (λ ns. ns ++ slice_index_or new.names.texts number [] ∷ [])
+          (ap (λ ns. names_at ns old.numbers.items) names
+          ∙ names_at-with old.names.texts frame.now old.numbers.items
+          (recursion_from_All (λ n. n < length old.names.texts) old.numbers.items this.inside) ∙ this.frames)
           ∙ ap (λ name. texts_of old.frames.items ++ name ∷ []) at
           ∙ sym (ap texts_of frames ∙ map-append (λ (f : Bor (List ℕ)). f.now) old.frames.items (frame ∷ []));
     }
 
 -- the first frames, with their numbers
-pub frames_kept : (rows : List WeightedStack) (old new : CountedRows) (count : ℕ) → new.names.texts ≡ old.names.texts → new.tallies ≡ old.tallies → new.frames.items ≡ take count old.frames.items
+pub frames_kept : (rows : List WeightedStack) (old new : CountedRows) (count : ℕ)
+    → new.names.texts ≡ old.names.texts → new.tallies ≡ old.tallies → new.frames.items ≡ take count old.frames.items
     → new.numbers.items ≡ take count old.numbers.items → HasCounted rows old → HasCounted rows new
 frames_kept rows old new count names tallies frames numbers this = record {
-  tallies = subst (λ ns. AreTalliesOf rows ns new.tallies) (sym names) (subst (AreTalliesOf rows old.names.texts) (sym tallies) this.tallies);
+  tallies = subst (λ ns. AreTalliesOf rows ns new.tallies)
+      (sym names) (subst (AreTalliesOf rows old.names.texts) (sym tallies) this.tallies);
   inside = subst (λ (ns : List (List ℕ)). All (λ n. n < length ns) new.numbers.items) (sym names)
-      (subst (All (λ n. n < length old.names.texts)) (sym numbers) (All-take (λ n. n < length old.names.texts) count old.numbers.items this.inside));
+      (subst (All (λ n. n < length old.names.texts))
+      (sym numbers) (All-take (λ n. n < length old.names.texts) count old.numbers.items this.inside));
   frames = ap (λ ns. names_at ns new.numbers.items) names ∙ ap (names_at old.names.texts) numbers
       ∙ sym (take-map (λ n. slice_index_or old.names.texts n []) count old.numbers.items) ∙ ap (take count) this.frames
       ∙ take-map (λ (f : Bor (List ℕ)). f.now) count old.frames.items ∙ sym (ap texts_of frames);
@@ -177,26 +217,35 @@ frames_kept rows old new count names tallies frames numbers this = record {
 -- ---- a row's frames
 
 -- one frame more of those after the first
-pub next_frame : (frames rest : List (Bor (List ℕ))) (shared i : ℕ) → rest ≡ take (length frames - shared) (drop shared frames) → i < length rest → shared ≤ length frames
-    → take (shared + (i + 1)) (texts_of frames) ≡ take (shared + i) (texts_of frames) ++ (get_or rest i no_text).now ∷ []
+pub next_frame : (frames rest : List (Bor (List ℕ))) (shared i : ℕ)
+    → rest ≡ take (length frames - shared) (drop shared frames) → i < length rest → shared ≤ length frames
+    → take (shared + (i + 1)) (texts_of frames)
+    ≡ take (shared + i) (texts_of frames) ++ (get_or rest i no_text).now ∷ []
 next_frame frames rest shared i is lt within =
-    let some = ap length is ∙ length-take-le (length frames - shared) (drop shared frames) (let left = length-drop shared frames in omega (arith, left)) in
+    let some = ap length is ∙ length-take-le
+    (length frames - shared) (drop shared frames) (let left = length-drop shared frames in omega (arith, left)) in
     let inside : shared + i < length frames = omega (arith, some, lt, within) in
     let long = length-map frames (λ (frame : Bor (List ℕ)). frame.now) in
     let next : shared + (i + 1) ≡ shared + i + 1 = omega arith in
     ap (λ n. take n (texts_of frames)) next
     ∙ take_more (texts_of frames) (shared + i) [] (omega (arith, inside, long))
     ∙ ap (λ name. take (shared + i) (texts_of frames) ++ name ∷ []) (shown_at frames (shared + i) no_text
-    ∙ ap (λ (frame : Bor (List ℕ)). frame.now) (sym (ap (λ fs. get_or fs i no_text) is ∙ get_or-take (length frames - shared) (drop shared frames) i no_text (omega (arith, inside, within)) ∙ get_or-drop shared frames i no_text)))
+    ∙ ap (λ (frame : Bor (List ℕ)). frame.now)
+    (sym (ap (λ fs. get_or fs i no_text) is ∙ get_or-take (length frames - shared)
+    (drop shared frames) i no_text (omega (arith, inside, within)) ∙ get_or-drop shared frames i no_text)))
 
-pub all_frames : (frames rest : List (Bor (List ℕ))) (shared i : ℕ) → rest ≡ take (length frames - shared) (drop shared frames) → length rest ≤ i → shared ≤ length frames → take (shared + i) (texts_of frames) ≡ texts_of frames
+pub all_frames : (frames rest : List (Bor (List ℕ))) (shared i : ℕ)
+    → rest ≡ take (length frames - shared) (drop shared frames)
+    → length rest ≤ i → shared ≤ length frames → take (shared + i) (texts_of frames) ≡ texts_of frames
 all_frames frames rest shared i is end within =
-    let some = ap length is ∙ length-take-le (length frames - shared) (drop shared frames) (let left = length-drop shared frames in omega (arith, left)) in
+    let some = ap length is ∙ length-take-le
+    (length frames - shared) (drop shared frames) (let left = length-drop shared frames in omega (arith, left)) in
     let long = length-map frames (λ (frame : Bor (List ℕ)). frame.now) in
     take_all (shared + i) (texts_of frames) (omega (arith, some, end, within, long))
 
 -- the last number and those before it
-last_of : (numbers : List ℕ) → MatchOption (slice_get numbers (length numbers - 1)) (numbers ≡ []) (λ number. (before : List ℕ) × (numbers ≡ before ++ number ∷ []))
+last_of : (numbers : List ℕ) → MatchOption (slice_get numbers (length numbers - 1))
+    (numbers ≡ []) (λ number. (before : List ℕ) × (numbers ≡ before ++ number ∷ []))
 last_of [] = refl
 last_of (number ∷ []) = ([], refl)
 last_of (first ∷ number ∷ numbers) =
@@ -204,20 +253,24 @@ last_of (first ∷ number ∷ numbers) =
     let end : length all - 1 ≡ suc (length numbers) = omega arith in
     let before : length (number ∷ numbers) - 1 ≡ length numbers = omega arith in
     subst (λ k. MatchOption (slice_get all k) (all ≡ []) (λ n. (before : List ℕ) × (all ≡ before ++ n ∷ []))) (sym end)
-    (elim (slice_get (number ∷ numbers) (length numbers)) as (λ last. MatchOption last (number ∷ numbers ≡ []) (λ n. (before : List ℕ) × (number ∷ numbers ≡ before ++ n ∷ []))
+    (elim (slice_get (number ∷ numbers) (length numbers)) as (λ last. MatchOption last
+    (number ∷ numbers ≡ []) (λ n. (before : List ℕ) × (number ∷ numbers ≡ before ++ n ∷ []))
     → MatchOption last (all ≡ []) (λ n. (before : List ℕ) × (all ≡ before ++ n ∷ []))) [
       | None ↦ λ none. absurd (let long = ap length none in omega (arith, long))
       | Some n ↦ λ found. (first ∷ found.0, ap (λ ns. first ∷ ns) found.1)
-    ] (subst (λ k. MatchOption (slice_get (number ∷ numbers) k) (number ∷ numbers ≡ []) (λ n. (before : List ℕ) × (number ∷ numbers ≡ before ++ n ∷ []))) before (last_of (number ∷ numbers))))
+    ] (subst (λ k. MatchOption (slice_get (number ∷ numbers) k) (number ∷ numbers ≡ [])
+    (λ n. (before : List ℕ) × (number ∷ numbers ≡ before ++ n ∷ []))) before (last_of (number ∷ numbers))))
 
 inside_last : (many : ℕ) (before : List ℕ) (number : ℕ) → All (λ n. n < many) (before ++ number ∷ []) → number < many
 inside_last many before number all =
     let long = length-append before (number ∷ []) in
     subst (λ n. n < many) (get_or-append_seam before number [] 0) (all (length before) 0 (omega (arith, long)))
 
-leaf_of : (names stack : List (List ℕ)) (numbers : List ℕ) (leaf : Option ℕ) → names_at names numbers ≡ stack → All (λ n. n < length names) numbers
+leaf_of : (names stack : List (List ℕ)) (numbers : List ℕ) (leaf : Option ℕ)
+    → names_at names numbers ≡ stack → All (λ n. n < length names) numbers
     → MatchOption leaf (numbers ≡ []) (λ number. (before : List ℕ) × (numbers ≡ before ++ number ∷ []))
-    → MatchOption leaf (stack ≡ []) (λ number. (number < length names) × (callers : List (List ℕ)) × (stack ≡ callers ++ slice_index_or names number [] ∷ []))
+    → MatchOption leaf (stack ≡ []) (λ number. (number < length names)
+    × (callers : List (List ℕ)) × (stack ≡ callers ++ slice_index_or names number [] ∷ []))
 leaf_of names stack numbers None is inside none = sym is ∙ ap (names_at names) none
 leaf_of names stack numbers (Some number) is inside (before, last) = (
   inside_last (length names) before number (subst (All (λ n. n < length names)) last inside),
@@ -226,15 +279,20 @@ leaf_of names stack numbers (Some number) is inside (before, last) = (
 )
 
 -- the numbers of a row's frames, of which the last is the leaf's
-pub row_numbered : (rows : List WeightedStack) (counted : CountedRows) (frames : List (Bor (List ℕ))) (numbers : List ℕ) (leaf : Option ℕ) → HasCounted rows counted → texts_of counted.frames.items ≡ texts_of frames
-    → All IsName (texts_of frames) → numbers ≡ counted.numbers.items → leaf ≡ slice_get numbers (length numbers - 1) → IsNumberedStack counted.names.texts (texts_of frames) numbers leaf
+pub row_numbered : (rows : List WeightedStack) (counted : CountedRows) (frames : List (Bor (List ℕ)))
+    (numbers : List ℕ) (leaf : Option ℕ) → HasCounted rows counted → texts_of counted.frames.items ≡ texts_of frames
+    → All IsName (texts_of frames) → numbers ≡ counted.numbers.items → leaf ≡ slice_get numbers (length numbers - 1)
+    → IsNumberedStack counted.names.texts (texts_of frames) numbers leaf
 row_numbered rows counted frames numbers leaf this same named lent last =
-    let stack : names_at counted.names.texts numbers ≡ texts_of frames = ap (names_at counted.names.texts) lent ∙ this.frames ∙ same in
-    let inside : All (λ n. n < length counted.names.texts) numbers = subst (All (λ n. n < length counted.names.texts)) (sym lent) this.inside in
+    let stack : names_at counted.names.texts numbers ≡ texts_of frames = ap (names_at counted.names.texts) lent
+    ∙ this.frames ∙ same in
+    let inside : All (λ n. n < length counted.names.texts) numbers =
+    subst (All (λ n. n < length counted.names.texts)) (sym lent) this.inside in
     record {
       named = named;
       inside = inside;
       same = λ name. ap (has_name name) stack;
       last = leaf_of counted.names.texts (texts_of frames) numbers leaf stack inside
-          (subst (λ o. MatchOption o (numbers ≡ []) (λ number. (before : List ℕ) × (numbers ≡ before ++ number ∷ []))) (sym last) (last_of numbers));
+          (subst (λ o. MatchOption o (numbers ≡ []) (λ number. (before : List ℕ) × (numbers ≡ before ++ number ∷ [])))
+          (sym last) (last_of numbers));
     }

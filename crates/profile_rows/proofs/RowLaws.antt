@@ -1,12 +1,14 @@
 -- What rows weigh, and the maps that they add up to.
-use Rattle.std.proofs.Common.{◌≡◌, ◌≢◌, ℕ, ◌+◌, ◌<◌, ◌≤◌, Bool, true, false, cond, ltb, List, [], ◌∷◌, ◌++◌, length, get_or, Option, Some, None, refl, sym, ap, ◌∙◌, subst, arith}
+use Rattle.std.proofs.Common.{◌≡◌, ◌≢◌, ℕ, ◌+◌, ◌<◌, ◌≤◌, Bool, true, false, cond, ltb, List, [], ◌∷◌, ◌++◌, length}
+use Rattle.std.proofs.Common.{get_or, Option, Some, None, refl, sym, ap, ◌∙◌, subst, arith}
 use Rattle.std.specs.Option.{unwrap_or}
 use Rattle.std.specs.declared.cmp.Ordering.{Ordering}
 use Rattle.std.specs.Ordering.{is_eq}
 use Rattle.std.specs.declared.cmp.Ordering.TheVariants.{Less, Equal, Greater}
 use Rattle.std.specs.Cmp.{IsTotalOrder}
 use Rattle.std.specs.FinMap as map
-use Rattle.std.specs.FinMap.{IsAntisymmetric, slice_cmp-IsAntisymmetric, nat_cmp-IsAntisymmetric, get-insert, get-empty, get_tied, same_map}
+use Rattle.std.specs.FinMap.{IsAntisymmetric, slice_cmp-IsAntisymmetric, nat_cmp-IsAntisymmetric, get-insert, get-empty}
+use Rattle.std.specs.FinMap.{get_tied, same_map}
 use Rattle.std.proofs.lemmas.Cmp.{nat_list_cmp_total, lists_total, tied_itself}
 use Rattle.std.proofs.lemmas.List.Sums.{sum_by-cons, sum_by_push, sum_by-set, sum_by-le-sum_by}
 use Rattle.std.proofs.Math.ListN.{set}
@@ -40,7 +42,8 @@ weight_in_put : (m : Weighted) (t : List (List ℕ)) (w : ℕ) (s : List (List �
     → weight_in (map.insert m t (weight_in m t + w)) s ≡ weight_in m s + cond (is_same_stack s t) w 0
 weight_in_put m t w s =
     ap (λ o. unwrap_or o 0) (get-insert stack_cmp_total m t (weight_in m t + w) s)
-    ∙ elim (is_same_stack s t) as (λ b. is_same_stack s t ≡ b → unwrap_or (cond b (Some (weight_in m t + w)) (map.get m s)) 0 ≡ weight_in m s + cond b w 0) [
+    ∙ elim (is_same_stack s t) as (λ b. is_same_stack s t ≡ b
+    → unwrap_or (cond b (Some (weight_in m t + w)) (map.get m s)) 0 ≡ weight_in m s + cond b w 0) [
       | true ↦ λ e. ap (λ x. x + w) (weight_in_tied m s t e)
       | false ↦ λ e. omega arith
     ] refl
@@ -49,14 +52,17 @@ pub no_more : (w a : ℕ) (b : Bool) → ltb 0 w ≡ false → a ≡ a + cond b 
 no_more w a true e = let zero : w ≤ 0 = ltb-false 0 w e in omega arith
 no_more w a false e = omega arith
 
-pub weight_in-with_row : (m : Weighted) (row : WeightedStack) (s : List (List ℕ)) → weight_in (with_row m row) s ≡ weight_in m s + weight_if (is_same_stack s) row
+pub weight_in-with_row : (m : Weighted) (row : WeightedStack) (s : List (List ℕ))
+    → weight_in (with_row m row) s ≡ weight_in m s + weight_if (is_same_stack s) row
 weight_in-with_row m row s =
-    elim (ltb 0 row.weight) as (λ b. ltb 0 row.weight ≡ b → weight_in (cond b (map.insert m row.stack (weight_in m row.stack + row.weight)) m) s ≡ weight_in m s + cond (is_same_stack s row.stack) row.weight 0) [
+    elim (ltb 0 row.weight) as (λ b. ltb 0 row.weight ≡ b → weight_in (cond b (map.insert m row.stack
+    (weight_in m row.stack + row.weight)) m) s ≡ weight_in m s + cond (is_same_stack s row.stack) row.weight 0) [
       | true ↦ λ e. weight_in_put m row.stack row.weight s
       | false ↦ λ e. no_more row.weight (weight_in m s) (is_same_stack s row.stack) e
     ] refl
 
-pub weight_in-with_rows : (m : Weighted) (rows : List WeightedStack) (s : List (List ℕ)) → weight_in (with_rows m rows) s ≡ weight_in m s + weight_of rows s
+pub weight_in-with_rows : (m : Weighted) (rows : List WeightedStack) (s : List (List ℕ))
+    → weight_in (with_rows m rows) s ≡ weight_in m s + weight_of rows s
 weight_in-with_rows m [] s = omega arith
 weight_in-with_rows m (row ∷ rows) s =
     let rest = weight_in-with_rows (with_row m row) rows s in
@@ -74,7 +80,8 @@ positive_put false v o p h e = h e
 
 pub IsPositive-with_row : (m : Weighted) (row : WeightedStack) → IsPositive m → IsPositive (with_row m row)
 IsPositive-with_row m row h s =
-    elim (ltb 0 row.weight) as (λ b. ltb 0 row.weight ≡ b → map.get (cond b (map.insert m row.stack (weight_in m row.stack + row.weight)) m) s ≢ Some 0) [
+    elim (ltb 0 row.weight) as (λ b. ltb 0 row.weight ≡ b
+    → map.get (cond b (map.insert m row.stack (weight_in m row.stack + row.weight)) m) s ≢ Some 0) [
       | true ↦ λ e. let some : 0 < row.weight = ltb-true 0 row.weight e in
           subst (λ o. o ≢ Some 0) (sym (get-insert stack_cmp_total m row.stack (weight_in m row.stack + row.weight) s))
           (positive_put (is_same_stack s row.stack) _ (map.get m s) (omega arith) (h s))
@@ -98,47 +105,59 @@ same_option (Some x) None h k e = absurd (h (ap Some e))
 same_option (Some x) (Some y) h k e = ap Some e
 
 -- two such maps with one weight for each stack are one map
-pub same_weighted : (m n : Weighted) → IsPositive m → IsPositive n → ((s : List (List ℕ)) → weight_in m s ≡ weight_in n s) → m ≡ n
-same_weighted m n h k e = same_map stack_cmp_total stack_cmp_apart m n (λ s. same_option (map.get m s) (map.get n s) (h s) (k s) (e s))
+pub same_weighted : (m n : Weighted)
+    → IsPositive m → IsPositive n → ((s : List (List ℕ)) → weight_in m s ≡ weight_in n s) → m ≡ n
+same_weighted m n h k e =
+    same_map stack_cmp_total stack_cmp_apart m n (λ s. same_option (map.get m s) (map.get n s) (h s) (k s) (e s))
 
-pub weight_in-aggregate_of : (rows : List WeightedStack) (s : List (List ℕ)) → weight_in (aggregate_of rows) s ≡ weight_of rows s
+pub weight_in-aggregate_of : (rows : List WeightedStack) (s : List (List ℕ))
+    → weight_in (aggregate_of rows) s ≡ weight_of rows s
 weight_in-aggregate_of rows s =
     let all = weight_in-with_rows map.empty rows s in
     let none = ap (λ o. unwrap_or o 0) (get-empty {X = ℕ} stack_cmp s) in
     omega (arith, all, none)
 
 -- rows that weigh the same at each stack add up to one map
-pub aggregate_of-same : (rows others : List WeightedStack) → ((s : List (List ℕ)) → weight_of rows s ≡ weight_of others s) → aggregate_of rows ≡ aggregate_of others
+pub aggregate_of-same : (rows others : List WeightedStack)
+    → ((s : List (List ℕ)) → weight_of rows s ≡ weight_of others s) → aggregate_of rows ≡ aggregate_of others
 aggregate_of-same rows others e =
     same_weighted _ _ (IsPositive-aggregate_of rows) (IsPositive-aggregate_of others)
     (λ s. weight_in-aggregate_of rows s ∙ e s ∙ sym (weight_in-aggregate_of others s))
 
-pub aggregate_of-more : (rows added all : List WeightedStack) → ((s : List (List ℕ)) → weight_of all s ≡ weight_of rows s + weight_of added s)
+pub aggregate_of-more : (rows added all : List WeightedStack)
+    → ((s : List (List ℕ)) → weight_of all s ≡ weight_of rows s + weight_of added s)
     → aggregate_of all ≡ with_rows (aggregate_of rows) added
 aggregate_of-more rows added all e =
     same_weighted _ _ (IsPositive-aggregate_of all) (IsPositive-with_rows _ added (IsPositive-aggregate_of rows))
-    (λ s. weight_in-aggregate_of all s ∙ e s ∙ sym (weight_in-with_rows (aggregate_of rows) added s ∙ ap (λ x. x + weight_of added s) (weight_in-aggregate_of rows s)))
+    (λ s. weight_in-aggregate_of all s ∙ e s ∙ sym (weight_in-with_rows (aggregate_of rows) added s
+    ∙ ap (λ x. x + weight_of added s) (weight_in-aggregate_of rows s)))
 
 -- ---- a row written, and a row added
 
-pub weight_where-set : (test : List (List ℕ) → Bool) (rows : List WeightedStack) (k : ℕ) (row d : WeightedStack) → k < length rows
-    → weight_where test (set rows k row) + weight_if test (get_or rows k d) ≡ weight_where test rows + weight_if test row
+pub weight_where-set : (test : List (List ℕ) → Bool) (rows : List WeightedStack) (k : ℕ) (row d : WeightedStack)
+    → k < length rows
+    → weight_where test (set rows k row) + weight_if test (get_or rows k d)
+    ≡ weight_where test rows + weight_if test row
 weight_where-set test rows k row d lt = sum_by-set (weight_if test) rows k row d lt
 
 pub weight_where-push : (test : List (List ℕ) → Bool) (rows : List WeightedStack) (row : WeightedStack)
     → weight_where test (rows ++ row ∷ []) ≡ weight_where test rows + weight_if test row
 weight_where-push test rows row = sum_by_push (weight_if test) rows row
 
-pub weight_where-one : (test : List (List ℕ) → Bool) (row : WeightedStack) → weight_where test (row ∷ []) ≡ weight_if test row
+pub weight_where-one : (test : List (List ℕ) → Bool) (row : WeightedStack)
+    → weight_where test (row ∷ []) ≡ weight_if test row
 weight_where-one test row = omega (arith, sum_by-cons (weight_if test) row [])
 
 -- more rows are added in their order
-pub with_rows-append : (m : Weighted) (rows more : List WeightedStack) → with_rows m (rows ++ more) ≡ with_rows (with_rows m rows) more
+pub with_rows-append : (m : Weighted) (rows more : List WeightedStack)
+    → with_rows m (rows ++ more) ≡ with_rows (with_rows m rows) more
 with_rows-append m [] more = refl
 with_rows-append m (row ∷ rows) more = with_rows-append (with_row m row) rows more
 
-pub weight_where-le-total : (test : List (List ℕ) → Bool) (rows : List WeightedStack) → weight_where test rows ≤ total_of rows
-weight_where-le-total test rows = sum_by-le-sum_by (weight_if test) (λ (row : WeightedStack). row.weight) rows (λ row. at_most (test row.stack) row.weight)
+pub weight_where-le-total : (test : List (List ℕ) → Bool) (rows : List WeightedStack)
+    → weight_where test rows ≤ total_of rows
+weight_where-le-total test rows = sum_by-le-sum_by
+    (weight_if test) (λ (row : WeightedStack). row.weight) rows (λ row. at_most (test row.stack) row.weight)
   where
     at_most : (b : Bool) (n : ℕ) → cond b n 0 ≤ n
     at_most true n = omega arith

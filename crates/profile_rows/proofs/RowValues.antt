@@ -1,11 +1,13 @@
 -- Rows of several values that are kept as stacks with their first values, and the other values in one list.
-use Rattle.std.proofs.Common.{◌≡◌, ℕ, zero, suc, ◌+◌, ◌-◌, ◌*◌, ◌^◌, ◌<◌, ◌≤◌, List, [], ◌∷◌, ◌++◌, length, get_or, refl, sym, ap, ◌∙◌, subst, arith, take, drop, length-append, length-drop, take_all}
+use Rattle.std.proofs.Common.{◌≡◌, ℕ, zero, suc, ◌+◌, ◌-◌, ◌*◌, ◌^◌, ◌<◌, ◌≤◌, List, [], ◌∷◌, ◌++◌, length, get_or}
+use Rattle.std.proofs.Common.{refl, sym, ap, ◌∙◌, subst, arith, take, drop, length-append, length-drop, take_all}
 use Rattle.std.proofs.lemmas.List.{drop-append-le, take-append-le, length-take-le, map-append}
 use Rattle.std.specs.List.{All}
 use Rattle.std.proofs.lemmas.List.Sums.{sum_by_push, sum_by-cons}
 use Rattle.profile_rows.specs.declared.weighted_stacks.WeightedStack.{WeightedStack}
 use Rattle.profile_rows.specs.Rows.{total_of}
-use Rattle.profile_rows.specs.Values.{AreParts, AreTotals, BatchState, HasRoom, IsBatch, Row, batch_with, row_in, rows_at, single, singles, value_of, weighing, with_values}
+use Rattle.profile_rows.specs.Values.{AreParts, AreTotals, BatchState, HasRoom, IsBatch, Row, batch_with, row_in}
+use Rattle.profile_rows.specs.Values.{rows_at, single, singles, value_of, weighing, with_values}
 use Rattle.profile_rows.proofs.FourValues.{value_of-past}
 
 abbrev pub row_with : List (List ℕ) → List ℕ → Row
@@ -14,11 +16,13 @@ row_with stack weights = record { stack = stack; weights = weights }
 pub suc_times : (n m : ℕ) → suc n * m ≡ m + n * m
 suc_times n m = omega arith
 
-pub rows_at-with_values : (m : ℕ) (rows : List WeightedStack) (values : List ℕ) → rows_at 0 (with_values m rows values) ≡ rows
+pub rows_at-with_values : (m : ℕ) (rows : List WeightedStack) (values : List ℕ)
+    → rows_at 0 (with_values m rows values) ≡ rows
 rows_at-with_values m [] values = refl
 rows_at-with_values m (row ∷ rows) values = ap (λ rest. row ∷ rest) (rows_at-with_values m rows (drop m values))
 
-pub length-with_values : (m : ℕ) (rows : List WeightedStack) (values : List ℕ) → length (with_values m rows values) ≡ length rows
+pub length-with_values : (m : ℕ) (rows : List WeightedStack) (values : List ℕ)
+    → length (with_values m rows values) ≡ length rows
 length-with_values m [] values = refl
 length-with_values m (row ∷ rows) values = ap suc (length-with_values m rows (drop m values))
 
@@ -56,7 +60,8 @@ drops (suc a) b zero (x ∷ l) whole = absurd (omega arith)
 drops (suc a) b (suc n) (x ∷ l) whole = drops a b n l (omega arith)
 
 -- the stack and the values of a row
-pub row_in-with_values : (m : ℕ) (rows : List WeightedStack) (values : List ℕ) (k : ℕ) (d : WeightedStack) → k < length rows
+pub row_in-with_values : (m : ℕ) (rows : List WeightedStack) (values : List ℕ) (k : ℕ) (d : WeightedStack)
+    → k < length rows
     → row_in (with_values m rows values) k
     ≡ record { stack = (get_or rows k d).stack; weights = (get_or rows k d).weight ∷ take m (drop (k * m) values) }
 row_in-with_values m [] values k d lt = absurd (omega arith)
@@ -65,13 +70,16 @@ row_in-with_values m (row ∷ rows) values zero d lt =
 row_in-with_values m (row ∷ rows) values (suc k) d lt =
     let times = suc_times k m in
     row_in-with_values m rows (drop m values) k d (omega arith)
-    ∙ ap (λ l. row_with (get_or rows k d).stack ((get_or rows k d).weight ∷ take m l)) (drops m (k * m) (suc k * m) values times)
+    ∙ ap (λ l. row_with (get_or rows k d).stack ((get_or rows k d).weight ∷ take m l))
+    (drops m (k * m) (suc k * m) values times)
 
 -- ---- totals
 
-pub total_of-push : (value : ℕ) (rows : List Row) (row : Row) → total_of (rows_at value (rows ++ row ∷ [])) ≡ total_of (rows_at value rows) + value_of value row.weights
+pub total_of-push : (value : ℕ) (rows : List Row) (row : Row)
+    → total_of (rows_at value (rows ++ row ∷ [])) ≡ total_of (rows_at value rows) + value_of value row.weights
 total_of-push value rows row =
-    ap total_of (map-append (weighing value) rows (row ∷ [])) ∙ sum_by_push (λ (row : WeightedStack). row.weight) (rows_at value rows) (weighing value row)
+    ap total_of (map-append (weighing value) rows (row ∷ []))
+    ∙ sum_by_push (λ (row : WeightedStack). row.weight) (rows_at value rows) (weighing value row)
 
 pub width-with_values : (m : ℕ) (rows : List WeightedStack) (values : List ℕ) → length values ≡ length rows * m
     → All (λ row. length row.weights ≡ m + 1) (with_values m rows values)
@@ -91,7 +99,8 @@ pub with_values-single : (rows : List WeightedStack) → with_values 0 rows [] �
 with_values-single [] = refl
 with_values-single (row ∷ rows) = ap (λ rest. single row ∷ rest) (with_values-single rows)
 
-pub total_of-past : (value : ℕ) (rows : List Row) (width : ℕ) → All (λ row. length row.weights ≡ width) rows → width ≤ value → total_of (rows_at value rows) ≡ 0
+pub total_of-past : (value : ℕ) (rows : List Row) (width : ℕ)
+    → All (λ row. length row.weights ≡ width) rows → width ≤ value → total_of (rows_at value rows) ≡ 0
 total_of-past value [] width widths past = refl
 total_of-past value (row ∷ rows) width widths past =
     let cons = sum_by-cons (λ (row : WeightedStack). row.weight) (weighing value row) (rows_at value rows) in
@@ -108,7 +117,8 @@ single-AreParts rows fits = (sym (times_none (length rows)), batch, are)
 
     totals : (value : ℕ) → value_of value (total_of rows ∷ []) ≡ total_of (rows_at value (with_values 0 rows []))
     totals zero = ap total_of (sym (rows_at-with_values 0 rows []))
-    totals (suc value) = sym (total_of-past (suc value) (with_values 0 rows []) 1 (width-with_values 0 rows [] (sym (times_none (length rows)))) (omega arith))
+    totals (suc value) = sym (total_of-past (suc value)
+        (with_values 0 rows []) 1 (width-with_values 0 rows [] (sym (times_none (length rows)))) (omega arith))
 
     below : (value : ℕ) → value_of value (total_of rows ∷ []) < 2 ^ 63
     below zero = fits
@@ -135,9 +145,11 @@ All-push : {X : Type 0} (P : X → Type 0) (xs : List X) (x : X) → All P xs �
 All-push P [] x all last zero d lt = last
 All-push P [] x all last (suc k) d lt = absurd (omega arith)
 All-push P (y ∷ xs) x all last zero d lt = all 0 d (omega arith)
-All-push P (y ∷ xs) x all last (suc k) d lt = All-push P xs x (λ k d lt. all (suc k) d (omega arith)) last k d (omega arith)
+All-push P (y ∷ xs) x all last (suc k) d lt =
+    All-push P xs x (λ k d lt. all (suc k) d (omega arith)) last k d (omega arith)
 
-module _ (totals : List ℕ) (rows : List WeightedStack) (values : List ℕ) (sizes : length values ≡ length rows * (length totals - 1))
+module _ (totals : List ℕ)
+    (rows : List WeightedStack) (values : List ℕ) (sizes : length values ≡ length rows * (length totals - 1))
     (batch : IsBatch (batch_with totals rows values)) (are : AreTotals (batch_with totals rows values) totals)
     (stack : List (List ℕ)) (weights : List ℕ) (width : length weights ≡ length totals)
     (room : (value : ℕ) → HasRoom (batch_with totals rows values) weights value)
@@ -149,17 +161,28 @@ module _ (totals : List ℕ) (rows : List WeightedStack) (values : List ℕ) (si
     rows = with_values (length totals - 1) rows values ++ row_with stack weights ∷ [];
   }
 
-  pub batch_with-push : batch_with sums (rows ++ (record { stack = stack; weight = value_of 0 weights }) ∷ []) (values ++ drop 1 weights) ≡ pushed
+  pub batch_with-push : batch_with sums
+      (rows ++ (record { stack = stack; weight = value_of 0 weights }) ∷ []) (values ++ drop 1 weights) ≡ pushed
   batch_with-push =
       let some = batch.some in
       let more : length (drop 1 weights) ≡ length totals - 1 = let d = length-drop 1 weights in omega arith in
-      let rest = with_values-push (length totals - 1) rows values (record { stack = stack; weight = value_of 0 weights }) (drop 1 weights) sizes more in
+      let rest = with_values-push (length totals - 1) rows values
+      (record { stack = stack; weight = value_of 0 weights }) (drop 1 weights) sizes more in
       let whole = whole_weights weights (omega arith) in
-      (λ i. record { width = size i; rows = with_values (size i - 1) (rows ++ (record { stack = stack; weight = value_of 0 weights }) ∷ []) (values ++ drop 1 weights) })
+      (λ i. record {
+        width = size i;
+        rows = with_values (size i - 1)
+            (rows ++ (record { stack = stack; weight = value_of 0 weights }) ∷ []) (values ++ drop 1 weights);
+      })
       ∙ (λ i. record { width = length totals; rows = rest i })
-      ∙ (λ i. record { width = length totals; rows = with_values (length totals - 1) rows values ++ row_with stack (whole i) ∷ [] })
+      ∙ (λ i. record {
+        width =
+            length totals;
+        rows = with_values (length totals - 1) rows values ++ row_with stack (whole i) ∷ [];
+      })
 
-  pub pushed-sizes : length (values ++ drop 1 weights) ≡ length (rows ++ (record { stack = stack; weight = value_of 0 weights }) ∷ []) * (length sums - 1)
+  pub pushed-sizes : length (values ++ drop 1 weights)
+      ≡ length (rows ++ (record { stack = stack; weight = value_of 0 weights }) ∷ []) * (length sums - 1)
   pushed-sizes =
       let some = batch.some in
       let d = length-drop 1 weights in
@@ -176,7 +199,8 @@ module _ (totals : List ℕ) (rows : List WeightedStack) (values : List ℕ) (si
   pushed-IsBatch = record {
     some = batch.some;
     few = batch.few;
-    widths = All-push (λ row. length row.weights ≡ length totals) (with_values (length totals - 1) rows values) (row_with stack weights) batch.widths width;
+    widths = All-push (λ row. length row.weights ≡ length totals)
+        (with_values (length totals - 1) rows values) (row_with stack weights) batch.widths width;
     fits = λ value.
         let more = total_of-push value (with_values (length totals - 1) rows values) (row_with stack weights) in
         let has_room = room value in
@@ -193,7 +217,8 @@ module _ (totals : List ℕ) (rows : List WeightedStack) (values : List ℕ) (si
         omega arith;
   }
 
-  pub pushed-AreParts : AreParts sums (rows ++ (record { stack = stack; weight = value_of 0 weights }) ∷ []) (values ++ drop 1 weights)
+  pub pushed-AreParts : AreParts sums
+      (rows ++ (record { stack = stack; weight = value_of 0 weights }) ∷ []) (values ++ drop 1 weights)
   pushed-AreParts = (
     pushed-sizes,
     subst IsBatch (sym batch_with-push) pushed-IsBatch,
@@ -208,7 +233,8 @@ module _ (totals : List ℕ) (rows : List WeightedStack) (values : List ℕ) (ba
   seen-length = sym (length-with_values (length totals - 1) rows values) ∙ ap (λ (b : BatchState). length b.rows) seen
 
   pub seen-row : (at : ℕ) (d : WeightedStack) → at < length rows
-      → row_with (get_or rows at d).stack ((get_or rows at d).weight ∷ take (length totals - 1) (drop (at * (length totals - 1)) values))
+      → row_with (get_or rows at d).stack
+      ((get_or rows at d).weight ∷ take (length totals - 1) (drop (at * (length totals - 1)) values))
       ≡ row_in batch.rows at
   seen-row at d lt =
       sym (row_in-with_values (length totals - 1) rows values at d lt) ∙ ap (λ (b : BatchState). row_in b.rows at) seen

@@ -1,5 +1,6 @@
 -- A row counts each of its names once, and its leaf.
-use Rattle.std.proofs.Common.{◌≡◌, ◌≢◌, ℕ, zero, suc, ◌+◌, ◌^◌, ◌<◌, ◌≤◌, Bool, true, false, cond, eqb, ◌||◌, List, [], ◌∷◌, ◌++◌, length, set, Some, None, refl, sym, ap, ◌∙◌, subst, arith, All}
+use Rattle.std.proofs.Common.{◌≡◌, ◌≢◌, ℕ, zero, suc, ◌+◌, ◌^◌, ◌<◌, ◌≤◌, Bool, true, false, cond, eqb, ◌||◌, List, []}
+use Rattle.std.proofs.Common.{◌∷◌, ◌++◌, length, set, Some, None, refl, sym, ap, ◌∙◌, subst, arith, All}
 use Rattle.std.specs.Prelude.{slice_index_or}
 use Rattle.std.specs.List.{AllByRecursion, IsDistinct}
 use Rattle.std.proofs.lemmas.Bool.{eqb-true, eq-eqb, false≢true, ne_eqb}
@@ -12,7 +13,8 @@ use Rattle.profile_rows.specs.declared.tallies.Tally.{Tally}
 use Rattle.profile_rows.specs.declared.weighted_stacks.WeightedStack.{WeightedStack}
 use Rattle.profile_rows.specs.Names.{IsName, is_same_name}
 use Rattle.profile_rows.specs.Rows.{has_name, ends_with_name, weight_if, weight_where}
-use Rattle.profile_rows.specs.Tallies.{AreSingle, AreTalliesOf, IsNumberedStack, IsTallyOf, frame_counted, has_number, leaf_counted, names_at, numbers_counted, row_counted, tally_at, tally_of}
+use Rattle.profile_rows.specs.Tallies.{AreSingle, AreTalliesOf, IsNumberedStack, IsTallyOf, frame_counted, has_number}
+use Rattle.profile_rows.specs.Tallies.{leaf_counted, names_at, numbers_counted, row_counted, tally_at, tally_of}
 use Rattle.profile_rows.specs.TextTables.{place_in}
 use Rattle.profile_rows.proofs.RowLaws.{weight_where-le-total, weight_where-push}
 use Rattle.profile_rows.proofs.SameNames.{same_from_is_same_name, is_same_name-self}
@@ -26,22 +28,29 @@ zero_tally = tally 0 0 0
 
 same_tally : (a b : Tally) → a.flat ≡ b.flat → a.cumulative ≡ b.cumulative → a.row ≡ b.row → a ≡ b
 same_tally a b flat cumulative row =
-    ap (λ n. tally n a.cumulative a.row) flat ∙ ap (λ n. tally b.flat n a.row) cumulative ∙ ap (λ n. tally b.flat b.cumulative n) row
+    ap (λ n. tally n a.cumulative a.row) flat
+    ∙ ap (λ n. tally b.flat n a.row) cumulative ∙ ap (λ n. tally b.flat b.cumulative n) row
 
 -- ---- the tally of one number
 
-tally_at-set : (tallies : List Tally) (number other : ℕ) (new : Tally) → number < length tallies → tally_at (set tallies number new) other ≡ cond (eqb number other) new (tally_at tallies other)
-tally_at-set tallies number other new lt = elim (eqb number other) as (λ b. eqb number other ≡ b → tally_at (set tallies number new) other ≡ cond b new (tally_at tallies other)) [
-  | true ↦ λ e. ap (tally_at (set tallies number new)) (sym (eqb-true number other e)) ∙ get_or-set_same tallies number new zero_tally lt
-  | false ↦ λ e. get_or-set_other tallies number other new zero_tally (λ same. false≢true (sym e ∙ eq-eqb number other (sym same)))
-] refl
+tally_at-set : (tallies : List Tally) (number other : ℕ) (new : Tally) → number < length tallies
+    → tally_at (set tallies number new) other ≡ cond (eqb number other) new (tally_at tallies other)
+tally_at-set tallies number other new lt = elim (eqb number other) as (λ b. eqb number other ≡ b
+    → tally_at (set tallies number new) other ≡ cond b new (tally_at tallies other)) [
+      | true ↦ λ e. ap (tally_at (set tallies number new)) (sym (eqb-true number other e))
+          ∙ get_or-set_same tallies number new zero_tally lt
+      | false ↦ λ e. get_or-set_other tallies number other new zero_tally
+          (λ same. false≢true (sym e ∙ eq-eqb number other (sym same)))
+    ] refl
 
 -- a tally that is changed at its number
-changed_at : (old new : List Tally) (number other : ℕ) (change : Tally → Tally) → number < length old → new ≡ set old number (change (tally_at old number))
+changed_at : (old new : List Tally) (number other : ℕ) (change : Tally → Tally)
+    → number < length old → new ≡ set old number (change (tally_at old number))
     → tally_at new other ≡ cond (eqb number other) (change (tally_at old other)) (tally_at old other)
 changed_at old new number other change lt written =
     ap (λ tallies. tally_at tallies other) written ∙ tally_at-set old number other (change (tally_at old number)) lt
-    ∙ elim (eqb number other) as (λ b. eqb number other ≡ b → cond b (change (tally_at old number)) (tally_at old other) ≡ cond b (change (tally_at old other)) (tally_at old other)) [
+    ∙ elim (eqb number other) as (λ b. eqb number other ≡ b → cond b (change (tally_at old number)) (tally_at old other)
+    ≡ cond b (change (tally_at old other)) (tally_at old other)) [
       | true ↦ λ e. ap (λ k. change (tally_at old k)) (eqb-true number other e)
       | false ↦ λ e. refl
     ] refl
@@ -52,12 +61,14 @@ abbrev once_more : Tally → ℕ → ℕ → Tally
 once_more t row weight = tally t.flat (t.cumulative + weight) row
 
 counted_row : (t : Tally) (row weight : ℕ) → (frame_counted t row weight).row ≡ row
-counted_row t row weight = elim (eqb t.row row) as (λ b. eqb t.row row ≡ b → (cond b t (once_more t row weight)).row ≡ row) [
-  | true ↦ λ e. eqb-true t.row row e
-  | false ↦ λ e. refl
-] refl
+counted_row t row weight =
+    elim (eqb t.row row) as (λ b. eqb t.row row ≡ b → (cond b t (once_more t row weight)).row ≡ row) [
+      | true ↦ λ e. eqb-true t.row row e
+      | false ↦ λ e. refl
+    ] refl
 
-counted_twice : (t : Tally) (row weight : ℕ) → frame_counted (frame_counted t row weight) row weight ≡ frame_counted t row weight
+counted_twice : (t : Tally) (row weight : ℕ)
+    → frame_counted (frame_counted t row weight) row weight ≡ frame_counted t row weight
 counted_twice t row weight =
     let once = frame_counted t row weight in
     ap (λ b. cond b once (once_more once row weight)) (eq-eqb once.row row (counted_row t row weight))
@@ -66,7 +77,8 @@ abbrev if_has : Bool → ℕ → ℕ → Tally → Tally
 if_has has row weight t = cond has (frame_counted t row weight) t
 
 -- one number more, by cases of whether it and those before are this
-one_more : (before here : Bool) (row weight : ℕ) (t : Tally) → cond here (frame_counted (if_has before row weight t) row weight) (if_has before row weight t) ≡ if_has (before || here) row weight t
+one_more : (before here : Bool) (row weight : ℕ) (t : Tally) → cond here (frame_counted
+    (if_has before row weight t) row weight) (if_has before row weight t) ≡ if_has (before || here) row weight t
 one_more true true row weight t = counted_twice t row weight
 one_more true false row weight t = refl
 one_more false true row weight t = refl
@@ -76,46 +88,61 @@ or_false : (b : Bool) → (b || false) ≡ b
 or_false true = refl
 or_false false = refl
 
-pub has_number-push : (numbers : List ℕ) (number other : ℕ) → has_number other (numbers ++ number ∷ []) ≡ (has_number other numbers || eqb number other)
+pub has_number-push : (numbers : List ℕ) (number other : ℕ)
+    → has_number other (numbers ++ number ∷ []) ≡ (has_number other numbers || eqb number other)
 has_number-push numbers number other =
-    list_any-append (λ n. eqb n other) numbers (number ∷ []) ∙ ap (λ b. has_number other numbers || b) (or_false (eqb number other))
+    list_any-append (λ n. eqb n other) numbers (number ∷ [])
+    ∙ ap (λ b. has_number other numbers || b) (or_false (eqb number other))
 
-pub number_counted : (initial old new : List Tally) (seen next : List ℕ) (number row weight : ℕ) → number < length old → next ≡ seen ++ number ∷ []
-    → ((q : ℕ) → tally_at old q ≡ numbers_counted seen row weight q (tally_at initial q)) → new ≡ set old number (frame_counted (tally_at old number) row weight)
+pub number_counted : (initial old new : List Tally) (seen next : List ℕ) (number row weight : ℕ)
+    → number < length old → next ≡ seen ++ number ∷ []
+    → ((q : ℕ) → tally_at old q ≡ numbers_counted seen row weight q (tally_at initial q))
+    → new ≡ set old number (frame_counted (tally_at old number) row weight)
     → (q : ℕ) → tally_at new q ≡ numbers_counted next row weight q (tally_at initial q)
 number_counted initial old new seen next number row weight lt is counted written q =
     changed_at old new number q (λ t. frame_counted t row weight) lt written
     ∙ ap (λ t. cond (eqb number q) (frame_counted t row weight) t) (counted q)
     ∙ one_more (has_number q seen) (eqb number q) row weight (tally_at initial q)
-    ∙ ap (λ b. if_has b row weight (tally_at initial q)) (sym (has_number-push seen number q) ∙ ap (has_number q) (sym is))
+    ∙ ap (λ b. if_has b row weight (tally_at initial q))
+    (sym (has_number-push seen number q) ∙ ap (has_number q) (sym is))
 
 -- a number that the row hasn't had finds the tally as it was
-pub number_fits : (initial old : List Tally) (seen : List ℕ) (number row weight : ℕ) → ((q : ℕ) → tally_at old q ≡ numbers_counted seen row weight q (tally_at initial q))
-    → ((q : ℕ) → q < length initial → (tally_at initial q).row ≢ row → (tally_at initial q).cumulative + weight < 2 ^ 63) → number < length initial
+pub number_fits : (initial old : List Tally) (seen : List ℕ) (number row weight : ℕ)
+    → ((q : ℕ) → tally_at old q ≡ numbers_counted seen row weight q (tally_at initial q))
+    → ((q : ℕ) → q < length initial
+    → (tally_at initial q).row ≢ row → (tally_at initial q).cumulative + weight < 2 ^ 63) → number < length initial
     → (tally_at old number).row ≢ row → (tally_at old number).cumulative + weight < 2 ^ 63
 number_fits initial old seen number row weight counted fits lt =
     subst (λ (t : Tally). t.row ≢ row → t.cumulative + weight < 2 ^ 63) (sym (counted number))
-    (elim (has_number number seen) as (λ b. (if_has b row weight (tally_at initial number)).row ≢ row → (if_has b row weight (tally_at initial number)).cumulative + weight < 2 ^ 63) [
+    (elim (has_number number seen) as (λ b. (if_has b row weight (tally_at initial number)).row ≢ row
+    → (if_has b row weight (tally_at initial number)).cumulative + weight < 2 ^ 63) [
       | true ↦ λ apart. absurd (apart (counted_row (tally_at initial number) row weight))
       | false ↦ fits number lt
     ])
 
-pub numbers_counted-flat : (numbers : List ℕ) (row weight number : ℕ) (t : Tally) → (numbers_counted numbers row weight number t).flat ≡ t.flat
-numbers_counted-flat numbers row weight number t = elim (has_number number numbers) as (λ b. (if_has b row weight t).flat ≡ t.flat) [
-  | true ↦ elim (eqb t.row row) as (λ b. (cond b t (once_more t row weight)).flat ≡ t.flat) [ true ↦ refl | false ↦ refl ]
-  | false ↦ refl
-]
+pub numbers_counted-flat : (numbers : List ℕ) (row weight number : ℕ) (t : Tally)
+    → (numbers_counted numbers row weight number t).flat ≡ t.flat
+numbers_counted-flat numbers row weight number t =
+    elim (has_number number numbers) as (λ b. (if_has b row weight t).flat ≡ t.flat) [
+      | true ↦ elim (eqb t.row row) as (λ b. (cond b t (once_more t row weight)).flat ≡ t.flat) [
+        | true ↦ refl
+        | false ↦ refl
+      ]
+      | false ↦ refl
+    ]
 
 -- ---- names by numbers
 
-apart_at : (name : List ℕ) (names : List (List ℕ)) (number : ℕ) → number < length names → AllByRecursion (λ (other : List ℕ). is_same_name name other ≡ false) names
+apart_at : (name : List ℕ) (names : List (List ℕ)) (number : ℕ)
+    → number < length names → AllByRecursion (λ (other : List ℕ). is_same_name name other ≡ false) names
     → is_same_name name (slice_index_or names number []) ≡ false
 apart_at name [] number lt all = absurd (omega (arith, lt))
 apart_at name (other ∷ names) zero lt all = all.0
 apart_at name (other ∷ names) (suc number) lt all = apart_at name names number (omega (arith, lt)) all.1
 
 -- the place of a number's name is the number
-pub place_in-own : (names : List (List ℕ)) (number : ℕ) → AreSingle names → number < length names → place_in names (slice_index_or names number []) ≡ number
+pub place_in-own : (names : List (List ℕ)) (number : ℕ)
+    → AreSingle names → number < length names → place_in names (slice_index_or names number []) ≡ number
 unfolding IsDistinct
 place_in-own [] number single lt = absurd (omega (arith, lt))
 place_in-own (first ∷ names) zero single lt = ap (λ b. cond b 0 (place_in names first + 1)) (is_same_name-self first)
@@ -123,20 +150,26 @@ place_in-own (first ∷ names) (suc number) single lt =
     let name = slice_index_or names number [] in
     let rest = place_in-own names number single.1 (omega (arith, lt)) in
     let next : place_in names name + 1 ≡ suc number = omega (arith, rest) in
-    ap (λ b. cond b 0 (place_in names name + 1)) (turned first name (apart_at first names number (omega (arith, lt)) single.0)) ∙ next
+    ap (λ b. cond b 0 (place_in names name + 1))
+    (turned first name (apart_at first names number (omega (arith, lt)) single.0)) ∙ next
 
 -- a name is that of a number where this is its place
-same_number : (names : List (List ℕ)) (q : List ℕ) (number : ℕ) → AreSingle names → number < length names → is_same_name q (slice_index_or names number []) ≡ eqb number (place_in names q)
+same_number : (names : List (List ℕ)) (q : List ℕ) (number : ℕ) → AreSingle names
+    → number < length names → is_same_name q (slice_index_or names number []) ≡ eqb number (place_in names q)
 same_number names q number single lt =
     let name = slice_index_or names number [] in
     elim (is_same_name q name) as (λ b. is_same_name q name ≡ b → b ≡ eqb number (place_in names q)) [
-      | true ↦ λ e. sym (eq-eqb number (place_in names q) (sym (ap (place_in names) (same_from_is_same_name q name e) ∙ place_in-own names number single lt)))
+      | true ↦ λ e. sym (eq-eqb number (place_in names q)
+          (sym (ap (place_in names) (same_from_is_same_name q name e) ∙ place_in-own names number single lt)))
       | false ↦ λ e. sym (ne_eqb number (place_in names q) (λ same.
-          let there : slice_index_or names number [] ≡ q = ap (λ n. slice_index_or names n []) same ∙ text_at_place names q (omega (arith, same, lt)) in
+          let there : slice_index_or names number [] ≡ q = ap (λ n. slice_index_or names n []) same
+          ∙ text_at_place names q (omega (arith, same, lt)) in
           false≢true (sym e ∙ ap (is_same_name q) there ∙ is_same_name-self q)))
     ] refl
 
-has_numbers : (names : List (List ℕ)) (numbers : List ℕ) (q : List ℕ) → AreSingle names → AllByRecursion (λ number. number < length names) numbers → has_number (place_in names q) numbers ≡ has_name q (names_at names numbers)
+has_numbers : (names : List (List ℕ)) (numbers : List ℕ) (q : List ℕ)
+    → AreSingle names → AllByRecursion (λ number. number < length names) numbers
+    → has_number (place_in names q) numbers ≡ has_name q (names_at names numbers)
 has_numbers names [] q single all = refl
 has_numbers names (number ∷ numbers) q single all =
     ap (λ b. b || has_number (place_in names q) numbers) (sym (same_number names q number single all.0))
@@ -145,20 +178,26 @@ has_numbers names (number ∷ numbers) q single all =
 -- ---- a row
 
 abbrev tally_from : Bool → Bool → ℕ → ℕ → Tally → Tally
-tally_from ends has number weight t = tally (t.flat + cond ends weight 0) (t.cumulative + cond has weight 0) (cond has number t.row)
+tally_from ends has number weight t =
+    tally (t.flat + cond ends weight 0) (t.cumulative + cond has weight 0) (cond has number t.row)
 
-counted_new : (t : Tally) (number weight : ℕ) → t.row < number → frame_counted t number weight ≡ once_more t number weight
-counted_new t number weight fresh = ap (λ b. cond b t (once_more t number weight)) (ne_eqb t.row number (λ same. omega (arith, same, fresh)))
+counted_new : (t : Tally) (number weight : ℕ)
+    → t.row < number → frame_counted t number weight ≡ once_more t number weight
+counted_new t number weight fresh =
+    ap (λ b. cond b t (once_more t number weight)) (ne_eqb t.row number (λ same. omega (arith, same, fresh)))
 
 -- the names of a row, and then its leaf
 leaf_after : (ends has : Bool) (t : Tally) (number weight : ℕ) → t.row < number → (ends ≡ true → has ≡ true)
-    → cond ends (leaf_counted (if_has has number weight t) weight) (if_has has number weight t) ≡ tally_from ends has number weight t
+    → cond ends (leaf_counted (if_has has number weight t) weight) (if_has has number weight t)
+    ≡ tally_from ends has number weight t
 leaf_after true true t number weight fresh within = ap (λ u. leaf_counted u weight) (counted_new t number weight fresh)
 leaf_after true false t number weight fresh within = absurd (false≢true (within refl))
-leaf_after false true t number weight fresh within = counted_new t number weight fresh ∙ same_tally _ _ (omega arith) refl refl
+leaf_after false true t number weight fresh within = counted_new t number weight fresh
+    ∙ same_tally _ _ (omega arith) refl refl
 leaf_after false false t number weight fresh within = same_tally _ _ (omega arith) (omega arith) refl
 
-ends_with_name-push : (name : List ℕ) (callers : List (List ℕ)) (leaf : List ℕ) → ends_with_name name (callers ++ leaf ∷ []) ≡ is_same_name name leaf
+ends_with_name-push : (name : List ℕ) (callers : List (List ℕ)) (leaf : List ℕ)
+    → ends_with_name name (callers ++ leaf ∷ []) ≡ is_same_name name leaf
 ends_with_name-push name [] leaf = refl
 ends_with_name-push name (caller ∷ []) leaf = refl
 ends_with_name-push name (caller ∷ next ∷ callers) leaf = ends_with_name-push name (next ∷ callers) leaf
@@ -167,50 +206,71 @@ or_right : (a b : Bool) → b ≡ true → (a || b) ≡ true
 or_right true b e = refl
 or_right false b e = e
 
-row_counted-leaf : (row : WeightedStack) (names : List (List ℕ)) (numbers : List ℕ) (leaf number : ℕ) (q : List ℕ) (t : Tally) → AreSingle names → IsNumberedStack names row.stack numbers (Some leaf) → t.row < number
-    → cond (eqb leaf (place_in names q)) (leaf_counted (numbers_counted numbers number row.weight (place_in names q) t) row.weight) (numbers_counted numbers number row.weight (place_in names q) t)
+row_counted-leaf : (row : WeightedStack) (names : List (List ℕ)) (numbers : List ℕ) (leaf number : ℕ)
+    (q : List ℕ) (t : Tally) → AreSingle names → IsNumberedStack names row.stack numbers (Some leaf) → t.row < number
+    → cond (eqb leaf (place_in names q)) (leaf_counted (numbers_counted numbers number row.weight (place_in names q) t)
+    row.weight) (numbers_counted numbers number row.weight (place_in names q) t)
     ≡ row_counted row number q t
 row_counted-leaf row names numbers leaf number q t single this fresh =
     let (inside, callers, stack) = this.last in
     let name = slice_index_or names leaf [] in
-    let has : has_number (place_in names q) numbers ≡ has_name q row.stack = has_numbers names numbers q single (recursion_from_All (λ n. n < length names) numbers this.inside) ∙ this.same q in
-    let ends : eqb leaf (place_in names q) ≡ ends_with_name q row.stack = sym (same_number names q leaf single inside) ∙ sym (ap (ends_with_name q) stack ∙ ends_with_name-push q callers name) in
-    let split : has_name q row.stack ≡ (has_name q callers || is_same_name q name) = ap (has_name q) stack ∙ list_any-append (is_same_name q) callers (name ∷ []) ∙ ap (λ b. has_name q callers || b) (or_false (is_same_name q name)) in
-    let last : ends_with_name q row.stack ≡ is_same_name q name = ap (ends_with_name q) stack ∙ ends_with_name-push q callers name in
-    ap (λ b. cond b (leaf_counted (if_has (has_number (place_in names q) numbers) number row.weight t) row.weight) (if_has (has_number (place_in names q) numbers) number row.weight t)) ends
-    ∙ ap (λ b. cond (ends_with_name q row.stack) (leaf_counted (if_has b number row.weight t) row.weight) (if_has b number row.weight t)) has
-    ∙ leaf_after (ends_with_name q row.stack) (has_name q row.stack) t number row.weight fresh (λ is. split ∙ or_right (has_name q callers) (is_same_name q name) (sym last ∙ is))
+    let has : has_number (place_in names q) numbers ≡ has_name q row.stack = has_numbers names numbers q single
+    (recursion_from_All (λ n. n < length names) numbers this.inside) ∙ this.same q in
+    let ends : eqb leaf (place_in names q) ≡ ends_with_name q row.stack = sym (same_number names q leaf single inside)
+    ∙ sym (ap (ends_with_name q) stack ∙ ends_with_name-push q callers name) in
+    let split : has_name q row.stack ≡ (has_name q callers || is_same_name q name) = ap (has_name q) stack
+    ∙ list_any-append (is_same_name q) callers (name ∷ [])
+    ∙ ap (λ b. has_name q callers || b) (or_false (is_same_name q name)) in
+    let last : ends_with_name q row.stack ≡ is_same_name q name = ap (ends_with_name q) stack
+    ∙ ends_with_name-push q callers name in
+    ap (λ b. cond b (leaf_counted (if_has (has_number (place_in names q) numbers) number row.weight t) row.weight)
+    (if_has (has_number (place_in names q) numbers) number row.weight t)) ends
+    ∙ ap (λ b. cond (ends_with_name q row.stack)
+    (leaf_counted (if_has b number row.weight t) row.weight) (if_has b number row.weight t)) has
+    ∙ leaf_after (ends_with_name q row.stack) (has_name q row.stack) t number row.weight fresh
+    (λ is. split ∙ or_right (has_name q callers) (is_same_name q name) (sym last ∙ is))
 
 -- the empty stack counts for no name
-row_counted-empty : (row : WeightedStack) (number : ℕ) (name : List ℕ) (t : Tally) → row.stack ≡ [] → t ≡ row_counted row number name t
+row_counted-empty : (row : WeightedStack) (number : ℕ) (name : List ℕ) (t : Tally)
+    → row.stack ≡ [] → t ≡ row_counted row number name t
 row_counted-empty row number name t empty =
     same_tally _ _ (omega arith) (omega arith) refl
     ∙ ap (λ b. tally_from b false number row.weight t) (sym (ap (ends_with_name name) empty))
     ∙ ap (λ b. tally_from (ends_with_name name row.stack) b number row.weight t) (sym (ap (has_name name) empty))
 
-row_counted-none : (row : WeightedStack) (names : List (List ℕ)) (numbers : List ℕ) (number : ℕ) (q : List ℕ) (t : Tally) → AreSingle names → IsNumberedStack names row.stack numbers None
+row_counted-none : (row : WeightedStack) (names : List (List ℕ)) (numbers : List ℕ)
+    (number : ℕ) (q : List ℕ) (t : Tally) → AreSingle names → IsNumberedStack names row.stack numbers None
     → numbers_counted numbers number row.weight (place_in names q) t ≡ row_counted row number q t
 row_counted-none row names numbers number q t single this =
-    let has : has_number (place_in names q) numbers ≡ false = has_numbers names numbers q single (recursion_from_All (λ n. n < length names) numbers this.inside) ∙ this.same q ∙ ap (has_name q) this.last in
+    let has : has_number (place_in names q) numbers ≡ false = has_numbers names numbers q single
+    (recursion_from_All (λ n. n < length names) numbers this.inside) ∙ this.same q ∙ ap (has_name q) this.last in
     ap (λ b. if_has b number row.weight t) has ∙ row_counted-empty row number q t this.last
 
 -- ---- the tallies of rows, row by row
 
 -- a name of the stack is a name
-pub named_in : (name : List ℕ) (stack : List (List ℕ)) → AllByRecursion IsName stack → has_name name stack ≡ true → IsName name
+pub named_in : (name : List ℕ) (stack : List (List ℕ))
+    → AllByRecursion IsName stack → has_name name stack ≡ true → IsName name
 named_in name [] all has = absurd (false≢true has)
-named_in name (frame ∷ stack) all has = elim (is_same_name name frame) as (λ b. is_same_name name frame ≡ b → (b || has_name name stack) ≡ true → IsName name) [
-  | true ↦ λ is e. subst IsName (sym (same_from_is_same_name name frame is)) all.0
-  | false ↦ λ is e. named_in name stack all.1 e
-] refl has
+named_in name (frame ∷ stack) all has = elim (is_same_name name frame) as (λ b. is_same_name name frame ≡ b
+    → (b || has_name name stack) ≡ true → IsName name) [
+      | true ↦ λ is e. subst IsName (sym (same_from_is_same_name name frame is)) all.0
+      | false ↦ λ is e. named_in name stack all.1 e
+    ] refl has
 
-IsTallyOf-counted : (rows : List WeightedStack) (row : WeightedStack) (held : ℕ) (name : List ℕ) (tally after : Tally) → All IsName row.stack → IsTallyOf rows held name tally
-    → after ≡ row_counted row (held + row.weight) name tally → IsTallyOf (rows ++ row ∷ []) (held + row.weight) name after
+IsTallyOf-counted : (rows : List WeightedStack) (row : WeightedStack) (held : ℕ) (name : List ℕ) (tally after : Tally)
+    → All IsName row.stack → IsTallyOf rows held name tally
+    → after ≡ row_counted row (held + row.weight) name tally
+    → IsTallyOf (rows ++ row ∷ []) (held + row.weight) name after
 IsTallyOf-counted rows row held name tally after names is counted = record {
-  flat = ap (λ (t : Tally). t.flat) counted ∙ ap (λ n. n + weight_if (ends_with_name name) row) is.flat ∙ sym (weight_where-push (ends_with_name name) rows row);
-  cumulative = ap (λ (t : Tally). t.cumulative) counted ∙ ap (λ n. n + weight_if (has_name name) row) is.cumulative ∙ sym (weight_where-push (has_name name) rows row);
-  numbered = subst (λ n. n ≤ held + row.weight) (sym (ap (λ (t : Tally). t.row) counted)) (within (has_name name row.stack));
-  named = λ some. known (has_name name row.stack) refl (subst (λ n. 0 < n) (ap (λ (t : Tally). t.cumulative) counted) some);
+  flat = ap (λ (t : Tally). t.flat) counted ∙ ap (λ n. n + weight_if (ends_with_name name) row) is.flat
+      ∙ sym (weight_where-push (ends_with_name name) rows row);
+  cumulative = ap (λ (t : Tally). t.cumulative) counted
+      ∙ ap (λ n. n + weight_if (has_name name) row) is.cumulative ∙ sym (weight_where-push (has_name name) rows row);
+  numbered =
+      subst (λ n. n ≤ held + row.weight) (sym (ap (λ (t : Tally). t.row) counted)) (within (has_name name row.stack));
+  named =
+      λ some. known (has_name name row.stack) refl (subst (λ n. 0 < n) (ap (λ (t : Tally). t.cumulative) counted) some);
 }
   where
     within : (b : Bool) → cond b (held + row.weight) tally.row ≤ held + row.weight
@@ -221,40 +281,55 @@ IsTallyOf-counted rows row held name tally after names is counted = record {
     known true has some = named_in name row.stack (recursion_from_All IsName row.stack names) has
     known false has some = is.named (omega (arith, some))
 
-AreTalliesOf-counted : (rows : List WeightedStack) (row : WeightedStack) (names : List (List ℕ)) (old new : Tallies) → All IsName row.stack → AreTalliesOf rows names old
+AreTalliesOf-counted : (rows : List WeightedStack) (row : WeightedStack) (names : List (List ℕ)) (old new : Tallies)
+    → All IsName row.stack → AreTalliesOf rows names old
     → new.total ≡ old.total + row.weight → length new.names.items ≡ length old.names.items
-    → ((q : List ℕ) → tally_of names new.names.items q ≡ row_counted row (old.total + row.weight) q (tally_of names old.names.items q)) → AreTalliesOf (rows ++ row ∷ []) names new
+    → ((q : List ℕ) → tally_of names new.names.items q ≡ row_counted row
+    (old.total + row.weight) q (tally_of names old.names.items q)) → AreTalliesOf (rows ++ row ∷ []) names new
 AreTalliesOf-counted rows row names old new named are total many counted = record {
   single = are.single;
   many = many ∙ are.many;
   each = λ q. subst (λ n. IsTallyOf (rows ++ row ∷ []) n q (tally_of names new.names.items q)) (sym total)
-      (IsTallyOf-counted rows row old.total q (tally_of names old.names.items q) (tally_of names new.names.items q) named (are.each q) (counted q));
+      (IsTallyOf-counted rows row old.total q
+      (tally_of names old.names.items q) (tally_of names new.names.items q) named (are.each q) (counted q));
   total = total ∙ ap (λ n. n + row.weight) are.total ∙ sym (sum_by_push (λ (row : WeightedStack). row.weight) rows row);
 }
 
-fresh : (rows : List WeightedStack) (names : List (List ℕ)) (tallies : Tallies) (weight : ℕ) (q : List ℕ) → weight ≢ 0 → AreTalliesOf rows names tallies → (tally_of names tallies.names.items q).row < tallies.total + weight
+fresh : (rows : List WeightedStack) (names : List (List ℕ)) (tallies : Tallies) (weight : ℕ) (q : List ℕ)
+    → weight ≢ 0 → AreTalliesOf rows names tallies → (tally_of names tallies.names.items q).row < tallies.total + weight
 fresh rows names tallies weight q some are = let last = (are.each q).numbered in omega (arith, last, some)
 
 -- a row whose leaf is counted after its names
-pub counted-leaf : (rows : List WeightedStack) (row : WeightedStack) (names : List (List ℕ)) (numbers : List ℕ) (leaf : ℕ) (old new : Tallies) (mid : List Tally) → AreTalliesOf rows names old
-    → IsNumberedStack names row.stack numbers (Some leaf) → row.weight ≢ 0 → new.total ≡ old.total + row.weight → length mid ≡ length old.names.items
-    → ((q : ℕ) → tally_at mid q ≡ numbers_counted numbers (old.total + row.weight) row.weight q (tally_at old.names.items q))
-    → new.names.items ≡ set mid leaf (leaf_counted (tally_at mid leaf) row.weight) → length new.names.items ≡ length mid → AreTalliesOf (rows ++ row ∷ []) names new
+pub counted-leaf : (rows : List WeightedStack) (row : WeightedStack) (names : List (List ℕ))
+    (numbers : List ℕ) (leaf : ℕ) (old new : Tallies) (mid : List Tally) → AreTalliesOf rows names old
+    → IsNumberedStack names row.stack numbers (Some leaf)
+    → row.weight ≢ 0 → new.total ≡ old.total + row.weight → length mid ≡ length old.names.items
+    → ((q : ℕ)
+    → tally_at mid q ≡ numbers_counted numbers (old.total + row.weight) row.weight q (tally_at old.names.items q))
+    → new.names.items ≡ set mid leaf (leaf_counted (tally_at mid leaf) row.weight)
+    → length new.names.items ≡ length mid → AreTalliesOf (rows ++ row ∷ []) names new
 counted-leaf rows row names numbers leaf old new mid are this some total many counted written long =
     AreTalliesOf-counted rows row names old new this.named are total (long ∙ many) (λ q.
-    changed_at mid new.names.items leaf (place_in names q) (λ t. leaf_counted t row.weight) (let low = this.last.0 in let all = are.many in omega (arith, low, all, many)) written
+    changed_at mid new.names.items leaf (place_in names q) (λ t. leaf_counted t row.weight)
+    (let low = this.last.0 in let all = are.many in omega (arith, low, all, many)) written
     ∙ ap (λ t. cond (eqb leaf (place_in names q)) (leaf_counted t row.weight) t) (counted (place_in names q))
-    ∙ row_counted-leaf row names numbers leaf (old.total + row.weight) q (tally_of names old.names.items q) are.single this (fresh rows names old row.weight q some are))
+    ∙ row_counted-leaf row names numbers leaf (old.total + row.weight) q
+    (tally_of names old.names.items q) are.single this (fresh rows names old row.weight q some are))
 
-pub counted-none : (rows : List WeightedStack) (row : WeightedStack) (names : List (List ℕ)) (numbers : List ℕ) (old new : Tallies) → AreTalliesOf rows names old
-    → IsNumberedStack names row.stack numbers None → new.total ≡ old.total + row.weight → length new.names.items ≡ length old.names.items
-    → ((q : ℕ) → tally_at new.names.items q ≡ numbers_counted numbers (old.total + row.weight) row.weight q (tally_at old.names.items q)) → AreTalliesOf (rows ++ row ∷ []) names new
+pub counted-none : (rows : List WeightedStack)
+    (row : WeightedStack) (names : List (List ℕ)) (numbers : List ℕ) (old new : Tallies) → AreTalliesOf rows names old
+    → IsNumberedStack names row.stack numbers None
+    → new.total ≡ old.total + row.weight → length new.names.items ≡ length old.names.items
+    → ((q : ℕ) → tally_at new.names.items q ≡ numbers_counted numbers
+    (old.total + row.weight) row.weight q (tally_at old.names.items q)) → AreTalliesOf (rows ++ row ∷ []) names new
 counted-none rows row names numbers old new are this total many counted =
     AreTalliesOf-counted rows row names old new this.named are total many (λ q.
-    counted (place_in names q) ∙ row_counted-none row names numbers (old.total + row.weight) q (tally_of names old.names.items q) are.single this)
+    counted (place_in names q) ∙ row_counted-none row names numbers
+    (old.total + row.weight) q (tally_of names old.names.items q) are.single this)
 
 -- a row without weight leaves what each name weighs
-pub counted-weightless : (rows : List WeightedStack) (row : WeightedStack) (names : List (List ℕ)) (old new : Tallies) → AreTalliesOf rows names old → row.weight ≡ 0
+pub counted-weightless : (rows : List WeightedStack) (row : WeightedStack) (names : List (List ℕ)) (old new : Tallies)
+    → AreTalliesOf rows names old → row.weight ≡ 0
     → new.total ≡ old.total + row.weight → new.names.items ≡ old.names.items → AreTalliesOf (rows ++ row ∷ []) names new
 counted-weightless rows row names old new are none total same = record {
   single = are.single;
@@ -265,7 +340,8 @@ counted-weightless rows row names old new are none total same = record {
       record {
         flat = ap (λ (t : Tally). t.flat) tally ∙ before.flat ∙ kept (ends_with_name q);
         cumulative = ap (λ (t : Tally). t.cumulative) tally ∙ before.cumulative ∙ kept (has_name q);
-        numbered = let low = before.numbered in let row_is = ap (λ (t : Tally). t.row) tally in omega (arith, low, row_is, total);
+        numbered = let low =
+            before.numbered in let row_is = ap (λ (t : Tally). t.row) tally in omega (arith, low, row_is, total);
         named = λ some. before.named (subst (λ n. 0 < n) (ap (λ (t : Tally). t.cumulative) tally) some);
       };
   total = total ∙ ap (λ n. n + row.weight) are.total ∙ sym (sum_by_push (λ (row : WeightedStack). row.weight) rows row);
@@ -284,22 +360,26 @@ counted-weightless rows row names old new are none total same = record {
 -- ---- limits
 
 -- no name weighs more than all rows together
-pub cumulative-most : (rows : List WeightedStack) (names : List (List ℕ)) (tallies : Tallies) (number : ℕ) → AreTalliesOf rows names tallies → number < length names
+pub cumulative-most : (rows : List WeightedStack) (names : List (List ℕ)) (tallies : Tallies) (number : ℕ)
+    → AreTalliesOf rows names tallies → number < length names
     → (tally_at tallies.names.items number).cumulative ≤ tallies.total
 cumulative-most rows names tallies number are lt =
     let name = slice_index_or names number [] in
-    let own : tally_of names tallies.names.items name ≡ tally_at tallies.names.items number = ap (tally_at tallies.names.items) (place_in-own names number are.single lt) in
+    let own : tally_of names tallies.names.items name ≡ tally_at tallies.names.items number =
+    ap (tally_at tallies.names.items) (place_in-own names number are.single lt) in
     let here = ap (λ (t : Tally). t.cumulative) own in
     let most = weight_where-le-total (has_name name) rows in
     let tally = (are.each name).cumulative in
     let all = are.total in
     omega (arith, here, most, tally, all)
 
-pub flat-most : (rows : List WeightedStack) (names : List (List ℕ)) (tallies : Tallies) (number : ℕ) → AreTalliesOf rows names tallies → number < length names
+pub flat-most : (rows : List WeightedStack) (names : List (List ℕ)) (tallies : Tallies) (number : ℕ)
+    → AreTalliesOf rows names tallies → number < length names
     → (tally_at tallies.names.items number).flat ≤ tallies.total
 flat-most rows names tallies number are lt =
     let name = slice_index_or names number [] in
-    let own : tally_of names tallies.names.items name ≡ tally_at tallies.names.items number = ap (tally_at tallies.names.items) (place_in-own names number are.single lt) in
+    let own : tally_of names tallies.names.items name ≡ tally_at tallies.names.items number =
+    ap (tally_at tallies.names.items) (place_in-own names number are.single lt) in
     let here = ap (λ (t : Tally). t.flat) own in
     let most = weight_where-le-total (ends_with_name name) rows in
     let tally = (are.each name).flat in

@@ -1,5 +1,6 @@
 -- Where texts stand, as texts are added.
-use Rattle.std.proofs.Common.{◌≡◌, ℕ, zero, suc, ◌+◌, ◌<◌, ◌≤◌, true, false, cond, ◌||◌, List, [], ◌∷◌, ◌++◌, length, take, map, get_or, Option, Some, None, refl, sym, ap, ◌∙◌, arith}
+use Rattle.std.proofs.Common.{◌≡◌, ℕ, zero, suc, ◌+◌, ◌<◌, ◌≤◌, true, false, cond, ◌||◌, List, [], ◌∷◌, ◌++◌, length}
+use Rattle.std.proofs.Common.{take, map, get_or, Option, Some, None, refl, sym, ap, ◌∙◌, arith}
 use Rattle.std.specs.Prelude.{is_some, slice_index_or, unwrap_or}
 use Rattle.std.specs.List.{list_any}
 use Rattle.std.specs.HashMap as hash
@@ -21,56 +22,69 @@ pub place_in-le : (texts : List (List ℕ)) (text : List ℕ) → place_in texts
 place_in-le [] text = omega arith
 place_in-le (first ∷ texts) text =
     let rest = place_in-le texts text in
-    elim (bytes_eq text first) as (λ b. cond b 0 (place_in texts text + 1) ≤ length (first ∷ texts)) [ true ↦ omega arith | false ↦ omega (arith, rest) ]
+    elim (bytes_eq text first) as (λ b. cond b 0
+    (place_in texts text + 1) ≤ length (first ∷ texts)) [ true ↦ omega arith | false ↦ omega (arith, rest) ]
 
-place_in-missing : (texts : List (List ℕ)) (text : List ℕ) → list_any (bytes_eq text) texts ≡ false → place_in texts text ≡ length texts
+place_in-missing : (texts : List (List ℕ)) (text : List ℕ)
+    → list_any (bytes_eq text) texts ≡ false → place_in texts text ≡ length texts
 place_in-missing [] text none = refl
 place_in-missing (first ∷ texts) text none =
-    elim (bytes_eq text first) as (λ b. (b || list_any (bytes_eq text) texts) ≡ false → cond b 0 (place_in texts text + 1) ≡ length (first ∷ texts)) [
+    elim (bytes_eq text first) as (λ b. (b || list_any (bytes_eq text) texts) ≡ false
+    → cond b 0 (place_in texts text + 1) ≡ length (first ∷ texts)) [
       | true ↦ λ e. absurd (false≢true (sym e))
       | false ↦ λ e. let rest = place_in-missing texts text e in omega (arith, rest)
     ] none
 
 -- a text that is there stands before the end
-pub place_in-lt : (texts : List (List ℕ)) (text : List ℕ) → list_any (bytes_eq text) texts ≡ true → place_in texts text < length texts
+pub place_in-lt : (texts : List (List ℕ)) (text : List ℕ)
+    → list_any (bytes_eq text) texts ≡ true → place_in texts text < length texts
 place_in-lt [] text e = absurd (false≢true e)
 place_in-lt (first ∷ texts) text e =
-    elim (bytes_eq text first) as (λ b. (b || list_any (bytes_eq text) texts) ≡ true → cond b 0 (place_in texts text + 1) < length (first ∷ texts)) [
+    elim (bytes_eq text first) as (λ b. (b || list_any (bytes_eq text) texts) ≡ true
+    → cond b 0 (place_in texts text + 1) < length (first ∷ texts)) [
       | true ↦ λ r. omega arith
       | false ↦ λ r. let rest = place_in-lt texts text r in omega (arith, rest)
     ] e
 
 -- more texts change no place
-pub place_in-more : (texts more : List (List ℕ)) (text : List ℕ) → list_any (bytes_eq text) texts ≡ true → place_in (texts ++ more) text ≡ place_in texts text
+pub place_in-more : (texts more : List (List ℕ)) (text : List ℕ)
+    → list_any (bytes_eq text) texts ≡ true → place_in (texts ++ more) text ≡ place_in texts text
 place_in-more [] more text some = absurd (false≢true some)
 place_in-more (first ∷ texts) more text some =
-    elim (bytes_eq text first) as (λ b. (b || list_any (bytes_eq text) texts) ≡ true → cond b 0 (place_in (texts ++ more) text + 1) ≡ cond b 0 (place_in texts text + 1)) [
+    elim (bytes_eq text first) as (λ b. (b || list_any (bytes_eq text) texts) ≡ true
+    → cond b 0 (place_in (texts ++ more) text + 1) ≡ cond b 0 (place_in texts text + 1)) [
       | true ↦ λ e. refl
       | false ↦ λ e. ap (λ n. n + 1) (place_in-more texts more text e)
     ] some
 
 -- the text at a text's place
-pub text_at_place : (texts : List (List ℕ)) (text : List ℕ) → place_in texts text < length texts → slice_index_or texts (place_in texts text) [] ≡ text
+pub text_at_place : (texts : List (List ℕ)) (text : List ℕ)
+    → place_in texts text < length texts → slice_index_or texts (place_in texts text) [] ≡ text
 text_at_place [] text lt = absurd (omega (arith, lt))
 text_at_place (first ∷ texts) text lt =
-    elim (bytes_eq text first) as (λ b. bytes_eq text first ≡ b → cond b 0 (place_in texts text + 1) < suc (length texts) → slice_index_or (first ∷ texts) (cond b 0 (place_in texts text + 1)) [] ≡ text) [
+    elim (bytes_eq text first) as (λ b. bytes_eq text first ≡ b → cond b 0 (place_in texts text + 1) < suc
+    (length texts) → slice_index_or (first ∷ texts) (cond b 0 (place_in texts text + 1)) [] ≡ text) [
       | true ↦ λ is r. sym (same_from_is_same_name text first is)
       | false ↦ λ is r.
           let next : place_in texts text + 1 ≡ suc (place_in texts text) = omega arith in
           ap (λ n. slice_index_or (first ∷ texts) n []) next ∙ text_at_place texts text (omega (arith, r))
     ] refl lt
 
-pub any_push : (texts : List (List ℕ)) (text q : List ℕ) → list_any (bytes_eq q) (texts ++ text ∷ []) ≡ (list_any (bytes_eq q) texts || bytes_eq q text)
+pub any_push : (texts : List (List ℕ)) (text q : List ℕ)
+    → list_any (bytes_eq q) (texts ++ text ∷ []) ≡ (list_any (bytes_eq q) texts || bytes_eq q text)
 any_push [] text q = elim (bytes_eq q text) as (λ b. (b || false) ≡ b) [ true ↦ refl | false ↦ refl ]
-any_push (first ∷ texts) text q = elim (bytes_eq q first) as (λ b. (b || list_any (bytes_eq q) (texts ++ text ∷ [])) ≡ ((b || list_any (bytes_eq q) texts) || bytes_eq q text)) [
-  | true ↦ refl
-  | false ↦ any_push texts text q
-]
+any_push (first ∷ texts) text q = elim (bytes_eq q first) as (λ b. (b || list_any (bytes_eq q) (texts ++ text ∷ []))
+    ≡ ((b || list_any (bytes_eq q) texts) || bytes_eq q text)) [
+      | true ↦ refl
+      | false ↦ any_push texts text q
+    ]
 
-place_at_end : (texts : List (List ℕ)) (text : List ℕ) → list_any (bytes_eq text) texts ≡ false → place_in (texts ++ text ∷ []) text ≡ length texts
+place_at_end : (texts : List (List ℕ)) (text : List ℕ)
+    → list_any (bytes_eq text) texts ≡ false → place_in (texts ++ text ∷ []) text ≡ length texts
 place_at_end [] text none = ap (λ b. cond b 0 (0 + 1)) (is_same_name-self text)
 place_at_end (first ∷ texts) text none =
-    elim (bytes_eq text first) as (λ b. (b || list_any (bytes_eq text) texts) ≡ false → cond b 0 (place_in (texts ++ text ∷ []) text + 1) ≡ length (first ∷ texts)) [
+    elim (bytes_eq text first) as (λ b. (b || list_any (bytes_eq text) texts) ≡ false
+    → cond b 0 (place_in (texts ++ text ∷ []) text + 1) ≡ length (first ∷ texts)) [
       | true ↦ λ e. absurd (false≢true (sym e))
       | false ↦ λ e. let rest = place_at_end texts text e in omega (arith, rest)
     ] none
@@ -81,75 +95,96 @@ turned a b none = elim (bytes_eq b a) as (λ t. bytes_eq b a ≡ t → t ≡ fal
   | false ↦ λ e. refl
 ] refl
 
-own_place : (texts : List (List ℕ)) (text : List ℕ) → list_any (bytes_eq text) texts ≡ false → place_if_there (texts ++ text ∷ []) text ≡ Some (length texts)
+own_place : (texts : List (List ℕ)) (text : List ℕ)
+    → list_any (bytes_eq text) texts ≡ false → place_if_there (texts ++ text ∷ []) text ≡ Some (length texts)
 own_place texts text none =
-    ap (λ b. cond b (Some (place_in (texts ++ text ∷ []) text)) None) (any_push texts text text ∙ ap (λ b. b || bytes_eq text text) none ∙ is_same_name-self text)
+    ap (λ b. cond b (Some (place_in (texts ++ text ∷ []) text)) None)
+    (any_push texts text text ∙ ap (λ b. b || bytes_eq text text) none ∙ is_same_name-self text)
     ∙ ap Some (place_at_end texts text none)
 
-other_place : (texts : List (List ℕ)) (text q : List ℕ) → bytes_eq q text ≡ false → place_if_there (texts ++ text ∷ []) q ≡ place_if_there texts q
+other_place : (texts : List (List ℕ)) (text q : List ℕ)
+    → bytes_eq q text ≡ false → place_if_there (texts ++ text ∷ []) q ≡ place_if_there texts q
 other_place texts text q apart =
-    ap (λ b. cond b (Some (place_in (texts ++ text ∷ []) q)) None) (any_push texts text q ∙ ap (λ b. list_any (bytes_eq q) texts || b) apart)
-    ∙ elim (list_any (bytes_eq q) texts) as (λ b. list_any (bytes_eq q) texts ≡ b → cond (b || false) (Some (place_in (texts ++ text ∷ []) q)) None ≡ cond b (Some (place_in texts q)) None) [
+    ap (λ b. cond b (Some (place_in (texts ++ text ∷ []) q)) None)
+    (any_push texts text q ∙ ap (λ b. list_any (bytes_eq q) texts || b) apart)
+    ∙ elim (list_any (bytes_eq q) texts) as (λ b. list_any (bytes_eq q) texts ≡ b
+    → cond (b || false) (Some (place_in (texts ++ text ∷ []) q)) None ≡ cond b (Some (place_in texts q)) None) [
       | true ↦ λ e. ap Some (place_in-more texts (text ∷ []) q e)
       | false ↦ λ e. refl
     ] refl
 
 -- a text that is new, put into the map
-pub AreTextPlaces-push : (texts : List (List ℕ)) (known after : HashMap (Bor (List ℕ)) ℕ Hashing) (text : List ℕ) (at : ℕ) → at ≡ length texts → list_any (bytes_eq text) texts ≡ false
-    → hash.UpdatesBy (λ x y. bytes_eq x.now y.now) (λ k. bytes_eq text k.now) known after (Some at) → AreTextPlaces texts known → AreTextPlaces (texts ++ text ∷ []) after
+pub AreTextPlaces-push : (texts : List (List ℕ)) (known after : HashMap (Bor (List ℕ)) ℕ Hashing)
+    (text : List ℕ) (at : ℕ) → at ≡ length texts → list_any (bytes_eq text) texts ≡ false
+    → hash.UpdatesBy (λ x y. bytes_eq x.now y.now) (λ k. bytes_eq text k.now) known after (Some at)
+    → AreTextPlaces texts known → AreTextPlaces (texts ++ text ∷ []) after
 AreTextPlaces-push texts known after text at end none updates places = λ q.
     hash_map_updates_str text known after (Some at) updates q
-    ∙ elim (bytes_eq text q) as (λ b. bytes_eq text q ≡ b → cond b (Some at) (hash.get_by (λ (key : Bor (List ℕ)). bytes_eq q key.now) known) ≡ place_if_there (texts ++ text ∷ []) q) [
-      | true ↦ λ e. ap Some end ∙ sym (own_place texts text none) ∙ ap (place_if_there (texts ++ text ∷ [])) (same_from_is_same_name text q e)
+    ∙ elim (bytes_eq text q) as (λ b. bytes_eq text q ≡ b → cond b (Some at)
+    (hash.get_by (λ (key : Bor (List ℕ)). bytes_eq q key.now) known) ≡ place_if_there (texts ++ text ∷ []) q) [
+      | true ↦ λ e. ap Some end
+          ∙ sym (own_place texts text none) ∙ ap (place_if_there (texts ++ text ∷ [])) (same_from_is_same_name text q e)
       | false ↦ λ e. places q ∙ sym (other_place texts text q (turned text q e))
     ] refl
 
-pub is_there : (texts : List (List ℕ)) (known : HashMap (Bor (List ℕ)) ℕ Hashing) (text : List ℕ) → AreTextPlaces texts known
+pub is_there : (texts : List (List ℕ)) (known : HashMap (Bor (List ℕ)) ℕ Hashing) (text : List ℕ)
+    → AreTextPlaces texts known
     → is_some (hash.get_by (λ (key : Bor (List ℕ)). bytes_eq text key.now) known) ≡ list_any (bytes_eq text) texts
-is_there texts known text places = ap is_some (places text) ∙ elim (list_any (bytes_eq text) texts) as (λ b. is_some (cond b (Some (place_in texts text)) None) ≡ b) [ true ↦ refl | false ↦ refl ]
+is_there texts known text places = ap is_some (places text) ∙ elim (list_any (bytes_eq text) texts) as (λ b. is_some
+    (cond b (Some (place_in texts text)) None) ≡ b) [ true ↦ refl | false ↦ refl ]
 
-pub place_answered : (texts : List (List ℕ)) (known : HashMap (Bor (List ℕ)) ℕ Hashing) (text : List ℕ) (missing : ℕ) → missing ≡ length texts → AreTextPlaces texts known
+pub place_answered : (texts : List (List ℕ)) (known : HashMap (Bor (List ℕ)) ℕ Hashing) (text : List ℕ) (missing : ℕ)
+    → missing ≡ length texts → AreTextPlaces texts known
     → unwrap_or (hash.get_by (λ (key : Bor (List ℕ)). bytes_eq text key.now) known) missing ≡ place_in texts text
 place_answered texts known text missing is places =
     ap (λ o. unwrap_or o missing) (places text)
-    ∙ elim (list_any (bytes_eq text) texts) as (λ b. list_any (bytes_eq text) texts ≡ b → unwrap_or (cond b (Some (place_in texts text)) None) missing ≡ place_in texts text) [
+    ∙ elim (list_any (bytes_eq text) texts) as (λ b. list_any (bytes_eq text) texts ≡ b
+    → unwrap_or (cond b (Some (place_in texts text)) None) missing ≡ place_in texts text) [
       | true ↦ λ e. refl
       | false ↦ λ e. is ∙ sym (place_in-missing texts text e)
     ] refl
 
 -- ---- texts added in turn
 
-pub with_text-new : (texts : List (List ℕ)) (text : List ℕ) → list_any (bytes_eq text) texts ≡ false → with_text texts text ≡ texts ++ text ∷ []
+pub with_text-new : (texts : List (List ℕ)) (text : List ℕ)
+    → list_any (bytes_eq text) texts ≡ false → with_text texts text ≡ texts ++ text ∷ []
 with_text-new texts text e = ap (λ b. cond b texts (texts ++ text ∷ [])) e
 
-pub with_texts-append : (texts more others : List (List ℕ)) → with_texts texts (more ++ others) ≡ with_texts (with_texts texts more) others
+pub with_texts-append : (texts more others : List (List ℕ))
+    → with_texts texts (more ++ others) ≡ with_texts (with_texts texts more) others
 with_texts-append texts [] others = refl
 with_texts-append texts (text ∷ more) others = with_texts-append (with_text texts text) more others
 
 -- adding a text leaves it the place that it has, or would have
 pub place_in-with : (texts : List (List ℕ)) (text : List ℕ) → place_in (with_text texts text) text ≡ place_in texts text
-place_in-with texts text = elim (list_any (bytes_eq text) texts) as (λ b. list_any (bytes_eq text) texts ≡ b → place_in (cond b texts (texts ++ text ∷ [])) text ≡ place_in texts text) [
-  | true ↦ λ e. refl
-  | false ↦ λ e. place_at_end texts text e ∙ sym (place_in-missing texts text e)
-] refl
+place_in-with texts text = elim (list_any (bytes_eq text) texts) as (λ b. list_any (bytes_eq text) texts ≡ b
+    → place_in (cond b texts (texts ++ text ∷ [])) text ≡ place_in texts text) [
+      | true ↦ λ e. refl
+      | false ↦ λ e. place_at_end texts text e ∙ sym (place_in-missing texts text e)
+    ] refl
 
 -- a text whose place is before the end is there
-pub with_text-there : (texts : List (List ℕ)) (text : List ℕ) → place_in texts text < length texts → with_text texts text ≡ texts
-with_text-there texts text inside = elim (list_any (bytes_eq text) texts) as (λ b. list_any (bytes_eq text) texts ≡ b → cond b texts (texts ++ text ∷ []) ≡ texts) [
-  | true ↦ λ e. refl
-  | false ↦ λ e. let end = place_in-missing texts text e in absurd (omega (arith, end, inside))
-] refl
+pub with_text-there : (texts : List (List ℕ)) (text : List ℕ)
+    → place_in texts text < length texts → with_text texts text ≡ texts
+with_text-there texts text inside = elim (list_any (bytes_eq text) texts) as (λ b. list_any (bytes_eq text) texts ≡ b
+    → cond b texts (texts ++ text ∷ []) ≡ texts) [
+      | true ↦ λ e. refl
+      | false ↦ λ e. let end = place_in-missing texts text e in absurd (omega (arith, end, inside))
+    ] refl
 
 -- a text whose place is not before the end is missing
-pub none_at_end : (texts : List (List ℕ)) (text : List ℕ) → length texts ≤ place_in texts text → list_any (bytes_eq text) texts ≡ false
-none_at_end texts text end = elim (list_any (bytes_eq text) texts) as (λ b. list_any (bytes_eq text) texts ≡ b → b ≡ false) [
-  | true ↦ λ e. let inside = place_in-lt texts text e in absurd (omega (arith, end, inside))
-  | false ↦ λ e. refl
-] refl
+pub none_at_end : (texts : List (List ℕ)) (text : List ℕ)
+    → length texts ≤ place_in texts text → list_any (bytes_eq text) texts ≡ false
+none_at_end texts text end =
+    elim (list_any (bytes_eq text) texts) as (λ b. list_any (bytes_eq text) texts ≡ b → b ≡ false) [
+      | true ↦ λ e. let inside = place_in-lt texts text e in absurd (omega (arith, end, inside))
+      | false ↦ λ e. refl
+    ] refl
 
 -- ---- a loop over texts that are lent
 
-pub shown_at : (items : List (Bor (List ℕ))) (k : ℕ) (item : Bor (List ℕ)) → get_or (map (λ (text : Bor (List ℕ)). text.now) items) k item.now ≡ (get_or items k item).now
+pub shown_at : (items : List (Bor (List ℕ))) (k : ℕ) (item : Bor (List ℕ))
+    → get_or (map (λ (text : Bor (List ℕ)). text.now) items) k item.now ≡ (get_or items k item).now
 shown_at [] zero item = refl
 shown_at [] (suc k) item = refl
 shown_at (first ∷ items) zero item = refl
@@ -159,21 +194,28 @@ shown_at (first ∷ items) (suc k) item = shown_at items k item
 abbrev pub no_text : Bor (List ℕ)
 no_text = record { ref_ptr = (0, 0); now = [] }
 
-pub next_text : (items : List (Bor (List ℕ))) (texts : List (List ℕ)) (k : ℕ) → map (λ (text : Bor (List ℕ)). text.now) items ≡ texts → k < length items
+pub next_text : (items : List (Bor (List ℕ))) (texts : List (List ℕ)) (k : ℕ)
+    → map (λ (text : Bor (List ℕ)). text.now) items ≡ texts → k < length items
     → take (k + 1) texts ≡ take k texts ++ (get_or items k no_text).now ∷ []
 next_text items texts k is lt =
     let long = length-map items (λ (text : Bor (List ℕ)). text.now) in
-    ap (take (k + 1)) (sym is) ∙ take_more (map (λ (text : Bor (List ℕ)). text.now) items) k [] (omega (arith, long, lt))
+    ap (take (k + 1)) (sym is)
+    ∙ take_more (map (λ (text : Bor (List ℕ)). text.now) items) k [] (omega (arith, long, lt))
     ∙ ap (λ t. take k (map (λ (text : Bor (List ℕ)). text.now) items) ++ t ∷ []) (shown_at items k no_text)
     ∙ ap (λ ts. take k ts ++ (get_or items k no_text).now ∷ []) is
 
-pub next_mapped : {A : Type 0} (f : List ℕ → A) (texts next : List (List ℕ)) (text : List ℕ) → next ≡ texts ++ text ∷ [] → map f texts ++ f text ∷ [] ≡ map f next
+pub next_mapped : {A : Type 0} (f : List ℕ → A) (texts next : List (List ℕ)) (text : List ℕ)
+    → next ≡ texts ++ text ∷ [] → map f texts ++ f text ∷ [] ≡ map f next
 next_mapped f texts next text is = sym (map-append f texts (text ∷ [])) ∙ ap (map f) (sym is)
 
-pub next_pushed : {A : Type 0} (f : List ℕ → A) (old new : List A) (texts next : List (List ℕ)) (text : List ℕ) (made : A) → new ≡ old ++ made ∷ [] → made ≡ f text → old ≡ map f texts → next ≡ texts ++ text ∷ [] → new ≡ map f next
+pub next_pushed : {A : Type 0}
+    (f : List ℕ → A) (old new : List A) (texts next : List (List ℕ)) (text : List ℕ) (made : A)
+    → new ≡ old ++ made ∷ [] → made ≡ f text → old ≡ map f texts → next ≡ texts ++ text ∷ [] → new ≡ map f next
 next_pushed f old new texts next text made pushed same so_far is =
     pushed ∙ ap (λ m. old ++ m ∷ []) same ∙ ap (λ items. items ++ f text ∷ []) so_far ∙ next_mapped f texts next text is
 
-pub next_with : (start old new : List (List ℕ)) (texts next : List (List ℕ)) (text : List ℕ) → new ≡ with_text old text → old ≡ with_texts start texts → next ≡ texts ++ text ∷ [] → new ≡ with_texts start next
+pub next_with : (start old new : List (List ℕ)) (texts next : List (List ℕ)) (text : List ℕ)
+    → new ≡ with_text old text → old ≡ with_texts start texts → next ≡ texts ++ text ∷ [] → new ≡ with_texts start next
 next_with start old new texts next text added so_far is =
-    added ∙ ap (λ ts. with_text ts text) so_far ∙ sym (with_texts-append start texts (text ∷ [])) ∙ ap (with_texts start) (sym is)
+    added ∙ ap (λ ts. with_text ts text) so_far
+    ∙ sym (with_texts-append start texts (text ∷ [])) ∙ ap (with_texts start) (sym is)

@@ -1,5 +1,6 @@
 -- The tallies of names show each name that weighs something once.
-use Rattle.std.proofs.Common.{◌≡◌, ℕ, suc, ◌+◌, ◌<◌, ◌≤◌, true, false, cond, List, [], ◌∷◌, ◌++◌, length, take, get_or, refl, sym, ap, ◌∙◌, subst, arith, Some}
+use Rattle.std.proofs.Common.{◌≡◌, ℕ, suc, ◌+◌, ◌<◌, ◌≤◌, true, false, cond, List, [], ◌∷◌, ◌++◌, length, take, get_or}
+use Rattle.std.proofs.Common.{refl, sym, ap, ◌∙◌, subst, arith, Some}
 use Rattle.std.specs.Prelude.{filter, map, nat_lt, slice_index_or, unwrap_or}
 use Rattle.std.specs.List.{zip}
 use Rattle.std.specs.List.{All, AllByRecursion, IsDistinct}
@@ -42,44 +43,61 @@ abbrev found_in : List Entry → List ℕ → Tally
 found_in entries name = unwrap_or (lookup (is_same_name name) entries) zero_tally
 
 -- a name that no entry passes isn't shown
-absent : (name : List ℕ) (entries : List Entry) → AllByRecursion (λ (e : Entry). is_same_name name e.0 ≡ false) entries → occurrences name (weighted_in entries) ≡ 0
+absent : (name : List ℕ) (entries : List Entry)
+    → AllByRecursion (λ (e : Entry). is_same_name name e.0 ≡ false) entries → occurrences name (weighted_in entries) ≡ 0
 absent name [] none = refl
 absent name (entry ∷ entries) none =
     let rest = absent name entries none.1 in
-    elim (nat_lt 0 entry.1.cumulative) as (λ b. occurrences name (cond b (entry_shown entry ∷ weighted_in entries) (weighted_in entries)) ≡ 0) [
+    elim (nat_lt 0 entry.1.cumulative) as (λ b. occurrences name
+    (cond b (entry_shown entry ∷ weighted_in entries) (weighted_in entries)) ≡ 0) [
       | true ↦
-          let cons : occurrences name (entry_shown entry ∷ weighted_in entries) ≡ mark name (entry_shown entry) + occurrences name (weighted_in entries) = sum_by-cons (mark name) (entry_shown entry) (weighted_in entries) in
+          let cons : occurrences name (entry_shown entry ∷ weighted_in entries)
+          ≡ mark name (entry_shown entry) + occurrences name (weighted_in entries) =
+          sum_by-cons (mark name) (entry_shown entry) (weighted_in entries) in
           let here : mark name (entry_shown entry) ≡ 0 = ap (λ b. cond b 1 0) none.0 in
           omega arith
       | false ↦ rest
     ]
 
-others : (name : List ℕ) (entry : Entry) (entries : List Entry) → is_same_name name entry.0 ≡ true → AllByRecursion (λ other. is_same_name entry.0 other ≡ false) (keys_of entries)
+others : (name : List ℕ) (entry : Entry) (entries : List Entry)
+    → is_same_name name entry.0 ≡ true → AllByRecursion (λ other. is_same_name entry.0 other ≡ false) (keys_of entries)
     → AllByRecursion (λ (e : Entry). is_same_name name e.0 ≡ false) entries
 others name entry [] is apart = tt
-others name entry (e ∷ entries) is apart =
-    (ap (λ n. is_same_name n e.0) (same_from_is_same_name name entry.0 is) ∙ apart.0, others name entry entries is apart.1)
+others name entry (e ∷ entries) is apart = (
+  ap (λ n. is_same_name n e.0) (same_from_is_same_name name entry.0 is)
+      ∙ apart.0,
+  others name entry entries is apart.1,
+)
 
 -- a name is shown once where its tally weighs something
-shown_once : (name : List ℕ) (entries : List Entry) → AreSingle (keys_of entries) → occurrences name (weighted_in entries) ≡ cond (nat_lt 0 (found_in entries name).cumulative) 1 0
+shown_once : (name : List ℕ) (entries : List Entry) → AreSingle (keys_of entries)
+    → occurrences name (weighted_in entries) ≡ cond (nat_lt 0 (found_in entries name).cumulative) 1 0
 unfolding IsDistinct
 shown_once name [] distinct = refl
 shown_once name (entry ∷ entries) distinct =
     let rest = shown_once name entries distinct.1 in
-    elim (is_same_name name entry.0) as (λ b. is_same_name name entry.0 ≡ b → occurrences name (weighted_in (entry ∷ entries)) ≡ cond (nat_lt 0 (unwrap_or (cond b (Some entry.1) (lookup (is_same_name name) entries)) zero_tally).cumulative) 1 0) [
+    elim (is_same_name name entry.0) as (λ b. is_same_name name entry.0 ≡ b
+    → occurrences name (weighted_in (entry ∷ entries)) ≡ cond
+    (nat_lt 0 (unwrap_or (cond b (Some entry.1) (lookup (is_same_name name) entries)) zero_tally).cumulative) 1 0) [
       | true ↦ λ is.
           let none = absent name entries (others name entry entries is distinct.0) in
-          elim (nat_lt 0 entry.1.cumulative) as (λ b. occurrences name (cond b (entry_shown entry ∷ weighted_in entries) (weighted_in entries)) ≡ cond b 1 0) [
+          elim (nat_lt 0 entry.1.cumulative) as (λ b. occurrences name
+          (cond b (entry_shown entry ∷ weighted_in entries) (weighted_in entries)) ≡ cond b 1 0) [
             | true ↦
-                let cons : occurrences name (entry_shown entry ∷ weighted_in entries) ≡ mark name (entry_shown entry) + occurrences name (weighted_in entries) = sum_by-cons (mark name) (entry_shown entry) (weighted_in entries) in
+                let cons : occurrences name (entry_shown entry ∷ weighted_in entries)
+                ≡ mark name (entry_shown entry) + occurrences name (weighted_in entries) =
+                sum_by-cons (mark name) (entry_shown entry) (weighted_in entries) in
                 let here : mark name (entry_shown entry) ≡ 1 = ap (λ b. cond b 1 0) is in
                 omega arith
             | false ↦ none
           ]
       | false ↦ λ isnt.
-          (elim (nat_lt 0 entry.1.cumulative) as (λ b. occurrences name (cond b (entry_shown entry ∷ weighted_in entries) (weighted_in entries)) ≡ occurrences name (weighted_in entries)) [
+          (elim (nat_lt 0 entry.1.cumulative) as (λ b. occurrences name (cond b (entry_shown
+          entry ∷ weighted_in entries) (weighted_in entries)) ≡ occurrences name (weighted_in entries)) [
             | true ↦
-                let cons : occurrences name (entry_shown entry ∷ weighted_in entries) ≡ mark name (entry_shown entry) + occurrences name (weighted_in entries) = sum_by-cons (mark name) (entry_shown entry) (weighted_in entries) in
+                let cons : occurrences name (entry_shown entry ∷ weighted_in entries)
+                ≡ mark name (entry_shown entry) + occurrences name (weighted_in entries) =
+                sum_by-cons (mark name) (entry_shown entry) (weighted_in entries) in
                 let here : mark name (entry_shown entry) ≡ 0 = ap (λ b. cond b 1 0) isnt in
                 omega arith
             | false ↦ refl
@@ -88,54 +106,67 @@ shown_once name (entry ∷ entries) distinct =
 
 -- ---- the entries of names with their tallies
 
-found_zip : (names : List (List ℕ)) (tallies : List Tally) (name : List ℕ) → length tallies ≡ length names → found_in (zip names tallies) name ≡ tally_of names tallies name
+found_zip : (names : List (List ℕ)) (tallies : List Tally) (name : List ℕ)
+    → length tallies ≡ length names → found_in (zip names tallies) name ≡ tally_of names tallies name
 found_zip [] [] name same = refl
 found_zip [] (tally ∷ tallies) name same = absurd (omega (arith, same))
 found_zip (first ∷ names) [] name same = absurd (omega (arith, same))
 found_zip (first ∷ names) (tally ∷ tallies) name same =
     let next : suc (place_in names name) ≡ place_in names name + 1 = omega arith in
-    elim (is_same_name name first) as (λ b. unwrap_or (cond b (Some tally) (lookup (is_same_name name) (zip names tallies))) zero_tally ≡ tally_at (tally ∷ tallies) (cond b 0 (place_in names name + 1))) [
+    elim (is_same_name name first) as (λ b. unwrap_or (cond b (Some tally) (lookup (is_same_name name)
+    (zip names tallies))) zero_tally ≡ tally_at (tally ∷ tallies) (cond b 0 (place_in names name + 1))) [
       | true ↦ refl
       | false ↦ found_zip names tallies name (omega (arith, same)) ∙ ap (tally_at (tally ∷ tallies)) next
     ]
 
-keys_of-zip : (names : List (List ℕ)) (tallies : List Tally) → length tallies ≡ length names → keys_of (zip names tallies) ≡ names
+keys_of-zip : (names : List (List ℕ)) (tallies : List Tally)
+    → length tallies ≡ length names → keys_of (zip names tallies) ≡ names
 keys_of-zip [] [] same = refl
 keys_of-zip [] (tally ∷ tallies) same = absurd (omega (arith, same))
 keys_of-zip (first ∷ names) [] same = absurd (omega (arith, same))
-keys_of-zip (first ∷ names) (tally ∷ tallies) same = ap (λ keys. first ∷ keys) (keys_of-zip names tallies (omega (arith, same)))
+keys_of-zip (first ∷ names) (tally ∷ tallies) same =
+    ap (λ keys. first ∷ keys) (keys_of-zip names tallies (omega (arith, same)))
 
 -- each entry is what its key finds
-each_found : (entries : List Entry) → AreSingle (keys_of entries) → All (λ (e : Entry). e.1 ≡ found_in entries e.0) entries
+each_found : (entries : List Entry)
+    → AreSingle (keys_of entries) → All (λ (e : Entry). e.1 ≡ found_in entries e.0) entries
 each_found entries distinct k d lt =
     let e = get_or entries k d in
-    sym (ap (λ o. unwrap_or o zero_tally) (lookup_from_place nat_list_eq_equiv entries k e.0 e.1 distinct (slice_get-get_or entries k d lt)))
+    sym (ap (λ o. unwrap_or o zero_tally)
+    (lookup_from_place nat_list_eq_equiv entries k e.0 e.1 distinct (slice_get-get_or entries k d lt)))
 
 -- what is shown of an entry with the rows' tally is the name's weights in the rows
-sums_from : (rows : List WeightedStack) (last : ℕ) (entry : Entry) → IsTallyOf rows last entry.0 entry.1 → entry_shown entry ≡ sums_at rows entry.0
+sums_from : (rows : List WeightedStack) (last : ℕ) (entry : Entry)
+    → IsTallyOf rows last entry.0 entry.1 → entry_shown entry ≡ sums_at rows entry.0
 sums_from rows last entry is =
     ap (λ n. let sums : FrameTotal = record { name = entry.0; flat = n; cum = entry.1.cumulative } in sums) is.flat
-    ∙ ap (λ n. let sums : FrameTotal = record { name = entry.0; flat = flat_weight_of rows entry.0; cum = n } in sums) is.cumulative
+    ∙ ap (λ n. let sums : FrameTotal = record { name = entry.0; flat = flat_weight_of rows entry.0; cum = n } in sums)
+    is.cumulative
 
-shown_weights : (rows : List WeightedStack) (last : ℕ) (all entries : List Entry) → ((name : List ℕ) → IsTallyOf rows last name (found_in all name)) → AllByRecursion (λ (e : Entry). e.1 ≡ found_in all e.0) entries
+shown_weights : (rows : List WeightedStack) (last : ℕ) (all entries : List Entry) → ((name : List ℕ)
+    → IsTallyOf rows last name (found_in all name)) → AllByRecursion (λ (e : Entry). e.1 ≡ found_in all e.0) entries
     → AllByRecursion (λ sums. sums ≡ sums_at rows sums.name) (weighted_in entries)
 shown_weights rows last all [] tallies each = tt
 shown_weights rows last all (entry ∷ entries) tallies each =
     let rest = shown_weights rows last all entries tallies each.1 in
     let here = sums_from rows last entry (subst (IsTallyOf rows last entry.0) (sym each.0) (tallies entry.0)) in
-    elim (nat_lt 0 entry.1.cumulative) as (λ b. AllByRecursion (λ sums. sums ≡ sums_at rows sums.name) (cond b (entry_shown entry ∷ weighted_in entries) (weighted_in entries))) [
+    elim (nat_lt 0 entry.1.cumulative) as (λ b. AllByRecursion (λ sums. sums ≡ sums_at rows sums.name)
+    (cond b (entry_shown entry ∷ weighted_in entries) (weighted_in entries))) [
       | true ↦ (here, rest)
       | false ↦ rest
     ]
 
 -- the rows' tallies show each name that weighs something once, with its weights
-pub shown-AreSumsOf : (rows : List WeightedStack) (names : List (List ℕ)) (tallies : Tallies) → AreTalliesOf rows names tallies → AreSumsOf rows (weighted_in (zip names tallies.names.items))
+pub shown-AreSumsOf : (rows : List WeightedStack) (names : List (List ℕ)) (tallies : Tallies)
+    → AreTalliesOf rows names tallies → AreSumsOf rows (weighted_in (zip names tallies.names.items))
 shown-AreSumsOf rows names tallies are =
     let entries = zip names tallies.names.items in
-    let distinct : AreSingle (keys_of entries) = subst AreSingle (sym (keys_of-zip names tallies.names.items are.many)) are.single in
+    let distinct : AreSingle (keys_of entries) =
+    subst AreSingle (sym (keys_of-zip names tallies.names.items are.many)) are.single in
     record {
       weights = All-from_recursion (λ sums. sums ≡ sums_at rows sums.name) (weighted_in entries)
-          (shown_weights rows tallies.total entries entries (λ name. subst (IsTallyOf rows tallies.total name) (sym (found_zip names tallies.names.items name are.many)) (are.each name))
+          (shown_weights rows tallies.total entries entries (λ name. subst (IsTallyOf rows tallies.total name)
+          (sym (found_zip names tallies.names.items name are.many)) (are.each name))
           (recursion_from_All (λ (e : Entry). e.1 ≡ found_in entries e.0) entries (each_found entries distinct)));
       once = λ name.
           shown_once name entries distinct
@@ -144,39 +175,53 @@ shown-AreSumsOf rows names tallies are =
     }
 
 -- a name that weighs something is one
-pub number_named : (rows : List WeightedStack) (names : List (List ℕ)) (tallies : Tallies) (number : ℕ) → AreTalliesOf rows names tallies → number < length names
+pub number_named : (rows : List WeightedStack) (names : List (List ℕ)) (tallies : Tallies) (number : ℕ)
+    → AreTalliesOf rows names tallies → number < length names
     → 0 < (tally_at tallies.names.items number).cumulative → IsName (slice_index_or names number [])
 number_named rows names tallies number are lt some =
-    (are.each (slice_index_or names number [])).named (subst (λ k. 0 < (tally_at tallies.names.items k).cumulative) (sym (place_in-own names number are.single lt)) some)
+    (are.each (slice_index_or names number [])).named (subst
+    (λ k. 0 < (tally_at tallies.names.items k).cumulative) (sym (place_in-own names number are.single lt)) some)
 
 -- ---- a name more
 
-next_weighted : (names : List (List ℕ)) (tallies : List Tally) (number : ℕ) → length tallies ≡ length names → number < length names
-    → weighted_in (take (number + 1) (zip names tallies)) ≡ weighted_in (take number (zip names tallies)) ++ weighted_in ((slice_index_or names number [], tally_at tallies number) ∷ [])
+next_weighted : (names : List (List ℕ)) (tallies : List Tally) (number : ℕ)
+    → length tallies ≡ length names → number < length names
+    → weighted_in (take (number + 1) (zip names tallies)) ≡ weighted_in (take number (zip names tallies)) ++ weighted_in
+    ((slice_index_or names number [], tally_at tallies number) ∷ [])
 next_weighted names tallies number same lt =
     let long = length-zip names tallies in
     let entry : Entry = ([], zero_tally) in
-    ap weighted_in (take_more (zip names tallies) number entry (omega (arith, long, same, lt)) ∙ ap (λ e. take number (zip names tallies) ++ e ∷ []) (get_or-zip names tallies number entry lt (omega (arith, same, lt))))
-    ∙ ap (filter (λ sums. nat_lt 0 sums.cum)) (map-append entry_shown (take number (zip names tallies)) ((slice_index_or names number [], tally_at tallies number) ∷ []))
-    ∙ filter-append (λ sums. nat_lt 0 sums.cum) (map entry_shown (take number (zip names tallies))) (entry_shown (slice_index_or names number [], tally_at tallies number) ∷ [])
+    ap weighted_in (take_more (zip names tallies) number entry (omega (arith, long, same, lt)) ∙ ap (λ e. take number
+    (zip names tallies) ++ e ∷ []) (get_or-zip names tallies number entry lt (omega (arith, same, lt))))
+    ∙ ap (filter (λ sums. nat_lt 0 sums.cum)) (map-append entry_shown
+    (take number (zip names tallies)) ((slice_index_or names number [], tally_at tallies number) ∷ []))
+    ∙ filter-append (λ sums. nat_lt 0 sums.cum) (map entry_shown (take number (zip names tallies)))
+    (entry_shown (slice_index_or names number [], tally_at tallies number) ∷ [])
 
 -- one that weighs something
-pub weighty_more : (names : List (List ℕ)) (tallies : List Tally) (number : ℕ) (name : List ℕ) (tally : Tally) (old new : List FrameTotal) → length tallies ≡ length names → number < length names
-    → name ≡ slice_index_or names number [] → tally ≡ tally_at tallies number → 0 < tally.cumulative → old ≡ weighted_in (take number (zip names tallies))
+pub weighty_more : (names : List (List ℕ)) (tallies : List Tally) (number : ℕ)
+    (name : List ℕ) (tally : Tally) (old new : List FrameTotal) → length tallies ≡ length names → number < length names
+    → name ≡ slice_index_or names number []
+    → tally ≡ tally_at tallies number → 0 < tally.cumulative → old ≡ weighted_in (take number (zip names tallies))
     → new ≡ old ++ entry_shown (name, tally) ∷ [] → new ≡ weighted_in (take (number + 1) (zip names tallies))
 weighty_more names tallies number name tally old new same lt name_is tally_is some so_far pushed =
     pushed ∙ ap (λ list. list ++ entry_shown (name, tally) ∷ []) so_far
-    ∙ ap (λ list. weighted_in (take number (zip names tallies)) ++ list) (sym (ap (λ b. cond b (entry_shown (name, tally) ∷ []) []) (lt-ltb 0 tally.cumulative some))
-    ∙ ap (λ n. weighted_in ((n, tally) ∷ [])) name_is ∙ ap (λ t. weighted_in ((slice_index_or names number [], t) ∷ [])) tally_is)
+    ∙ ap (λ list. weighted_in (take number (zip names tallies)) ++ list)
+    (sym (ap (λ b. cond b (entry_shown (name, tally) ∷ []) []) (lt-ltb 0 tally.cumulative some))
+    ∙ ap (λ n. weighted_in ((n, tally) ∷ [])) name_is
+    ∙ ap (λ t. weighted_in ((slice_index_or names number [], t) ∷ [])) tally_is)
     ∙ sym (next_weighted names tallies number same lt)
 
 -- one that weighs nothing
-pub weightless_more : (names : List (List ℕ)) (tallies : List Tally) (number : ℕ) (tally : Tally) (list : List FrameTotal) → length tallies ≡ length names → number < length names
-    → tally ≡ tally_at tallies number → tally.cumulative ≤ 0 → list ≡ weighted_in (take number (zip names tallies)) → list ≡ weighted_in (take (number + 1) (zip names tallies))
+pub weightless_more : (names : List (List ℕ)) (tallies : List Tally)
+    (number : ℕ) (tally : Tally) (list : List FrameTotal) → length tallies ≡ length names → number < length names
+    → tally ≡ tally_at tallies number → tally.cumulative ≤ 0 → list ≡ weighted_in (take number (zip names tallies))
+    → list ≡ weighted_in (take (number + 1) (zip names tallies))
 weightless_more names tallies number tally list same lt tally_is none so_far =
     let name = slice_index_or names number [] in
     let nothing : tally.cumulative ≡ 0 = omega (arith, none) in
     so_far ∙ sym (append-nil (weighted_in (take number (zip names tallies))))
-    ∙ ap (λ list. weighted_in (take number (zip names tallies)) ++ list) (sym (ap (λ n. cond (nat_lt 0 n) (entry_shown (name, tally) ∷ []) []) nothing)
+    ∙ ap (λ list. weighted_in (take number (zip names tallies)) ++ list)
+    (sym (ap (λ n. cond (nat_lt 0 n) (entry_shown (name, tally) ∷ []) []) nothing)
     ∙ ap (λ t. weighted_in ((name, t) ∷ [])) tally_is)
     ∙ sym (next_weighted names tallies number same lt)

@@ -21,13 +21,15 @@ all_entered es (row ∷ rows) = all_entered (entered es row) rows
 entries-with_row : (m : Weighted) (row : WeightedStack) → entries (with_row m row) ≡ entered (entries m) row
 entries-with_row m row =
     elim (nat_lt 0 row.weight) as (λ b. entries (cond b (insert m row.stack (weight_in m row.stack + row.weight)) m)
-    ≡ cond b (put stack_cmp row.stack (unwrap_or (find stack_cmp row.stack (entries m)) 0 + row.weight) (entries m)) (entries m)) [
+    ≡ cond b (put stack_cmp row.stack (unwrap_or (find stack_cmp row.stack (entries m)) 0 + row.weight) (entries m))
+    (entries m)) [
       | true ↦ entries-insert stack_cmp_total m row.stack (weight_in m row.stack + row.weight)
           ∙ ap (λ held. put stack_cmp row.stack (unwrap_or held 0 + row.weight) (entries m)) (get-entries m row.stack)
       | false ↦ refl
     ]
 
-entries-with_rows : (m : Weighted) (rows : List WeightedStack) → entries (with_rows m rows) ≡ all_entered (entries m) rows
+entries-with_rows : (m : Weighted) (rows : List WeightedStack)
+    → entries (with_rows m rows) ≡ all_entered (entries m) rows
 entries-with_rows m [] = refl
 entries-with_rows m (row ∷ rows) =
     entries-with_rows (with_row m row) rows ∙ ap (λ es. all_entered es rows) (entries-with_row m row)

@@ -53,18 +53,21 @@ recursion-flat = refl
 recursion-caller : flat_weight_of recursion g ≡ 0
 recursion-caller = refl
 
-recursion-top : top_report_of by_flat 20 recursion ≡ text (codes "total 4" ∷ codes "4 4 f" ∷ codes "0 4 g" ∷ codes "0 4 main" ∷ [])
+recursion-top : top_report_of by_flat 20 recursion
+    ≡ text (codes "total 4" ∷ codes "4 4 f" ∷ codes "0 4 g" ∷ codes "0 4 main" ∷ [])
 unfolding digits
 recursion-top = refl
 
 three-total : total_of three ≡ 10
 three-total = refl
 
-three-top : top_report_of by_flat 20 three ≡ text (codes "total 10" ∷ codes "5 5 c" ∷ codes "3 3 b" ∷ codes "2 5 a" ∷ codes "0 10 main" ∷ [])
+three-top : top_report_of by_flat 20 three
+    ≡ text (codes "total 10" ∷ codes "5 5 c" ∷ codes "3 3 b" ∷ codes "2 5 a" ∷ codes "0 10 main" ∷ [])
 unfolding digits
 three-top = refl
 
-three-top-cumulative : top_report_of by_cumulative 20 three ≡ text (codes "total 10" ∷ codes "0 10 main" ∷ codes "2 5 a" ∷ codes "5 5 c" ∷ codes "3 3 b" ∷ [])
+three-top-cumulative : top_report_of by_cumulative 20 three
+    ≡ text (codes "total 10" ∷ codes "0 10 main" ∷ codes "2 5 a" ∷ codes "5 5 c" ∷ codes "3 3 b" ∷ [])
 unfolding digits
 three-top-cumulative = refl
 
@@ -85,15 +88,18 @@ unfolding digits
 weightless-top = refl
 
 abbrev rectangle : ℕ → List ℕ → ℕ → ℕ → ℕ → ℕ → Rectangle
-rectangle depth name start weight left right = record { depth = depth; name = name; start = start; weight = weight; left = left; right = right }
+rectangle depth name start weight left right =
+    record { depth = depth; name = name; start = start; weight = weight; left = left; right = right }
 
 -- five columns: the own weight of `a` lies at its right, and `b` and `c` start at their parents' left edges
 three-in-five-columns : rectangles_of 5 three ≡
-    rectangle 0 [] 0 10 0 5 ∷ rectangle 1 main 0 10 0 5 ∷ rectangle 2 a 0 5 0 2 ∷ rectangle 3 b 0 3 0 1 ∷ rectangle 2 c 5 5 2 5 ∷ []
+    rectangle 0 [] 0
+    10 0 5 ∷ rectangle 1 main 0 10 0 5 ∷ rectangle 2 a 0 5 0 2 ∷ rectangle 3 b 0 3 0 1 ∷ rectangle 2 c 5 5 2 5 ∷ []
 three-in-five-columns = refl
 
 -- one column: what takes no column is left out
-three-in-one-column : rectangles_of 1 three ≡ rectangle 0 [] 0 10 0 1 ∷ rectangle 1 main 0 10 0 1 ∷ rectangle 2 c 5 5 0 1 ∷ []
+three-in-one-column : rectangles_of 1 three
+    ≡ rectangle 0 [] 0 10 0 1 ∷ rectangle 1 main 0 10 0 1 ∷ rectangle 2 c 5 5 0 1 ∷ []
 three-in-one-column = refl
 
 weightless-layout : rectangles_of 5 (row (f ∷ []) 0 ∷ []) ≡ []
@@ -107,15 +113,18 @@ greatest-weight : rectangles_of 65535 (row (a ∷ []) 9223372036854775807 ∷ []
 greatest-weight = refl
 
 -- focus, ignored name, and both
-three-focus : top_report_of by_flat 20 (kept_rows (Some a) None three) ≡ text (codes "total 5" ∷ codes "3 3 b" ∷ codes "2 5 a" ∷ codes "0 5 main" ∷ [])
+three-focus : top_report_of by_flat 20 (kept_rows (Some a) None three)
+    ≡ text (codes "total 5" ∷ codes "3 3 b" ∷ codes "2 5 a" ∷ codes "0 5 main" ∷ [])
 unfolding digits
 three-focus = refl
 
-three-ignored : top_report_of by_flat 20 (kept_rows None (Some b) three) ≡ text (codes "total 7" ∷ codes "5 5 c" ∷ codes "2 2 a" ∷ codes "0 7 main" ∷ [])
+three-ignored : top_report_of by_flat 20 (kept_rows None (Some b) three)
+    ≡ text (codes "total 7" ∷ codes "5 5 c" ∷ codes "2 2 a" ∷ codes "0 7 main" ∷ [])
 unfolding digits
 three-ignored = refl
 
-three-both : top_report_of by_flat 20 (kept_rows (Some a) (Some b) three) ≡ text (codes "total 2" ∷ codes "2 2 a" ∷ codes "0 2 main" ∷ [])
+three-both : top_report_of by_flat 20 (kept_rows (Some a) (Some b) three)
+    ≡ text (codes "total 2" ∷ codes "2 2 a" ∷ codes "0 2 main" ∷ [])
 unfolding digits
 three-both = refl
 

@@ -1,5 +1,6 @@
 -- The plain profile: rows of a stack and a weight, and what they weigh. Each report is a function of such a list.
-use Rattle.std.specs.Prelude.{ℕ, ◌^◌, ◌<◌, ◌≤◌, All, Bool, true, false, ◌&&◌, not, length, Option, Some, None, List, [], ◌∷◌, filter, sum_by, if◌then◌else◌}
+use Rattle.std.specs.Prelude.{ℕ, ◌^◌, ◌<◌, ◌≤◌, All, Bool, true, false, ◌&&◌, not, length, Option, Some, None, List, []}
+use Rattle.std.specs.Prelude.{◌∷◌, filter, sum_by, if◌then◌else◌}
 use Rattle.std.specs.List.{list_any}
 use Rattle.std.specs.declared.cmp.Ordering.{Ordering}
 use Rattle.std.specs.Ordering.{nat_cmp, eq_by_cmp}

@@ -1,5 +1,6 @@
 -- What each name weighs so far, by its number.
-use Rattle.std.specs.Prelude.{ℕ, ◌≡◌, ◌<◌, ◌≤◌, ◌+◌, ◌==◌, ◌++◌, ◌∷◌, [], All, Bool, List, MatchOption, Option, length, map, slice_index_or, if◌then◌else◌}
+use Rattle.std.specs.Prelude.{ℕ, ◌≡◌, ◌<◌, ◌≤◌, ◌+◌, ◌==◌, ◌++◌, ◌∷◌, [], All, Bool, List, MatchOption, Option, length}
+use Rattle.std.specs.Prelude.{map, slice_index_or, if◌then◌else◌}
 use Rattle.std.specs.List.{IsDistinct, list_any}
 use denote.Ref.{Bor}
 use Rattle.profile_rows.specs.declared.frame_totals.CountedRows.{CountedRows}
@@ -86,4 +87,5 @@ pub record AreTalliesOf (rows : List WeightedStack) (names : List (List ℕ)) (t
 pub record HasCounted (rows : List WeightedStack) (counted : CountedRows) : Type 0 where
   pub tallies : AreTalliesOf rows counted.names.texts counted.tallies
   pub inside : All (λ number. number < length counted.names.texts) counted.numbers.items
-  pub frames : names_at counted.names.texts counted.numbers.items ≡ map (λ (frame : Bor (List ℕ)). frame.now) counted.frames.items
+  pub frames : names_at counted.names.texts counted.numbers.items
+      ≡ map (λ (frame : Bor (List ℕ)). frame.now) counted.frames.items

@@ -1,5 +1,6 @@
 -- Rows of one to four values, which are counted from 0. Each report is over one value of every row.
-use Rattle.std.specs.Prelude.{ℕ, ◌≡◌, ◌+◌, ◌^◌, ◌≤◌, ◌<◌, ◌++◌, ◌-◌, ◌*◌, All, List, [], ◌∷◌, length, map, slice_index_or, drop, take}
+use Rattle.std.specs.Prelude.{ℕ, ◌≡◌, ◌+◌, ◌^◌, ◌≤◌, ◌<◌, ◌++◌, ◌-◌, ◌*◌, All, List, [], ◌∷◌, length, map}
+use Rattle.std.specs.Prelude.{slice_index_or, drop, take}
 use Rattle.profile_rows.specs.declared.weighted_stacks.WeightedStack.{WeightedStack}
 use Rattle.profile_rows.specs.Rows.{total_of}
 

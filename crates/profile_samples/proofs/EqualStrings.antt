@@ -1,5 +1,6 @@
 -- What is known of each string is true of the string at an index.
-use Rattle.std.proofs.Common.{◌≡◌, ◌+◌, ℕ, zero, suc, Bool, cond, length, nat_lt, Some, None, List, [], ◌∷◌, refl, ap, sym, ◌∙◌}
+use Rattle.std.proofs.Common.{◌≡◌, ◌+◌, ℕ, zero, suc, Bool, cond, length, nat_lt, Some, None, List, [], ◌∷◌, refl, ap}
+use Rattle.std.proofs.Common.{sym, ◌∙◌}
 use Rattle.std.specs.Prelude.{ℤ, pos, negsuc, slice_index_or}
 use Rattle.std.specs.List.{position, position_or_len}
 use Rattle.std.proofs.lemmas.List.Recursion.{is_position_or_len}
@@ -9,13 +10,15 @@ use Rattle.profile_samples.specs.Samples.{string_at}
 use Rattle.profile_samples.specs.EqualStrings.{equal_at, equal_strings}
 
 equal_in : (text : List ℕ) (strings : List (List ℕ)) (index : ℕ)
-    → slice_index_or (equal_strings strings text) index (bytes_eq [] text) ≡ bytes_eq (slice_index_or strings index []) text
+    → slice_index_or (equal_strings strings text) index (bytes_eq [] text)
+    ≡ bytes_eq (slice_index_or strings index []) text
 equal_in text [] zero = refl
 equal_in text [] (suc index) = refl
 equal_in text (string ∷ strings) zero = refl
 equal_in text (string ∷ strings) (suc index) = equal_in text strings index
 
-pub equal_at-string : (strings : List (List ℕ)) (text : List ℕ) (index : ℤ) → equal_at (equal_strings strings text) text index ≡ bytes_eq (string_at strings index) text
+pub equal_at-string : (strings : List (List ℕ)) (text : List ℕ) (index : ℤ)
+    → equal_at (equal_strings strings text) text index ≡ bytes_eq (string_at strings index) text
 equal_at-string strings text (pos index) = equal_in text strings index
 equal_at-string strings text (negsuc index) = refl
 
@@ -23,14 +26,18 @@ abbrev first_place : (ValueType → Bool) → List ValueType → ℕ
 first_place test [] = 0
 first_place test (kind ∷ kinds) = cond (test kind) 0 (1 + first_place test kinds)
 
-places_alike : (p q : ValueType → Bool) → ((kind : ValueType) → p kind ≡ q kind) → (kinds : List ValueType) → position_or_len p kinds ≡ position_or_len q kinds
+places_alike : (p q : ValueType → Bool) → ((kind : ValueType) → p kind ≡ q kind)
+    → (kinds : List ValueType) → position_or_len p kinds ≡ position_or_len q kinds
 places_alike p q alike kinds =
     sym (is_position_or_len (first_place p) p refl (λ kind more. refl) kinds)
-    ∙ is_position_or_len (first_place p) q refl (λ kind more. ap (λ b. cond b 0 (1 + first_place p more)) (alike kind)) kinds
+    ∙ is_position_or_len
+    (first_place p) q refl (λ kind more. ap (λ b. cond b 0 (1 + first_place p more)) (alike kind)) kinds
 
 -- the first sample type of a name, by what is known of each string
 pub position_of_equal : (strings : List (List ℕ)) (text : List ℕ) (kinds : List ValueType)
-    → position (λ (kind : ValueType). equal_at (equal_strings strings text) text kind.kind) kinds ≡ position (λ (kind : ValueType). bytes_eq (string_at strings kind.kind) text) kinds
+    → position (λ (kind : ValueType). equal_at (equal_strings strings text) text kind.kind) kinds
+    ≡ position (λ (kind : ValueType). bytes_eq (string_at strings kind.kind) text) kinds
 position_of_equal strings text kinds =
     ap (λ n. cond (nat_lt n (length kinds)) (Some n) None)
-    (places_alike (λ kind. equal_at (equal_strings strings text) text kind.kind) (λ kind. bytes_eq (string_at strings kind.kind) text) (λ kind. equal_at-string strings text kind.kind) kinds)
+    (places_alike (λ kind. equal_at (equal_strings strings text) text kind.kind)
+    (λ kind. bytes_eq (string_at strings kind.kind) text) (λ kind. equal_at-string strings text kind.kind) kinds)

@@ -1,5 +1,6 @@
 -- The profile of rows is valid, and its rows are those rows.
-use Rattle.std.proofs.Common.{◌≡◌, ℕ, zero, suc, ◌+◌, ◌^◌, ◌<◌, ◌≤◌, Bool, true, false, cond, ◌||◌, eqb, List, [], ◌∷◌, ◌++◌, length, map, refl, sym, ap, ◌∙◌, subst, arith}
+use Rattle.std.proofs.Common.{◌≡◌, ℕ, zero, suc, ◌+◌, ◌^◌, ◌<◌, ◌≤◌, Bool, true, false, cond, ◌||◌, eqb, List, [], ◌∷◌}
+use Rattle.std.proofs.Common.{◌++◌, length, map, refl, sym, ap, ◌∙◌, subst, arith}
 use Rattle.std.specs.Prelude.{⊤, pos, Option, Some, None, ◌==◌, reverse, slice_get, slice_index_or, unwrap_or}
 use Rattle.std.specs.List.{All, AllByRecursion, list_all, list_any, flat_map}
 use Rattle.std.specs.Str.{bytes_eq}
@@ -10,18 +11,26 @@ use Rattle.std.proofs.lemmas.List.Elements.{All-from_recursion, recursion_from_A
 use Rattle.std.proofs.lemmas.List.Folds.{list_all-append, list_any-append}
 use Rattle.std.proofs.lemmas.Grind.{flat_map-append, reverse_onto}
 use Rattle.pprof_profile.specs.declared.faults.ProfileFault.{ProfileFault}
-use Rattle.pprof_profile.specs.declared.faults.ProfileFault.TheVariants.{NoStrings, FirstString, StringIndex, ZeroId, DoubleId, NoLocation, NoMapping, NoFunction, ValueCount}
+use Rattle.pprof_profile.specs.declared.faults.ProfileFault.TheVariants.{NoStrings, FirstString, StringIndex, ZeroId}
+use Rattle.pprof_profile.specs.declared.faults.ProfileFault.TheVariants.{DoubleId, NoLocation, NoMapping, NoFunction}
+use Rattle.pprof_profile.specs.declared.faults.ProfileFault.TheVariants.{ValueCount}
 use Rattle.pprof_profile.specs.declared.messages.Function.{Function}
 use Rattle.pprof_profile.specs.declared.messages.Location.{Location}
-use Rattle.pprof_profile.specs.Valid.{IsValidDraft, all_index, begins_with_empty, each_has_values, function_ids, function_indexes, has_double, is_index, is_known, is_nonempty, location_ids, mapping_ids, names_functions, names_locations, names_mappings, no_double_id, no_zero_id, sample_indexes, value_type_indexes}
+use Rattle.pprof_profile.specs.Valid.{IsValidDraft, all_index, begins_with_empty, each_has_values, function_ids}
+use Rattle.pprof_profile.specs.Valid.{function_indexes, has_double, is_index, is_known, is_nonempty, location_ids}
+use Rattle.pprof_profile.specs.Valid.{mapping_ids, names_functions, names_locations, names_mappings, no_double_id}
+use Rattle.pprof_profile.specs.Valid.{no_zero_id, sample_indexes, value_type_indexes}
 use Rattle.profile_rows.specs.declared.weighted_stacks.WeightedStack.{WeightedStack}
 use Rattle.profile_samples.specs.declared.sampling.ValueChoice.TheVariants.{Default}
 use Rattle.profile_rows.specs.Names.{IsName, cleaned_name_of}
 use Rattle.profile_rows.specs.Rows.{IsBatchRow, total_of}
 use Rattle.profile_rows.specs.Values.{Row, rows_at, singles, value_of, weighing}
-use Rattle.profile_samples.specs.Samples.{AreSampleRows, AreStacksOf, IsSampleRow, address_name, first_name, frames_at, frames_of_id, item_with, named_by, string_at}
+use Rattle.profile_samples.specs.Samples.{AreSampleRows, AreStacksOf, IsSampleRow, address_name, first_name, frames_at}
+use Rattle.profile_samples.specs.Samples.{frames_of_id, item_with, named_by, string_at}
 use Rattle.profile_rows.specs.TextTables.{place_in, with_text, with_texts}
-use Rattle.profile_samples.specs.Export.{KindAndUnit, exported_function, exported_location, exported_profile_of, exported_sample, exported_type, id_in, names_of, profile_with, single_profile_of, strings_of, unit_texts}
+use Rattle.profile_samples.specs.Export.{KindAndUnit, exported_function, exported_location, exported_profile_of}
+use Rattle.profile_samples.specs.Export.{exported_sample, exported_type, id_in, names_of, profile_with}
+use Rattle.profile_samples.specs.Export.{single_profile_of, strings_of, unit_texts}
 use Rattle.profile_rows.proofs.Cleaning.{cleaned-name}
 use Rattle.profile_rows.proofs.SameNames.{same_from_is_same_name, is_same_name-self}
 use Rattle.profile_rows.proofs.TextPlaces.{any_push, place_in-lt, turned}
@@ -54,71 +63,94 @@ or_left x y e = rw e refl
 
 -- ---- texts that are added stand there, each once
 
-pub with_text-stands : (texts : List (List ℕ)) (text q : List ℕ) → stands_in texts q ≡ true → stands_in (with_text texts text) q ≡ true
-with_text-stands texts text q e = elim (stands_in texts text) as (λ b. stands_in (cond b texts (texts ++ text ∷ [])) q ≡ true) [
-  | true ↦ e
-  | false ↦ any_push texts text q ∙ or_left (stands_in texts q) (bytes_eq q text) e
-]
+pub with_text-stands : (texts : List (List ℕ)) (text q : List ℕ)
+    → stands_in texts q ≡ true → stands_in (with_text texts text) q ≡ true
+with_text-stands texts text q e =
+    elim (stands_in texts text) as (λ b. stands_in (cond b texts (texts ++ text ∷ [])) q ≡ true) [
+      | true ↦ e
+      | false ↦ any_push texts text q ∙ or_left (stands_in texts q) (bytes_eq q text) e
+    ]
 
 with_text-own : (texts : List (List ℕ)) (text : List ℕ) → stands_in (with_text texts text) text ≡ true
-with_text-own texts text = elim (stands_in texts text) as (λ b. stands_in texts text ≡ b → stands_in (cond b texts (texts ++ text ∷ [])) text ≡ true) [
-  | true ↦ λ e. e
-  | false ↦ λ e. any_push texts text text ∙ or_right (stands_in texts text) (bytes_eq text text) (is_same_name-self text)
-] refl
+with_text-own texts text = elim (stands_in texts text) as (λ b. stands_in texts text ≡ b
+    → stands_in (cond b texts (texts ++ text ∷ [])) text ≡ true) [
+      | true ↦ λ e. e
+      | false ↦ λ e. any_push texts text text
+          ∙ or_right (stands_in texts text) (bytes_eq text text) (is_same_name-self text)
+    ] refl
 
-pub with_texts-stands : (texts more : List (List ℕ)) (q : List ℕ) → stands_in texts q ≡ true → stands_in (with_texts texts more) q ≡ true
+pub with_texts-stands : (texts more : List (List ℕ)) (q : List ℕ)
+    → stands_in texts q ≡ true → stands_in (with_texts texts more) q ≡ true
 with_texts-stands texts [] q e = e
-with_texts-stands texts (text ∷ more) q e = with_texts-stands (with_text texts text) more q (with_text-stands texts text q e)
+with_texts-stands texts (text ∷ more) q e =
+    with_texts-stands (with_text texts text) more q (with_text-stands texts text q e)
 
-pub with_texts-own : (texts more : List (List ℕ)) (q : List ℕ) → stands_in more q ≡ true → stands_in (with_texts texts more) q ≡ true
+pub with_texts-own : (texts more : List (List ℕ)) (q : List ℕ)
+    → stands_in more q ≡ true → stands_in (with_texts texts more) q ≡ true
 with_texts-own texts [] q e = absurd (false≢true e)
 with_texts-own texts (text ∷ more) q e =
-    elim (bytes_eq q text) as (λ b. bytes_eq q text ≡ b → (b || stands_in more q) ≡ true → stands_in (with_texts (with_text texts text) more) q ≡ true) [
+    elim (bytes_eq q text) as (λ b. bytes_eq q text ≡ b
+    → (b || stands_in more q) ≡ true → stands_in (with_texts (with_text texts text) more) q ≡ true) [
       | true ↦ λ same r. with_texts-stands (with_text texts text) more q
-          (subst (λ t. stands_in (with_text texts text) t ≡ true) (sym (same_from_is_same_name q text same)) (with_text-own texts text))
+          (subst (λ t. stands_in (with_text texts text) t ≡ true)
+          (sym (same_from_is_same_name q text same)) (with_text-own texts text))
       | false ↦ λ other r. with_texts-own (with_text texts text) more q r
     ] refl e
 
-distinct_push : (texts : List (List ℕ)) (text : List ℕ) → AreDistinct texts → stands_in texts text ≡ false → AreDistinct (texts ++ text ∷ [])
+distinct_push : (texts : List (List ℕ)) (text : List ℕ)
+    → AreDistinct texts → stands_in texts text ≡ false → AreDistinct (texts ++ text ∷ [])
 distinct_push [] text all none = (refl, tt)
 distinct_push (first ∷ texts) text all none =
-    let parts = or_false (bytes_eq text first) (stands_in texts text) none in
-    (any_push texts text first ∙ ap (λ b. b || bytes_eq first text) all.0 ∙ turned text first parts.0, distinct_push texts text all.1 parts.1)
+    let parts = or_false (bytes_eq text first) (stands_in texts text) none in (
+      any_push texts text first
+          ∙ ap (λ b. b || bytes_eq first text) all.0 ∙ turned text first parts.0,
+      distinct_push texts text all.1 parts.1,
+    )
 
 distinct_with_text : (texts : List (List ℕ)) (text : List ℕ) → AreDistinct texts → AreDistinct (with_text texts text)
-distinct_with_text texts text all = elim (stands_in texts text) as (λ b. stands_in texts text ≡ b → AreDistinct (cond b texts (texts ++ text ∷ []))) [
-  | true ↦ λ e. all
-  | false ↦ λ e. distinct_push texts text all e
-] refl
+distinct_with_text texts text all =
+    elim (stands_in texts text) as (λ b. stands_in texts text ≡ b → AreDistinct (cond b texts (texts ++ text ∷ []))) [
+      | true ↦ λ e. all
+      | false ↦ λ e. distinct_push texts text all e
+    ] refl
 
 pub distinct_with_texts : (texts more : List (List ℕ)) → AreDistinct texts → AreDistinct (with_texts texts more)
 distinct_with_texts texts [] all = all
-distinct_with_texts texts (text ∷ more) all = distinct_with_texts (with_text texts text) more (distinct_with_text texts text all)
+distinct_with_texts texts (text ∷ more) all =
+    distinct_with_texts (with_text texts text) more (distinct_with_text texts text all)
 
-pub stand_where : (sub full : List (List ℕ)) → ((q : List ℕ) → stands_in sub q ≡ true → stands_in full q ≡ true) → AllStand full sub
+pub stand_where : (sub full : List (List ℕ))
+    → ((q : List ℕ) → stands_in sub q ≡ true → stands_in full q ≡ true) → AllStand full sub
 stand_where [] full h = tt
-stand_where (text ∷ sub) full h =
-    (h text (or_left (bytes_eq text text) (stands_in sub text) (is_same_name-self text)), stand_where sub full (λ q e. h q (or_right (bytes_eq q text) (stands_in sub q) e)))
+stand_where (text ∷ sub) full h = (
+  h text (or_left (bytes_eq text text) (stands_in sub text) (is_same_name-self text)),
+  stand_where sub full (λ q e. h q (or_right (bytes_eq q text) (stands_in sub q) e)),
+)
 
 -- ---- places
 
 -- texts that stand in one place are one text
-place_in-one : (texts : List (List ℕ)) (a b : List ℕ) → stands_in texts a ≡ true → stands_in texts b ≡ true → place_in texts a ≡ place_in texts b → a ≡ b
+place_in-one : (texts : List (List ℕ)) (a b : List ℕ)
+    → stands_in texts a ≡ true → stands_in texts b ≡ true → place_in texts a ≡ place_in texts b → a ≡ b
 place_in-one [] a b left right e = absurd (false≢true left)
 place_in-one (first ∷ texts) a b left right e =
-    elim (bytes_eq a first) as (λ x. bytes_eq a first ≡ x → (x || stands_in texts a) ≡ true → cond x 0 (place_in texts a + 1) ≡ place_in (first ∷ texts) b → a ≡ b) [
-      | true ↦ λ is r. elim (bytes_eq b first) as (λ y. bytes_eq b first ≡ y → 0 ≡ cond y 0 (place_in texts b + 1) → a ≡ b) [
-        | true ↦ λ also s. same_from_is_same_name a first is ∙ sym (same_from_is_same_name b first also)
-        | false ↦ λ other s. absurd (omega (arith, s))
-      ] refl
-      | false ↦ λ is r. elim (bytes_eq b first) as (λ y. (y || stands_in texts b) ≡ true → place_in texts a + 1 ≡ cond y 0 (place_in texts b + 1) → a ≡ b) [
-        | true ↦ λ also s. absurd (omega (arith, s))
-        | false ↦ λ other s. place_in-one texts a b r other (omega (arith, s))
-      ] right
+    elim (bytes_eq a first) as (λ x. bytes_eq a first ≡ x
+    → (x || stands_in texts a) ≡ true → cond x 0 (place_in texts a + 1) ≡ place_in (first ∷ texts) b → a ≡ b) [
+      | true ↦ λ is r.
+          elim (bytes_eq b first) as (λ y. bytes_eq b first ≡ y → 0 ≡ cond y 0 (place_in texts b + 1) → a ≡ b) [
+            | true ↦ λ also s. same_from_is_same_name a first is ∙ sym (same_from_is_same_name b first also)
+            | false ↦ λ other s. absurd (omega (arith, s))
+          ] refl
+      | false ↦ λ is r. elim (bytes_eq b first) as (λ y. (y || stands_in texts b) ≡ true
+          → place_in texts a + 1 ≡ cond y 0 (place_in texts b + 1) → a ≡ b) [
+            | true ↦ λ also s. absurd (omega (arith, s))
+            | false ↦ λ other s. place_in-one texts a b r other (omega (arith, s))
+          ] right
     ] refl left e
 
 -- so ids differ where texts do
-same_id : (names : List (List ℕ)) (a b : List ℕ) → stands_in names a ≡ true → stands_in names b ≡ true → eqb (id_in names a) (id_in names b) ≡ bytes_eq a b
+same_id : (names : List (List ℕ)) (a b : List ℕ)
+    → stands_in names a ≡ true → stands_in names b ≡ true → eqb (id_in names a) (id_in names b) ≡ bytes_eq a b
 same_id names a b left right =
     elim (bytes_eq a b) as (λ t. bytes_eq a b ≡ t → eqb (id_in names a) (id_in names b) ≡ t) [
       | true ↦ λ e. eq-eqb (id_in names a) (id_in names b) (ap (id_in names) (same_from_is_same_name a b e))
@@ -127,38 +159,46 @@ same_id names a b left right =
           absurd (false≢true (sym e ∙ ap (bytes_eq a) (sym one) ∙ is_same_name-self a)))
     ] refl
 
-known_id : (names sub : List (List ℕ)) (q : List ℕ) → stands_in names q ≡ true → AllStand names sub → is_known (map (id_in names) sub) (id_in names q) ≡ stands_in sub q
+known_id : (names sub : List (List ℕ)) (q : List ℕ)
+    → stands_in names q ≡ true → AllStand names sub → is_known (map (id_in names) sub) (id_in names q) ≡ stands_in sub q
 known_id names [] q e all = refl
 known_id names (text ∷ sub) q e all = rw (same_id names q text e all.0, known_id names sub q e all.1) refl
 
-ids_single : (names sub : List (List ℕ)) → AllStand names sub → AreDistinct sub → has_double (map (id_in names) sub) ≡ false
+ids_single : (names sub : List (List ℕ))
+    → AllStand names sub → AreDistinct sub → has_double (map (id_in names) sub) ≡ false
 ids_single names [] all apart = refl
-ids_single names (text ∷ sub) all apart = rw (known_id names sub text all.0 all.1, apart.0, ids_single names sub all.1 apart.1) refl
+ids_single names (text ∷ sub) all apart =
+    rw (known_id names sub text all.0 all.1, apart.0, ids_single names sub all.1 apart.1) refl
 
 -- ---- ids of what is exported
 
-location_ids_are : (names sub : List (List ℕ)) → map (λ item. item.id) (map (exported_location names) sub) ≡ map (id_in names) sub
+location_ids_are : (names sub : List (List ℕ))
+    → map (λ item. item.id) (map (exported_location names) sub) ≡ map (id_in names) sub
 location_ids_are names [] = refl
 location_ids_are names (text ∷ sub) = ap (λ ids. id_in names text ∷ ids) (location_ids_are names sub)
 
-function_ids_are : (names strings sub : List (List ℕ)) → map (λ item. item.id) (map (exported_function names strings) sub) ≡ map (id_in names) sub
+function_ids_are : (names strings sub : List (List ℕ))
+    → map (λ item. item.id) (map (exported_function names strings) sub) ≡ map (id_in names) sub
 function_ids_are names strings [] = refl
 function_ids_are names strings (text ∷ sub) = ap (λ ids. id_in names text ∷ ids) (function_ids_are names strings sub)
 
 id_not_zero : (names : List (List ℕ)) (text : List ℕ) → (id_in names text == 0) ≡ false
 id_not_zero names text = ne_eqb (id_in names text) 0 (λ e. absurd (omega (arith, e)))
 
-locations_not_zero : (names sub : List (List ℕ)) → list_any (λ item. item.id == 0) (map (exported_location names) sub) ≡ false
+locations_not_zero : (names sub : List (List ℕ))
+    → list_any (λ item. item.id == 0) (map (exported_location names) sub) ≡ false
 locations_not_zero names [] = refl
 locations_not_zero names (text ∷ sub) = rw (id_not_zero names text, locations_not_zero names sub) refl
 
-functions_not_zero : (names strings sub : List (List ℕ)) → list_any (λ item. item.id == 0) (map (exported_function names strings) sub) ≡ false
+functions_not_zero : (names strings sub : List (List ℕ))
+    → list_any (λ item. item.id == 0) (map (exported_function names strings) sub) ≡ false
 functions_not_zero names strings [] = refl
 functions_not_zero names strings (text ∷ sub) = rw (id_not_zero names text, functions_not_zero names strings sub) refl
 
 -- ---- indices
 
-is_index-place : (strings : List (List ℕ)) (text : List ℕ) → stands_in strings text ≡ true → is_index (length strings) (pos (place_in strings text)) ≡ true
+is_index-place : (strings : List (List ℕ)) (text : List ℕ)
+    → stands_in strings text ≡ true → is_index (length strings) (pos (place_in strings text)) ≡ true
 is_index-place strings text e = lt-ltb (place_in strings text) (length strings) (place_in-lt strings text e)
 
 is_index-zero : (strings : List (List ℕ)) → is_nonempty strings ≡ true → is_index (length strings) (pos 0) ≡ true
@@ -169,53 +209,68 @@ functions_index : (names strings sub : List (List ℕ)) → is_nonempty strings 
     → list_all (function_indexes (length strings)) (map (exported_function names strings) sub) ≡ true
 functions_index names strings [] some all = refl
 functions_index names strings (text ∷ sub) some all =
-    rw (is_index-place strings text all.0, is_index-zero strings some, functions_index names strings sub some all.1) refl
+    rw (is_index-place strings text all.0, is_index-zero strings some, functions_index names strings sub some all.1)
+    refl
 
-samples_index : (names : List (List ℕ)) (count : ℕ) (rows : List Row) → list_all (sample_indexes count) (map (exported_sample names) rows) ≡ true
+samples_index : (names : List (List ℕ)) (count : ℕ) (rows : List Row)
+    → list_all (sample_indexes count) (map (exported_sample names) rows) ≡ true
 samples_index names count [] = refl
 samples_index names count (row ∷ rows) = samples_index names count rows
 
 -- as many values as there are kinds and units
-values_each : (names : List (List ℕ)) (count : ℕ) (rows : List Row) → AllByRecursion (λ row. length row.weights ≡ count) rows → each_has_values count (map (exported_sample names) rows) ≡ true
+values_each : (names : List (List ℕ)) (count : ℕ) (rows : List Row) → AllByRecursion
+    (λ row. length row.weights ≡ count) rows → each_has_values count (map (exported_sample names) rows) ≡ true
 values_each names count [] all = refl
 values_each names count (row ∷ rows) all =
-    rw (eq-eqb (length (map pos row.weights)) count (length-map row.weights pos ∙ all.0), values_each names count rows all.1) refl
+    rw (
+      eq-eqb (length (map pos row.weights)) count (length-map row.weights pos ∙ all.0),
+      values_each names count rows all.1,
+    ) refl
 
 -- the kinds and units of values stand among texts
 abbrev pub UnitsStand : List (List ℕ) → List KindAndUnit → Type 0
 UnitsStand strings [] = ⊤
-UnitsStand strings (unit ∷ units) = ((stands_in strings unit.0 ≡ true) × (stands_in strings unit.1 ≡ true)) × UnitsStand strings units
+UnitsStand strings (unit ∷ units) =
+    ((stands_in strings unit.0 ≡ true) × (stands_in strings unit.1 ≡ true)) × UnitsStand strings units
 
 types_index : (strings : List (List ℕ)) (units : List KindAndUnit) → UnitsStand strings units
     → list_all (value_type_indexes (length strings)) (map (exported_type strings) units) ≡ true
 types_index strings [] all = refl
 types_index strings (unit ∷ units) all =
-    rw (is_index-place strings unit.0 all.0.0, is_index-place strings unit.1 all.0.1, types_index strings units all.1) refl
+    rw (is_index-place strings unit.0 all.0.0, is_index-place strings unit.1 all.0.1, types_index strings units all.1)
+    refl
 
-units_stand : (strings : List (List ℕ)) (units : List KindAndUnit) → ((q : List ℕ) → stands_in (unit_texts units) q ≡ true → stands_in strings q ≡ true) → UnitsStand strings units
+units_stand : (strings : List (List ℕ)) (units : List KindAndUnit)
+    → ((q : List ℕ) → stands_in (unit_texts units) q ≡ true → stands_in strings q ≡ true) → UnitsStand strings units
 units_stand strings [] h = tt
 units_stand strings (unit ∷ units) h = (
   (
-    h unit.0 (or_left (bytes_eq unit.0 unit.0) (bytes_eq unit.0 unit.1 || stands_in (unit_texts units) unit.0) (is_same_name-self unit.0)),
+    h unit.0 (or_left (bytes_eq unit.0 unit.0)
+        (bytes_eq unit.0 unit.1 || stands_in (unit_texts units) unit.0) (is_same_name-self unit.0)),
     h unit.1 (or_right (bytes_eq unit.1 unit.0) (bytes_eq unit.1 unit.1 || stands_in (unit_texts units) unit.1)
         (or_left (bytes_eq unit.1 unit.1) (stands_in (unit_texts units) unit.1) (is_same_name-self unit.1))),
   ),
-  units_stand strings units (λ q e. h q (or_right (bytes_eq q unit.0) (bytes_eq q unit.1 || stands_in (unit_texts units) q) (or_right (bytes_eq q unit.1) (stands_in (unit_texts units) q) e))),
+  units_stand strings units (λ q e. h q (or_right (bytes_eq q unit.0) (bytes_eq q unit.1 || stands_in
+      (unit_texts units) q) (or_right (bytes_eq q unit.1) (stands_in (unit_texts units) q) e))),
 )
 
-types_count : (strings : List (List ℕ)) (units : List KindAndUnit) → length (map (exported_type strings) units) ≡ length units
+types_count : (strings : List (List ℕ)) (units : List KindAndUnit)
+    → length (map (exported_type strings) units) ≡ length units
 types_count strings units = length-map units (exported_type strings)
 
-no_mappings : (names sub : List (List ℕ)) (known : ℕ → Bool) → names_mappings known (map (exported_location names) sub) ≡ true
+no_mappings : (names sub : List (List ℕ)) (known : ℕ → Bool)
+    → names_mappings known (map (exported_location names) sub) ≡ true
 no_mappings names [] known = refl
 no_mappings names (text ∷ sub) known = no_mappings names sub known
 
 -- ---- what names an id
 
-known_each : (names : List (List ℕ)) (q : List ℕ) → AllStand names names → stands_in names q ≡ true → is_known (map (id_in names) names) (id_in names q) ≡ true
+known_each : (names : List (List ℕ)) (q : List ℕ)
+    → AllStand names names → stands_in names q ≡ true → is_known (map (id_in names) names) (id_in names q) ≡ true
 known_each names q all e = known_id names names q e all ∙ e
 
-functions_known : (names sub : List (List ℕ)) → AllStand names names → AllStand names sub → names_functions (is_known (map (id_in names) names)) (map (exported_location names) sub) ≡ true
+functions_known : (names sub : List (List ℕ)) → AllStand names names → AllStand names sub
+    → names_functions (is_known (map (id_in names) names)) (map (exported_location names) sub) ≡ true
 functions_known names [] whole all = refl
 functions_known names (text ∷ sub) whole all =
     rw (id_not_zero names text, known_each names text whole all.0, functions_known names sub whole all.1) refl
@@ -224,11 +279,14 @@ list_all_reversed : (p : ℕ → Bool) (ids : List ℕ) → list_all p ids ≡ t
 list_all_reversed p [] e = refl
 list_all_reversed p (id ∷ ids) e =
     let parts = and_parts (p id) (list_all p ids) e in
-    ap (list_all p) (reverse_onto ids id []) ∙ list_all-append p (reverse ids) (id ∷ []) ∙ rw (list_all_reversed p ids parts.1, parts.0) refl
+    ap (list_all p) (reverse_onto ids id [])
+    ∙ list_all-append p (reverse ids) (id ∷ []) ∙ rw (list_all_reversed p ids parts.1, parts.0) refl
 
-ids_known : (names stack : List (List ℕ)) → AllStand names names → AllStand names stack → list_all (is_known (map (id_in names) names)) (map (id_in names) stack) ≡ true
+ids_known : (names stack : List (List ℕ)) → AllStand names names
+    → AllStand names stack → list_all (is_known (map (id_in names) names)) (map (id_in names) stack) ≡ true
 ids_known names [] whole all = refl
-ids_known names (text ∷ stack) whole all = rw (known_each names text whole all.0, ids_known names stack whole all.1) refl
+ids_known names (text ∷ stack) whole all =
+    rw (known_each names text whole all.0, ids_known names stack whole all.1) refl
 
 -- the stacks of rows stand among names
 abbrev pub RowsStand : List (List ℕ) → List Row → Type 0
@@ -239,24 +297,37 @@ locations_known : (names : List (List ℕ)) (rows : List Row) → AllStand names
     → names_locations (is_known (map (id_in names) names)) (map (exported_sample names) rows) ≡ true
 locations_known names [] whole all = refl
 locations_known names (row ∷ rows) whole all =
-    rw (list_all_reversed (is_known (map (id_in names) names)) (map (id_in names) row.stack) (ids_known names row.stack whole all.0), locations_known names rows whole all.1) refl
+    rw (
+      list_all_reversed (is_known (map (id_in names) names)) (map (id_in names) row.stack)
+          (ids_known names row.stack whole all.0),
+      locations_known names rows whole all.1,
+    ) refl
 
-pub rows_stand : (names : List (List ℕ)) (rows : List Row) → ((q : List ℕ) → stands_in (flat_map (λ row. row.stack) rows) q ≡ true → stands_in names q ≡ true) → RowsStand names rows
+pub rows_stand : (names : List (List ℕ)) (rows : List Row) → ((q : List ℕ)
+    → stands_in (flat_map (λ row. row.stack) rows) q ≡ true → stands_in names q ≡ true) → RowsStand names rows
 rows_stand names [] h = tt
 rows_stand names (row ∷ rows) h = (
-  stand_where row.stack names (λ q e. h q (joined q ∙ or_left (stands_in row.stack q) (stands_in (flat_map (λ (r : Row). r.stack) rows) q) e)),
-  rows_stand names rows (λ q e. h q (joined q ∙ or_right (stands_in row.stack q) (stands_in (flat_map (λ (r : Row). r.stack) rows) q) e)),
+  stand_where row.stack names
+      (λ q e. h q (joined q ∙ or_left (stands_in row.stack q) (stands_in (flat_map (λ (r : Row). r.stack) rows) q) e)),
+  rows_stand names rows
+      (λ q e. h q (joined q ∙ or_right (stands_in row.stack q) (stands_in (flat_map (λ (r : Row). r.stack) rows) q) e)),
 )
   where
-    joined : (q : List ℕ) → stands_in (flat_map (λ (r : Row). r.stack) (row ∷ rows)) q ≡ (stands_in row.stack q || stands_in (flat_map (λ (r : Row). r.stack) rows) q)
-    joined q = ap (λ texts. stands_in texts q) (flat_map-cons (λ (r : Row). r.stack) row rows) ∙ list_any-append (bytes_eq q) row.stack (flat_map (λ (r : Row). r.stack) rows)
+    joined : (q : List ℕ) → stands_in (flat_map (λ (r : Row). r.stack) (row ∷ rows)) q
+        ≡ (stands_in row.stack q || stands_in (flat_map (λ (r : Row). r.stack) rows) q)
+    joined q = ap (λ texts. stands_in texts q) (flat_map-cons (λ (r : Row). r.stack) row rows)
+        ∙ list_any-append (bytes_eq q) row.stack (flat_map (λ (r : Row). r.stack) rows)
 
 -- ---- the table of strings
 
-begins : (texts more : List (List ℕ)) → begins_with_empty texts ≡ true → begins_with_empty (with_texts texts more) ≡ true
+begins : (texts more : List (List ℕ))
+    → begins_with_empty texts ≡ true → begins_with_empty (with_texts texts more) ≡ true
 begins texts [] e = e
 begins texts (text ∷ more) e = begins (with_text texts text) more
-    (elim (stands_in texts text) as (λ b. begins_with_empty (cond b texts (texts ++ text ∷ [])) ≡ true) [ true ↦ e | false ↦ pushed texts e ])
+    (elim (stands_in texts text) as (λ b. begins_with_empty (cond b texts (texts ++ text ∷ [])) ≡ true) [
+      | true ↦ e
+      | false ↦ pushed texts e
+    ])
   where
     pushed : (texts : List (List ℕ)) → begins_with_empty texts ≡ true → begins_with_empty (texts ++ text ∷ []) ≡ true
     pushed [] e = absurd (false≢true e)
@@ -268,7 +339,8 @@ begun_nonempty (text ∷ texts) e = refl
 
 -- ---- the profile
 
-rule_kept : (rule : Bool) (fault : ProfileFault) (rest : Option ProfileFault) → rule ≡ true → rest ≡ None → cond rule rest (Some fault) ≡ None
+rule_kept : (rule : Bool) (fault : ProfileFault) (rest : Option ProfileFault)
+    → rule ≡ true → rest ≡ None → cond rule rest (Some fault) ≡ None
 rule_kept rule fault rest e left = ap (λ b. cond b rest (Some fault)) e ∙ left
 
 -- what the names and strings of an export are
@@ -281,7 +353,9 @@ pub record AreExported (names strings : List (List ℕ)) (rows : List Row) (unit
   pub begun : begins_with_empty strings ≡ true
   pub stacks : RowsStand names rows
 
-pub valid_with : (names strings : List (List ℕ)) (rows : List Row) (units : List KindAndUnit) → AreExported names strings rows units → AllByRecursion (λ row. length row.weights ≡ length units) rows → IsValidDraft (profile_with names strings rows units)
+pub valid_with : (names strings : List (List ℕ)) (rows : List Row) (units : List KindAndUnit)
+    → AreExported names strings rows units → AllByRecursion (λ row. length row.weights ≡ length units) rows
+    → IsValidDraft (profile_with names strings rows units)
 valid_with names strings rows units this widths =
     let draft = profile_with names strings rows units in
     let some = begun_nonempty strings this.begun in
@@ -292,32 +366,43 @@ valid_with names strings rows units this widths =
       functions_index names strings names some this.strung,
       is_index-zero strings some,
     ) refl in
-    let no_zero : no_zero_id draft ≡ true = rw (locations_not_zero names names, functions_not_zero names strings names) refl in
+    let no_zero : no_zero_id draft ≡ true =
+    rw (locations_not_zero names names, functions_not_zero names strings names) refl in
     let no_double : no_double_id draft ≡ true =
-    rw (ap has_double (location_ids_are names names) ∙ ids_single names names this.own this.apart, ap has_double (function_ids_are names strings names) ∙ ids_single names names this.own this.apart) refl in
+    rw (
+      ap has_double (location_ids_are names names) ∙ ids_single names names this.own this.apart,
+      ap has_double (function_ids_are names strings names) ∙ ids_single names names this.own this.apart,
+    ) refl in
     let locations : names_locations (is_known (location_ids draft)) draft.samples ≡ true =
-    ap (λ ids. names_locations (is_known ids) (map (exported_sample names) rows)) (location_ids_are names names) ∙ locations_known names rows this.own this.stacks in
+    ap (λ ids. names_locations (is_known ids) (map (exported_sample names) rows)) (location_ids_are names names)
+    ∙ locations_known names rows this.own this.stacks in
     let functions : names_functions (is_known (function_ids draft)) draft.locations ≡ true =
-    ap (λ ids. names_functions (is_known ids) (map (exported_location names) names)) (function_ids_are names strings names) ∙ functions_known names names this.own this.own in
+    ap (λ ids. names_functions (is_known ids) (map (exported_location names) names))
+    (function_ids_are names strings names) ∙ functions_known names names this.own this.own in
     rule_kept (is_nonempty draft.strings) NoStrings _ some
     (rule_kept (begins_with_empty draft.strings) FirstString _ this.begun
     (rule_kept (all_index draft) StringIndex _ indices
     (rule_kept (no_zero_id draft) ZeroId _ no_zero
     (rule_kept (no_double_id draft) DoubleId _ no_double
     (rule_kept (names_locations (is_known (location_ids draft)) draft.samples) NoLocation _ locations
-    (rule_kept (names_mappings (is_known (mapping_ids draft)) draft.locations) NoMapping _ (no_mappings names names (is_known (mapping_ids draft)))
+    (rule_kept (names_mappings (is_known (mapping_ids draft)) draft.locations)
+    NoMapping _ (no_mappings names names (is_known (mapping_ids draft)))
     (rule_kept (names_functions (is_known (function_ids draft)) draft.locations) NoFunction _ functions
     (rule_kept (each_has_values (length draft.sample_types) draft.samples) ValueCount None
-    (ap (λ count. each_has_values count (map (exported_sample names) rows)) (types_count strings units) ∙ values_each names (length units) rows widths) refl))))))))
+    (ap (λ count. each_has_values count (map (exported_sample names) rows)) (types_count strings units)
+    ∙ values_each names (length units) rows widths) refl))))))))
 
-pub exported_names : (rows : List Row) (units : List KindAndUnit) → AreExported (names_of rows) (strings_of units (names_of rows)) rows units
+pub exported_names : (rows : List Row) (units : List KindAndUnit)
+    → AreExported (names_of rows) (strings_of units (names_of rows)) rows units
 exported_names rows units =
     let frames = flat_map (λ (row : Row). row.stack) rows in
     let names = names_of rows in
     let all = [] ∷ unit_texts units ++ names in
-    let spelled : (q : List ℕ) → stands_in names q ≡ true → stands_in (with_texts [] all) q ≡ true = λ q e. with_texts-own [] all q
+    let spelled : (q : List ℕ)
+    → stands_in names q ≡ true → stands_in (with_texts [] all) q ≡ true = λ q e. with_texts-own [] all q
     (or_right (bytes_eq q []) (stands_in (unit_texts units ++ names) q)
-    (list_any-append (bytes_eq q) (unit_texts units) names ∙ or_right (stands_in (unit_texts units) q) (stands_in names q) e)) in
+    (list_any-append (bytes_eq q) (unit_texts units) names
+    ∙ or_right (stands_in (unit_texts units) q) (stands_in names q) e)) in
     record {
       own = stand_where names names (λ q e. e);
       apart = distinct_with_texts [] frames tt;
@@ -325,64 +410,82 @@ exported_names rows units =
       stacks_strung = rows_stand (strings_of units names) rows (λ q e. spelled q (with_texts-own [] frames q e));
       units_there = units_stand (strings_of units names) units (λ q e. with_texts-own [] all q
           (or_right (bytes_eq q []) (stands_in (unit_texts units ++ names) q)
-          (list_any-append (bytes_eq q) (unit_texts units) names ∙ or_left (stands_in (unit_texts units) q) (stands_in names q) e)));
+          (list_any-append (bytes_eq q) (unit_texts units) names
+          ∙ or_left (stands_in (unit_texts units) q) (stands_in names q) e)));
       begun = begins (with_text [] []) (unit_texts units ++ names) refl;
       stacks = rows_stand names rows (λ q e. with_texts-own [] frames q e);
     }
 
-pub export_valid : (rows : List Row) (units : List KindAndUnit) → All (λ row. length row.weights ≡ length units) rows → IsValidDraft (exported_profile_of rows units)
-export_valid rows units widths = valid_with (names_of rows) (strings_of units (names_of rows)) rows units (exported_names rows units)
+pub export_valid : (rows : List Row) (units : List KindAndUnit)
+    → All (λ row. length row.weights ≡ length units) rows → IsValidDraft (exported_profile_of rows units)
+export_valid rows units widths =
+    valid_with (names_of rows) (strings_of units (names_of rows)) rows units (exported_names rows units)
     (recursion_from_All (λ (row : Row). length row.weights ≡ length units) rows widths)
 
 -- ---- the rows of the profile
 
 -- the text at its place
-text_at : (texts : List (List ℕ)) (text : List ℕ) → stands_in texts text ≡ true → slice_index_or texts (place_in texts text) [] ≡ text
+text_at : (texts : List (List ℕ)) (text : List ℕ)
+    → stands_in texts text ≡ true → slice_index_or texts (place_in texts text) [] ≡ text
 text_at [] text e = absurd (false≢true e)
 text_at (first ∷ texts) text e =
-    elim (bytes_eq text first) as (λ b. bytes_eq text first ≡ b → (b || stands_in texts text) ≡ true → slice_index_or (first ∷ texts) (cond b 0 (place_in texts text + 1)) [] ≡ text) [
+    elim (bytes_eq text first) as (λ b. bytes_eq text first ≡ b → (b || stands_in texts text) ≡ true
+    → slice_index_or (first ∷ texts) (cond b 0 (place_in texts text + 1)) [] ≡ text) [
       | true ↦ λ is r. sym (same_from_is_same_name text first is)
       | false ↦ λ other r. let up : place_in texts text + 1 ≡ suc (place_in texts text) = omega arith in
           ap (λ k. slice_index_or (first ∷ texts) k []) up ∙ text_at texts text r
     ] refl e
 
 -- among what is exported for each name, the name's own is found by its id
-found_by_id : {A : Type 0} (id_of : A → ℕ) (made : List ℕ → A) (names sub : List (List ℕ)) (q : List ℕ) → ((text : List ℕ) → id_of (made text) ≡ id_in names text)
-    → stands_in names q ≡ true → AllStand names sub → stands_in sub q ≡ true → item_with id_of (id_in names q) (map made sub) ≡ Some (made q)
+found_by_id : {A : Type 0} (id_of : A → ℕ) (made : List ℕ → A) (names sub : List (List ℕ)) (q : List ℕ)
+    → ((text : List ℕ) → id_of (made text) ≡ id_in names text)
+    → stands_in names q ≡ true
+    → AllStand names sub → stands_in sub q ≡ true → item_with id_of (id_in names q) (map made sub) ≡ Some (made q)
 found_by_id id_of made names [] q ids e all there = absurd (false≢true there)
 found_by_id id_of made names (text ∷ sub) q ids e all there =
     let rest = item_with id_of (id_in names q) (map made sub) in
     ap (λ id. cond (eqb id (id_in names q)) (Some (made text)) rest) (ids text)
     ∙ ap (λ b. cond b (Some (made text)) rest) (same_id names text q all.0 e)
-    ∙ elim (bytes_eq q text) as (λ b. bytes_eq q text ≡ b → (b || stands_in sub q) ≡ true → cond (bytes_eq text q) (Some (made text)) rest ≡ Some (made q)) [
-      | true ↦ λ same r. ap (λ t. cond (bytes_eq t q) (Some (made t)) rest) (sym (same_from_is_same_name q text same)) ∙ ap (λ b. cond b (Some (made q)) rest) (is_same_name-self q)
-      | false ↦ λ other r. ap (λ b. cond b (Some (made text)) rest) (turned q text other) ∙ found_by_id id_of made names sub q ids e all.1 r
+    ∙ elim (bytes_eq q text) as (λ b. bytes_eq q text ≡ b
+    → (b || stands_in sub q) ≡ true → cond (bytes_eq text q) (Some (made text)) rest ≡ Some (made q)) [
+      | true ↦ λ same r. ap (λ t. cond (bytes_eq t q) (Some (made t)) rest) (sym (same_from_is_same_name q text same))
+          ∙ ap (λ b. cond b (Some (made q)) rest) (is_same_name-self q)
+      | false ↦ λ other r. ap (λ b. cond b (Some (made text)) rest) (turned q text other)
+          ∙ found_by_id id_of made names sub q ids e all.1 r
     ] refl there
 
 -- a name's location has it as its one frame
-frame_of_id : (names strings : List (List ℕ)) (rows : List Row) (units : List KindAndUnit) (text : List ℕ) → AreExported names strings rows units → stands_in names text ≡ true → stands_in strings text ≡ true → IsName text
+frame_of_id : (names strings : List (List ℕ)) (rows : List Row) (units : List KindAndUnit) (text : List ℕ)
+    → AreExported names strings rows units → stands_in names text ≡ true → stands_in strings text ≡ true → IsName text
     → frames_of_id (profile_with names strings rows units) (id_in names text) ≡ text ∷ []
 frame_of_id names strings rows units text this there strung is_name =
     let draft = profile_with names strings rows units in
     let function = exported_function names strings text in
-    let location_found = found_by_id (λ (location : Location). location.id) (exported_location names) names names text (λ t. refl) there this.own there in
-    let function_found = found_by_id (λ (function : Function). function.id) (exported_function names strings) names names text (λ t. refl) there this.own there in
-    let named : cleaned_name_of (string_at strings function.name) ≡ Some text = ap cleaned_name_of (text_at strings text strung) ∙ cleaned-name text is_name in
+    let location_found = found_by_id (λ (location : Location). location.id)
+    (exported_location names) names names text (λ t. refl) there this.own there in
+    let function_found = found_by_id (λ (function : Function). function.id)
+    (exported_function names strings) names names text (λ t. refl) there this.own there in
+    let named : cleaned_name_of (string_at strings function.name) ≡ Some text =
+    ap cleaned_name_of (text_at strings text strung) ∙ cleaned-name text is_name in
     ap (frames_at draft) location_found
     ∙ ap (λ found. unwrap_or (named_by strings found) (address_name 0) ∷ []) function_found
-    ∙ ap (λ name. unwrap_or (first_name name (cleaned_name_of (string_at strings function.system_name))) (address_name 0) ∷ []) named
+    ∙ ap (λ name. unwrap_or
+    (first_name name (cleaned_name_of (string_at strings function.system_name))) (address_name 0) ∷ []) named
 
-flat_of_reversed : (frames_of : ℕ → List (List ℕ)) (id_of : List ℕ → ℕ) (stack : List (List ℕ)) → AllByRecursion (λ text. frames_of (id_of text) ≡ text ∷ []) stack
+flat_of_reversed : (frames_of : ℕ → List (List ℕ)) (id_of : List ℕ → ℕ) (stack : List (List ℕ))
+    → AllByRecursion (λ text. frames_of (id_of text) ≡ text ∷ []) stack
     → flat_map frames_of (reverse (map id_of stack)) ≡ reverse stack
 flat_of_reversed frames_of id_of [] each = refl
 flat_of_reversed frames_of id_of (text ∷ stack) each =
     ap (flat_map frames_of) (reverse_onto (map id_of stack) (id_of text) [])
     ∙ flat_map-append frames_of (reverse (map id_of stack)) (id_of text ∷ [])
     ∙ ap (λ frames. frames ++ flat_map frames_of (id_of text ∷ [])) (flat_of_reversed frames_of id_of stack each.1)
-    ∙ ap (λ frames. reverse stack ++ frames) (flat_map-cons frames_of (id_of text) [] ∙ ap (λ frames. frames ++ flat_map frames_of []) each.0)
+    ∙ ap (λ frames. reverse stack ++ frames)
+    (flat_map-cons frames_of (id_of text) [] ∙ ap (λ frames. frames ++ flat_map frames_of []) each.0)
     ∙ sym (reverse_onto stack text [])
 
-value_there : (value : ℕ) (weights : List ℕ) → value < length weights → slice_get (map pos weights) value ≡ Some (pos (value_of value weights))
+value_there : (value : ℕ) (weights : List ℕ)
+    → value < length weights → slice_get (map pos weights) value ≡ Some (pos (value_of value weights))
 value_there value [] within = absurd (omega (arith, within))
 value_there zero (weight ∷ weights) within = refl
 value_there (suc value) (weight ∷ weights) within = value_there value weights (omega (arith, within))
@@ -391,35 +494,45 @@ value_there (suc value) (weight ∷ weights) within = value_there value weights 
 abbrev pub CanStand : ℕ → Row → Type 0
 CanStand value row = All IsName row.stack × (length row.stack ≤ 65535) × (value < length row.weights)
 
-module _ (names strings : List (List ℕ)) (rows : List Row) (units : List KindAndUnit) (this : AreExported names strings rows units) where
+module _ (names strings : List (List ℕ))
+    (rows : List Row) (units : List KindAndUnit) (this : AreExported names strings rows units) where
   each_frame : (stack : List (List ℕ)) → AllStand names stack → AllStand strings stack → AllByRecursion IsName stack
-      → AllByRecursion (λ text. frames_of_id (profile_with names strings rows units) (id_in names text) ≡ text ∷ []) stack
+      → AllByRecursion
+      (λ text. frames_of_id (profile_with names strings rows units) (id_in names text) ≡ text ∷ []) stack
   each_frame [] all strung are_names = tt
-  each_frame (text ∷ stack) all strung are_names =
-      (frame_of_id names strings rows units text this all.0 strung.0 are_names.0, each_frame stack all.1 strung.1 are_names.1)
+  each_frame (text ∷ stack) all strung are_names = (
+    frame_of_id names strings rows units text this all.0 strung.0 are_names.0,
+    each_frame stack all.1 strung.1 are_names.1,
+  )
 
-  row_sampled : (value : ℕ) (row : Row) → AllStand names row.stack → AllStand strings row.stack → All IsName row.stack → length row.stack ≤ 65535 → value < length row.weights
+  row_sampled : (value : ℕ) (row : Row) → AllStand names row.stack
+      → AllStand strings row.stack → All IsName row.stack → length row.stack ≤ 65535 → value < length row.weights
       → IsSampleRow (profile_with names strings rows units) value (exported_sample names row) (weighing value row)
   row_sampled value row all strung are_names deep within = record {
-    stack = sym (ap reverse (flat_of_reversed (frames_of_id (profile_with names strings rows units)) (id_in names) row.stack
+    stack =
+        sym (ap reverse (flat_of_reversed (frames_of_id (profile_with names strings rows units)) (id_in names) row.stack
         (each_frame row.stack all strung (recursion_from_All IsName row.stack are_names))) ∙ reverse-reverse row.stack);
     depth = deep;
     value = value_there value row.weights within;
   }
 
-  rows_sampled : (value : ℕ) (some : List Row) → RowsStand names some → RowsStand strings some → AllByRecursion (CanStand value) some
-      → AreSampleRows (profile_with names strings rows units) value (map (exported_sample names) some) (rows_at value some)
+  rows_sampled : (value : ℕ) (some : List Row)
+      → RowsStand names some → RowsStand strings some → AllByRecursion (CanStand value) some
+      → AreSampleRows
+      (profile_with names strings rows units) value (map (exported_sample names) some) (rows_at value some)
   rows_sampled value [] all strung can = refl
   rows_sampled value (row ∷ some) all strung can =
       (row_sampled value row all.0 strung.0 can.0.0 can.0.1 can.0.2, rows_sampled value some all.1 strung.1 can.1)
 
 -- by each value the rows come back
 pub export_values : (rows : List Row) (units : List KindAndUnit) (value : ℕ) → All (CanStand value) rows
-    → AreSampleRows (exported_profile_of rows units) value (map (exported_sample (names_of rows)) rows) (rows_at value rows)
+    → AreSampleRows
+    (exported_profile_of rows units) value (map (exported_sample (names_of rows)) rows) (rows_at value rows)
 export_values rows units value can =
     let names = names_of rows in
     let this = exported_names rows units in
-    rows_sampled names (strings_of units names) rows units this value rows this.stacks this.stacks_strung (recursion_from_All (CanStand value) rows can)
+    rows_sampled names (strings_of units names) rows units this value rows this.stacks this.stacks_strung
+    (recursion_from_All (CanStand value) rows can)
 
 -- ---- rows of one value
 
@@ -434,19 +547,23 @@ widths-singles rows = All-from_recursion (λ (row : Row). length row.weights ≡
     each [] = tt
     each (row ∷ rows) = (refl, each rows)
 
-can_stand-singles : (rows : List WeightedStack) → AllByRecursion IsBatchRow rows → AllByRecursion (CanStand 0) (singles rows)
+can_stand-singles : (rows : List WeightedStack)
+    → AllByRecursion IsBatchRow rows → AllByRecursion (CanStand 0) (singles rows)
 can_stand-singles [] all = tt
 can_stand-singles (row ∷ rows) all = ((all.0.names, all.0.depth, omega arith), can_stand-singles rows all.1)
 
 -- the rows come back
-pub export_rows : (rows : List WeightedStack) (kind unit : List ℕ) → All IsBatchRow rows → total_of rows < 2 ^ 63 → AreStacksOf (single_profile_of rows kind unit) Default rows
+pub export_rows : (rows : List WeightedStack) (kind unit : List ℕ)
+    → All IsBatchRow rows → total_of rows < 2 ^ 63 → AreStacksOf (single_profile_of rows kind unit) Default rows
 export_rows rows kind unit batch_rows fits =
     let units = (kind, unit) ∷ [] in
-    let all = All-from_recursion (CanStand 0) (singles rows) (can_stand-singles rows (recursion_from_All IsBatchRow rows batch_rows)) in
+    let all = All-from_recursion
+    (CanStand 0) (singles rows) (can_stand-singles rows (recursion_from_All IsBatchRow rows batch_rows)) in
     record {
       chosen = 0;
       is_chosen = refl;
-      rows_samples = subst (AreSampleRows (single_profile_of rows kind unit) 0 (map (exported_sample (names_of (singles rows))) (singles rows))) (rows_at-singles rows)
+      rows_samples = subst (AreSampleRows (single_profile_of rows kind unit) 0
+          (map (exported_sample (names_of (singles rows))) (singles rows))) (rows_at-singles rows)
           (export_values (singles rows) units 0 all);
       total_fits = fits;
     }

@@ -1,5 +1,6 @@
 -- Rows that are written as samples when they come: a name keeps its id as more names come.
-use Rattle.std.proofs.Common.{◌≡◌, ℕ, ◌+◌, true, false, cond, List, [], ◌∷◌, ◌++◌, map, inl, inr, pos, refl, sym, ap, ◌∙◌, subst}
+use Rattle.std.proofs.Common.{◌≡◌, ℕ, ◌+◌, true, false, cond, List, [], ◌∷◌, ◌++◌, map, inl, inr, pos, refl, sym, ap}
+use Rattle.std.proofs.Common.{◌∙◌, subst}
 use Rattle.std.specs.Prelude.{Err, MatchResult, Ok, Result, reverse}
 use Rattle.std.specs.List.{flat_map}
 use Rattle.std.proofs.lemmas.List.{map-append, append-nil}
@@ -14,30 +15,37 @@ use Rattle.folded_text.specs.declared.folded.FoldedFault.{FoldedFault}
 use Rattle.folded_text.specs.declared.folded.FoldedFault.TheVariants.{NoMemory}
 use Rattle.folded_text.specs.FoldedText.{IsFoldedText, IsWorkFault}
 use Rattle.profile_rows.specs.TextTables.{place_in, with_text, with_texts}
-use Rattle.profile_samples.specs.Export.{AreSamplesOf, IsExportOfText, single_profile_of, exported_sample, id_in, names_of}
-use Rattle.profile_samples.proofs.ExportLaws.{AllStand, RowsStand, rows_stand, stand_where, stands_in, with_text-stands, with_texts-own}
+use Rattle.profile_samples.specs.Export.{AreSamplesOf, IsExportOfText, single_profile_of, exported_sample, id_in}
+use Rattle.profile_samples.specs.Export.{names_of}
+use Rattle.profile_samples.proofs.ExportLaws.{AllStand, RowsStand, rows_stand, stand_where, stands_in, with_text-stands}
+use Rattle.profile_samples.proofs.ExportLaws.{with_texts-own}
 use Rattle.folded_text.proofs.Reading.{IsFirstFault-folded, IsFoldedText-same}
 use Rattle.profile_rows.proofs.TextPlaces.{next_mapped, place_in-more, with_texts-append}
 
 -- ---- a text that is there keeps its place
 
-place_in-kept : (texts : List (List ℕ)) (text q : List ℕ) → stands_in texts q ≡ true → place_in (with_text texts text) q ≡ place_in texts q
-place_in-kept texts text q there = elim (stands_in texts text) as (λ b. place_in (cond b texts (texts ++ text ∷ [])) q ≡ place_in texts q) [
-  | true ↦ refl
-  | false ↦ place_in-more texts (text ∷ []) q there
-]
+place_in-kept : (texts : List (List ℕ)) (text q : List ℕ)
+    → stands_in texts q ≡ true → place_in (with_text texts text) q ≡ place_in texts q
+place_in-kept texts text q there =
+    elim (stands_in texts text) as (λ b. place_in (cond b texts (texts ++ text ∷ [])) q ≡ place_in texts q) [
+      | true ↦ refl
+      | false ↦ place_in-more texts (text ∷ []) q there
+    ]
 
-ids_kept : (texts : List (List ℕ)) (text : List ℕ) (stack : List (List ℕ)) → AllStand texts stack → map (id_in (with_text texts text)) stack ≡ map (id_in texts) stack
+ids_kept : (texts : List (List ℕ)) (text : List ℕ) (stack : List (List ℕ))
+    → AllStand texts stack → map (id_in (with_text texts text)) stack ≡ map (id_in texts) stack
 ids_kept texts text [] all = refl
 ids_kept texts text (name ∷ stack) all =
     ap (λ place. (place + 1) ∷ map (id_in (with_text texts text)) stack) (place_in-kept texts text name all.0)
     ∙ ap (λ ids. id_in texts name ∷ ids) (ids_kept texts text stack all.1)
 
 -- the ids of a stack's frames so far, and the next one's
-pub ids_with : (start old new seen next : List (List ℕ)) (text : List ℕ) (place : ℕ) → place ≡ place_in (with_text old text) text → new ≡ with_text old text → old ≡ with_texts start seen → next ≡ seen ++ text ∷ []
+pub ids_with : (start old new seen next : List (List ℕ)) (text : List ℕ) (place : ℕ) → place ≡ place_in
+    (with_text old text) text → new ≡ with_text old text → old ≡ with_texts start seen → next ≡ seen ++ text ∷ []
     → map (id_in old) seen ++ (place + 1) ∷ [] ≡ map (id_in new) next
 ids_with start old new seen next text place is added so_far more =
-    let all : AllStand old seen = subst (λ texts. AllStand texts seen) (sym so_far) (stand_where seen (with_texts start seen) (λ q e. with_texts-own start seen q e)) in
+    let all : AllStand old seen = subst (λ texts. AllStand texts seen)
+    (sym so_far) (stand_where seen (with_texts start seen) (λ q e. with_texts-own start seen q e)) in
     ap (λ ids. ids ++ (place + 1) ∷ []) (sym (ids_kept old text seen all))
     ∙ ap (λ p. map (id_in (with_text old text)) seen ++ (p + 1) ∷ []) is
     ∙ next_mapped (id_in (with_text old text)) seen next text more
@@ -45,77 +53,104 @@ ids_with start old new seen next text place is added so_far more =
 
 -- ---- the samples of rows
 
-stack_stays : (texts : List (List ℕ)) (text : List ℕ) (stack : List (List ℕ)) → AllStand texts stack → AllStand (with_text texts text) stack
+stack_stays : (texts : List (List ℕ)) (text : List ℕ) (stack : List (List ℕ))
+    → AllStand texts stack → AllStand (with_text texts text) stack
 stack_stays texts text [] all = tt
 stack_stays texts text (name ∷ stack) all = (with_text-stands texts text name all.0, stack_stays texts text stack all.1)
 
-rows_stay : (texts : List (List ℕ)) (text : List ℕ) (rows : List Row) → RowsStand texts rows → RowsStand (with_text texts text) rows
+rows_stay : (texts : List (List ℕ)) (text : List ℕ) (rows : List Row)
+    → RowsStand texts rows → RowsStand (with_text texts text) rows
 rows_stay texts text [] all = tt
 rows_stay texts text (row ∷ rows) all = (stack_stays texts text row.stack all.0, rows_stay texts text rows all.1)
 
-samples_kept-text : (texts : List (List ℕ)) (text : List ℕ) (rows : List Row) → RowsStand texts rows → map (exported_sample (with_text texts text)) rows ≡ map (exported_sample texts) rows
+samples_kept-text : (texts : List (List ℕ)) (text : List ℕ) (rows : List Row)
+    → RowsStand texts rows → map (exported_sample (with_text texts text)) rows ≡ map (exported_sample texts) rows
 samples_kept-text texts text [] all = refl
 samples_kept-text texts text (row ∷ rows) all =
-    ap (λ ids. let sample : Sample = record { location_ids = reverse ids; values = map pos row.weights; labels = [] } in sample ∷ map (exported_sample (with_text texts text)) rows) (ids_kept texts text row.stack all.0)
+    ap (λ ids. let sample : Sample = record {
+      location_ids = reverse ids;
+      values = map pos row.weights;
+      labels =
+          [];
+    } in sample ∷ map (exported_sample (with_text texts text)) rows) (ids_kept texts text row.stack all.0)
     ∙ ap (λ samples. exported_sample texts row ∷ samples) (samples_kept-text texts text rows all.1)
 
-samples_kept : (texts more : List (List ℕ)) (rows : List Row) → RowsStand texts rows → map (exported_sample (with_texts texts more)) rows ≡ map (exported_sample texts) rows
+samples_kept : (texts more : List (List ℕ)) (rows : List Row)
+    → RowsStand texts rows → map (exported_sample (with_texts texts more)) rows ≡ map (exported_sample texts) rows
 samples_kept texts [] rows all = refl
-samples_kept texts (text ∷ more) rows all = samples_kept (with_text texts text) more rows (rows_stay texts text rows all) ∙ samples_kept-text texts text rows all
+samples_kept texts (text ∷ more) rows all = samples_kept
+    (with_text texts text) more rows (rows_stay texts text rows all) ∙ samples_kept-text texts text rows all
 
 names_push : (rows : List Row) (row : Row) → names_of (rows ++ row ∷ []) ≡ with_texts (names_of rows) row.stack
 names_push rows row =
     ap (with_texts []) (flat_map-append (λ (r : Row). r.stack) rows (row ∷ []))
-    ∙ ap (λ last. with_texts [] (flat_map (λ (r : Row). r.stack) rows ++ last)) (flat_map-cons (λ (r : Row). r.stack) row [] ∙ append-nil row.stack)
+    ∙ ap (λ last. with_texts [] (flat_map (λ (r : Row). r.stack) rows ++ last))
+    (flat_map-cons (λ (r : Row). r.stack) row [] ∙ append-nil row.stack)
     ∙ with_texts-append [] (flat_map (λ (r : Row). r.stack) rows) row.stack
 
 -- no rows yet
-pub AreSamplesOf-none : (names : List (List ℕ)) (samples : List ℕ) → names ≡ [] → samples ≡ samples_bytes [] → AreSamplesOf [] names samples 0
-AreSamplesOf-none names samples none empty = record { names_rows = none; samples_rows = empty; fits_rows = tt; total_rows = refl }
+pub AreSamplesOf-none : (names : List (List ℕ)) (samples : List ℕ)
+    → names ≡ [] → samples ≡ samples_bytes [] → AreSamplesOf [] names samples 0
+AreSamplesOf-none names samples none empty =
+    record { names_rows = none; samples_rows = empty; fits_rows = tt; total_rows = refl }
 
-fits_joined : (samples more : List Sample) → FitsEach FitsSample sample_bytes samples → FitsEach FitsSample sample_bytes more
+fits_joined : (samples more : List Sample)
+    → FitsEach FitsSample sample_bytes samples → FitsEach FitsSample sample_bytes more
     → FitsEach FitsSample sample_bytes (samples ++ more)
 fits_joined [] more fits other = other
 fits_joined (sample ∷ samples) more fits other = (fits.0, fits_joined samples more fits.1 other)
 
 -- a row more
-pub AreSamplesOf-push : (rows : List WeightedStack) (row : WeightedStack) (names next : List (List ℕ)) (samples after ids : List ℕ) (total sum : ℕ) → AreSamplesOf rows names samples total
+pub AreSamplesOf-push : (rows : List WeightedStack) (row : WeightedStack)
+    (names next : List (List ℕ)) (samples after ids : List ℕ) (total sum : ℕ) → AreSamplesOf rows names samples total
     → next ≡ with_texts names row.stack → ids ≡ reverse (map (id_in next) row.stack) → sum ≡ total + row.weight
-    → after ≡ samples_bytes (map (exported_sample names) (singles rows) ++ (record { location_ids = ids; values = pos row.weight ∷ []; labels = [] }) ∷ [])
+    → after ≡ samples_bytes (map (exported_sample names)
+    (singles rows) ++ (record { location_ids = ids; values = pos row.weight ∷ []; labels = [] }) ∷ [])
     → FitsEach FitsSample sample_bytes ((record { location_ids = ids; values = pos row.weight ∷ []; labels = [] }) ∷ [])
     → AreSamplesOf (rows ++ row ∷ []) next after sum
 AreSamplesOf-push rows row names next samples after ids total sum so_far added numbered more written fits =
     let before = singles rows in
     let longer : singles (rows ++ row ∷ []) ≡ before ++ single row ∷ [] = map-append single rows (row ∷ []) in
-    let all : RowsStand names before = subst (λ texts. RowsStand texts before) (sym so_far.names_rows) (rows_stand (names_of before) before (λ q e. with_texts-own [] (flat_map (λ (r : Row). r.stack) before) q e)) in
-    let kept : map (exported_sample names) before ≡ map (exported_sample next) before = sym (samples_kept names row.stack before all) ∙ ap (λ texts. map (exported_sample texts) before) (sym added) in
+    let all : RowsStand names before = subst (λ texts. RowsStand texts before) (sym so_far.names_rows)
+    (rows_stand (names_of before) before (λ q e. with_texts-own [] (flat_map (λ (r : Row). r.stack) before) q e)) in
+    let kept : map (exported_sample names) before ≡ map (exported_sample next) before =
+    sym (samples_kept names row.stack before all) ∙ ap (λ texts. map (exported_sample texts) before) (sym added) in
     let sample : Sample = record { location_ids = ids; values = pos row.weight ∷ []; labels = [] } in
-    let listed : map (exported_sample names) before ++ sample ∷ [] ≡ map (exported_sample next) (singles (rows ++ row ∷ [])) =
-    ap (λ is. let one : Sample = record { location_ids = is; values = pos row.weight ∷ []; labels = [] } in map (exported_sample names) before ++ one ∷ []) numbered
+    let listed : map (exported_sample names) before ++ sample ∷ []
+    ≡ map (exported_sample next) (singles (rows ++ row ∷ [])) =
+    ap (λ is. let one : Sample = record { location_ids = is; values = pos row.weight ∷ []; labels = [] } in map
+    (exported_sample names) before ++ one ∷ []) numbered
     ∙ ap (λ front. front ++ exported_sample next (single row) ∷ []) kept
     ∙ sym (map-append (exported_sample next) before (single row ∷ []))
     ∙ ap (map (exported_sample next)) (sym longer) in
     record {
-      names_rows = added ∙ ap (λ texts. with_texts texts row.stack) so_far.names_rows ∙ sym (names_push before (single row)) ∙ ap names_of (sym longer);
+      names_rows = added ∙ ap (λ texts. with_texts texts row.stack) so_far.names_rows
+          ∙ sym (names_push before (single row)) ∙ ap names_of (sym longer);
       samples_rows = written ∙ ap samples_bytes listed;
       fits_rows = subst (λ all. FitsEach FitsSample sample_bytes all) listed
           (fits_joined (map (exported_sample names) before) (sample ∷ []) so_far.fits_rows fits);
-      total_rows = more ∙ ap (λ held. held + row.weight) so_far.total_rows ∙ sym (sum_by_push (λ (r : WeightedStack). r.weight) rows row);
+      total_rows = more ∙ ap (λ held. held + row.weight) so_far.total_rows
+          ∙ sym (sum_by_push (λ (r : WeightedStack). r.weight) rows row);
     }
 
 -- the stacks of rows of several values are those of their first values
-pub stacks_first : (rows : List Row) → flat_map (λ (r : WeightedStack). r.stack) (rows_at 0 rows) ≡ flat_map (λ (r : Row). r.stack) rows
+pub stacks_first : (rows : List Row)
+    → flat_map (λ (r : WeightedStack). r.stack) (rows_at 0 rows) ≡ flat_map (λ (r : Row). r.stack) rows
 stacks_first [] = refl
 stacks_first (row ∷ rows) =
-    flat_map-cons (λ (r : WeightedStack). r.stack) (weighing 0 row) (rows_at 0 rows) ∙ ap (λ names. row.stack ++ names) (stacks_first rows)
+    flat_map-cons (λ (r : WeightedStack). r.stack) (weighing 0 row) (rows_at 0 rows)
+    ∙ ap (λ names. row.stack ++ names) (stacks_first rows)
     ∙ sym (flat_map-cons (λ (r : Row). r.stack) row rows)
 
 -- ---- what the export answers
 
 -- folded text has one export
-pub only_export : {T : Type 0} (items : T → List ℕ) (text kind unit : List ℕ) (outcome : Result T FoldedFault) → MatchResult outcome (λ bytes. IsExportOfText text kind unit (items bytes)) (λ fault. IsWorkFault text fault)
-    → (rows : List WeightedStack) → IsFoldedText text rows → MatchResult outcome (λ bytes. items bytes ≡ canonical_bytes_of (single_profile_of rows kind unit)) (λ fault. fault ≡ NoMemory)
-only_export items text kind unit (Ok bytes) exported rows folded = exported.profile ∙ ap (λ some. canonical_bytes_of (single_profile_of some kind unit)) (IsFoldedText-same text exported.rows rows exported.folded folded)
+pub only_export : {T : Type 0} (items : T → List ℕ) (text kind unit : List ℕ) (outcome : Result T FoldedFault)
+    → MatchResult outcome (λ bytes. IsExportOfText text kind unit (items bytes)) (λ fault. IsWorkFault text fault)
+    → (rows : List WeightedStack) → IsFoldedText text rows → MatchResult outcome
+    (λ bytes. items bytes ≡ canonical_bytes_of (single_profile_of rows kind unit)) (λ fault. fault ≡ NoMemory)
+only_export items text kind unit (Ok bytes) exported rows folded = exported.profile ∙ ap (λ some. canonical_bytes_of
+    (single_profile_of some kind unit)) (IsFoldedText-same text exported.rows rows exported.folded folded)
 only_export items text kind unit (Err fault) exported rows folded = elim exported [
   | inl first ↦ IsFirstFault-folded text rows fault folded first
   | inr late ↦ late.0

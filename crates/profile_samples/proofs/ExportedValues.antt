@@ -1,5 +1,6 @@
 -- The values of rows in an export: their kinds and units, and what each is.
-use Rattle.std.proofs.Common.{◌≡◌, ℕ, ◌+◌, ◌^◌, ◌<◌, ◌≤◌, List, [], ◌∷◌, ◌++◌, length, take, map, get_or, Some, refl, sym, ap, ◌∙◌, arith}
+use Rattle.std.proofs.Common.{◌≡◌, ℕ, ◌+◌, ◌^◌, ◌<◌, ◌≤◌, List, [], ◌∷◌, ◌++◌, length, take, map, get_or, Some, refl}
+use Rattle.std.proofs.Common.{sym, ap, ◌∙◌, arith}
 use Rattle.std.specs.List.{All, AllByRecursion}
 use Rattle.std.proofs.lemmas.List.{get_or_default, take_more}
 use Rattle.std.proofs.lemmas.List.Elements.{All-from_recursion, recursion_from_All}
@@ -21,42 +22,51 @@ use Rattle.profile_rows.proofs.TextPlaces.{no_text, with_texts-append}
 abbrev pub no_unit : ValueUnit
 no_unit = record { kind = no_text; unit = no_text }
 
-texts_push : (units : List ValueUnit) (unit : ValueUnit) → unit_texts (pairs_of (units ++ unit ∷ [])) ≡ unit_texts (pairs_of units) ++ unit.kind.now ∷ unit.unit.now ∷ []
+texts_push : (units : List ValueUnit) (unit : ValueUnit)
+    → unit_texts (pairs_of (units ++ unit ∷ [])) ≡ unit_texts (pairs_of units) ++ unit.kind.now ∷ unit.unit.now ∷ []
 texts_push [] unit = refl
 texts_push (first ∷ units) unit = ap (λ texts. first.kind.now ∷ first.unit.now ∷ texts) (texts_push units unit)
 
-pub units_more : (start old after : List (List ℕ)) (units : List ValueUnit) (k : ℕ) → k < length units → old ≡ with_texts start (unit_texts (pairs_of (take k units)))
+pub units_more : (start old after : List (List ℕ)) (units : List ValueUnit) (k : ℕ)
+    → k < length units → old ≡ with_texts start (unit_texts (pairs_of (take k units)))
     → after ≡ with_text (with_text old (get_or units k no_unit).kind.now) (get_or units k no_unit).unit.now
     → after ≡ with_texts start (unit_texts (pairs_of (take (k + 1) units)))
 units_more start old after units k lt so_far added =
     let unit = get_or units k no_unit in
     added ∙ ap (λ texts. with_text (with_text texts unit.kind.now) unit.unit.now) so_far
     ∙ sym (with_texts-append start (unit_texts (pairs_of (take k units))) (unit.kind.now ∷ unit.unit.now ∷ []))
-    ∙ ap (with_texts start) (sym (texts_push (take k units) unit) ∙ ap (λ us. unit_texts (pairs_of us)) (sym (take_more units k no_unit lt)))
+    ∙ ap (with_texts start) (sym (texts_push (take k units) unit)
+    ∙ ap (λ us. unit_texts (pairs_of us)) (sym (take_more units k no_unit lt)))
 
 -- the one value is the last one
-pub last_one : (strings : List (List ℕ)) (units : List KindAndUnit) → length units ≡ 1 → last_index (map (exported_type strings) units) ≡ Some 0
+pub last_one : (strings : List (List ℕ)) (units : List KindAndUnit)
+    → length units ≡ 1 → last_index (map (exported_type strings) units) ≡ Some 0
 last_one strings [] one = absurd (omega (arith, one))
 last_one strings (unit ∷ []) one = refl
 last_one strings (unit ∷ next ∷ units) one = absurd (omega (arith, one))
 
 -- ---- rows
 
-can_each : (value width : ℕ) (rows : List Row) → value < width → AllByRecursion (λ (row : WeightedStack). All IsName row.stack × (length row.stack ≤ 65535)) (rows_at 0 rows)
+can_each : (value width : ℕ) (rows : List Row) → value < width
+    → AllByRecursion (λ (row : WeightedStack). All IsName row.stack × (length row.stack ≤ 65535)) (rows_at 0 rows)
     → AllByRecursion (λ row. length row.weights ≡ width) rows → AllByRecursion (CanStand value) rows
 can_each value width [] within each widths = tt
 can_each value width (row ∷ rows) within each widths =
     let size = widths.0 in
     ((each.0.0, each.0.1, omega (arith, within, size)), can_each value width rows within each.1 widths.1)
 
-pub can_stand : (value width : ℕ) (rows : List Row) → value < width → All (λ (row : WeightedStack). All IsName row.stack × (length row.stack ≤ 65535)) (rows_at 0 rows)
+pub can_stand : (value width : ℕ) (rows : List Row)
+    → value < width → All (λ (row : WeightedStack). All IsName row.stack × (length row.stack ≤ 65535)) (rows_at 0 rows)
     → All (λ row. length row.weights ≡ width) rows → All (CanStand value) rows
-can_stand value width rows within each widths = All-from_recursion (CanStand value) rows (can_each value width rows within
-    (recursion_from_All (λ (row : WeightedStack). All IsName row.stack × (length row.stack ≤ 65535)) (rows_at 0 rows) each)
+can_stand value width rows within each widths =
+    All-from_recursion (CanStand value) rows (can_each value width rows within
+    (recursion_from_All
+    (λ (row : WeightedStack). All IsName row.stack × (length row.stack ≤ 65535)) (rows_at 0 rows) each)
     (recursion_from_All (λ (row : Row). length row.weights ≡ width) rows widths))
 
 -- the values of a batch's rows keep the limit
-pub weights_small : (batch : BatchState) (at : ℕ) → IsBatch batch → at < length batch.rows → All (λ weight. weight < 2 ^ 63) (row_in batch.rows at).weights
+pub weights_small : (batch : BatchState) (at : ℕ)
+    → IsBatch batch → at < length batch.rows → All (λ weight. weight < 2 ^ 63) (row_in batch.rows at).weights
 weights_small batch at is lt k d within =
     let weights = (row_in batch.rows at).weights in
     let row : WeightedStack = weighing k (row_in batch.rows at) in

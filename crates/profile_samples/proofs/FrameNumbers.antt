@@ -1,11 +1,14 @@
 -- The frames of a profile's locations by numbers.
-use Rattle.std.proofs.Common.{◌≡◌, ◌≢◌, ℕ, zero, suc, ◌+◌, ◌-◌, ◌*◌, ◌<◌, ◌≤◌, inl, inr, drop, take, set, length-append, length-set, take-append-drop, Bool, true, false, cond, eqb, ◌||◌, List, [], ◌∷◌, ◌++◌, length, map, get_or, Option, Some, None, refl, sym, ap, ◌∙◌, subst, arith, All}
+use Rattle.std.proofs.Common.{◌≡◌, ◌≢◌, ℕ, zero, suc, ◌+◌, ◌-◌, ◌*◌, ◌<◌, ◌≤◌, inl, inr, drop, take, set, length-append}
+use Rattle.std.proofs.Common.{length-set, take-append-drop, Bool, true, false, cond, eqb, ◌||◌, List, [], ◌∷◌, ◌++◌}
+use Rattle.std.proofs.Common.{length, map, get_or, Option, Some, None, refl, sym, ap, ◌∙◌, subst, arith, All}
 use Rattle.std.specs.Prelude.{ℤ, pos, negsuc, MatchOption, is_some, reverse, slice_get, slice_index_or, unwrap_or}
 use Rattle.std.specs.List.{AllByRecursion, IsDistinct, list_any}
 use Rattle.std.specs.Option.{option_and_then, option_map, option_or}
 use Rattle.std.specs.Str.{bytes_eq}
 use Rattle.std.proofs.lemmas.Bool.{cases_eq, cases_lt, false≢true, eqb-true, eq-eqb, ne_eqb}
-use Rattle.std.proofs.lemmas.List.{flat_map_more, get_or-set_other, get_or-set_same, get_or_past, length-map, reverse-append, take_more}
+use Rattle.std.proofs.lemmas.List.{flat_map_more, get_or-set_other, get_or-set_same, get_or_past, length-map}
+use Rattle.std.proofs.lemmas.List.{reverse-append, take_more}
 use Rattle.std.proofs.lemmas.List.Elements.{All-from_recursion, All-set, All-weaker, recursion_from_All}
 use Rattle.std.proofs.lemmas.List.Folds.{length-flat_map-take}
 use Rattle.std.proofs.Math.Nat.{mul-suc}
@@ -19,37 +22,49 @@ use Rattle.profile_rows.specs.Names.{cleaned_name_of, is_same_name}
 use Rattle.profile_rows.specs.Rows.{has_name}
 use Rattle.profile_rows.proofs.SameNames.{is_same_name-self}
 use Rattle.profile_samples.specs.declared.name_numbers.FrameNumbers.{FrameNumbers}
-use Rattle.profile_samples.specs.Samples.{address_name, first_name, frames_at, frames_from, frames_of_id, frames_of_ids, function_name, item_with, line_name, location_frames, named_by, sample_stack_of, string_at}
+use Rattle.profile_samples.specs.Samples.{address_name, first_name, frames_at, frames_from, frames_of_id, frames_of_ids}
+use Rattle.profile_samples.specs.Samples.{function_name, item_with, line_name, location_frames, named_by}
+use Rattle.profile_samples.specs.Samples.{sample_stack_of, string_at}
 use Rattle.profile_rows.specs.Tallies.{AreSingle, has_number, names_at}
 use Rattle.profile_rows.specs.TextTables.{place_in, with_text, with_texts}
 use Rattle.profile_rows.proofs.TallyLaws.{has_number-push}
-use Rattle.profile_samples.specs.NameNumbers.{AreFrameNumbers, AreFunctionNumbers, address_names, frame_names, frame_numbers_of, given, line_number, location_numbers, number_at, number_by, number_of, numbers_of, numbers_of_id, once_of, string_names, string_numbers, with_number, with_numbers}
-use Rattle.profile_samples.proofs.ExportLaws.{AllStand, AreDistinct, distinct_with_texts, stand_where, stands_in, with_texts-own, with_texts-stands}
+use Rattle.profile_samples.specs.NameNumbers.{AreFrameNumbers, AreFunctionNumbers, address_names, frame_names}
+use Rattle.profile_samples.specs.NameNumbers.{frame_numbers_of, given, line_number, location_numbers, number_at}
+use Rattle.profile_samples.specs.NameNumbers.{number_by, number_of, numbers_of, numbers_of_id, once_of, string_names}
+use Rattle.profile_samples.specs.NameNumbers.{string_numbers, with_number, with_numbers}
+use Rattle.profile_samples.proofs.ExportLaws.{AllStand, AreDistinct, distinct_with_texts, stand_where, stands_in}
+use Rattle.profile_samples.proofs.ExportLaws.{with_texts-own, with_texts-stands}
 use Rattle.profile_samples.proofs.ItemsById.{item_with-found}
 use Rattle.profile_rows.proofs.TextPlaces.{place_in-lt, text_at_place}
 
 -- ---- numbers of strings and functions
 
 number_at-map : (f : List ℕ → ℕ) (strings : List (List ℕ)) (index : ℕ)
-    → slice_index_or (map (option_map f) (map cleaned_name_of strings)) index None ≡ option_map f (cleaned_name_of (slice_index_or strings index []))
+    → slice_index_or (map (option_map f) (map cleaned_name_of strings)) index None
+    ≡ option_map f (cleaned_name_of (slice_index_or strings index []))
 number_at-map f [] zero = refl
 number_at-map f [] (suc index) = refl
 number_at-map f (string ∷ strings) zero = refl
 number_at-map f (string ∷ strings) (suc index) = number_at-map f strings index
 
-string_number : (draft : Draft) (index : ℤ) → number_at (string_numbers draft) index ≡ option_map (number_of draft) (cleaned_name_of (string_at draft.strings index))
+string_number : (draft : Draft) (index : ℤ) → number_at (string_numbers draft) index
+    ≡ option_map (number_of draft) (cleaned_name_of (string_at draft.strings index))
 string_number draft (pos index) = number_at-map (number_of draft) draft.strings index
 string_number draft (negsuc index) = refl
 
-option_or-map : (f : List ℕ → ℕ) (a b : Option (List ℕ)) → option_or (option_map f a) (option_map f b) ≡ option_map f (first_name a b)
+option_or-map : (f : List ℕ → ℕ) (a b : Option (List ℕ))
+    → option_or (option_map f a) (option_map f b) ≡ option_map f (first_name a b)
 option_or-map f (Some name) b = refl
 option_or-map f None b = refl
 
-pub number_by-name : (draft : Draft) (function : Function) → number_by (string_numbers draft) function ≡ option_map (number_of draft) (function_name draft.strings function)
+pub number_by-name : (draft : Draft) (function : Function)
+    → number_by (string_numbers draft) function ≡ option_map (number_of draft) (function_name draft.strings function)
 number_by-name draft function =
     ap (λ n. option_or n (number_at (string_numbers draft) function.system_name)) (string_number draft function.name)
-    ∙ ap (option_or (option_map (number_of draft) (cleaned_name_of (string_at draft.strings function.name)))) (string_number draft function.system_name)
-    ∙ option_or-map (number_of draft) (cleaned_name_of (string_at draft.strings function.name)) (cleaned_name_of (string_at draft.strings function.system_name))
+    ∙ ap (option_or (option_map (number_of draft) (cleaned_name_of (string_at draft.strings function.name))))
+    (string_number draft function.system_name)
+    ∙ option_or-map (number_of draft) (cleaned_name_of (string_at draft.strings function.name))
+    (cleaned_name_of (string_at draft.strings function.system_name))
 
 -- ---- the names stand among those that are numbered
 
@@ -57,63 +72,81 @@ or_right : (x y : Bool) → y ≡ true → (x || y) ≡ true
 or_right true y e = refl
 or_right false y e = e
 
-given-here : (name : List ℕ) (option : Option (List ℕ)) (options : List (Option (List ℕ))) → option ≡ Some name → stands_in (given (option ∷ options)) name ≡ true
+given-here : (name : List ℕ) (option : Option (List ℕ)) (options : List (Option (List ℕ)))
+    → option ≡ Some name → stands_in (given (option ∷ options)) name ≡ true
 given-here name None options e = absurd (false≢true (ap is_some e))
 given-here name (Some other) options e =
-    ap (λ b. b || stands_in (given options) name) (ap (bytes_eq name) (ap (λ o. unwrap_or o name) e) ∙ is_same_name-self name)
+    ap (λ b. b || stands_in (given options) name)
+    (ap (bytes_eq name) (ap (λ o. unwrap_or o name) e) ∙ is_same_name-self name)
 
-given-later : (name : List ℕ) (option : Option (List ℕ)) (options : List (Option (List ℕ))) → stands_in (given options) name ≡ true → stands_in (given (option ∷ options)) name ≡ true
+given-later : (name : List ℕ) (option : Option (List ℕ)) (options : List (Option (List ℕ)))
+    → stands_in (given options) name ≡ true → stands_in (given (option ∷ options)) name ≡ true
 given-later name None options e = e
 given-later name (Some other) options e = or_right (bytes_eq name other) (stands_in (given options) name) e
 
-string_stands : (strings : List (List ℕ)) (index : ℕ) (name : List ℕ) → cleaned_name_of (slice_index_or strings index []) ≡ Some name → stands_in (given (map cleaned_name_of strings)) name ≡ true
+string_stands : (strings : List (List ℕ)) (index : ℕ) (name : List ℕ) → cleaned_name_of
+    (slice_index_or strings index []) ≡ Some name → stands_in (given (map cleaned_name_of strings)) name ≡ true
 string_stands [] zero name e = absurd (false≢true (ap is_some e))
 string_stands [] (suc index) name e = absurd (false≢true (ap is_some e))
 string_stands (string ∷ strings) zero name e = given-here name (cleaned_name_of string) (map cleaned_name_of strings) e
-string_stands (string ∷ strings) (suc index) name e = given-later name (cleaned_name_of string) (map cleaned_name_of strings) (string_stands strings index name e)
+string_stands (string ∷ strings) (suc index) name e =
+    given-later name (cleaned_name_of string) (map cleaned_name_of strings) (string_stands strings index name e)
 
-text_stands : (draft : Draft) (index : ℤ) (name : List ℕ) → cleaned_name_of (string_at draft.strings index) ≡ Some name → stands_in (frame_names draft) name ≡ true
+text_stands : (draft : Draft) (index : ℤ) (name : List ℕ)
+    → cleaned_name_of (string_at draft.strings index) ≡ Some name → stands_in (frame_names draft) name ≡ true
 text_stands draft (pos index) name e =
     with_texts-stands (with_texts [] (given (string_names draft))) (address_names draft) name
     (with_texts-own [] (given (string_names draft)) name (string_stands draft.strings index name e))
 text_stands draft (negsuc index) name e = absurd (false≢true (ap is_some e))
 
-first_stands : (draft : Draft) (a b : Option (List ℕ)) (name : List ℕ) → (a ≡ Some name → stands_in (frame_names draft) name ≡ true) → (b ≡ Some name → stands_in (frame_names draft) name ≡ true)
+first_stands : (draft : Draft) (a b : Option (List ℕ)) (name : List ℕ) → (a ≡ Some name
+    → stands_in (frame_names draft) name ≡ true) → (b ≡ Some name → stands_in (frame_names draft) name ≡ true)
     → first_name a b ≡ Some name → stands_in (frame_names draft) name ≡ true
 first_stands draft (Some first) b name h k e = h e
 first_stands draft None b name h k e = k e
 
-function_stands : (draft : Draft) (function : Option Function) (name : List ℕ) → named_by draft.strings function ≡ Some name → stands_in (frame_names draft) name ≡ true
+function_stands : (draft : Draft) (function : Option Function) (name : List ℕ)
+    → named_by draft.strings function ≡ Some name → stands_in (frame_names draft) name ≡ true
 function_stands draft None name e = absurd (false≢true (ap is_some e))
 function_stands draft (Some function) name e =
-    first_stands draft (cleaned_name_of (string_at draft.strings function.name)) (cleaned_name_of (string_at draft.strings function.system_name)) name
+    first_stands draft (cleaned_name_of (string_at draft.strings function.name))
+    (cleaned_name_of (string_at draft.strings function.system_name)) name
     (text_stands draft function.name name) (text_stands draft function.system_name name) e
 
-or_else_stands : (names : List (List ℕ)) (found : Option (List ℕ)) (address : List ℕ) → ((name : List ℕ) → found ≡ Some name → stands_in names name ≡ true) → stands_in names address ≡ true → stands_in names (unwrap_or found address) ≡ true
+or_else_stands : (names : List (List ℕ)) (found : Option (List ℕ)) (address : List ℕ)
+    → ((name : List ℕ) → found ≡ Some name → stands_in names name ≡ true)
+    → stands_in names address ≡ true → stands_in names (unwrap_or found address) ≡ true
 or_else_stands names (Some name) address h e = h name refl
 or_else_stands names None address h e = e
 
-lines_stand : (draft : Draft) (address : ℕ) (lines : List Line) → stands_in (frame_names draft) (address_name address) ≡ true → AllStand (frame_names draft) (map (line_name draft.strings draft.functions address) lines)
+lines_stand : (draft : Draft) (address : ℕ) (lines : List Line) → stands_in (frame_names draft) (address_name address)
+    ≡ true → AllStand (frame_names draft) (map (line_name draft.strings draft.functions address) lines)
 lines_stand draft address [] e = tt
 lines_stand draft address (line ∷ lines) e = (
-  or_else_stands (frame_names draft) (named_by draft.strings (item_with (λ function. function.id) line.function_id draft.functions)) (address_name address)
+  or_else_stands (frame_names draft) (named_by draft.strings
+      (item_with (λ function. function.id) line.function_id draft.functions)) (address_name address)
       (function_stands draft (item_with (λ function. function.id) line.function_id draft.functions)) e,
   lines_stand draft address lines e,
 )
 
-frames_stand : (draft : Draft) (address : ℕ) (lines : List Line) → stands_in (frame_names draft) (address_name address) ≡ true → AllStand (frame_names draft) (frames_from draft.strings draft.functions address lines)
+frames_stand : (draft : Draft) (address : ℕ) (lines : List Line) → stands_in (frame_names draft) (address_name address)
+    ≡ true → AllStand (frame_names draft) (frames_from draft.strings draft.functions address lines)
 frames_stand draft address [] e = (e, tt)
 frames_stand draft address (line ∷ lines) e = lines_stand draft address (line ∷ lines) e
 
-located : (draft : Draft) (locations : List Location) → AllStand (frame_names draft) (map (λ (location : Location). address_name location.address) locations)
+located : (draft : Draft) (locations : List Location)
+    → AllStand (frame_names draft) (map (λ (location : Location). address_name location.address) locations)
     → AllByRecursion (λ (location : Location). AllStand (frame_names draft) (location_frames draft location)) locations
 located draft [] all = tt
-located draft (location ∷ locations) all = (frames_stand draft location.address location.lines all.0, located draft locations all.1)
+located draft (location ∷ locations) all =
+    (frames_stand draft location.address location.lines all.0, located draft locations all.1)
 
-pub locations_stand : (draft : Draft) → AllByRecursion (λ (location : Location). AllStand (frame_names draft) (location_frames draft location)) draft.locations
+pub locations_stand : (draft : Draft) → AllByRecursion
+    (λ (location : Location). AllStand (frame_names draft) (location_frames draft location)) draft.locations
 locations_stand draft =
     located draft draft.locations
-    (stand_where (address_names draft) (frame_names draft) (λ q e. with_texts-own (with_texts [] (given (string_names draft))) (address_names draft) q e))
+    (stand_where (address_names draft) (frame_names draft)
+    (λ q e. with_texts-own (with_texts [] (given (string_names draft))) (address_names draft) q e))
 
 -- ---- numbers of names
 
@@ -122,52 +155,66 @@ unfolding IsDistinct
 single [] all = tt
 single (name ∷ names) all = (apart name names all.0, single names all.1)
   where
-    apart : (name : List ℕ) (names : List (List ℕ)) → stands_in names name ≡ false → AllByRecursion (λ (other : List ℕ). is_same_name name other ≡ false) names
+    apart : (name : List ℕ) (names : List (List ℕ))
+        → stands_in names name ≡ false → AllByRecursion (λ (other : List ℕ). is_same_name name other ≡ false) names
     apart name [] none = tt
-    apart name (other ∷ names) none = elim (bytes_eq name other) as (λ b. bytes_eq name other ≡ b → (b || stands_in names name) ≡ false → AllByRecursion (λ (other : List ℕ). is_same_name name other ≡ false) (other ∷ names)) [
-      | true ↦ λ is e. absurd (false≢true (sym e))
-      | false ↦ λ is e. (is, apart name names e)
-    ] refl none
+    apart name (other ∷ names) none = elim (bytes_eq name other) as (λ b. bytes_eq name other ≡ b → (b || stands_in
+        names name) ≡ false → AllByRecursion (λ (other : List ℕ). is_same_name name other ≡ false) (other ∷ names)) [
+          | true ↦ λ is e. absurd (false≢true (sym e))
+          | false ↦ λ is e. (is, apart name names e)
+        ] refl none
 
 pub frame_names-single : (draft : Draft) → AreSingle (frame_names draft)
 frame_names-single draft =
-    single (frame_names draft) (distinct_with_texts (with_texts [] (given (string_names draft))) (address_names draft) (distinct_with_texts [] (given (string_names draft)) tt))
+    single (frame_names draft) (distinct_with_texts (with_texts [] (given (string_names draft)))
+    (address_names draft) (distinct_with_texts [] (given (string_names draft)) tt))
 
-below : (names frames : List (List ℕ)) → AllStand names frames → AllByRecursion (λ number. number < length names) (map (place_in names) frames)
+below : (names frames : List (List ℕ))
+    → AllStand names frames → AllByRecursion (λ number. number < length names) (map (place_in names) frames)
 below names [] all = tt
 below names (frame ∷ frames) all = (place_in-lt names frame all.0, below names frames all.1)
 
-pub numbers_below : (names frames : List (List ℕ)) → AllStand names frames → All (λ number. number < length names) (map (place_in names) frames)
-numbers_below names frames all = All-from_recursion (λ number. number < length names) (map (place_in names) frames) (below names frames all)
+pub numbers_below : (names frames : List (List ℕ))
+    → AllStand names frames → All (λ number. number < length names) (map (place_in names) frames)
+numbers_below names frames all =
+    All-from_recursion (λ number. number < length names) (map (place_in names) frames) (below names frames all)
 
 -- ---- each number once
 
-pub with_numbers-push : (start numbers : List ℕ) (number : ℕ) → with_numbers start (numbers ++ number ∷ []) ≡ with_number (with_numbers start numbers) number
+pub with_numbers-push : (start numbers : List ℕ) (number : ℕ)
+    → with_numbers start (numbers ++ number ∷ []) ≡ with_number (with_numbers start numbers) number
 with_numbers-push start [] number = refl
 with_numbers-push start (first ∷ numbers) number = with_numbers-push (with_number start first) numbers number
 
-any_there : (test : ℕ → Bool) (numbers : List ℕ) (number : ℕ) → has_number number numbers ≡ true → test number ≡ true → list_any test numbers ≡ true
+any_there : (test : ℕ → Bool) (numbers : List ℕ) (number : ℕ)
+    → has_number number numbers ≡ true → test number ≡ true → list_any test numbers ≡ true
 any_there test [] number e t = absurd (false≢true e)
 any_there test (first ∷ numbers) number e t =
-    elim (eqb first number) as (λ b. eqb first number ≡ b → (b || has_number number numbers) ≡ true → (test first || list_any test numbers) ≡ true) [
+    elim (eqb first number) as (λ b. eqb first number ≡ b
+    → (b || has_number number numbers) ≡ true → (test first || list_any test numbers) ≡ true) [
       | true ↦ λ is r. ap (λ b. b || list_any test numbers) (ap test (eqb-true first number is) ∙ t)
       | false ↦ λ is r. or_right (test first) (list_any test numbers) (any_there test numbers number r t)
     ] refl e
 
-any_push : (test : ℕ → Bool) (numbers : List ℕ) (number : ℕ) → list_any test (numbers ++ number ∷ []) ≡ (list_any test numbers || test number)
+any_push : (test : ℕ → Bool) (numbers : List ℕ) (number : ℕ)
+    → list_any test (numbers ++ number ∷ []) ≡ (list_any test numbers || test number)
 any_push test [] number = elim (test number) as (λ b. (b || false) ≡ b) [ true ↦ refl | false ↦ refl ]
-any_push test (first ∷ numbers) number = elim (test first) as (λ b. (b || list_any test (numbers ++ number ∷ [])) ≡ ((b || list_any test numbers) || test number)) [
-  | true ↦ refl
-  | false ↦ any_push test numbers number
-]
+any_push test (first ∷ numbers) number = elim (test first) as (λ b. (b || list_any test (numbers ++ number ∷ []))
+    ≡ ((b || list_any test numbers) || test number)) [
+      | true ↦ refl
+      | false ↦ any_push test numbers number
+    ]
 
-any_with : (test : ℕ → Bool) (numbers : List ℕ) (number : ℕ) → list_any test (with_number numbers number) ≡ (list_any test numbers || test number)
-any_with test numbers number = elim (has_number number numbers) as (λ b. has_number number numbers ≡ b → list_any test (cond b numbers (numbers ++ number ∷ [])) ≡ (list_any test numbers || test number)) [
-  | true ↦ λ there. known (test number) (any_there test numbers number there)
-  | false ↦ λ none. any_push test numbers number
-] refl
+any_with : (test : ℕ → Bool) (numbers : List ℕ) (number : ℕ)
+    → list_any test (with_number numbers number) ≡ (list_any test numbers || test number)
+any_with test numbers number = elim (has_number number numbers) as (λ b. has_number number numbers ≡ b
+    → list_any test (cond b numbers (numbers ++ number ∷ [])) ≡ (list_any test numbers || test number)) [
+      | true ↦ λ there. known (test number) (any_there test numbers number there)
+      | false ↦ λ none. any_push test numbers number
+    ] refl
   where
-    known : (t : Bool) → (t ≡ true → list_any test numbers ≡ true) → list_any test numbers ≡ (list_any test numbers || t)
+    known : (t : Bool)
+        → (t ≡ true → list_any test numbers ≡ true) → list_any test numbers ≡ (list_any test numbers || t)
     known true h = rw (h refl) refl
     known false h = elim (list_any test numbers) as (λ b. b ≡ (b || false)) [ true ↦ refl | false ↦ refl ]
 
@@ -175,37 +222,47 @@ or_assoc : (a b c : Bool) → ((a || b) || c) ≡ (a || (b || c))
 or_assoc true b c = refl
 or_assoc false b c = refl
 
-any_withs : (test : ℕ → Bool) (start numbers : List ℕ) → list_any test (with_numbers start numbers) ≡ (list_any test start || list_any test numbers)
+any_withs : (test : ℕ → Bool) (start numbers : List ℕ)
+    → list_any test (with_numbers start numbers) ≡ (list_any test start || list_any test numbers)
 any_withs test start [] = elim (list_any test start) as (λ b. b ≡ (b || false)) [ true ↦ refl | false ↦ refl ]
 any_withs test start (number ∷ numbers) =
     any_withs test (with_number start number) numbers
     ∙ ap (λ b. b || list_any test numbers) (any_with test start number)
     ∙ or_assoc (list_any test start) (test number) (list_any test numbers)
 
-all_push : (P : ℕ → Type 0) (numbers : List ℕ) (number : ℕ) → AllByRecursion P numbers → P number → AllByRecursion P (numbers ++ number ∷ [])
+all_push : (P : ℕ → Type 0) (numbers : List ℕ) (number : ℕ)
+    → AllByRecursion P numbers → P number → AllByRecursion P (numbers ++ number ∷ [])
 all_push P [] number all p = (p, tt)
 all_push P (first ∷ numbers) number all p = (all.0, all_push P numbers number all.1 p)
 
-all_with : (P : ℕ → Type 0) (numbers : List ℕ) (number : ℕ) → AllByRecursion P numbers → P number → AllByRecursion P (with_number numbers number)
-all_with P numbers number all p = elim (has_number number numbers) as (λ b. AllByRecursion P (cond b numbers (numbers ++ number ∷ []))) [
-  | true ↦ all
-  | false ↦ all_push P numbers number all p
-]
+all_with : (P : ℕ → Type 0) (numbers : List ℕ) (number : ℕ)
+    → AllByRecursion P numbers → P number → AllByRecursion P (with_number numbers number)
+all_with P numbers number all p =
+    elim (has_number number numbers) as (λ b. AllByRecursion P (cond b numbers (numbers ++ number ∷ []))) [
+      | true ↦ all
+      | false ↦ all_push P numbers number all p
+    ]
 
-all_withs : (P : ℕ → Type 0) (start numbers : List ℕ) → AllByRecursion P start → AllByRecursion P numbers → AllByRecursion P (with_numbers start numbers)
+all_withs : (P : ℕ → Type 0) (start numbers : List ℕ)
+    → AllByRecursion P start → AllByRecursion P numbers → AllByRecursion P (with_numbers start numbers)
 all_withs P start [] all more = all
-all_withs P start (number ∷ numbers) all more = all_withs P (with_number start number) numbers (all_with P start number all more.0) more.1
+all_withs P start (number ∷ numbers) all more =
+    all_withs P (with_number start number) numbers (all_with P start number all more.0) more.1
 
 -- ---- a location by numbers
 
-list_any-map : (names : List (List ℕ)) (q : List ℕ) (numbers : List ℕ) → has_name q (names_at names numbers) ≡ list_any (λ number. is_same_name q (slice_index_or names number [])) numbers
+list_any-map : (names : List (List ℕ)) (q : List ℕ) (numbers : List ℕ)
+    → has_name q (names_at names numbers) ≡ list_any (λ number. is_same_name q (slice_index_or names number [])) numbers
 list_any-map names q [] = refl
-list_any-map names q (number ∷ numbers) = ap (λ b. is_same_name q (slice_index_or names number []) || b) (list_any-map names q numbers)
+list_any-map names q (number ∷ numbers) =
+    ap (λ b. is_same_name q (slice_index_or names number []) || b) (list_any-map names q numbers)
 
-any_placed : (names : List (List ℕ)) (q : List ℕ) (frames : List (List ℕ)) → AllStand names frames → list_any (λ number. is_same_name q (slice_index_or names number [])) (map (place_in names) frames) ≡ has_name q frames
+any_placed : (names : List (List ℕ)) (q : List ℕ) (frames : List (List ℕ)) → AllStand names frames → list_any
+    (λ number. is_same_name q (slice_index_or names number [])) (map (place_in names) frames) ≡ has_name q frames
 any_placed names q [] all = refl
 any_placed names q (frame ∷ frames) all =
-    ap (λ name. is_same_name q name || list_any (λ number. is_same_name q (slice_index_or names number [])) (map (place_in names) frames)) (text_at_place names frame (place_in-lt names frame all.0))
+    ap (λ name. is_same_name q name || list_any (λ number. is_same_name q (slice_index_or names number []))
+    (map (place_in names) frames)) (text_at_place names frame (place_in-lt names frame all.0))
     ∙ ap (λ b. is_same_name q frame || b) (any_placed names q frames all.1)
 
 -- what numbers say of the frames whose they are
@@ -217,11 +274,13 @@ pub record AreNumbersOf (names frames : List (List ℕ)) (numbers : FrameNumbers
   pub callers : List (List ℕ)
   pub leaf : frames ≡ slice_index_or names numbers.leaf [] ∷ callers
 
-numbered : (names : List (List ℕ)) (frame : List ℕ) (frames : List (List ℕ)) → AllStand names (frame ∷ frames) → AreNumbersOf names (frame ∷ frames) (frame_numbers_of (map (place_in names) (frame ∷ frames)))
+numbered : (names : List (List ℕ)) (frame : List ℕ) (frames : List (List ℕ)) → AllStand names (frame ∷ frames)
+    → AreNumbersOf names (frame ∷ frames) (frame_numbers_of (map (place_in names) (frame ∷ frames)))
 numbered names frame frames all = record {
   depth = long (frame ∷ frames);
   inside = All-from_recursion (λ number. number < length names) (once_of (map (place_in names) (frame ∷ frames)))
-      (all_withs (λ number. number < length names) [] (map (place_in names) (frame ∷ frames)) tt (below names (frame ∷ frames) all));
+      (all_withs (λ number. number < length names) []
+      (map (place_in names) (frame ∷ frames)) tt (below names (frame ∷ frames) all));
   same = λ q. list_any-map names q (once_of (map (place_in names) (frame ∷ frames)))
       ∙ any_withs (λ number. is_same_name q (slice_index_or names number [])) [] (map (place_in names) (frame ∷ frames))
       ∙ any_placed names q (frame ∷ frames) all;
@@ -234,107 +293,142 @@ numbered names frame frames all = record {
     long [] = refl
     long (frame ∷ frames) = ap suc (long frames)
 
-location_numbered : (draft : Draft) (address : ℕ) (lines : List Line) → AllStand (frame_names draft) (frames_from draft.strings draft.functions address lines)
-    → AreNumbersOf (frame_names draft) (frames_from draft.strings draft.functions address lines) (frame_numbers_of (map (number_of draft) (frames_from draft.strings draft.functions address lines)))
+location_numbered : (draft : Draft) (address : ℕ) (lines : List Line)
+    → AllStand (frame_names draft) (frames_from draft.strings draft.functions address lines)
+    → AreNumbersOf (frame_names draft) (frames_from draft.strings draft.functions address lines)
+    (frame_numbers_of (map (number_of draft) (frames_from draft.strings draft.functions address lines)))
 location_numbered draft address [] all = numbered (frame_names draft) (address_name address) [] all
 location_numbered draft address (line ∷ lines) all =
-    numbered (frame_names draft) (line_name draft.strings draft.functions address line) (map (line_name draft.strings draft.functions address) lines) all
+    numbered (frame_names draft) (line_name draft.strings draft.functions address line)
+    (map (line_name draft.strings draft.functions address) lines) all
 
 -- what was found by an id is what the frames of its location are by numbers
 abbrev pub IsFoundOf : Draft → List (List ℕ) → Option FrameNumbers → Type 0
 IsFoundOf draft frames None = frames ≡ []
 IsFoundOf draft frames (Some numbers) = AreNumbersOf (frame_names draft) frames numbers
 
-found_in : (draft : Draft) (id : ℕ) (locations : List Location) → AllByRecursion (λ (location : Location). AllStand (frame_names draft) (location_frames draft location)) locations
-    → IsFoundOf draft (frames_at draft (item_with (λ location. location.id) id locations)) (option_map (location_numbers draft) (item_with (λ location. location.id) id locations))
+found_in : (draft : Draft) (id : ℕ) (locations : List Location)
+    → AllByRecursion (λ (location : Location). AllStand (frame_names draft) (location_frames draft location)) locations
+    → IsFoundOf draft (frames_at draft (item_with (λ location. location.id) id locations))
+    (option_map (location_numbers draft) (item_with (λ location. location.id) id locations))
 found_in draft id [] all = refl
-found_in draft id (location ∷ locations) all = elim (eqb location.id id) as (λ b. IsFoundOf draft (frames_at draft (cond b (Some location) (item_with (λ location. location.id) id locations))) (option_map (location_numbers draft) (cond b (Some location) (item_with (λ location. location.id) id locations)))) [
-  | true ↦ location_numbered draft location.address location.lines all.0
-  | false ↦ found_in draft id locations all.1
-]
+found_in draft id (location ∷ locations) all = elim (eqb location.id id) as (λ b. IsFoundOf draft
+    (frames_at draft (cond b (Some location) (item_with (λ location. location.id) id locations)))
+    (option_map (location_numbers draft) (cond b (Some location) (item_with (λ location. location.id) id locations)))) [
+      | true ↦ location_numbered draft location.address location.lines all.0
+      | false ↦ found_in draft id locations all.1
+    ]
 
-pub found_numbers : (draft : Draft) (id : ℕ) (found : Option FrameNumbers) → found ≡ numbers_of_id draft id → IsFoundOf draft (frames_of_id draft id) found
-found_numbers draft id found is = subst (IsFoundOf draft (frames_of_id draft id)) (sym is) (found_in draft id draft.locations (locations_stand draft))
+pub found_numbers : (draft : Draft) (id : ℕ) (found : Option FrameNumbers)
+    → found ≡ numbers_of_id draft id → IsFoundOf draft (frames_of_id draft id) found
+found_numbers draft id found is =
+    subst (IsFoundOf draft (frames_of_id draft id)) (sym is) (found_in draft id draft.locations (locations_stand draft))
 
 -- ---- what stands at an id
 
-pub function_numbered : (draft : Draft) (ids : List ℕ) (numbers : List (Option ℕ)) (id : ℕ) (found : Option ℕ) → AreFunctionNumbers draft ids numbers
+pub function_numbered : (draft : Draft) (ids : List ℕ) (numbers : List (Option ℕ)) (id : ℕ) (found : Option ℕ)
+    → AreFunctionNumbers draft ids numbers
     → MatchOption found ((at : ℕ) → slice_get ids at ≢ Some id) (λ at. slice_get ids at ≡ Some id)
-    → item_with (λ function. function.id) id draft.functions ≡ option_and_then (λ at. slice_get draft.functions at) found
+    → item_with (λ function. function.id) id draft.functions
+    ≡ option_and_then (λ at. slice_get draft.functions at) found
 function_numbered draft ids numbers id found this h =
-    item_with-found (λ function. function.id) draft.functions id found (subst (λ i. has_double i ≡ false) this.ids_are this.single)
-    (subst (λ (i : List ℕ). MatchOption found ((at : ℕ) → slice_get i at ≢ Some id) (λ at. slice_get i at ≡ Some id)) this.ids_are h)
+    item_with-found
+    (λ function. function.id) draft.functions id found (subst (λ i. has_double i ≡ false) this.ids_are this.single)
+    (subst (λ (i : List ℕ). MatchOption found ((at : ℕ) → slice_get i at ≢ Some id) (λ at. slice_get i at ≡ Some id))
+    this.ids_are h)
 
-pub location_numbered_at : (draft : Draft) (ids : List ℕ) (frames : List FrameNumbers) (deepest : ℕ) (names : List (List ℕ)) (id : ℕ) (found : Option ℕ) → AreFrameNumbers draft ids frames deepest names
+pub location_numbered_at : (draft : Draft) (ids : List ℕ) (frames : List FrameNumbers)
+    (deepest : ℕ) (names : List (List ℕ)) (id : ℕ) (found : Option ℕ) → AreFrameNumbers draft ids frames deepest names
     → MatchOption found ((at : ℕ) → slice_get ids at ≢ Some id) (λ at. slice_get ids at ≡ Some id)
-    → item_with (λ location. location.id) id draft.locations ≡ option_and_then (λ at. slice_get draft.locations at) found
+    → item_with (λ location. location.id) id draft.locations
+    ≡ option_and_then (λ at. slice_get draft.locations at) found
 location_numbered_at draft ids frames deepest names id found this h =
-    item_with-found (λ location. location.id) draft.locations id found (subst (λ i. has_double i ≡ false) this.ids_are this.single)
-    (subst (λ (i : List ℕ). MatchOption found ((at : ℕ) → slice_get i at ≢ Some id) (λ at. slice_get i at ≡ Some id)) this.ids_are h)
+    item_with-found
+    (λ location. location.id) draft.locations id found (subst (λ i. has_double i ≡ false) this.ids_are this.single)
+    (subst (λ (i : List ℕ). MatchOption found ((at : ℕ) → slice_get i at ≢ Some id) (λ at. slice_get i at ≡ Some id))
+    this.ids_are h)
 
 -- the numbers of lines, where there are some
-map_twice : (draft : Draft) (address : ℕ) (lines : List Line) → map (line_number draft address) lines ≡ map (number_of draft) (map (line_name draft.strings draft.functions address) lines)
+map_twice : (draft : Draft) (address : ℕ) (lines : List Line) → map (line_number draft address) lines
+    ≡ map (number_of draft) (map (line_name draft.strings draft.functions address) lines)
 map_twice draft address [] = refl
-map_twice draft address (line ∷ lines) = ap (λ numbers. line_number draft address line ∷ numbers) (map_twice draft address lines)
+map_twice draft address (line ∷ lines) =
+    ap (λ numbers. line_number draft address line ∷ numbers) (map_twice draft address lines)
 
-pub numbers_of_lines : (draft : Draft) (address : ℕ) (lines : List Line) → 0 < length lines → map (line_number draft address) lines ≡ map (number_of draft) (frames_from draft.strings draft.functions address lines)
+pub numbers_of_lines : (draft : Draft) (address : ℕ) (lines : List Line) → 0 < length lines → map
+    (line_number draft address) lines ≡ map (number_of draft) (frames_from draft.strings draft.functions address lines)
 numbers_of_lines draft address [] some = absurd (omega (arith, some))
 numbers_of_lines draft address (line ∷ lines) some = map_twice draft address (line ∷ lines)
 
 -- ---- the names that are there, one by one
 
-pub given-push : (names : List (Option (List ℕ))) (name : Option (List ℕ)) → given (names ++ name ∷ []) ≡ given names ++ given (name ∷ [])
+pub given-push : (names : List (Option (List ℕ))) (name : Option (List ℕ))
+    → given (names ++ name ∷ []) ≡ given names ++ given (name ∷ [])
 given-push [] None = refl
 given-push [] (Some name) = refl
 given-push (None ∷ names) name = given-push names name
 given-push (Some first ∷ names) name = ap (λ more. first ∷ more) (given-push names name)
 
-pub numbers_of-some : (draft : Draft) (address : ℕ) (lines : List Line) → 0 < length (map (number_of draft) (frames_from draft.strings draft.functions address lines))
+pub numbers_of-some : (draft : Draft) (address : ℕ) (lines : List Line)
+    → 0 < length (map (number_of draft) (frames_from draft.strings draft.functions address lines))
 numbers_of-some draft address [] = omega arith
 numbers_of-some draft address (line ∷ lines) = omega arith
 
 -- ---- the frames of ids, one by one
 
-pub frames-more : (draft : Draft) (ids : List ℕ) (i : ℕ) → i < length ids → frames_of_ids draft (take (i + 1) ids) ≡ frames_of_ids draft (take i ids) ++ frames_of_id draft (get_or ids i 0)
-frames-more draft ids i lt = ap (frames_of_ids draft) (take_more ids i 0 lt) ∙ sym (flat_map_more (frames_of_id draft) [] (take i ids) (get_or ids i 0))
+pub frames-more : (draft : Draft) (ids : List ℕ) (i : ℕ) → i < length ids
+    → frames_of_ids draft (take (i + 1) ids) ≡ frames_of_ids draft (take i ids) ++ frames_of_id draft (get_or ids i 0)
+frames-more draft ids i lt = ap (frames_of_ids draft) (take_more ids i 0 lt)
+    ∙ sym (flat_map_more (frames_of_id draft) [] (take i ids) (get_or ids i 0))
 
-pub room_left : (draft : Draft) (ids : List ℕ) (i room : ℕ) (numbers : FrameNumbers) → i < length ids → AreNumbersOf (frame_names draft) (frames_of_id draft (get_or ids i 0)) numbers → numbers.depth ≤ room
-    → room + length (frames_of_ids draft (take i ids)) ≡ 65535 → (room - numbers.depth) + length (frames_of_ids draft (take (i + 1) ids)) ≡ 65535
+pub room_left : (draft : Draft) (ids : List ℕ) (i room : ℕ) (numbers : FrameNumbers) → i < length ids
+    → AreNumbersOf (frame_names draft) (frames_of_id draft (get_or ids i 0)) numbers → numbers.depth ≤ room
+    → room + length (frames_of_ids draft (take i ids)) ≡ 65535
+    → (room - numbers.depth) + length (frames_of_ids draft (take (i + 1) ids)) ≡ 65535
 room_left draft ids i room numbers lt this low held =
     let depth = this.depth in
-    let more = ap length (frames-more draft ids i lt) ∙ length-append (frames_of_ids draft (take i ids)) (frames_of_id draft (get_or ids i 0)) in
+    let more = ap length (frames-more draft ids i lt)
+    ∙ length-append (frames_of_ids draft (take i ids)) (frames_of_id draft (get_or ids i 0)) in
     omega (arith, depth, more, low, held)
 
 pub room_same : (draft : Draft) (ids : List ℕ) (i room : ℕ) → i < length ids → frames_of_id draft (get_or ids i 0) ≡ []
-    → room + length (frames_of_ids draft (take i ids)) ≡ 65535 → room + length (frames_of_ids draft (take (i + 1) ids)) ≡ 65535
+    → room + length (frames_of_ids draft (take i ids)) ≡ 65535
+    → room + length (frames_of_ids draft (take (i + 1) ids)) ≡ 65535
 room_same draft ids i room lt none held =
     let empty = ap length none in
-    let more = ap length (frames-more draft ids i lt) ∙ length-append (frames_of_ids draft (take i ids)) (frames_of_id draft (get_or ids i 0)) in
+    let more = ap length (frames-more draft ids i lt)
+    ∙ length-append (frames_of_ids draft (take i ids)) (frames_of_id draft (get_or ids i 0)) in
     omega (arith, empty, more, held)
 
-pub room_short : (draft : Draft) (ids : List ℕ) (i room : ℕ) (numbers : FrameNumbers) → i < length ids → AreNumbersOf (frame_names draft) (frames_of_id draft (get_or ids i 0)) numbers → room < numbers.depth
+pub room_short : (draft : Draft) (ids : List ℕ) (i room : ℕ) (numbers : FrameNumbers) → i < length ids
+    → AreNumbersOf (frame_names draft) (frames_of_id draft (get_or ids i 0)) numbers → room < numbers.depth
     → room + length (frames_of_ids draft (take i ids)) ≡ 65535 → 65535 < length (frames_of_ids draft ids)
 room_short draft ids i room numbers lt this low held =
     let depth = this.depth in
     let long = length-flat_map-take (frames_of_id draft) ids i 0 lt in
     omega (arith, depth, long, low, held)
 
-pub leaf_first : (draft : Draft) (ids : List ℕ) (i : ℕ) (leaf : List ℕ) (callers : List (List ℕ)) → i < length ids → frames_of_ids draft (take i ids) ≡ [] → frames_of_id draft (get_or ids i 0) ≡ leaf ∷ callers
+pub leaf_first : (draft : Draft) (ids : List ℕ) (i : ℕ) (leaf : List ℕ) (callers : List (List ℕ))
+    → i < length ids → frames_of_ids draft (take i ids) ≡ [] → frames_of_id draft (get_or ids i 0) ≡ leaf ∷ callers
     → (rest : List (List ℕ)) × (sample_stack_of draft ids ≡ rest ++ leaf ∷ [])
 leaf_first draft ids i leaf callers lt before here =
     let later = frames_of_ids draft (drop (i + 1) ids) in
-    let front : frames_of_ids draft (take (i + 1) ids) ≡ leaf ∷ callers = frames-more draft ids i lt ∙ ap (λ fs. fs ++ frames_of_id draft (get_or ids i 0)) before ∙ here in
+    let front : frames_of_ids draft (take (i + 1) ids) ≡ leaf ∷ callers = frames-more draft ids i lt
+    ∙ ap (λ fs. fs ++ frames_of_id draft (get_or ids i 0)) before ∙ here in
     let all : frames_of_ids draft ids ≡ (leaf ∷ []) ++ (callers ++ later) =
-    ap (frames_of_ids draft) (sym (take-append-drop (i + 1) ids)) ∙ flat_map-append (frames_of_id draft) (take (i + 1) ids) (drop (i + 1) ids) ∙ ap (λ fs. fs ++ later) front in
+    ap (frames_of_ids draft) (sym (take-append-drop (i + 1) ids))
+    ∙ flat_map-append (frames_of_id draft) (take (i + 1) ids) (drop (i + 1) ids) ∙ ap (λ fs. fs ++ later) front in
     (reverse (callers ++ later), ap reverse all ∙ reverse-append (leaf ∷ []) (callers ++ later))
 
 -- ---- marks
 
-pub fresh_mark : (marks : List ℕ) (mark number : ℕ) → 0 < mark → All (λ before. before < mark) marks → eqb (get_or marks number 0) mark ≡ false
-fresh_mark marks mark number some fresh = ne_eqb (get_or marks number 0) mark (λ same. elim (cases_lt number (length marks)) [
-  | inl lt ↦ let low = fresh number 0 lt in omega (arith, low, same)
-  | inr past ↦ let none = get_or_past marks number 0 past in omega (arith, none, some, same)
-])
+pub fresh_mark : (marks : List ℕ) (mark number : ℕ)
+    → 0 < mark → All (λ before. before < mark) marks → eqb (get_or marks number 0) mark ≡ false
+fresh_mark marks mark number some fresh =
+    ne_eqb (get_or marks number 0) mark (λ same. elim (cases_lt number (length marks)) [
+      | inl lt ↦ let low = fresh number 0 lt in omega (arith, low, same)
+      | inr past ↦ let none = get_or_past marks number 0 past in omega (arith, none, some, same)
+    ])
 
 pub record IsOnceSoFar (before : List ℕ) (count mark : ℕ) (marks once : List ℕ) : Type 0 where
   pub once_is : once ≡ once_of before
@@ -342,19 +436,24 @@ pub record IsOnceSoFar (before : List ℕ) (count mark : ℕ) (marks once : List
   pub marked : All (λ other. other ≤ mark) marks
   pub seen : (number : ℕ) → eqb (get_or marks number 0) mark ≡ has_number number once
 
-pub once-push : (before next : List ℕ) (count mark number : ℕ) (marks once : List ℕ) → IsOnceSoFar before count mark marks once → next ≡ before ++ number ∷ [] → number < length marks
+pub once-push : (before next : List ℕ) (count mark number : ℕ) (marks once : List ℕ)
+    → IsOnceSoFar before count mark marks once → next ≡ before ++ number ∷ [] → number < length marks
     → get_or marks number 0 ≢ mark → IsOnceSoFar next count mark (set marks number mark) (once ++ number ∷ [])
 once-push before next count mark number marks once so_far is lt other =
     let none : has_number number once ≡ false = sym (so_far.seen number) ∙ ne_eqb (get_or marks number 0) mark other in
     record {
-      once_is = sym (ap (λ b. cond b once (once ++ number ∷ [])) none) ∙ ap (λ ns. with_number ns number) so_far.once_is ∙ sym (ap once_of is ∙ with_numbers-push [] before number);
+      once_is = sym (ap (λ b. cond b once (once ++ number ∷ [])) none)
+          ∙ ap (λ ns. with_number ns number) so_far.once_is ∙ sym (ap once_of is ∙ with_numbers-push [] before number);
       count_is = length-set marks number mark ∙ so_far.count_is;
       marked = All-set (λ other. other ≤ mark) marks number mark (omega arith) so_far.marked;
       seen = λ n. elim (cases_eq n number) [
-        | inl same ↦ ap (λ m. eqb (get_or (set marks number mark) m 0) mark) same ∙ ap (λ m. eqb m mark) (get_or-set_same marks number mark 0 lt) ∙ eq-eqb mark mark refl
-            ∙ sym (has_number-push once number n ∙ or_true (has_number n once) (eqb number n) (eq-eqb number n (sym same)))
+        | inl same ↦ ap (λ m. eqb (get_or (set marks number mark) m 0) mark) same
+            ∙ ap (λ m. eqb m mark) (get_or-set_same marks number mark 0 lt) ∙ eq-eqb mark mark refl
+            ∙ sym (has_number-push once number n
+            ∙ or_true (has_number n once) (eqb number n) (eq-eqb number n (sym same)))
         | inr apart ↦ ap (λ m. eqb m mark) (get_or-set_other marks number n mark 0 apart) ∙ so_far.seen n
-            ∙ sym (has_number-push once number n ∙ ap (λ b. has_number n once || b) (ne_eqb number n (λ e. apart (sym e))) ∙ or_false_right (has_number n once))
+            ∙ sym (has_number-push once number n ∙ ap (λ b. has_number n once || b)
+            (ne_eqb number n (λ e. apart (sym e))) ∙ or_false_right (has_number n once))
       ];
     }
   where
@@ -366,12 +465,14 @@ once-push before next count mark number marks once so_far is lt other =
     or_false_right true = refl
     or_false_right false = refl
 
-pub once-same : (before next : List ℕ) (count mark number : ℕ) (marks once : List ℕ) → IsOnceSoFar before count mark marks once → next ≡ before ++ number ∷ []
+pub once-same : (before next : List ℕ) (count mark number : ℕ) (marks once : List ℕ)
+    → IsOnceSoFar before count mark marks once → next ≡ before ++ number ∷ []
     → get_or marks number 0 ≡ mark → IsOnceSoFar next count mark marks once
 once-same before next count mark number marks once so_far is here =
     let there : has_number number once ≡ true = sym (so_far.seen number) ∙ eq-eqb (get_or marks number 0) mark here in
     record {
-      once_is = sym (ap (λ b. cond b once (once ++ number ∷ [])) there) ∙ ap (λ ns. with_number ns number) so_far.once_is ∙ sym (ap once_of is ∙ with_numbers-push [] before number);
+      once_is = sym (ap (λ b. cond b once (once ++ number ∷ [])) there)
+          ∙ ap (λ ns. with_number ns number) so_far.once_is ∙ sym (ap once_of is ∙ with_numbers-push [] before number);
       count_is = so_far.count_is;
       marked = so_far.marked;
       seen = so_far.seen;
@@ -379,50 +480,69 @@ once-same before next count mark number marks once so_far is here =
 
 -- ---- all locations
 
-pub all_named : (draft : Draft) → All (λ (location : Location). All (λ number. number < length (frame_names draft)) (numbers_of draft location)) draft.locations
+pub all_named : (draft : Draft) → All (λ (location : Location). All
+    (λ number. number < length (frame_names draft)) (numbers_of draft location)) draft.locations
 all_named draft =
-    All-weaker (λ (location : Location). AllStand (frame_names draft) (location_frames draft location)) (λ (location : Location). All (λ number. number < length (frame_names draft)) (numbers_of draft location))
+    All-weaker (λ (location : Location). AllStand (frame_names draft) (location_frames draft location))
+    (λ (location : Location). All (λ number. number < length (frame_names draft)) (numbers_of draft location))
     (λ location stand. numbers_below (frame_names draft) (location_frames draft location) stand) draft.locations
-    (All-from_recursion (λ (location : Location). AllStand (frame_names draft) (location_frames draft location)) draft.locations (locations_stand draft))
+    (All-from_recursion (λ (location : Location). AllStand (frame_names draft) (location_frames draft location))
+    draft.locations (locations_stand draft))
 
-pub address_numbers_are : (draft : Draft) (locations : List Location) → map (number_of draft) (map (λ (location : Location). address_name location.address) locations) ≡ map (λ (location : Location). number_of draft (address_name location.address)) locations
+pub address_numbers_are : (draft : Draft) (locations : List Location)
+    → map (number_of draft) (map (λ (location : Location). address_name location.address) locations)
+    ≡ map (λ (location : Location). number_of draft (address_name location.address)) locations
 address_numbers_are draft [] = refl
-address_numbers_are draft (location ∷ locations) = ap (λ numbers. number_of draft (address_name location.address) ∷ numbers) (address_numbers_are draft locations)
+address_numbers_are draft (location ∷ locations) =
+    ap (λ numbers. number_of draft (address_name location.address) ∷ numbers) (address_numbers_are draft locations)
 
-text_push : (P : List ℕ → Type 0) (texts : List (List ℕ)) (text : List ℕ) → AllByRecursion P texts → P text → AllByRecursion P (texts ++ text ∷ [])
+text_push : (P : List ℕ → Type 0) (texts : List (List ℕ)) (text : List ℕ)
+    → AllByRecursion P texts → P text → AllByRecursion P (texts ++ text ∷ [])
 text_push P [] text all p = (p, tt)
 text_push P (first ∷ texts) text all p = (all.0, text_push P texts text all.1 p)
 
-texts_all : (P : List ℕ → Type 0) (start more : List (List ℕ)) → AllByRecursion P start → AllByRecursion P more → AllByRecursion P (with_texts start more)
+texts_all : (P : List ℕ → Type 0) (start more : List (List ℕ))
+    → AllByRecursion P start → AllByRecursion P more → AllByRecursion P (with_texts start more)
 texts_all P start [] all rest = all
 texts_all P start (text ∷ more) all rest = texts_all P (with_text start text) more
-    (elim (stands_in start text) as (λ b. AllByRecursion P (cond b start (start ++ text ∷ []))) [ true ↦ all | false ↦ text_push P start text all rest.0 ]) rest.1
+    (elim (stands_in start text) as (λ b. AllByRecursion P (cond b start (start ++ text ∷ []))) [
+      | true ↦ all
+      | false ↦ text_push P start text all rest.0
+    ]) rest.1
 
-pub texts_named : (P : List ℕ → Type 0) (front back : List (List ℕ)) → All P front → All P back → All P (with_texts (with_texts [] front) back)
+pub texts_named : (P : List ℕ → Type 0) (front back : List (List ℕ))
+    → All P front → All P back → All P (with_texts (with_texts [] front) back)
 texts_named P front back all rest =
-    All-from_recursion P (with_texts (with_texts [] front) back) (texts_all P (with_texts [] front) back (texts_all P [] front tt (recursion_from_All P front all)) (recursion_from_All P back rest))
+    All-from_recursion P (with_texts (with_texts [] front) back) (texts_all P (with_texts [] front) back
+    (texts_all P [] front tt (recursion_from_All P front all)) (recursion_from_All P back rest))
 
 -- ---- the deepest location
 
-deepest_bounds : (draft : Draft) (deepest : ℕ) (locations : List Location) → AllByRecursion (λ (frames : FrameNumbers). frames.depth ≤ deepest) (map (location_numbers draft) locations)
+deepest_bounds : (draft : Draft) (deepest : ℕ) (locations : List Location)
+    → AllByRecursion (λ (frames : FrameNumbers). frames.depth ≤ deepest) (map (location_numbers draft) locations)
     → (id : ℕ) → length (frames_at draft (item_with (λ (location : Location). location.id) id locations)) ≤ deepest
 deepest_bounds draft deepest [] all id = omega arith
 deepest_bounds draft deepest (location ∷ locations) all id =
-    elim (eqb location.id id) as (λ b. length (frames_at draft (cond b (Some location) (item_with (λ (location : Location). location.id) id locations))) ≤ deepest) [
-      | true ↦ let depth = length-map (location_frames draft location) (number_of draft) in let low = all.0 in omega (arith, depth, low)
+    elim (eqb location.id id) as (λ b. length (frames_at draft
+    (cond b (Some location) (item_with (λ (location : Location). location.id) id locations))) ≤ deepest) [
+      | true ↦ let depth =
+          length-map (location_frames draft location) (number_of draft) in let low = all.0 in omega (arith, depth, low)
       | false ↦ deepest_bounds draft deepest locations all.1 id
     ]
 
 -- a location has no more frames than the deepest
-pub within_deepest : (draft : Draft) (ids : List ℕ) (frames : List FrameNumbers) (deepest : ℕ) (names : List (List ℕ)) → AreFrameNumbers draft ids frames deepest names
+pub within_deepest : (draft : Draft) (ids : List ℕ) (frames : List FrameNumbers) (deepest : ℕ) (names : List (List ℕ))
+    → AreFrameNumbers draft ids frames deepest names
     → (id : ℕ) → length (frames_of_id draft id) ≤ deepest
 within_deepest draft ids frames deepest names this id =
     deepest_bounds draft deepest draft.locations
-    (recursion_from_All (λ (frames : FrameNumbers). frames.depth ≤ deepest) (map (location_numbers draft) draft.locations)
+    (recursion_from_All
+    (λ (frames : FrameNumbers). frames.depth ≤ deepest) (map (location_numbers draft) draft.locations)
     (subst (All (λ (frames : FrameNumbers). frames.depth ≤ deepest)) this.frames_are this.depths)) id
 
 -- so many locations have no more frames than so many of the deepest
-pub all_within : (draft : Draft) (deepest : ℕ) → ((id : ℕ) → length (frames_of_id draft id) ≤ deepest) → (ids : List ℕ) → length (frames_of_ids draft ids) ≤ deepest * length ids
+pub all_within : (draft : Draft) (deepest : ℕ) → ((id : ℕ) → length (frames_of_id draft id) ≤ deepest)
+    → (ids : List ℕ) → length (frames_of_ids draft ids) ≤ deepest * length ids
 all_within draft deepest each [] = omega arith
 all_within draft deepest each (id ∷ ids) =
     let here = each id in

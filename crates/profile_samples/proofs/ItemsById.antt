@@ -1,5 +1,6 @@
 -- Items by their ids, and addresses as names.
-use Rattle.std.proofs.Common.{◌≡◌, ◌≢◌, ℕ, zero, suc, ◌/◌, ◌%◌, ◌<◌, ◌≤◌, Bool, true, false, eqb, List, [], ◌∷◌, map, refl, sym, ap, ◌∙◌, subst, arith, inl, inr}
+use Rattle.std.proofs.Common.{◌≡◌, ◌≢◌, ℕ, zero, suc, ◌/◌, ◌%◌, ◌<◌, ◌≤◌, Bool, true, false, eqb, List, [], ◌∷◌, map}
+use Rattle.std.proofs.Common.{refl, sym, ap, ◌∙◌, subst, arith, inl, inr}
 use Rattle.std.specs.Prelude.{Option, Some, None, slice_get, ◌||◌, ◌&&◌, not, MatchOption, is_some, unwrap_or, cond}
 use Rattle.std.specs.List.{AllByRecursion}
 use Rattle.std.specs.Fmt.{digits, digits_onto, digit_glyph}
@@ -10,8 +11,10 @@ use Rattle.std.proofs.lemmas.Str.{IsUtf8-from_ascii}
 use Rattle.std.proofs.lemmas.Str.Ascii.{IsAscii-from_all}
 use Rattle.pprof_profile.specs.declared.messages.Draft.{Draft}
 use Rattle.pprof_profile.specs.declared.faults.ProfileFault.{ProfileFault}
-use Rattle.pprof_profile.specs.Valid.{IsValidDraft, all_index, begins_with_empty, function_ids, has_double, is_known, is_nonempty, location_ids, mapping_ids, no_double_id, no_zero_id}
-use Rattle.pprof_profile.specs.declared.faults.ProfileFault.TheVariants.{NoStrings, FirstString, StringIndex, ZeroId, DoubleId}
+use Rattle.pprof_profile.specs.Valid.{IsValidDraft, all_index, begins_with_empty, function_ids, has_double, is_known}
+use Rattle.pprof_profile.specs.Valid.{is_nonempty, location_ids, mapping_ids, no_double_id, no_zero_id}
+use Rattle.pprof_profile.specs.declared.faults.ProfileFault.TheVariants.{NoStrings, FirstString, StringIndex, ZeroId}
+use Rattle.pprof_profile.specs.declared.faults.ProfileFault.TheVariants.{DoubleId}
 use Rattle.profile_rows.specs.Names.{IsName}
 use Rattle.profile_samples.specs.Samples.{address_name, item_with}
 use Rattle.profile_samples.specs.Unfolding.{AreFunctionNames, AreLocationFrames}
@@ -26,7 +29,8 @@ some_same : (a b : ℕ) → Some a ≡ Some b → a ≡ b
 some_same a b e = ap (λ o. unwrap_or o a) e
 
 module _ {A : Type 0} (id_of : A → ℕ) where
-  known_later : (items : List A) (at : ℕ) (id : ℕ) → slice_get (map id_of items) at ≡ Some id → is_known (map id_of items) id ≡ true
+  known_later : (items : List A) (at : ℕ) (id : ℕ)
+      → slice_get (map id_of items) at ≡ Some id → is_known (map id_of items) id ≡ true
   known_later [] at id e = absurd (false≢true (ap is_some e))
   known_later (item ∷ items) zero id e = rw (eq-eqb id (id_of item) (sym (some_same (id_of item) id e))) refl
   known_later (item ∷ items) (suc at) id e = elim (cases_eq id (id_of item)) [
@@ -35,7 +39,8 @@ module _ {A : Type 0} (id_of : A → ℕ) where
   ]
 
   -- where ids differ, an item that has the id is the first one that does
-  pub item_with-place : (items : List A) (at id : ℕ) → has_double (map id_of items) ≡ false → slice_get (map id_of items) at ≡ Some id → item_with id_of id items ≡ slice_get items at
+  pub item_with-place : (items : List A) (at id : ℕ) → has_double (map id_of items) ≡ false
+      → slice_get (map id_of items) at ≡ Some id → item_with id_of id items ≡ slice_get items at
   item_with-place [] at id single e = absurd (false≢true (ap is_some e))
   item_with-place (item ∷ items) zero id single e = rw (eq-eqb (id_of item) id (some_same (id_of item) id e)) refl
   item_with-place (item ∷ items) (suc at) id single e =
@@ -46,21 +51,25 @@ module _ {A : Type 0} (id_of : A → ℕ) where
       ]
 
   -- an id that stands nowhere names no item
-  pub item_with-none : (items : List A) (id : ℕ) → ((at : ℕ) → slice_get (map id_of items) at ≢ Some id) → item_with id_of id items ≡ None
+  pub item_with-none : (items : List A) (id : ℕ)
+      → ((at : ℕ) → slice_get (map id_of items) at ≢ Some id) → item_with id_of id items ≡ None
   item_with-none [] id nowhere = refl
   item_with-none (item ∷ items) id nowhere =
-      rw (ne_eqb (id_of item) id (λ same. nowhere zero (ap Some same))) (item_with-none items id (λ at. nowhere (suc at)))
+      rw (ne_eqb (id_of item) id (λ same. nowhere zero (ap Some same)))
+      (item_with-none items id (λ at. nowhere (suc at)))
 
   -- what a search among the ids found
   pub item_with-found : (items : List A) (id : ℕ) (found : Option ℕ) → has_double (map id_of items) ≡ false
-      → MatchOption found ((at : ℕ) → slice_get (map id_of items) at ≢ Some id) (λ at. slice_get (map id_of items) at ≡ Some id)
+      → MatchOption found
+      ((at : ℕ) → slice_get (map id_of items) at ≢ Some id) (λ at. slice_get (map id_of items) at ≡ Some id)
       → item_with id_of id items ≡ option_and_then (λ at. slice_get items at) found
   item_with-found items id None single h = item_with-none items id h
   item_with-found items id (Some at) single h = item_with-place items at id single h
 
 -- ---- the ids of a valid profile
 
-pub rule_holds : (rule : Bool) (fault : ProfileFault) (rest : Option ProfileFault) → cond rule rest (Some fault) ≡ None → (rule ≡ true) × (rest ≡ None)
+pub rule_holds : (rule : Bool) (fault : ProfileFault) (rest : Option ProfileFault)
+    → cond rule rest (Some fault) ≡ None → (rule ≡ true) × (rest ≡ None)
 rule_holds true fault rest e = (refl, e)
 rule_holds false fault rest e = absurd (false≢true (sym (ap is_some e)))
 
@@ -69,31 +78,41 @@ not_true true e = absurd (false≢true e)
 not_true false e = refl
 
 -- in a valid profile the ids of locations differ, and so do those of functions
-pub ids_differ : (draft : Draft) → IsValidDraft draft → (has_double (location_ids draft) ≡ false) × (has_double (function_ids draft) ≡ false)
+pub ids_differ : (draft : Draft)
+    → IsValidDraft draft → (has_double (location_ids draft) ≡ false) × (has_double (function_ids draft) ≡ false)
 ids_differ draft valid =
     let after_strings = (rule_holds (is_nonempty draft.strings) NoStrings _ valid).1 in
     let after_first = (rule_holds (begins_with_empty draft.strings) FirstString _ after_strings).1 in
     let after_indices = (rule_holds (all_index draft) StringIndex _ after_first).1 in
     let after_zeros = (rule_holds (no_zero_id draft) ZeroId _ after_indices).1 in
     let single = (rule_holds (no_double_id draft) DoubleId _ after_zeros).0 in
-    let front = and_parts (not (has_double (mapping_ids draft)) && not (has_double (location_ids draft))) (not (has_double (function_ids draft))) single in
+    let front = and_parts (not (has_double (mapping_ids draft)) && not (has_double (location_ids draft)))
+    (not (has_double (function_ids draft))) single in
     let locations = and_parts (not (has_double (mapping_ids draft))) (not (has_double (location_ids draft))) front.0 in
     (not_true (has_double (location_ids draft)) locations.1, not_true (has_double (function_ids draft)) front.1)
 
 -- a search among the ids finds the function or location that an id names
-pub function_found : (draft : Draft) (ids : List ℕ) (names : List (Option (List ℕ))) (id : ℕ) (found : Option ℕ) → AreFunctionNames draft ids names
+pub function_found : (draft : Draft) (ids : List ℕ) (names : List (Option (List ℕ))) (id : ℕ) (found : Option ℕ)
+    → AreFunctionNames draft ids names
     → MatchOption found ((at : ℕ) → slice_get ids at ≢ Some id) (λ at. slice_get ids at ≡ Some id)
-    → item_with (λ function. function.id) id draft.functions ≡ option_and_then (λ at. slice_get draft.functions at) found
+    → item_with (λ function. function.id) id draft.functions
+    ≡ option_and_then (λ at. slice_get draft.functions at) found
 function_found draft ids names id found this h =
-    item_with-found (λ function. function.id) draft.functions id found (subst (λ i. has_double i ≡ false) this.ids_are this.single)
-    (subst (λ (i : List ℕ). MatchOption found ((at : ℕ) → slice_get i at ≢ Some id) (λ at. slice_get i at ≡ Some id)) this.ids_are h)
+    item_with-found
+    (λ function. function.id) draft.functions id found (subst (λ i. has_double i ≡ false) this.ids_are this.single)
+    (subst (λ (i : List ℕ). MatchOption found ((at : ℕ) → slice_get i at ≢ Some id) (λ at. slice_get i at ≡ Some id))
+    this.ids_are h)
 
-pub location_found : (draft : Draft) (ids : List ℕ) (frames : List (List (List ℕ))) (id : ℕ) (found : Option ℕ) → AreLocationFrames draft ids frames
+pub location_found : (draft : Draft) (ids : List ℕ) (frames : List (List (List ℕ))) (id : ℕ) (found : Option ℕ)
+    → AreLocationFrames draft ids frames
     → MatchOption found ((at : ℕ) → slice_get ids at ≢ Some id) (λ at. slice_get ids at ≡ Some id)
-    → item_with (λ location. location.id) id draft.locations ≡ option_and_then (λ at. slice_get draft.locations at) found
+    → item_with (λ location. location.id) id draft.locations
+    ≡ option_and_then (λ at. slice_get draft.locations at) found
 location_found draft ids frames id found this h =
-    item_with-found (λ location. location.id) draft.locations id found (subst (λ i. has_double i ≡ false) this.ids_are this.single)
-    (subst (λ (i : List ℕ). MatchOption found ((at : ℕ) → slice_get i at ≢ Some id) (λ at. slice_get i at ≡ Some id)) this.ids_are h)
+    item_with-found
+    (λ location. location.id) draft.locations id found (subst (λ i. has_double i ≡ false) this.ids_are this.single)
+    (subst (λ (i : List ℕ). MatchOption found ((at : ℕ) → slice_get i at ≢ Some id) (λ at. slice_get i at ≡ Some id))
+    this.ids_are h)
 
 -- ---- addresses
 
@@ -107,25 +126,39 @@ glyph d small = elim (cases_lt d 10) [
   | inr high ↦ rw (le-ltb d 10 high) (omega arith, omega arith, λ e. absurd (omega (arith, e, high)))
 ]
 
-hexadecimal : (k n : ℕ) (more : List ℕ) → AllByRecursion IsHexadecimal more → AllByRecursion IsHexadecimal (digits_onto k 16 false n more)
+hexadecimal : (k n : ℕ) (more : List ℕ)
+    → AllByRecursion IsHexadecimal more → AllByRecursion IsHexadecimal (digits_onto k 16 false n more)
 hexadecimal zero n more all = all
 hexadecimal (suc k) n more all =
     let here : AllByRecursion IsHexadecimal (digit_glyph false (n % 16) ∷ more) = (glyph (n % 16) (omega arith), all) in
-    elim (eqb (n / 16) 0) as (λ b. eqb (n / 16) 0 ≡ b → AllByRecursion IsHexadecimal (digits_onto (suc k) 16 false n more)) [
+    elim (eqb (n / 16) 0) as (λ b. eqb (n / 16) 0 ≡ b
+    → AllByRecursion IsHexadecimal (digits_onto (suc k) 16 false n more)) [
       | true ↦ λ e. rw e here
       | false ↦ λ e. rw e (hexadecimal k (n / 16) (digit_glyph false (n % 16) ∷ more) here)
     ] refl
 
-each_of : (P Q : ℕ → Type 0) (bytes : List ℕ) → ((byte : ℕ) → P byte → Q byte) → AllByRecursion P bytes → AllByRecursion Q bytes
+each_of : (P Q : ℕ → Type 0) (bytes : List ℕ)
+    → ((byte : ℕ) → P byte → Q byte) → AllByRecursion P bytes → AllByRecursion Q bytes
 each_of P Q [] h all = tt
 each_of P Q (byte ∷ bytes) h all = (h byte all.0, each_of P Q bytes h all.1)
 
 prefixed : (bytes : List ℕ) → AllByRecursion IsHexadecimal bytes → IsName (48 ∷ 120 ∷ bytes)
 prefixed bytes all = record {
-  utf8 = IsUtf8-from_ascii (48 ∷ 120 ∷ bytes) (IsAscii-from_all (48 ∷ 120 ∷ bytes) (All-from_recursion (λ b. b < 128) (48 ∷ 120 ∷ bytes) (omega arith, (omega arith, each_of IsHexadecimal (λ b. b < 128) bytes (λ byte h. h.1) all))));
+  utf8 = IsUtf8-from_ascii (48 ∷ 120 ∷ bytes) (IsAscii-from_all (48 ∷ 120 ∷ bytes) (All-from_recursion (λ b. b < 128)
+      (48 ∷ 120 ∷ bytes) (omega arith, (omega arith, each_of IsHexadecimal (λ b. b < 128) bytes (λ byte h. h.1) all))));
   not_empty = omega arith;
-  no_separator = All-from_recursion (λ b. b ≢ 59) (48 ∷ 120 ∷ bytes) ((λ e. absurd (omega (arith, e))), ((λ e. absurd (omega (arith, e))), each_of IsHexadecimal (λ b. b ≢ 59) bytes (λ byte h. h.2) all));
-  no_line_feed = All-from_recursion (λ b. b ≢ 10) (48 ∷ 120 ∷ bytes) ((λ e. absurd (omega (arith, e))), ((λ e. absurd (omega (arith, e))), each_of IsHexadecimal (λ b. b ≢ 10) bytes (λ byte h e. absurd (omega (arith, e, h.0))) all));
+  no_separator = All-from_recursion (λ b. b ≢ 59) (48 ∷ 120 ∷ bytes) (
+    (λ e. absurd (omega (arith, e))),
+    ((λ e. absurd (omega (arith, e))), each_of IsHexadecimal (λ b. b ≢ 59) bytes (λ byte h. h.2) all),
+  );
+  no_line_feed = All-from_recursion
+      (λ b. b ≢ 10) (48 ∷ 120 ∷ bytes) (
+        (λ e. absurd (omega (arith, e))),
+        (
+          (λ e. absurd (omega (arith, e))),
+          each_of IsHexadecimal (λ b. b ≢ 10) bytes (λ byte h e. absurd (omega (arith, e, h.0))) all,
+        ),
+      );
 }
 
 pub IsName-address : (address : ℕ) → IsName (address_name address)

@@ -15,13 +15,19 @@ use Rattle.profile_samples.specs.MergedSamples.{IsMergedBatch}
 use Rattle.profile_samples.proofs.SampleRows.{AreStacksOf-same, IsFirstStacksFault-batch}
 
 -- what the samples answer
-pub only_batch_sums : (draft : Draft) (choice : ValueChoice) (outcome : Result (List WeightedStack) BatchFault) → MatchResult outcome (λ sums. IsMergedBatch draft choice sums) (λ fault. IsFirstStacksFault draft choice fault)
-    → (rows : List WeightedStack) → AreStacksOf draft choice rows → MatchResult outcome (λ sums. aggregate_of sums ≡ aggregate_of rows) (λ fault. fault ≡ batch.NoMemory)
-only_batch_sums draft choice (Ok sums) read rows this = read.same ∙ ap aggregate_of (AreStacksOf-same draft choice read.rows rows read.sampled this)
+pub only_batch_sums : (draft : Draft) (choice : ValueChoice) (outcome : Result (List WeightedStack) BatchFault)
+    → MatchResult outcome (λ sums. IsMergedBatch draft choice sums) (λ fault. IsFirstStacksFault draft choice fault)
+    → (rows : List WeightedStack) → AreStacksOf draft choice rows
+    → MatchResult outcome (λ sums. aggregate_of sums ≡ aggregate_of rows) (λ fault. fault ≡ batch.NoMemory)
+only_batch_sums draft choice (Ok sums) read rows this = read.same
+    ∙ ap aggregate_of (AreStacksOf-same draft choice read.rows rows read.sampled this)
 only_batch_sums draft choice (Err fault) read rows this = IsFirstStacksFault-batch draft choice rows fault this read
 
 -- what counting the samples answers
-pub only_sample_totals : (draft : Draft) (choice : ValueChoice) (outcome : Result FrameTotals BatchFault) → MatchResult outcome (AreTotalsOfSamples draft choice) (λ fault. IsFirstStacksFault draft choice fault)
-    → (rows : List WeightedStack) → AreStacksOf draft choice rows → MatchResult outcome (AreTotalsOf rows) (λ fault. fault ≡ batch.NoMemory)
-only_sample_totals draft choice (Ok totals) read rows this = subst (λ some. AreTotalsOf some totals) (AreStacksOf-same draft choice read.rows rows read.sampled this) read.totals_rows
+pub only_sample_totals : (draft : Draft) (choice : ValueChoice) (outcome : Result FrameTotals BatchFault)
+    → MatchResult outcome (AreTotalsOfSamples draft choice) (λ fault. IsFirstStacksFault draft choice fault)
+    → (rows : List WeightedStack)
+    → AreStacksOf draft choice rows → MatchResult outcome (AreTotalsOf rows) (λ fault. fault ≡ batch.NoMemory)
+only_sample_totals draft choice (Ok totals) read rows this = subst
+    (λ some. AreTotalsOf some totals) (AreStacksOf-same draft choice read.rows rows read.sampled this) read.totals_rows
 only_sample_totals draft choice (Err fault) read rows this = IsFirstStacksFault-batch draft choice rows fault this read

@@ -1,5 +1,6 @@
 -- Where ids stand.
-use Rattle.std.specs.Prelude.{ℕ, zero, suc, ◌≡◌, ◌≢◌, ◌-◌, ◌==◌, List, Option, Some, None, MatchOption, cond, nat_lt, slice_get, slice_index_or}
+use Rattle.std.specs.Prelude.{ℕ, zero, suc, ◌≡◌, ◌≢◌, ◌-◌, ◌==◌, List, Option, Some, None, MatchOption, cond, nat_lt}
+use Rattle.std.specs.Prelude.{slice_get, slice_index_or}
 use Rattle.std.specs.HashMap as hash
 use Rattle.std.specs.Option.{option_or}
 use Rattle.profile_samples.specs.declared.id_places.PlaceTable.{PlaceTable}

@@ -23,7 +23,8 @@ copied R v w exact is = ⊎_elim (λ e. ap (λ u. u.items) e) (λ copy. same_fro
 -- the same of what the items have in common with those that they are copies of
 pub copied_by : {X Y Z L : Type 0} (f : X → Y) (R : X → X → Type 0) (v w : Vec X Z) → ((x y : X) → R x y → f y ≡ f x)
     → (w ≡ v) ⊎ (AllZip R v.items w.items × L) → map f w.items ≡ map f v.items
-copied_by f R v w same is = ⊎_elim (λ e. ap (λ u. map f u.items) e) (λ copy. clones_same f R v.items w.items same copy.0) is
+copied_by f R v w same is =
+    ⊎_elim (λ e. ap (λ u. map f u.items) e) (λ copy. clones_same f R v.items w.items same copy.0) is
 
 pub on_err : {T E P : Type 0} (r : Result T E) → P → OnErr r P
 on_err (Ok value) p = tt

@@ -1,9 +1,11 @@
 -- Items on shelves, and the last ones behind them.
-use Rattle.std.proofs.Common.{◌≡◌, ℕ, suc, ◌+◌, ◌<◌, ◌≤◌, ◌-◌, List, [], ◌∷◌, ◌++◌, length, get_or, take, sym, ap, ◌∙◌, subst, arith, inl, inr}
+use Rattle.std.proofs.Common.{◌≡◌, ℕ, suc, ◌+◌, ◌<◌, ◌≤◌, ◌-◌, List, [], ◌∷◌, ◌++◌, length, get_or, take, sym, ap, ◌∙◌}
+use Rattle.std.proofs.Common.{subst, arith, inl, inr}
 use Rattle.std.proofs.Math.ListN.{set}
 use Rattle.std.proofs.Math.Seq.{take-length, take-set-lt, take-suc, take-suc-set}
 use Rattle.std.proofs.lemmas.Bool.{cases_lt}
-use Rattle.std.proofs.lemmas.List.{append_assoc, length-set, length_push, length-take-le, set-append_left, set-append_right, take-append-le, take-set-le}
+use Rattle.std.proofs.lemmas.List.{append_assoc, length-set, length_push, length-take-le, set-append_left}
+use Rattle.std.proofs.lemmas.List.{set-append_right, take-append-le, take-set-le}
 use Rattle.shared_pages.specs.Pages.{IsInPages, with_item}
 use Rattle.shared_pages.proofs.Chunks.{with_item-end, with_item-in}
 
@@ -38,7 +40,8 @@ module _ {X : Type 0} where
     pub all : take (from + count) shelves ≡ take from before ++ take count items
 
   module _ (before shelves : List X) (from : ℕ) (items : List X) (count : ℕ) (item : X)
-      (are : ArePut before shelves from items count) (lt : count < length items) (item_is : item ≡ get_or items count item) where
+      (are : ArePut before shelves from items count)
+      (lt : count < length items) (item_is : item ≡ get_or items count item) where
     -- one item more among those put
     one_more : take from before ++ (take count items ++ item ∷ []) ≡ take from before ++ take (suc count) items
     one_more = ap (λ list. take from before ++ list)
@@ -73,7 +76,8 @@ module _ {X : Type 0} where
               ∙ one_more;
         }
 
-    pub put_next : (next : List X) → next ≡ with_item (from + count) item shelves → ArePut before next from items (suc count)
+    pub put_next : (next : List X)
+        → next ≡ with_item (from + count) item shelves → ArePut before next from items (suc count)
     put_next next next_is = elim (cases_lt (from + count) (length shelves)) [
       | inl inside ↦ subst (λ list. ArePut before list from items (suc count))
           (sym (next_is ∙ with_item-in (from + count) item shelves inside)) (in_place inside)

@@ -1,20 +1,25 @@
 -- Items in parts of one size, each of which stands for its items: one read, and one put.
-use Rattle.std.proofs.Common.{◌≡◌, ℕ, ◌+◌, ◌*◌, ◌<◌, ◌≤◌, List, [], ◌∷◌, ◌++◌, length, map, get_or, sym, ap, ◌∙◌, subst, arith}
+use Rattle.std.proofs.Common.{◌≡◌, ℕ, ◌+◌, ◌*◌, ◌<◌, ◌≤◌, List, [], ◌∷◌, ◌++◌, length, map, get_or, sym, ap, ◌∙◌, subst}
+use Rattle.std.proofs.Common.{arith}
 use Rattle.std.proofs.Math.ListN.{set}
 use Rattle.std.proofs.Math.Seq.{map-set_same}
 use Rattle.std.proofs.lemmas.List.{get_or-map, length-map, map-set, map-append}
 use Rattle.shared_pages.specs.Pages.{AreChunks, chunk_at, joined, with_item}
-use Rattle.shared_pages.proofs.Chunks.{read_chunk, put_chunk, put_kept, push_chunk, push_kept, chunk_lt, place_lt, place_le}
+use Rattle.shared_pages.proofs.Chunks.{read_chunk, put_chunk, put_kept, push_chunk, push_kept, chunk_lt, place_lt}
+use Rattle.shared_pages.proofs.Chunks.{place_le}
 
-module _ {X A : Type 0} (items_of : A → List X) (size : ℕ) (parts : List A) (at k j : ℕ) (at_is : at ≡ k * size + j) (short : j < size)
+module _ {X A : Type 0}
+    (items_of : A → List X) (size : ℕ) (parts : List A) (at k j : ℕ) (at_is : at ≡ k * size + j) (short : j < size)
     (are : AreChunks size (map items_of parts)) where
   -- ---- an item as the code reads it: its part, then the item
 
   module _ (within : at < length (joined (map items_of parts))) where
     pub seen_part_lt : k < length parts
-    seen_part_lt = omega (arith, chunk_lt size (map items_of parts) at k j are at_is short within, length-map parts items_of)
+    seen_part_lt =
+        omega (arith, chunk_lt size (map items_of parts) at k j are at_is short within, length-map parts items_of)
 
-    module _ (part : A) (part_is : part ≡ get_or parts k part) (items : List X) (items_are : items ≡ items_of part) where
+    module _ (part : A)
+        (part_is : part ≡ get_or parts k part) (items : List X) (items_are : items ≡ items_of part) where
       seen_part : chunk_at (map items_of parts) k ≡ items
       seen_part = get_or-map items_of parts k part [] seen_part_lt ∙ ap items_of (sym part_is) ∙ sym items_are
 
@@ -28,7 +33,8 @@ module _ {X A : Type 0} (items_of : A → List X) (size : ℕ) (parts : List A) 
       seen_item_lt = omega (arith, there_at, ap length seen_part)
 
       pub seen_item : (d : X) → get_or (joined (map items_of parts)) at d ≡ get_or items j d
-      seen_item d = read_chunk size (map items_of parts) at k j d are at_is there_in there_at ∙ ap (λ chunk. get_or chunk j d) seen_part
+      seen_item d = read_chunk size (map items_of parts) at k j d are at_is there_in there_at
+          ∙ ap (λ chunk. get_or chunk j d) seen_part
 
   -- ---- an item put into its part
 
@@ -47,14 +53,17 @@ module _ {X A : Type 0} (items_of : A → List X) (size : ℕ) (parts : List A) 
       same_part next next_is = map-set_same items_of parts k next part (next_is ∙ ap items_of part_is)
 
       module _ (next : A) (next_is : items_of next ≡ with_item j item (items_of part)) where
-        put_is : map items_of (set parts k next) ≡ set (map items_of parts) k (with_item j item (chunk_at (map items_of parts) k))
-        put_is = map-set items_of parts k next ∙ ap (set (map items_of parts) k) (next_is ∙ ap (with_item j item) (sym had))
+        put_is : map items_of (set parts k next)
+            ≡ set (map items_of parts) k (with_item j item (chunk_at (map items_of parts) k))
+        put_is = map-set items_of parts k next
+            ∙ ap (set (map items_of parts) k) (next_is ∙ ap (with_item j item) (sym had))
 
         pub put_part : joined (map items_of (set parts k next)) ≡ with_item at item (joined (map items_of parts))
         put_part = ap joined put_is ∙ put_chunk size (map items_of parts) at k j item are at_is within short there
 
         pub put_part_kept : AreChunks size (map items_of (set parts k next))
-        put_part_kept = subst (AreChunks size) (sym put_is) (put_kept size (map items_of parts) at k j are at_is short item there within)
+        put_part_kept = subst
+            (AreChunks size) (sym put_is) (put_kept size (map items_of parts) at k j are at_is short item there within)
 
     module _ (past : length parts ≤ k) (part : A) (part_is : items_of part ≡ item ∷ []) where
       beyond : length (map items_of parts) ≤ k
@@ -68,4 +77,5 @@ module _ {X A : Type 0} (items_of : A → List X) (size : ℕ) (parts : List A) 
 
       pub push_part_kept : AreChunks size (map items_of (parts ++ part ∷ []))
       push_part_kept =
-          subst (AreChunks size) (sym pushed_is) (push_kept size (map items_of parts) at k j are at_is short item (omega (arith, short)) beyond within)
+          subst (AreChunks size) (sym pushed_is)
+          (push_kept size (map items_of parts) at k j are at_is short item (omega (arith, short)) beyond within)

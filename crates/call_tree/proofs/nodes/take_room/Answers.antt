@@ -11,16 +11,21 @@ loop-index-preserved c =
     let index = c.loop-index.index in
     let room = c.loop-index.invariant in
     let lt : index < length tables = omega (arith, c.loop-index-test.true, c.len-index-end.ensures, room.count) in
-    let table_is : c.index_mut-table.result.now ≡ table_of tables index = get_or_read tables index c.index_mut-table.result.now lt c.index_mut-table.ensures.value [] in
+    let table_is : c.index_mut-table.result.now ≡ table_of tables index =
+    get_or_read tables index c.index_mut-table.result.now lt c.index_mut-table.ensures.value [] in
     elim c.if-len-size.branch [
       | then-len-size+in_ok-append w ↦
-          HaveRoom-made c.args.size c.args.tables.now.items tables index room lt c.if-len-size.tables.items w.append.new.self
-          (ap length (sym table_is) ∙ sym c.len.ensures ∙ w.if-len-size.true) (w.in_ok-append.ensures.ok ∙ ap (λ t. t ++ 0 ∷ []) table_is) (ap (λ v. v.items) w.tables-is)
+          HaveRoom-made
+          c.args.size c.args.tables.now.items tables index room lt c.if-len-size.tables.items w.append.new.self
+          (ap length (sym table_is) ∙ sym c.len.ensures ∙ w.if-len-size.true)
+          (w.in_ok-append.ensures.ok ∙ ap (λ t. t ++ 0 ∷ []) table_is) (ap (λ v. v.items) w.tables-is)
       | else-len-size w ↦
           let long = room.kept.long index lt in
           let same = ap length table_is in
-          let other : length c.index_mut-table.result.now ≡ c.args.size → ⊥ = λ e. w.if-len-size.false (c.len.ensures ∙ e) in
-          let next : c.if-len-size.tables.items ≡ tables = ap (λ v. v.items) w.tables-is ∙ ap (set tables index) table_is ∙ set-get_or tables index [] in
+          let other : length c.index_mut-table.result.now ≡ c.args.size
+          → ⊥ = λ e. w.if-len-size.false (c.len.ensures ∙ e) in
+          let next : c.if-len-size.tables.items ≡ tables = ap (λ v. v.items) w.tables-is
+          ∙ ap (set tables index) table_is ∙ set-get_or tables index [] in
           subst (λ ts. HaveRoom c.args.size c.args.tables.now.items ts (index + 1)) (sym next)
           (HaveRoom-had c.args.size c.args.tables.now.items tables index room lt (omega (arith, long, same, other)))
     ]

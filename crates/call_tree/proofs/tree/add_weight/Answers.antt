@@ -11,10 +11,13 @@ overflow_add-node c =
 pub returns-clause-trees : goal.returns-clause-trees
 returns-clause-trees c =
     let value = c.args.value in
-    let done = finished _ _ _ _ _ c.read-node.result (c.requires.trees value c.requires.value) c.requires.within c.requires.fits c.read-node.ensures c.in_ok-replace.ensures.here in
-    AreTrees-raised c.args.names.now c.args.nodes.now c.replace.new.self value c.requires.trees c.in_ok-replace.ensures.width done.tree c.in_ok-replace.ensures.others
+    let done = finished _ _ _ _ _ c.read-node.result (c.requires.trees value c.requires.value)
+    c.requires.within c.requires.fits c.read-node.ensures c.in_ok-replace.ensures.here in
+    AreTrees-raised c.args.names.now c.args.nodes.now
+    c.replace.new.self value c.requires.trees c.in_ok-replace.ensures.width done.tree c.in_ok-replace.ensures.others
 
 pub returns-clause-nodes : goal.returns-clause-nodes
 returns-clause-nodes c =
     let value = c.args.value in
-    (finished _ _ _ _ _ c.read-node.result (c.requires.trees value c.requires.value) c.requires.within c.requires.fits c.read-node.ensures c.in_ok-replace.ensures.here).rows
+    (finished _ _ _ _ _ c.read-node.result (c.requires.trees value c.requires.value)
+    c.requires.within c.requires.fits c.read-node.ensures c.in_ok-replace.ensures.here).rows

@@ -7,4 +7,5 @@ use Rattle.collector.specs.Dealt.{rows_dealt}
 use Rattle.collector.proofs.collecting.collect_in.Goals as goal
 
 pub returns : goal.returns
-returns g c = c.in_ok-text.ensures ∙ ap (λ (lists : List (List PlainOp)). folded_text_of (rows_at 0 (rows_dealt lists))) c.in_ok-earlier.ensures
+returns g c = c.in_ok-text.ensures
+    ∙ ap (λ (lists : List (List PlainOp)). folded_text_of (rows_at 0 (rows_dealt lists))) c.in_ok-earlier.ensures

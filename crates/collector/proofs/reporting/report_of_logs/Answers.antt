@@ -28,17 +28,23 @@ returns c =
     let operations : List PlainOp = operations_of c.args.journal.now.entries in
     let begins : place ≡ counting_from operations = c.counting_from-reset.ensures in
     let before : list_all (λ (log : SessionLog). list_all (stands_before place) log.receipts) earlier ≡ true =
-    sym (ap (λ (logs : List SessionLog). list_all (λ (log : SessionLog). list_all (stands_before place) log.receipts) logs) c.as_slice.ensures.value)
+    sym (ap (λ (logs : List SessionLog). list_all
+    (λ (log : SessionLog). list_all (stands_before place) log.receipts) logs) c.as_slice.ensures.value)
     ∙ sym c.are_before.ensures ∙ c.if-not-are_before.false in
     let behind : list_all (λ (log : SessionLog). list_all (stands_behind place) log.receipts) last ≡ true =
-    sym (ap (λ (logs : List SessionLog). list_all (λ (log : SessionLog). list_all (stands_behind place) log.receipts) logs) c.as_slice-else-not-are_before.ensures.value)
+    sym (ap (λ (logs : List SessionLog). list_all (λ (log : SessionLog). list_all (stands_behind place) log.receipts)
+    logs) c.as_slice-else-not-are_before.ensures.value)
     ∙ sym c.are_behind.ensures ∙ c.if-not-are_behind.false in
     let all : c.as_slice-2.result.now ≡ earlier ++ last = c.as_slice-2.ensures.value ∙ c.in_ok-append.ensures.items in
-    let told : rows_logged (counting_from operations) c.as_slice-2.result.now ≡ rows_dealt (map (λ (log : SessionLog). ops_told log.receipts) last) =
-    ap (λ n. rows_logged n c.as_slice-2.result.now) (sym begins) ∙ ap (rows_logged place) all ∙ both_sides place earlier last before behind in
-    let sums = c.logs_add_up.ensures c.as_slice-2.result.now c.in_ok-audit.field-0 operations c.in_ok-audit.ensures.each_receipt_once c.in_ok-audit.ensures.legal c.in_ok-audit.ensures.changes 0 in
+    let told : rows_logged (counting_from operations) c.as_slice-2.result.now
+    ≡ rows_dealt (map (λ (log : SessionLog). ops_told log.receipts) last) =
+    ap (λ n. rows_logged n c.as_slice-2.result.now) (sym begins)
+    ∙ ap (rows_logged place) all ∙ both_sides place earlier last before behind in
+    let sums = c.logs_add_up.ensures c.as_slice-2.result.now c.in_ok-audit.field-0 operations
+    c.in_ok-audit.ensures.each_receipt_once c.in_ok-audit.ensures.legal c.in_ok-audit.ensures.changes 0 in
     let replay : IsReplay c.args.journal.now.entries c.args.journal.now.tree = c.tree.ensures.replay in
     let rows : List Row = rows_dealt (map (λ (log : SessionLog). ops_told log.receipts) last) in
     let weights : aggregate_of (rows_at 0 rows) ≡ weights_of c.tree.result.now 0 =
-    ap (λ (rows : List Row). aggregate_of (rows_at 0 rows)) (sym told) ∙ sums ∙ sym (replay.aggregate 0) ∙ ap (λ (tree : TreeState). weights_of tree 0) (sym c.tree.ensures.tree) in
+    ap (λ (rows : List Row). aggregate_of (rows_at 0 rows)) (sym told)
+    ∙ sums ∙ sym (replay.aggregate 0) ∙ ap (λ (tree : TreeState). weights_of tree 0) (sym c.tree.ensures.tree) in
     c.in_ok-text.ensures rows weights

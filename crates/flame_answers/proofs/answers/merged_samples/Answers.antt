@@ -6,10 +6,14 @@ use Rattle.flame_answers.proofs.Inputs.{batch_refused, profile_refused}
 use Rattle.flame_answers.proofs.answers.merged_samples.Goals as goal
 
 pub returns-in-Err : goal.returns-in-Err
-returns-in-Err c = subst (λ (fault : ToolFault). IsRefusedIn Pprof c.args.value.now c.args.input.now fault) (sym c.profile_fault.ensures)
-    (profile_refused c.args.value.now c.args.input.now c.in-Err.fault c.in-Err.ensures.fault c.in-Err.ensures.every_profile)
+returns-in-Err c = subst
+    (λ (fault : ToolFault). IsRefusedIn Pprof c.args.value.now c.args.input.now fault) (sym c.profile_fault.ensures)
+    (profile_refused
+    c.args.value.now c.args.input.now c.in-Err.fault c.in-Err.ensures.fault c.in-Err.ensures.every_profile)
 
 pub returns : goal.returns
-returns c = subst (λ (fault : ToolFault). IsRefusedIn Pprof c.args.value.now c.args.input.now fault) (sym c.batch_fault.ensures)
-    (batch_refused c.args.value.now c.args.input.now c.in-Ok.profile c.choice_of.result c.in-Err-merge_samples.fault c.in-Ok.ensures.read (λ other is. c.in-Ok.ensures.every_profile other is) c.choice_of.ensures
+returns c =
+    subst (λ (fault : ToolFault). IsRefusedIn Pprof c.args.value.now c.args.input.now fault) (sym c.batch_fault.ensures)
+    (batch_refused c.args.value.now c.args.input.now c.in-Ok.profile c.choice_of.result c.in-Err-merge_samples.fault
+    c.in-Ok.ensures.read (λ other is. c.in-Ok.ensures.every_profile other is) c.choice_of.ensures
     c.in-Err-merge_samples.ensures.read c.in-Err-merge_samples.ensures.accepted)

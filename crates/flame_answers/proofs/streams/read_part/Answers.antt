@@ -7,7 +7,12 @@ returns-then-count-room g c start taken =
     let front = take c.in-Ok.count c.read.new.buf in
     let fits : c.in-Ok.count ≤ length c.read.new.buf = search rules in (
       c.args.input.now.items ++ front,
-      omega (arith, length-append c.args.input.now.items front, length-take-le c.in-Ok.count c.read.new.buf fits, length-take c.min-part.result c.args.buffer.now),
+      omega (
+        arith,
+        length-append c.args.input.now.items front,
+        length-take-le c.in-Ok.count c.read.new.buf fits,
+        length-take c.min-part.result c.args.buffer.now,
+      ),
       Consumes-trans _ _ _ _ _ taken c.in-Ok.ensures.bytes.0,
     )
 
@@ -16,6 +21,11 @@ returns-in-Err-extend_from_slice g c start taken =
     let front = take c.in-Ok.count c.read.new.buf in
     let fits : c.in-Ok.count ≤ length c.read.new.buf = search rules in (
       c.args.input.now.items ++ front,
-      omega (arith, length-append c.args.input.now.items front, length-take-le c.in-Ok.count c.read.new.buf fits, length-take c.min-part.result c.args.buffer.now),
+      omega (
+        arith,
+        length-append c.args.input.now.items front,
+        length-take-le c.in-Ok.count c.read.new.buf fits,
+        length-take c.min-part.result c.args.buffer.now,
+      ),
       Consumes-trans _ _ _ _ _ taken c.in-Ok.ensures.bytes.0,
     )

@@ -5,4 +5,5 @@ use Rattle.std.proofs.lemmas.Iterator.Adapters.{YieldsList-from_vec}
 use Rattle.flame_program.proofs.process.owned_words.Goals as goal
 
 pub returns : goal.returns
-returns c = items_from_collect _ c.collect.ensures.ran (YieldsList-from_vec (into_iter_items c.args.words) refl c.args.words.rest.ok.0)
+returns c = items_from_collect _ c.collect.ensures.ran
+    (YieldsList-from_vec (into_iter_items c.args.words) refl c.args.words.rest.ok.0)

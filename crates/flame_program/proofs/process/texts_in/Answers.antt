@@ -6,4 +6,5 @@ use Rattle.flame_program.proofs.process.texts_in.Goals as goal
 pub returns : goal.returns
 returns c = map_from_collect _ c.collect.ensures.ran
     (YieldsList-from_map_by _ (λ text. text.now) string_bytes
-    (YieldsList-at c.map.ensures.source (YieldsList-from_slice c.args.words.now c.iter.ensures.rest)) c.map.ensures.closure (λ x r q k. search (rules, tests)))
+    (YieldsList-at c.map.ensures.source (YieldsList-from_slice c.args.words.now c.iter.ensures.rest))
+    c.map.ensures.closure (λ x r q k. search (rules, tests)))

@@ -11,8 +11,10 @@ pub returns-clause-ends : goal.returns-clause-ends
 returns-clause-ends c = child_ends_inside
 
 pub returns-clause-left : goal.returns-clause-left
-returns-clause-left c = λ columns rows path rest. columns_keep_order columns (total_of rows) (path_start rows path) (path_start rows (path ++ rest)) (child_starts_inside rows path rest)
+returns-clause-left c = λ columns rows path rest. columns_keep_order columns
+    (total_of rows) (path_start rows path) (path_start rows (path ++ rest)) (child_starts_inside rows path rest)
 
 pub returns-clause-right : goal.returns-clause-right
 returns-clause-right c = λ columns rows path rest.
-    columns_keep_order columns (total_of rows) (path_start rows (path ++ rest) + path_weight rows (path ++ rest)) (path_start rows path + path_weight rows path) (child_ends_inside rows path rest)
+    columns_keep_order columns (total_of rows) (path_start rows (path ++ rest) + path_weight rows (path ++ rest))
+    (path_start rows path + path_weight rows path) (child_ends_inside rows path rest)

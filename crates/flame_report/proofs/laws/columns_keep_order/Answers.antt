@@ -10,4 +10,5 @@ returns-clause-weights c = siblings-order
 
 pub returns-clause-columns : goal.returns-clause-columns
 returns-clause-columns c = λ columns rows path child later less.
-    spans.columns_keep_order columns (total_of rows) (path_start rows (path ++ child ∷ []) + path_weight rows (path ++ child ∷ [])) (path_start rows (path ++ later ∷ [])) (siblings-order rows path child later less)
+    spans.columns_keep_order columns (total_of rows) (path_start rows (path ++ child ∷ []) + path_weight rows
+    (path ++ child ∷ [])) (path_start rows (path ++ later ∷ [])) (siblings-order rows path child later less)

@@ -5,7 +5,8 @@ use Rattle.profile_rows.specs.Names.{name_cmp}
 use Rattle.profile_rows.specs.Rows.{weight_where}
 use Rattle.flame_report.specs.Sharing.{stack_at, shared_paths}
 use Rattle.flame_report.proofs.PathOrder as order
-use Rattle.flame_report.proofs.RowSums.{names_total, names_same, group_first, group_next, group_ends, group_whole, weight_where-more, weight_where-take-le, known_next}
+use Rattle.flame_report.proofs.RowSums.{names_total, names_same, group_first, group_next, group_ends, group_whole}
+use Rattle.flame_report.proofs.RowSums.{weight_where-more, weight_where-take-le, known_next}
 use Rattle.flame_report.proofs.layout.group_weight.Goals as goal
 
 pub loop-next-init : goal.loop-next-init
@@ -13,44 +14,68 @@ loop-next-init c =
     let own = order.take_begins_with names_total names_same c.args.depth (stack_at c.args.rows.now c.args.at) in
     record {
       so_far = sym (group_first _ _ c.args.at c.index-rows-at.result c.requires.at own c.requires.first);
-      last = subst (λ n. begins_with name_cmp (take c.args.depth (stack_at c.args.rows.now c.args.at)) (stack_at c.args.rows.now n) ≡ true) (let e : c.args.at ≡ c.args.at + 1 - 1 = omega arith in e) own;
+      last = subst (λ n. begins_with name_cmp (take c.args.depth (stack_at c.args.rows.now c.args.at))
+          (stack_at c.args.rows.now n) ≡ true) (let e : c.args.at ≡ c.args.at + 1 - 1 = omega arith in e) own;
     }
 
 pub returns-then-known-next : goal.returns-then-known-next
 returns-then-known-next c =
     let before : c.loop-next.next - 1 + 1 ≡ c.loop-next.next = omega arith in
-    let small : shared_paths (stack_at c.args.rows.now (c.loop-next.next - 1)) (stack_at c.args.rows.now (c.loop-next.next - 1 + 1)) ≤ c.args.depth =
-    omega (arith, known_next c.args.rows.now c.args.known.now (c.loop-next.next - 1) c.requires.known.at (omega arith), ap (λ n. slice_index_or c.args.known.now n 0) before) in
+    let small : shared_paths (stack_at c.args.rows.now (c.loop-next.next - 1))
+    (stack_at c.args.rows.now (c.loop-next.next - 1 + 1)) ≤ c.args.depth =
+    omega (
+      arith,
+      known_next c.args.rows.now c.args.known.now (c.loop-next.next - 1) c.requires.known.at (omega arith),
+      ap (λ n. slice_index_or c.args.known.now n 0) before,
+    ) in
     let size = length-take-le c.args.depth (stack_at c.args.rows.now c.args.at) c.requires.depth in
-    let ends = group_ends c.args.rows.now _ (c.loop-next.next - 1) c.loop-next.invariant.last (omega (arith, small, size)) in
-    let whole = group_whole c.args.rows.now _ (c.loop-next.next - 1) c.requires.ascending (omega arith) c.loop-next.invariant.last ends in
-    c.loop-next.invariant.so_far ∙ ap (λ n. weight_where (begins_with name_cmp (take c.args.depth (stack_at c.args.rows.now c.args.at))) (take n c.args.rows.now)) (sym before) ∙ whole
+    let ends =
+    group_ends c.args.rows.now _ (c.loop-next.next - 1) c.loop-next.invariant.last (omega (arith, small, size)) in
+    let whole = group_whole c.args.rows.now _ (c.loop-next.next - 1) c.requires.ascending
+    (omega arith) c.loop-next.invariant.last ends in
+    c.loop-next.invariant.so_far ∙ ap (λ n. weight_where (begins_with name_cmp
+    (take c.args.depth (stack_at c.args.rows.now c.args.at))) (take n c.args.rows.now)) (sym before) ∙ whole
 
 -- the next row is of the group too
-under : (c : goal.After-index-rows-next) → begins_with name_cmp (take c.args.depth (stack_at c.args.rows.now c.args.at)) (stack_at c.args.rows.now c.loop-next.next) ≡ true
+under : (c : goal.After-index-rows-next) → begins_with name_cmp
+    (take c.args.depth (stack_at c.args.rows.now c.args.at)) (stack_at c.args.rows.now c.loop-next.next) ≡ true
 under c =
     let before : c.loop-next.next - 1 + 1 ≡ c.loop-next.next = omega arith in
     let size = length-take-le c.args.depth (stack_at c.args.rows.now c.args.at) c.requires.depth in
-    let shares : length (take c.args.depth (stack_at c.args.rows.now c.args.at)) < shared_paths (stack_at c.args.rows.now (c.loop-next.next - 1)) (stack_at c.args.rows.now (c.loop-next.next - 1 + 1)) =
-    omega (arith, size, known_next c.args.rows.now c.args.known.now (c.loop-next.next - 1) c.requires.known.at (omega arith), ap (λ n. slice_index_or c.args.known.now n 0) before) in
-    subst (λ n. begins_with name_cmp (take c.args.depth (stack_at c.args.rows.now c.args.at)) (stack_at c.args.rows.now n) ≡ true) before (group_next c.args.rows.now (take c.args.depth (stack_at c.args.rows.now c.args.at)) (c.loop-next.next - 1) c.loop-next.invariant.last shares)
+    let shares : length (take c.args.depth (stack_at c.args.rows.now c.args.at)) < shared_paths
+    (stack_at c.args.rows.now (c.loop-next.next - 1)) (stack_at c.args.rows.now (c.loop-next.next - 1 + 1)) =
+    omega (
+      arith,
+      size,
+      known_next c.args.rows.now c.args.known.now (c.loop-next.next - 1) c.requires.known.at
+          (omega arith),
+      ap (λ n. slice_index_or c.args.known.now n 0) before,
+    ) in
+    subst (λ n. begins_with name_cmp (take c.args.depth (stack_at c.args.rows.now c.args.at))
+    (stack_at c.args.rows.now n) ≡ true) before (group_next c.args.rows.now (take c.args.depth
+    (stack_at c.args.rows.now c.args.at)) (c.loop-next.next - 1) c.loop-next.invariant.last shares)
 
 pub overflow_add-weight : goal.overflow_add-weight
 overflow_add-weight c =
     let path = take c.args.depth (stack_at c.args.rows.now c.args.at) in
-    let more = weight_where-more (begins_with name_cmp path) c.args.rows.now c.loop-next.next c.index-rows-next.result c.loop-next-test.true (under c) in
+    let more = weight_where-more (begins_with name_cmp path)
+    c.args.rows.now c.loop-next.next c.index-rows-next.result c.loop-next-test.true (under c) in
     let most = weight_where-take-le (begins_with name_cmp path) c.args.rows.now (c.loop-next.next + 1) in
     omega (arith, more, most, c.requires.fits)
 
 pub loop-next-preserved : goal.loop-next-preserved
 loop-next-preserved c =
     let path = take c.args.depth (stack_at c.args.rows.now c.args.at) in
-    let more = weight_where-more (begins_with name_cmp path) c.args.rows.now c.loop-next.next c.index-rows-next.result c.loop-next-test.true (under c) in
+    let more = weight_where-more (begins_with name_cmp path)
+    c.args.rows.now c.loop-next.next c.index-rows-next.result c.loop-next-test.true (under c) in
     let back : c.loop-next.next ≡ c.loop-next.next + 1 - 1 = omega arith in
     record {
       so_far = omega (arith, more);
-      last = subst (λ n. begins_with name_cmp (take c.args.depth (stack_at c.args.rows.now c.args.at)) (stack_at c.args.rows.now n) ≡ true) back (under c);
+      last = subst (λ n. begins_with name_cmp
+          (take c.args.depth (stack_at c.args.rows.now c.args.at)) (stack_at c.args.rows.now n) ≡ true) back (under c);
     }
 
 pub returns : goal.returns
-returns c = c.loop-next.invariant.so_far ∙ ap (weight_where (begins_with name_cmp (take c.args.depth (stack_at c.args.rows.now c.args.at)))) (take_all c.loop-next.next c.args.rows.now (omega arith))
+returns c = c.loop-next.invariant.so_far
+    ∙ ap (weight_where (begins_with name_cmp (take c.args.depth (stack_at c.args.rows.now c.args.at))))
+    (take_all c.loop-next.next c.args.rows.now (omega arith))

@@ -1,4 +1,5 @@
-use Rattle.std.proofs.Common.{◌≡◌, ◌+◌, ◌-◌, ◌++◌, ◌∷◌, [], length, take, vec_len, replicate, slice_index_or, sym, ap, subst, arith, ◌∙◌, suc}
+use Rattle.std.proofs.Common.{◌≡◌, ◌+◌, ◌-◌, ◌++◌, ◌∷◌, [], length, take, vec_len, replicate, slice_index_or, sym, ap}
+use Rattle.std.proofs.Common.{subst, arith, ◌∙◌, suc}
 use Rattle.std.proofs.lemmas.List.{take_all, length-take-le, append_assoc}
 use Rattle.std.proofs.lemmas.List.Sums.{sum_by_more_le}
 use Rattle.profile_rows.specs.declared.weighted_stacks.WeightedStack.{WeightedStack}
@@ -9,22 +10,38 @@ use Rattle.flame_report.proofs.layout.hold.Goals as goal
 
 pub overflow_add-above : goal.overflow_add-above
 overflow_add-above c =
-    omega (arith, held_weight-le c.args.rows.now c.args.at c.requires.at, sum_by_more_le (λ (row : WeightedStack). row.weight) c.args.rows.now c.args.at c.index-rows-at-2.result c.requires.at, c.requires.above, c.requires.fits)
+    omega (
+      arith,
+      held_weight-le c.args.rows.now c.args.at c.requires.at,
+      sum_by_more_le (λ (row : WeightedStack).
+          row.weight) c.args.rows.now c.args.at c.index-rows-at-2.result c.requires.at,
+      c.requires.above,
+      c.requires.fits,
+    )
 
 pub returns : goal.returns
 returns c =
-    let same = c.names.ensures.names ∙ sym (stack_at-get c.args.rows.now c.args.at c.index-rows-at.result c.requires.at) in
+    let same = c.names.ensures.names
+    ∙ sym (stack_at-get c.args.rows.now c.args.at c.index-rows-at.result c.requires.at) in
     let size = ap length same in
-    let front = length-take-le (known_at c.args.rows.now c.args.at) c.args.held.now.items (known-le-held c.args.held.now.items c.args.rows.now c.args.at c.requires.held) in
+    let front = length-take-le (known_at c.args.rows.now c.args.at) c.args.held.now.items
+    (known-le-held c.args.held.now.items c.args.rows.now c.args.at c.requires.held) in
     let less = known-le c.args.rows.now c.args.at c.requires.ascending c.requires.at in
-    let cut : c.truncate.new.self.items ≡ take (known_at c.args.rows.now c.args.at) c.args.held.now.items = c.truncate.ensures.items ∙ ap (λ n. take n c.args.held.now.items) c.requires.known in
+    let cut : c.truncate.new.self.items ≡ take (known_at c.args.rows.now c.args.at) c.args.held.now.items =
+    c.truncate.ensures.items ∙ ap (λ n. take n c.args.held.now.items) c.requires.known in
     let long = ap length cut in
-    let all : take (length c.names.result.now) c.truncate.new.self.items ≡ take (known_at c.args.rows.now c.args.at) c.args.held.now.items = take_all _ _ (omega (arith, long, front, less, size)) ∙ cut in
-    let count : length c.names.result.now - vec_len c.truncate.new.self ≡ length (stack_at c.args.rows.now c.args.at) - known_at c.args.rows.now c.args.at = omega (arith, long, front, less, size, c.truncate.new.self.ok) in
-    let grown : c.resize.new.self.items ≡ take (known_at c.args.rows.now c.args.at) c.args.held.now.items ++ replicate (length (stack_at c.args.rows.now c.args.at) - known_at c.args.rows.now c.args.at) c.args.above
+    let all : take (length c.names.result.now) c.truncate.new.self.items ≡ take (known_at c.args.rows.now c.args.at)
+    c.args.held.now.items = take_all _ _ (omega (arith, long, front, less, size)) ∙ cut in
+    let count : length c.names.result.now - vec_len c.truncate.new.self
+    ≡ length (stack_at c.args.rows.now c.args.at) - known_at c.args.rows.now c.args.at =
+    omega (arith, long, front, less, size, c.truncate.new.self.ok) in
+    let grown : c.resize.new.self.items ≡ take (known_at c.args.rows.now c.args.at) c.args.held.now.items ++ replicate
+    (length (stack_at c.args.rows.now c.args.at) - known_at c.args.rows.now c.args.at) c.args.above
     = c.in_ok-resize.ensures.items ∙ (λ i. all i ++ replicate (count i) c.args.above) in
     let next : suc c.args.at ≡ c.args.at + 1 = omega arith in
     subst (AreHeld c.push.new.self.items c.args.rows.now) next
-    (subst (λ items. AreHeld items c.args.rows.now (suc c.args.at)) (sym (c.in_ok-push.ensures.items ∙ ap (λ items. items ++ (c.args.above + (slice_index_or c.args.rows.now c.args.at c.index-rows-at-2.result).weight) ∷ []) grown
+    (subst (λ items. AreHeld items c.args.rows.now (suc c.args.at)) (sym (c.in_ok-push.ensures.items ∙ ap (λ items.
+    items ++ (c.args.above + (slice_index_or c.args.rows.now c.args.at c.index-rows-at-2.result).weight) ∷ []) grown
     ∙ append_assoc (take (known_at c.args.rows.now c.args.at) c.args.held.now.items) _ _))
-    (held_more c.args.held.now.items c.args.rows.now c.args.at c.args.above c.index-rows-at-2.result c.requires.ascending c.requires.at c.requires.held c.requires.above))
+    (held_more c.args.held.now.items c.args.rows.now c.args.at
+    c.args.above c.index-rows-at-2.result c.requires.ascending c.requires.at c.requires.held c.requires.above))

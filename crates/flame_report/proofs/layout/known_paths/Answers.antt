@@ -12,7 +12,8 @@ use Rattle.flame_report.proofs.layout.known_paths.Goals.{then-at-eq0, else-at-eq
 at_first : (c : goal.In_ok-push) → c.loop-at.at ≡ 0 → c.if-at-eq0.shared ≡ 0
 at_first c e = elim c.if-at-eq0.branch [ then-at-eq0 w ↦ omega arith | else-at-eq0 w ↦ absurd (omega arith) ]
 
-at_later : (c : goal.In_ok-push) → 0 < c.loop-at.at → c.if-at-eq0.shared ≡ shared_paths (stack_at c.args.rows.now (c.loop-at.at - 1)) (stack_at c.args.rows.now c.loop-at.at)
+at_later : (c : goal.In_ok-push) → 0 < c.loop-at.at → c.if-at-eq0.shared
+    ≡ shared_paths (stack_at c.args.rows.now (c.loop-at.at - 1)) (stack_at c.args.rows.now c.loop-at.at)
 at_later c h = elim c.if-at-eq0.branch [
   | then-at-eq0 w ↦ absurd (omega arith)
   | else-at-eq0 w ↦
@@ -43,7 +44,8 @@ loop-at-preserved c =
     record {
       each = ap length items ∙ length_push old c.if-at-eq0.shared ∙ ap (λ n. n + 1) e;
       at = λ k h. ap (λ xs. slice_index_or xs k 0) items ∙ elim (cases_eq k c.loop-at.at) [
-        | inl z ↦ get_or_push old c.if-at-eq0.shared 0 k (e ∙ sym z) ∙ at_known c ∙ ap (known_at c.args.rows.now) (sym z)
+        | inl z ↦ get_or_push old c.if-at-eq0.shared 0 k (e ∙ sym z)
+            ∙ at_known c ∙ ap (known_at c.args.rows.now) (sym z)
         | inr z ↦ get_or_append_left old _ 0 k (omega (arith, z, e)) ∙ c.loop-at.invariant.at k (omega (arith, z))
       ];
     }

@@ -9,7 +9,8 @@ pub returns : goal.returns
 returns c = (
   refl,
   (elim c.if-depth-eq0.branch [
-    | then-depth-eq0 w ↦ w.name-is ∙ w.empty-name.ensures ∙ ap (λ n. last_name (take n c.args.names.now)) (sym w.if-depth-eq0.true)
+    | then-depth-eq0 w ↦ w.name-is
+        ∙ w.empty-name.ensures ∙ ap (λ n. last_name (take n c.args.names.now)) (sym w.if-depth-eq0.true)
     | else-depth-eq0+in_ok-name w ↦
         let back : suc (c.args.depth - 1) ≡ c.args.depth = omega arith in
         w.name-is ∙ w.in_ok-name.ensures ∙ w.index-names-depth.is

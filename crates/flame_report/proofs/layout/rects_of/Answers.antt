@@ -8,4 +8,5 @@ use Rattle.flame_report.proofs.layout.rects_of.Goals as goal
 pub returns-then-scale-eq0 : goal.returns-then-scale-eq0
 returns-then-scale-eq0 c =
     c.new.ensures.items
-    ∙ ap (λ rows. map rect_of (rectangles_of c.args.scale.now.columns rows)) (sym (no_rows c.args.rows.now c.requires.weighty (sym c.requires.total ∙ c.if-scale-eq0.true)))
+    ∙ ap (λ rows. map rect_of (rectangles_of c.args.scale.now.columns rows))
+    (sym (no_rows c.args.rows.now c.requires.weighty (sym c.requires.total ∙ c.if-scale-eq0.true)))

@@ -8,11 +8,14 @@ use Rattle.std.proofs.lemmas.List.{drop_all}
 use Rattle.std.proofs.lemmas.Bool.{not-false, not-true}
 use Rattle.profile_rows.specs.Names.{name_cmp}
 use Rattle.flame_report.proofs.layout.shared_names.Goals as goal
-use Rattle.flame_report.proofs.layout.shared_names.Goals.{then-at-right-via-then-at-right, then-at-right-via-else-at-right+then-ne}
+use Rattle.flame_report.proofs.layout.shared_names.Goals.{then-at-right-via-then-at-right}
+use Rattle.flame_report.proofs.layout.shared_names.Goals.{then-at-right-via-else-at-right+then-ne}
 
 -- past the end of one list nothing is shared
-none_left : (xs ys : List (List ℕ)) (i : ℕ) → length ys ≤ i → common_prefix_len (eq_by_cmp name_cmp) (drop i xs) (drop i ys) ≡ 0
-none_left xs ys i h = let e = drop_all i ys h in omega (arith, ap length e, (common_prefix_len-le (eq_by_cmp name_cmp) (drop i xs) (drop i ys)).1)
+none_left : (xs ys : List (List ℕ)) (i : ℕ)
+    → length ys ≤ i → common_prefix_len (eq_by_cmp name_cmp) (drop i xs) (drop i ys) ≡ 0
+none_left xs ys i h = let e =
+    drop_all i ys h in omega (arith, ap length e, (common_prefix_len-le (eq_by_cmp name_cmp) (drop i xs) (drop i ys)).1)
 
 pub returns-then-at-right : goal.returns-then-at-right
 returns-then-at-right c =
@@ -22,16 +25,24 @@ returns-then-at-right c =
           record { shared = omega (arith, none, c.loop-at.invariant.so_far); short = omega arith }
       | then-at-right-via-else-at-right+then-ne w ↦
           let unlike : pointwise ◌==◌ c.index-left-at.result w.index-right-at.result ≡ false = not-true _ (cc) in
-          let apart : eq_by_cmp name_cmp c.index-left-at.result w.index-right-at.result ≡ false = sym (texts_ties c.index-left-at.result w.index-right-at.result) ∙ unlike in
-          let none = common_prefix_len-drop_no (eq_by_cmp name_cmp) c.args.left.now c.args.right.now c.loop-at.at c.index-left-at.result w.index-right-at.result c.loop-at-test.true w.if-at-right.false
-          (subst (λ x. eq_by_cmp name_cmp x (get_or c.args.right.now c.loop-at.at w.index-right-at.result) ≡ false) c.index-left-at.is (subst (λ x. eq_by_cmp name_cmp c.index-left-at.result x ≡ false) w.index-right-at.is apart)) in
+          let apart : eq_by_cmp name_cmp c.index-left-at.result w.index-right-at.result ≡ false =
+          sym (texts_ties c.index-left-at.result w.index-right-at.result) ∙ unlike in
+          let none = common_prefix_len-drop_no (eq_by_cmp name_cmp) c.args.left.now c.args.right.now
+          c.loop-at.at c.index-left-at.result w.index-right-at.result c.loop-at-test.true w.if-at-right.false
+          (subst (λ x. eq_by_cmp name_cmp x (get_or c.args.right.now c.loop-at.at w.index-right-at.result) ≡ false)
+          c.index-left-at.is
+          (subst (λ x. eq_by_cmp name_cmp c.index-left-at.result x ≡ false) w.index-right-at.is apart)) in
           record { shared = omega (arith, none, c.loop-at.invariant.so_far); short = omega arith }
     ]
 
 pub loop-at-preserved : goal.loop-at-preserved
 loop-at-preserved c =
     let alike : pointwise ◌==◌ c.index-left-at.result c.index-right-at.result ≡ true = not-false _ (cc) in
-    let tied : eq_by_cmp name_cmp c.index-left-at.result c.index-right-at.result ≡ true = sym (texts_ties c.index-left-at.result c.index-right-at.result) ∙ alike in
-    let step = common_prefix_len-drop_yes (eq_by_cmp name_cmp) c.args.left.now c.args.right.now c.loop-at.at c.index-left-at.result c.index-right-at.result c.loop-at-test.true c.if-at-right.false
-    (subst (λ x. eq_by_cmp name_cmp x (get_or c.args.right.now c.loop-at.at c.index-right-at.result) ≡ true) c.index-left-at.is (subst (λ x. eq_by_cmp name_cmp c.index-left-at.result x ≡ true) c.index-right-at.is tied)) in
+    let tied : eq_by_cmp name_cmp c.index-left-at.result c.index-right-at.result ≡ true =
+    sym (texts_ties c.index-left-at.result c.index-right-at.result) ∙ alike in
+    let step = common_prefix_len-drop_yes (eq_by_cmp name_cmp) c.args.left.now c.args.right.now
+    c.loop-at.at c.index-left-at.result c.index-right-at.result c.loop-at-test.true c.if-at-right.false
+    (subst (λ x. eq_by_cmp name_cmp x (get_or c.args.right.now c.loop-at.at c.index-right-at.result) ≡ true)
+    c.index-left-at.is
+    (subst (λ x. eq_by_cmp name_cmp c.index-left-at.result x ≡ true) c.index-right-at.is tied)) in
     record { inside = omega arith; so_far = omega (arith, step, c.loop-at.invariant.so_far) }

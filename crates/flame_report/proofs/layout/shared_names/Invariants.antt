@@ -7,5 +7,6 @@ use Rattle.flame_report.proofs.layout.shared_names.Given as goal
 abbrev pub invariant-loop-at : goal.invariant-loop-at
 invariant-loop-at l = record {
   inside : l.at ≤ length l.right;
-  so_far : common_prefix_len (eq_by_cmp name_cmp) l.left l.right ≡ l.at + common_prefix_len (eq_by_cmp name_cmp) (drop l.at l.left) (drop l.at l.right);
+  so_far : common_prefix_len (eq_by_cmp name_cmp) l.left l.right
+      ≡ l.at + common_prefix_len (eq_by_cmp name_cmp) (drop l.at l.left) (drop l.at l.right);
 }

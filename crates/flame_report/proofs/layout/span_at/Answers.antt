@@ -6,25 +6,45 @@ use Rattle.flame_report.proofs.RowSums.{new_path-first, new_path-start, path_sta
 use Rattle.flame_report.proofs.layout.span_at.Goals as goal
 
 pub group_weight-weight-requires-clause-first : goal.group_weight-weight-requires-clause-first
-group_weight-weight-requires-clause-first c = new_path-first c.args.rows.now c.args.at c.args.depth c.requires.ascending c.requires.at c.requires.new c.requires.depth
+group_weight-weight-requires-clause-first c = new_path-first
+    c.args.rows.now c.args.at c.args.depth c.requires.ascending c.requires.at c.requires.new c.requires.depth
 
 pub overflow_add-start : goal.overflow_add-start
 overflow_add-start c =
     let path = take c.args.depth (stack_at c.args.rows.now c.args.at) in
-    let start = new_path-start c.args.rows.now c.args.at c.args.depth c.requires.ascending c.requires.at c.requires.new c.requires.depth in
-    omega (arith, start, path_start-path_weight-le c.args.rows.now path, c.requires.start, c.group_weight-weight.ensures, c.requires.fits, c.requires.total)
+    let start = new_path-start
+    c.args.rows.now c.args.at c.args.depth c.requires.ascending c.requires.at c.requires.new c.requires.depth in
+    omega (
+      arith,
+      start,
+      path_start-path_weight-le c.args.rows.now path,
+      c.requires.start,
+      c.group_weight-weight.ensures,
+      c.requires.fits,
+      c.requires.total,
+    )
 
 pub column-requires-2-clause-within : goal.column-requires-2-clause-within
 column-requires-2-clause-within c =
     let path = take c.args.depth (stack_at c.args.rows.now c.args.at) in
-    let start = new_path-start c.args.rows.now c.args.at c.args.depth c.requires.ascending c.requires.at c.requires.new c.requires.depth in
-    omega (arith, start, path_start-path_weight-le c.args.rows.now path, c.requires.start, c.group_weight-weight.ensures, c.requires.total)
+    let start = new_path-start
+    c.args.rows.now c.args.at c.args.depth c.requires.ascending c.requires.at c.requires.new c.requires.depth in
+    omega (
+      arith,
+      start,
+      path_start-path_weight-le c.args.rows.now path,
+      c.requires.start,
+      c.group_weight-weight.ensures,
+      c.requires.total,
+    )
 
 pub returns : goal.returns
 returns c =
     let path = take c.args.depth (stack_at c.args.rows.now c.args.at) in
-    let from = new_path-start c.args.rows.now c.args.at c.args.depth c.requires.ascending c.requires.at c.requires.new c.requires.depth in
-    let start : c.args.start ≡ path_start c.args.rows.now (take c.args.depth (stack_at c.args.rows.now c.args.at)) = omega (arith, from, c.requires.start) in
+    let from = new_path-start
+    c.args.rows.now c.args.at c.args.depth c.requires.ascending c.requires.at c.requires.new c.requires.depth in
+    let start : c.args.start ≡ path_start c.args.rows.now (take c.args.depth (stack_at c.args.rows.now c.args.at)) =
+    omega (arith, from, c.requires.start) in
     let weight = c.group_weight-weight.ensures in
     let depth = sym (length-take-le c.args.depth (stack_at c.args.rows.now c.args.at) c.requires.depth) in
     let left = c.column.ensures in

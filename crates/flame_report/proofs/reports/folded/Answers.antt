@@ -5,4 +5,5 @@ use Rattle.profile_rows.proofs.InOrder.{rows_of-aggregate}
 use Rattle.flame_report.proofs.reports.folded.Goals as goal
 
 pub returns : goal.returns
-returns c = c.new.ensures ∙ c.in_ok-text.ensures.text ∙ ap rows_text (sym (rows_of-aggregate c.args.rows.now c.requires.ascending c.requires.weighty))
+returns c = c.new.ensures ∙ c.in_ok-text.ensures.text
+    ∙ ap rows_text (sym (rows_of-aggregate c.args.rows.now c.requires.ascending c.requires.weighty))

@@ -16,6 +16,8 @@ answer-requires-clause-weighty c =
 
 pub returns-in_ok-rows-in_default : goal.returns-in_ok-rows-in_default
 returns-in_ok-rows-in_default c =
-    if_ok_seen (λ answer. answer) c.answer.result (answer_of c.in_ok-rows-in_default.rows c.args.query.now) (answer_of c.args.rows c.args.query.now)
-    (ap (λ rows. answer_of rows c.args.query.now) c.in_ok-rows-in_default.ensures ∙ answer_of-rows_of c.args.query.now c.args.rows c.args.rows refl)
+    if_ok_seen (λ answer. answer) c.answer.result
+    (answer_of c.in_ok-rows-in_default.rows c.args.query.now) (answer_of c.args.rows c.args.query.now)
+    (ap (λ rows. answer_of rows c.args.query.now) c.in_ok-rows-in_default.ensures
+    ∙ answer_of-rows_of c.args.query.now c.args.rows c.args.rows refl)
     c.answer.ensures

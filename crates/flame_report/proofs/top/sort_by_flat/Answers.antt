@@ -10,5 +10,7 @@ use Rattle.flame_report.proofs.top.sort_by_flat.Goals as goal
 
 pub returns-clause-sorted : goal.returns-clause-sorted
 returns-clause-sorted c =
-    c.in_ok-sort_by.ensures.sorted (λ (a b : FrameTotal). is_lt (top_cmp (ranking_of Flat) a b)) (ranks_by (top_cmp-total (ranking_of Flat)) (λ (total : FrameTotal). total))
-    (answers_always _ _ _ (λ f a r q k. let e : r ≡ top_cmp (ranking_of Flat) a.0.now a.1.0.now = search rules in ap is_lt e))
+    c.in_ok-sort_by.ensures.sorted (λ (a b : FrameTotal). is_lt (top_cmp (ranking_of Flat) a b))
+    (ranks_by (top_cmp-total (ranking_of Flat)) (λ (total : FrameTotal). total))
+    (answers_always _ _ _ (λ f a r q k. let e : r ≡ top_cmp (ranking_of Flat) a.0.now a.1.0.now =
+    search rules in ap is_lt e))

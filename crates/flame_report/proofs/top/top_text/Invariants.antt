@@ -6,4 +6,5 @@ use Rattle.flame_report.proofs.top.top_text.Given as goal
 
 -- the total's line, and the lines of the names so far
 abbrev pub invariant-loop-row : goal.invariant-loop-row
-invariant-loop-row l = string_bytes l.text ≡ (codes "total " ++ decimal l.top.total ++ 10 ∷ []) ++ flat_map top_line (take l.row-index l.row-items)
+invariant-loop-row l = string_bytes l.text
+    ≡ (codes "total " ++ decimal l.top.total ++ 10 ∷ []) ++ flat_map top_line (take l.row-index l.row-items)

@@ -6,4 +6,5 @@ pub number_of-requires : goal.number_of-requires
 number_of-requires c = IsNumeral-number c.args.text.now (sym c.is_number.ensures ∙ c.if-not-is_number.false)
 
 pub returns : goal.returns
-returns c = number_found c.args.text.now c.number_of.result (sym c.is_number.ensures ∙ c.if-not-is_number.false) c.number_of.ensures
+returns c = number_found c.args.text.now c.number_of.result
+    (sym c.is_number.ensures ∙ c.if-not-is_number.false) c.number_of.ensures

@@ -10,10 +10,20 @@ use Rattle.std.proofs.lemmas.List.Elements.{recursion_from_All, All-from_recursi
 use Rattle.folded_text.proofs.Counts.{AllDigits-from, AllDigits-each}
 use Rattle.folded_text.proofs.folded.is_numeral.Goals as goal
 
-decided : (text : List ℕ) (r : Bool) → 0 < length text → MatchBool r (AllWithin IsAsciiDigit text 0 (length text)) ((k : ℕ) × (k < length text) × HoldsAt IsNotAsciiDigit text k)
+decided : (text : List ℕ) (r : Bool) → 0 < length text → MatchBool r
+    (AllWithin IsAsciiDigit text 0 (length text)) ((k : ℕ) × (k < length text) × HoldsAt IsNotAsciiDigit text k)
     → (IsTrue r → IsNumeral 10 text) × (IsNumeral 10 text → IsTrue r)
-decided text true some cases = (λ yes. (some, AllDigits-from text (recursion_from_All IsAsciiDigit text (λ k d lt. cases k d (omega arith) lt))), λ numeral. refl)
-decided text false some (k, lt, bad) = (λ yes. cc, λ numeral. absurd (apart (All-from_recursion IsAsciiDigit text (AllDigits-each text numeral.1) k 0 lt) (bad 0)))
+decided text true some cases = (
+  λ yes. (
+    some,
+    AllDigits-from text (recursion_from_All IsAsciiDigit text (λ k d lt. cases k d (omega arith) lt)),
+  ),
+  λ numeral. refl,
+)
+decided text false some (k, lt, bad) = (
+  λ yes. cc,
+  λ numeral. absurd (apart (All-from_recursion IsAsciiDigit text (AllDigits-each text numeral.1) k 0 lt) (bad 0)),
+)
   where
     apart : {byte : ℕ} → IsAsciiDigit byte → IsNotAsciiDigit byte → ⊥
     apart in_range out = elim out [ inl low ↦ omega arith | inr high ↦ omega arith ]
@@ -21,4 +31,5 @@ decided text false some (k, lt, bad) = (λ yes. cc, λ numeral. absurd (apart (A
 pub returns-then-not-is_empty : goal.returns-then-not-is_empty
 returns-then-not-is_empty c =
     decided c.args.text.now c.all.result (search rules)
-    (cases_from_all _ _ _ IsAsciiDigit IsNotAsciiDigit c.all.ensures.ran (YieldsList-from_bytes c.args.text.now c.bytes.ensures.rest) (λ x q k. search rules) (λ x q k. search rules))
+    (cases_from_all _ _ _ IsAsciiDigit IsNotAsciiDigit c.all.ensures.ran
+    (YieldsList-from_bytes c.args.text.now c.bytes.ensures.rest) (λ x q k. search rules) (λ x q k. search rules))

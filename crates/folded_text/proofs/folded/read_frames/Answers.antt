@@ -9,17 +9,21 @@ use Rattle.folded_text.proofs.Reading.{IsLineFault-fitting, IsLineFault-memory, 
 use Rattle.folded_text.proofs.folded.read_frames.Goals as goal
 
 -- how many texts the buffer holds
-long : (frames : List (List ℕ)) (lent : List (Bor (List ℕ))) (n : ℕ) → n ≡ length lent → map (λ (frame : Bor (List ℕ)). frame.now) lent ≡ frames → n ≡ length frames
+long : (frames : List (List ℕ)) (lent : List (Bor (List ℕ))) (n : ℕ)
+    → n ≡ length lent → map (λ (frame : Bor (List ℕ)). frame.now) lent ≡ frames → n ≡ length frames
 long frames lent n is same = is ∙ sym (length-map lent (λ (frame : Bor (List ℕ)). frame.now)) ∙ ap length same
 
 pub returns-clause-spelled : goal.returns-clause-spelled
 returns-clause-spelled c =
     let (utf8, small, digits, count, value) = c.in_ok-stack.ensures.counted in
     let (most, fits) = c.in_ok-fitting-2.ensures.fits in
-    let depth = long (frames_of c.in_ok-stack.stack.now) c.replace_by_text.new.frames.items c.len.result (search rules) c.in-Ok.ensures.texts in (
+    let depth = long (frames_of c.in_ok-stack.stack.now) c.replace_by_text.new.frames.items c.len.result
+    (search rules) c.in-Ok.ensures.texts in (
       fits,
-      subst (λ stack. IsRowLine c.args.line.now (record { stack = stack; weight = c.in_ok-stack.weight })) (sym c.in-Ok.ensures.texts)
-          (IsRowLine-read c.args.line.now c.in_ok-stack.stack.now digits c.in_ok-stack.weight utf8 count value (subst (λ n. n ≤ 65535) depth most) small),
+      subst (λ stack. IsRowLine c.args.line.now (record { stack = stack; weight = c.in_ok-stack.weight }))
+          (sym c.in-Ok.ensures.texts)
+          (IsRowLine-read c.args.line.now c.in_ok-stack.stack.now digits c.in_ok-stack.weight utf8 count value
+          (subst (λ n. n ≤ 65535) depth most) small),
     )
 
 pub returns-clause-names : goal.returns-clause-names
@@ -29,17 +33,23 @@ pub returns-in_err-fitting-clause-fault : goal.returns-in_err-fitting-clause-fau
 returns-in_err-fitting-clause-fault c =
     let (utf8, small, digits, count, value) = c.in_ok-stack.ensures.counted in
     let p = err_from_is_err_and c.from_residual-in_err-fitting.result c.from_residual-in_err-fitting.ensures.1 in
-    rw (p.1, p.2) (IsLineFault-fitting c.args.held c.args.number c.args.line.now c.in_ok-stack.stack.now digits c.in_ok-stack.weight c.in_err-fitting.field-0.0 utf8 small count value (c.in_err-fitting.ensures.fault c.in_ok-stack.stack.now c.measured.ensures.depth))
+    rw (p.1, p.2) (IsLineFault-fitting c.args.held c.args.number c.args.line.now
+    c.in_ok-stack.stack.now digits c.in_ok-stack.weight c.in_err-fitting.field-0.0 utf8 small count value
+    (c.in_err-fitting.ensures.fault c.in_ok-stack.stack.now c.measured.ensures.depth))
 
 pub returns-in_default-clause-fault : goal.returns-in_default-clause-fault
 returns-in_default-clause-fault c =
     let (utf8, small, digits, count, value) = c.in_ok-stack.ensures.counted in
     let (most, fits) = c.in_ok-fitting.ensures.fits in
-    IsLineFault-memory c.args.held c.args.held c.args.number c.args.line.now c.in_ok-stack.stack.now digits c.measured.result.0 c.in_ok-stack.weight refl utf8 fits count value c.measured.ensures.depth most
+    IsLineFault-memory c.args.held c.args.held c.args.number c.args.line.now c.in_ok-stack.stack.now
+    digits c.measured.result.0 c.in_ok-stack.weight refl utf8 fits count value c.measured.ensures.depth most
 
 pub returns-in_err-fitting-2-clause-fault : goal.returns-in_err-fitting-2-clause-fault
 returns-in_err-fitting-2-clause-fault c =
     let (utf8, small, digits, count, value) = c.in_ok-stack.ensures.counted in
     let p = err_from_is_err_and c.from_residual-in_err-fitting-2.result c.from_residual-in_err-fitting-2.ensures.1 in
-    let depth = long (frames_of c.in_ok-stack.stack.now) c.replace_by_text.new.frames.items c.len.result (search rules) c.in-Ok.ensures.texts in
-    rw (p.1, p.2) (IsLineFault-fitting c.args.held c.args.number c.args.line.now c.in_ok-stack.stack.now digits c.in_ok-stack.weight c.in_err-fitting-2.field-0.0 utf8 small count value (c.in_err-fitting-2.ensures.fault c.in_ok-stack.stack.now depth))
+    let depth = long (frames_of c.in_ok-stack.stack.now) c.replace_by_text.new.frames.items c.len.result
+    (search rules) c.in-Ok.ensures.texts in
+    rw (p.1, p.2) (IsLineFault-fitting c.args.held c.args.number c.args.line.now
+    c.in_ok-stack.stack.now digits c.in_ok-stack.weight c.in_err-fitting-2.field-0.0 utf8 small count value
+    (c.in_err-fitting-2.ensures.fault c.in_ok-stack.stack.now depth))

@@ -15,13 +15,15 @@ pub stacks_of_texts-requires-clause-spelled : goal.stacks_of_texts-requires-clau
 stacks_of_texts-requires-clause-spelled c =
     let text : TextState → Type 0 = λ (row : TextState). IsStackText row.text in
     subst (All text) (sym c.as_slice.ensures.value)
-    (All-permutation text c.in_ok-sums.sums.rows.items c.sort_by_text.new.rows.items c.sort_by_text.ensures.permutation c.in_ok-sums.ensures.known.spelled)
+    (All-permutation text c.in_ok-sums.sums.rows.items
+    c.sort_by_text.new.rows.items c.sort_by_text.ensures.permutation c.in_ok-sums.ensures.known.spelled)
 
 pub stacks_of_texts-requires-clause-fits : goal.stacks_of_texts-requires-clause-fits
 stacks_of_texts-requires-clause-fits c =
     let sums = c.in_ok-sums.sums in
     subst (λ total. total < 2 ^ 63)
-    (sym (ap (λ rows. total_of (spelled_rows rows)) c.as_slice.ensures.value ∙ (spelled-moved sums.rows.items c.sort_by_text.new.rows.items c.sort_by_text.ensures.permutation).1))
+    (sym (ap (λ rows. total_of (spelled_rows rows)) c.as_slice.ensures.value
+    ∙ (spelled-moved sums.rows.items c.sort_by_text.new.rows.items c.sort_by_text.ensures.permutation).1))
     (spelled-within sums.known sums.rows.items sums.total sums.are_joined c.in_ok-sums.ensures.known)
 
 pub returns-clause-read : goal.returns-clause-read
@@ -31,7 +33,8 @@ returns-clause-read c =
       rows = read.rows;
       folded = read.folded;
       same = ap aggregate_of (c.in_ok-stacks_of_texts.ensures ∙ ap spelled_rows c.as_slice.ensures.value)
-          ∙ (spelled-moved c.in_ok-sums.sums.rows.items c.sort_by_text.new.rows.items c.sort_by_text.ensures.permutation).0
+          ∙ (spelled-moved
+          c.in_ok-sums.sums.rows.items c.sort_by_text.new.rows.items c.sort_by_text.ensures.permutation).0
           ∙ read.same;
     }
 

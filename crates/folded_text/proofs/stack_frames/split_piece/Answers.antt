@@ -1,5 +1,6 @@
 -- Where the first semicolon stands, the pieces are what stands before it, and those behind it.
-use Rattle.std.proofs.Common.{◌≡◌, ℕ, ◌+◌, ◌-◌, ◌<◌, suc, Bool, true, false, List, [], ◌∷◌, ◌++◌, length, take, drop, get_or, filter, sym, ap, ◌∙◌, subst, arith}
+use Rattle.std.proofs.Common.{◌≡◌, ℕ, ◌+◌, ◌-◌, ◌<◌, suc, Bool, true, false, List, [], ◌∷◌, ◌++◌, length, take, drop}
+use Rattle.std.proofs.Common.{get_or, filter, sym, ap, ◌∙◌, subst, arith}
 use Rattle.std.specs.Prelude.{All, ◌==◌, not}
 use Rattle.std.specs.List.{slice_split}
 use Rattle.std.proofs.lemmas.Bool.{eqb-true, false_from_ne_true}
@@ -18,17 +19,20 @@ IsEnd byte = byte == 59
 around : (text : List ℕ) (at : ℕ) → at < length text → text ≡ take at text ++ get_or text at 0 ∷ drop (at + 1) text
 around text at lt =
     let next : suc at ≡ at + 1 = omega arith in
-    sym (take-append-drop at text) ∙ ap (λ rest. take at text ++ rest) (drop-cons text at 0 lt ∙ ap (λ n. get_or text at 0 ∷ drop n text) next)
+    sym (take-append-drop at text)
+    ∙ ap (λ rest. take at text ++ rest) (drop-cons text at 0 lt ∙ ap (λ n. get_or text at 0 ∷ drop n text) next)
 
 -- what stands before the first semicolon has none
 plain : (text : List ℕ) (at : ℕ) → at < length text → ((k : ℕ) → k < at → IsEnd (get_or text k 0) ≡ true → ⊥)
     → All (λ byte. IsEnd byte ≡ false) (take at text)
 plain text at lt none k d below =
     let short : k < at = omega (arith, length-take-le at text (omega arith)) in
-    ap IsEnd (get_or-take at text k d short ∙ get_or_default text k d 0 (omega arith)) ∙ false_from_ne_true (IsEnd (get_or text k 0)) (none k short)
+    ap IsEnd (get_or-take at text k d short ∙ get_or_default text k d 0 (omega arith))
+    ∙ false_from_ne_true (IsEnd (get_or text k 0)) (none k short)
 
 -- a text cut at its first semicolon
-cut : (text : List ℕ) (at : ℕ) → at < length text → ((k : ℕ) → k < at → IsEnd (get_or text k 0) ≡ true → ⊥) → IsEnd (get_or text at 0) ≡ true
+cut : (text : List ℕ) (at : ℕ)
+    → at < length text → ((k : ℕ) → k < at → IsEnd (get_or text k 0) ≡ true → ⊥) → IsEnd (get_or text at 0) ≡ true
     → frames_of text ≡ frame_in (take at text) ++ frames_of (drop (at + 1) text)
 cut text at lt none is =
     ap frames_of (around text at lt)
@@ -42,7 +46,8 @@ range_from-requires c = λ some.
     let same = c.as_bytes.ensures.value in
     let high = found.0.high in
     let short : c.in-Some.at < length c.args.text.now = omega (arith, ap length same) in
-    let end : IsEnd (get_or c.args.text.now c.in-Some.at 0) ≡ true = subst (λ text. IsEnd (get_or text c.in-Some.at 0) ≡ true) same found.1 in
+    let end : IsEnd (get_or c.args.text.now c.in-Some.at 0) ≡ true =
+    subst (λ text. IsEnd (get_or text c.in-Some.at 0) ≡ true) same found.1 in
     let byte : get_or c.args.text.now c.in-Some.at 0 ≡ 59 = eqb-true (get_or c.args.text.now c.in-Some.at 0) 59 end in
     IsCharBoundary-after_ascii c.args.text.now c.in-Some.at c.utf8.text short (omega arith)
 
@@ -52,7 +57,8 @@ returns-in-Some c =
     let same = c.as_bytes.ensures.value in
     let high = found.0.high in
     let short : c.in-Some.at < length c.args.text.now = omega (arith, ap length same) in
-    let end : IsEnd (get_or c.args.text.now c.in-Some.at 0) ≡ true = subst (λ text. IsEnd (get_or text c.in-Some.at 0) ≡ true) same found.1 in
+    let end : IsEnd (get_or c.args.text.now c.in-Some.at 0) ≡ true =
+    subst (λ text. IsEnd (get_or text c.in-Some.at 0) ≡ true) same found.1 in
     let before : (k : ℕ) → k < c.in-Some.at → IsEnd (get_or c.args.text.now k 0) ≡ true → ⊥ = λ k below is.
     found.0.before k (omega arith) below (subst (λ text. IsEnd (get_or text k 0) ≡ true) (sym same) is) in
     let whole : c.in-Some.at ≡ c.in-Some.at - 0 = omega arith in
@@ -66,7 +72,8 @@ returns-in-Some c =
     }
 
 -- without a semicolon the text is one piece
-whole_piece : (text : List ℕ) → ((k : ℕ) → k < length text → IsEnd (get_or text k 0) ≡ true → ⊥) → frames_of text ≡ frame_in text ++ frames_of []
+whole_piece : (text : List ℕ)
+    → ((k : ℕ) → k < length text → IsEnd (get_or text k 0) ≡ true → ⊥) → frames_of text ≡ frame_in text ++ frames_of []
 whole_piece text none =
     let all : All (λ byte. IsEnd byte ≡ false) text = λ k d below.
     ap IsEnd (get_or_default text k d 0 below) ∙ false_from_ne_true (IsEnd (get_or text k 0)) (none k below) in
@@ -77,4 +84,5 @@ returns-in-None-clause-frames c =
     let nowhere = c.in-None.ensures in
     let same = c.as_bytes.ensures.value in
     whole_piece c.args.text.now (λ k below is.
-    nowhere k (omega arith) (omega (arith, ap length same, below)) (subst (λ text. IsEnd (get_or text k 0) ≡ true) (sym same) is))
+    nowhere k (omega arith)
+    (omega (arith, ap length same, below)) (subst (λ text. IsEnd (get_or text k 0) ≡ true) (sym same) is))

@@ -5,13 +5,15 @@ use Rattle.std.proofs.lemmas.Result.{err_from_is_err_and}
 use Rattle.profile_rows.specs.Rows.{total_of}
 use Rattle.profile_rows.proofs.Cleaning.{filled}
 use Rattle.folded_text.specs.FoldedText.{IsLineFault}
-use Rattle.folded_text.proofs.Reading.{IsReadTo-begin, IsReadTo-row, IsReadTo-skip, IsReadTo-one_line, IsReadTo-fault, IsReadTo-end}
+use Rattle.folded_text.proofs.Reading.{IsReadTo-begin, IsReadTo-row, IsReadTo-skip, IsReadTo-one_line, IsReadTo-fault}
+use Rattle.folded_text.proofs.Reading.{IsReadTo-end}
 use Rattle.folded_text.proofs.taking.take_lines.Goals as goal
 
 pub loop-index-init : goal.loop-index-init
 loop-index-init g c = (
   [],
-  IsReadTo-begin c.args.text.now c.into_iter-index-iterator.result _ [] c.into_iter-index-iterator.ensures.into_iter_gives
+  IsReadTo-begin
+      c.args.text.now c.into_iter-index-iterator.result _ [] c.into_iter-index-iterator.ensures.into_iter_gives
       (c.enumerate-index-items.ensures.source ∙ c.lines.ensures.value) c.enumerate-index-items.ensures.count refl,
   c.requires,
 )
@@ -27,8 +29,10 @@ loop-index-preserved-in-Continue-1 g c =
     let (rows, so_far, taken) = c.loop-index.invariant in
     let (row, this, fits, more) = c.in_ok-take_line.ensures.taken rows taken so_far.fits in (
       rows ++ row ∷ [],
-      IsReadTo-row c.args.text.now _ _ rows c.in-Some.line.now _ _ row (rows ++ row ∷ []) so_far c.in-Some.ensures.steps.0
-          c.in-Some.ensures.steps.2 (filled c.in-Some.line.now (sym c.is_empty.ensures ∙ c.if-not-is_empty.true)) this fits refl,
+      IsReadTo-row c.args.text.now _ _ rows c.in-Some.line.now _ _ row
+          (rows ++ row ∷ []) so_far c.in-Some.ensures.steps.0
+          c.in-Some.ensures.steps.2
+          (filled c.in-Some.line.now (sym c.is_empty.ensures ∙ c.if-not-is_empty.true)) this fits refl,
       more,
     )
 
@@ -36,7 +40,8 @@ pub loop-index-preserved : goal.loop-index-preserved
 loop-index-preserved g c =
     let (rows, so_far, taken) = c.loop-index.invariant in (
       rows,
-      IsReadTo-skip c.args.text.now _ _ rows c.in-Some.line.now _ _ so_far c.in-Some.ensures.steps.0 c.in-Some.ensures.steps.2
+      IsReadTo-skip
+          c.args.text.now _ _ rows c.in-Some.line.now _ _ so_far c.in-Some.ensures.steps.0 c.in-Some.ensures.steps.2
           (eqb-true (length c.in-Some.line.now) 0 (sym c.is_empty.ensures ∙ c.if-not-is_empty.false)),
       taken,
     )

@@ -20,17 +20,20 @@ returns-in_err-sums-clause-reported c =
     rw (p.1, p.2) (inl c.in_err-sums.ensures)
 
 pub returns-in_err-sums-clause-accepted : goal.returns-in_err-sums-clause-accepted
-returns-in_err-sums-clause-accepted c = only_report (λ (text : Vec ℕ _). text.items) c.args.text.now c.from_residual.result (returns-in_err-sums-clause-reported c)
+returns-in_err-sums-clause-accepted c = only_report
+    (λ (text : Vec ℕ _). text.items) c.args.text.now c.from_residual.result (returns-in_err-sums-clause-reported c)
 
 pub returns-in_ok-report_of_texts-clause-accepted : goal.returns-in_ok-report_of_texts-clause-accepted
 returns-in_ok-report_of_texts-clause-accepted c = λ rows folded.
     let read = c.in_ok-sums.ensures in
     c.in_ok-report_of_texts.ensures
-    ∙ ap (λ weights. rows_text (rows_of weights)) (read.same ∙ ap aggregate_of (IsFoldedText-same c.args.text.now read.rows rows read.folded folded))
+    ∙ ap (λ weights. rows_text (rows_of weights))
+    (read.same ∙ ap aggregate_of (IsFoldedText-same c.args.text.now read.rows rows read.folded folded))
 
 pub returns-in_ok-report_of_stacks-clause-accepted : goal.returns-in_ok-report_of_stacks-clause-accepted
 returns-in_ok-report_of_stacks-clause-accepted c = λ rows folded.
     let read = c.in_ok-sums.ensures in
     c.in_ok-report_of_stacks.ensures
     ∙ ap (λ items. rows_text (rows_of (aggregate_of (spelled_rows items)))) c.as_slice.ensures.value
-    ∙ ap (λ weights. rows_text (rows_of weights)) (read.same ∙ ap aggregate_of (IsFoldedText-same c.args.text.now read.rows rows read.folded folded))
+    ∙ ap (λ weights. rows_text (rows_of weights))
+    (read.same ∙ ap aggregate_of (IsFoldedText-same c.args.text.now read.rows rows read.folded folded))

@@ -4,9 +4,11 @@ use Rattle.folded_text.proofs.TextRows.{IsJoined-measured, frames-within}
 use Rattle.folded_text.proofs.text_rows.is_joined.Goals as goal
 
 pub overflow_add-result : goal.overflow_add-result
-overflow_add-result c = let most = frames-within c.args.text.now in omega (arith, most, c.requires.depth, c.requires.bytes)
+overflow_add-result c =
+    let most = frames-within c.args.text.now in omega (arith, most, c.requires.depth, c.requires.bytes)
 
 pub returns-else-is_empty : goal.returns-else-is_empty
 returns-else-is_empty c = λ told.
-    let whole : c.args.bytes + c.args.depth ≡ length c.args.text.now + 1 = eqb-true (c.args.bytes + c.args.depth) (length c.args.text.now + 1) told in
+    let whole : c.args.bytes + c.args.depth ≡ length c.args.text.now + 1 =
+    eqb-true (c.args.bytes + c.args.depth) (length c.args.text.now + 1) told in
     IsJoined-measured c.args.text.now (omega (arith, whole, c.requires.depth, c.requires.bytes))

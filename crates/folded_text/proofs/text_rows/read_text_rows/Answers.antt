@@ -5,7 +5,8 @@ use Rattle.folded_text.specs.TextRows.{spelled_rows}
 use Rattle.folded_text.proofs.text_rows.read_text_rows.Goals as goal
 
 pub take_lines-requires : goal.take_lines-requires
-take_lines-requires c = λ k. ((refl, tt), (AreMergedSoFar-none _ (ap spelled_rows c.new-sums.ensures.none), c.new-sums.ensures.known))
+take_lines-requires c =
+    λ k. ((refl, tt), (AreMergedSoFar-none _ (ap spelled_rows c.new-sums.ensures.none), c.new-sums.ensures.known))
 
 pub returns : goal.returns
 returns c =

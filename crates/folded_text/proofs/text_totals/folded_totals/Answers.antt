@@ -8,10 +8,18 @@ use Rattle.folded_text.proofs.Counting.{AreTotalsOf-merged, only_totals}
 use Rattle.folded_text.proofs.text_totals.folded_totals.Goals as goal
 
 pub take_lines-requires : goal.take_lines-requires
-take_lines-requires c = λ k. ((refl, tt), ([], AreMergedSoFar-none [] refl, (sym (ap spelled_rows c.new-waiting.ensures.none), c.new-waiting.ensures.known, c.new-counted.ensures.counted)))
+take_lines-requires c = λ k. (
+  (refl, tt),
+  (
+    [],
+    AreMergedSoFar-none [] refl,
+    (sym (ap spelled_rows c.new-waiting.ensures.none), c.new-waiting.ensures.known, c.new-counted.ensures.counted),
+  ),
+)
 
 pub count_waiting-requires : goal.count_waiting-requires
-count_waiting-requires c = let (rows, read, (merged, same, counted)) = c.in_ok-take_lines.ensures.taken in (merged, counted)
+count_waiting-requires c =
+    let (rows, read, (merged, same, counted)) = c.in_ok-take_lines.ensures.taken in (merged, counted)
 
 pub returns-clause-counted : goal.returns-clause-counted
 returns-clause-counted c =
@@ -19,7 +27,8 @@ returns-clause-counted c =
     record {
       rows = rows;
       folded = read;
-      totals_rows = AreTotalsOf-merged rows merged c.in_ok-totals.field-0 same (c.in_ok-totals.ensures merged (c.in_ok-count_waiting.ensures.counted merged counted));
+      totals_rows = AreTotalsOf-merged rows merged c.in_ok-totals.field-0 same
+          (c.in_ok-totals.ensures merged (c.in_ok-count_waiting.ensures.counted merged counted));
     }
 
 pub returns-clause-accepted : goal.returns-clause-accepted
@@ -31,4 +40,5 @@ returns-in_err-take_lines-clause-counted c =
     rw (p.1, p.2) (inl c.in_err-take_lines.ensures.fault)
 
 pub returns-in_err-take_lines-clause-accepted : goal.returns-in_err-take_lines-clause-accepted
-returns-in_err-take_lines-clause-accepted c = only_totals c.args.text.now c.from_residual.result (returns-in_err-take_lines-clause-counted c)
+returns-in_err-take_lines-clause-accepted c =
+    only_totals c.args.text.now c.from_residual.result (returns-in_err-take_lines-clause-counted c)

@@ -5,4 +5,5 @@ use Rattle.folded_text.proofs.written.push_stack.Given as goal
 
 -- the names so far
 abbrev pub invariant-loop-index : goal.invariant-loop-index
-invariant-loop-index l = (l.text.items ≡ l.initial.text.items ++ join_with_byte 59 (take l.index l.names)) × All IsName (take l.index l.names)
+invariant-loop-index l = (l.text.items ≡ l.initial.text.items ++ join_with_byte 59 (take l.index l.names))
+    × All IsName (take l.index l.names)

@@ -25,7 +25,8 @@ within c =
     let rows = length-rows_at 0 c.args.batch.now.rows in
     omega arith
 
-row_is : (c : goal.In_ok-push_row) → written c ≡ get_or (rows_at c.args.value c.args.batch.now.rows) c.loop-at.at (written c)
+row_is : (c : goal.In_ok-push_row)
+    → written c ≡ get_or (rows_at c.args.value c.args.batch.now.rows) c.loop-at.at (written c)
 row_is c =
     (λ i. record { stack = c.row.ensures.stack i; weight = c.weight.ensures i })
     ∙ sym (rows_at-row_in c.args.value c.args.batch.now.rows c.loop-at.at (written c) (within c))
@@ -35,13 +36,16 @@ loop-at-preserved c =
     let rows = rows_at c.args.value c.args.batch.now.rows in
     let size = length-rows_at c.args.value c.args.batch.now.rows in
     let lt : c.loop-at.at < length rows = let less = within c in omega arith in (
-      rows_text_more rows c.loop-at.at (written c) c.loop-at.text.items c.push_row.new.text.items lt c.loop-at.invariant.0
-          (c.in_ok-push_row.ensures.line ∙ ap (λ (row : WeightedStack). c.loop-at.text.items ++ row_text row) (row_is c)),
+      rows_text_more rows c.loop-at.at
+          (written c) c.loop-at.text.items c.push_row.new.text.items lt c.loop-at.invariant.0
+          (c.in_ok-push_row.ensures.line
+          ∙ ap (λ (row : WeightedStack). c.loop-at.text.items ++ row_text row) (row_is c)),
       All-more can_stand rows c.loop-at.at (written c) lt c.loop-at.invariant.1
           (subst can_stand (row_is c) (c.in_ok-push_row.ensures.names, c.push_row.ensures.depth)),
     )
 
-whole : (c : goal.After-loop-at) → take c.loop-at.at (rows_at c.args.value c.args.batch.now.rows) ≡ rows_at c.args.value c.args.batch.now.rows
+whole : (c : goal.After-loop-at)
+    → take c.loop-at.at (rows_at c.args.value c.args.batch.now.rows) ≡ rows_at c.args.value c.args.batch.now.rows
 whole c =
     let size = length-rows_at c.args.value c.args.batch.now.rows in
     let past = c.loop-at-test.false in
@@ -57,4 +61,5 @@ returns-clause-reads_back c =
     let rows = rows_at c.args.value c.args.batch.now.rows in
     let each = subst (All can_stand) (whole c) c.loop-at.invariant.1 in
     subst (λ bytes. IsFoldedText bytes rows) (sym (returns-clause-text c))
-    (rows_text-IsFoldedText rows (all_batch_rows rows each (c.first.ensures.batch.fits c.args.value)) (c.first.ensures.batch.fits c.args.value))
+    (rows_text-IsFoldedText rows
+    (all_batch_rows rows each (c.first.ensures.batch.fits c.args.value)) (c.first.ensures.batch.fits c.args.value))

@@ -8,4 +8,5 @@ use Rattle.folded_text.proofs.written.write_folded.Given as goal
 -- the lines so far, of rows whose stacks a batch can hold
 abbrev pub invariant-loop-at : goal.invariant-loop-at
 invariant-loop-at l = (l.text.items ≡ rows_text (take l.at (rows_at l.value l.batch.rows)))
-    × All (λ (row : WeightedStack). All IsName row.stack × (length row.stack ≤ 65535)) (take l.at (rows_at l.value l.batch.rows))
+    × All (λ (row : WeightedStack). All IsName row.stack × (length row.stack ≤ 65535))
+    (take l.at (rows_at l.value l.batch.rows))

@@ -3,4 +3,5 @@ use Rattle.std.proofs.Common.{◌<◌, ◌^◌, sym, subst}
 use Rattle.library_tests.proofs.helpers.add.Goals as goal
 
 pub first_heavy-requires-clause-fits : goal.first_heavy-requires-clause-fits
-first_heavy-requires-clause-fits c = λ value. subst (λ n. n < 2 ^ 63) (sym (c.total-held.ensures.totals value)) (c.total-held.ensures.fits value)
+first_heavy-requires-clause-fits c =
+    λ value. subst (λ n. n < 2 ^ 63) (sym (c.total-held.ensures.totals value)) (c.total-held.ensures.fits value)

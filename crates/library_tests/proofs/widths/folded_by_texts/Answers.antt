@@ -7,5 +7,9 @@ use Rattle.library_tests.proofs.widths.folded_by_texts.Goals as goal
 
 pub report_of_stack_texts-requires : goal.report_of_stack_texts-requires
 report_of_stack_texts-requires c =
-    let weights = weights_of c.args.tree.now c.args.value in
-    (weights, subst (λ (texts : List StackText). AreStackTexts weights texts) (sym c.as_slice.ensures.value) c.in_ok-texts.ensures)
+    let weights = weights_of c.args.tree.now c.args.value in (
+      weights,
+      subst
+          (λ (texts : List StackText). AreStackTexts weights texts)
+          (sym c.as_slice.ensures.value) c.in_ok-texts.ensures,
+    )

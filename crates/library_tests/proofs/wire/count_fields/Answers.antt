@@ -11,10 +11,19 @@ loop-read-preserved c =
     record {
       front = so-far.front ++ next.spelling;
       fields = so-far.fields ++ field_of c.in-Ok.field-0 ∷ [];
-      parts = so-far.parts ∙ ap (λ (rest : List ℕ). so-far.front ++ rest) next.after.parts ∙ sym (append_assoc so-far.front next.spelling c.next_field.new.self.bytes);
-      listed = fields_joined so-far.front next.spelling so-far.fields (field_of c.in-Ok.field-0 ∷ []) so-far.listed (one_field_listed next.spelling (field_of c.in-Ok.field-0) next.spelled);
+      parts = so-far.parts ∙ ap (λ (rest : List ℕ). so-far.front ++ rest) next.after.parts
+          ∙ sym (append_assoc so-far.front next.spelling c.next_field.new.self.bytes);
+      listed = fields_joined so-far.front next.spelling so-far.fields (field_of c.in-Ok.field-0 ∷ []) so-far.listed
+          (one_field_listed next.spelling (field_of c.in-Ok.field-0) next.spelled);
       counted = omega (arith, so-far.counted, length-append so-far.fields (field_of c.in-Ok.field-0 ∷ []));
-      fits = omega (arith, so-far.fits, length-append so-far.front next.spelling, ap length next.after.parts, length-append next.spelling c.next_field.new.self.bytes, shorter);
+      fits = omega (
+        arith,
+        so-far.fits,
+        length-append so-far.front next.spelling,
+        ap length next.after.parts,
+        length-append next.spelling c.next_field.new.self.bytes,
+        shorter,
+      );
     }
 
 pub returns-in-Err : goal.returns-in-Err
@@ -23,7 +32,13 @@ returns-in-Err c =
     let wrong = rw c.in-Err.is at c.in-Some.ensures.fault in (
       so-far.fields,
       c.loop-read.fields.bytes,
-      record { front = so-far.front; parts = so-far.parts; listed = so-far.listed; ends = fault_without_field c.in-Err.fault c.loop-read.fields.bytes wrong.1 },
+      record {
+        front = so-far.front;
+        parts = so-far.parts;
+        listed =
+            so-far.listed;
+        ends = fault_without_field c.in-Err.fault c.loop-read.fields.bytes wrong.1;
+      },
       so-far.counted,
       wrong.1,
     )

@@ -15,15 +15,19 @@ returns c =
     let lists = c.deal_rows.new.lists.items in
     let batch : BatchState = c.in_ok-batch.batch in
     IfOk-weaker c.with_totals.result _ _ (λ asked ends.
-    subst (λ (b : BatchState). AreDealt b c.args.sessions (map (λ list. map plain_op list.items) asked.items)) c.in_ok-batch.ensures
-    (dealt_from batch c.args.sessions (map (λ list. map plain_op list.items) lists) (map (λ list. map plain_op list.items) asked.items)
+    subst (λ (b : BatchState). AreDealt b c.args.sessions (map (λ list. map plain_op list.items) asked.items))
+    c.in_ok-batch.ensures
+    (dealt_from batch c.args.sessions
+    (map (λ list. map plain_op list.items) lists) (map (λ list. map plain_op list.items) asked.items)
     (length-map lists (λ list. map plain_op list.items) ∙ c.deal_rows.ensures.count ∙ c.in_ok-lists.ensures.count)
     (λ weight.
     let more = c.in_ok-deal_rows.ensures.dealt weight in
     let none = c.in_ok-lists.ensures.empty weight in
-    let rows = ap (λ (rows : List Row). sum_by weight (map (addition c.width-width.result) rows)) c.in_ok-rows.ensures in
+    let rows =
+    ap (λ (rows : List Row). sum_by weight (map (addition c.width-width.result) rows)) c.in_ok-rows.ensures in
     let width = ap (λ (width : ℕ). sum_by weight (map (addition width) batch.rows)) c.width-width.ensures.width in
     omega (arith, more, none, rows, width))
     (ends
     ∙ ap (λ (width : ℕ). map (λ list. map plain_op list.items ++ totals_from 0 width) lists) c.width-width.ensures.width
-    ∙ sym (map-map (λ list. list ++ totals_from 0 batch.width) (λ list. map plain_op list.items) lists)))) c.with_totals.ensures
+    ∙ sym (map-map (λ list. list ++ totals_from 0 batch.width) (λ list. map plain_op list.items) lists))))
+    c.with_totals.ensures

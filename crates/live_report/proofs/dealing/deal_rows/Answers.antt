@@ -24,9 +24,11 @@ loop-row-preserved c =
     let rest : List OwnedRow = c.next.new.self.rest.items in
     let add : PlainOp = addition c.args.width (plain_row row) in
     let plain = length-map items (λ list. map plain_op list.items) in
-    let held : get_or lists k [] ≡ old = get_or-map (λ list. map plain_op list.items) items k c.index_mut.result.now [] inside ∙ ap (λ list. map plain_op list.items) (sym c.index_mut.ensures.value) in
+    let held : get_or lists k [] ≡ old = get_or-map (λ list. map plain_op list.items) items
+    k c.index_mut.result.now [] inside ∙ ap (λ list. map plain_op list.items) (sym c.index_mut.ensures.value) in
     let pushed : map plain_op c.push.new.self.items ≡ old ++ add ∷ [] =
-    ap (map plain_op) c.in_ok-push.ensures.items ∙ map_push plain_op c.index_mut.result.now.items c.in_ok-op.op ∙ ap (λ op. old ++ op ∷ []) c.in_ok-op.ensures in
+    ap (map plain_op) c.in_ok-push.ensures.items
+    ∙ map_push plain_op c.index_mut.result.now.items c.in_ok-op.op ∙ ap (λ op. old ++ op ∷ []) c.in_ok-op.ensures in
     let changed : map (λ list. map plain_op list.items) (set items k c.push.new.self) ≡ set lists k (old ++ add ∷ []) =
     map-set (λ list. map plain_op list.items) items k c.push.new.self ∙ ap (set lists k) pushed in
     let left : c.loop-row.row-iterator.rest.items ≡ row ∷ rest = c.in-Some.ensures.steps.0 in (

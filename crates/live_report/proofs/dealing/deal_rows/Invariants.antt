@@ -10,5 +10,7 @@ abbrev pub invariant-loop-row : goal.invariant-loop-row
 invariant-loop-row l =
     (length l.lists.items ≡ length l.fn.lists.items)
     × (l.worker < length l.lists.items)
-    × ((weight : PlainOp → ℕ) → weigh weight (map (λ list. map plain_op list.items) l.lists.items) + sum_by weight (map (addition l.width) (map plain_row l.row-iterator.rest.items))
-    ≡ weigh weight (map (λ list. map plain_op list.items) l.fn.lists.items) + sum_by weight (map (addition l.width) (map plain_row l.fn.rows.items)))
+    × ((weight : PlainOp → ℕ) → weigh weight (map (λ list. map plain_op list.items) l.lists.items) + sum_by weight
+    (map (addition l.width) (map plain_row l.row-iterator.rest.items))
+    ≡ weigh weight (map (λ list. map plain_op list.items) l.fn.lists.items) + sum_by weight
+    (map (addition l.width) (map plain_row l.fn.rows.items)))

@@ -5,4 +5,5 @@ use Rattle.live_report.proofs.dealing.empty_lists.Given as goal
 
 -- so many lists, and nothing in them
 abbrev pub invariant-loop : goal.invariant-loop
-invariant-loop l = ((weight : PlainOp → ℕ) → weigh weight (map (λ list. map plain_op list.items) l.lists.items) ≡ 0) × (length l.lists.items ≡ l.counter)
+invariant-loop l = ((weight : PlainOp → ℕ) → weigh weight (map (λ list. map plain_op list.items) l.lists.items) ≡ 0)
+    × (length l.lists.items ≡ l.counter)

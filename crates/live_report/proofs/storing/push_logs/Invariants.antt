@@ -11,6 +11,7 @@ abbrev pub invariant-loop-one : goal.invariant-loop-one
 invariant-loop-one l =
     ((limit width : ℕ) (lists : List (List PlainOp)) → AreWorkOf limit width lists l.fn.worked.items
     → (others : List (List PlainOp)) × AreWorkOf limit width others l.one-iterator.rest.items
-    × (map (λ log. ops_told log.receipts) l.fn.logs.items ++ lists ≡ map (λ log. ops_told log.receipts) l.logs.items ++ others))
+    × (map (λ log. ops_told log.receipts) l.fn.logs.items ++ lists
+    ≡ map (λ log. ops_told log.receipts) l.logs.items ++ others))
     × (first_stop l.fn.worked.items ≡ first_stop l.one-iterator.rest.items)
     × (length l.logs.items + length l.one-iterator.rest.items ≤ vec_capacity l.logs)

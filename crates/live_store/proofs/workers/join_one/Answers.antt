@@ -7,5 +7,12 @@ use Rattle.live_store.proofs.workers.join_one.Goals as goal
 
 pub returns-clause-seen : goal.returns-clause-seen
 returns-clause-seen g c =
-    let none = c.new-in-Err.ensures ∙ c.new.ensures.items in
-    (search rules, ([], subst (λ (log : List PlainReceipt). IsBorneOut c.args.begun.session log []) (sym none) (borne_fresh c.args.begun.session []), tt))
+    let none = c.new-in-Err.ensures ∙ c.new.ensures.items in (
+      search rules,
+      (
+        [],
+        subst (λ (log : List PlainReceipt). IsBorneOut c.args.begun.session log [])
+            (sym none) (borne_fresh c.args.begun.session []),
+        tt,
+      ),
+    )

@@ -14,29 +14,40 @@ use Rattle.op_book.proofs.auditing.audit_with.Goals as goal
 
 pub returns-clause-accepted : goal.returns-clause-accepted
 returns-clause-accepted c = λ logs_match.
-    MatchResult-weaker c.run_of.result c.run_of.ensures.first (λ run is. tt) (no_fault c.args.journal.now c.args.logs.now logs_match)
+    MatchResult-weaker c.run_of.result c.run_of.ensures.first
+    (λ run is. tt) (no_fault c.args.journal.now c.args.logs.now logs_match)
 
 once : (logs : List SessionLog) (run : List PlainStep) → IsRunOf logs run → IsPermutation (steps_in logs) run
-once logs run is = subst (λ (steps : List PlainStep). IsPermutation (steps_in logs) steps) (sym is.steps_are) (IsPermutation-map step_of (logged logs) is.ordered is.all)
+once logs run is = subst (λ (steps : List PlainStep). IsPermutation (steps_in logs) steps)
+    (sym is.steps_are) (IsPermutation-map step_of (logged logs) is.ordered is.all)
 
 pub returns-clause-each_receipt_once : goal.returns-clause-each_receipt_once
 returns-clause-each_receipt_once c =
-    MatchResult-weaker c.run_of.result c.run_of.ensures.first (λ run is. once c.args.logs.now run is.1) (λ fault first. tt)
+    MatchResult-weaker c.run_of.result c.run_of.ensures.first
+    (λ run is. once c.args.logs.now run is.1) (λ fault first. tt)
 
-kept : (ordered : List LoggedReceipt) → AllPairs (λ (a : LoggedReceipt) (b : LoggedReceipt). a.session ≡ b.session → a.index < b.index) ordered
-    → AllPairs (λ (earlier : PlainStep) (later : PlainStep). earlier.session ≡ later.session → earlier.index < later.index) (map step_of ordered)
+kept : (ordered : List LoggedReceipt)
+    → AllPairs (λ (a : LoggedReceipt) (b : LoggedReceipt). a.session ≡ b.session → a.index < b.index) ordered
+    → AllPairs (λ (earlier : PlainStep) (later : PlainStep). earlier.session ≡ later.session
+    → earlier.index < later.index) (map step_of ordered)
 kept ordered own i j d lt j_lt =
     let size = length-map ordered step_of in
-    let first : get_or (map step_of ordered) i d ≡ step_of (get_or ordered i nobody) = get_or-map step_of ordered i nobody d (omega (arith, size, lt, j_lt)) in
-    let second : get_or (map step_of ordered) j d ≡ step_of (get_or ordered j nobody) = get_or-map step_of ordered j nobody d (omega (arith, size, j_lt)) in
+    let first : get_or (map step_of ordered) i d ≡ step_of (get_or ordered i nobody) =
+    get_or-map step_of ordered i nobody d (omega (arith, size, lt, j_lt)) in
+    let second : get_or (map step_of ordered) j d ≡ step_of (get_or ordered j nobody) =
+    get_or-map step_of ordered j nobody d (omega (arith, size, j_lt)) in
     rw (first, second) (own i j nobody lt (omega (arith, size, j_lt)))
 
-kept_order : (journal : JournalState) (logs : List SessionLog) (run : List PlainStep) → LogsMatch journal logs → IsRunOf logs run
-    → AllPairs (λ (earlier : PlainStep) (later : PlainStep). earlier.session ≡ later.session → earlier.index < later.index) run
+kept_order : (journal : JournalState) (logs : List SessionLog) (run : List PlainStep)
+    → LogsMatch journal logs → IsRunOf logs run
+    → AllPairs
+    (λ (earlier : PlainStep) (later : PlainStep). earlier.session ≡ later.session → earlier.index < later.index) run
 kept_order journal logs run is runs =
-    subst (λ (steps : List PlainStep). AllPairs (λ (earlier : PlainStep) (later : PlainStep). earlier.session ≡ later.session → earlier.index < later.index) steps) (sym runs.steps_are)
+    subst (λ (steps : List PlainStep). AllPairs (λ (earlier : PlainStep) (later : PlainStep). earlier.session
+    ≡ later.session → earlier.index < later.index) steps) (sym runs.steps_are)
     (kept runs.ordered (own_order logs runs.ordered is.one_log_each is.in_order runs.all runs.sorted))
 
 pub returns-clause-own_order : goal.returns-clause-own_order
 returns-clause-own_order c =
-    MatchResult-weaker c.run_of.result c.run_of.ensures.first (λ run is. kept_order c.args.journal.now c.args.logs.now run is.0 is.1) (λ fault first. tt)
+    MatchResult-weaker c.run_of.result c.run_of.ensures.first
+    (λ run is. kept_order c.args.journal.now c.args.logs.now run is.0 is.1) (λ fault first. tt)

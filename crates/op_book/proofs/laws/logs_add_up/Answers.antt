@@ -6,5 +6,6 @@ use Rattle.op_book.proofs.laws.logs_add_up.Goals as goal
 
 pub returns : goal.returns
 returns c = λ logs run operations once legal changes value.
-    c.aggregate_is_by_weights.ensures (rows_at value (rows_logged (counting_from operations) logs)) (rows_at value (profile_after operations))
+    c.aggregate_is_by_weights.ensures
+    (rows_at value (rows_logged (counting_from operations) logs)) (rows_at value (profile_after operations))
     (logged_rows_weigh logs run operations once legal changes value)

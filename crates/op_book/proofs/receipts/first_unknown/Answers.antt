@@ -7,13 +7,16 @@ use Rattle.op_book.proofs.receipts.first_unknown.Goals as goal
 
 pub returns-then-not-is_known : goal.returns-then-not-is_known
 returns-then-not-is_known c =
-    first_without (IsKnown c.args.journal.now) c.args.all.now c.loop-one.one-index c.one-item.result c.one.inside.session c.one.inside.index c.loop-one-test.true c.one-item.is c.loop-one.invariant
+    first_without (IsKnown c.args.journal.now) c.args.all.now c.loop-one.one-index c.one-item.result
+    c.one.inside.session c.one.inside.index c.loop-one-test.true c.one-item.is c.loop-one.invariant
     (λ is. both_ways c.is_known.result c.if-not-is_known.true (c.is_known.ensures.1 is))
     (ap (λ (one : LoggedReceipt). one.session) c.one.view_is) (ap (λ (one : LoggedReceipt). one.index) c.one.view_is)
 
 pub loop-one-preserved : goal.loop-one-preserved
-loop-one-preserved c = All-more (IsKnown c.args.journal.now) c.args.all.now c.loop-one.one-index c.one-item.result c.loop-one-test.true c.loop-one.invariant
+loop-one-preserved c = All-more (IsKnown c.args.journal.now)
+    c.args.all.now c.loop-one.one-index c.one-item.result c.loop-one-test.true c.loop-one.invariant
     (rw (← c.one-item.is) (c.is_known.ensures.0 c.if-not-is_known.false))
 
 pub returns : goal.returns
-returns c = passed_all (IsKnown c.args.journal.now) c.args.all.now c.loop-one.one-index c.loop-one-test.false c.loop-one.invariant
+returns c = passed_all
+    (IsKnown c.args.journal.now) c.args.all.now c.loop-one.one-index c.loop-one-test.false c.loop-one.invariant

@@ -6,16 +6,22 @@ use Rattle.op_book.proofs.receipts.second_log.Goals as goal
 
 pub returns-then-contains : goal.returns-then-contains
 returns-then-contains c =
-    second_log c.args.logs.now c.loop-log.log-index c.log-item.result c.loop-log-test.true c.log-item.is c.loop-log.invariant.0
-    (has_session (take c.loop-log.log-index c.args.logs.now) c.log-item.result.session (sym (c.loop-log.invariant.1 c.log-item.result.session) ∙ sym c.contains.ensures ∙ c.if-contains.true))
+    second_log
+    c.args.logs.now c.loop-log.log-index c.log-item.result c.loop-log-test.true c.log-item.is c.loop-log.invariant.0
+    (has_session (take c.loop-log.log-index c.args.logs.now) c.log-item.result.session
+    (sym (c.loop-log.invariant.1 c.log-item.result.session) ∙ sym c.contains.ensures ∙ c.if-contains.true))
 
 pub loop-log-preserved : goal.loop-log-preserved
 loop-log-preserved c = (
-  pairs_more (λ (a : SessionLog) (b : SessionLog). a.session ≢ b.session) c.args.logs.now c.loop-log.log-index c.log-item.result c.loop-log-test.true c.loop-log.invariant.0
-      (subst (λ (log : SessionLog). All (λ (a : SessionLog). a.session ≢ log.session) (take c.loop-log.log-index c.args.logs.now)) c.log-item.is
-      (has_no_session (take c.loop-log.log-index c.args.logs.now) c.log-item.result.session (sym (c.loop-log.invariant.1 c.log-item.result.session) ∙ sym c.contains.ensures ∙ c.if-contains.false))),
+  pairs_more (λ (a : SessionLog) (b : SessionLog). a.session ≢ b.session)
+      c.args.logs.now c.loop-log.log-index c.log-item.result c.loop-log-test.true c.loop-log.invariant.0
+      (subst (λ (log : SessionLog). All
+      (λ (a : SessionLog). a.session ≢ log.session) (take c.loop-log.log-index c.args.logs.now)) c.log-item.is
+      (has_no_session (take c.loop-log.log-index c.args.logs.now) c.log-item.result.session
+      (sym (c.loop-log.invariant.1 c.log-item.result.session) ∙ sym c.contains.ensures ∙ c.if-contains.false))),
   λ q. grind (arith, common_steps, c.loop-log.invariant.1 q),
 )
 
 pub returns : goal.returns
-returns c = pairs_all (λ (a : SessionLog) (b : SessionLog). a.session ≢ b.session) c.args.logs.now c.loop-log.log-index c.loop-log-test.false c.loop-log.invariant.0
+returns c = pairs_all (λ (a : SessionLog) (b : SessionLog). a.session ≢ b.session)
+    c.args.logs.now c.loop-log.log-index c.loop-log-test.false c.loop-log.invariant.0

@@ -9,4 +9,5 @@ use Rattle.op_book.proofs.receipts.second_log.Given as goal
 -- the set has the sessions of the logs so far, of which each has one
 abbrev pub invariant-loop-log : goal.invariant-loop-log
 invariant-loop-log l = HasOneLogEach (take l.log-index l.logs)
-    × ((session : ℕ) → sorted.contains nat_cmp l.sessions session ≡ list_any (λ log. log.session == session) (take l.log-index l.logs))
+    × ((session : ℕ) → sorted.contains nat_cmp l.sessions session
+    ≡ list_any (λ log. log.session == session) (take l.log-index l.logs))

@@ -26,10 +26,12 @@ loop-at-preserved c =
       elim c.if-not-right.branch [
         | then-not-right w ↦ subst (λ (o : Option Wrong). IsLowestOf all (at + 1) o) (sym w.lowest-is)
             (wrong_more all at one c.loop-at.lowest w.lower-lowest.result c.loop-at-test.true is
-            (λ plain. both_ways c.in_ok-same.right w.if-not-right.true (right.1 (subst (λ (x : LoggedReceipt). IsPlain (take at all) x) is plain)))
+            (λ plain. both_ways c.in_ok-same.right w.if-not-right.true
+            (right.1 (subst (λ (x : LoggedReceipt). IsPlain (take at all) x) is plain)))
             w.lower-lowest.ensures c.loop-at.invariant.2)
         | else-not-right w ↦ subst (λ (o : Option Wrong). IsLowestOf all (at + 1) o) (sym w.lowest-is)
             (right_more all at one c.loop-at.lowest c.loop-at-test.true is
-            (subst (λ (x : LoggedReceipt). IsPlain (take at all) x) (sym is) (right.0 w.if-not-right.false)) c.loop-at.invariant.2)
+            (subst (λ (x : LoggedReceipt). IsPlain (take at all) x) (sym is) (right.0 w.if-not-right.false))
+            c.loop-at.invariant.2)
       ],
     )

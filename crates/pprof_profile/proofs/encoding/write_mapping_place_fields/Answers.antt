@@ -5,4 +5,20 @@ use Rattle.pprof_profile.proofs.encoding.write_mapping_place_fields.Goals as goa
 
 pub returns-clause-written : goal.returns-clause-written
 returns-clause-written c =
-    on_ok_joined _ _ _ c.write_number-6.result (number_fields 1 (number_of_unsigned c.args.item.now.id) ++ number_fields 2 (number_of_unsigned c.args.item.now.memory_start) ++ number_fields 3 (number_of_unsigned c.args.item.now.memory_limit) ++ number_fields 4 (number_of_unsigned c.args.item.now.file_offset) ++ number_fields 5 (number_of_signed c.args.item.now.filename)) (number_fields 6 (number_of_signed c.args.item.now.build_id)) (joined _ _ _ (number_fields 1 (number_of_unsigned c.args.item.now.id) ++ number_fields 2 (number_of_unsigned c.args.item.now.memory_start) ++ number_fields 3 (number_of_unsigned c.args.item.now.memory_limit) ++ number_fields 4 (number_of_unsigned c.args.item.now.file_offset)) (number_fields 5 (number_of_signed c.args.item.now.filename)) (joined _ _ _ (number_fields 1 (number_of_unsigned c.args.item.now.id) ++ number_fields 2 (number_of_unsigned c.args.item.now.memory_start) ++ number_fields 3 (number_of_unsigned c.args.item.now.memory_limit)) (number_fields 4 (number_of_unsigned c.args.item.now.file_offset)) (joined _ _ _ (number_fields 1 (number_of_unsigned c.args.item.now.id) ++ number_fields 2 (number_of_unsigned c.args.item.now.memory_start)) (number_fields 3 (number_of_unsigned c.args.item.now.memory_limit)) (joined _ _ _ (number_fields 1 (number_of_unsigned c.args.item.now.id)) (number_fields 2 (number_of_unsigned c.args.item.now.memory_start)) c.in_ok-write_number.ensures.written c.in_ok-write_number-2.ensures.written) c.in_ok-write_number-3.ensures.written) c.in_ok-write_number-4.ensures.written) c.in_ok-write_number-5.ensures.written) c.write_number-6.ensures.written
+    on_ok_joined _ _ _ c.write_number-6.result (number_fields 1
+    (number_of_unsigned c.args.item.now.id) ++ number_fields 2 (number_of_unsigned c.args.item.now.memory_start)
+    ++ number_fields 3 (number_of_unsigned c.args.item.now.memory_limit) ++ number_fields 4
+    (number_of_unsigned c.args.item.now.file_offset) ++ number_fields 5 (number_of_signed c.args.item.now.filename))
+    (number_fields 6 (number_of_signed c.args.item.now.build_id)) (joined _ _ _ (number_fields 1
+    (number_of_unsigned c.args.item.now.id) ++ number_fields 2 (number_of_unsigned c.args.item.now.memory_start)
+    ++ number_fields 3 (number_of_unsigned c.args.item.now.memory_limit) ++ number_fields 4
+    (number_of_unsigned c.args.item.now.file_offset)) (number_fields 5 (number_of_signed c.args.item.now.filename))
+    (joined _ _ _ (number_fields 1 (number_of_unsigned c.args.item.now.id) ++ number_fields 2 (number_of_unsigned
+    c.args.item.now.memory_start) ++ number_fields 3 (number_of_unsigned c.args.item.now.memory_limit))
+    (number_fields 4 (number_of_unsigned c.args.item.now.file_offset)) (joined _ _ _ (number_fields 1
+    (number_of_unsigned c.args.item.now.id) ++ number_fields 2 (number_of_unsigned c.args.item.now.memory_start))
+    (number_fields 3 (number_of_unsigned c.args.item.now.memory_limit))
+    (joined _ _ _ (number_fields 1 (number_of_unsigned c.args.item.now.id))
+    (number_fields 2 (number_of_unsigned c.args.item.now.memory_start)) c.in_ok-write_number.ensures.written
+    c.in_ok-write_number-2.ensures.written) c.in_ok-write_number-3.ensures.written)
+    c.in_ok-write_number-4.ensures.written) c.in_ok-write_number-5.ensures.written) c.write_number-6.ensures.written

@@ -7,11 +7,19 @@ use Rattle.pprof_profile.proofs.ids.unique_ids.Goals as goal
 pub loop-item-preserved : goal.loop-item-preserved
 loop-item-preserved g c =
     let so-far : List ℕ = map g.T.HasId.id_of (take c.loop-item.item-index c.args.items.now) in
-    let more : map g.T.HasId.id_of (take (c.loop-item.item-index + 1) c.args.items.now) ≡ so-far ++ c.id-id.result ∷ [] =
-    ids_more g.T.HasId.id_of c.args.items.now c.loop-item.item-index c.item-item.result c.id-id.result c.loop-item-test.true c.item-item.is c.id-id.ensures in
+    let more : map g.T.HasId.id_of (take (c.loop-item.item-index + 1) c.args.items.now)
+    ≡ so-far ++ c.id-id.result ∷ [] =
+    ids_more g.T.HasId.id_of c.args.items.now
+    c.loop-item.item-index c.item-item.result c.id-id.result c.loop-item-test.true c.item-item.is c.id-id.ensures in
     rw more
     record {
-      known = λ q. grind (arith, common_steps, c.in_ok-add.ensures q, c.loop-item.invariant.known q, list_any-append (nat_eq q) so-far (c.id-id.result ∷ []));
+      known = λ q. grind (
+        arith,
+        common_steps,
+        c.in_ok-add.ensures q,
+        c.loop-item.invariant.known q,
+        list_any-append (nat_eq q) so-far (c.id-id.result ∷ []),
+      );
       single = single_more so-far c.id-id.result c.loop-item.invariant.single
           (grind (arith, c.loop-item.invariant.known c.id-id.result, c.contains.ensures, c.if-contains.false));
     }
@@ -21,7 +29,8 @@ returns-then-contains-clause-double g c =
     let so-far : List ℕ = map g.T.HasId.id_of (take c.loop-item.item-index c.args.items.now) in
     let rest : List ℕ = map g.T.HasId.id_of (drop (c.loop-item.item-index + 1) c.args.items.now) in
     let all : map g.T.HasId.id_of c.args.items.now ≡ so-far ++ c.id-id.result ∷ rest =
-    ids_inside g.T.HasId.id_of c.args.items.now c.loop-item.item-index c.item-item.result c.id-id.result c.loop-item-test.true c.item-item.is c.id-id.ensures in
+    ids_inside g.T.HasId.id_of c.args.items.now
+    c.loop-item.item-index c.item-item.result c.id-id.result c.loop-item-test.true c.item-item.is c.id-id.ensures in
     λ other. (
       refl,
       rw all (double_inside so-far rest c.id-id.result

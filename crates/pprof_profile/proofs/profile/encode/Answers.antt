@@ -12,4 +12,5 @@ returns-clause-spelled c =
     let same : draft ≡ c.args.profile.now = c.draft.ensures.draft in
     let valid : IsValidDraft draft = subst (λ (d : Draft). IsValidDraft d) (sym same) c.draft.ensures.valid in
     rw (c.in_ok-write.ensures.written, c.new-bytes.ensures.items)
-    (subst (λ (d : Draft). IsProfile (canonical_bytes_of draft) d) same (canonical_profile draft c.in_ok-write.ensures.fits valid))
+    (subst (λ (d : Draft). IsProfile (canonical_bytes_of draft) d) same
+    (canonical_profile draft c.in_ok-write.ensures.fits valid))

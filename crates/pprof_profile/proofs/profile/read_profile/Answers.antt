@@ -6,4 +6,10 @@ pub returns-in_err-validate-clause-fault : goal.returns-in_err-validate-clause-f
 returns-in_err-validate-clause-fault c =
     let p = err_from_is_err_and c.from_residual-in_err-validate.result c.from_residual-in_err-validate.ensures.1 in
     rw (p.1, p.2) (λ other. inr (inr
-    record { plain = c.if-begins_as_gzip.ensures.no; draft = c.in_ok-draft.draft; spelled = c.in_ok-draft.ensures.read; first = c.in_err-validate.ensures.fault other }))
+    record {
+      plain = c.if-begins_as_gzip.ensures.no;
+      draft =
+          c.in_ok-draft.draft;
+      spelled = c.in_ok-draft.ensures.read;
+      first = c.in_err-validate.ensures.fault other;
+    }))

@@ -8,7 +8,9 @@ loop-read-preserved g c =
     let so-far = c.loop-read.invariant in
     record {
       front = so-far.front ++ spelling;
-      parts = so-far.parts ∙ ap (λ (left : List ℕ). so-far.front ++ left) parts ∙ sym (append_assoc so-far.front spelling c.next_value.new.self);
+      parts = so-far.parts ∙ ap (λ (left : List ℕ). so-far.front ++ left) parts
+          ∙ sym (append_assoc so-far.front spelling c.next_value.new.self);
       unpacked = rw (c.in_ok-push-in-Ok.ensures.pushed, c.from_varint.ensures)
-          (unpacked_more g.N.Number.of c.args.items.now c.loop-read.items so-far.front spelling c.in-Ok.number so-far.unpacked spelled);
+          (unpacked_more g.N.Number.of
+          c.args.items.now c.loop-read.items so-far.front spelling c.in-Ok.number so-far.unpacked spelled);
     }

@@ -3,7 +3,8 @@ use Rattle.pprof_profile.specs.Reading.{IsUnpacked}
 use Rattle.pprof_profile.proofs.reading.push_packed.Given as goal
 
 -- the numbers before the rest are appended
-pub record IsUnpackedSoFar {A : Type 0} (from : ℕ → A) (old : List A) (bytes : List ℕ) (new : List A) (rest : List ℕ) : Type 0 where
+pub record IsUnpackedSoFar {A : Type 0}
+    (from : ℕ → A) (old : List A) (bytes : List ℕ) (new : List A) (rest : List ℕ) : Type 0 where
   pub front : List ℕ
   pub parts : bytes ≡ front ++ rest
   pub unpacked : IsUnpacked from old front new

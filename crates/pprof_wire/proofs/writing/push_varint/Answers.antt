@@ -4,8 +4,16 @@ use Rattle.pprof_wire.proofs.ShortestVarints.{all-left, next-left, pushed_next}
 use Rattle.pprof_wire.proofs.writing.push_varint.Goals as goal
 
 pub loop-rest-init : goal.loop-rest-init
-loop-rest-init c =
-    (record { groups = varint_of c.args.number; left = all-left c.args.number c.ranges.number.fits; joined = refl; room = c.requires }, omega arith)
+loop-rest-init c = (
+  record {
+    groups = varint_of c.args.number;
+    left =
+        all-left c.args.number c.ranges.number.fits;
+    joined = refl;
+    room = c.requires;
+  },
+  omega arith,
+)
 
 pub loop-rest-preserved : goal.loop-rest-preserved
 loop-rest-preserved c =
@@ -16,7 +24,8 @@ loop-rest-preserved c =
       record {
         groups = next.others;
         left = next.left;
-        joined = ap (λ (items : List ℕ). items ++ next.others) pushed ∙ pushed_next c.loop-rest.out.items so-far.groups (c.loop-rest.rest % 128 + 128) next.others next.are ∙ so-far.joined;
+        joined = ap (λ (items : List ℕ). items ++ next.others) pushed ∙ pushed_next c.loop-rest.out.items so-far.groups
+            (c.loop-rest.rest % 128 + 128) next.others next.are ∙ so-far.joined;
         room = omega (arith, longer, so-far.room, ap length next.are, c.push.ensures.capacity);
       },
       omega (arith, c.loop-rest.invariant.1, c.push.ensures.capacity),

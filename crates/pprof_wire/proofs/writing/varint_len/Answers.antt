@@ -4,15 +4,22 @@ use Rattle.pprof_wire.proofs.ShortestVarints.{all-left, next-left, last-left, le
 use Rattle.pprof_wire.proofs.writing.varint_len.Goals as goal
 
 pub loop-rest-init : goal.loop-rest-init
-loop-rest-init c = record { groups = varint_of c.args.number; left = all-left c.args.number c.ranges.number.fits; counted = refl }
+loop-rest-init c =
+    record { groups = varint_of c.args.number; left = all-left c.args.number c.ranges.number.fits; counted = refl }
 
 pub overflow_add-len : goal.overflow_add-len
 overflow_add-len c = omega (arith, c.loop-rest.invariant.counted, length-varint_of c.args.number c.ranges.number.fits)
 
 pub loop-rest-preserved : goal.loop-rest-preserved
 loop-rest-preserved c =
-    let next = next-left c.loop-rest.invariant.groups c.loop-rest.rest c.loop-rest.invariant.left c.loop-rest-test.true in
-    record { groups = next.others; left = next.left; counted = omega (arith, c.loop-rest.invariant.counted, ap length next.are) }
+    let next =
+    next-left c.loop-rest.invariant.groups c.loop-rest.rest c.loop-rest.invariant.left c.loop-rest-test.true in
+    record {
+      groups =
+          next.others;
+      left = next.left;
+      counted = omega (arith, c.loop-rest.invariant.counted, ap length next.are);
+    }
 
 pub returns-clause-most : goal.returns-clause-most
 returns-clause-most c =
@@ -20,5 +27,6 @@ returns-clause-most c =
       arith,
       c.loop-rest.invariant.counted,
       length-varint_of c.args.number c.ranges.number.fits,
-      ap length (last-left c.loop-rest.invariant.groups c.loop-rest.rest c.loop-rest.invariant.left c.loop-rest-test.false),
+      ap length
+          (last-left c.loop-rest.invariant.groups c.loop-rest.rest c.loop-rest.invariant.left c.loop-rest-test.false),
     )

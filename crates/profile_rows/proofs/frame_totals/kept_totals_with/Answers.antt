@@ -11,9 +11,12 @@ use Rattle.profile_rows.proofs.frame_totals.kept_totals_with.Goals.{then-keeps+i
 pub count_batch_row-requires-clause-fits : goal.count_batch_row-requires-clause-fits
 count_batch_row-requires-clause-fits c =
     let rows = c.rows-row-items.result.now in
-    let before = weight_where-kept-le (option_copied c.args.focus) (option_copied c.args.ignored) (λ stack. true) (take c.loop-row.row-index rows) in
-    let all = sum_by_more_le (λ (row : WeightedStack). row.weight) rows c.loop-row.row-index c.row-item.result c.loop-row-test.true in
-    let row : c.row-item.result.weight ≡ (get_or rows c.loop-row.row-index c.row-item.result).weight = ap (λ (row : WeightedStack). row.weight) c.row-item.is in
+    let before = weight_where-kept-le
+    (option_copied c.args.focus) (option_copied c.args.ignored) (λ stack. true) (take c.loop-row.row-index rows) in
+    let all = sum_by_more_le
+    (λ (row : WeightedStack). row.weight) rows c.loop-row.row-index c.row-item.result c.loop-row-test.true in
+    let row : c.row-item.result.weight ≡ (get_or rows c.loop-row.row-index c.row-item.result).weight =
+    ap (λ (row : WeightedStack). row.weight) c.row-item.is in
     let held = c.loop-row.invariant.tallies.total in
     let batch = ap total_of c.rows-row-items.ensures.rows in
     let fits = c.rows-row-items.ensures.fits in
@@ -24,9 +27,13 @@ loop-row-preserved c =
     let rows = c.rows-row-items.result.now in
     elim c.if-keeps.branch [
       | then-keeps+in_ok-count_batch_row w ↦
-          let more = kept_rows-more (option_copied c.args.focus) (option_copied c.args.ignored) rows c.loop-row.row-index c.row-item.result c.loop-row-test.true c.row-item.is (sym c.keeps.ensures ∙ w.if-keeps.true) in
+          let more =
+          kept_rows-more (option_copied c.args.focus) (option_copied c.args.ignored) rows c.loop-row.row-index
+          c.row-item.result c.loop-row-test.true c.row-item.is (sym c.keeps.ensures ∙ w.if-keeps.true) in
           rw (w.rows-is, more) (w.in_ok-count_batch_row.ensures _ c.loop-row.invariant)
       | else-keeps w ↦
-          let same = kept_rows-left (option_copied c.args.focus) (option_copied c.args.ignored) rows c.loop-row.row-index c.row-item.result c.loop-row-test.true c.row-item.is (sym c.keeps.ensures ∙ w.if-keeps.false) in
+          let same =
+          kept_rows-left (option_copied c.args.focus) (option_copied c.args.ignored) rows c.loop-row.row-index
+          c.row-item.result c.loop-row-test.true c.row-item.is (sym c.keeps.ensures ∙ w.if-keeps.false) in
           rw (w.rows-is, same) c.loop-row.invariant
     ]

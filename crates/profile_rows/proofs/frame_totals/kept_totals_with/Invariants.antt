@@ -6,4 +6,5 @@ use Rattle.profile_rows.proofs.frame_totals.kept_totals_with.Given as goal
 
 -- the kept rows so far are counted
 abbrev pub invariant-loop-row : goal.invariant-loop-row
-invariant-loop-row l = HasCounted (kept_rows (option_copied l.focus) (option_copied l.ignored) (take l.row-index l.row-items)) l.rows
+invariant-loop-row l =
+    HasCounted (kept_rows (option_copied l.focus) (option_copied l.ignored) (take l.row-index l.row-items)) l.rows

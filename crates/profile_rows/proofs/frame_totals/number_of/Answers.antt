@@ -7,8 +7,10 @@ use Rattle.profile_rows.proofs.frame_totals.number_of.Goals as goal
 pub returns-in_ok-push-clause-tallies : goal.returns-in_ok-push-clause-tallies
 returns-in_ok-push-clause-tallies c = λ rows are.
     let end : c.in_ok-number.number ≡ length c.args.tallies.now.names.items = search rules in
-    named-new rows c.args.names.now.texts c.place_with.new.self.texts c.args.tallies.now (record { names = c.push.new.self; total = c.args.tallies.now.total }) c.args.name.now c.in_ok-number.number
-    c.in_ok-number.ensures.texts c.in_ok-number.ensures.place end refl (c.in_ok-push.ensures.items ∙ ap (λ t. c.args.tallies.now.names.items ++ t ∷ []) c.none.ensures) are
+    named-new rows c.args.names.now.texts c.place_with.new.self.texts c.args.tallies.now
+    (record { names = c.push.new.self; total = c.args.tallies.now.total }) c.args.name.now c.in_ok-number.number
+    c.in_ok-number.ensures.texts c.in_ok-number.ensures.place end refl
+    (c.in_ok-push.ensures.items ∙ ap (λ t. c.args.tallies.now.names.items ++ t ∷ []) c.none.ensures) are
 
 pub returns-else-number-len-clause-tallies : goal.returns-else-number-len-clause-tallies
 returns-else-number-len-clause-tallies c = λ rows are.
@@ -18,4 +20,5 @@ returns-else-number-len-clause-tallies c = λ rows are.
     let same = place_in-with c.args.names.now.texts c.args.name.now in
     let place = c.in_ok-number.ensures.place in
     omega (arith, le, same, place) in
-    named-known rows c.args.names.now.texts c.place_with.new.self.texts c.args.tallies.now c.args.name.now c.in_ok-number.number c.in_ok-number.ensures.texts c.in_ok-number.ensures.place other most are
+    named-known rows c.args.names.now.texts c.place_with.new.self.texts c.args.tallies.now
+    c.args.name.now c.in_ok-number.number c.in_ok-number.ensures.texts c.in_ok-number.ensures.place other most are

@@ -18,5 +18,6 @@ loop-name-preserved c =
           ∙ ap (λ fs. fs ++ c.text.result.now ∷ []) c.loop-name.invariant.texts
           ∙ sym more;
       names = subst (All IsName) (sym more)
-          (All-push IsName seen c.text.result.now c.loop-name.invariant.names (subst IsName (sym c.text.ensures.text) c.text.ensures.name));
+          (All-push IsName seen c.text.result.now c.loop-name.invariant.names
+          (subst IsName (sym c.text.ensures.text) c.text.ensures.name));
     }

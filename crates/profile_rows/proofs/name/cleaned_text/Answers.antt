@@ -8,6 +8,10 @@ use Rattle.profile_rows.proofs.name.cleaned_text.Goals as goal
 
 pub returns : goal.returns
 returns c =
-    let whole : take c.loop-byte.byte-index c.as_bytes-byte-items.result.now ≡ c.args.text.now = take_all c.loop-byte.byte-index c.as_bytes-byte-items.result.now c.loop-byte-test.false ∙ c.as_bytes-byte-items.ensures.value in
-    let cleaned : c.deref.result.now ≡ map cleaned_byte c.args.text.now = c.deref.ensures.value ∙ c.loop-byte.invariant ∙ ap (map cleaned_byte) whole in
-    c.in_ok-from_utf8_lossy.ensures.ok (subst IsUtf8 (sym cleaned) (IsUtf8-cleaned c.args.text.now c.utf8.text)) ∙ cleaned
+    let whole : take c.loop-byte.byte-index c.as_bytes-byte-items.result.now ≡ c.args.text.now =
+    take_all c.loop-byte.byte-index c.as_bytes-byte-items.result.now c.loop-byte-test.false
+    ∙ c.as_bytes-byte-items.ensures.value in
+    let cleaned : c.deref.result.now ≡ map cleaned_byte c.args.text.now = c.deref.ensures.value
+    ∙ c.loop-byte.invariant ∙ ap (map cleaned_byte) whole in
+    c.in_ok-from_utf8_lossy.ensures.ok (subst IsUtf8 (sym cleaned) (IsUtf8-cleaned c.args.text.now c.utf8.text))
+    ∙ cleaned

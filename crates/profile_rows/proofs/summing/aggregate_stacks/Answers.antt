@@ -12,20 +12,27 @@ use Rattle.profile_rows.proofs.InOrder.{rows_of-aggregate}
 use Rattle.profile_rows.proofs.RowLaws.{aggregate_of-same, stack_cmp_total}
 use Rattle.profile_rows.proofs.summing.aggregate_stacks.Goals as goal
 
-sums_in_order : (outcome : Result (List WeightedStack) NoMemory) (rows sorted : List WeightedStack) → IsPermutation rows sorted
-    → IfOk outcome IsAscending → IfOk outcome AreWeighty → IfOk outcome (λ sums. (stack : List (List ℕ)) → weight_of sums stack ≡ weight_of sorted stack)
+sums_in_order : (outcome : Result (List WeightedStack) NoMemory) (rows sorted : List WeightedStack)
+    → IsPermutation rows sorted
+    → IfOk outcome IsAscending → IfOk outcome AreWeighty
+    → IfOk outcome (λ sums. (stack : List (List ℕ)) → weight_of sums stack ≡ weight_of sorted stack)
     → IfOk outcome (λ sums. sums ≡ rows_of (aggregate_of rows))
 sums_in_order (Ok sums) rows sorted moved up weighty weights =
     sym (rows_of-aggregate sums up weighty)
-    ∙ ap rows_of (aggregate_of-same sums rows (λ stack. weights stack ∙ sum_by-IsPermutation (weight_if (is_same_stack stack)) rows sorted moved))
+    ∙ ap rows_of (aggregate_of-same sums rows
+    (λ stack. weights stack ∙ sum_by-IsPermutation (weight_if (is_same_stack stack)) rows sorted moved))
 sums_in_order (Err fault) rows sorted moved up weighty weights = tt
 
 pub put_together-requires-clause-sorted : goal.put_together-requires-clause-sorted
 put_together-requires-clause-sorted c =
-    c.in_ok-sort_by.ensures.sorted (λ (a : WeightedStack) (b : WeightedStack). is_lt (by_stack a b)) (ranks_by stack_cmp_total (λ (row : WeightedStack). row.stack))
-    (answers_always _ _ _ (λ f a r q k. let e : r ≡ stack_cmp a.0.now.stack a.1.0.now.stack = search rules in ap is_lt e))
+    c.in_ok-sort_by.ensures.sorted (λ (a : WeightedStack) (b : WeightedStack). is_lt (by_stack a b))
+    (ranks_by stack_cmp_total (λ (row : WeightedStack). row.stack))
+    (answers_always _ _ _ (λ f a r q k. let e : r ≡ stack_cmp a.0.now.stack a.1.0.now.stack =
+    search rules in ap is_lt e))
 
 pub returns : goal.returns
 returns c =
-    let moved : IsPermutation c.args.rows c.sort_by.new.self.items = subst (λ rows. IsPermutation rows c.sort_by.new.self.items) c.into_rows-rows.ensures.rows c.sort_by.ensures.permutation in
-    sums_in_order c.put_together.result c.args.rows c.sort_by.new.self.items moved c.put_together.ensures.ascending c.put_together.ensures.weighty c.put_together.ensures.weights
+    let moved : IsPermutation c.args.rows c.sort_by.new.self.items = subst (λ rows.
+    IsPermutation rows c.sort_by.new.self.items) c.into_rows-rows.ensures.rows c.sort_by.ensures.permutation in
+    sums_in_order c.put_together.result c.args.rows c.sort_by.new.self.items
+    moved c.put_together.ensures.ascending c.put_together.ensures.weighty c.put_together.ensures.weights

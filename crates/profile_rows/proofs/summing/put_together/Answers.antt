@@ -6,22 +6,27 @@ use Rattle.profile_rows.proofs.PuttingTogether.{IsPuttingTogether-row, IsPutting
 use Rattle.profile_rows.proofs.summing.put_together.Goals as goal
 
 pub add_sum-requires-clause-up_to : goal.add_sum-requires-clause-up_to
-add_sum-requires-clause-up_to c = reached_first c.args.sorted.items c.loop-row.sums c.loop-row.sums c.loop-row.row-iterator.rest.items c.next.new.self.rest.items c.in-Some.row c.loop-row.invariant c.in-Some.ensures.steps.0
+add_sum-requires-clause-up_to c =
+    reached_first c.args.sorted.items c.loop-row.sums c.loop-row.sums c.loop-row.row-iterator.rest.items
+    c.next.new.self.rest.items c.in-Some.row c.loop-row.invariant c.in-Some.ensures.steps.0
 
 pub loop-row-preserved-in-Continue-1 : goal.loop-row-preserved-in-Continue-1
 loop-row-preserved-in-Continue-1 c =
     let added = c.in_ok-add_sum.ensures in
-    IsPuttingTogether-row c.args.sorted.items c.loop-row.sums c.add_sum.new.sums c.loop-row.row-iterator.rest.items c.next.new.self.rest.items c.in-Some.row c.loop-row.invariant c.in-Some.ensures.steps.0
+    IsPuttingTogether-row c.args.sorted.items c.loop-row.sums c.add_sum.new.sums c.loop-row.row-iterator.rest.items
+    c.next.new.self.rest.items c.in-Some.row c.loop-row.invariant c.in-Some.ensures.steps.0
     added.ascending added.weighty added.up_to added.adds
 
 pub loop-row-preserved : goal.loop-row-preserved
 loop-row-preserved c =
-    IsPuttingTogether-weightless c.args.sorted.items c.loop-row.sums c.loop-row.sums c.loop-row.row-iterator.rest.items c.next.new.self.rest.items c.in-Some.row c.loop-row.invariant c.in-Some.ensures.steps.0
+    IsPuttingTogether-weightless c.args.sorted.items c.loop-row.sums c.loop-row.sums c.loop-row.row-iterator.rest.items
+    c.next.new.self.rest.items c.in-Some.row c.loop-row.invariant c.in-Some.ensures.steps.0
     (omega (arith, c.if-row-gt0.false)) refl
 
 pub returns-clause-weights : goal.returns-clause-weights
 returns-clause-weights c = λ stack.
     let so_far = c.loop-row.invariant.weights stack in
-    let end : c.loop-row.row-iterator.rest.items ≡ [] = nil_from_length c.loop-row.row-iterator.rest.items (omega (arith, c.loop-row.row-iterator.rest.ok.0, c.in-None.ensures.steps.0)) in
+    let end : c.loop-row.row-iterator.rest.items ≡ [] = nil_from_length c.loop-row.row-iterator.rest.items
+    (omega (arith, c.loop-row.row-iterator.rest.ok.0, c.in-None.ensures.steps.0)) in
     let none : weight_of c.loop-row.row-iterator.rest.items stack ≡ 0 = ap (λ rows. weight_of rows stack) end in
     omega (arith, so_far, none)

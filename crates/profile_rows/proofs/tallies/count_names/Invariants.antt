@@ -6,5 +6,6 @@ use Rattle.profile_rows.proofs.tallies.count_names.Given as goal
 abbrev pub invariant-loop-number : goal.invariant-loop-number
 invariant-loop-number l = record {
   many : length l.tallies.items ≡ length l.initial.tallies.items;
-  each : (q : ℕ) → tally_at l.tallies.items q ≡ numbers_counted (take l.number-index l.numbers) l.row l.weight q (tally_at l.initial.tallies.items q);
+  each : (q : ℕ) → tally_at l.tallies.items q
+      ≡ numbers_counted (take l.number-index l.numbers) l.row l.weight q (tally_at l.initial.tallies.items q);
 }

@@ -28,8 +28,11 @@ keep-requires c =
     let number = c.loop-number.number in
     let lt = inside names number c.loop-number-test.true in
     let many = are.many in
-    let tally : c.index-tally.result.now ≡ tally_at c.args.tallies.now.names.items number = c.index-tally.ensures ∙ get_or_default c.args.tallies.now.names.items number c.index-tally.result.now zero_tally (omega (arith, many, lt)) in
-    subst IsName (shown_at names number no_text) (number_named rows (texts_of names) c.args.tallies.now number are lt (subst (λ (t : Tally). 0 < t.cumulative) tally c.if-tally-gt0.true))
+    let tally : c.index-tally.result.now ≡ tally_at c.args.tallies.now.names.items number = c.index-tally.ensures
+    ∙ get_or_default c.args.tallies.now.names.items number c.index-tally.result.now zero_tally
+    (omega (arith, many, lt)) in
+    subst IsName (shown_at names number no_text) (number_named rows (texts_of names) c.args.tallies.now number are lt
+    (subst (λ (t : Tally). 0 < t.cumulative) tally c.if-tally-gt0.true))
 
 pub loop-number-preserved : goal.loop-number-preserved
 loop-number-preserved c =
@@ -39,13 +42,17 @@ loop-number-preserved c =
     let number = c.loop-number.number in
     let lt = inside names number c.loop-number-test.true in
     let many = are.many in
-    let tally : c.index-tally.result.now ≡ tally_at tallies number = c.index-tally.ensures ∙ get_or_default tallies number c.index-tally.result.now zero_tally (omega (arith, many, lt)) in
+    let tally : c.index-tally.result.now ≡ tally_at tallies number = c.index-tally.ensures
+    ∙ get_or_default tallies number c.index-tally.result.now zero_tally (omega (arith, many, lt)) in
     elim c.if-tally-gt0.branch [
       | then-tally-gt0+in_ok-keep+in_ok-push w ↦
-          weighty_more (texts_of names) tallies number _ c.index-tally.result.now c.loop-number.list.items c.if-tally-gt0.list.items many lt (w.in_ok-keep.ensures ∙ sym (shown_at names number no_text)) tally w.if-tally-gt0.true c.loop-number.invariant
+          weighty_more (texts_of names) tallies number _ c.index-tally.result.now c.loop-number.list.items
+          c.if-tally-gt0.list.items many lt (w.in_ok-keep.ensures ∙ sym (shown_at names number no_text))
+          tally w.if-tally-gt0.true c.loop-number.invariant
           (ap (λ (v : Vec _ _). v.items) w.list-is ∙ w.in_ok-push.ensures.items)
       | else-tally-gt0 w ↦
-          weightless_more (texts_of names) tallies number c.index-tally.result.now c.if-tally-gt0.list.items many lt tally w.if-tally-gt0.false
+          weightless_more (texts_of names)
+          tallies number c.index-tally.result.now c.if-tally-gt0.list.items many lt tally w.if-tally-gt0.false
           (ap (λ (v : Vec _ _). v.items) w.list-is ∙ c.loop-number.invariant)
     ]
 
@@ -55,5 +62,7 @@ returns c = λ rows are.
     let tallies = c.args.tallies.now.names.items in
     let long = length-map c.args.names.now (λ (name : Bor (List ℕ)). name.now) in
     let size = length-zip names tallies in
-    let all : length (zip names tallies) ≤ c.loop-number.number = let end = c.loop-number-test.false in omega (arith, long, size, end) in
-    subst (AreSumsOf rows) (sym (c.loop-number.invariant ∙ ap weighted_in (take_all c.loop-number.number (zip names tallies) all))) (shown-AreSumsOf rows names c.args.tallies.now are)
+    let all : length (zip names tallies) ≤ c.loop-number.number =
+    let end = c.loop-number-test.false in omega (arith, long, size, end) in
+    subst (AreSumsOf rows) (sym (c.loop-number.invariant ∙ ap weighted_in
+    (take_all c.loop-number.number (zip names tallies) all))) (shown-AreSumsOf rows names c.args.tallies.now are)

@@ -5,4 +5,5 @@ use Rattle.profile_rows.proofs.tallies.weighted.Given as goal
 
 -- the names so far
 abbrev pub invariant-loop-number : goal.invariant-loop-number
-invariant-loop-number l = l.list.items ≡ weighted_in (take l.number (zip (map (λ name. name.now) l.names) l.tallies.names.items))
+invariant-loop-number l =
+    l.list.items ≡ weighted_in (take l.number (zip (map (λ name. name.now) l.names) l.tallies.names.items))

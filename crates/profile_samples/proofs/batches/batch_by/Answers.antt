@@ -8,33 +8,44 @@ use Rattle.profile_samples.proofs.batches.batch_by.Goals as goal
 
 pub add_sample-requires-clause-values : goal.add_sample-requires-clause-values
 add_sample-requires-clause-values c =
-    let samples : c.as_slice-sample-items.result.now ≡ c.args.profile.now.samples = c.as_slice-sample-items.ensures ∙ ap (λ (d : Draft). d.samples) c.draft.ensures.draft in
+    let samples : c.as_slice-sample-items.result.now ≡ c.args.profile.now.samples = c.as_slice-sample-items.ensures
+    ∙ ap (λ (d : Draft). d.samples) c.draft.ensures.draft in
     let item = c.sample-item.is ∙ ap (λ ss. get_or ss c.loop-index.index c.sample-item.result) samples in
     let within = subst (λ ss. c.loop-index.index < length ss) samples c.loop-index-test.true in
-    has_values c.args.profile.now c.args.chosen.now.first c.args.chosen.now.width c.loop-index.index c.sample-item.result c.draft.ensures.valid c.requires.typed within item
+    has_values c.args.profile.now c.args.chosen.now.first c.args.chosen.now.width
+    c.loop-index.index c.sample-item.result c.draft.ensures.valid c.requires.typed within item
 
 pub returns-in_err-add_sample : goal.returns-in_err-add_sample
 returns-in_err-add_sample c = λ choice is_chosen.
-    let samples : c.as_slice-sample-items.result.now ≡ c.args.profile.now.samples = c.as_slice-sample-items.ensures ∙ ap (λ (d : Draft). d.samples) c.draft.ensures.draft in
+    let samples : c.as_slice-sample-items.result.now ≡ c.args.profile.now.samples = c.as_slice-sample-items.ensures
+    ∙ ap (λ (d : Draft). d.samples) c.draft.ensures.draft in
     let item = c.sample-item.is ∙ ap (λ ss. get_or ss c.loop-index.index c.sample-item.result) samples in
     let within = subst (λ ss. c.loop-index.index < length ss) samples c.loop-index-test.true in
     let p = err_from_is_err_and c.from_residual.result c.from_residual.ensures.1 in
-    let there : IsValuesFault c.args.profile.now c.args.chosen.now.first c.loop-index.batch c.loop-index.index c.sample-item.result c.in_err-add_sample.field-0.0 =
-    subst (λ d. IsValuesFault d c.args.chosen.now.first c.loop-index.batch c.loop-index.index c.sample-item.result c.in_err-add_sample.field-0.0) c.requires.framed c.in_err-add_sample.ensures.fault in
-    rw (p.1, p.2) (IsBatchSoFar-stands c.args.profile.now choice c.args.chosen.now.first c.args.chosen.now.width c.loop-index.index c.sample-item.result c.loop-index.batch c.in_err-add_sample.field-0.0 is_chosen within item
+    let there : IsValuesFault c.args.profile.now c.args.chosen.now.first
+    c.loop-index.batch c.loop-index.index c.sample-item.result c.in_err-add_sample.field-0.0 =
+    subst (λ d. IsValuesFault d c.args.chosen.now.first c.loop-index.batch c.loop-index.index
+    c.sample-item.result c.in_err-add_sample.field-0.0) c.requires.framed c.in_err-add_sample.ensures.fault in
+    rw (p.1, p.2) (IsBatchSoFar-stands c.args.profile.now choice c.args.chosen.now.first c.args.chosen.now.width
+    c.loop-index.index c.sample-item.result c.loop-index.batch c.in_err-add_sample.field-0.0 is_chosen within item
     c.loop-index.invariant there)
 
 pub loop-index-preserved : goal.loop-index-preserved
 loop-index-preserved c =
-    let samples : c.as_slice-sample-items.result.now ≡ c.args.profile.now.samples = c.as_slice-sample-items.ensures ∙ ap (λ (d : Draft). d.samples) c.draft.ensures.draft in
+    let samples : c.as_slice-sample-items.result.now ≡ c.args.profile.now.samples = c.as_slice-sample-items.ensures
+    ∙ ap (λ (d : Draft). d.samples) c.draft.ensures.draft in
     let item = c.sample-item.is ∙ ap (λ ss. get_or ss c.loop-index.index c.sample-item.result) samples in
     let within = subst (λ ss. c.loop-index.index < length ss) samples c.loop-index-test.true in
     let (row, this, room, more) = c.in_ok-add_sample.ensures.added in
-    let own = subst (λ d. IsRowOfSample d c.args.chosen.now.first c.loop-index.batch.width c.sample-item.result row) c.requires.framed this in
-    IsBatchSoFar-row c.args.profile.now c.args.chosen.now.first c.args.chosen.now.width c.loop-index.index c.sample-item.result c.loop-index.batch row _ within item c.loop-index.invariant own room more
+    let own = subst (λ d. IsRowOfSample d c.args.chosen.now.first c.loop-index.batch.width c.sample-item.result row)
+    c.requires.framed this in
+    IsBatchSoFar-row c.args.profile.now c.args.chosen.now.first c.args.chosen.now.width c.loop-index.index
+    c.sample-item.result c.loop-index.batch row _ within item c.loop-index.invariant own room more
 
 pub returns : goal.returns
 returns c = λ choice is_chosen.
-    let samples : c.as_slice-sample-items.result.now ≡ c.args.profile.now.samples = c.as_slice-sample-items.ensures ∙ ap (λ (d : Draft). d.samples) c.draft.ensures.draft in
+    let samples : c.as_slice-sample-items.result.now ≡ c.args.profile.now.samples = c.as_slice-sample-items.ensures
+    ∙ ap (λ (d : Draft). d.samples) c.draft.ensures.draft in
     let whole = subst (λ ss. length ss ≤ c.loop-index.index) samples c.loop-index-test.false in
-    IsBatchSoFar-end c.args.profile.now choice c.args.chosen.now.first c.args.chosen.now.width c.loop-index.index c.loop-index.batch is_chosen whole c.loop-index.invariant
+    IsBatchSoFar-end c.args.profile.now choice c.args.chosen.now.first
+    c.args.chosen.now.width c.loop-index.index c.loop-index.batch is_chosen whole c.loop-index.invariant

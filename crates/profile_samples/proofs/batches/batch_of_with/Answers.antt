@@ -5,44 +5,54 @@ use Rattle.std.proofs.lemmas.Result.{err_from_is_err_and}
 use Rattle.profile_samples.specs.declared.sampling.BatchFault.TheVariants.{NoMemory}
 use Rattle.profile_samples.specs.Batches.{IsBatchOf, IsFirstBatchFault, chosen_types_of}
 use Rattle.profile_samples.proofs.FirstFaults.{only_batch_fault}
-use Rattle.profile_samples.proofs.SampleBatches.{IsFirstBatchFault-batch, chosen_types_within, first_of_standing, only_batch}
+use Rattle.profile_samples.proofs.SampleBatches.{IsFirstBatchFault-batch, chosen_types_within, first_of_standing}
+use Rattle.profile_samples.proofs.SampleBatches.{only_batch}
 use Rattle.profile_samples.proofs.batches.batch_of_with.Goals as goal
 
 pub returns-in_err-chosen-clause-accepted : goal.returns-in_err-chosen-clause-accepted
 returns-in_err-chosen-clause-accepted c = λ batch this.
     let p = err_from_is_err_and c.from_residual.result c.from_residual.ensures.1 in
-    let first = subst (λ d. IsFirstBatchFault d c.args.choice c.in_err-chosen.field-0.0) c.draft.ensures.draft c.in_err-chosen.ensures.chosen in
+    let first = subst (λ d. IsFirstBatchFault d c.args.choice c.in_err-chosen.field-0.0)
+    c.draft.ensures.draft c.in_err-chosen.ensures.chosen in
     rw (p.1, p.2) (IsFirstBatchFault-batch c.args.profile.now c.args.choice batch c.in_err-chosen.field-0.0 this first)
 
 pub returns-in_err-chosen-clause-every_fault : goal.returns-in_err-chosen-clause-every_fault
 returns-in_err-chosen-clause-every_fault c = λ other some there.
     let p = err_from_is_err_and c.from_residual.result c.from_residual.ensures.1 in
-    let first = subst (λ d. IsFirstBatchFault d c.args.choice c.in_err-chosen.field-0.0) c.draft.ensures.draft c.in_err-chosen.ensures.chosen in
-    rw (p.1, p.2) (only_batch_fault c.args.profile.now c.args.choice (Err c.in_err-chosen.field-0.0) first other some there)
+    let first = subst (λ d. IsFirstBatchFault d c.args.choice c.in_err-chosen.field-0.0)
+    c.draft.ensures.draft c.in_err-chosen.ensures.chosen in
+    rw (p.1, p.2)
+    (only_batch_fault c.args.profile.now c.args.choice (Err c.in_err-chosen.field-0.0) first other some there)
 
 pub returns-in_err-frames-clause-read : goal.returns-in_err-frames-clause-read
 returns-in_err-frames-clause-read c =
     let p = err_from_is_err_and c.from_residual-in_err-frames.result c.from_residual-in_err-frames.ensures.1 in
     let chosen = c.in_ok-chosen.chosen in
-    let is = subst (λ d. chosen_types_of d c.args.choice ≡ Some (chosen.first, chosen.width)) c.draft.ensures.draft c.in_ok-chosen.ensures.chosen in
-    let first : IsFirstBatchFault c.args.profile.now c.args.choice NoMemory = (chosen.first, chosen.width, is, c.in_ok-chosen.ensures.few) in
+    let is = subst (λ d. chosen_types_of d c.args.choice ≡ Some (chosen.first, chosen.width))
+    c.draft.ensures.draft c.in_ok-chosen.ensures.chosen in
+    let first : IsFirstBatchFault c.args.profile.now c.args.choice NoMemory =
+    (chosen.first, chosen.width, is, c.in_ok-chosen.ensures.few) in
     rw (p.1, p.2) first
 
 pub batch_by-requires-clause-typed : goal.batch_by-requires-clause-typed
 batch_by-requires-clause-typed c =
     let chosen = c.in_ok-chosen.chosen in
-    let is = subst (λ d. chosen_types_of d c.args.choice ≡ Some (chosen.first, chosen.width)) c.draft.ensures.draft c.in_ok-chosen.ensures.chosen in
+    let is = subst (λ d. chosen_types_of d c.args.choice ≡ Some (chosen.first, chosen.width))
+    c.draft.ensures.draft c.in_ok-chosen.ensures.chosen in
     chosen_types_within c.args.profile.now c.args.choice chosen.first chosen.width is
 
 pub returns-clause-read : goal.returns-clause-read
 returns-clause-read c =
     let chosen = c.in_ok-chosen.chosen in
-    let is = subst (λ d. chosen_types_of d c.args.choice ≡ Some (chosen.first, chosen.width)) c.draft.ensures.draft c.in_ok-chosen.ensures.chosen in
-    first_of_standing (λ batch. IsBatchOf c.args.profile.now c.args.choice batch) c.args.profile.now c.args.choice chosen.first chosen.width c.batch_by.result is c.in_ok-chosen.ensures.few
+    let is = subst (λ d. chosen_types_of d c.args.choice ≡ Some (chosen.first, chosen.width))
+    c.draft.ensures.draft c.in_ok-chosen.ensures.chosen in
+    first_of_standing (λ batch. IsBatchOf c.args.profile.now c.args.choice batch)
+    c.args.profile.now c.args.choice chosen.first chosen.width c.batch_by.result is c.in_ok-chosen.ensures.few
     (c.batch_by.ensures c.args.choice is)
 
 pub returns-clause-accepted : goal.returns-clause-accepted
 returns-clause-accepted c = only_batch c.args.profile.now c.args.choice c.batch_by.result (returns-clause-read c)
 
 pub returns-clause-every_fault : goal.returns-clause-every_fault
-returns-clause-every_fault c = only_batch_fault c.args.profile.now c.args.choice c.batch_by.result (returns-clause-read c)
+returns-clause-every_fault c =
+    only_batch_fault c.args.profile.now c.args.choice c.batch_by.result (returns-clause-read c)

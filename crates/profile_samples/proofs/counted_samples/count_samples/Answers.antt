@@ -13,36 +13,49 @@ use Rattle.profile_samples.proofs.counted_samples.count_samples.Goals as goal
 
 pub sample_weight-requires-clause-values : goal.sample_weight-requires-clause-values
 sample_weight-requires-clause-values c =
-    let samples : c.as_slice-sample-items.result.now ≡ c.args.profile.now.samples = c.as_slice-sample-items.ensures ∙ ap (λ (d : Draft). d.samples) c.draft.ensures.draft in
+    let samples : c.as_slice-sample-items.result.now ≡ c.args.profile.now.samples = c.as_slice-sample-items.ensures
+    ∙ ap (λ (d : Draft). d.samples) c.draft.ensures.draft in
     let item = c.sample-item.is ∙ ap (λ ss. get_or ss c.loop-index.index c.sample-item.result) samples in
     let within = subst (λ ss. c.loop-index.index < length ss) samples c.loop-index-test.true in
-    has_value c.args.profile.now c.args.chosen c.loop-index.index c.sample-item.result c.draft.ensures.valid c.requires.typed within item
+    has_value c.args.profile.now
+    c.args.chosen c.loop-index.index c.sample-item.result c.draft.ensures.valid c.requires.typed within item
 
 pub returns-in_err-weight : goal.returns-in_err-weight
 returns-in_err-weight c = λ choice is_chosen.
-    let samples : c.as_slice-sample-items.result.now ≡ c.args.profile.now.samples = c.as_slice-sample-items.ensures ∙ ap (λ (d : Draft). d.samples) c.draft.ensures.draft in
+    let samples : c.as_slice-sample-items.result.now ≡ c.args.profile.now.samples = c.as_slice-sample-items.ensures
+    ∙ ap (λ (d : Draft). d.samples) c.draft.ensures.draft in
     let item = c.sample-item.is ∙ ap (λ ss. get_or ss c.loop-index.index c.sample-item.result) samples in
     let within = subst (λ ss. c.loop-index.index < length ss) samples c.loop-index-test.true in
     let p = err_from_is_err_and c.from_residual.result c.from_residual.ensures.1 in
     let (rows, so_far, counted) = c.loop-index.invariant in
-    let own = subst (λ d. IsSampleFault d c.args.chosen c.loop-index.tallies.total c.loop-index.index c.sample-item.result c.in_err-weight.field-0.0) c.requires.framed c.in_err-weight.ensures.fault in
-    let there = subst (λ held. IsSampleFault c.args.profile.now c.args.chosen held c.loop-index.index c.sample-item.result c.in_err-weight.field-0.0) counted.total own in
-    rw (p.1, p.2) (AreRowsSoFar-stands c.args.profile.now choice c.args.chosen c.loop-index.index c.sample-item.result rows c.in_err-weight.field-0.0 is_chosen within item so_far there)
+    let own = subst (λ d. IsSampleFault d c.args.chosen c.loop-index.tallies.total c.loop-index.index
+    c.sample-item.result c.in_err-weight.field-0.0) c.requires.framed c.in_err-weight.ensures.fault in
+    let there = subst (λ held. IsSampleFault c.args.profile.now
+    c.args.chosen held c.loop-index.index c.sample-item.result c.in_err-weight.field-0.0) counted.total own in
+    rw (p.1, p.2) (AreRowsSoFar-stands c.args.profile.now choice c.args.chosen
+    c.loop-index.index c.sample-item.result rows c.in_err-weight.field-0.0 is_chosen within item so_far there)
 
 pub returns-in_err-gather_numbers : goal.returns-in_err-gather_numbers
 returns-in_err-gather_numbers c = λ choice is_chosen.
-    let samples : c.as_slice-sample-items.result.now ≡ c.args.profile.now.samples = c.as_slice-sample-items.ensures ∙ ap (λ (d : Draft). d.samples) c.draft.ensures.draft in
+    let samples : c.as_slice-sample-items.result.now ≡ c.args.profile.now.samples = c.as_slice-sample-items.ensures
+    ∙ ap (λ (d : Draft). d.samples) c.draft.ensures.draft in
     let item = c.sample-item.is ∙ ap (λ ss. get_or ss c.loop-index.index c.sample-item.result) samples in
     let within = subst (λ ss. c.loop-index.index < length ss) samples c.loop-index-test.true in
     let weight = c.in_ok-weight.weight in
     let sample = c.sample-item.result in
     let (rows, so_far, counted) = c.loop-index.invariant in
-    let own = subst (λ (d : Draft). IsSampleRow d c.args.chosen sample (record { stack = sample_stack_of d sample.location_ids; weight = weight })) c.requires.framed c.in_ok-weight.ensures.row in
+    let own = subst (λ (d : Draft). IsSampleRow d c.args.chosen sample (record {
+      stack =
+          sample_stack_of d sample.location_ids;
+      weight = weight;
+    })) c.requires.framed c.in_ok-weight.ensures.row in
     let fits = subst (λ h. h + weight < 2 ^ 63) counted.total c.in_ok-weight.ensures.fits in
     let there : IsSampleFault c.args.profile.now c.args.chosen (total_of rows) c.loop-index.index sample NoMemory =
     (record { stack = sample_stack_of c.args.profile.now sample.location_ids; weight = weight }, own, fits) in
-    let p = err_from_is_err_and c.from_residual-in_err-gather_numbers.result c.from_residual-in_err-gather_numbers.ensures.1 in
-    rw (p.1, p.2) (AreRowsSoFar-stands c.args.profile.now choice c.args.chosen c.loop-index.index sample rows NoMemory is_chosen within item so_far there)
+    let p = err_from_is_err_and
+    c.from_residual-in_err-gather_numbers.result c.from_residual-in_err-gather_numbers.ensures.1 in
+    rw (p.1, p.2) (AreRowsSoFar-stands c.args.profile.now
+    choice c.args.chosen c.loop-index.index sample rows NoMemory is_chosen within item so_far there)
 
 pub count-requires-clause-fits : goal.count-requires-clause-fits
 count-requires-clause-fits c = c.in_ok-weight.ensures.fits
@@ -55,13 +68,16 @@ count-requires-clause-counted c =
       rows,
       sample_stack_of c.args.profile.now sample.location_ids,
       counted,
-      sample_numbered c.args.profile.now c.args.frames.now sample.location_ids c.as_slice-ids.result.now c.gather_numbers.new.numbers.items c.as_slice.result.now c.leaf_of.result
-          c.requires.framed c.as_slice-ids.ensures c.as_slice.ensures.value c.requires.each c.in_ok-gather_numbers.ensures c.leaf_of.ensures,
+      sample_numbered c.args.profile.now c.args.frames.now sample.location_ids
+          c.as_slice-ids.result.now c.gather_numbers.new.numbers.items c.as_slice.result.now c.leaf_of.result
+          c.requires.framed c.as_slice-ids.ensures
+          c.as_slice.ensures.value c.requires.each c.in_ok-gather_numbers.ensures c.leaf_of.ensures,
     )
 
 pub loop-index-preserved : goal.loop-index-preserved
 loop-index-preserved c =
-    let samples : c.as_slice-sample-items.result.now ≡ c.args.profile.now.samples = c.as_slice-sample-items.ensures ∙ ap (λ (d : Draft). d.samples) c.draft.ensures.draft in
+    let samples : c.as_slice-sample-items.result.now ≡ c.args.profile.now.samples = c.as_slice-sample-items.ensures
+    ∙ ap (λ (d : Draft). d.samples) c.draft.ensures.draft in
     let item = c.sample-item.is ∙ ap (λ ss. get_or ss c.loop-index.index c.sample-item.result) samples in
     let within = subst (λ ss. c.loop-index.index < length ss) samples c.loop-index-test.true in
     let weight = c.in_ok-weight.weight in
@@ -69,18 +85,31 @@ loop-index-preserved c =
     let stack = sample_stack_of c.args.profile.now sample.location_ids in
     let row : WeightedStack = record { stack = stack; weight = weight } in
     let (rows, so_far, counted) = c.loop-index.invariant in
-    let own = subst (λ (d : Draft). IsSampleRow d c.args.chosen sample (record { stack = sample_stack_of d sample.location_ids; weight = weight })) c.requires.framed c.in_ok-weight.ensures.row in
+    let own = subst (λ (d : Draft). IsSampleRow d c.args.chosen sample (record {
+      stack =
+          sample_stack_of d sample.location_ids;
+      weight = weight;
+    })) c.requires.framed c.in_ok-weight.ensures.row in
     let fits = subst (λ h. h + weight < 2 ^ 63) counted.total c.in_ok-weight.ensures.fits in (
       rows ++ row ∷ [],
-      AreRowsSoFar-row c.args.profile.now c.args.chosen c.loop-index.index sample rows row (rows ++ row ∷ []) within item so_far own fits refl,
+      AreRowsSoFar-row c.args.profile.now c.args.chosen c.loop-index.index sample rows row
+          (rows ++ row ∷ []) within item so_far own fits refl,
       c.count.ensures (frame_names c.args.profile.now) rows stack counted
-          (sample_numbered c.args.profile.now c.args.frames.now sample.location_ids c.as_slice-ids.result.now c.gather_numbers.new.numbers.items c.as_slice.result.now c.leaf_of.result
-          c.requires.framed c.as_slice-ids.ensures c.as_slice.ensures.value c.requires.each c.in_ok-gather_numbers.ensures c.leaf_of.ensures),
+          (sample_numbered c.args.profile.now c.args.frames.now sample.location_ids
+          c.as_slice-ids.result.now c.gather_numbers.new.numbers.items c.as_slice.result.now c.leaf_of.result
+          c.requires.framed c.as_slice-ids.ensures
+          c.as_slice.ensures.value c.requires.each c.in_ok-gather_numbers.ensures c.leaf_of.ensures),
     )
 
 pub returns : goal.returns
 returns c = λ choice is_chosen.
-    let samples : c.as_slice-sample-items.result.now ≡ c.args.profile.now.samples = c.as_slice-sample-items.ensures ∙ ap (λ (d : Draft). d.samples) c.draft.ensures.draft in
+    let samples : c.as_slice-sample-items.result.now ≡ c.args.profile.now.samples = c.as_slice-sample-items.ensures
+    ∙ ap (λ (d : Draft). d.samples) c.draft.ensures.draft in
     let whole = subst (λ ss. length ss ≤ c.loop-index.index) samples c.loop-index-test.false in
     let (rows, so_far, counted) = c.loop-index.invariant in
-    record { rows = rows; sampled = AreRowsSoFar-end c.args.profile.now choice c.args.chosen c.loop-index.index rows is_chosen whole so_far; counted = counted }
+    record {
+      rows = rows;
+      sampled = AreRowsSoFar-end
+          c.args.profile.now choice c.args.chosen c.loop-index.index rows is_chosen whole so_far;
+      counted = counted;
+    }

@@ -7,4 +7,5 @@ use Rattle.profile_samples.proofs.counted_samples.count_samples.Given as goal
 
 -- the rows of the samples so far are counted
 abbrev pub invariant-loop-index : goal.invariant-loop-index
-invariant-loop-index l = (rows : List WeightedStack) × AreRowsSoFar l.fn.profile l.chosen l.index rows × AreTalliesOf rows (frame_names l.fn.profile) l.tallies
+invariant-loop-index l = (rows : List WeightedStack)
+    × AreRowsSoFar l.fn.profile l.chosen l.index rows × AreTalliesOf rows (frame_names l.fn.profile) l.tallies

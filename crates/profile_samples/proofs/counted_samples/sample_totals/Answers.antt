@@ -19,24 +19,29 @@ totals_by-requires-clause-chosen c =
     (c.args.choice, chosen)
 
 pub totals_by-requires-clause-each : goal.totals_by-requires-clause-each
-totals_by-requires-clause-each c = subst (λ (draft : Draft). All IsName (frame_names draft)) c.in_ok-frames.ensures c.names-2.ensures.each
+totals_by-requires-clause-each c =
+    subst (λ (draft : Draft). All IsName (frame_names draft)) c.in_ok-frames.ensures c.names-2.ensures.each
 
 pub totals_by-requires-clause-uncounted : goal.totals_by-requires-clause-uncounted
 totals_by-requires-clause-uncounted c =
     let names = c.names-2.result.now in
     let profile = c.args.profile.now in
     let many : length (frame_names profile) ≡ length names =
-    ap length (sym (c.names-2.ensures.names ∙ ap frame_names c.in_ok-frames.ensures)) ∙ length-map names (λ (name : Bor (List ℕ)). name.now) in
+    ap length (sym (c.names-2.ensures.names ∙ ap frame_names c.in_ok-frames.ensures))
+    ∙ length-map names (λ (name : Bor (List ℕ)). name.now) in
     c.in_ok-tallies.ensures (frame_names profile) (frame_names-single profile) many
 
 pub returns-clause-read : goal.returns-clause-read
 returns-clause-read c =
     let chosen : chosen_type_of c.args.profile.now c.args.choice ≡ Some c.in-Some.chosen = search rules in
-    first_of_work (AreTotalsOfSamples c.args.profile.now c.args.choice) c.args.profile.now c.args.choice c.totals_by.result (c.totals_by.ensures c.args.choice chosen)
+    first_of_work (AreTotalsOfSamples c.args.profile.now c.args.choice)
+    c.args.profile.now c.args.choice c.totals_by.result (c.totals_by.ensures c.args.choice chosen)
 
 pub returns-clause-accepted : goal.returns-clause-accepted
-returns-clause-accepted c = only_sample_totals c.args.profile.now c.args.choice c.totals_by.result (returns-clause-read c)
+returns-clause-accepted c =
+    only_sample_totals c.args.profile.now c.args.choice c.totals_by.result (returns-clause-read c)
 
 pub returns-clause-every_fault : goal.returns-clause-every_fault
 returns-clause-every_fault c =
-    only_stacks_fault (AreTotalsOfSamples c.args.profile.now c.args.choice) c.args.profile.now c.args.choice c.totals_by.result (λ totals these. (these.rows, these.sampled)) (returns-clause-read c)
+    only_stacks_fault (AreTotalsOfSamples c.args.profile.now c.args.choice) c.args.profile.now
+    c.args.choice c.totals_by.result (λ totals these. (these.rows, these.sampled)) (returns-clause-read c)

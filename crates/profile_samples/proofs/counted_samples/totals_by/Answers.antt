@@ -7,12 +7,16 @@ use Rattle.profile_samples.proofs.SampleRows.{chosen_within}
 use Rattle.profile_samples.proofs.counted_samples.totals_by.Goals as goal
 
 pub count_samples-requires-clause-typed : goal.count_samples-requires-clause-typed
-count_samples-requires-clause-typed c = chosen_within c.args.profile.now c.requires.chosen.0 c.args.chosen c.requires.chosen.1
+count_samples-requires-clause-typed c =
+    chosen_within c.args.profile.now c.requires.chosen.0 c.args.chosen c.requires.chosen.1
 
 pub totals-requires : goal.totals-requires
 totals-requires c =
-    let this = c.in_ok-count_samples.ensures c.requires.chosen.0 c.requires.chosen.1 in
-    (this.rows, subst (λ names. AreTalliesOf this.rows names c.count_samples.new.tallies) (sym (c.names.ensures.names ∙ ap frame_names c.requires.framed)) this.counted)
+    let this = c.in_ok-count_samples.ensures c.requires.chosen.0 c.requires.chosen.1 in (
+      this.rows,
+      subst (λ names. AreTalliesOf this.rows names c.count_samples.new.tallies)
+          (sym (c.names.ensures.names ∙ ap frame_names c.requires.framed)) this.counted,
+    )
 
 pub returns-in_err-count_samples : goal.returns-in_err-count_samples
 returns-in_err-count_samples c = λ choice is_chosen.
@@ -31,5 +35,6 @@ returns c = λ choice is_chosen.
     record {
       rows = this.rows;
       sampled = this.sampled;
-      totals_rows = c.in_ok-totals.ensures this.rows (subst (λ names. AreTalliesOf this.rows names c.count_samples.new.tallies) (sym (c.names.ensures.names ∙ ap frame_names c.requires.framed)) this.counted);
+      totals_rows = c.in_ok-totals.ensures this.rows (subst (λ names. AreTalliesOf this.rows names
+          c.count_samples.new.tallies) (sym (c.names.ensures.names ∙ ap frame_names c.requires.framed)) this.counted);
     }

@@ -7,4 +7,5 @@ pub loop-text-preserved : goal.loop-text-preserved
 loop-text-preserved c =
     c.in_ok-push.ensures.items ∙ ap (λ copies. copies ++ c.in_ok-copied.field-0 ∷ []) c.loop-text.invariant
     ∙ ap (λ text. take c.loop-text.text-index c.args.texts.now.texts ++ text ∷ []) c.in_ok-copied.ensures
-    ∙ sym (next_text c.texts-text-items.result.now c.args.texts.now.texts c.loop-text.text-index c.texts-text-items.ensures c.loop-text-test.true)
+    ∙ sym (next_text c.texts-text-items.result.now
+    c.args.texts.now.texts c.loop-text.text-index c.texts-text-items.ensures c.loop-text-test.true)

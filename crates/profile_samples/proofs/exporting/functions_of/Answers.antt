@@ -8,8 +8,17 @@ use Rattle.profile_samples.proofs.exporting.functions_of.Goals as goal
 
 pub loop-name-preserved : goal.loop-name-preserved
 loop-name-preserved c =
-    next_pushed (exported_function c.args.names.now.texts c.args.strings.now.texts) c.loop-name.functions.items _ (take c.loop-name.name-index c.args.names.now.texts) _ _ _
+    next_pushed (exported_function c.args.names.now.texts c.args.strings.now.texts)
+    c.loop-name.functions.items _ (take c.loop-name.name-index c.args.names.now.texts) _ _ _
     c.in_ok-push.ensures.items
-    (λ i. record { id = c.id_in.ensures i; name = (to_z_pos w64 c.place_of.result c.place_of.ensures.fits ∙ ap pos c.place_of.ensures.place) i; system_name = pos 0; filename = pos 0; start_line = pos 0 })
+    (λ i. record {
+      id = c.id_in.ensures i;
+      name = (to_z_pos w64 c.place_of.result c.place_of.ensures.fits
+          ∙ ap pos c.place_of.ensures.place) i;
+      system_name = pos 0;
+      filename = pos 0;
+      start_line = pos 0;
+    })
     c.loop-name.invariant
-    (next_text c.texts-name-items.result.now c.args.names.now.texts c.loop-name.name-index c.texts-name-items.ensures c.loop-name-test.true)
+    (next_text c.texts-name-items.result.now
+    c.args.names.now.texts c.loop-name.name-index c.texts-name-items.ensures c.loop-name-test.true)

@@ -4,4 +4,5 @@ use Rattle.profile_samples.proofs.exporting.locations_of.Given as goal
 
 -- the locations so far
 abbrev pub invariant-loop-name : goal.invariant-loop-name
-invariant-loop-name l = l.locations.items ≡ map (exported_location l.fn.names.texts) (take l.name-index l.fn.names.texts)
+invariant-loop-name l =
+    l.locations.items ≡ map (exported_location l.fn.names.texts) (take l.name-index l.fn.names.texts)

@@ -16,10 +16,15 @@ loop-row-preserved c =
     let next = take_more c.args.rows.now c.loop-row.row-index c.row-item.result c.loop-row-test.true
     ∙ ap (λ (row : WeightedStack). before ++ row ∷ []) (sym c.row-item.is) in
     let same = c.names.ensures.names in (
-      c.in_ok-names.ensures.texts ∙ ap (with_texts c.loop-row.names.texts) same ∙ ap (λ texts. with_texts texts c.row-item.result.stack) c.loop-row.invariant.0
+      c.in_ok-names.ensures.texts ∙ ap (with_texts c.loop-row.names.texts) same
+          ∙ ap (λ texts. with_texts texts c.row-item.result.stack) c.loop-row.invariant.0
           ∙ sym (with_texts-append [] (flat_map (λ (row : WeightedStack). row.stack) before) c.row-item.result.stack)
-          ∙ ap (with_texts []) (ap (λ names. flat_map (λ (row : WeightedStack). row.stack) before ++ names) (sym (append-nil c.row-item.result.stack))
-          ∙ sym (flat_map-append (λ (row : WeightedStack). row.stack) before (c.row-item.result ∷ [])) ∙ ap (flat_map (λ (row : WeightedStack). row.stack)) (sym next)),
-      All-more (λ (row : WeightedStack). All IsName row.stack × (length row.stack ≤ 65535)) c.args.rows.now c.loop-row.row-index c.row-item.result c.loop-row-test.true c.loop-row.invariant.1
-          (subst (λ (row : WeightedStack). All IsName row.stack × (length row.stack ≤ 65535)) c.row-item.is (subst (All IsName) same c.in_ok-names.ensures.each, c.names.ensures.depth)),
+          ∙ ap (with_texts []) (ap (λ names. flat_map (λ (row : WeightedStack). row.stack) before ++ names)
+          (sym (append-nil c.row-item.result.stack))
+          ∙ sym (flat_map-append (λ (row : WeightedStack). row.stack) before (c.row-item.result ∷ []))
+          ∙ ap (flat_map (λ (row : WeightedStack). row.stack)) (sym next)),
+      All-more (λ (row : WeightedStack). All IsName row.stack × (length row.stack ≤ 65535))
+          c.args.rows.now c.loop-row.row-index c.row-item.result c.loop-row-test.true c.loop-row.invariant.1
+          (subst (λ (row : WeightedStack). All IsName row.stack × (length row.stack ≤ 65535)) c.row-item.is
+          (subst (All IsName) same c.in_ok-names.ensures.each, c.names.ensures.depth)),
     )

@@ -7,5 +7,6 @@ use Rattle.profile_samples.proofs.exporting.names_of.Given as goal
 
 -- the names of the rows so far, whose stacks a batch can hold
 abbrev pub invariant-loop-row : goal.invariant-loop-row
-invariant-loop-row l = (l.names.texts ≡ with_texts [] (flat_map (λ (row : WeightedStack). row.stack) (take l.row-index l.fn.rows)))
+invariant-loop-row l =
+    (l.names.texts ≡ with_texts [] (flat_map (λ (row : WeightedStack). row.stack) (take l.row-index l.fn.rows)))
     × All (λ (row : WeightedStack). All IsName row.stack × (length row.stack ≤ 65535)) (take l.row-index l.fn.rows)

@@ -19,16 +19,20 @@ returns-in-Ok c =
     let units = pairs_of c.args.units.now in
     let first = c.rows.ensures.rows ∙ c.first.ensures.first in
     let names = c.in_ok-names.ensures.texts
-    ∙ ap (λ some. with_texts [] (flat_map (λ (row : WeightedStack). row.stack) some)) first ∙ ap (with_texts []) (stacks_first rows) in
+    ∙ ap (λ some. with_texts [] (flat_map (λ (row : WeightedStack). row.stack) some)) first
+    ∙ ap (with_texts []) (stacks_first rows) in
     let made =
     c.in-Ok.ensures.valid.0 ∙ c.in_ok-draft.ensures
     ∙ ap (λ samples. exported_draft c.in_ok-names.names.texts samples units) c.in_ok-samples.ensures
     ∙ ap (λ names. profile_with names (strings_of units names) rows units) names in
-    let each = subst (All (λ (row : WeightedStack). All IsName row.stack × (length row.stack ≤ 65535))) first c.in_ok-names.ensures.each in
+    let each = subst (All (λ (row : WeightedStack). All IsName row.stack × (length row.stack ≤ 65535)))
+    first c.in_ok-names.ensures.each in
     let is = c.first.ensures.batch in
     let count = length-map c.args.units.now pair_of ∙ c.requires in
     record {
       profile = made;
-      reads_back = subst (λ (draft : Draft). IsBatchOf draft choices.All c.args.batch.now) (sym made) (export_batch c.args.batch.now units count is each);
-      default = λ one. subst (λ (draft : Draft). IsBatchOf draft choices.Default c.args.batch.now) (sym made) (export_one c.args.batch.now units count one is each);
+      reads_back = subst (λ (draft : Draft). IsBatchOf draft choices.All c.args.batch.now)
+          (sym made) (export_batch c.args.batch.now units count is each);
+      default = λ one. subst (λ (draft : Draft). IsBatchOf draft choices.Default c.args.batch.now)
+          (sym made) (export_one c.args.batch.now units count one is each);
     }

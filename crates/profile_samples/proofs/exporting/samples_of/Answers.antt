@@ -9,7 +9,8 @@ use Rattle.profile_samples.specs.Export.{exported_sample}
 use Rattle.profile_samples.proofs.ExportedValues.{weights_small}
 use Rattle.profile_samples.proofs.exporting.samples_of.Goals as goal
 
-within : (rows : List Row) (first lent : List WeightedStack) (at : ℕ) → lent ≡ first → first ≡ rows_at 0 rows → at < length lent → at < length rows
+within : (rows : List Row) (first lent : List WeightedStack) (at : ℕ)
+    → lent ≡ first → first ≡ rows_at 0 rows → at < length lent → at < length rows
 within rows first lent at same is lt =
     let size = ap length (same ∙ is) in
     let long = length-rows_at 0 rows in
@@ -18,7 +19,8 @@ within rows first lent at same is lt =
 pub sample_of-requires : goal.sample_of-requires
 sample_of-requires c =
     subst (All (λ weight. weight < 2 ^ 63)) (sym c.row-row.ensures.weights)
-    (weights_small c.args.batch.now c.loop-at.at c.first.ensures.batch (within c.args.batch.now.rows c.first.result.now c.rows-count.result.now c.loop-at.at c.rows-count.ensures.rows c.first.ensures.first c.loop-at-test.true))
+    (weights_small c.args.batch.now c.loop-at.at c.first.ensures.batch (within c.args.batch.now.rows c.first.result.now
+    c.rows-count.result.now c.loop-at.at c.rows-count.ensures.rows c.first.ensures.first c.loop-at-test.true))
 
 pub loop-at-preserved : goal.loop-at-preserved
 loop-at-preserved c =
@@ -26,9 +28,11 @@ loop-at-preserved c =
     let sample = exported_sample c.args.names.now.texts in
     let before = take c.loop-at.at rows in
     let made : c.in_ok-sample_of.field-0 ≡ sample (row_in rows c.loop-at.at) =
-    c.in_ok-sample_of.ensures ∙ (λ i. sample (record { stack = c.row-row.ensures.stack i; weights = c.row-row.ensures.weights i })) in
+    c.in_ok-sample_of.ensures
+    ∙ (λ i. sample (record { stack = c.row-row.ensures.stack i; weights = c.row-row.ensures.weights i })) in
     c.in_ok-push.ensures.items
     ∙ ap (λ samples. samples ++ c.in_ok-sample_of.field-0 ∷ []) c.loop-at.invariant
     ∙ ap (λ last. map sample before ++ last ∷ []) made
     ∙ sym (map-append sample before (row_in rows c.loop-at.at ∷ []))
-    ∙ ap (map sample) (sym (next_row rows c.loop-at.at (within c.args.batch.now.rows c.first.result.now c.rows-count.result.now c.loop-at.at c.rows-count.ensures.rows c.first.ensures.first c.loop-at-test.true)))
+    ∙ ap (map sample) (sym (next_row rows c.loop-at.at (within c.args.batch.now.rows c.first.result.now
+    c.rows-count.result.now c.loop-at.at c.rows-count.ensures.rows c.first.ensures.first c.loop-at-test.true)))

@@ -8,8 +8,10 @@ use Rattle.profile_samples.proofs.exporting.strings_of.Goals as goal
 
 pub loop-name-preserved : goal.loop-name-preserved
 loop-name-preserved c =
-    next_with _ c.loop-name.strings.texts _ (take c.loop-name.name-index c.args.names.now.texts) _ _ c.in_ok-strings-2.ensures c.loop-name.invariant
-    (next_text c.texts-name-items.result.now c.args.names.now.texts c.loop-name.name-index c.texts-name-items.ensures c.loop-name-test.true)
+    next_with _ c.loop-name.strings.texts _ (take
+    c.loop-name.name-index c.args.names.now.texts) _ _ c.in_ok-strings-2.ensures c.loop-name.invariant
+    (next_text c.texts-name-items.result.now
+    c.args.names.now.texts c.loop-name.name-index c.texts-name-items.ensures c.loop-name-test.true)
 
 pub returns : goal.returns
 returns c =
@@ -18,7 +20,9 @@ returns c =
     let past = c.loop-name-test.false in
     let size = ap length c.texts-name-items.ensures in
     let long = length-map c.texts-name-items.result.now (λ text. text.now) in
-    let whole : take c.loop-name.name-index names ≡ names = take_all c.loop-name.name-index names (omega (arith, past, size, long)) in
+    let whole : take c.loop-name.name-index names ≡ names =
+    take_all c.loop-name.name-index names (omega (arith, past, size, long)) in
     c.loop-name.invariant ∙ ap (with_texts c.in_ok-strings.strings.texts) whole
-    ∙ ap (λ strings. with_texts strings names) (c.in_ok-strings.ensures ∙ ap (λ table. with_texts table texts) (c.in_ok-with.ensures ∙ ap (λ table. with_text table []) c.new.ensures.texts))
+    ∙ ap (λ strings. with_texts strings names) (c.in_ok-strings.ensures ∙ ap
+    (λ table. with_texts table texts) (c.in_ok-with.ensures ∙ ap (λ table. with_text table []) c.new.ensures.texts))
     ∙ sym (with_texts-append ([] ∷ []) texts names)

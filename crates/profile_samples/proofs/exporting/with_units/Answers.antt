@@ -6,5 +6,7 @@ use Rattle.profile_samples.proofs.exporting.with_units.Goals as goal
 
 pub loop-unit-preserved : goal.loop-unit-preserved
 loop-unit-preserved c =
-    units_more c.args.table.texts c.loop-unit.table.texts c.in_ok-table.table.texts c.args.units.now c.loop-unit.unit-index c.loop-unit-test.true c.loop-unit.invariant
-    (c.in_ok-table.ensures ∙ ap (λ table. with_text table (get_or c.args.units.now c.loop-unit.unit-index no_unit).unit.now) c.in_ok-with.ensures)
+    units_more c.args.table.texts c.loop-unit.table.texts
+    c.in_ok-table.table.texts c.args.units.now c.loop-unit.unit-index c.loop-unit-test.true c.loop-unit.invariant
+    (c.in_ok-table.ensures ∙ ap (λ table. with_text table
+    (get_or c.args.units.now c.loop-unit.unit-index no_unit).unit.now) c.in_ok-with.ensures)

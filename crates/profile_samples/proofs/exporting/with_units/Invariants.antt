@@ -5,4 +5,5 @@ use Rattle.profile_samples.proofs.exporting.with_units.Given as goal
 
 -- the table with the kinds and units so far
 abbrev pub invariant-loop-unit : goal.invariant-loop-unit
-invariant-loop-unit l = l.table.texts ≡ with_texts l.initial.table.texts (unit_texts (pairs_of (take l.unit-index l.units)))
+invariant-loop-unit l =
+    l.table.texts ≡ with_texts l.initial.table.texts (unit_texts (pairs_of (take l.unit-index l.units)))

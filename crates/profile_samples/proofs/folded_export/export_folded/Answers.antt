@@ -11,7 +11,8 @@ use Rattle.folded_text.proofs.Reading.{IsFoldedText-same}
 use Rattle.profile_samples.proofs.folded_export.export_folded.Goals as goal
 
 pub take_lines-requires : goal.take_lines-requires
-take_lines-requires c = λ k. ((refl, tt), AreSamplesOf-none c.new.result.texts c.new-2.result c.new.ensures.texts c.new-2.ensures)
+take_lines-requires c =
+    λ k. ((refl, tt), AreSamplesOf-none c.new.result.texts c.new-2.result c.new.ensures.texts c.new-2.ensures)
 
 pub returns-in_err-take_lines-clause-exported : goal.returns-in_err-take_lines-clause-exported
 returns-in_err-take_lines-clause-exported c =
@@ -20,7 +21,8 @@ returns-in_err-take_lines-clause-exported c =
 
 pub returns-in_err-take_lines-clause-accepted : goal.returns-in_err-take_lines-clause-accepted
 returns-in_err-take_lines-clause-accepted c =
-    only_export (λ (bytes : Vec ℕ _). bytes.items) c.args.text.now c.args.kind.now c.args.unit.now c.from_residual.result
+    only_export
+    (λ (bytes : Vec ℕ _). bytes.items) c.args.text.now c.args.kind.now c.args.unit.now c.from_residual.result
     (returns-in_err-take_lines-clause-exported c)
 
 pub returns-clause-accepted : goal.returns-clause-accepted
@@ -34,5 +36,6 @@ pub returns-clause-profile : goal.returns-clause-profile
 returns-clause-profile c = λ all folded.
     let (rows, read, samples) = c.in_ok-take_lines.ensures.taken in
     let same : rows ≡ all = IsFoldedText-same c.args.text.now rows all read folded in
-    subst (λ some. IsProfile c.in_ok-profile_bytes.field-0.items (single_profile_of some c.args.kind.now c.args.unit.now))
+    subst
+    (λ some. IsProfile c.in_ok-profile_bytes.field-0.items (single_profile_of some c.args.kind.now c.args.unit.now))
     same (c.in_ok-profile_bytes.ensures.profile rows samples)

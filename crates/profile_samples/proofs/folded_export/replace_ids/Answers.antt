@@ -1,5 +1,6 @@
 -- Each frame has its place, and a place stays as more names come.
-use Rattle.std.proofs.Common.{◌≡◌, ◌<◌, ◌+◌, ℕ, List, [], ◌∷◌, ◌++◌, length, map, slice_index_or, take, sym, ap, ◌∙◌, subst}
+use Rattle.std.proofs.Common.{◌≡◌, ◌<◌, ◌+◌, ℕ, List, [], ◌∷◌, ◌++◌, length, map, slice_index_or, take, sym, ap, ◌∙◌}
+use Rattle.std.proofs.Common.{subst}
 use Rattle.std.proofs.lemmas.List.{get_or-map, length-map, take_more}
 use denote.Ref.{Bor}
 use Rattle.profile_samples.proofs.ExportedRows.{ids_with}
@@ -33,5 +34,6 @@ loop-frame-preserved c =
       ids = c.in_ok-push.ensures.items
           ∙ ap (λ ids. ids ++ (c.in_ok-place_with.field-0 + 1) ∷ []) c.loop-frame.invariant.ids
           ∙ ids_with c.args.names.now.texts c.loop-frame.names.texts c.place_with.new.self.texts seen all text
-          c.in_ok-place_with.field-0 c.in_ok-place_with.ensures.place c.in_ok-place_with.ensures.texts c.loop-frame.invariant.names more;
+          c.in_ok-place_with.field-0
+          c.in_ok-place_with.ensures.place c.in_ok-place_with.ensures.texts c.loop-frame.invariant.names more;
     }

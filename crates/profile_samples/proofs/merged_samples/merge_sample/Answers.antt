@@ -15,57 +15,92 @@ use Rattle.profile_samples.proofs.SampleRows.{IsSampleFault-fit, IsSampleFault-m
 use Rattle.profile_samples.proofs.merged_samples.merge_sample.Goals as goal
 
 -- a row of the sample's stack, which weighs more now
-added_to : (draft : Draft) (chosen at weight : ℕ) (sample : Sample) (sums new : List WeightedStack) (outcome : Result (Unit {0}) BatchFault)
-    → slice_get sample.values chosen ≡ Some (pos weight) → IsPlacedAt (sample_stack_of draft) sums sample.location_ids at
+added_to : (draft : Draft)
+    (chosen at weight : ℕ) (sample : Sample) (sums new : List WeightedStack) (outcome : Result (Unit {0}) BatchFault)
+    → slice_get sample.values chosen ≡ Some (pos weight)
+    → IsPlacedAt (sample_stack_of draft) sums sample.location_ids at
     → OnOk outcome (new ≡ with_added_at sums at weight) → OnOk outcome (total_of sums + weight < 2 ^ 63)
     → OnOk outcome ((row : WeightedStack) × IsSampleRow draft chosen sample row × AddsRow sums new row)
 added_to draft chosen at weight sample sums new (Ok done) value there added fits =
     let row : WeightedStack = record { stack = sample_stack_of draft sample.location_ids; weight = weight } in
-    let same : row ≡ record { stack = (row_at sums at).stack; weight = weight } = ap (λ s. let r : WeightedStack = record { stack = s; weight = weight } in r) (sym there.1) in
-    (row, sample_row draft chosen sample weight value there.2, subst (λ rows. AddsRow sums rows row) (sym added) (AddsRow-added sums at weight row there.0 fits same))
+    let same : row ≡ record { stack = (row_at sums at).stack; weight = weight } =
+    ap (λ s. let r : WeightedStack = record { stack = s; weight = weight } in r) (sym there.1) in (
+      row,
+      sample_row draft chosen sample weight value there.2,
+      subst (λ rows. AddsRow sums rows row) (sym added) (AddsRow-added sums at weight row there.0 fits same),
+    )
 added_to draft chosen at weight sample sums new (Err fault) value there added fits = tt
 
-refused_at : (draft : Draft) (chosen at weight number : ℕ) (sample : Sample) (sums : List WeightedStack) (outcome : Result (Unit {0}) BatchFault)
-    → slice_get sample.values chosen ≡ Some (pos weight) → IsPlacedAt (sample_stack_of draft) sums sample.location_ids at
-    → IfErr outcome (λ fault. (fault ≡ Heavy number) × (2 ^ 63 ≤ total_of sums + weight)) → IfErr outcome (IsSampleFault draft chosen (total_of sums) number sample)
+refused_at : (draft : Draft)
+    (chosen at weight number : ℕ) (sample : Sample) (sums : List WeightedStack) (outcome : Result (Unit {0}) BatchFault)
+    → slice_get sample.values chosen ≡ Some (pos weight)
+    → IsPlacedAt (sample_stack_of draft) sums sample.location_ids at
+    → IfErr outcome (λ fault. (fault ≡ Heavy number) × (2 ^ 63 ≤ total_of sums + weight))
+    → IfErr outcome (IsSampleFault draft chosen (total_of sums) number sample)
 refused_at draft chosen at weight number sample sums (Ok done) value there fault = tt
 refused_at draft chosen at weight number sample sums (Err found) value there fault =
-    subst (IsSampleFault draft chosen (total_of sums) number sample) (sym fault.0)
-    (refl, record { stack = sample_stack_of draft sample.location_ids; weight = weight }, sample_row draft chosen sample weight value there.2, fault.1)
+    subst (IsSampleFault draft chosen (total_of sums) number sample) (sym fault.0) (
+      refl,
+      record { stack = sample_stack_of draft sample.location_ids; weight = weight },
+      sample_row draft chosen sample weight value there.2,
+      fault.1,
+    )
 
 pub add_to_row-requires : goal.add_to_row-requires
 add_to_row-requires c =
-    let found : row_spelled c.args.known.now c.as_slice-ids.result.now ≡ Some c.in-Some.at = sym c.get.ensures.value ∙ sym c.copied.ensures ∙ c.in-Some.is in
-    (placed_at (sample_stack_of c.args.frames.now) c.args.known.now c.args.merged.now c.as_slice-ids.result.now c.in-Some.at c.requires.placed found).0
+    let found : row_spelled c.args.known.now c.as_slice-ids.result.now ≡ Some c.in-Some.at = sym c.get.ensures.value
+    ∙ sym c.copied.ensures ∙ c.in-Some.is in
+    (placed_at (sample_stack_of c.args.frames.now)
+    c.args.known.now c.args.merged.now c.as_slice-ids.result.now c.in-Some.at c.requires.placed found).0
 
 pub returns-in-Some-clause-added : goal.returns-in-Some-clause-added
 returns-in-Some-clause-added c =
-    let value = subst (λ values. slice_get values c.args.chosen ≡ Some (pos c.in_ok-weight.weight)) c.as_slice.ensures c.in_ok-weight.ensures.weight.0 in
-    let found : row_spelled c.args.known.now c.as_slice-ids.result.now ≡ Some c.in-Some.at = sym c.get.ensures.value ∙ sym c.copied.ensures ∙ c.in-Some.is in
-    let there = subst (λ ids. IsPlacedAt (sample_stack_of c.args.frames.now) c.args.merged.now ids c.in-Some.at) c.as_slice-ids.ensures
-    (placed_at (sample_stack_of c.args.frames.now) c.args.known.now c.args.merged.now c.as_slice-ids.result.now c.in-Some.at c.requires.placed found) in
-    added_to c.args.frames.now c.args.chosen c.in-Some.at c.in_ok-weight.weight c.args.sample.now c.args.merged.now c.add_to_row.new.merged c.add_to_row.result value there c.add_to_row.ensures.added c.add_to_row.ensures.fits
+    let value = subst (λ values. slice_get values c.args.chosen ≡ Some (pos c.in_ok-weight.weight))
+    c.as_slice.ensures c.in_ok-weight.ensures.weight.0 in
+    let found : row_spelled c.args.known.now c.as_slice-ids.result.now ≡ Some c.in-Some.at = sym c.get.ensures.value
+    ∙ sym c.copied.ensures ∙ c.in-Some.is in
+    let there = subst (λ ids. IsPlacedAt (sample_stack_of c.args.frames.now) c.args.merged.now ids c.in-Some.at)
+    c.as_slice-ids.ensures
+    (placed_at (sample_stack_of c.args.frames.now)
+    c.args.known.now c.args.merged.now c.as_slice-ids.result.now c.in-Some.at c.requires.placed found) in
+    added_to c.args.frames.now c.args.chosen c.in-Some.at c.in_ok-weight.weight c.args.sample.now c.args.merged.now
+    c.add_to_row.new.merged c.add_to_row.result value there c.add_to_row.ensures.added c.add_to_row.ensures.fits
 
 pub returns-in-Some-clause-fault : goal.returns-in-Some-clause-fault
 returns-in-Some-clause-fault c =
-    let value = subst (λ values. slice_get values c.args.chosen ≡ Some (pos c.in_ok-weight.weight)) c.as_slice.ensures c.in_ok-weight.ensures.weight.0 in
-    let found : row_spelled c.args.known.now c.as_slice-ids.result.now ≡ Some c.in-Some.at = sym c.get.ensures.value ∙ sym c.copied.ensures ∙ c.in-Some.is in
-    let there = subst (λ ids. IsPlacedAt (sample_stack_of c.args.frames.now) c.args.merged.now ids c.in-Some.at) c.as_slice-ids.ensures
-    (placed_at (sample_stack_of c.args.frames.now) c.args.known.now c.args.merged.now c.as_slice-ids.result.now c.in-Some.at c.requires.placed found) in
-    refused_at c.args.frames.now c.args.chosen c.in-Some.at c.in_ok-weight.weight c.args.number c.args.sample.now c.args.merged.now c.add_to_row.result value there c.add_to_row.ensures.fault
+    let value = subst (λ values. slice_get values c.args.chosen ≡ Some (pos c.in_ok-weight.weight))
+    c.as_slice.ensures c.in_ok-weight.ensures.weight.0 in
+    let found : row_spelled c.args.known.now c.as_slice-ids.result.now ≡ Some c.in-Some.at = sym c.get.ensures.value
+    ∙ sym c.copied.ensures ∙ c.in-Some.is in
+    let there = subst (λ ids. IsPlacedAt (sample_stack_of c.args.frames.now) c.args.merged.now ids c.in-Some.at)
+    c.as_slice-ids.ensures
+    (placed_at (sample_stack_of c.args.frames.now)
+    c.args.known.now c.args.merged.now c.as_slice-ids.result.now c.in-Some.at c.requires.placed found) in
+    refused_at c.args.frames.now c.args.chosen c.in-Some.at c.in_ok-weight.weight
+    c.args.number c.args.sample.now c.args.merged.now c.add_to_row.result value there c.add_to_row.ensures.fault
 
 pub returns-in_err-check_fit-in-None-clause-fault : goal.returns-in_err-check_fit-in-None-clause-fault
 returns-in_err-check_fit-in-None-clause-fault c =
-    let p = err_from_is_err_and c.from_residual-in_err-check_fit-in-None.result c.from_residual-in_err-check_fit-in-None.ensures.1 in
-    let value = subst (λ values. slice_get values c.args.chosen ≡ Some (pos c.in_ok-weight.weight)) c.as_slice.ensures c.in_ok-weight.ensures.weight.0 in
-    let ids = subst (λ ids. IsFitFault c.args.frames.now c.total.result c.args.number ids c.in_ok-weight.weight c.in_err-check_fit-in-None.field-0.0) c.as_slice-ids.ensures c.in_err-check_fit-in-None.ensures.fault in
-    let fit = subst (λ held. IsFitFault c.args.frames.now held c.args.number c.args.sample.now.location_ids c.in_ok-weight.weight c.in_err-check_fit-in-None.field-0.0) c.total.ensures.total ids in
-    rw (p.1, p.2) (IsSampleFault-fit c.args.frames.now c.args.chosen (total_of c.args.merged.now) c.args.number c.args.sample.now c.in_ok-weight.weight c.in_err-check_fit-in-None.field-0.0 value fit)
+    let p = err_from_is_err_and
+    c.from_residual-in_err-check_fit-in-None.result c.from_residual-in_err-check_fit-in-None.ensures.1 in
+    let value = subst (λ values. slice_get values c.args.chosen ≡ Some (pos c.in_ok-weight.weight))
+    c.as_slice.ensures c.in_ok-weight.ensures.weight.0 in
+    let ids = subst (λ ids. IsFitFault c.args.frames.now c.total.result c.args.number ids c.in_ok-weight.weight
+    c.in_err-check_fit-in-None.field-0.0) c.as_slice-ids.ensures c.in_err-check_fit-in-None.ensures.fault in
+    let fit = subst (λ held. IsFitFault c.args.frames.now held c.args.number c.args.sample.now.location_ids
+    c.in_ok-weight.weight c.in_err-check_fit-in-None.field-0.0) c.total.ensures.total ids in
+    rw (p.1, p.2) (IsSampleFault-fit c.args.frames.now c.args.chosen (total_of c.args.merged.now)
+    c.args.number c.args.sample.now c.in_ok-weight.weight c.in_err-check_fit-in-None.field-0.0 value fit)
 
 pub returns-in_err-push_merged-in-None-clause-fault : goal.returns-in_err-push_merged-in-None-clause-fault
 returns-in_err-push_merged-in-None-clause-fault c =
-    let p = err_from_is_err_and c.from_residual-in_err-push_merged-in-None.result c.from_residual-in_err-push_merged-in-None.ensures.1 in
-    let value = subst (λ values. slice_get values c.args.chosen ≡ Some (pos c.in_ok-weight.weight)) c.as_slice.ensures c.in_ok-weight.ensures.weight.0 in
-    let deep = subst (λ ids. length (sample_stack_of c.args.frames.now ids) ≤ 65535) c.as_slice-ids.ensures c.in_ok-check_fit-in-None.ensures.depth in
-    let fits = subst (λ held. held + c.in_ok-weight.weight < 2 ^ 63) c.total.ensures.total c.in_ok-check_fit-in-None.ensures.fits in
-    rw (p.1, p.2) (IsSampleFault-memory c.args.frames.now c.args.chosen (total_of c.args.merged.now) c.args.number c.args.sample.now c.in_ok-weight.weight value deep fits)
+    let p = err_from_is_err_and
+    c.from_residual-in_err-push_merged-in-None.result c.from_residual-in_err-push_merged-in-None.ensures.1 in
+    let value = subst (λ values. slice_get values c.args.chosen ≡ Some (pos c.in_ok-weight.weight))
+    c.as_slice.ensures c.in_ok-weight.ensures.weight.0 in
+    let deep = subst (λ ids. length (sample_stack_of c.args.frames.now ids) ≤ 65535)
+    c.as_slice-ids.ensures c.in_ok-check_fit-in-None.ensures.depth in
+    let fits = subst
+    (λ held. held + c.in_ok-weight.weight < 2 ^ 63) c.total.ensures.total c.in_ok-check_fit-in-None.ensures.fits in
+    rw (p.1, p.2) (IsSampleFault-memory c.args.frames.now c.args.chosen
+    (total_of c.args.merged.now) c.args.number c.args.sample.now c.in_ok-weight.weight value deep fits)

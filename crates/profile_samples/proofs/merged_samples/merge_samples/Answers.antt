@@ -15,11 +15,13 @@ merged_by-requires-clause-typed c =
 pub returns-clause-read : goal.returns-clause-read
 returns-clause-read c =
     let chosen : chosen_type_of c.args.profile.now c.args.choice ≡ Some c.in-Some.chosen = search rules in
-    first_of_standing (λ sums. IsMergedBatch c.args.profile.now c.args.choice sums) c.args.profile.now c.args.choice c.merged_by.result (c.merged_by.ensures c.args.choice chosen)
+    first_of_standing (λ sums. IsMergedBatch c.args.profile.now c.args.choice sums)
+    c.args.profile.now c.args.choice c.merged_by.result (c.merged_by.ensures c.args.choice chosen)
 
 pub returns-clause-accepted : goal.returns-clause-accepted
 returns-clause-accepted c = only_batch_sums c.args.profile.now c.args.choice c.merged_by.result (returns-clause-read c)
 
 pub returns-clause-every_fault : goal.returns-clause-every_fault
 returns-clause-every_fault c =
-    only_stacks_fault (λ sums. IsMergedBatch c.args.profile.now c.args.choice sums) c.args.profile.now c.args.choice c.merged_by.result (λ sums merged. (merged.rows, merged.sampled)) (returns-clause-read c)
+    only_stacks_fault (λ sums. IsMergedBatch c.args.profile.now c.args.choice sums) c.args.profile.now
+    c.args.choice c.merged_by.result (λ sums merged. (merged.rows, merged.sampled)) (returns-clause-read c)

@@ -11,25 +11,32 @@ use Rattle.profile_samples.proofs.merged_samples.merged_by.Goals as goal
 
 pub merge_sample-requires-clause-values : goal.merge_sample-requires-clause-values
 merge_sample-requires-clause-values c =
-    let samples : c.as_slice-sample-items.result.now ≡ c.args.profile.now.samples = c.as_slice-sample-items.ensures ∙ ap (λ (d : Draft). d.samples) c.draft.ensures.draft in
+    let samples : c.as_slice-sample-items.result.now ≡ c.args.profile.now.samples = c.as_slice-sample-items.ensures
+    ∙ ap (λ (d : Draft). d.samples) c.draft.ensures.draft in
     let item = c.sample-item.is ∙ ap (λ ss. get_or ss c.loop-index.index c.sample-item.result) samples in
     let within = subst (λ ss. c.loop-index.index < length ss) samples c.loop-index-test.true in
-    has_value c.args.profile.now c.args.chosen c.loop-index.index c.sample-item.result c.draft.ensures.valid c.requires.typed within item
+    has_value c.args.profile.now
+    c.args.chosen c.loop-index.index c.sample-item.result c.draft.ensures.valid c.requires.typed within item
 
 pub returns-in_err-merge_sample : goal.returns-in_err-merge_sample
 returns-in_err-merge_sample c = λ choice is_chosen.
-    let samples : c.as_slice-sample-items.result.now ≡ c.args.profile.now.samples = c.as_slice-sample-items.ensures ∙ ap (λ (d : Draft). d.samples) c.draft.ensures.draft in
+    let samples : c.as_slice-sample-items.result.now ≡ c.args.profile.now.samples = c.as_slice-sample-items.ensures
+    ∙ ap (λ (d : Draft). d.samples) c.draft.ensures.draft in
     let item = c.sample-item.is ∙ ap (λ ss. get_or ss c.loop-index.index c.sample-item.result) samples in
     let within = subst (λ ss. c.loop-index.index < length ss) samples c.loop-index-test.true in
     let p = err_from_is_err_and c.from_residual.result c.from_residual.ensures.1 in
     let (rows, so_far, sums) = c.loop-index.invariant.0 in
-    let own = subst (λ d. IsSampleFault d c.args.chosen (total_of c.loop-index.merged) c.loop-index.index c.sample-item.result c.in_err-merge_sample.field-0.0) c.requires.framed c.in_err-merge_sample.ensures.fault in
-    let there = subst (λ held. IsSampleFault c.args.profile.now c.args.chosen held c.loop-index.index c.sample-item.result c.in_err-merge_sample.field-0.0) sums.total own in
-    rw (p.1, p.2) (AreRowsSoFar-stands c.args.profile.now choice c.args.chosen c.loop-index.index c.sample-item.result rows c.in_err-merge_sample.field-0.0 is_chosen within item so_far there)
+    let own = subst (λ d. IsSampleFault d c.args.chosen (total_of c.loop-index.merged) c.loop-index.index
+    c.sample-item.result c.in_err-merge_sample.field-0.0) c.requires.framed c.in_err-merge_sample.ensures.fault in
+    let there = subst (λ held. IsSampleFault c.args.profile.now
+    c.args.chosen held c.loop-index.index c.sample-item.result c.in_err-merge_sample.field-0.0) sums.total own in
+    rw (p.1, p.2) (AreRowsSoFar-stands c.args.profile.now choice c.args.chosen
+    c.loop-index.index c.sample-item.result rows c.in_err-merge_sample.field-0.0 is_chosen within item so_far there)
 
 pub loop-index-preserved : goal.loop-index-preserved
 loop-index-preserved c =
-    let samples : c.as_slice-sample-items.result.now ≡ c.args.profile.now.samples = c.as_slice-sample-items.ensures ∙ ap (λ (d : Draft). d.samples) c.draft.ensures.draft in
+    let samples : c.as_slice-sample-items.result.now ≡ c.args.profile.now.samples = c.as_slice-sample-items.ensures
+    ∙ ap (λ (d : Draft). d.samples) c.draft.ensures.draft in
     let item = c.sample-item.is ∙ ap (λ ss. get_or ss c.loop-index.index c.sample-item.result) samples in
     let within = subst (λ ss. c.loop-index.index < length ss) samples c.loop-index-test.true in
     let (rows, so_far, sums) = c.loop-index.invariant.0 in
@@ -38,15 +45,23 @@ loop-index-preserved c =
     let fits = subst (λ held. held + row.weight < 2 ^ 63) sums.total adds.fits in (
       (
         rows ++ row ∷ [],
-        AreRowsSoFar-row c.args.profile.now c.args.chosen c.loop-index.index c.sample-item.result rows row (rows ++ row ∷ []) within item so_far own fits refl,
+        AreRowsSoFar-row c.args.profile.now c.args.chosen c.loop-index.index c.sample-item.result rows row
+            (rows ++ row ∷ []) within item so_far own fits refl,
         AreMergedSoFar-row rows (rows ++ row ∷ []) c.loop-index.merged c.merge_sample.new.merged row sums adds refl,
       ),
-      subst (λ d. ArePlacedBy (sample_stack_of d) c.merge_sample.new.known c.merge_sample.new.merged) c.requires.framed c.in_ok-merge_sample.ensures.placed,
+      subst (λ d. ArePlacedBy (sample_stack_of d) c.merge_sample.new.known c.merge_sample.new.merged)
+          c.requires.framed c.in_ok-merge_sample.ensures.placed,
     )
 
 pub returns : goal.returns
 returns c = λ choice is_chosen.
-    let samples : c.as_slice-sample-items.result.now ≡ c.args.profile.now.samples = c.as_slice-sample-items.ensures ∙ ap (λ (d : Draft). d.samples) c.draft.ensures.draft in
+    let samples : c.as_slice-sample-items.result.now ≡ c.args.profile.now.samples = c.as_slice-sample-items.ensures
+    ∙ ap (λ (d : Draft). d.samples) c.draft.ensures.draft in
     let whole = subst (λ ss. length ss ≤ c.loop-index.index) samples c.loop-index-test.false in
     let (rows, so_far, sums) = c.loop-index.invariant.0 in
-    record { rows = rows; sampled = AreRowsSoFar-end c.args.profile.now choice c.args.chosen c.loop-index.index rows is_chosen whole so_far; same = AreMergedSoFar-same rows c.loop-index.merged sums }
+    record {
+      rows = rows;
+      sampled = AreRowsSoFar-end c.args.profile.now choice c.args.chosen
+          c.loop-index.index rows is_chosen whole so_far;
+      same = AreMergedSoFar-same rows c.loop-index.merged sums;
+    }

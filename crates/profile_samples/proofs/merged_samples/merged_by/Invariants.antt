@@ -8,5 +8,6 @@ use Rattle.profile_samples.proofs.merged_samples.merged_by.Given as goal
 
 -- the samples so far give rows that add up to the sums so far
 abbrev pub invariant-loop-index : goal.invariant-loop-index
-invariant-loop-index l = ((rows : List WeightedStack) × AreRowsSoFar l.fn.profile l.chosen l.index rows × AreMergedSoFar rows l.merged)
+invariant-loop-index l =
+    ((rows : List WeightedStack) × AreRowsSoFar l.fn.profile l.chosen l.index rows × AreMergedSoFar rows l.merged)
     × ArePlacedBy (sample_stack_of l.fn.profile) l.known l.merged

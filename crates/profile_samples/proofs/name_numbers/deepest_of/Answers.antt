@@ -22,7 +22,8 @@ loop-frames-preserved c =
           let is = w.deepest-is in
           subst (All (IsWithin c.if-frames-deepest.deepest)) (sym next)
           (All-push (IsWithin c.if-frames-deepest.deepest) before item
-          (All-weaker (IsWithin c.loop-frames.deepest) (IsWithin c.if-frames-deepest.deepest) (λ frames low. omega (arith, low, deeper, is)) before c.loop-frames.invariant)
+          (All-weaker (IsWithin c.loop-frames.deepest) (IsWithin c.if-frames-deepest.deepest)
+          (λ frames low. omega (arith, low, deeper, is)) before c.loop-frames.invariant)
           (omega (arith, is)))
       | else-frames-deepest w ↦
           let low = w.if-frames-deepest.false in
@@ -34,4 +35,5 @@ loop-frames-preserved c =
     ]
 
 pub returns : goal.returns
-returns c = subst (All (IsWithin c.loop-frames.deepest)) (take_all c.loop-frames.frames-index c.args.frames.now c.loop-frames-test.false) c.loop-frames.invariant
+returns c = subst (All (IsWithin c.loop-frames.deepest))
+    (take_all c.loop-frames.frames-index c.args.frames.now c.loop-frames-test.false) c.loop-frames.invariant

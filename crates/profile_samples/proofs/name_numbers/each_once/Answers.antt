@@ -1,5 +1,6 @@
 -- The next number is marked, where it isn't yet.
-use Rattle.std.proofs.Common.{◌≡◌, ◌+◌, ◌<◌, ◌++◌, ◌∷◌, [], ℕ, List, refl, ap, sym, ◌∙◌, get_or, length, set, subst, take, arith}
+use Rattle.std.proofs.Common.{◌≡◌, ◌+◌, ◌<◌, ◌++◌, ◌∷◌, [], ℕ, List, refl, ap, sym, ◌∙◌, get_or, length, set, subst}
+use Rattle.std.proofs.Common.{take, arith}
 use Rattle.std.proofs.lemmas.List.{get_or_default, take_more}
 use Rattle.std.specs.declared.vec.Vec.{Vec}
 use Rattle.profile_rows.specs.Tallies.{has_number}
@@ -12,7 +13,8 @@ loop-number-init c = record {
   once = c.new-once.ensures.items;
   count = refl;
   marked = λ k d lt. let low = c.requires.fresh k d lt in omega (arith, low);
-  seen = λ number. fresh_mark c.args.marks.now.items c.args.mark number c.requires.marked c.requires.fresh ∙ sym (ap (has_number number) c.new-once.ensures.items);
+  seen = λ number. fresh_mark c.args.marks.now.items c.args.mark number c.requires.marked c.requires.fresh
+      ∙ sym (ap (has_number number) c.new-once.ensures.items);
 }
 
 pub loop-number-preserved : goal.loop-number-preserved
@@ -23,23 +25,39 @@ loop-number-preserved c =
     let before = take at numbers in
     let marks = c.loop-number.marks.items in
     let so_far : IsOnceSoFar before (length c.args.marks.now.items) c.args.mark marks c.loop-number.once.items =
-    record { once_is = c.loop-number.invariant.once; count_is = c.loop-number.invariant.count; marked = c.loop-number.invariant.marked; seen = c.loop-number.invariant.seen } in
+    record {
+      once_is = c.loop-number.invariant.once;
+      count_is =
+          c.loop-number.invariant.count;
+      marked = c.loop-number.invariant.marked;
+      seen = c.loop-number.invariant.seen;
+    } in
     let next : take (at + 1) numbers ≡ before ++ number ∷ [] = take_more numbers at 0 c.loop-number-test.true in
-    let lt : number < length marks = subst (λ n. number < n) (sym c.loop-number.invariant.count) (c.requires.inside at 0 c.loop-number-test.true) in
-    let read : c.index.result.now ≡ get_or marks number 0 = c.index.ensures ∙ get_or_default marks number c.index.result.now 0 lt in
+    let lt : number < length marks =
+    subst (λ n. number < n) (sym c.loop-number.invariant.count) (c.requires.inside at 0 c.loop-number-test.true) in
+    let read : c.index.result.now ≡ get_or marks number 0 = c.index.ensures
+    ∙ get_or_default marks number c.index.result.now 0 lt in
     elim c.if-index-mark.branch [
       | then-index-mark+in_ok-push w ↦
-          let this = once-push before (take (at + 1) numbers) (length c.args.marks.now.items) c.args.mark number marks c.loop-number.once.items so_far next lt (λ same. w.if-index-mark.true (read ∙ same)) in
-          let made : c.if-index-mark.marks.items ≡ set marks number c.args.mark = ap (λ (m : Vec ℕ _). m.items) w.marks-is in
-          let kept : c.if-index-mark.once.items ≡ c.loop-number.once.items ++ number ∷ [] = ap (λ (m : Vec ℕ _). m.items) w.once-is ∙ w.in_ok-push.ensures.items in
-          let all = subst (λ (m : List ℕ). IsOnceSoFar (take (at + 1) numbers) (length c.args.marks.now.items) c.args.mark m c.if-index-mark.once.items) (sym made)
-          (subst (λ (o : List ℕ). IsOnceSoFar (take (at + 1) numbers) (length c.args.marks.now.items) c.args.mark (set marks number c.args.mark) o) (sym kept) this) in
+          let this = once-push before (take (at + 1) numbers) (length c.args.marks.now.items) c.args.mark
+          number marks c.loop-number.once.items so_far next lt (λ same. w.if-index-mark.true (read ∙ same)) in
+          let made : c.if-index-mark.marks.items ≡ set marks number c.args.mark =
+          ap (λ (m : Vec ℕ _). m.items) w.marks-is in
+          let kept : c.if-index-mark.once.items ≡ c.loop-number.once.items ++ number ∷ [] =
+          ap (λ (m : Vec ℕ _). m.items) w.once-is ∙ w.in_ok-push.ensures.items in
+          let all = subst (λ (m : List ℕ). IsOnceSoFar (take (at + 1) numbers)
+          (length c.args.marks.now.items) c.args.mark m c.if-index-mark.once.items) (sym made)
+          (subst (λ (o : List ℕ). IsOnceSoFar (take (at + 1) numbers)
+          (length c.args.marks.now.items) c.args.mark (set marks number c.args.mark) o) (sym kept) this) in
           record { once = all.once_is; count = all.count_is; marked = all.marked; seen = all.seen }
       | else-index-mark w ↦
-          let this = once-same before (take (at + 1) numbers) (length c.args.marks.now.items) c.args.mark number marks c.loop-number.once.items so_far next (sym read ∙ w.if-index-mark.false) in
+          let this = once-same before (take (at + 1) numbers) (length c.args.marks.now.items)
+          c.args.mark number marks c.loop-number.once.items so_far next (sym read ∙ w.if-index-mark.false) in
           let made : c.if-index-mark.marks.items ≡ marks = ap (λ (m : Vec ℕ _). m.items) w.marks-is in
           let kept : c.if-index-mark.once.items ≡ c.loop-number.once.items = ap (λ (m : Vec ℕ _). m.items) w.once-is in
-          let all = subst (λ (m : List ℕ). IsOnceSoFar (take (at + 1) numbers) (length c.args.marks.now.items) c.args.mark m c.if-index-mark.once.items) (sym made)
-          (subst (λ (o : List ℕ). IsOnceSoFar (take (at + 1) numbers) (length c.args.marks.now.items) c.args.mark marks o) (sym kept) this) in
+          let all = subst (λ (m : List ℕ). IsOnceSoFar (take (at + 1) numbers)
+          (length c.args.marks.now.items) c.args.mark m c.if-index-mark.once.items) (sym made)
+          (subst (λ (o : List ℕ). IsOnceSoFar
+          (take (at + 1) numbers) (length c.args.marks.now.items) c.args.mark marks o) (sym kept) this) in
           record { once = all.once_is; count = all.count_is; marked = all.marked; seen = all.seen }
     ]

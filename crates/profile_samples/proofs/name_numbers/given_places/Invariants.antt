@@ -6,4 +6,5 @@ use Rattle.profile_samples.proofs.name_numbers.given_places.Given as goal
 
 -- the places so far
 abbrev pub invariant-loop-name : goal.invariant-loop-name
-invariant-loop-name l = l.places.items ≡ map (option_map (place_in l.fn.table.texts)) (map name_in (take l.name-index l.names))
+invariant-loop-name l =
+    l.places.items ≡ map (option_map (place_in l.fn.table.texts)) (map name_in (take l.name-index l.names))

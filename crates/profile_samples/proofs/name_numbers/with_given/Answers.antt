@@ -1,5 +1,6 @@
 -- The next name is added, where it is there.
-use Rattle.std.proofs.Common.{◌≡◌, ◌+◌, ◌++◌, ◌∷◌, [], ℕ, List, Option, Some, None, ap, sym, ◌∙◌, subst, take, append-nil, map, All}
+use Rattle.std.proofs.Common.{◌≡◌, ◌+◌, ◌++◌, ◌∷◌, [], ℕ, List, Option, Some, None, ap, sym, ◌∙◌, subst, take}
+use Rattle.std.proofs.Common.{append-nil, map, All}
 use Rattle.std.proofs.lemmas.List.{map-append, take_all, take_more}
 use Rattle.std.proofs.lemmas.List.Elements.{All-push}
 use Rattle.profile_rows.specs.Names.{IsName}
@@ -15,21 +16,26 @@ IsSoFar : List (List ℕ) → List (List ℕ) → List (Option (List ℕ)) → T
 IsSoFar start table names = (table ≡ with_texts start (given names)) × All IsName (given names)
 
 -- a name more, as a name in place of a string's
-next_name : (names : List StringName) (name : StringName) (index : ℕ) (found : Option (List ℕ)) → take (index + 1) names ≡ take index names ++ name ∷ [] → found ≡ name_in name
+next_name : (names : List StringName) (name : StringName) (index : ℕ) (found : Option (List ℕ))
+    → take (index + 1) names ≡ take index names ++ name ∷ [] → found ≡ name_in name
     → map name_in (take (index + 1) names) ≡ map name_in (take index names) ++ found ∷ []
 next_name names name index found is here =
-    ap (map name_in) is ∙ map-append name_in (take index names) (name ∷ []) ∙ ap (λ option. map name_in (take index names) ++ option ∷ []) (sym here)
+    ap (map name_in) is ∙ map-append name_in (take index names) (name ∷ [])
+    ∙ ap (λ option. map name_in (take index names) ++ option ∷ []) (sym here)
 
-more : (start table new : List (List ℕ)) (names next : List (Option (List ℕ))) (name : List ℕ) → IsSoFar start table names → next ≡ names ++ Some name ∷ [] → new ≡ with_text table name → IsName name
+more : (start table new : List (List ℕ)) (names next : List (Option (List ℕ))) (name : List ℕ)
+    → IsSoFar start table names → next ≡ names ++ Some name ∷ [] → new ≡ with_text table name → IsName name
     → IsSoFar start new next
 unfolding IsSoFar
 more start table new names next name so_far is added named =
     let all : given next ≡ given names ++ name ∷ [] = ap given is ∙ given-push names (Some name) in (
-      added ∙ ap (λ t. with_text t name) so_far.0 ∙ sym (with_texts-append start (given names) (name ∷ [])) ∙ ap (with_texts start) (sym all),
+      added ∙ ap (λ t. with_text t name) so_far.0
+          ∙ sym (with_texts-append start (given names) (name ∷ [])) ∙ ap (with_texts start) (sym all),
       subst (All IsName) (sym all) (All-push IsName (given names) name so_far.1 named),
     )
 
-same : (start table : List (List ℕ)) (names next : List (Option (List ℕ))) → IsSoFar start table names → next ≡ names ++ None ∷ [] → IsSoFar start table next
+same : (start table : List (List ℕ)) (names next : List (Option (List ℕ)))
+    → IsSoFar start table names → next ≡ names ++ None ∷ [] → IsSoFar start table next
 unfolding IsSoFar
 same start table names next so_far is =
     let all : given names ≡ given next = sym (ap given is ∙ given-push names None ∙ append-nil (given names)) in
@@ -42,15 +48,19 @@ loop-name-preserved c =
     let before = map name_in (take c.loop-name.name-index names) in
     let after = map name_in (take (c.loop-name.name-index + 1) names) in
     let name = c.name-item.result in
-    let taken = take_more names c.loop-name.name-index c.name-item.result c.loop-name-test.true ∙ ap (λ n. take c.loop-name.name-index names ++ n ∷ []) (sym c.name-item.is) in
+    let taken = take_more names c.loop-name.name-index c.name-item.result c.loop-name-test.true
+    ∙ ap (λ n. take c.loop-name.name-index names ++ n ∷ []) (sym c.name-item.is) in
     elim c.match-text.branch [
       | in-Some+in_ok-table w ↦
-          more c.args.table.texts c.loop-name.table.texts c.match-text.table.texts before after w.in-Some.text.now c.loop-name.invariant
+          more c.args.table.texts
+          c.loop-name.table.texts c.match-text.table.texts before after w.in-Some.text.now c.loop-name.invariant
           (next_name names name c.loop-name.name-index (Some w.in-Some.text.now) taken w.in-Some.ensures.text)
           (ap (λ (table : NumberedTexts). table.texts) w.table-is ∙ w.in_ok-table.ensures) w.in-Some.ensures.name
       | in_default w ↦ subst (λ table. IsSoFar c.args.table.texts table.texts after) (sym w.table-is)
-          (same c.args.table.texts c.loop-name.table.texts before after c.loop-name.invariant (next_name names name c.loop-name.name-index None taken w.in_default.ensures.text))
+          (same c.args.table.texts c.loop-name.table.texts before after c.loop-name.invariant
+          (next_name names name c.loop-name.name-index None taken w.in_default.ensures.text))
     ]
 
 pub returns-clause-each : goal.returns-clause-each
-returns-clause-each c = subst (λ names. All IsName (given (map name_in names))) (take_all c.loop-name.name-index c.args.names.now c.loop-name-test.false) c.loop-name.invariant.1
+returns-clause-each c = subst (λ names. All IsName (given (map name_in names)))
+    (take_all c.loop-name.name-index c.args.names.now c.loop-name-test.false) c.loop-name.invariant.1

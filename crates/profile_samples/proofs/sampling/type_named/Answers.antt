@@ -18,4 +18,5 @@ returns-in-Ok c =
     ∙ ap (λ equal. position (λ (kind : ValueType). equal_at equal text kind.kind) kinds) known
     ∙ position_of_equal strings text kinds
     ∙ ap (λ s. position (λ (kind : ValueType). bytes_eq (string_at s kind.kind) text) kinds) c.as_slice-strings.ensures
-    ∙ ap (position (λ (kind : ValueType). bytes_eq (string_at c.args.draft.now.strings kind.kind) text)) c.as_slice-kinds.ensures
+    ∙ ap (position (λ (kind : ValueType). bytes_eq (string_at c.args.draft.now.strings kind.kind) text))
+    c.as_slice-kinds.ensures

@@ -10,5 +10,6 @@ returns-in_ok-pages g c =
     let page = c.index-then-strong_count-gt1.result.now in
     let next = c.in_ok-pages.field-0 in
     let copied : page_items next ≡ page_items page =
-    ap (λ v. v.items) c.in_ok-pages.ensures.ok ∙ c.in_ok-copy.ensures ∙ c.deref-then-strong_count-gt1.ensures.value ∙ ap (λ v. v.items) c.deref.ensures in
+    ap (λ v. v.items) c.in_ok-pages.ensures.ok
+    ∙ c.in_ok-copy.ensures ∙ c.deref-then-strong_count-gt1.ensures.value ∙ ap (λ v. v.items) c.deref.ensures in
     map-set_same page_items pages c.args.index next page (copied ∙ ap page_items c.index-then-strong_count-gt1.ensures)

@@ -9,27 +9,33 @@ use Rattle.shared_pages.proofs.shelf.put_in_group.Goals as goal
 pub returns-in_err-pages-clause-err : goal.returns-in_err-pages-clause-err
 returns-in_err-pages-clause-err g c =
     let had = from_err c.make_mut.result c.in_err-pages.field-0.0 c.in_err-pages.was c.make_mut.follows.holds-at-none in
-    on_err c.from_residual.result (copied_by page_items _ c.args.group.now.value c.make_mut.follows.lender-at-none.value (λ x y r. ap (λ v. vec_items v) r) had)
+    on_err c.from_residual.result (copied_by page_items _ c.args.group.now.value c.make_mut.follows.lender-at-none.value
+    (λ x y r. ap (λ v. vec_items v) r) had)
 
 pub returns-in_err-make_room-clause-err : goal.returns-in_err-make_room-clause-err
 returns-in_err-make_room-clause-err g c =
-    let same = c.make_room.ensures ∙ copied_by page_items _ c.args.group.now.value c.in_ok-pages.pages.now (λ x y r. ap (λ v. vec_items v) r) c.in_ok-pages.ensures.value in
-    let next_is = ap (λ v. pages_of v.items) (c.make_mut.follows.holds c.make_room.new.pages (ap is_ok c.in_ok-pages.was)) in
+    let same = c.make_room.ensures ∙ copied_by page_items _ c.args.group.now.value c.in_ok-pages.pages.now
+    (λ x y r. ap (λ v. vec_items v) r) c.in_ok-pages.ensures.value in
+    let next_is =
+    ap (λ v. pages_of v.items) (c.make_mut.follows.holds c.make_room.new.pages (ap is_ok c.in_ok-pages.was)) in
     on_err _ (next_is ∙ same)
 
 pub put_in_pages-requires-clause-chunks : goal.put_in_pages-requires-clause-chunks
 put_in_pages-requires-clause-chunks g c =
-    let same = c.make_room.ensures ∙ copied_by page_items _ c.args.group.now.value c.in_ok-pages.pages.now (λ x y r. ap (λ v. vec_items v) r) c.in_ok-pages.ensures.value in
+    let same = c.make_room.ensures ∙ copied_by page_items _ c.args.group.now.value c.in_ok-pages.pages.now
+    (λ x y r. ap (λ v. vec_items v) r) c.in_ok-pages.ensures.value in
     subst (AreChunks 256) (sym same) c.requires.chunks
 
 pub put_in_pages-requires-clause-within : goal.put_in_pages-requires-clause-within
 put_in_pages-requires-clause-within g c =
-    let same = c.make_room.ensures ∙ copied_by page_items _ c.args.group.now.value c.in_ok-pages.pages.now (λ x y r. ap (λ v. vec_items v) r) c.in_ok-pages.ensures.value in
+    let same = c.make_room.ensures ∙ copied_by page_items _ c.args.group.now.value c.in_ok-pages.pages.now
+    (λ x y r. ap (λ v. vec_items v) r) c.in_ok-pages.ensures.value in
     subst (λ pages. c.args.at ≤ length (joined pages)) (sym same) c.requires.within
 
 pub returns-clause-ok : goal.returns-clause-ok
 returns-clause-ok g c =
-    let same = c.make_room.ensures ∙ copied_by page_items _ c.args.group.now.value c.in_ok-pages.pages.now (λ x y r. ap (λ v. vec_items v) r) c.in_ok-pages.ensures.value in
+    let same = c.make_room.ensures ∙ copied_by page_items _ c.args.group.now.value c.in_ok-pages.pages.now
+    (λ x y r. ap (λ v. vec_items v) r) c.in_ok-pages.ensures.value in
     let pages = c.put_in_pages.new.pages in
     let next_is = ap (λ v. joined (pages_of v.items)) (c.make_mut.follows.holds pages (ap is_ok c.in_ok-pages.was)) in
     on_ok_weaker c.put_in_pages.result
@@ -37,7 +43,8 @@ returns-clause-ok g c =
 
 pub returns-clause-err : goal.returns-clause-err
 returns-clause-err g c =
-    let same = c.make_room.ensures ∙ copied_by page_items _ c.args.group.now.value c.in_ok-pages.pages.now (λ x y r. ap (λ v. vec_items v) r) c.in_ok-pages.ensures.value in
+    let same = c.make_room.ensures ∙ copied_by page_items _ c.args.group.now.value c.in_ok-pages.pages.now
+    (λ x y r. ap (λ v. vec_items v) r) c.in_ok-pages.ensures.value in
     let pages = c.put_in_pages.new.pages in
     let next_is = ap (λ v. pages_of v.items) (c.make_mut.follows.holds pages (ap is_ok c.in_ok-pages.was)) in
     on_err_weaker c.put_in_pages.result (λ e. next_is ∙ e ∙ same) c.put_in_pages.ensures.err

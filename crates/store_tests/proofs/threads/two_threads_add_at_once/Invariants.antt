@@ -1,4 +1,5 @@
 use Rattle.store_tests.proofs.threads.two_threads_add_at_once.Given as goal
 
 abbrev pub ghosts-threaded : goal.ghosts-threaded
-ghosts-threaded g a = record { limit = a.blank.limit; sessions = a.blank.sessions; width = a.blank.width; history = a.blank.history }
+ghosts-threaded g a =
+    record { limit = a.blank.limit; sessions = a.blank.sessions; width = a.blank.width; history = a.blank.history }

@@ -14,13 +14,20 @@ invariant_of-self-2 c =
     let ok = c.in_ok-append_name.ensures.ok in
     let listed : c.in_ok-listed.listed ≡ c.args.name.now = c.in_ok-listed.ensures in
     let key : c.in_ok-key.key ≡ c.args.name.now = c.in_ok-key.ensures in
-    let absent = subst (λ (t : TreeState). (k : ℕ) → k < length t.names → name_at t.names k ≡ c.args.name.now → ⊥) (sym c.self.view_is) c.requires in
-    let next = IsIndex-named tree c.args.name.now (hash.get same_key c.self.inside.index) state absent c.self.invariant.1 in
+    let absent = subst (λ (t : TreeState). (k : ℕ) → k < length t.names → name_at t.names k ≡ c.args.name.now → ⊥)
+    (sym c.self.view_is) c.requires in
+    let next =
+    IsIndex-named tree c.args.name.now (hash.get same_key c.self.inside.index) state absent c.self.invariant.1 in
     let tree_is : record tree { names = tree.names ++ c.args.name.now ∷ [] } ≡ plain_at c.append_name.new.self 0 =
     λ i. record { names = sym (ok.1 ∙ ap (λ n. tree.names ++ n ∷ []) listed) i; nodes = get_or (sym ok.2 i) 0 [] } in
     let spare = c.in_ok-reserve.ensures.ok in
-    let inserted : c.insert.new.self.keys ≡ insert_key is_same_name c.reserve.new.self.keys c.in_ok-key.key = from_ok c.insert.result _ (c.insert.ensures.succeeds (omega (arith, spare))) c.insert.ensures.keys in
+    let inserted : c.insert.new.self.keys ≡ insert_key is_same_name c.reserve.new.self.keys c.in_ok-key.key =
+    from_ok c.insert.result _ (c.insert.ensures.succeeds (omega (arith, spare))) c.insert.ensures.keys in
     let keys : c.reserve.new.self.keys ≡ tree.names = c.in_ok-reserve.ensures.keys ∙ c.self.invariant.0 in
     let pushed : insert_key is_same_name tree.names c.args.name.now ≡ tree.names ++ c.args.name.now ∷ [] =
-    ap (λ b. if b then tree.names else tree.names ++ c.args.name.now ∷ []) (not_named tree.names c.args.name.now absent) in
-    (inserted ∙ (λ i. insert_key is_same_name (keys i) (key i)) ∙ pushed ∙ ap (λ t. t.names) tree_is, subst (IsIndex (hash.get same_key c.self.inside.index)) tree_is next)
+    ap (λ b. if b then tree.names else tree.names ++ c.args.name.now ∷ [])
+    (not_named tree.names c.args.name.now absent) in (
+      inserted ∙ (λ i. insert_key is_same_name (keys i) (key i))
+          ∙ pushed ∙ ap (λ t. t.names) tree_is,
+      subst (IsIndex (hash.get same_key c.self.inside.index)) tree_is next,
+    )

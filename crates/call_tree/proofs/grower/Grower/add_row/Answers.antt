@@ -32,7 +32,8 @@ invariant_of-self-2 c =
     let credited = c.in_ok-add_row.ensures.ok in
     let first = credited.done 0 (omega arith) in (
       c.self-2.invariant.0 ∙ sym credited.names,
-      IsIndex-credited (hash.get same_key c.self-2.inside.index) (plain_at tree 0) (plain_at c.add_row.new.self 0) c.self-2.invariant.1
+      IsIndex-credited (hash.get same_key c.self-2.inside.index)
+          (plain_at tree 0) (plain_at c.add_row.new.self 0) c.self-2.invariant.1
           (record { names = first.names; size = first.size; stacks = first.stacks }),
     )
 
@@ -40,7 +41,8 @@ pub returns-clause-weights : goal.returns-clause-weights
 returns-clause-weights c = λ value.
     let batch = c.args.batch.now in
     let tree = c.self-2.inside.tree in
-    weights-credited tree c.add_row.new.self batch 1 c.first.ensures.batch c.requires.width c.in_ok-add_row.ensures.ok value
+    weights-credited
+    tree c.add_row.new.self batch 1 c.first.ensures.batch c.requires.width c.in_ok-add_row.ensures.ok value
     ∙ ap (λ m. with_rows m (rows_at value batch.rows)) (ap (λ (t : TreeState). weights_of t value) c.self-2.view_is
     ∙ weights-grown c.self.inside.tree c.grow-node.new.self c.in_ok-place.ensures.grown value
     ∙ ap (λ (t : TreeState). weights_of t value) c.self.view_is)

@@ -8,26 +8,33 @@ use Rattle.call_tree.proofs.grower.Grower.look_up.Goals as goal
 pub child-requires-clause-counts : goal.child-requires-clause-counts
 child-requires-clause-counts c =
     let frames = c.args.frames.now in
-    let frame : c.index-frames-depth.result ≡ get_or frames c.args.depth [] = get_or_read frames c.args.depth c.index-frames-depth.result c.requires.within c.index-frames-depth.is [] in
+    let frame : c.index-frames-depth.result ≡ get_or frames c.args.depth [] =
+    get_or_read frames c.args.depth c.index-frames-depth.result c.requires.within c.index-frames-depth.is [] in
     let states = subst AreStates c.self.view_is c.facts.ensures in
     let state = states.each 0 states.some in
     let grown = c.in_ok-number.ensures.grown in
     let some : 0 < length c.args.self.now.values = omega (arith, grown.count, states.some, states.width) in
     let nodes = ap (λ values. get_or values 0 []) c.in_ok-number.ensures.values in
-    ap not (c.in_ok-there.ensures.there ∙ there_is (plain_at c.args.self.now 0) (plain_at c.intern.new.self 0) c.args.walk.now frames c.args.depth c.args.place c.in_ok-number.number
-    c.requires.within c.requires.path (grown.each 0 some) nodes c.in_ok-number.ensures.number.0 (c.in_ok-number.ensures.number.1 ∙ frame) state)
+    ap not (c.in_ok-there.ensures.there ∙ there_is (plain_at c.args.self.now 0)
+    (plain_at c.intern.new.self 0) c.args.walk.now frames c.args.depth c.args.place c.in_ok-number.number
+    c.requires.within c.requires.path
+    (grown.each 0 some) nodes c.in_ok-number.ensures.number.0 (c.in_ok-number.ensures.number.1 ∙ frame) state)
 
 pub returns-clause-path : goal.returns-clause-path
 returns-clause-path c =
     let frames = c.args.frames.now in
-    let frame : c.index-frames-depth.result ≡ get_or frames c.args.depth [] = get_or_read frames c.args.depth c.index-frames-depth.result c.requires.within c.index-frames-depth.is [] in
+    let frame : c.index-frames-depth.result ≡ get_or frames c.args.depth [] =
+    get_or_read frames c.args.depth c.index-frames-depth.result c.requires.within c.index-frames-depth.is [] in
     let states = subst AreStates c.self.view_is c.facts.ensures in
     let state = states.each 0 states.some in
     let grown = c.in_ok-number.ensures.grown in
     let some : 0 < length c.args.self.now.values = omega (arith, grown.count, states.some, states.width) in
     let nodes = ap (λ values. get_or values 0 []) c.in_ok-number.ensures.values in
     if_ok_more c.child.result _ _
-    (λ place child. IsOnPath-step (plain_at c.args.self.now 0) (plain_at c.intern.new.self 0) c.args.walk.now frames c.args.depth c.args.place c.in_ok-number.number
-    c.requires.within c.requires.path (grown.each 0 some) nodes c.in_ok-number.ensures.number.0 (c.in_ok-number.ensures.number.1 ∙ frame) state
-    (plain_at c.child.new.self 0) c.in_ok-there.there c.add.new.self place c.in_ok-there.ensures.there c.in_ok-there.ensures.ok c.child.ensures.names child.0 child.1)
+    (λ place child. IsOnPath-step (plain_at c.args.self.now 0)
+    (plain_at c.intern.new.self 0) c.args.walk.now frames c.args.depth c.args.place c.in_ok-number.number
+    c.requires.within c.requires.path
+    (grown.each 0 some) nodes c.in_ok-number.ensures.number.0 (c.in_ok-number.ensures.number.1 ∙ frame) state
+    (plain_at c.child.new.self 0) c.in_ok-there.there
+    c.add.new.self place c.in_ok-there.ensures.there c.in_ok-there.ensures.ok c.child.ensures.names child.0 child.1)
     c.child.ensures.child

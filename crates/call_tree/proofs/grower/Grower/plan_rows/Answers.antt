@@ -11,5 +11,7 @@ returns-clause-next c =
     let grown = c.in_ok-places.ensures.grown in
     let tree = c.self.inside.tree in
     let width = c.requires.width ∙ sym grown.width ∙ sym (ap (λ t. t.width) c.self.view_is) in
-    λ value. weights-credited tree c.in_ok-next.next batch tree.width c.first.ensures.batch width c.in_ok-next.ensures value
-    ∙ ap (λ m. with_rows m (rows_at value batch.rows)) (ap (λ t. weights_of t value) c.self.view_is ∙ weights-grown c.args.self.now c.places_of.new.self grown value)
+    λ value.
+    weights-credited tree c.in_ok-next.next batch tree.width c.first.ensures.batch width c.in_ok-next.ensures value
+    ∙ ap (λ m. with_rows m (rows_at value batch.rows))
+    (ap (λ t. weights_of t value) c.self.view_is ∙ weights-grown c.args.self.now c.places_of.new.self grown value)

@@ -16,10 +16,13 @@ add_batch-requires-clause-places c =
     let batch = c.args.batch.now in
     let after = c.places_of.new.self in
     let places = c.in_ok-places.places.items in
-    let of_rows = subst (λ (rows : List WeightedStack). AreFirstPlaces (plain_at after 0) rows places (length rows)) c.first.ensures.first c.in_ok-places.ensures.places in
+    let of_rows = subst (λ (rows : List WeightedStack). AreFirstPlaces (plain_at after 0) rows places (length rows))
+    c.first.ensures.first c.in_ok-places.ensures.places in
     let are = ArePlaces-first (plain_at after 0) batch.rows places of_rows in
-    let here = subst (λ (tree : TreeState). ArePlaces (plain_at tree 0) batch.rows places) (sym c.grower-2.view_is) are in
-    subst (λ (items : List ℕ). ArePlaces (plain_at c.grower-2.inside.tree 0) batch.rows items) (sym c.as_slice.ensures.value) here
+    let here =
+    subst (λ (tree : TreeState). ArePlaces (plain_at tree 0) batch.rows places) (sym c.grower-2.view_is) are in
+    subst (λ (items : List ℕ). ArePlaces (plain_at c.grower-2.inside.tree 0) batch.rows items)
+    (sym c.as_slice.ensures.value) here
 
 pub add_batch-requires-clause-fits : goal.add_batch-requires-clause-fits
 add_batch-requires-clause-fits c = λ value.
@@ -36,7 +39,8 @@ invariant_of-result c =
     let credited = c.in_ok-add_batch.ensures in
     let first = credited.done 0 c.facts.ensures.some in (
       c.grower-2.invariant.0 ∙ sym credited.names,
-      IsIndex-credited (hash.get same_key c.grower-2.inside.index) (plain_at tree 0) (plain_at c.in_ok-add_batch.field-0 0) c.grower-2.invariant.1
+      IsIndex-credited (hash.get same_key c.grower-2.inside.index)
+          (plain_at tree 0) (plain_at c.in_ok-add_batch.field-0 0) c.grower-2.invariant.1
           (record { names = first.names; size = first.size; stacks = first.stacks }),
     )
 
@@ -45,8 +49,10 @@ returns-clause-weights c = λ value.
     let batch = c.args.batch.now in
     let tree = c.grower-2.inside.tree in
     let grown = c.in_ok-places.ensures.grown in
-    let width = c.requires.width ∙ sym (ap (λ (t : TreeState). t.width) c.grower.view_is) ∙ sym grown.width ∙ sym (ap (λ (t : TreeState). t.width) c.grower-2.view_is) in
-    weights-credited tree c.in_ok-add_batch.field-0 batch tree.width c.first.ensures.batch width c.in_ok-add_batch.ensures value
+    let width = c.requires.width ∙ sym (ap (λ (t : TreeState). t.width) c.grower.view_is)
+    ∙ sym grown.width ∙ sym (ap (λ (t : TreeState). t.width) c.grower-2.view_is) in
+    weights-credited
+    tree c.in_ok-add_batch.field-0 batch tree.width c.first.ensures.batch width c.in_ok-add_batch.ensures value
     ∙ ap (λ m. with_rows m (rows_at value batch.rows)) (ap (λ (t : TreeState). weights_of t value) c.grower-2.view_is
     ∙ weights-grown c.grower.inside.tree c.places_of.new.self grown value
     ∙ ap (λ (t : TreeState). weights_of t value) c.grower.view_is)

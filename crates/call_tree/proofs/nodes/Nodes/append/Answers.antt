@@ -9,5 +9,7 @@ returns-clause-ok c =
     let tables = c.self.inside.others.items in
     let after = c.take_room.new.tables.items in
     λ value lt. pushed-all first c.append.new.self tables after c.args.node c.requires
-    (subst (λ n. AreTables n after) c.len.ensures c.in_ok-take_room.ensures.kept) c.in_ok-take_room.ensures.count (c.in_ok-take_room.ensures.same first) c.in_ok-append.ensures.ok value (omega (arith, lt, ap length c.self.view_is))
+    (subst (λ n. AreTables n after) c.len.ensures c.in_ok-take_room.ensures.kept) c.in_ok-take_room.ensures.count
+    (c.in_ok-take_room.ensures.same first) c.in_ok-append.ensures.ok value
+    (omega (arith, lt, ap length c.self.view_is))
     ∙ ap (λ all. nodes_of all value ++ c.args.node ∷ []) c.self.view_is

@@ -9,5 +9,8 @@ returns c =
     let first = c.new-2.result in
     let tables = c.loop.others.items in
     let size = length-map tables (weighed first) in
-    let some : 0 < c.get-end.result = omega (arith, c.get-end.ensures.some, c.get-end.ensures.count) in
-    (omega (arith, size, c.loop.invariant.0, c.loop-test.false, c.get-end.ensures.count, some, c.loop.auto.counter-end), nodes_of-none first tables c.new-2.ensures)
+    let some : 0 < c.get-end.result = omega (arith, c.get-end.ensures.some, c.get-end.ensures.count) in (
+      omega
+          (arith, size, c.loop.invariant.0, c.loop-test.false, c.get-end.ensures.count, some, c.loop.auto.counter-end),
+      nodes_of-none first tables c.new-2.ensures,
+    )

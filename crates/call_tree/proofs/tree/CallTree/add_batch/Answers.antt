@@ -19,9 +19,16 @@ add_rows-requires-clause-places c =
     let names_are : c.self.inside.names ≡ tree.names = ap (λ t. t.names) c.self.view_is in
     let tree_is : tree_of tree.names c.self.inside.nodes ≡ tree =
     ap (λ ns. tree_of ns c.self.inside.nodes) (sym (ap (λ t. t.names) c.self.view_is)) ∙ c.self.view_is in
-    let lt : value < tree.width = omega (arith, c.loop-value-test.true, c.loop-value.auto.value-end, c.width.ensures, ap (λ t. t.width) c.self.view_is) in
+    let lt : value < tree.width = omega (
+      arith,
+      c.loop-value-test.true,
+      c.loop-value.auto.value-end,
+      c.width.ensures,
+      ap (λ t. t.width) c.self.view_is,
+    ) in
     let were = ArePlaces-by tree rows places value c.facts.ensures lt c.requires.places in
-    let are = places_now tree.names c.self.inside.nodes c.loop-value.nodes rows value c.loop-value.invariant places (subst (λ (t : TreeState). ArePlaces (plain_at t value) rows places) (sym tree_is) were) in
+    let are = places_now tree.names c.self.inside.nodes c.loop-value.nodes rows value c.loop-value.invariant places
+    (subst (λ (t : TreeState). ArePlaces (plain_at t value) rows places) (sym tree_is) were) in
     subst (λ ns. ArePlaces (plain_of ns c.loop-value.nodes value) rows places) (sym names_are) are
 
 pub add_rows-requires-clause-fits : goal.add_rows-requires-clause-fits
@@ -33,7 +40,8 @@ add_rows-requires-clause-fits c =
     let tree_is : tree_of tree.names c.self.inside.nodes ≡ tree =
     ap (λ ns. tree_of ns c.self.inside.nodes) (sym (ap (λ t. t.names) c.self.view_is)) ∙ c.self.view_is in
     let total = ap (λ ns. total_of (node_rows ns (nodes_of c.loop-value.nodes value))) names_are
-    ∙ total_now tree.names c.self.inside.nodes c.loop-value.nodes rows value c.loop-value.invariant ∙ ap (λ (t : TreeState). total_of (nodes_at t value)) tree_is in
+    ∙ total_now tree.names c.self.inside.nodes c.loop-value.nodes rows value c.loop-value.invariant
+    ∙ ap (λ (t : TreeState). total_of (nodes_at t value)) tree_is in
     omega (arith, total, c.requires.fits value)
 
 pub loop-value-preserved : goal.loop-value-preserved
@@ -43,9 +51,11 @@ loop-value-preserved c =
     let rows = c.args.batch.now.rows in
     let names_are : c.self.inside.names ≡ tree.names = ap (λ t. t.names) c.self.view_is in
     let added = c.in_ok-add_rows.ensures in
-    AreAddedTo-step tree.names c.self.inside.nodes c.loop-value.nodes rows value c.loop-value.invariant c.add_rows.new.nodes
+    AreAddedTo-step
+    tree.names c.self.inside.nodes c.loop-value.nodes rows value c.loop-value.invariant c.add_rows.new.nodes
     (subst (λ ns. AreTrees ns c.add_rows.new.nodes) names_are added.trees) added.width
-    (subst (λ ns. IsCredited (plain_of ns c.loop-value.nodes value) (plain_of ns c.add_rows.new.nodes value) (rows_at value rows)) names_are added.credited)
+    (subst (λ ns. IsCredited (plain_of ns c.loop-value.nodes value)
+    (plain_of ns c.add_rows.new.nodes value) (rows_at value rows)) names_are added.credited)
     added.others
 
 pub invariant_of-result : goal.invariant_of-result
@@ -56,11 +66,14 @@ invariant_of-result c =
     let batch = c.args.batch.now in
     let names_are : c.self.inside.names ≡ tree.names = ap (λ t. t.names) c.self.view_is in
     let width_is : length before ≡ tree.width = ap (λ t. t.width) c.self.view_is in
-    let all : c.loop-value.value ≡ length before = omega (arith, c.loop-value-test.false, c.loop-value.auto.value-end, c.get-value-end.ensures.count, c.width.ensures) in
-    let credited = subst (AreCredited (tree_of tree.names before) (tree_of tree.names now) batch.rows) all c.loop-value.invariant.credited in
+    let all : c.loop-value.value ≡ length before = omega
+    (arith, c.loop-value-test.false, c.loop-value.auto.value-end, c.get-value-end.ensures.count, c.width.ensures) in
+    let credited = subst (AreCredited (tree_of tree.names before) (tree_of tree.names now) batch.rows)
+    all c.loop-value.invariant.credited in
     let held = subst (λ ns. HasTotal (tree_of ns before) c.self.inside.total) names_are c.self.invariant.1 in (
       subst (λ ns. AreTrees ns now) (sym names_are) c.loop-value.invariant.trees,
       subst (λ ns. HasTotal (tree_of ns now) c.plus.result) (sym names_are)
-          (HasTotal-credited (tree_of tree.names before) (tree_of tree.names now) batch c.self.inside.total c.total.result c.plus.result held c.total.ensures.totals
+          (HasTotal-credited (tree_of tree.names before) (tree_of tree.names now)
+          batch c.self.inside.total c.total.result c.plus.result held c.total.ensures.totals
           (c.requires.width ∙ sym width_is) credited c.plus.ensures.width c.plus.ensures.each),
     )

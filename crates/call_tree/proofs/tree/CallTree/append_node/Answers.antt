@@ -8,21 +8,29 @@ use Rattle.call_tree.proofs.tree.CallTree.append_node.Goals as goal
 
 pub invariant_of-self-2 : goal.invariant_of-self-2
 invariant_of-self-2 c =
-    let now = subst (λ (t : TreeState). IsFresh (plain_at t 0) c.args.parent c.args.name c.args.counts) (sym c.self.view_is) c.requires in
+    let now = subst (λ (t : TreeState). IsFresh (plain_at t 0) c.args.parent c.args.name c.args.counts)
+    (sym c.self.view_is) c.requires in
     let names = c.self.inside.names in
     let all = c.self.inside.nodes in
-    let appended = IsAppended-trees names all c.append.new.self c.args.parent c.args.name c.args.counts c.self.invariant.0 c.facts.ensures now
+    let appended = IsAppended-trees
+    names all c.append.new.self c.args.parent c.args.name c.args.counts c.self.invariant.0 c.facts.ensures now
     c.in_ok-append.ensures.width c.in_ok-append.ensures.ok in (
-      AreTrees-appended names all c.append.new.self c.args.parent c.args.name c.args.counts c.self.invariant.0 c.facts.ensures now
+      AreTrees-appended
+          names all c.append.new.self c.args.parent c.args.name c.args.counts c.self.invariant.0 c.facts.ensures now
           c.in_ok-append.ensures.width c.in_ok-append.ensures.ok,
-      HasTotal-same (tree_of names all) (tree_of names c.append.new.self) c.self.inside.total c.self.invariant.1 appended.width
+      HasTotal-same
+          (tree_of names all) (tree_of names c.append.new.self) c.self.inside.total c.self.invariant.1 appended.width
           (total-grown (tree_of names all) (tree_of names c.append.new.self)
-          (AreGrown-appended (tree_of names all) (tree_of names c.append.new.self) c.args.parent c.args.name c.args.counts (AreStates-trees names all c.facts.ensures c.self.invariant.0) now appended)),
+          (AreGrown-appended (tree_of names all) (tree_of names c.append.new.self) c.args.parent
+          c.args.name c.args.counts (AreStates-trees names all c.facts.ensures c.self.invariant.0) now appended)),
     )
 
 pub returns-clause-ok : goal.returns-clause-ok
 returns-clause-ok c =
-    let now = subst (λ (t : TreeState). IsFresh (plain_at t 0) c.args.parent c.args.name c.args.counts) (sym c.self.view_is) c.requires in
-    subst (λ (t : TreeState). IsAppended t c.args.parent c.args.name (tree_of c.self.inside.names c.append.new.self)) c.self.view_is
-    (IsAppended-trees c.self.inside.names c.self.inside.nodes c.append.new.self c.args.parent c.args.name c.args.counts c.self.invariant.0 c.facts.ensures now
+    let now = subst (λ (t : TreeState). IsFresh (plain_at t 0) c.args.parent c.args.name c.args.counts)
+    (sym c.self.view_is) c.requires in
+    subst (λ (t : TreeState). IsAppended t c.args.parent c.args.name (tree_of c.self.inside.names c.append.new.self))
+    c.self.view_is
+    (IsAppended-trees c.self.inside.names c.self.inside.nodes
+    c.append.new.self c.args.parent c.args.name c.args.counts c.self.invariant.0 c.facts.ensures now
     c.in_ok-append.ensures.width c.in_ok-append.ensures.ok)

@@ -9,7 +9,10 @@ use Rattle.call_tree.specs.Nodes.{nodes_of}
 use Rattle.call_tree.proofs.Trees.{length-seen, seen}
 use Rattle.call_tree.proofs.Finding.{IsFound, IsFound-start, IsFound-matched, IsFound-passed}
 use Rattle.call_tree.proofs.tree.CallTree.place_of.Goals as goal
-use Rattle.call_tree.proofs.tree.CallTree.place_of.Goals.{then-node-place+then-eq, else-node-place, else-node-place-via-then-node-place+else-eq, else-node-place-via-else-node-place, else-loop-index-test, then-loop-index-test+then-depth-frames}
+use Rattle.call_tree.proofs.tree.CallTree.place_of.Goals.{then-node-place+then-eq, else-node-place}
+use Rattle.call_tree.proofs.tree.CallTree.place_of.Goals.{else-node-place-via-then-node-place+else-eq}
+use Rattle.call_tree.proofs.tree.CallTree.place_of.Goals.{else-node-place-via-else-node-place, else-loop-index-test}
+use Rattle.call_tree.proofs.tree.CallTree.place_of.Goals.{then-loop-index-test+then-depth-frames}
 
 pub loop-index-init : goal.loop-index-init
 loop-index-init c = IsFound-start _ _ _ (c.self.invariant.0 0 (omega (arith, c.facts.ensures.some)))
@@ -21,29 +24,43 @@ loop-index-preserved c =
     let tree = c.self.invariant.0 0 (omega (arith, c.facts.ensures.some)) in
     let frames = c.names-frames.result.now in
     let node_is : c.read-node.result ≡ at nodes c.loop-index.index = c.read-node.ensures in
-    let name_lt : c.read-node.result.name < length names = omega (arith, (tree.links c.loop-index.index (omega arith) (omega arith)).1, ap (λ node. node.name) node_is) in
+    let name_lt : c.read-node.result.name < length names =
+    omega (arith, (tree.links c.loop-index.index (omega arith) (omega arith)).1, ap (λ node. node.name) node_is) in
     elim c.if-node-place.branch [
       | then-node-place+then-eq w ↦
-          let name : w.read.result.now ≡ name_at names c.read-node.result.name = get_or_read names c.read-node.result.name w.read.result.now name_lt w.read.ensures [] in
-          let frame : w.index-frames-depth.result ≡ get_or frames c.loop-index.depth [] = get_or_read frames c.loop-index.depth w.index-frames-depth.result (omega arith) w.index-frames-depth.is [] in
-          let same : w.read.result.now ≡ w.index-frames-depth.result = same_from_is_same_name _ _ (sym w.eq.ensures ∙ w.if-eq.true) in
-          let next = IsFound-matched names nodes frames c.loop-index.index c.loop-index.place c.loop-index.depth tree c.loop-index.invariant (omega arith) (omega arith) (omega arith)
+          let name : w.read.result.now ≡ name_at names c.read-node.result.name =
+          get_or_read names c.read-node.result.name w.read.result.now name_lt w.read.ensures [] in
+          let frame : w.index-frames-depth.result ≡ get_or frames c.loop-index.depth [] = get_or_read
+          frames c.loop-index.depth w.index-frames-depth.result (omega arith) w.index-frames-depth.is [] in
+          let same : w.read.result.now ≡ w.index-frames-depth.result =
+          same_from_is_same_name _ _ (sym w.eq.ensures ∙ w.if-eq.true) in
+          let next = IsFound-matched names nodes frames c.loop-index.index c.loop-index.place
+          c.loop-index.depth tree c.loop-index.invariant (omega arith) (omega arith) (omega arith)
           (sym (ap (λ node. node.parent) node_is) ∙ w.if-node-place.true)
           (sym (ap (λ node. name_at names node.name) node_is) ∙ sym name ∙ same ∙ frame) in
-          subst (λ (p : ℕ × ℕ). IsFound names nodes frames (c.loop-index.index + 1) p.0 p.1) (λ i. (sym w.place-is i, sym w.depth-is i)) next
+          subst (λ (p : ℕ × ℕ). IsFound names nodes frames (c.loop-index.index + 1) p.0 p.1)
+          (λ i. (sym w.place-is i, sym w.depth-is i)) next
       | else-node-place w ↦
-          let next = IsFound-passed names nodes frames c.loop-index.index c.loop-index.place c.loop-index.depth tree c.loop-index.invariant (omega arith) (omega arith)
+          let next = IsFound-passed names nodes frames c.loop-index.index
+          c.loop-index.place c.loop-index.depth tree c.loop-index.invariant (omega arith) (omega arith)
           (λ parent deep named. elim w.else-node-place.branch [
             | else-node-place-via-then-node-place+else-eq w2 ↦
-                let name : w2.read.result.now ≡ name_at names c.read-node.result.name = get_or_read names c.read-node.result.name w2.read.result.now name_lt w2.read.ensures [] in
-                let frame : w2.index-frames-depth.result ≡ get_or frames c.loop-index.depth [] = get_or_read frames c.loop-index.depth w2.index-frames-depth.result (omega arith) w2.index-frames-depth.is [] in
-                let same : w2.read.result.now ≡ w2.index-frames-depth.result = name ∙ ap (λ node. name_at names node.name) node_is ∙ named ∙ sym frame in
-                let yes : is_same_name w2.read.result.now w2.index-frames-depth.result ≡ true = ap (is_same_name w2.read.result.now) (sym same) ∙ is_same_name-self w2.read.result.now in
-                let no : is_same_name w2.read.result.now w2.index-frames-depth.result ≡ false = sym w2.eq.ensures ∙ w2.if-eq.false in
+                let name : w2.read.result.now ≡ name_at names c.read-node.result.name =
+                get_or_read names c.read-node.result.name w2.read.result.now name_lt w2.read.ensures [] in
+                let frame : w2.index-frames-depth.result ≡ get_or frames c.loop-index.depth [] = get_or_read
+                frames c.loop-index.depth w2.index-frames-depth.result (omega arith) w2.index-frames-depth.is [] in
+                let same : w2.read.result.now ≡ w2.index-frames-depth.result = name
+                ∙ ap (λ node. name_at names node.name) node_is ∙ named ∙ sym frame in
+                let yes : is_same_name w2.read.result.now w2.index-frames-depth.result ≡ true =
+                ap (is_same_name w2.read.result.now) (sym same) ∙ is_same_name-self w2.read.result.now in
+                let no : is_same_name w2.read.result.now w2.index-frames-depth.result ≡ false = sym w2.eq.ensures
+                ∙ w2.if-eq.false in
                 cc
-            | else-node-place-via-else-node-place w2 ↦ w2.if-node-place.false (ap (λ node. node.parent) node_is ∙ parent)
+            | else-node-place-via-else-node-place w2 ↦ w2.if-node-place.false
+                (ap (λ node. node.parent) node_is ∙ parent)
           ]) in
-          subst (λ (p : ℕ × ℕ). IsFound names nodes frames (c.loop-index.index + 1) p.0 p.1) (λ i. (sym w.place-is i, sym w.depth-is i)) next
+          subst (λ (p : ℕ × ℕ). IsFound names nodes frames (c.loop-index.index + 1) p.0 p.1)
+          (λ i. (sym w.place-is i, sym w.depth-is i)) next
     ]
 
 pub returns-then-depth-frames-2 : goal.returns-then-depth-frames-2
@@ -53,7 +70,8 @@ returns-then-depth-frames-2 c =
     let frames = c.names-frames.result.now in
     let place = c.loop-index.place in (
       omega (arith, c.loop-index.invariant.within, length-seen names all c.args.self.now 0 c.self.view_is),
-      ap (λ rows. stack_at rows place) (sym (seen names all c.args.self.now 0 c.self.view_is)) ∙ c.loop-index.invariant.here
+      ap (λ rows. stack_at rows place) (sym (seen names all c.args.self.now 0 c.self.view_is))
+          ∙ c.loop-index.invariant.here
           ∙ ap (λ n. take n frames) c.if-depth-frames-2.true ∙ take-length frames ∙ c.names-frames.ensures.names,
     )
 
@@ -64,10 +82,18 @@ returns-else-depth-frames-2 c =
     let frames = c.names-frames.result.now in
     elim c.loop-index-test.branch [
       | else-loop-index-test w ↦ λ k lt e.
-          let in_nodes : k < length (nodes_of all 0) = omega (arith, lt, length-seen names all c.args.self.now 0 c.self.view_is) in
+          let in_nodes : k < length (nodes_of all 0) =
+          omega (arith, lt, length-seen names all c.args.self.now 0 c.self.view_is) in
           let whole : stack_at (node_rows names (nodes_of all 0)) k ≡ take (length frames) frames =
-          ap (λ rows. stack_at rows k) (seen names all c.args.self.now 0 c.self.view_is) ∙ e ∙ sym c.names-frames.ensures.names ∙ sym (take-length frames) in
-          let le = c.loop-index.invariant.longest k (length frames) (omega (arith, in_nodes, w.loop-index-test.false, c.loop-index.auto.index-end, c.len-index-end.ensures)) (omega arith) whole in
+          ap (λ rows. stack_at rows k) (seen names all c.args.self.now 0 c.self.view_is)
+          ∙ e ∙ sym c.names-frames.ensures.names ∙ sym (take-length frames) in
+          let le = c.loop-index.invariant.longest k (length frames) (omega (
+            arith,
+            in_nodes,
+            w.loop-index-test.false,
+            c.loop-index.auto.index-end,
+            c.len-index-end.ensures,
+          )) (omega arith) whole in
           let deep = c.loop-index.invariant.deep in
           c.if-depth-frames-2.false (omega (arith, le, deep))
       | then-loop-index-test+then-depth-frames w ↦ absurd (c.if-depth-frames-2.false w.if-depth-frames.true)

@@ -20,7 +20,8 @@ loop-place-init c =
     ap (λ fs. reverse (map (λ (frame : Bor (List ℕ)). frame.now) fs)) c.clear.ensures.items in
     record {
       place = omega (arith, c.requires, length-seen names c.self.inside.nodes c.args.self.now 0 c.self.view_is);
-      whole = sym (append-nil (stack_at (node_rows names nodes) c.args.at)) ∙ ap (λ ns. stack_at (node_rows names nodes) c.args.at ++ ns) (sym none);
+      whole = sym (append-nil (stack_at (node_rows names nodes) c.args.at))
+          ∙ ap (λ ns. stack_at (node_rows names nodes) c.args.at ++ ns) (sym none);
       named = subst (All IsName) (sym none) (All-nil IsName);
     }
 
@@ -31,21 +32,29 @@ loop-place-preserved c =
     let place = c.loop-place.place in
     let before = map (λ (frame : Bor (List ℕ)). frame.now) c.loop-place.frames.items in
     let node_is : c.read-node.result ≡ at nodes place = c.read-node.ensures in
-    let links = (c.self.invariant.0 0 (omega (arith, c.facts.ensures.some))).links place (omega (arith, c.loop-place-test.true)) c.loop-place.invariant.place in
+    let links = (c.self.invariant.0 0 (omega (arith, c.facts.ensures.some))).links place
+    (omega (arith, c.loop-place-test.true)) c.loop-place.invariant.place in
     let name_is : c.read.result.now ≡ name_at names c.read-node.result.name =
-    get_or_read names c.read-node.result.name c.read.result.now (omega (arith, links.1, ap (λ node. node.name) node_is)) c.read.ensures [] in
-    let name : c.text.result.now ≡ name_at names (at nodes place).name = c.text.ensures.text ∙ name_is ∙ ap (λ node. name_at names node.name) node_is in
-    let child = stack_at-child names nodes place (omega (arith, c.loop-place-test.true)) c.loop-place.invariant.place links.0 in
-    let next_is = turned_frames c.loop-place.frames.items c.push.new.self.items c.text.result c.in_ok-push.ensures.items in
-    let step = turned_step names nodes c.args.at place c.read-node.result.parent before (map (λ (frame : Bor (List ℕ)). frame.now) c.push.new.self.items) c.text.result.now
+    get_or_read names c.read-node.result.name c.read.result.now
+    (omega (arith, links.1, ap (λ node. node.name) node_is)) c.read.ensures [] in
+    let name : c.text.result.now ≡ name_at names (at nodes place).name = c.text.ensures.text
+    ∙ name_is ∙ ap (λ node. name_at names node.name) node_is in
+    let child =
+    stack_at-child names nodes place (omega (arith, c.loop-place-test.true)) c.loop-place.invariant.place links.0 in
+    let next_is =
+    turned_frames c.loop-place.frames.items c.push.new.self.items c.text.result c.in_ok-push.ensures.items in
+    let step = turned_step names nodes c.args.at place c.read-node.result.parent before
+    (map (λ (frame : Bor (List ℕ)). frame.now) c.push.new.self.items) c.text.result.now
     (omega (arith, links.0, c.loop-place.invariant.place, ap (λ node. node.parent) node_is))
-    c.loop-place.invariant.whole (child ∙ ap (λ p. stack_at (node_rows names nodes) p ++ name_at names (at nodes place).name ∷ []) (sym (ap (λ node. node.parent) node_is))
+    c.loop-place.invariant.whole (child ∙ ap (λ p. stack_at
+    (node_rows names nodes) p ++ name_at names (at nodes place).name ∷ []) (sym (ap (λ node. node.parent) node_is))
     ∙ ap (λ n. stack_at (node_rows names nodes) c.read-node.result.parent ++ n ∷ []) (sym name))
     next_is in
     record {
       place = step.0;
       whole = step.1;
-      named = turned_names before (map (λ (frame : Bor (List ℕ)). frame.now) c.push.new.self.items) c.text.result.now next_is
+      named = turned_names before
+          (map (λ (frame : Bor (List ℕ)). frame.now) c.push.new.self.items) c.text.result.now next_is
           (subst IsName (sym c.text.ensures.text) c.text.ensures.name) c.loop-place.invariant.named;
     }
 
@@ -54,7 +63,8 @@ returns-clause-frames c =
     let names = c.self.inside.names in
     let nodes = nodes_of c.self.inside.nodes 0 in
     let frames = map (λ (frame : Bor (List ℕ)). frame.now) c.loop-place.frames.items in
-    ap (map (λ (frame : Bor (List ℕ)). frame.now)) c.reverse.ensures.items ∙ map-reverse (λ (frame : Bor (List ℕ)). frame.now) c.loop-place.frames.items
+    ap (map (λ (frame : Bor (List ℕ)). frame.now)) c.reverse.ensures.items
+    ∙ map-reverse (λ (frame : Bor (List ℕ)). frame.now) c.loop-place.frames.items
     ∙ sym (turned names nodes c.args.at c.loop-place.place frames c.loop-place-test.false c.loop-place.invariant.whole)
     ∙ ap (λ rows. stack_at rows c.args.at) (seen names c.self.inside.nodes c.args.self.now 0 c.self.view_is)
 
@@ -63,5 +73,7 @@ returns-clause-names c =
     let names = c.self.inside.names in
     let nodes = nodes_of c.self.inside.nodes 0 in
     let frames = map (λ (frame : Bor (List ℕ)). frame.now) c.loop-place.frames.items in
-    subst (All IsName) (sym (turned names nodes c.args.at c.loop-place.place frames c.loop-place-test.false c.loop-place.invariant.whole)
-    ∙ ap (λ rows. stack_at rows c.args.at) (seen names c.self.inside.nodes c.args.self.now 0 c.self.view_is)) c.loop-place.invariant.named
+    subst (All IsName) (sym
+    (turned names nodes c.args.at c.loop-place.place frames c.loop-place-test.false c.loop-place.invariant.whole)
+    ∙ ap (λ rows. stack_at rows c.args.at) (seen names c.self.inside.nodes c.args.self.now 0 c.self.view_is))
+    c.loop-place.invariant.named

@@ -10,7 +10,8 @@ abbrev pub invariant-loop-place : goal.invariant-loop-place
 invariant-loop-place l = record {
   place : l.place < length (nodes_of l.self-inside.nodes 0);
   whole : stack_at (node_rows l.self-inside.names (nodes_of l.self-inside.nodes 0)) l.at
-      ≡ stack_at (node_rows l.self-inside.names (nodes_of l.self-inside.nodes 0)) l.place ++ reverse (map (λ frame. frame.now) l.frames.items);
+      ≡ stack_at (node_rows l.self-inside.names (nodes_of l.self-inside.nodes 0)) l.place ++ reverse
+      (map (λ frame. frame.now) l.frames.items);
   named : All IsName (reverse (map (λ frame. frame.now) l.frames.items));
 }
 

@@ -16,7 +16,9 @@ pub returns-clause-rows : goal.returns-clause-rows
 returns-clause-rows c =
     let now = c.args.self.now in
     let width = c.width-width.ensures ∙ ap (λ t. t.width) c.self.view_is in
-    if_ok_more c.aggregate.result (λ (rows : BatchState). AreRowsOf (aggregates_of c.loop-value.batch.rows) rows.rows) (λ (rows : BatchState). AreRowsOf (weights_of now) rows.rows)
+    if_ok_more c.aggregate.result (λ (rows : BatchState). AreRowsOf (aggregates_of c.loop-value.batch.rows) rows.rows)
+    (λ (rows : BatchState). AreRowsOf (weights_of now) rows.rows)
     (λ rows are. ArePushed-all now c.loop-value.batch c.loop-value.value rows.rows c.facts.ensures
-    (omega (arith, c.loop-value-test.false, c.loop-value.auto.value-end, c.get-value-end.ensures.count, width)) c.loop-value.invariant are)
+    (omega (arith, c.loop-value-test.false, c.loop-value.auto.value-end, c.get-value-end.ensures.count, width))
+    c.loop-value.invariant are)
     c.aggregate.ensures.rows

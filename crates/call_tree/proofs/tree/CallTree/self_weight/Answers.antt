@@ -13,9 +13,20 @@ use Rattle.call_tree.proofs.tree.CallTree.self_weight.Goals.{in-Some+else-loop-v
 pub read-requires-clause-within : goal.read-requires-clause-within
 read-requires-clause-within c =
     let value = c.loop-value.value in
-    let lt : value < c.args.self.now.width = omega (arith, c.loop-value-test.true, c.get-count.ensures.count, c.width-width.ensures, ap (λ t. t.width) c.self.view_is) in
+    let lt : value < c.args.self.now.width = omega (
+      arith,
+      c.loop-value-test.true,
+      c.get-count.ensures.count,
+      c.width-width.ensures,
+      ap (λ t. t.width) c.self.view_is,
+    ) in
     let size = c.facts.ensures.sizes value lt in
-    omega (arith, c.in-Some.ensures.0, size, length-seen c.self.inside.names c.self.inside.nodes c.args.self.now value c.self.view_is)
+    omega (
+      arith,
+      c.in-Some.ensures.0,
+      size,
+      length-seen c.self.inside.names c.self.inside.nodes c.args.self.now value c.self.view_is,
+    )
 
 pub loop-value-preserved : goal.loop-value-preserved
 loop-value-preserved c =
@@ -25,10 +36,18 @@ loop-value-preserved c =
     let stack = c.args.stack.now in
     let value = c.loop-value.value in
     let place = c.in-Some.place in
-    let lt : value < now.width = omega (arith, c.loop-value-test.true, c.get-count.ensures.count, c.width-width.ensures, ap (λ t. t.width) c.self.view_is) in
-    IsFilled-step (λ value. weight_in (weights_of now value) stack) value c.read.result.own c.loop-value.weights _ c.loop-value.invariant
+    let lt : value < now.width = omega (
+      arith,
+      c.loop-value-test.true,
+      c.get-count.ensures.count,
+      c.width-width.ensures,
+      ap (λ t. t.width) c.self.view_is,
+    ) in
+    IsFilled-step (λ value. weight_in (weights_of now value) stack)
+    value c.read.result.own c.loop-value.weights _ c.loop-value.invariant
     (omega (arith, c.loop-value-test.true, c.get-count.ensures.count, c.get-count.ensures.few))
-    (ap (λ node. node.own) c.read.ensures ∙ sym (ap (λ row. row.weight) (node_at-node_rows names (nodes_of all value) place))
+    (ap (λ node. node.own) c.read.ensures
+    ∙ sym (ap (λ row. row.weight) (node_at-node_rows names (nodes_of all value) place))
     ∙ ap (λ rows. (node_at rows place).weight) (seen names all now value c.self.view_is)
     ∙ sym (weight_in-found now c.facts.ensures stack value place lt c.in-Some.ensures.0 c.in-Some.ensures.1)) refl
 
@@ -44,11 +63,14 @@ returns-clause-weights c =
       | in-Some+else-loop-value-test w ↦
           subst (IsFilled (λ value. weight_in (weights_of now value) stack) width) (sym w.weights-is)
           (subst (λ n. IsFilled (λ value. weight_in (weights_of now value) stack) n w.loop-value.weights)
-          (omega (arith, w.loop-value-test.false, w.loop-value.auto.value-end, c.get-count.ensures.count)) w.loop-value.invariant)
+          (omega (arith, w.loop-value-test.false, w.loop-value.auto.value-end, c.get-count.ensures.count))
+          w.loop-value.invariant)
       | in_default w ↦
           subst (IsFilled (λ value. weight_in (weights_of now value) stack) width) (sym w.weights-is)
-          (IsFilled-zeros (λ value. weight_in (weights_of now value) stack) width (weight_in-nowhere now states stack w.in_default.ensures))
+          (IsFilled-zeros (λ value. weight_in (weights_of now value) stack) width
+          (weight_in-nowhere now states stack w.in_default.ensures))
     ] in
     λ value. ap (value_of value) c.weights_from.ensures
-    ∙ value_of-filled (λ value. weight_in (weights_of now value) stack) width c.match-place_of.weights filled (omega (arith, c.get-count.ensures.few))
+    ∙ value_of-filled (λ value. weight_in (weights_of now value) stack) width c.match-place_of.weights filled
+    (omega (arith, c.get-count.ensures.few))
     (λ k le. weight_in-past now states stack k (omega (arith, le, width_is))) value

@@ -14,7 +14,8 @@ loop-place-init c =
     let nodes = nodes_of c.self.inside.nodes 0 in
     let size = length-node_rows names nodes in (
       omega (arith, c.requires, length-seen names c.self.inside.nodes c.args.self.now 0 c.self.view_is, size),
-      sym (append-nil (stack_at (node_rows names nodes) c.args.at)) ∙ ap (λ ns. stack_at (node_rows names nodes) c.args.at ++ reverse ns) (sym c.new-names.ensures.items),
+      sym (append-nil (stack_at (node_rows names nodes) c.args.at))
+          ∙ ap (λ ns. stack_at (node_rows names nodes) c.args.at ++ reverse ns) (sym c.new-names.ensures.items),
     )
 
 pub loop-place-preserved : goal.loop-place-preserved
@@ -24,14 +25,19 @@ loop-place-preserved c =
     let place = c.loop-place.place in
     let before = c.loop-place.names.items in
     let node_is : c.read-node.result ≡ at nodes place = c.read-node.ensures in
-    let links = (c.self.invariant.0 0 (omega (arith, c.facts.ensures.some))).links place (omega (arith, c.loop-place-test.true)) c.loop-place.invariant.0 in
+    let links = (c.self.invariant.0 0 (omega (arith, c.facts.ensures.some))).links place
+    (omega (arith, c.loop-place-test.true)) c.loop-place.invariant.0 in
     let name_is : c.read.result.now ≡ name_at names c.read-node.result.name =
-    get_or_read names c.read-node.result.name c.read.result.now (omega (arith, links.1, ap (λ node. node.name) node_is)) c.read.ensures [] in
-    let name : c.in_ok-name.name ≡ name_at names (at nodes place).name = c.in_ok-name.ensures ∙ name_is ∙ ap (λ node. name_at names node.name) node_is in
-    let child = stack_at-child names nodes place (omega (arith, c.loop-place-test.true)) c.loop-place.invariant.0 links.0 in
+    get_or_read names c.read-node.result.name c.read.result.now
+    (omega (arith, links.1, ap (λ node. node.name) node_is)) c.read.ensures [] in
+    let name : c.in_ok-name.name ≡ name_at names (at nodes place).name = c.in_ok-name.ensures
+    ∙ name_is ∙ ap (λ node. name_at names node.name) node_is in
+    let child =
+    stack_at-child names nodes place (omega (arith, c.loop-place-test.true)) c.loop-place.invariant.0 links.0 in
     turned_step names nodes c.args.at place c.read-node.result.parent before c.push.new.self.items c.in_ok-name.name
     (omega (arith, links.0, c.loop-place.invariant.0, ap (λ node. node.parent) node_is))
-    c.loop-place.invariant.1 (child ∙ ap (λ p. stack_at (node_rows names nodes) p ++ name_at names (at nodes place).name ∷ []) (sym (ap (λ node. node.parent) node_is))
+    c.loop-place.invariant.1 (child ∙ ap (λ p. stack_at
+    (node_rows names nodes) p ++ name_at names (at nodes place).name ∷ []) (sym (ap (λ node. node.parent) node_is))
     ∙ ap (λ n. stack_at (node_rows names nodes) c.read-node.result.parent ++ n ∷ []) (sym name))
     c.in_ok-push.ensures.items
 
@@ -39,14 +45,30 @@ pub prove-unreachable-requires : goal.prove-unreachable-requires
 prove-unreachable-requires c =
     let names = c.self.inside.names in
     let nodes = nodes_of c.self.inside.nodes 0 in
-    let whole = ap length (turned names nodes c.args.at c.loop-place.place c.loop-place.names.items c.loop-place-test.false c.loop-place.invariant.1) in
-    let deep = (c.self.invariant.0 0 (omega (arith, c.facts.ensures.some))).deep c.args.at (omega (arith, c.requires, length-seen names c.self.inside.nodes c.args.self.now 0 c.self.view_is, length-node_rows names nodes)) in
-    omega (arith, whole, deep, length-reverse c.loop-place.names.items, c.len-fits.ensures, c.reverse.ensures.len, c.loop-place.names.ok, c.if-prove.true)
+    let whole = ap length (turned names
+    nodes c.args.at c.loop-place.place c.loop-place.names.items c.loop-place-test.false c.loop-place.invariant.1) in
+    let deep = (c.self.invariant.0 0 (omega (arith, c.facts.ensures.some))).deep c.args.at (omega (
+      arith,
+      c.requires,
+      length-seen names c.self.inside.nodes c.args.self.now 0 c.self.view_is,
+      length-node_rows names nodes,
+    )) in
+    omega (
+      arith,
+      whole,
+      deep,
+      length-reverse c.loop-place.names.items,
+      c.len-fits.ensures,
+      c.reverse.ensures.len,
+      c.loop-place.names.ok,
+      c.if-prove.true,
+    )
 
 pub returns-in-Ok : goal.returns-in-Ok
 returns-in-Ok c =
     let names = c.self.inside.names in
     let nodes = nodes_of c.self.inside.nodes 0 in
     c.in-Ok.ensures.1 ∙ c.reverse.ensures.items
-    ∙ sym (turned names nodes c.args.at c.loop-place.place c.loop-place.names.items c.loop-place-test.false c.loop-place.invariant.1)
+    ∙ sym (turned names
+    nodes c.args.at c.loop-place.place c.loop-place.names.items c.loop-place-test.false c.loop-place.invariant.1)
     ∙ ap (λ rows. stack_at rows c.args.at) (seen names c.self.inside.nodes c.args.self.now 0 c.self.view_is)

@@ -7,7 +7,8 @@ use Rattle.call_tree.proofs.tree.CallTree.stack_of.Given as goal
 -- what is left of the stack stands at the place, and the names so far are its rest, leaf first
 abbrev pub invariant-loop-place : goal.invariant-loop-place
 invariant-loop-place l = (l.place < length (nodes_of l.self-inside.nodes 0))
-    × (stack_at (node_rows l.self-inside.names (nodes_of l.self-inside.nodes 0)) l.at ≡ stack_at (node_rows l.self-inside.names (nodes_of l.self-inside.nodes 0)) l.place ++ reverse l.names.items)
+    × (stack_at (node_rows l.self-inside.names (nodes_of l.self-inside.nodes 0)) l.at
+    ≡ stack_at (node_rows l.self-inside.names (nodes_of l.self-inside.nodes 0)) l.place ++ reverse l.names.items)
 
 abbrev pub decreases-loop-place : goal.decreases-loop-place
 decreases-loop-place l = l.place

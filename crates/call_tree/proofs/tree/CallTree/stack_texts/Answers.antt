@@ -12,13 +12,25 @@ use Rattle.std.specs.List.{All, join_with_byte}
 
 pub stack_text-requires : goal.stack_text-requires
 stack_text-requires c =
-    omega (arith, length-seen c.self.inside.names c.self.inside.nodes c.args.self.now 0 c.self.view_is, c.loop-at-test.true, c.len-at-end.ensures)
+    omega (
+      arith,
+      length-seen c.self.inside.names c.self.inside.nodes c.args.self.now 0 c.self.view_is,
+      c.loop-at-test.true,
+      c.len-at-end.ensures,
+    )
 
 pub read-weight-requires-clause-within : goal.read-weight-requires-clause-within
 read-weight-requires-clause-within c =
     let size = c.facts.ensures.sizes c.args.value c.requires in
     let of_value = length-seen c.self.inside.names c.self.inside.nodes c.args.self.now c.args.value c.self.view_is in
-    omega (arith, size, of_value, length-seen c.self.inside.names c.self.inside.nodes c.args.self.now 0 c.self.view_is, c.loop-at-test.true, c.len-at-end.ensures)
+    omega (
+      arith,
+      size,
+      of_value,
+      length-seen c.self.inside.names c.self.inside.nodes c.args.self.now 0 c.self.view_is,
+      c.loop-at-test.true,
+      c.len-at-end.ensures,
+    )
 
 pub loop-at-preserved : goal.loop-at-preserved
 loop-at-preserved c =
@@ -28,18 +40,29 @@ loop-at-preserved c =
     let rows = nodes_at c.args.self.now c.args.value in
     let k = c.loop-at.at in
     let size = c.facts.ensures.sizes c.args.value c.requires in
-    let lt : k < length rows = omega (arith, size, length-seen names all c.args.self.now 0 c.self.view_is, c.loop-at-test.true, c.len-at-end.ensures) in
+    let lt : k < length rows = omega (
+      arith,
+      size,
+      length-seen names all c.args.self.now 0 c.self.view_is,
+      c.loop-at-test.true,
+      c.len-at-end.ensures,
+    ) in
     let weight : c.read-weight.result.own ≡ (node_at rows k).weight =
     ap (λ node. node.own) c.read-weight.ensures ∙ sym (ap (λ row. row.weight) (node_at-node_rows names nodes k))
     ∙ ap (λ rows. (node_at rows k).weight) (seen names all c.args.self.now c.args.value c.self.view_is) in
-    let stack : stack_at (nodes_at c.args.self.now 0) k ≡ stack_at rows k = sym (c.facts.ensures.stacks c.args.value k c.requires) in
+    let stack : stack_at (nodes_at c.args.self.now 0) k ≡ stack_at rows k =
+    sym (c.facts.ensures.stacks c.args.value k c.requires) in
     elim c.if-weight-gt0.branch [
       | then-weight-gt0+in_ok-text+in_ok-push w ↦
-          text_more rows c.loop-at.texts.items c.if-weight-gt0.texts.items k c.read-weight.result.own lt weight c.loop-at.invariant
-          w.if-weight-gt0.true (record { text = w.in_ok-text.text; weight = c.read-weight.result.own }) refl (w.in_ok-text.ensures.text ∙ ap (λ names. join_with_byte 59 names) stack)
-          (subst (All IsName) stack w.in_ok-text.ensures.names) (ap (λ texts. texts.items) w.texts-is ∙ w.in_ok-push.ensures.items)
+          text_more rows
+          c.loop-at.texts.items c.if-weight-gt0.texts.items k c.read-weight.result.own lt weight c.loop-at.invariant
+          w.if-weight-gt0.true (record { text = w.in_ok-text.text; weight = c.read-weight.result.own }) refl
+          (w.in_ok-text.ensures.text ∙ ap (λ names. join_with_byte 59 names) stack)
+          (subst (All IsName) stack w.in_ok-text.ensures.names)
+          (ap (λ texts. texts.items) w.texts-is ∙ w.in_ok-push.ensures.items)
       | else-weight-gt0 w ↦
-          text_less rows c.loop-at.texts.items c.if-weight-gt0.texts.items k c.read-weight.result.own lt weight c.loop-at.invariant
+          text_less rows
+          c.loop-at.texts.items c.if-weight-gt0.texts.items k c.read-weight.result.own lt weight c.loop-at.invariant
           (omega (arith, w.if-weight-gt0.false)) (ap (λ texts. texts.items) w.texts-is)
     ]
 
@@ -48,6 +71,13 @@ returns c =
     let nodes = nodes_at c.args.self.now c.args.value in
     let size = c.facts.ensures.sizes c.args.value c.requires in
     let all : take c.loop-at.at nodes ≡ nodes = take_all c.loop-at.at nodes
-    (omega (arith, size, length-seen c.self.inside.names c.self.inside.nodes c.args.self.now 0 c.self.view_is, c.loop-at-test.false, c.len-at-end.ensures)) in
-    AreStackTexts-nodes (plain_at c.args.self.now c.args.value) c.loop-at.texts.items (c.facts.ensures.each c.args.value c.requires)
+    (omega (
+      arith,
+      size,
+      length-seen c.self.inside.names c.self.inside.nodes c.args.self.now 0 c.self.view_is,
+      c.loop-at-test.false,
+      c.len-at-end.ensures,
+    )) in
+    AreStackTexts-nodes
+    (plain_at c.args.self.now c.args.value) c.loop-at.texts.items (c.facts.ensures.each c.args.value c.requires)
     (subst (λ nodes. AreSpelled (filter has_weight nodes) c.loop-at.texts.items) all c.loop-at.invariant)

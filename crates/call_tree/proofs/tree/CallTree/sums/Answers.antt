@@ -6,7 +6,8 @@ use Rattle.call_tree.specs.Shape.{IsTree, at}
 use Rattle.call_tree.specs.Totals.{AreSums, no_sums, sums_at}
 use Rattle.call_tree.specs.Nodes.{nodes_of}
 use Rattle.call_tree.proofs.Trees.{seen_plain, value_lt, length-alike}
-use Rattle.call_tree.proofs.Summing.{AreSumsFrom, AreSumsFrom-end, AreSumsFrom-next, AreSumsFrom-start, cum_fits, flat_fits, name_known, parent_fits, parent_wide, weight_fits}
+use Rattle.call_tree.proofs.Summing.{AreSumsFrom, AreSumsFrom-end, AreSumsFrom-next, AreSumsFrom-start, cum_fits}
+use Rattle.call_tree.proofs.Summing.{flat_fits, name_known, parent_fits, parent_wide, weight_fits}
 use Rattle.call_tree.proofs.tree.CallTree.sums.Goals as goal
 
 pub loop-left-init : goal.loop-left-init
@@ -33,7 +34,8 @@ read-node-requires-clause-within c =
     let k = c.loop-left.left - 1 in
     let more : c.loop-left.left ≡ k + 1 = omega (arith, c.loop-left-test.true) in
     let pos : 0 < k = omega (arith, c.loop-left-test.true) in
-    let so_far = subst (AreSumsFrom names nodes c.loop-left.sums.items c.loop-left.below.items) more c.loop-left.invariant in
+    let so_far =
+    subst (AreSumsFrom names nodes c.loop-left.sums.items c.loop-left.below.items) more c.loop-left.invariant in
     omega (arith, so_far.within, more)
 
 pub index-requires : goal.index-requires
@@ -46,7 +48,8 @@ index-requires c =
     let k = c.loop-left.left - 1 in
     let more : c.loop-left.left ≡ k + 1 = omega (arith, c.loop-left-test.true) in
     let pos : 0 < k = omega (arith, c.loop-left-test.true) in
-    let so_far = subst (AreSumsFrom names nodes c.loop-left.sums.items c.loop-left.below.items) more c.loop-left.invariant in
+    let so_far =
+    subst (AreSumsFrom names nodes c.loop-left.sums.items c.loop-left.below.items) more c.loop-left.invariant in
     omega (arith, so_far.wide, so_far.within)
 
 pub overflow_add-whole : goal.overflow_add-whole
@@ -59,8 +62,10 @@ overflow_add-whole c =
     let k = c.loop-left.left - 1 in
     let more : c.loop-left.left ≡ k + 1 = omega (arith, c.loop-left-test.true) in
     let pos : 0 < k = omega (arith, c.loop-left-test.true) in
-    let so_far = subst (AreSumsFrom names nodes c.loop-left.sums.items c.loop-left.below.items) more c.loop-left.invariant in
-    let below_is = get_or_read c.loop-left.below.items k c.index.result.now (omega (arith, so_far.wide, so_far.within)) c.index.ensures 0 in
+    let so_far =
+    subst (AreSumsFrom names nodes c.loop-left.sums.items c.loop-left.below.items) more c.loop-left.invariant in
+    let below_is = get_or_read c.loop-left.below.items k c.index.result.now
+    (omega (arith, so_far.wide, so_far.within)) c.index.ensures 0 in
     let own_is = ap (λ node. node.own) c.read-node.ensures in
     let fits = weight_fits names nodes tree c.loop-left.sums.items c.loop-left.below.items k so_far pos in
     omega (arith, fits, below_is, own_is)
@@ -75,7 +80,8 @@ index_mut-requires c =
     let k = c.loop-left.left - 1 in
     let more : c.loop-left.left ≡ k + 1 = omega (arith, c.loop-left-test.true) in
     let pos : 0 < k = omega (arith, c.loop-left-test.true) in
-    let so_far = subst (AreSumsFrom names nodes c.loop-left.sums.items c.loop-left.below.items) more c.loop-left.invariant in
+    let so_far =
+    subst (AreSumsFrom names nodes c.loop-left.sums.items c.loop-left.below.items) more c.loop-left.invariant in
     let parent_is = ap (λ node. node.parent) c.read-node.ensures in
     let wide = parent_wide names nodes tree c.loop-left.sums.items c.loop-left.below.items k so_far pos in
     omega (arith, wide, parent_is)
@@ -90,12 +96,15 @@ overflow_add-index_mut c =
     let k = c.loop-left.left - 1 in
     let more : c.loop-left.left ≡ k + 1 = omega (arith, c.loop-left-test.true) in
     let pos : 0 < k = omega (arith, c.loop-left-test.true) in
-    let so_far = subst (AreSumsFrom names nodes c.loop-left.sums.items c.loop-left.below.items) more c.loop-left.invariant in
-    let below_is = get_or_read c.loop-left.below.items k c.index.result.now (omega (arith, so_far.wide, so_far.within)) c.index.ensures 0 in
+    let so_far =
+    subst (AreSumsFrom names nodes c.loop-left.sums.items c.loop-left.below.items) more c.loop-left.invariant in
+    let below_is = get_or_read c.loop-left.below.items k c.index.result.now
+    (omega (arith, so_far.wide, so_far.within)) c.index.ensures 0 in
     let own_is = ap (λ node. node.own) c.read-node.ensures in
     let parent_is = ap (λ node. node.parent) c.read-node.ensures in
     let wide = parent_wide names nodes tree c.loop-left.sums.items c.loop-left.below.items k so_far pos in
-    let held_is = get_or_read c.loop-left.below.items c.read-node.result.parent c.index_mut.result.now (omega (arith, wide, parent_is)) c.index_mut.ensures.value 0
+    let held_is = get_or_read c.loop-left.below.items c.read-node.result.parent c.index_mut.result.now
+    (omega (arith, wide, parent_is)) c.index_mut.ensures.value 0
     ∙ ap (λ p. slice_index_or c.loop-left.below.items p 0) parent_is in
     let fits = parent_fits names nodes tree c.loop-left.sums.items c.loop-left.below.items k so_far pos in
     omega (arith, fits, below_is, own_is, held_is)
@@ -110,7 +119,8 @@ index_mut-sum-requires c =
     let k = c.loop-left.left - 1 in
     let more : c.loop-left.left ≡ k + 1 = omega (arith, c.loop-left-test.true) in
     let pos : 0 < k = omega (arith, c.loop-left-test.true) in
-    let so_far = subst (AreSumsFrom names nodes c.loop-left.sums.items c.loop-left.below.items) more c.loop-left.invariant in
+    let so_far =
+    subst (AreSumsFrom names nodes c.loop-left.sums.items c.loop-left.below.items) more c.loop-left.invariant in
     let name_is = ap (λ node. node.name) c.read-node.ensures in
     let known = name_known names nodes tree c.loop-left.sums.items c.loop-left.below.items k so_far pos in
     omega (arith, known, name_is)
@@ -125,11 +135,13 @@ overflow_add-sum c =
     let k = c.loop-left.left - 1 in
     let more : c.loop-left.left ≡ k + 1 = omega (arith, c.loop-left-test.true) in
     let pos : 0 < k = omega (arith, c.loop-left-test.true) in
-    let so_far = subst (AreSumsFrom names nodes c.loop-left.sums.items c.loop-left.below.items) more c.loop-left.invariant in
+    let so_far =
+    subst (AreSumsFrom names nodes c.loop-left.sums.items c.loop-left.below.items) more c.loop-left.invariant in
     let name_is = ap (λ node. node.name) c.read-node.ensures in
     let known = name_known names nodes tree c.loop-left.sums.items c.loop-left.below.items k so_far pos in
     let sum_is : c.index_mut-sum.result.now ≡ sums_at c.loop-left.sums.items (at nodes k).name =
-    get_or_read c.loop-left.sums.items c.read-node.result.name c.index_mut-sum.result.now (omega (arith, known, name_is)) c.index_mut-sum.ensures.value no_sums
+    get_or_read c.loop-left.sums.items c.read-node.result.name c.index_mut-sum.result.now
+    (omega (arith, known, name_is)) c.index_mut-sum.ensures.value no_sums
     ∙ ap (sums_at c.loop-left.sums.items) name_is in
     let own_is = ap (λ node. node.own) c.read-node.ensures in
     let fits = flat_fits names nodes tree c.loop-left.sums.items c.loop-left.below.items k so_far pos in
@@ -145,15 +157,19 @@ overflow_add-sum-then-node c =
     let k = c.loop-left.left - 1 in
     let more : c.loop-left.left ≡ k + 1 = omega (arith, c.loop-left-test.true) in
     let pos : 0 < k = omega (arith, c.loop-left-test.true) in
-    let so_far = subst (AreSumsFrom names nodes c.loop-left.sums.items c.loop-left.below.items) more c.loop-left.invariant in
-    let below_is = get_or_read c.loop-left.below.items k c.index.result.now (omega (arith, so_far.wide, so_far.within)) c.index.ensures 0 in
+    let so_far =
+    subst (AreSumsFrom names nodes c.loop-left.sums.items c.loop-left.below.items) more c.loop-left.invariant in
+    let below_is = get_or_read c.loop-left.below.items k c.index.result.now
+    (omega (arith, so_far.wide, so_far.within)) c.index.ensures 0 in
     let own_is = ap (λ node. node.own) c.read-node.ensures in
     let name_is = ap (λ node. node.name) c.read-node.ensures in
     let known = name_known names nodes tree c.loop-left.sums.items c.loop-left.below.items k so_far pos in
     let sum_is : c.index_mut-sum.result.now ≡ sums_at c.loop-left.sums.items (at nodes k).name =
-    get_or_read c.loop-left.sums.items c.read-node.result.name c.index_mut-sum.result.now (omega (arith, known, name_is)) c.index_mut-sum.ensures.value no_sums
+    get_or_read c.loop-left.sums.items c.read-node.result.name c.index_mut-sum.result.now
+    (omega (arith, known, name_is)) c.index_mut-sum.ensures.value no_sums
     ∙ ap (sums_at c.loop-left.sums.items) name_is in
-    let fits = cum_fits names nodes tree c.loop-left.sums.items c.loop-left.below.items k so_far pos (ap (λ node. node.counts) (sym c.read-node.ensures) ∙ c.if-node.true) in
+    let fits = cum_fits names nodes tree c.loop-left.sums.items c.loop-left.below.items k so_far pos
+    (ap (λ node. node.counts) (sym c.read-node.ensures) ∙ c.if-node.true) in
     omega (arith, fits, ap (λ s. s.cum) sum_is, below_is, own_is)
 
 pub loop-left-preserved-then-node : goal.loop-left-preserved-then-node
@@ -166,25 +182,31 @@ loop-left-preserved-then-node c =
     let k = c.loop-left.left - 1 in
     let more : c.loop-left.left ≡ k + 1 = omega (arith, c.loop-left-test.true) in
     let pos : 0 < k = omega (arith, c.loop-left-test.true) in
-    let so_far = subst (AreSumsFrom names nodes c.loop-left.sums.items c.loop-left.below.items) more c.loop-left.invariant in
-    let below_is = get_or_read c.loop-left.below.items k c.index.result.now (omega (arith, so_far.wide, so_far.within)) c.index.ensures 0 in
+    let so_far =
+    subst (AreSumsFrom names nodes c.loop-left.sums.items c.loop-left.below.items) more c.loop-left.invariant in
+    let below_is = get_or_read c.loop-left.below.items k c.index.result.now
+    (omega (arith, so_far.wide, so_far.within)) c.index.ensures 0 in
     let own_is = ap (λ node. node.own) c.read-node.ensures in
     let parent_is = ap (λ node. node.parent) c.read-node.ensures in
     let wide = parent_wide names nodes tree c.loop-left.sums.items c.loop-left.below.items k so_far pos in
-    let held_is = get_or_read c.loop-left.below.items c.read-node.result.parent c.index_mut.result.now (omega (arith, wide, parent_is)) c.index_mut.ensures.value 0
+    let held_is = get_or_read c.loop-left.below.items c.read-node.result.parent c.index_mut.result.now
+    (omega (arith, wide, parent_is)) c.index_mut.ensures.value 0
     ∙ ap (λ p. slice_index_or c.loop-left.below.items p 0) parent_is in
     let name_is = ap (λ node. node.name) c.read-node.ensures in
     let known = name_known names nodes tree c.loop-left.sums.items c.loop-left.below.items k so_far pos in
     let sum_is : c.index_mut-sum.result.now ≡ sums_at c.loop-left.sums.items (at nodes k).name =
-    get_or_read c.loop-left.sums.items c.read-node.result.name c.index_mut-sum.result.now (omega (arith, known, name_is)) c.index_mut-sum.ensures.value no_sums
+    get_or_read c.loop-left.sums.items c.read-node.result.name c.index_mut-sum.result.now
+    (omega (arith, known, name_is)) c.index_mut-sum.ensures.value no_sums
     ∙ ap (sums_at c.loop-left.sums.items) name_is in
-    let weight_is : c.read-node.result.own + c.index.result.now ≡ (at nodes k).own + slice_index_or c.loop-left.below.items k 0 = λ i. own_is i + below_is i in
+    let weight_is : c.read-node.result.own + c.index.result.now
+    ≡ (at nodes k).own + slice_index_or c.loop-left.below.items k 0 = λ i. own_is i + below_is i in
     let flat : ℕ = c.index_mut-sum.result.now.flat + c.read-node.result.own in
     let cum : ℕ = c.index_mut-sum.result.now.cum + (c.read-node.result.own + c.index.result.now) in
     AreSumsFrom-next names nodes tree c.loop-left.sums.items c.loop-left.below.items k so_far pos flat cum _ _
     (λ i. set c.loop-left.below.items (parent_is i) (held_is i + weight_is i))
     (λ i. (sum_is i).flat + own_is i)
-    ((λ i. (sum_is i).cum + weight_is i) ∙ ap (λ b. (sums_at c.loop-left.sums.items (at nodes k).name).cum + cond b ((at nodes k).own + slice_index_or c.loop-left.below.items k 0) 0)
+    ((λ i. (sum_is i).cum + weight_is i) ∙ ap (λ b. (sums_at c.loop-left.sums.items (at nodes k).name).cum + cond b
+    ((at nodes k).own + slice_index_or c.loop-left.below.items k 0) 0)
     (sym (ap (λ node. node.counts) (sym c.read-node.ensures) ∙ c.if-node.true)))
     (ap (λ n. set c.loop-left.sums.items n (record { flat = flat; cum = cum })) name_is)
 
@@ -198,25 +220,31 @@ loop-left-preserved c =
     let k = c.loop-left.left - 1 in
     let more : c.loop-left.left ≡ k + 1 = omega (arith, c.loop-left-test.true) in
     let pos : 0 < k = omega (arith, c.loop-left-test.true) in
-    let so_far = subst (AreSumsFrom names nodes c.loop-left.sums.items c.loop-left.below.items) more c.loop-left.invariant in
-    let below_is = get_or_read c.loop-left.below.items k c.index.result.now (omega (arith, so_far.wide, so_far.within)) c.index.ensures 0 in
+    let so_far =
+    subst (AreSumsFrom names nodes c.loop-left.sums.items c.loop-left.below.items) more c.loop-left.invariant in
+    let below_is = get_or_read c.loop-left.below.items k c.index.result.now
+    (omega (arith, so_far.wide, so_far.within)) c.index.ensures 0 in
     let own_is = ap (λ node. node.own) c.read-node.ensures in
     let parent_is = ap (λ node. node.parent) c.read-node.ensures in
     let wide = parent_wide names nodes tree c.loop-left.sums.items c.loop-left.below.items k so_far pos in
-    let held_is = get_or_read c.loop-left.below.items c.read-node.result.parent c.index_mut.result.now (omega (arith, wide, parent_is)) c.index_mut.ensures.value 0
+    let held_is = get_or_read c.loop-left.below.items c.read-node.result.parent c.index_mut.result.now
+    (omega (arith, wide, parent_is)) c.index_mut.ensures.value 0
     ∙ ap (λ p. slice_index_or c.loop-left.below.items p 0) parent_is in
     let name_is = ap (λ node. node.name) c.read-node.ensures in
     let known = name_known names nodes tree c.loop-left.sums.items c.loop-left.below.items k so_far pos in
     let sum_is : c.index_mut-sum.result.now ≡ sums_at c.loop-left.sums.items (at nodes k).name =
-    get_or_read c.loop-left.sums.items c.read-node.result.name c.index_mut-sum.result.now (omega (arith, known, name_is)) c.index_mut-sum.ensures.value no_sums
+    get_or_read c.loop-left.sums.items c.read-node.result.name c.index_mut-sum.result.now
+    (omega (arith, known, name_is)) c.index_mut-sum.ensures.value no_sums
     ∙ ap (sums_at c.loop-left.sums.items) name_is in
-    let weight_is : c.read-node.result.own + c.index.result.now ≡ (at nodes k).own + slice_index_or c.loop-left.below.items k 0 = λ i. own_is i + below_is i in
+    let weight_is : c.read-node.result.own + c.index.result.now
+    ≡ (at nodes k).own + slice_index_or c.loop-left.below.items k 0 = λ i. own_is i + below_is i in
     let flat : ℕ = c.index_mut-sum.result.now.flat + c.read-node.result.own in
     let cum : ℕ = c.index_mut-sum.result.now.cum in
     AreSumsFrom-next names nodes tree c.loop-left.sums.items c.loop-left.below.items k so_far pos flat cum _ _
     (λ i. set c.loop-left.below.items (parent_is i) (held_is i + weight_is i))
     (λ i. (sum_is i).flat + own_is i)
-    (ap (λ s. s.cum) sum_is ∙ omega arith ∙ ap (λ b. (sums_at c.loop-left.sums.items (at nodes k).name).cum + cond b ((at nodes k).own + slice_index_or c.loop-left.below.items k 0) 0)
+    (ap (λ s. s.cum) sum_is ∙ omega arith ∙ ap (λ b. (sums_at c.loop-left.sums.items (at nodes k).name).cum + cond b
+    ((at nodes k).own + slice_index_or c.loop-left.below.items k 0) 0)
     (sym (ap (λ node. node.counts) (sym c.read-node.ensures) ∙ c.if-node.false)))
     (ap (λ n. set c.loop-left.sums.items n (record { flat = flat; cum = cum })) name_is)
 
@@ -228,4 +256,5 @@ returns c =
     let nodes = nodes_of all c.args.value in
     let tree : IsTree names nodes = c.self.invariant.0 c.args.value lt_value in
     subst (λ t. AreSums t c.loop-left.sums.items) (seen_plain names all c.args.self.now c.args.value c.self.view_is)
-    (AreSumsFrom-end names nodes tree c.loop-left.sums.items c.loop-left.below.items c.loop-left.left (omega (arith, c.loop-left-test.false)) c.loop-left.invariant)
+    (AreSumsFrom-end names nodes tree c.loop-left.sums.items c.loop-left.below.items c.loop-left.left
+    (omega (arith, c.loop-left-test.false)) c.loop-left.invariant)

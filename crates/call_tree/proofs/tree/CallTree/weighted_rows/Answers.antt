@@ -6,17 +6,30 @@ use Rattle.call_tree.proofs.Shapes.{node_at-node_rows}
 use Rattle.call_tree.proofs.Weighty.{weighted, weightless}
 use Rattle.call_tree.proofs.Trees.{length-seen, seen}
 use Rattle.call_tree.proofs.tree.CallTree.weighted_rows.Goals as goal
-use Rattle.call_tree.proofs.tree.CallTree.weighted_rows.Goals.{then-weight-gt0+in_ok-stack+in_ok-map_err, else-weight-gt0}
+use Rattle.call_tree.proofs.tree.CallTree.weighted_rows.Goals.{then-weight-gt0+in_ok-stack+in_ok-map_err}
+use Rattle.call_tree.proofs.tree.CallTree.weighted_rows.Goals.{else-weight-gt0}
 
 pub stack_of-requires : goal.stack_of-requires
 stack_of-requires c =
-    omega (arith, length-seen c.self.inside.names c.self.inside.nodes c.args.self.now 0 c.self.view_is, c.loop-index-test.true, c.len-index-end.ensures)
+    omega (
+      arith,
+      length-seen c.self.inside.names c.self.inside.nodes c.args.self.now 0 c.self.view_is,
+      c.loop-index-test.true,
+      c.len-index-end.ensures,
+    )
 
 pub read-weight-requires-clause-within : goal.read-weight-requires-clause-within
 read-weight-requires-clause-within c =
     let size = c.facts.ensures.sizes c.args.value c.requires in
     let of_value = length-seen c.self.inside.names c.self.inside.nodes c.args.self.now c.args.value c.self.view_is in
-    omega (arith, size, of_value, length-seen c.self.inside.names c.self.inside.nodes c.args.self.now 0 c.self.view_is, c.loop-index-test.true, c.len-index-end.ensures)
+    omega (
+      arith,
+      size,
+      of_value,
+      length-seen c.self.inside.names c.self.inside.nodes c.args.self.now 0 c.self.view_is,
+      c.loop-index-test.true,
+      c.len-index-end.ensures,
+    )
 
 pub loop-index-preserved : goal.loop-index-preserved
 loop-index-preserved c =
@@ -26,16 +39,25 @@ loop-index-preserved c =
     let rows = nodes_at c.args.self.now c.args.value in
     let k = c.loop-index.index in
     let size = c.facts.ensures.sizes c.args.value c.requires in
-    let lt : k < length rows = omega (arith, size, length-seen names all c.args.self.now 0 c.self.view_is, c.loop-index-test.true, c.len-index-end.ensures) in
+    let lt : k < length rows = omega (
+      arith,
+      size,
+      length-seen names all c.args.self.now 0 c.self.view_is,
+      c.loop-index-test.true,
+      c.len-index-end.ensures,
+    ) in
     let weight : c.read-weight.result.own ≡ (node_at rows k).weight =
     ap (λ node. node.own) c.read-weight.ensures ∙ sym (ap (λ row. row.weight) (node_at-node_rows names nodes k))
     ∙ ap (λ rows. (node_at rows k).weight) (seen names all c.args.self.now c.args.value c.self.view_is) in
     elim c.if-weight-gt0.branch [
       | then-weight-gt0+in_ok-stack+in_ok-map_err w ↦
-          weighted rows c.loop-index.rows c.if-weight-gt0.rows k c.read-weight.result.own lt weight c.loop-index.invariant
-          w.if-weight-gt0.true w.in_ok-stack.stack (w.in_ok-stack.ensures ∙ sym (c.facts.ensures.stacks c.args.value k c.requires)) (w.rows-is ∙ (search rules))
+          weighted
+          rows c.loop-index.rows c.if-weight-gt0.rows k c.read-weight.result.own lt weight c.loop-index.invariant
+          w.if-weight-gt0.true w.in_ok-stack.stack (w.in_ok-stack.ensures
+          ∙ sym (c.facts.ensures.stacks c.args.value k c.requires)) (w.rows-is ∙ (search rules))
       | else-weight-gt0 w ↦
-          weightless rows c.loop-index.rows c.if-weight-gt0.rows k c.read-weight.result.own lt weight c.loop-index.invariant
+          weightless
+          rows c.loop-index.rows c.if-weight-gt0.rows k c.read-weight.result.own lt weight c.loop-index.invariant
           (omega (arith, w.if-weight-gt0.false)) w.rows-is
     ]
 
@@ -44,5 +66,11 @@ returns c =
     let nodes = nodes_at c.args.self.now c.args.value in
     let size = c.facts.ensures.sizes c.args.value c.requires in
     let all : take c.loop-index.index nodes ≡ nodes = take_all c.loop-index.index nodes
-    (omega (arith, size, length-seen c.self.inside.names c.self.inside.nodes c.args.self.now 0 c.self.view_is, c.loop-index-test.false, c.len-index-end.ensures)) in
+    (omega (
+      arith,
+      size,
+      length-seen c.self.inside.names c.self.inside.nodes c.args.self.now 0 c.self.view_is,
+      c.loop-index-test.false,
+      c.len-index-end.ensures,
+    )) in
     c.loop-index.invariant ∙ ap (filter has_weight) all

@@ -9,5 +9,6 @@ use Rattle.call_tree.proofs.tree.CallTree.weighted_stacks.Goals as goal
 pub returns : goal.returns
 returns c =
     if_ok_more c.aggregate_stacks.result _ _
-    (λ sums e. e ∙ ap (λ rows. rows_of (aggregate_of rows)) c.in_ok-rows.ensures ∙ ap rows_of (aggregate_of-weighty (nodes_at c.args.self.now c.args.value)))
+    (λ sums e. e ∙ ap (λ rows. rows_of (aggregate_of rows)) c.in_ok-rows.ensures
+    ∙ ap rows_of (aggregate_of-weighty (nodes_at c.args.self.now c.args.value)))
     c.aggregate_stacks.ensures

@@ -1,5 +1,6 @@
 -- One frame more.
-use Rattle.std.proofs.Common.{rules, ◌≡◌, ℕ, List, ◌∷◌, ◌++◌, [], ◌<◌, ◌⊎◌, ap, sym, ◌∙◌, inl, inr, arith, map, get_or, string_bytes}
+use Rattle.std.proofs.Common.{rules, ◌≡◌, ℕ, List, ◌∷◌, ◌++◌, [], ◌<◌, ◌⊎◌, ap, sym, ◌∙◌, inl, inr, arith, map, get_or}
+use Rattle.std.proofs.Common.{string_bytes}
 use Rattle.std.proofs.lemmas.List.{get_or-map, length-map}
 use denote.Ref.{Bor}
 use Rattle.call_tree.proofs.Joining.{join_more}
@@ -21,5 +22,6 @@ loop-index-preserved c =
     let none : Bor (List ℕ) = record { ref_ptr = (0, 0); now = [] } in
     let more : string_bytes c.push_str.new.self ≡ after ++ (get_or frames k none).now = search rules in
     let long = length-map frames (λ (frame : Bor (List ℕ)). frame.now) in
-    more ∙ ap (λ name. after ++ name) (sym (get_or-map (λ (frame : Bor (List ℕ)). frame.now) frames k none [] c.loop-index-test.true))
+    more ∙ ap (λ name. after ++ name)
+    (sym (get_or-map (λ (frame : Bor (List ℕ)). frame.now) frames k none [] c.loop-index-test.true))
     ∙ join_more names k [] before after (omega (arith, c.loop-index-test.true, long)) c.loop-index.invariant cut

@@ -18,7 +18,8 @@ pub name_like-requires : goal.name_like-requires
 name_like-requires c =
     let frames = c.args.frames.now in
     let i = c.loop-frame.frame-index in
-    subst IsName (get_or-map text_of frames i none [] c.loop-frame-test.true) (c.requires i [] (within frames i c.loop-frame-test.true))
+    subst IsName (get_or-map text_of frames i none [] c.loop-frame-test.true)
+    (c.requires i [] (within frames i c.loop-frame-test.true))
 
 pub loop-frame-preserved : goal.loop-frame-preserved
 loop-frame-preserved c =

@@ -12,8 +12,10 @@ returns-then-is_ne c =
     let text = c.self.inside.text.now in
     let other = c.other.inside.text.now in
     let fronts : c.cmp-fronts.result ≡ nat_cmp (front_of text) (front_of other) =
-    c.cmp-fronts.ensures ∙ ap (λ n. nat_cmp n c.other.inside.front) c.self.invariant.0 ∙ ap (nat_cmp (front_of text)) c.other.invariant.0 in
+    c.cmp-fronts.ensures ∙ ap (λ n. nat_cmp n c.other.inside.front) c.self.invariant.0
+    ∙ ap (nat_cmp (front_of text)) c.other.invariant.0 in
     let apart : nat_cmp (front_of text) (front_of other) ≡ Equal → ⊥ = λ same.
     let clash : true ≡ false = sym c.if-is_ne.true ∙ c.is_ne.ensures ∙ ap is_ne (fronts ∙ same) in cc in
     fronts ∙ fronts_decide text other c.self.invariant.1 c.other.invariant.1 apart
-    ∙ ap (λ (row : TextState). stack_text_cmp row.text other) c.self.view_is ∙ ap (λ (row : TextState). stack_text_cmp c.args.self.now.text row.text) c.other.view_is
+    ∙ ap (λ (row : TextState). stack_text_cmp row.text other) c.self.view_is
+    ∙ ap (λ (row : TextState). stack_text_cmp c.args.self.now.text row.text) c.other.view_is

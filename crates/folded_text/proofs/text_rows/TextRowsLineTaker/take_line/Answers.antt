@@ -12,5 +12,9 @@ returns-clause-taken c = λ rows is fits.
       row,
       this,
       subst (λ held. held + row.weight < 2 ^ 63) is.0.total adds.fits,
-      (AreMergedSoFar-row rows (rows ++ row ∷ []) (spelled_rows c.args.self.now.rows.items) (spelled_rows c.sum_line.new.sums.rows.items) row is.0 adds refl, known),
+      (
+        AreMergedSoFar-row rows (rows ++ row ∷ []) (spelled_rows c.args.self.now.rows.items)
+            (spelled_rows c.sum_line.new.sums.rows.items) row is.0 adds refl,
+        known,
+      ),
     ))

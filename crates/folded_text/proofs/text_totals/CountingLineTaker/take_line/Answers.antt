@@ -10,7 +10,8 @@ use Rattle.folded_text.proofs.text_totals.CountingLineTaker.take_line.Goals as g
 pub returns-in_default-clause-taken : goal.returns-in_default-clause-taken
 returns-in_default-clause-taken c = λ rows so_far fits.
     let (merged, same, counted) = so_far in
-    let now = c.count_line.ensures.counted merged (subst (λ waiting. AreCounted waiting c.args.self.now.counted merged) c.in_default.is counted) in
+    let now = c.count_line.ensures.counted merged
+    (subst (λ waiting. AreCounted waiting c.args.self.now.counted merged) c.in_default.is counted) in
     both c.count_line.result now now
     (λ taken _. let (row, this, within, tallied) = taken in (
       row,
@@ -18,7 +19,8 @@ returns-in_default-clause-taken c = λ rows so_far fits.
       subst (λ held. held + row.weight < 2 ^ 63) same.total within,
       (
         merged ++ row ∷ [],
-        AreMergedSoFar-row rows (rows ++ row ∷ []) merged (merged ++ row ∷ []) row same (AddsRow-push merged (merged ++ row ∷ []) row refl within) refl,
+        AreMergedSoFar-row rows (rows ++ row ∷ []) merged
+            (merged ++ row ∷ []) row same (AddsRow-push merged (merged ++ row ∷ []) row refl within) refl,
         subst (λ waiting. AreCounted waiting c.count_line.new.rows (merged ++ row ∷ [])) (sym c.in_default.is) tallied,
       ),
     ))
@@ -28,8 +30,13 @@ returns-then-saves_work-clause-taken c = λ rows so_far fits.
     let (merged, same, counted) = so_far in
     let (is, known, none) = subst (λ waiting. AreCounted waiting c.args.self.now.counted merged) c.in-Some.is counted in
     let (row, this, adds) = c.in_ok-sum_line.ensures.added in
-    let (within, more) = waits rows merged (spelled_rows c.in-Some.sums.rows.items) (spelled_rows c.sum_line.new.sums.rows.items) row same is adds in
-    (row, this, within, (spelled_rows c.sum_line.new.sums.rows.items, more, (refl, c.in_ok-sum_line.ensures.known, none)))
+    let (within, more) = waits rows merged
+    (spelled_rows c.in-Some.sums.rows.items) (spelled_rows c.sum_line.new.sums.rows.items) row same is adds in (
+      row,
+      this,
+      within,
+      (spelled_rows c.sum_line.new.sums.rows.items, more, (refl, c.in_ok-sum_line.ensures.known, none)),
+    )
 
 pub returns-clause-taken : goal.returns-clause-taken
 returns-clause-taken c = λ rows so_far fits.
@@ -44,7 +51,8 @@ returns-clause-taken c = λ rows so_far fits.
       (
         sums,
         more,
-        subst (λ waiting. AreCounted waiting c.count_waiting.new.self.counted sums) (sym c.in_ok-count_waiting.ensures.none)
+        subst (λ waiting. AreCounted waiting c.count_waiting.new.self.counted sums)
+            (sym c.in_ok-count_waiting.ensures.none)
             (c.in_ok-count_waiting.ensures.counted sums (refl, c.in_ok-sum_line.ensures.known, none)),
       ),
     )

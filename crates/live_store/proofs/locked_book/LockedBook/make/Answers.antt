@@ -14,13 +14,16 @@ returns-clause-placed g c =
     let n = c.args.log.now.number in
     let turn = changes_told c.args.log.now.receipts.items in
     let place_is = c.keep_change-place.ensures.placed ∙ ap (λ (r : PlainReceipt). r.at) c.settle-receipt.ensures.told in
-    let reply = ap (λ (r : PlainReceipt). r.reply) (sym c.settle-receipt.ensures.receipt ∙ c.settle-receipt.ensures.told) in
-    let made : entry_made c.args.ready ≡ entry_after entries n turn c.args.ready.op = λ i. entry_after (c.requires.before i).entries (c.requires.mine i) (c.requires.taken i) c.args.ready.op in
+    let reply =
+    ap (λ (r : PlainReceipt). r.reply) (sym c.settle-receipt.ensures.receipt ∙ c.settle-receipt.ensures.told) in
+    let made : entry_made c.args.ready ≡ entry_after entries n turn c.args.ready.op =
+    λ i. entry_after (c.requires.before i).entries (c.requires.mine i) (c.requires.taken i) c.args.ready.op in
     record {
       before = entries;
       begins = subst (λ (l : List PlainEntry). IsPrefix l entries) (sym c.requires.known) (prefix_self entries);
       turn_is = sym c.requires.taken ∙ (c.requires.turn ∙ ap (turns_of entries) c.requires.mine);
       place_is = place_is;
       reply_is = reply ∙ ap placed (sym place_is);
-      seen_is = c.again.ensures ∙ (c.if-not-add.ensures ∙ (ap (λ l. l ++ entry_made c.args.ready ∷ []) (c.again-next.ensures ∙ c.args.self.now.whole) ∙ ap (λ e. entries ++ e ∷ []) made));
+      seen_is = c.again.ensures ∙ (c.if-not-add.ensures ∙ (ap (λ l. l ++ entry_made c.args.ready ∷ [])
+          (c.again-next.ensures ∙ c.args.self.now.whole) ∙ ap (λ e. entries ++ e ∷ []) made));
     }

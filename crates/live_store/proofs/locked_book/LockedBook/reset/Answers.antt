@@ -18,4 +18,5 @@ pub returns-in-Err-clause-shown : goal.returns-in-Err-clause-shown
 returns-in-Err-clause-shown g c =
     let here = c.catch_up.new.self in
     let same = c.if-not-catch_up.ensures.0 ∙ c.args.self.now.whole in
-    subst (λ (n : ℕ). IsShownBy here n c.in-Err.fault) c.number.ensures (shown_first c.args.self.now.book here c.number.result c.turn.result reset same c.in-Err.fault c.in-Err.ensures.first_fault)
+    subst (λ (n : ℕ). IsShownBy here n c.in-Err.fault) c.number.ensures (shown_first
+    c.args.self.now.book here c.number.result c.turn.result reset same c.in-Err.fault c.in-Err.ensures.first_fault)

@@ -15,8 +15,11 @@ invariant_of-self-2 g c =
     let seen = c.catch_up.new.self in
     let q = arc_value c.args.query.now in
     let caught = c.if-not-catch_up.ensures in
-    let more : IsBorneOut n log seen = borne_more n log s.front seen (subst (λ (l : List PlainEntry). IsPrefix s.front l) (sym caught.0) caught.1) c.self.invariant.1 in
+    let more : IsBorneOut n log seen = borne_more n log s.front seen
+    (subst (λ (l : List PlainEntry). IsPrefix s.front l) (sym caught.0) caught.1) c.self.invariant.1 in
     let receipt = c.in-Ok.ensures.receipt ∙ ap (λ (l : List PlainEntry). receipt_after l (ask q)) (sym caught.0) in
-    let items : c.keep_report.new.self.receipts.items ≡ log ++ receipt_after seen (ask q) ∷ [] = c.keep_report.ensures.log ∙ (ap (λ l. l ++ c.in-Ok.made.receipt ∷ []) c.make_room.ensures.same ∙ ap (λ r. log ++ r ∷ []) receipt) in
+    let items : c.keep_report.new.self.receipts.items ≡ log ++ receipt_after seen (ask q) ∷ [] =
+    c.keep_report.ensures.log
+    ∙ (ap (λ l. l ++ c.in-Ok.made.receipt ∷ []) c.make_room.ensures.same ∙ ap (λ r. log ++ r ∷ []) receipt) in
     let number : c.keep_report.new.self.number ≡ n = c.keep_report.ensures.number ∙ c.make_room.ensures.number in
     rw (number, items) (c.self.invariant.0, borne_asked n log seen q more)

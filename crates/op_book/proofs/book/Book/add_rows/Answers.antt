@@ -24,33 +24,44 @@ book_of ledger tree = record {
 pub append-requires-clause-light : goal.append-requires-clause-light
 append-requires-clause-light c = λ value.
     let batch = arc_value c.args.batch.now in
-    let entries : c.reserve.new.self.entries ≡ c.args.self.now.entries = ap (λ (l : LedgerState). l.entries) c.in_ok-reserve.ensures.same ∙ ap (λ (b : BookState). b.entries) c.self.view_is in
+    let entries : c.reserve.new.self.entries ≡ c.args.self.now.entries = ap (λ (l : LedgerState). l.entries)
+    c.in_ok-reserve.ensures.same ∙ ap (λ (b : BookState). b.entries) c.self.view_is in
     let op_is : c.in_ok-entry.entry.op ≡ add batch = ap (λ (e : PlainEntry). e.op) c.in_ok-entry.ensures.entry in
-    let fits = subst (λ (b : BatchState). HasRoomFor c.args.self.now (add b) value) c.deref.ensures (c.in_ok-check_batch.ensures.space.fits value) in
+    let fits = subst (λ (b : BatchState). HasRoomFor c.args.self.now (add b) value) c.deref.ensures
+    (c.in_ok-check_batch.ensures.space.fits value) in
     let most = profile_at-le value (operations_of c.args.self.now.entries) (add batch) in
     rw (entries, op_is) (omega (arith, fits, most))
 
 pub append-requires-clause-reply : goal.append-requires-clause-reply
 append-requires-clause-reply c =
     let batch = arc_value c.args.batch.now in
-    let entries : c.reserve.new.self.entries ≡ c.args.self.now.entries = ap (λ (l : LedgerState). l.entries) c.in_ok-reserve.ensures.same ∙ ap (λ (b : BookState). b.entries) c.self.view_is in
+    let entries : c.reserve.new.self.entries ≡ c.args.self.now.entries = ap (λ (l : LedgerState). l.entries)
+    c.in_ok-reserve.ensures.same ∙ ap (λ (b : BookState). b.entries) c.self.view_is in
     let place : c.len-place.result ≡ length c.args.self.now.entries = c.len-place.ensures ∙ ap length entries in
     let op_is : c.in_ok-entry.entry.op ≡ add batch = ap (λ (e : PlainEntry). e.op) c.in_ok-entry.ensures.entry in
-    let reply_is : c.in_ok-entry.entry.reply ≡ placed c.len-place.result = ap (λ (e : PlainEntry). e.reply) c.in_ok-entry.ensures.entry in
+    let reply_is : c.in_ok-entry.entry.reply ≡ placed c.len-place.result =
+    ap (λ (e : PlainEntry). e.reply) c.in_ok-entry.ensures.entry in
     rw (entries, op_is, reply_is)
-    (ap (λ (r : PlainReceipt). r.reply) (told_after c.args.self.now.entries (add batch) c.len-place.result c.facts.ensures.orderly.changes refl place))
+    (ap (λ (r : PlainReceipt). r.reply)
+    (told_after c.args.self.now.entries (add batch) c.len-place.result c.facts.ensures.orderly.changes refl place))
 
 pub invariant_of-self-2 : goal.invariant_of-self-2
 invariant_of-self-2 c =
     let batch = arc_value c.args.batch.now in
-    let entries : c.reserve.new.self.entries ≡ c.self.inside.ledger.entries = ap (λ (l : LedgerState). l.entries) c.in_ok-reserve.ensures.same in
+    let entries : c.reserve.new.self.entries ≡ c.self.inside.ledger.entries =
+    ap (λ (l : LedgerState). l.entries) c.in_ok-reserve.ensures.same in
     let op_is : c.in_ok-entry.entry.op ≡ add batch = ap (λ (e : PlainEntry). e.op) c.in_ok-entry.ensures.entry in
-    let operations : operations_of c.append.new.self.entries ≡ operations_of c.self.inside.ledger.entries ++ add batch ∷ [] =
-    ap (λ (l : LedgerState). operations_of l.entries) c.append.ensures ∙ operations_of-push c.reserve.new.self.entries c.in_ok-entry.entry
+    let operations : operations_of c.append.new.self.entries
+    ≡ operations_of c.self.inside.ledger.entries ++ add batch ∷ [] =
+    ap (λ (l : LedgerState). operations_of l.entries) c.append.ensures
+    ∙ operations_of-push c.reserve.new.self.entries c.in_ok-entry.entry
     ∙ (λ i. operations_of (entries i) ++ op_is i ∷ []) in
-    let width : c.append.new.self.width ≡ c.self.inside.ledger.width = ap (λ (l : LedgerState). l.width) c.append.ensures ∙ ap (λ (l : LedgerState). l.width) c.in_ok-reserve.ensures.same in
-    let after = IsTreeAfter-added (book_of c.self.inside.ledger c.self.inside.grower) c.add.new.self batch c.self.invariant.0 c.self.invariant.1 c.aggregate_of_more_rows.ensures
-    c.in_ok-add.ensures.width (λ value. c.in_ok-add.ensures.weights value ∙ ap (λ (b : BatchState). with_rows (weights_of c.self.inside.grower value) (rows_at value b.rows)) c.deref-2.ensures) in (
+    let width : c.append.new.self.width ≡ c.self.inside.ledger.width = ap (λ (l : LedgerState). l.width)
+    c.append.ensures ∙ ap (λ (l : LedgerState). l.width) c.in_ok-reserve.ensures.same in
+    let after = IsTreeAfter-added (book_of c.self.inside.ledger c.self.inside.grower)
+    c.add.new.self batch c.self.invariant.0 c.self.invariant.1 c.aggregate_of_more_rows.ensures
+    c.in_ok-add.ensures.width (λ value. c.in_ok-add.ensures.weights value ∙ ap (λ (b : BatchState). with_rows
+    (weights_of c.self.inside.grower value) (rows_at value b.rows)) c.deref-2.ensures) in (
       after.width ∙ sym width,
       λ value. after.aggregate value ∙ ap (λ ops. aggregates_of (profile_after ops) value) (sym operations),
     )
@@ -58,21 +69,32 @@ invariant_of-self-2 c =
 pub returns-clause-appended : goal.returns-clause-appended
 returns-clause-appended c =
     let batch = arc_value c.args.batch.now in
-    let same : c.append.new.self ≡ record c.reserve.new.self { entries = c.reserve.new.self.entries ++ c.in_ok-entry.entry ∷ [] } = c.append.ensures in
-    let entries : c.reserve.new.self.entries ≡ c.args.self.now.entries = ap (λ (l : LedgerState). l.entries) c.in_ok-reserve.ensures.same ∙ ap (λ (b : BookState). b.entries) c.self.view_is in
+    let same : c.append.new.self ≡ record c.reserve.new.self {
+      entries =
+          c.reserve.new.self.entries ++ c.in_ok-entry.entry ∷ [];
+    } = c.append.ensures in
+    let entries : c.reserve.new.self.entries ≡ c.args.self.now.entries = ap (λ (l : LedgerState). l.entries)
+    c.in_ok-reserve.ensures.same ∙ ap (λ (b : BookState). b.entries) c.self.view_is in
     let place : c.len-place.result ≡ length c.args.self.now.entries = c.len-place.ensures ∙ ap length entries in
-    let told = told_after c.args.self.now.entries (add batch) c.len-place.result c.facts.ensures.orderly.changes refl place in
+    let told =
+    told_after c.args.self.now.entries (add batch) c.len-place.result c.facts.ensures.orderly.changes refl place in
     let entry_is : c.in_ok-entry.entry ≡ entry_after c.args.self.now.entries c.args.session c.args.turn (add batch) =
-    c.in_ok-entry.ensures.entry ∙ (λ i. record { session = c.args.session; turn = c.args.turn; op = add batch; reply = (told i).reply }) in
+    c.in_ok-entry.ensures.entry
+    ∙ (λ i. record { session = c.args.session; turn = c.args.turn; op = add batch; reply = (told i).reply }) in
     record {
       entries = ap (λ (l : LedgerState). l.entries) same ∙ (λ i. entries i ++ entry_is i ∷ []);
-      limit = ap (λ (l : LedgerState). l.limit) same ∙ ap (λ (l : LedgerState). l.limit) c.in_ok-reserve.ensures.same ∙ ap (λ (b : BookState). b.limit) c.self.view_is;
-      sessions = ap (λ (l : LedgerState). l.sessions) same ∙ ap (λ (l : LedgerState). l.sessions) c.in_ok-reserve.ensures.same ∙ ap (λ (b : BookState). b.sessions) c.self.view_is;
-      width = ap (λ (l : LedgerState). l.width) same ∙ ap (λ (l : LedgerState). l.width) c.in_ok-reserve.ensures.same ∙ ap (λ (b : BookState). b.width) c.self.view_is;
+      limit = ap (λ (l : LedgerState). l.limit) same ∙ ap (λ (l : LedgerState). l.limit) c.in_ok-reserve.ensures.same
+          ∙ ap (λ (b : BookState). b.limit) c.self.view_is;
+      sessions = ap (λ (l : LedgerState). l.sessions) same ∙ ap (λ (l : LedgerState). l.sessions)
+          c.in_ok-reserve.ensures.same ∙ ap (λ (b : BookState). b.sessions) c.self.view_is;
+      width = ap (λ (l : LedgerState). l.width) same ∙ ap (λ (l : LedgerState). l.width) c.in_ok-reserve.ensures.same
+          ∙ ap (λ (b : BookState). b.width) c.self.view_is;
     }
 
 pub returns-clause-receipt : goal.returns-clause-receipt
 returns-clause-receipt c =
-    let entries : c.reserve.new.self.entries ≡ c.args.self.now.entries = ap (λ (l : LedgerState). l.entries) c.in_ok-reserve.ensures.same ∙ ap (λ (b : BookState). b.entries) c.self.view_is in
+    let entries : c.reserve.new.self.entries ≡ c.args.self.now.entries = ap (λ (l : LedgerState). l.entries)
+    c.in_ok-reserve.ensures.same ∙ ap (λ (b : BookState). b.entries) c.self.view_is in
     let place : c.len-place.result ≡ length c.args.self.now.entries = c.len-place.ensures ∙ ap length entries in
-    c.in_ok-entry.ensures.receipt ∙ told_after c.args.self.now.entries (add (arc_value c.args.batch.now)) c.len-place.result c.facts.ensures.orderly.changes refl place
+    c.in_ok-entry.ensures.receipt ∙ told_after c.args.self.now.entries
+    (add (arc_value c.args.batch.now)) c.len-place.result c.facts.ensures.orderly.changes refl place

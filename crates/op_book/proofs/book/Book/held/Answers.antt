@@ -6,11 +6,13 @@ use Rattle.op_book.specs.Books.{BookState, weight_held}
 use Rattle.op_book.specs.Operations.{operations_of, profile_after}
 use Rattle.op_book.proofs.book.Book.held.Goals as goal
 
-held_by_tree : (c : goal.After-total) (value : ℕ) → total_in (weights_of c.tree.result.now value) ≡ weight_held c.args.self.now value
+held_by_tree : (c : goal.After-total) (value : ℕ)
+    → total_in (weights_of c.tree.result.now value) ≡ weight_held c.args.self.now value
 held_by_tree c value =
     ap (λ (tree : TreeState). total_in (weights_of tree value)) c.tree.ensures
     ∙ ap total_in (c.self.invariant.1 value)
-    ∙ c.sums_are_those_of_the_aggregate.ensures.rows (λ stack. true) (rows_at value (profile_after (operations_of c.self.inside.ledger.entries)))
+    ∙ c.sums_are_those_of_the_aggregate.ensures.rows
+    (λ stack. true) (rows_at value (profile_after (operations_of c.self.inside.ledger.entries)))
     ∙ ap (λ (book : BookState). weight_held book value) c.self.view_is
 
 pub returns-clause-held : goal.returns-clause-held

@@ -25,7 +25,8 @@ returns-in_ok-plan-in-Add-clause-next c =
     let same : batch ≡ arc_value c.in-Add.batch.now = c.deref-in-Add.ensures in
     let after : IsTreeAfter c.args.self.now (add batch) next =
     subst (λ (book : BookState). IsTreeAfter book (add batch) next) c.self.view_is
-    (IsTreeAfter-added _ next batch c.self.invariant.0 c.self.invariant.1 c.aggregate_of_more_rows.ensures c.in_ok-plan-in-Add.ensures.next_width c.in_ok-plan-in-Add.ensures.next) in
+    (IsTreeAfter-added _ next batch c.self.invariant.0 c.self.invariant.1
+    c.aggregate_of_more_rows.ensures c.in_ok-plan-in-Add.ensures.next_width c.in_ok-plan-in-Add.ensures.next) in
     subst (λ (change : Change). IsTreeAfter c.args.self.now (change_op change) next) (sym c.in-Add.is)
     (subst (λ (b : BatchState). IsTreeAfter c.args.self.now (add b) next) same after)
 
@@ -33,17 +34,22 @@ pub returns-in_ok-plan_reset-in-Reset-clause-next : goal.returns-in_ok-plan_rese
 returns-in_ok-plan_reset-in-Reset-clause-next c =
     let before = operations_of c.self.inside.ledger.entries in
     let after : IsTreeAfter c.args.self.now reset c.in_ok-plan_reset-in-Reset.field-0.next =
-    subst (λ (book : BookState). IsTreeAfter book reset c.in_ok-plan_reset-in-Reset.field-0.next) c.self.view_is (record {
+    subst
+    (λ (book : BookState). IsTreeAfter book reset c.in_ok-plan_reset-in-Reset.field-0.next) c.self.view_is (record {
       width = c.in_ok-plan_reset-in-Reset.ensures.next_width ∙ c.self.invariant.0;
-      aggregate = λ value. c.in_ok-plan_reset-in-Reset.ensures.next value ∙ sym (ap (λ rows. aggregates_of rows value) (profile_after-reset before));
+      aggregate = λ value. c.in_ok-plan_reset-in-Reset.ensures.next value
+          ∙ sym (ap (λ rows. aggregates_of rows value) (profile_after-reset before));
     }) in
-    subst (λ (change : Change). IsTreeAfter c.args.self.now (change_op change) c.in_ok-plan_reset-in-Reset.field-0.next) (sym c.in-Reset.is) after
+    subst (λ (change : Change). IsTreeAfter c.args.self.now (change_op change) c.in_ok-plan_reset-in-Reset.field-0.next)
+    (sym c.in-Reset.is) after
 
 pub returns-in_ok-plan_reset-in-Reset-clause-space : goal.returns-in_ok-plan_reset-in-Reset-clause-space
 returns-in_ok-plan_reset-in-Reset-clause-space c =
-    subst (λ (change : Change). HasSpaceFor c.args.self.now (change_op change)) (sym c.in-Reset.is) (space_for_reset c.args.self.now c.facts.ensures.orderly)
+    subst (λ (change : Change). HasSpaceFor c.args.self.now (change_op change))
+    (sym c.in-Reset.is) (space_for_reset c.args.self.now c.facts.ensures.orderly)
 
 pub returns-in_err-plan_reset-in-Reset-clause-fault : goal.returns-in_err-plan_reset-in-Reset-clause-fault
 returns-in_err-plan_reset-in-Reset-clause-fault c =
-    let space = subst (λ (change : Change). HasSpaceFor c.args.self.now (change_op change)) (sym c.in-Reset.is) (space_for_reset c.args.self.now c.facts.ensures.orderly) in
+    let space = subst (λ (change : Change). HasSpaceFor c.args.self.now (change_op change))
+    (sym c.in-Reset.is) (space_for_reset c.args.self.now c.facts.ensures.orderly) in
     search rules

@@ -11,19 +11,28 @@ use Rattle.op_book.proofs.ledger.Ledger.append.Goals as goal
 pub overflow_add-index_mut : goal.overflow_add-index_mut
 overflow_add-index_mut c =
     let session : c.entry.inside.session ≡ c.args.entry.session = ap (λ (e : PlainEntry). e.session) c.entry.view_is in
-    let turn = subst (λ (s : LedgerState). HasTurn s.entries s.limit s.sessions c.args.entry.session c.args.entry.turn) (sym c.self.view_is) c.requires.turn in
+    let turn = subst (λ (s : LedgerState). HasTurn s.entries s.limit s.sessions c.args.entry.session c.args.entry.turn)
+    (sym c.self.view_is) c.requires.turn in
     let known = subst (λ n. n < length c.self.inside.turns.items) (sym session) turn.known in
-    let held = turn_held c.self.inside.entries.items c.self.inside.limit c.self.inside.width c.self.inside.turns.items c.entry.inside.session c.index_mut.result.now c.self.invariant known c.index_mut.ensures.value in
+    let held = turn_held c.self.inside.entries.items c.self.inside.limit c.self.inside.width c.self.inside.turns.items
+    c.entry.inside.session c.index_mut.result.now c.self.invariant known c.index_mut.ensures.value in
     let most = turns_of-le c.self.inside.entries.items c.entry.inside.session in
     omega (arith, held, most, turn.room, c.self.invariant.small)
 
 pub invariant_of-self : goal.invariant_of-self
 invariant_of-self c =
     let session : c.entry.inside.session ≡ c.args.entry.session = ap (λ (e : PlainEntry). e.session) c.entry.view_is in
-    let turn = subst (λ (s : LedgerState). HasTurn s.entries s.limit s.sessions c.args.entry.session c.args.entry.turn) (sym c.self.view_is) c.requires.turn in
-    let reply = subst (λ (s : LedgerState). c.args.entry.reply ≡ plain_answer (operations_of s.entries) c.args.entry.op) (sym c.self.view_is) c.requires.reply in
+    let turn = subst (λ (s : LedgerState). HasTurn s.entries s.limit s.sessions c.args.entry.session c.args.entry.turn)
+    (sym c.self.view_is) c.requires.turn in
+    let reply = subst (λ (s : LedgerState). c.args.entry.reply ≡ plain_answer (operations_of s.entries) c.args.entry.op)
+    (sym c.self.view_is) c.requires.reply in
     let fits = subst (λ (s : LedgerState). FitsWidth s.width c.args.entry.op) (sym c.self.view_is) c.requires.width in
-    let light = subst (λ (s : LedgerState). (value : ℕ) → total_of (rows_at value (profile_after (operations_of s.entries ++ c.args.entry.op ∷ []))) < 2 ^ 63) (sym c.self.view_is) c.requires.light in
+    let light = subst (λ (s : LedgerState). (value : ℕ)
+    → total_of (rows_at value (profile_after (operations_of s.entries ++ c.args.entry.op ∷ []))) < 2 ^ 63)
+    (sym c.self.view_is) c.requires.light in
     let known = subst (λ n. n < length c.self.inside.turns.items) (sym session) turn.known in
-    let held = turn_held c.self.inside.entries.items c.self.inside.limit c.self.inside.width c.self.inside.turns.items c.entry.inside.session c.index_mut.result.now c.self.invariant known c.index_mut.ensures.value in
-    rw (c.push_reserved.ensures.items, held, session) (IsLedger-append c.self.inside.entries.items c.self.inside.limit c.self.inside.width c.self.inside.turns.items c.args.entry c.self.invariant turn c.requires.change fits light reply)
+    let held = turn_held c.self.inside.entries.items c.self.inside.limit c.self.inside.width c.self.inside.turns.items
+    c.entry.inside.session c.index_mut.result.now c.self.invariant known c.index_mut.ensures.value in
+    rw (c.push_reserved.ensures.items, held, session)
+    (IsLedger-append c.self.inside.entries.items c.self.inside.limit c.self.inside.width
+    c.self.inside.turns.items c.args.entry c.self.invariant turn c.requires.change fits light reply)

@@ -14,7 +14,8 @@ plus-requires-clause-fits c = λ value.
     let all = c.args.ordered.now in
     let one = c.index-ordered-at.result in
     let batch = c.deref.result.now in
-    let op : one.receipt.op ≡ add batch = ap (λ (one : LoggedReceipt). one.receipt.op) (sym c.one.view_is) ∙ ap (λ (r : PlainReceipt). r.op) (sym c.receipt.view_is) ∙ ap plain_op c.in-Add.is ∙ ap add (sym c.deref.ensures) in
+    let op : one.receipt.op ≡ add batch = ap (λ (one : LoggedReceipt). one.receipt.op) (sym c.one.view_is) ∙ ap
+    (λ (r : PlainReceipt). r.op) (sym c.receipt.view_is) ∙ ap plain_op c.in-Add.is ∙ ap add (sym c.deref.ensures) in
     let next = total_after-add all c.args.at one batch c.requires.within c.index-ordered-at.is op value in
     let light = total_after-light all c.requires.light (c.args.at + 1) value in
     omega (arith, next, light, c.requires.followed.totals value, c.total.ensures.totals.each value)
@@ -24,7 +25,8 @@ returns-in-Add-clause-followed c =
     let all = c.args.ordered.now in
     let one = c.index-ordered-at.result in
     let batch = c.deref.result.now in
-    let op : one.receipt.op ≡ add batch = ap (λ (one : LoggedReceipt). one.receipt.op) (sym c.one.view_is) ∙ ap (λ (r : PlainReceipt). r.op) (sym c.receipt.view_is) ∙ ap plain_op c.in-Add.is ∙ ap add (sym c.deref.ensures) in
+    let op : one.receipt.op ≡ add batch = ap (λ (one : LoggedReceipt). one.receipt.op) (sym c.one.view_is) ∙ ap
+    (λ (r : PlainReceipt). r.op) (sym c.receipt.view_is) ∙ ap plain_op c.in-Add.is ∙ ap add (sym c.deref.ensures) in
     let before = c.requires.followed in record {
       totals = λ value.
           let next = total_after-add all c.args.at one batch c.requires.within c.index-ordered-at.is op value in
@@ -38,7 +40,8 @@ pub returns-in_ok-emptied-in-Reset-clause-followed : goal.returns-in_ok-emptied-
 returns-in_ok-emptied-in-Reset-clause-followed c =
     let all = c.args.ordered.now in
     let one = c.index-ordered-at.result in
-    let op : one.receipt.op ≡ reset = ap (λ (one : LoggedReceipt). one.receipt.op) (sym c.one.view_is) ∙ ap (λ (r : PlainReceipt). r.op) (sym c.receipt.view_is) ∙ ap plain_op c.in-Reset.is in
+    let op : one.receipt.op ≡ reset = ap (λ (one : LoggedReceipt). one.receipt.op) (sym c.one.view_is)
+    ∙ ap (λ (r : PlainReceipt). r.op) (sym c.receipt.view_is) ∙ ap plain_op c.in-Reset.is in
     let none = profile_after-resets all c.args.at one c.requires.within c.index-ordered-at.is op in
     let now = c.in_ok-emptied-in-Reset.ensures in record {
       totals = λ value. c.zero.ensures.zero value ∙ sym (ap (λ (rows : List Row). total_of (rows_at value rows)) none);
@@ -52,9 +55,11 @@ returns-in-Ask-clause-followed c =
     let all = c.args.ordered.now in
     let one = c.index-ordered-at.result in
     let query = arc_value c.in-Ask.field-0 in
-    let op : one.receipt.op ≡ ask query = ap (λ (one : LoggedReceipt). one.receipt.op) (sym c.one.view_is) ∙ ap (λ (r : PlainReceipt). r.op) (sym c.receipt.view_is) ∙ ap plain_op c.in-Ask.is in
+    let op : one.receipt.op ≡ ask query = ap (λ (one : LoggedReceipt). one.receipt.op) (sym c.one.view_is)
+    ∙ ap (λ (r : PlainReceipt). r.op) (sym c.receipt.view_is) ∙ ap plain_op c.in-Ask.is in
     let before = c.requires.followed in record {
-      totals = λ value. before.totals value ∙ sym (total_after-ask all c.args.at one query c.requires.within c.index-ordered-at.is op value);
+      totals = λ value. before.totals value
+          ∙ sym (total_after-ask all c.args.at one query c.requires.within c.index-ordered-at.is op value);
       width = before.width;
       grown = omega (arith, before.grown);
       tree = before.tree;

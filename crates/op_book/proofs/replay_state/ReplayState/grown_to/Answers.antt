@@ -14,11 +14,14 @@ with_operation-requires-clause-light c =
     let place = c.loop-place.place in
     let one = c.index-ordered-place.result in
     let lt : place < length all = omega (arith, c.loop-place-test.true, c.requires.within) in
-    let op : plain_op c.receipt.inside.op ≡ one.receipt.op = ap (λ (r : PlainReceipt). r.op) c.receipt.view_is ∙ ap (λ (one : LoggedReceipt). one.receipt.op) c.one.view_is in
-    let more = take-ops_in all (place + 1) ∙ ops_in-more all place one lt c.index-ordered-place.is ∙ ap (λ (o : PlainOp). ops_in (take place all) ++ o ∷ []) (sym op) in (
+    let op : plain_op c.receipt.inside.op ≡ one.receipt.op = ap (λ (r : PlainReceipt). r.op) c.receipt.view_is
+    ∙ ap (λ (one : LoggedReceipt). one.receipt.op) c.one.view_is in
+    let more = take-ops_in all (place + 1) ∙ ops_in-more all place one lt c.index-ordered-place.is
+    ∙ ap (λ (o : PlainOp). ops_in (take place all) ++ o ∷ []) (sym op) in (
       ops_in (take place all),
       c.loop-place.invariant.1,
-      λ value. subst (λ (ops : List PlainOp). total_of (rows_at value (profile_after ops)) < 2 ^ 63) more (c.requires.light (place + 1) value),
+      λ value. subst (λ (ops : List PlainOp). total_of (rows_at value (profile_after ops)) < 2 ^ 63) more
+          (c.requires.light (place + 1) value),
     )
 
 pub loop-place-preserved : goal.loop-place-preserved
@@ -27,17 +30,21 @@ loop-place-preserved c =
     let place = c.loop-place.place in
     let one = c.index-ordered-place.result in
     let lt : place < length all = omega (arith, c.loop-place-test.true, c.requires.within) in
-    let op : plain_op c.receipt.inside.op ≡ one.receipt.op = ap (λ (r : PlainReceipt). r.op) c.receipt.view_is ∙ ap (λ (one : LoggedReceipt). one.receipt.op) c.one.view_is in
-    let more = ops_in-more all place one lt c.index-ordered-place.is ∙ ap (λ (o : PlainOp). ops_in (take place all) ++ o ∷ []) (sym op) in (
+    let op : plain_op c.receipt.inside.op ≡ one.receipt.op = ap (λ (r : PlainReceipt). r.op) c.receipt.view_is
+    ∙ ap (λ (one : LoggedReceipt). one.receipt.op) c.one.view_is in
+    let more = ops_in-more all place one lt c.index-ordered-place.is
+    ∙ ap (λ (o : PlainOp). ops_in (take place all) ++ o ∷ []) (sym op) in (
       c.in_ok-grower.ensures.width ∙ c.loop-place.invariant.0,
-      subst (λ (ops : List PlainOp). IsTreeOf ops c.in_ok-grower.grower) (sym more) (c.in_ok-grower.ensures.tree (ops_in (take place all)) c.loop-place.invariant.1),
+      subst (λ (ops : List PlainOp). IsTreeOf ops c.in_ok-grower.grower)
+          (sym more) (c.in_ok-grower.ensures.tree (ops_in (take place all)) c.loop-place.invariant.1),
     )
 
 pub returns-clause-followed : goal.returns-clause-followed
 returns-clause-followed c =
     let all = c.args.ordered.now in
     let before = c.requires.followed in
-    let done : c.loop-place.place ≡ c.args.count = omega (arith, c.loop-place-test.false, c.loop-place.auto.place-end, before.grown) in record {
+    let done : c.loop-place.place ≡ c.args.count =
+    omega (arith, c.loop-place-test.false, c.loop-place.auto.place-end, before.grown) in record {
       totals = before.totals;
       width = before.width ∙ sym c.loop-place.invariant.0;
       grown = omega arith;
@@ -47,5 +54,6 @@ returns-clause-followed c =
 pub returns-clause-tree : goal.returns-clause-tree
 returns-clause-tree c =
     let all = c.args.ordered.now in
-    let done : c.loop-place.place ≡ c.args.count = omega (arith, c.loop-place-test.false, c.loop-place.auto.place-end, c.requires.followed.grown) in
+    let done : c.loop-place.place ≡ c.args.count =
+    omega (arith, c.loop-place-test.false, c.loop-place.auto.place-end, c.requires.followed.grown) in
     subst (λ n. IsTreeOf (ops_in (take n all)) c.loop-place.grower) done c.loop-place.invariant.1

@@ -19,7 +19,8 @@ loop-row-preserved c =
     let owned : OwnedRow = record { stack = row.stack; weights = c.join-weights.result } in
     let left : c.loop-row.row-iterator.rest.items ≡ row ∷ rest = c.in-Some.ensures.steps.0 in
     let pushed : c.push.new.self.items ≡ taken ++ owned ∷ [] = c.in_ok-push.ensures.items in
-    let count : c.len-in-loop-row.result ≡ length taken = omega (arith, c.len-in-loop-row.ensures, c.loop-row.rows.ok.0) in
+    let count : c.len-in-loop-row.result ≡ length taken =
+    omega (arith, c.len-in-loop-row.ensures, c.loop-row.rows.ok.0) in
     let others : c.other_values.result.now ≡ take more (drop (length taken * more) values) =
     c.other_values.ensures ∙ (λ i. take more (drop (count i * more) (c.deref.ensures.value i))) in
     let is : plain_row owned ≡ row_with row.stack (row.weight ∷ take more (drop (length taken * more) values)) =
@@ -28,7 +29,8 @@ loop-row-preserved c =
           let fewer = ap length left in
           let longer = ap length pushed in
           let push = length_push taken owned in
-          let all : length c.push.new.self.items + length rest ≡ length taken + length c.loop-row.row-iterator.rest.items = omega (arith, fewer, longer, push) in
+          let all : length c.push.new.self.items + length rest
+          ≡ length taken + length c.loop-row.row-iterator.rest.items = omega (arith, fewer, longer, push) in
           before ∙ ap (λ n. n * more) (sym all),
       taken-step more taken c.push.new.self.items row rest values owned pushed is
           ∙ ap (λ stacks. map plain_row taken ++ with_values more stacks (drop (length taken * more) values)) (sym left)

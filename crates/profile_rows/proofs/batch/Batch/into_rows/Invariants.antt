@@ -7,4 +7,5 @@ use Rattle.profile_rows.proofs.batch.Batch.into_rows.Given as goal
 abbrev pub invariant-loop-row : goal.invariant-loop-row
 invariant-loop-row l =
     (length l.others.items ≡ (length l.rows.items + length l.row-iterator.rest.items) * (l.width - 1))
-    × (map plain_row l.rows.items ++ with_values (l.width - 1) l.row-iterator.rest.items (drop (length l.rows.items * (l.width - 1)) l.others.items) ≡ l.fn.self.rows)
+    × (map plain_row l.rows.items ++ with_values (l.width - 1) l.row-iterator.rest.items
+    (drop (length l.rows.items * (l.width - 1)) l.others.items) ≡ l.fn.self.rows)

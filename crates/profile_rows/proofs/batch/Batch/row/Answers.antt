@@ -8,14 +8,16 @@ use Rattle.profile_rows.proofs.batch.Batch.row.Goals as goal
 pub prove-unreachable-requires : goal.prove-unreachable-requires
 prove-unreachable-requires c =
     let rows = ap length c.rows-rows.ensures.rows in
-    let size = seen-length c.self.inside.totals c.self.inside.first c.self.inside.others.items c.args.self.now c.self.view_is in
+    let size = seen-length
+    c.self.inside.totals c.self.inside.first c.self.inside.others.items c.args.self.now c.self.view_is in
     let lt = c.requires in
     let past = c.if-prove.true in
     absurd (omega arith)
 
 within : (c : goal.After-join) → c.args.at < length c.self.inside.first
 within c =
-    let size = seen-length c.self.inside.totals c.self.inside.first c.self.inside.others.items c.args.self.now c.self.view_is in
+    let size = seen-length
+    c.self.inside.totals c.self.inside.first c.self.inside.others.items c.args.self.now c.self.view_is in
     let lt = c.requires in
     omega arith
 
@@ -23,16 +25,19 @@ here : (c : goal.After-join) → c.index-rows-at.result ≡ get_or c.self.inside
 here c = c.index-rows-at.is ∙ ap (λ rows. get_or rows c.args.at c.index-rows-at.result) c.rows-rows.ensures.rows
 
 others : (c : goal.After-join) → c.other_values.result.now
-    ≡ take (length c.self.inside.totals - 1) (drop (c.args.at * (length c.self.inside.totals - 1)) c.self.inside.others.items)
+    ≡ take (length c.self.inside.totals - 1)
+    (drop (c.args.at * (length c.self.inside.totals - 1)) c.self.inside.others.items)
 others c = c.other_values.ensures
     ∙ (λ i. take (c.width.ensures i - 1) (drop (c.args.at * (c.width.ensures i - 1)) (c.deref.ensures.value i)))
 
 pub returns-clause-stack : goal.returns-clause-stack
 returns-clause-stack c =
-    let row = seen-row c.self.inside.totals c.self.inside.first c.self.inside.others.items c.args.self.now c.self.view_is c.args.at c.index-rows-at.result (within c) in
+    let row = seen-row c.self.inside.totals c.self.inside.first
+    c.self.inside.others.items c.args.self.now c.self.view_is c.args.at c.index-rows-at.result (within c) in
     ap (λ (w : WeightedStack). w.stack) (here c) ∙ ap (λ (row : Row). row.stack) row
 
 pub returns-clause-weights : goal.returns-clause-weights
 returns-clause-weights c =
-    let row = seen-row c.self.inside.totals c.self.inside.first c.self.inside.others.items c.args.self.now c.self.view_is c.args.at c.index-rows-at.result (within c) in
+    let row = seen-row c.self.inside.totals c.self.inside.first
+    c.self.inside.others.items c.args.self.now c.self.view_is c.args.at c.index-rows-at.result (within c) in
     c.join.ensures ∙ (λ i. (here c i).weight ∷ others c i) ∙ ap (λ (row : Row). row.weights) row

@@ -11,7 +11,8 @@ totals_are c = c.join.ensures ∙ ap (λ n. n ∷ []) c.total.ensures.total
 pub invariant_of-result : goal.invariant_of-result
 invariant_of-result c =
     subst (λ totals. AreParts totals c.args.rows c.new.result.items) (sym (totals_are c))
-    (subst (AreParts (total_of c.args.rows ∷ []) c.args.rows) (sym c.new.ensures.items) (single-AreParts c.args.rows c.total.ensures.fits))
+    (subst (AreParts (total_of c.args.rows ∷ []) c.args.rows)
+    (sym c.new.ensures.items) (single-AreParts c.args.rows c.total.ensures.fits))
 
 pub returns : goal.returns
 returns c =

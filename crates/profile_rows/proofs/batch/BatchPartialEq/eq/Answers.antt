@@ -8,53 +8,65 @@ use Rattle.profile_rows.proofs.batch.BatchPartialEq.eq.Goals.{then-eq, else-eq}
 use Rattle.profile_rows.proofs.batch.BatchPartialEq.eq.Goals as goal
 
 -- the widths, and the stacks with their first values
-first_is : (c : goal.After-eq-then-eq-2) → c.if-eq.value ≡ ((length c.self.inside.totals == length c.other.inside.totals) && pointwise row_eq c.self.inside.first c.other.inside.first)
+first_is : (c : goal.After-eq-then-eq-2) → c.if-eq.value ≡ ((length c.self.inside.totals ==
+    length c.other.inside.totals) && pointwise row_eq c.self.inside.first c.other.inside.first)
 first_is c =
     let widths : c.eq.result ≡ (length c.self.inside.totals == length c.other.inside.totals) =
     c.eq.ensures ∙ (λ i. (c.width.ensures i == c.width-2.ensures i)) in
     elim c.if-eq.branch [
       | then-eq w ↦ w.value-is ∙ w.eq-then-eq.ensures.compared
           ∙ ap (λ b. b && pointwise row_eq c.self.inside.first c.other.inside.first) (sym w.if-eq.true ∙ widths)
-      | else-eq w ↦ w.value-is ∙ w.if-eq.false ∙ ap (λ b. b && pointwise row_eq c.self.inside.first c.other.inside.first) (sym w.if-eq.false ∙ widths)
+      | else-eq w ↦ w.value-is ∙ w.if-eq.false
+          ∙ ap (λ b. b && pointwise row_eq c.self.inside.first c.other.inside.first) (sym w.if-eq.false ∙ widths)
     ]
 
-others_are : (c : goal.After-eq-then-eq-2) → c.eq-then-eq-2.result ≡ parts_eq c.self.inside.totals c.self.inside.first c.self.inside.others.items c.other.inside.totals c.other.inside.first c.other.inside.others.items
+others_are : (c : goal.After-eq-then-eq-2) → c.eq-then-eq-2.result ≡ parts_eq c.self.inside.totals c.self.inside.first
+    c.self.inside.others.items c.other.inside.totals c.other.inside.first c.other.inside.others.items
 others_are c =
     c.eq-then-eq-2.ensures ∙ (λ i. pointwise ◌==◌ (c.as_slice.ensures.value i) (c.as_slice-then-eq-2.ensures.value i))
-    ∙ ap (λ b. b && pointwise ◌==◌ c.self.inside.others.items c.other.inside.others.items) (sym c.if-eq-2.true ∙ first_is c)
+    ∙ ap (λ b. b && pointwise ◌==◌ c.self.inside.others.items c.other.inside.others.items)
+    (sym c.if-eq-2.true ∙ first_is c)
 
 pub returns-then-eq-2-clause-compared : goal.returns-then-eq-2-clause-compared
 returns-then-eq-2-clause-compared c =
-    others_are c ∙ parts_compare c.self.inside.totals c.self.inside.first c.self.inside.others.items c.other.inside.totals c.other.inside.first c.other.inside.others.items
+    others_are c ∙ parts_compare c.self.inside.totals c.self.inside.first
+    c.self.inside.others.items c.other.inside.totals c.other.inside.first c.other.inside.others.items
     c.args.self.now c.args.other.now c.self.invariant c.other.invariant c.self.view_is c.other.view_is
 
 pub returns-then-eq-2-clause-equal : goal.returns-then-eq-2-clause-equal
 returns-then-eq-2-clause-equal c =
-    let decided = parts_decide c.self.inside.totals c.self.inside.first c.self.inside.others.items c.other.inside.totals c.other.inside.first c.other.inside.others.items
+    let decided = parts_decide c.self.inside.totals c.self.inside.first
+    c.self.inside.others.items c.other.inside.totals c.other.inside.first c.other.inside.others.items
     c.args.self.now c.args.other.now c.self.invariant c.other.invariant c.self.view_is c.other.view_is in
     (λ e. decided.0 (sym (others_are c) ∙ e), λ same. others_are c ∙ decided.1 same)
 
 -- where they differ, the batches do
-first_differs : (c : goal.Else-eq-2) → c.if-eq.value ≡ ((length c.self.inside.totals == length c.other.inside.totals) && pointwise row_eq c.self.inside.first c.other.inside.first)
+first_differs : (c : goal.Else-eq-2) → c.if-eq.value ≡ ((length c.self.inside.totals == length c.other.inside.totals)
+    && pointwise row_eq c.self.inside.first c.other.inside.first)
 first_differs c =
     let widths : c.eq.result ≡ (length c.self.inside.totals == length c.other.inside.totals) =
     c.eq.ensures ∙ (λ i. (c.width.ensures i == c.width-2.ensures i)) in
     elim c.if-eq.branch [
       | then-eq w ↦ w.value-is ∙ w.eq-then-eq.ensures.compared
           ∙ ap (λ b. b && pointwise row_eq c.self.inside.first c.other.inside.first) (sym w.if-eq.true ∙ widths)
-      | else-eq w ↦ w.value-is ∙ w.if-eq.false ∙ ap (λ b. b && pointwise row_eq c.self.inside.first c.other.inside.first) (sym w.if-eq.false ∙ widths)
+      | else-eq w ↦ w.value-is ∙ w.if-eq.false
+          ∙ ap (λ b. b && pointwise row_eq c.self.inside.first c.other.inside.first) (sym w.if-eq.false ∙ widths)
     ]
 
-parts_differ : (c : goal.Else-eq-2) → c.if-eq.value ≡ parts_eq c.self.inside.totals c.self.inside.first c.self.inside.others.items c.other.inside.totals c.other.inside.first c.other.inside.others.items
-parts_differ c = c.if-eq-2.false ∙ ap (λ b. b && pointwise ◌==◌ c.self.inside.others.items c.other.inside.others.items) (sym c.if-eq-2.false ∙ first_differs c)
+parts_differ : (c : goal.Else-eq-2) → c.if-eq.value ≡ parts_eq c.self.inside.totals c.self.inside.first
+    c.self.inside.others.items c.other.inside.totals c.other.inside.first c.other.inside.others.items
+parts_differ c = c.if-eq-2.false ∙ ap (λ b. b && pointwise ◌==◌ c.self.inside.others.items c.other.inside.others.items)
+    (sym c.if-eq-2.false ∙ first_differs c)
 
 pub returns-else-eq-2-clause-compared : goal.returns-else-eq-2-clause-compared
 returns-else-eq-2-clause-compared c =
-    parts_differ c ∙ parts_compare c.self.inside.totals c.self.inside.first c.self.inside.others.items c.other.inside.totals c.other.inside.first c.other.inside.others.items
+    parts_differ c ∙ parts_compare c.self.inside.totals c.self.inside.first
+    c.self.inside.others.items c.other.inside.totals c.other.inside.first c.other.inside.others.items
     c.args.self.now c.args.other.now c.self.invariant c.other.invariant c.self.view_is c.other.view_is
 
 pub returns-else-eq-2-clause-equal : goal.returns-else-eq-2-clause-equal
 returns-else-eq-2-clause-equal c =
-    let decided = parts_decide c.self.inside.totals c.self.inside.first c.self.inside.others.items c.other.inside.totals c.other.inside.first c.other.inside.others.items
+    let decided = parts_decide c.self.inside.totals c.self.inside.first
+    c.self.inside.others.items c.other.inside.totals c.other.inside.first c.other.inside.others.items
     c.args.self.now c.args.other.now c.self.invariant c.other.invariant c.self.view_is c.other.view_is in
     (λ e. decided.0 (sym (parts_differ c) ∙ e), λ same. parts_differ c ∙ decided.1 same)

@@ -12,15 +12,20 @@ count-requires-clause-counted c =
       rows,
       map (λ (frame : Bor (List ℕ)). frame.now) c.args.frames.now,
       after.tallies,
-      row_numbered rows c.number.new.self c.args.frames.now c.as_slice-numbers.result.now c.copied.result after c.in_ok-number.ensures.frames c.requires.names c.as_slice-numbers.ensures.value (c.copied.ensures ∙ c.last.ensures.value),
+      row_numbered rows c.number.new.self c.args.frames.now c.as_slice-numbers.result.now
+          c.copied.result after c.in_ok-number.ensures.frames c.requires.names c.as_slice-numbers.ensures.value
+          (c.copied.ensures ∙ c.last.ensures.value),
     )
 
 pub returns : goal.returns
 returns c = λ rows this.
     let after = c.in_ok-number.ensures.counted rows this in
     record {
-      tallies = c.count.ensures c.number.new.self.names.texts rows (map (λ (frame : Bor (List ℕ)). frame.now) c.args.frames.now) after.tallies
-          (row_numbered rows c.number.new.self c.args.frames.now c.as_slice-numbers.result.now c.copied.result after c.in_ok-number.ensures.frames c.requires.names c.as_slice-numbers.ensures.value (c.copied.ensures ∙ c.last.ensures.value));
+      tallies = c.count.ensures c.number.new.self.names.texts rows
+          (map (λ (frame : Bor (List ℕ)). frame.now) c.args.frames.now) after.tallies
+          (row_numbered rows c.number.new.self c.args.frames.now c.as_slice-numbers.result.now
+          c.copied.result after c.in_ok-number.ensures.frames c.requires.names c.as_slice-numbers.ensures.value
+          (c.copied.ensures ∙ c.last.ensures.value));
       inside = after.inside;
       frames = after.frames;
     }

@@ -4,4 +4,5 @@ use Rattle.profile_rows.proofs.NumberedRows.{none_counted}
 use Rattle.profile_rows.proofs.frame_totals.CountedRows.new.Goals as goal
 
 pub returns-clause-counted : goal.returns-clause-counted
-returns-clause-counted c = none_counted _ c.new.ensures.texts c.new-names.ensures.items refl c.new-2.ensures.items c.new-3.ensures.items
+returns-clause-counted c =
+    none_counted _ c.new.ensures.texts c.new-names.ensures.items refl c.new-2.ensures.items c.new-3.ensures.items

@@ -7,5 +7,6 @@ use Rattle.profile_rows.proofs.frame_totals.CountedRows.number.Given as goal
 abbrev pub invariant-loop-frame : goal.invariant-loop-frame
 invariant-loop-frame l = record {
   counted : (rows : List WeightedStack) → HasCounted rows l.initial.self → HasCounted rows l.self;
-  frames : map (λ frame. frame.now) l.self.frames.items ≡ take (l.shared + l.frame-index) (map (λ frame. frame.now) l.frames);
+  frames : map (λ frame. frame.now) l.self.frames.items
+      ≡ take (l.shared + l.frame-index) (map (λ frame. frame.now) l.frames);
 }

@@ -13,7 +13,8 @@ returns-then-is_name c =
 
 pub keep-requires-2 : goal.keep-requires-2
 keep-requires-2 c =
-    subst IsName (sym (c.as_str.ensures.value ∙ c.in_ok-cleaned.ensures)) (IsName-cleaned c.args.text.now c.utf8.text (filled c.args.text.now (sym c.is_empty.ensures ∙ c.if-is_empty.false)))
+    subst IsName (sym (c.as_str.ensures.value ∙ c.in_ok-cleaned.ensures)) (IsName-cleaned c.args.text.now c.utf8.text
+    (filled c.args.text.now (sym c.is_empty.ensures ∙ c.if-is_empty.false)))
 
 pub returns : goal.returns
 returns c =

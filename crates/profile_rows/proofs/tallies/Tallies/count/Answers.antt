@@ -19,20 +19,25 @@ pub count_leaf-requires-clause-fits : goal.count_leaf-requires-clause-fits
 count_leaf-requires-clause-fits c =
     let (names, rows, stack, are, this) = c.requires.counted in
     let leaf = c.in-Some.leaf in
-    let own : IsNumberedStack names stack c.args.numbers.now (Some leaf) = subst (IsNumberedStack names stack c.args.numbers.now) c.in-Some.is this in
+    let own : IsNumberedStack names stack c.args.numbers.now (Some leaf) =
+    subst (IsNumberedStack names stack c.args.numbers.now) c.in-Some.is this in
     let most = flat-most rows names c.args.self.now leaf are own.last.0 in
-    let same = ap (λ (t : Tally). t.flat) (c.count_names.ensures.each leaf) ∙ numbers_counted-flat c.args.numbers.now (c.args.self.now.total + c.args.weight) c.args.weight leaf _ in
+    let same = ap (λ (t : Tally). t.flat) (c.count_names.ensures.each leaf)
+    ∙ numbers_counted-flat c.args.numbers.now (c.args.self.now.total + c.args.weight) c.args.weight leaf _ in
     let fits = c.requires.fits in
     omega (arith, most, same, fits)
 
 pub returns-in-Some : goal.returns-in-Some
 returns-in-Some c = λ names rows stack are this.
     let row : WeightedStack = record { stack = stack; weight = c.args.weight } in
-    counted-leaf rows row names c.args.numbers.now c.in-Some.leaf c.args.self.now _ c.count_names.new.tallies.items are (subst (IsNumberedStack names stack c.args.numbers.now) c.in-Some.is this)
-    c.if-weight-eq0.false refl c.count_names.ensures.many c.count_names.ensures.each c.count_leaf.ensures (ap length c.count_leaf.ensures ∙ length-set c.count_names.new.tallies.items c.in-Some.leaf _)
+    counted-leaf rows row names c.args.numbers.now c.in-Some.leaf c.args.self.now _ c.count_names.new.tallies.items are
+    (subst (IsNumberedStack names stack c.args.numbers.now) c.in-Some.is this)
+    c.if-weight-eq0.false refl c.count_names.ensures.many c.count_names.ensures.each c.count_leaf.ensures
+    (ap length c.count_leaf.ensures ∙ length-set c.count_names.new.tallies.items c.in-Some.leaf _)
 
 pub returns-in_default : goal.returns-in_default
 returns-in_default c = λ names rows stack are this.
     let row : WeightedStack = record { stack = stack; weight = c.args.weight } in
     let none : c.args.leaf ≡ None = search rules in
-    counted-none rows row names c.args.numbers.now c.args.self.now _ are (subst (IsNumberedStack names stack c.args.numbers.now) none this) refl c.count_names.ensures.many c.count_names.ensures.each
+    counted-none rows row names c.args.numbers.now c.args.self.now _ are (subst (IsNumberedStack
+    names stack c.args.numbers.now) none this) refl c.count_names.ensures.many c.count_names.ensures.each

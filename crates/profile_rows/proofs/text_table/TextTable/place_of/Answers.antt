@@ -11,12 +11,15 @@ seen : {a b : NumberedTexts} → a ≡ b → a.texts ≡ b.texts
 seen same = ap (λ (table : NumberedTexts). table.texts) same
 
 long : (c : goal.After-unwrap_or) → length c.args.self.now.texts ≡ length c.texts-missing.result.now
-long c = ap length (sym c.texts-missing.ensures) ∙ length-map c.texts-missing.result.now (λ (text : Bor (List ℕ)). text.now)
+long c = ap length (sym c.texts-missing.ensures)
+    ∙ length-map c.texts-missing.result.now (λ (text : Bor (List ℕ)). text.now)
 
 pub returns-clause-place : goal.returns-clause-place
 returns-clause-place c =
-    c.unwrap_or.ensures ∙ ap (λ o. unwrap_or o (length c.texts-missing.result.now)) (c.copied.ensures ∙ c.get.ensures.value)
-    ∙ place_answered (map (λ (text : Bor (List ℕ)). text.now) c.self.inside.texts.items) c.self.inside.places c.args.text.now (length c.texts-missing.result.now)
+    c.unwrap_or.ensures
+    ∙ ap (λ o. unwrap_or o (length c.texts-missing.result.now)) (c.copied.ensures ∙ c.get.ensures.value)
+    ∙ place_answered (map (λ (text : Bor (List ℕ)). text.now) c.self.inside.texts.items)
+    c.self.inside.places c.args.text.now (length c.texts-missing.result.now)
     (sym (long c) ∙ ap length (sym (seen c.self.view_is))) c.self.invariant
     ∙ ap (λ texts. place_in texts c.args.text.now) (seen c.self.view_is)
 

@@ -23,12 +23,15 @@ invariant_of-result c =
 
 pub returns-clause-width : goal.returns-clause-width
 returns-clause-width c =
-    let kept = IsPadded-added c.self.inside.width c.self.inside.values c.more.inside.values c.self.invariant (more_padded c) in
+    let kept =
+    IsPadded-added c.self.inside.width c.self.inside.values c.more.inside.values c.self.invariant (more_padded c) in
     kept.taken ∙ sym c.self.invariant.taken ∙ ap length c.self.view_is
 
 pub returns-clause-each : goal.returns-clause-each
 returns-clause-each c = λ value.
-    let sums = value_of-sums c.self.inside.width c.self.inside.values c.more.inside.values c.self.invariant (more_padded c) value in
+    let sums = value_of-sums c.self.inside.width c.self.inside.values c.more.inside.values c.self.invariant
+    (more_padded c) value in
     let one = ap (value_of value) c.self.view_is in
-    let other = ap (λ w. value_of value (take w c.more.inside.values)) (sym (widths c)) ∙ ap (value_of value) c.more.view_is in
+    let other = ap (λ w. value_of value (take w c.more.inside.values)) (sym (widths c))
+    ∙ ap (value_of value) c.more.view_is in
     sums ∙ (λ i. one i + other i)

@@ -9,5 +9,6 @@ pub returns : goal.returns
 returns c =
     let lines : c.as_slice-lines.result.now ≡ c.args.location.now.lines = c.as_slice-lines.ensures in
     c.loop-line.invariant
-    ∙ ap (map (line_number c.args.self.now c.args.location.now.address)) (take_all c.loop-line.line-index c.as_slice-lines.result.now c.loop-line-test.false ∙ lines)
+    ∙ ap (map (line_number c.args.self.now c.args.location.now.address))
+    (take_all c.loop-line.line-index c.as_slice-lines.result.now c.loop-line-test.false ∙ lines)
     ∙ numbers_of_lines c.args.self.now c.args.location.now.address c.args.location.now.lines c.requires.some

@@ -11,10 +11,12 @@ use Rattle.profile_samples.proofs.function_numbers.FunctionNumbers.new.Goals as 
 pub invariant_of-result : goal.invariant_of-result
 invariant_of-result c =
     let ids : c.in_ok-places.places ≡ function_ids c.args.draft.now = search rules in
-    let made : c.in_ok-numbers.numbers.items ≡ map (number_by c.args.strings.now) c.args.draft.now.functions = search rules in
+    let made : c.in_ok-numbers.numbers.items ≡ map (number_by c.args.strings.now) c.args.draft.now.functions =
+    search rules in
     record {
       ids_are = ids;
       single = subst (λ i. has_double i ≡ false) (sym ids) (ids_differ c.args.draft.now c.requires.valid).1;
       numbers_are = made ∙ ap (λ strings. map (number_by strings) c.args.draft.now.functions) c.requires.strings
-          ∙ ap (λ (f : Function → _). map f c.args.draft.now.functions) (λ i function. number_by-name c.args.draft.now function i);
+          ∙ ap (λ (f : Function → _). map f c.args.draft.now.functions)
+          (λ i function. number_by-name c.args.draft.now function i);
     }

@@ -10,15 +10,19 @@ pub loop-at-preserved : goal.loop-at-preserved
 loop-at-preserved c =
     let ids = c.args.ids.items in
     let id = slice_index_or c.deref-id-items.result.now c.loop-at.at 0 in
-    let lt : c.loop-at.at < length ids = subst (λ items. c.loop-at.at < length items) c.deref-id-items.ensures.value c.loop-at-test.true in
-    let same : id ≡ slice_index_or ids c.loop-at.at 0 = ap (λ items. slice_index_or items c.loop-at.at 0) c.deref-id-items.ensures.value in
+    let lt : c.loop-at.at < length ids =
+    subst (λ items. c.loop-at.at < length items) c.deref-id-items.ensures.value c.loop-at-test.true in
+    let same : id ≡ slice_index_or ids c.loop-at.at 0 =
+    ap (λ items. slice_index_or items c.loop-at.at 0) c.deref-id-items.ensures.value in
     let stands : slice_get ids c.loop-at.at ≡ Some id = slice_get-get_or ids c.loop-at.at 0 lt ∙ ap Some (sym same) in
-    places_more ids (place_found c.loop-at.places) (place_found c.put.new.self) c.loop-at.at id stands c.in_ok-put.ensures c.loop-at.invariant
+    places_more ids (place_found c.loop-at.places)
+    (place_found c.put.new.self) c.loop-at.at id stands c.in_ok-put.ensures c.loop-at.invariant
 
 pub invariant_of-result : goal.invariant_of-result
 invariant_of-result c =
     let all : length c.args.ids.items ≤ c.loop-at.at =
-    (let past = c.loop-at-test.false in let count = ap length c.deref-id-items.ensures.value in omega (arith, past, count)) in
+    (let past =
+    c.loop-at-test.false in let count = ap length c.deref-id-items.ensures.value in omega (arith, past, count)) in
     let places : AreIdPlaces c.args.ids.items (place_found c.loop-at.places) =
     places_all c.args.ids.items (place_found c.loop-at.places) c.loop-at.at all c.loop-at.invariant in
     subst (λ ids. AreIdPlaces ids (place_found c.loop-at.places)) (ap (λ ids. ids.items) (sym c.of.ensures)) places

@@ -10,7 +10,8 @@ pub returns-then-frames-room : goal.returns-then-frames-room
 returns-then-frames-room c =
     let id = get_or c.args.ids.now c.loop-id.id-index 0 in
     let this = found_numbers c.args.self.now id (Some c.in-Some.frames.now) c.in-Some.ensures in
-    let deep = room_short c.args.self.now c.args.ids.now c.loop-id.id-index c.loop-id.room c.in-Some.frames.now c.loop-id-test.true this c.if-frames-room.true c.loop-id.invariant in
+    let deep = room_short c.args.self.now c.args.ids.now c.loop-id.id-index
+    c.loop-id.room c.in-Some.frames.now c.loop-id-test.true this c.if-frames-room.true c.loop-id.invariant in
     ((λ h. absurd (false≢true h)), (λ h. absurd (omega (arith, deep, h))))
 
 pub loop-id-preserved : goal.loop-id-preserved
@@ -18,11 +19,15 @@ loop-id-preserved c =
     let id = get_or c.args.ids.now c.loop-id.id-index 0 in
     elim c.match-frames_of.branch [
       | in-Some+else-frames-room w ↦
-          ap (λ room. room + length (frames_of_ids c.args.self.now (take (c.loop-id.id-index + 1) c.args.ids.now))) w.room-is
-          ∙ room_left c.args.self.now c.args.ids.now c.loop-id.id-index c.loop-id.room w.in-Some.frames.now c.loop-id-test.true
-          (found_numbers c.args.self.now id (Some w.in-Some.frames.now) w.in-Some.ensures) w.if-frames-room.false c.loop-id.invariant
+          ap (λ room. room + length (frames_of_ids c.args.self.now (take (c.loop-id.id-index + 1) c.args.ids.now)))
+          w.room-is
+          ∙ room_left
+          c.args.self.now c.args.ids.now c.loop-id.id-index c.loop-id.room w.in-Some.frames.now c.loop-id-test.true
+          (found_numbers c.args.self.now id (Some w.in-Some.frames.now) w.in-Some.ensures)
+          w.if-frames-room.false c.loop-id.invariant
       | in_default w ↦
-          ap (λ room. room + length (frames_of_ids c.args.self.now (take (c.loop-id.id-index + 1) c.args.ids.now))) w.room-is
+          ap (λ room. room + length (frames_of_ids c.args.self.now (take (c.loop-id.id-index + 1) c.args.ids.now)))
+          w.room-is
           ∙ room_same c.args.self.now c.args.ids.now c.loop-id.id-index c.loop-id.room c.loop-id-test.true
           (found_numbers c.args.self.now id None w.in_default.ensures) c.loop-id.invariant
     ]

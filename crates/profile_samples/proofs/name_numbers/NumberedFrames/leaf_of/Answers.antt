@@ -8,15 +8,19 @@ use Rattle.profile_samples.proofs.name_numbers.NumberedFrames.leaf_of.Goals as g
 
 pub returns-in-Some : goal.returns-in-Some
 returns-in-Some c =
-    let this = found_numbers c.args.self.now (get_or c.args.ids.now c.loop-id.id-index 0) (Some c.in-Some.frames.now) c.in-Some.ensures in
-    let stack = leaf_first c.args.self.now c.args.ids.now c.loop-id.id-index _ this.callers c.loop-id-test.true c.loop-id.invariant this.leaf in
+    let this = found_numbers c.args.self.now
+    (get_or c.args.ids.now c.loop-id.id-index 0) (Some c.in-Some.frames.now) c.in-Some.ensures in
+    let stack = leaf_first c.args.self.now
+    c.args.ids.now c.loop-id.id-index _ this.callers c.loop-id-test.true c.loop-id.invariant this.leaf in
     (this.leaf_inside, stack.0, stack.1)
 
 pub loop-id-preserved : goal.loop-id-preserved
 loop-id-preserved c =
     let id = get_or c.args.ids.now c.loop-id.id-index 0 in
-    frames-more c.args.self.now c.args.ids.now c.loop-id.id-index c.loop-id-test.true ∙ ap (λ fs. fs ++ frames_of_id c.args.self.now id) c.loop-id.invariant
+    frames-more c.args.self.now c.args.ids.now c.loop-id.id-index c.loop-id-test.true
+    ∙ ap (λ fs. fs ++ frames_of_id c.args.self.now id) c.loop-id.invariant
     ∙ found_numbers c.args.self.now id None c.in_default.ensures
 
 pub returns : goal.returns
-returns c = ap reverse (ap (frames_of_ids c.args.self.now) (sym (take_all c.loop-id.id-index c.args.ids.now c.loop-id-test.false)) ∙ c.loop-id.invariant)
+returns c = ap reverse (ap (frames_of_ids c.args.self.now)
+    (sym (take_all c.loop-id.id-index c.args.ids.now c.loop-id-test.false)) ∙ c.loop-id.invariant)

@@ -4,4 +4,5 @@ use Rattle.profile_samples.proofs.unfolding.FunctionNames.line_names.Given as go
 
 -- the names so far
 abbrev pub invariant-loop-line : goal.invariant-loop-line
-invariant-loop-line l = l.names.items ≡ map (line_name l.fn.self.strings l.fn.self.functions l.fn.address) (take l.line-index l.lines)
+invariant-loop-line l =
+    l.names.items ≡ map (line_name l.fn.self.strings l.fn.self.functions l.fn.address) (take l.line-index l.lines)

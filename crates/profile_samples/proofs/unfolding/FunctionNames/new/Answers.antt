@@ -8,4 +8,9 @@ use Rattle.profile_samples.proofs.unfolding.FunctionNames.new.Goals as goal
 pub invariant_of-result : goal.invariant_of-result
 invariant_of-result c =
     let ids : c.in_ok-places.places ≡ function_ids c.args.draft.now = search rules in
-    record { ids_are = ids; single = subst (λ i. has_double i ≡ false) (sym ids) (ids_differ c.args.draft.now c.requires).1; names_are = search rules }
+    record {
+      ids_are = ids;
+      single = subst
+          (λ i. has_double i ≡ false) (sym ids) (ids_differ c.args.draft.now c.requires).1;
+      names_are = search rules;
+    }

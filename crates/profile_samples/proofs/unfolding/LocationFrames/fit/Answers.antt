@@ -7,6 +7,9 @@ use Rattle.profile_samples.proofs.unfolding.LocationFrames.fit.Goals as goal
 
 pub returns-then-depth-gt-MAX_DEPTH : goal.returns-then-depth-gt-MAX_DEPTH
 returns-then-depth-gt-MAX_DEPTH c =
-    let long = length-flat_map-take (frames_of_id c.args.self.now) c.args.ids.now c.loop-id.id-index 0 c.loop-id-test.true in
-    let this = ap length c.frames_of.ensures in
-    ((λ h. absurd (false≢true h)), (λ h. absurd (omega (arith, long, this, h, c.loop-id.invariant.0, c.if-depth-gt-MAX_DEPTH.true))))
+    let long =
+    length-flat_map-take (frames_of_id c.args.self.now) c.args.ids.now c.loop-id.id-index 0 c.loop-id-test.true in
+    let this = ap length c.frames_of.ensures in (
+      (λ h. absurd (false≢true h)),
+      (λ h. absurd (omega (arith, long, this, h, c.loop-id.invariant.0, c.if-depth-gt-MAX_DEPTH.true))),
+    )

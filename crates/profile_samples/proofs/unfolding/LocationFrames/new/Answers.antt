@@ -8,5 +8,11 @@ use Rattle.profile_samples.proofs.unfolding.LocationFrames.new.Goals as goal
 pub invariant_of-result : goal.invariant_of-result
 invariant_of-result c =
     let ids : c.in_ok-places.places ≡ location_ids c.draft-draft.result.now = search rules in
-    let valid : IsValidDraft c.draft-draft.result.now = subst IsValidDraft (sym c.draft-draft.ensures.draft) c.draft-draft.ensures.valid in
-    record { ids_are = ids; single = subst (λ i. has_double i ≡ false) (sym ids) (ids_differ c.draft-draft.result.now valid).0; frames_are = search rules }
+    let valid : IsValidDraft c.draft-draft.result.now =
+    subst IsValidDraft (sym c.draft-draft.ensures.draft) c.draft-draft.ensures.valid in
+    record {
+      ids_are = ids;
+      single = subst
+          (λ i. has_double i ≡ false) (sym ids) (ids_differ c.draft-draft.result.now valid).0;
+      frames_are = search rules;
+    }

@@ -10,7 +10,8 @@ pub returns-then-at-self-clause-ok : goal.returns-then-at-self-clause-ok
 returns-then-at-self-clause-ok g c =
     let inside = c.self.inside in
     on_ok_weaker c.put.result
-    (λ e. put_first inside.shelves inside.shelved (last_items inside.last) inside.len c.args.at c.args.item c.self.invariant
+    (λ e. put_first inside.shelves inside.shelved
+    (last_items inside.last) inside.len c.args.at c.args.item c.self.invariant
     c.put.new.self (omega (arith, c.if-at-self.true)) e
     ∙ ap (λ all. set all c.args.at c.args.item) c.self.view_is)
     c.put.ensures.ok
@@ -21,9 +22,16 @@ returns-else-at-self-clause-ok g c =
     let within = subst (λ items. c.args.at < length items) (sym c.self.view_is) c.requires.within in
     let first = length-take-le inside.shelved inside.shelves c.self.invariant.within in
     let short : c.args.at < inside.len =
-    omega (arith, within, first, length-append (take inside.shelved inside.shelves) (last_items inside.last), c.self.invariant.count) in
+    omega (
+      arith,
+      within,
+      first,
+      length-append (take inside.shelved inside.shelves) (last_items inside.last),
+      c.self.invariant.count,
+    ) in
     on_ok_weaker c.put_last.result
-    (λ e. put_behind inside.shelves inside.shelved (last_items inside.last) inside.len c.args.at c.args.item c.self.invariant
+    (λ e. put_behind inside.shelves inside.shelved
+    (last_items inside.last) inside.len c.args.at c.args.item c.self.invariant
     (last_items c.put_last.new.last) (omega (arith, c.if-at-self.false)) short e
     ∙ ap (λ all. set all c.args.at c.args.item) c.self.view_is)
     c.put_last.ensures.ok

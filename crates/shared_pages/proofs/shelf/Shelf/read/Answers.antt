@@ -13,7 +13,8 @@ index-requires-2 g c =
     let groups = c.self.inside.groups in
     let within = subst (λ items. c.args.at < length items) (sym c.self.view_is) c.requires in
     let pages = c.deref.result.now in
-    let lt = seen_page_lt groups.items c.self.inside.len c.args.at c.self.invariant within c.index.result.now c.index.ensures pages c.deref.ensures in
+    let lt = seen_page_lt groups.items
+    c.self.inside.len c.args.at c.self.invariant within c.index.result.now c.index.ensures pages c.deref.ensures in
     omega (arith, lt, pages.ok.0)
 
 pub index-requires-3 : goal.index-requires-3
@@ -22,7 +23,8 @@ index-requires-3 g c =
     let within = subst (λ items. c.args.at < length items) (sym c.self.view_is) c.requires in
     let pages = c.deref.result.now in
     let items = c.deref-2.result.now in
-    let lt = seen_item_lt groups.items c.self.inside.len c.args.at c.self.invariant within c.index.result.now c.index.ensures pages c.deref.ensures c.index-2.result.now c.index-2.ensures items c.deref-2.ensures in
+    let lt = seen_item_lt groups.items c.self.inside.len c.args.at c.self.invariant within c.index.result.now
+    c.index.ensures pages c.deref.ensures c.index-2.result.now c.index-2.ensures items c.deref-2.ensures in
     omega (arith, lt, items.ok.0)
 
 pub returns : goal.returns
@@ -33,5 +35,6 @@ returns g c =
     let items = c.deref-2.result.now in
     let item = c.index-3.result.now in
     c.index-3.ensures
-    ∙ sym (seen_item groups.items c.self.inside.len c.args.at c.self.invariant within c.index.result.now c.index.ensures pages c.deref.ensures c.index-2.result.now c.index-2.ensures items c.deref-2.ensures item)
+    ∙ sym (seen_item groups.items c.self.inside.len c.args.at c.self.invariant within c.index.result.now
+    c.index.ensures pages c.deref.ensures c.index-2.result.now c.index-2.ensures items c.deref-2.ensures item)
     ∙ ap (λ all. get_or all c.args.at item) c.self.view_is

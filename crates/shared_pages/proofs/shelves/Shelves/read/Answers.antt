@@ -11,12 +11,14 @@ index-requires g c =
 pub read-requires : goal.read-requires
 read-requires g c =
     let within = subst (λ items. c.args.at < length items) (sym c.self.view_is) c.requires in
-    seen_on_shelf c.self.inside.shelves.items c.args.at c.self.invariant.shelves within c.index.result.now c.index.ensures c.deref.result.now c.deref.ensures
+    seen_on_shelf c.self.inside.shelves.items
+    c.args.at c.self.invariant.shelves within c.index.result.now c.index.ensures c.deref.result.now c.deref.ensures
 
 pub returns : goal.returns
 returns g c =
     let within = subst (λ items. c.args.at < length items) (sym c.self.view_is) c.requires in
     let item = c.read.result.now in
     c.read.ensures
-    ∙ sym (seen_there c.self.inside.shelves.items c.args.at c.self.invariant.shelves within c.index.result.now c.index.ensures c.deref.result.now c.deref.ensures item)
+    ∙ sym (seen_there c.self.inside.shelves.items c.args.at
+    c.self.invariant.shelves within c.index.result.now c.index.ensures c.deref.result.now c.deref.ensures item)
     ∙ ap (λ all. get_or all c.args.at item) c.self.view_is

@@ -363,3 +363,17 @@ IsSampleFault-memory draft chosen held number sample weight value deep fits = (
   sample_row draft chosen sample weight value deep,
   fits,
 )
+
+-- ---- a pass over the samples, which are lent
+
+pub sample_read : (profile draft : Draft) (lent : List Sample) (at : ℕ) (sample : Sample) → lent ≡ draft.samples
+    → draft ≡ profile → sample ≡ get_or lent at sample → at < length lent
+    → (sample ≡ get_or profile.samples at sample) × (at < length profile.samples)
+sample_read profile draft lent at sample is same item lt =
+    let samples : lent ≡ profile.samples = is ∙ ap (λ (d : Draft). d.samples) same in
+    (item ∙ ap (λ ss. get_or ss at sample) samples, subst (λ (ss : List Sample). at < length ss) samples lt)
+
+pub samples_read : (profile draft : Draft) (lent : List Sample) (at : ℕ) → lent ≡ draft.samples → draft ≡ profile
+    → length lent ≤ at → length profile.samples ≤ at
+samples_read profile draft lent at is same all =
+    subst (λ (ss : List Sample). length ss ≤ at) (is ∙ ap (λ (d : Draft). d.samples) same) all

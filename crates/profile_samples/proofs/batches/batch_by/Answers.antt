@@ -1,26 +1,24 @@
 -- The samples are read in order: each is a row more, or has the first fault.
-use Rattle.std.proofs.Common.{◌≡◌, ◌<◌, ◌≤◌, length, get_or, ap, subst, ◌∙◌}
+use Rattle.std.proofs.Common.{subst}
 use Rattle.std.proofs.lemmas.Result.{err_from_is_err_and}
-use Rattle.pprof_profile.specs.declared.messages.Draft.{Draft}
 use Rattle.profile_samples.specs.Batches.{IsRowOfSample, IsValuesFault}
 use Rattle.profile_samples.proofs.SampleBatches.{IsBatchSoFar-row, IsBatchSoFar-end, IsBatchSoFar-stands, has_values}
+use Rattle.profile_samples.proofs.SampleRows.{sample_read, samples_read}
 use Rattle.profile_samples.proofs.batches.batch_by.Goals as goal
 
 pub add_sample-requires-clause-values : goal.add_sample-requires-clause-values
 add_sample-requires-clause-values c =
-    let samples : c.as_slice-sample-items.result.now ≡ c.args.profile.now.samples = c.as_slice-sample-items.ensures
-    ∙ ap (λ (d : Draft). d.samples) c.draft.ensures.draft in
-    let item = c.sample-item.is ∙ ap (λ ss. get_or ss c.loop-index.index c.sample-item.result) samples in
-    let within = subst (λ ss. c.loop-index.index < length ss) samples c.loop-index-test.true in
+    let (item, within) = sample_read c.args.profile.now c.draft.result.now c.as_slice-sample-items.result.now
+    c.loop-index.index c.sample-item.result c.as_slice-sample-items.ensures c.draft.ensures.draft c.sample-item.is
+    c.loop-index-test.true in
     has_values c.args.profile.now c.args.chosen.now.first c.args.chosen.now.width
     c.loop-index.index c.sample-item.result c.draft.ensures.valid c.requires.typed within item
 
 pub returns-in_err-add_sample : goal.returns-in_err-add_sample
 returns-in_err-add_sample c = λ choice is_chosen.
-    let samples : c.as_slice-sample-items.result.now ≡ c.args.profile.now.samples = c.as_slice-sample-items.ensures
-    ∙ ap (λ (d : Draft). d.samples) c.draft.ensures.draft in
-    let item = c.sample-item.is ∙ ap (λ ss. get_or ss c.loop-index.index c.sample-item.result) samples in
-    let within = subst (λ ss. c.loop-index.index < length ss) samples c.loop-index-test.true in
+    let (item, within) = sample_read c.args.profile.now c.draft.result.now c.as_slice-sample-items.result.now
+    c.loop-index.index c.sample-item.result c.as_slice-sample-items.ensures c.draft.ensures.draft c.sample-item.is
+    c.loop-index-test.true in
     let p = err_from_is_err_and c.from_residual.result c.from_residual.ensures.1 in
     let there : IsValuesFault c.args.profile.now c.args.chosen.now.first
     c.loop-index.batch c.loop-index.index c.sample-item.result c.in_err-add_sample.field-0.0 =
@@ -32,10 +30,9 @@ returns-in_err-add_sample c = λ choice is_chosen.
 
 pub loop-index-preserved : goal.loop-index-preserved
 loop-index-preserved c =
-    let samples : c.as_slice-sample-items.result.now ≡ c.args.profile.now.samples = c.as_slice-sample-items.ensures
-    ∙ ap (λ (d : Draft). d.samples) c.draft.ensures.draft in
-    let item = c.sample-item.is ∙ ap (λ ss. get_or ss c.loop-index.index c.sample-item.result) samples in
-    let within = subst (λ ss. c.loop-index.index < length ss) samples c.loop-index-test.true in
+    let (item, within) = sample_read c.args.profile.now c.draft.result.now c.as_slice-sample-items.result.now
+    c.loop-index.index c.sample-item.result c.as_slice-sample-items.ensures c.draft.ensures.draft c.sample-item.is
+    c.loop-index-test.true in
     let (row, this, room, more) = c.in_ok-add_sample.ensures.added in
     let own = subst (λ d. IsRowOfSample d c.args.chosen.now.first c.loop-index.batch.width c.sample-item.result row)
     c.requires.framed this in
@@ -44,8 +41,7 @@ loop-index-preserved c =
 
 pub returns : goal.returns
 returns c = λ choice is_chosen.
-    let samples : c.as_slice-sample-items.result.now ≡ c.args.profile.now.samples = c.as_slice-sample-items.ensures
-    ∙ ap (λ (d : Draft). d.samples) c.draft.ensures.draft in
-    let whole = subst (λ ss. length ss ≤ c.loop-index.index) samples c.loop-index-test.false in
+    let whole = samples_read c.args.profile.now c.draft.result.now c.as_slice-sample-items.result.now c.loop-index.index
+    c.as_slice-sample-items.ensures c.draft.ensures.draft c.loop-index-test.false in
     IsBatchSoFar-end c.args.profile.now choice c.args.chosen.now.first
     c.args.chosen.now.width c.loop-index.index c.loop-index.batch is_chosen whole c.loop-index.invariant

@@ -1,5 +1,5 @@
 -- The samples are read in order: each is counted, or has the first fault.
-use Rattle.std.proofs.Common.{◌≡◌, ◌+◌, ◌^◌, ◌<◌, ◌≤◌, ◌++◌, ◌∷◌, [], length, get_or, ap, subst, ◌∙◌, refl}
+use Rattle.std.proofs.Common.{◌+◌, ◌^◌, ◌<◌, ◌++◌, ◌∷◌, [], subst, refl}
 use Rattle.std.proofs.lemmas.Result.{err_from_is_err_and}
 use Rattle.pprof_profile.specs.declared.messages.Draft.{Draft}
 use Rattle.profile_rows.specs.declared.weighted_stacks.WeightedStack.{WeightedStack}
@@ -9,23 +9,22 @@ use Rattle.profile_samples.specs.Samples.{IsSampleRow, IsSampleFault, sample_sta
 use Rattle.profile_samples.specs.NameNumbers.{frame_names}
 use Rattle.profile_samples.proofs.SampleNumbers.{sample_numbered}
 use Rattle.profile_samples.proofs.SampleRows.{AreRowsSoFar-row, AreRowsSoFar-end, AreRowsSoFar-stands, has_value}
+use Rattle.profile_samples.proofs.SampleRows.{sample_read, samples_read}
 use Rattle.profile_samples.proofs.counted_samples.count_samples.Goals as goal
 
 pub sample_weight-requires-clause-values : goal.sample_weight-requires-clause-values
 sample_weight-requires-clause-values c =
-    let samples : c.as_slice-sample-items.result.now ≡ c.args.profile.now.samples = c.as_slice-sample-items.ensures
-    ∙ ap (λ (d : Draft). d.samples) c.draft.ensures.draft in
-    let item = c.sample-item.is ∙ ap (λ ss. get_or ss c.loop-index.index c.sample-item.result) samples in
-    let within = subst (λ ss. c.loop-index.index < length ss) samples c.loop-index-test.true in
+    let (item, within) = sample_read c.args.profile.now c.draft.result.now c.as_slice-sample-items.result.now
+    c.loop-index.index c.sample-item.result c.as_slice-sample-items.ensures c.draft.ensures.draft c.sample-item.is
+    c.loop-index-test.true in
     has_value c.args.profile.now
     c.args.chosen c.loop-index.index c.sample-item.result c.draft.ensures.valid c.requires.typed within item
 
 pub returns-in_err-weight : goal.returns-in_err-weight
 returns-in_err-weight c = λ choice is_chosen.
-    let samples : c.as_slice-sample-items.result.now ≡ c.args.profile.now.samples = c.as_slice-sample-items.ensures
-    ∙ ap (λ (d : Draft). d.samples) c.draft.ensures.draft in
-    let item = c.sample-item.is ∙ ap (λ ss. get_or ss c.loop-index.index c.sample-item.result) samples in
-    let within = subst (λ ss. c.loop-index.index < length ss) samples c.loop-index-test.true in
+    let (item, within) = sample_read c.args.profile.now c.draft.result.now c.as_slice-sample-items.result.now
+    c.loop-index.index c.sample-item.result c.as_slice-sample-items.ensures c.draft.ensures.draft c.sample-item.is
+    c.loop-index-test.true in
     let p = err_from_is_err_and c.from_residual.result c.from_residual.ensures.1 in
     let (rows, so_far, counted) = c.loop-index.invariant in
     let own = subst (λ d. IsSampleFault d c.args.chosen c.loop-index.tallies.total c.loop-index.index
@@ -37,10 +36,9 @@ returns-in_err-weight c = λ choice is_chosen.
 
 pub returns-in_err-gather_numbers : goal.returns-in_err-gather_numbers
 returns-in_err-gather_numbers c = λ choice is_chosen.
-    let samples : c.as_slice-sample-items.result.now ≡ c.args.profile.now.samples = c.as_slice-sample-items.ensures
-    ∙ ap (λ (d : Draft). d.samples) c.draft.ensures.draft in
-    let item = c.sample-item.is ∙ ap (λ ss. get_or ss c.loop-index.index c.sample-item.result) samples in
-    let within = subst (λ ss. c.loop-index.index < length ss) samples c.loop-index-test.true in
+    let (item, within) = sample_read c.args.profile.now c.draft.result.now c.as_slice-sample-items.result.now
+    c.loop-index.index c.sample-item.result c.as_slice-sample-items.ensures c.draft.ensures.draft c.sample-item.is
+    c.loop-index-test.true in
     let weight = c.in_ok-weight.weight in
     let sample = c.sample-item.result in
     let (rows, so_far, counted) = c.loop-index.invariant in
@@ -76,10 +74,9 @@ count-requires-clause-counted c =
 
 pub loop-index-preserved : goal.loop-index-preserved
 loop-index-preserved c =
-    let samples : c.as_slice-sample-items.result.now ≡ c.args.profile.now.samples = c.as_slice-sample-items.ensures
-    ∙ ap (λ (d : Draft). d.samples) c.draft.ensures.draft in
-    let item = c.sample-item.is ∙ ap (λ ss. get_or ss c.loop-index.index c.sample-item.result) samples in
-    let within = subst (λ ss. c.loop-index.index < length ss) samples c.loop-index-test.true in
+    let (item, within) = sample_read c.args.profile.now c.draft.result.now c.as_slice-sample-items.result.now
+    c.loop-index.index c.sample-item.result c.as_slice-sample-items.ensures c.draft.ensures.draft c.sample-item.is
+    c.loop-index-test.true in
     let weight = c.in_ok-weight.weight in
     let sample = c.sample-item.result in
     let stack = sample_stack_of c.args.profile.now sample.location_ids in
@@ -103,9 +100,8 @@ loop-index-preserved c =
 
 pub returns : goal.returns
 returns c = λ choice is_chosen.
-    let samples : c.as_slice-sample-items.result.now ≡ c.args.profile.now.samples = c.as_slice-sample-items.ensures
-    ∙ ap (λ (d : Draft). d.samples) c.draft.ensures.draft in
-    let whole = subst (λ ss. length ss ≤ c.loop-index.index) samples c.loop-index-test.false in
+    let whole = samples_read c.args.profile.now c.draft.result.now c.as_slice-sample-items.result.now c.loop-index.index
+    c.as_slice-sample-items.ensures c.draft.ensures.draft c.loop-index-test.false in
     let (rows, so_far, counted) = c.loop-index.invariant in
     record {
       rows = rows;

@@ -1,29 +1,27 @@
 -- The samples are read in order: each is added to the sums, or has the first fault.
-use Rattle.std.proofs.Common.{◌≡◌, ◌+◌, ◌^◌, ◌<◌, ◌≤◌, ◌++◌, ◌∷◌, [], length, get_or, ap, subst, ◌∙◌, refl}
+use Rattle.std.proofs.Common.{◌+◌, ◌^◌, ◌<◌, ◌++◌, ◌∷◌, [], subst, refl}
 use Rattle.std.proofs.lemmas.Result.{err_from_is_err_and}
-use Rattle.pprof_profile.specs.declared.messages.Draft.{Draft}
 use Rattle.profile_samples.specs.Samples.{IsSampleRow, IsSampleFault, sample_stack_of}
 use Rattle.profile_rows.specs.Rows.{total_of}
 use Rattle.profile_rows.specs.Merging.{ArePlacedBy}
 use Rattle.profile_rows.proofs.MergedRows.{AreMergedSoFar-row, AreMergedSoFar-same}
 use Rattle.profile_samples.proofs.SampleRows.{AreRowsSoFar-row, AreRowsSoFar-end, AreRowsSoFar-stands, has_value}
+use Rattle.profile_samples.proofs.SampleRows.{sample_read, samples_read}
 use Rattle.profile_samples.proofs.merged_samples.merged_by.Goals as goal
 
 pub merge_sample-requires-clause-values : goal.merge_sample-requires-clause-values
 merge_sample-requires-clause-values c =
-    let samples : c.as_slice-sample-items.result.now ≡ c.args.profile.now.samples = c.as_slice-sample-items.ensures
-    ∙ ap (λ (d : Draft). d.samples) c.draft.ensures.draft in
-    let item = c.sample-item.is ∙ ap (λ ss. get_or ss c.loop-index.index c.sample-item.result) samples in
-    let within = subst (λ ss. c.loop-index.index < length ss) samples c.loop-index-test.true in
+    let (item, within) = sample_read c.args.profile.now c.draft.result.now c.as_slice-sample-items.result.now
+    c.loop-index.index c.sample-item.result c.as_slice-sample-items.ensures c.draft.ensures.draft c.sample-item.is
+    c.loop-index-test.true in
     has_value c.args.profile.now
     c.args.chosen c.loop-index.index c.sample-item.result c.draft.ensures.valid c.requires.typed within item
 
 pub returns-in_err-merge_sample : goal.returns-in_err-merge_sample
 returns-in_err-merge_sample c = λ choice is_chosen.
-    let samples : c.as_slice-sample-items.result.now ≡ c.args.profile.now.samples = c.as_slice-sample-items.ensures
-    ∙ ap (λ (d : Draft). d.samples) c.draft.ensures.draft in
-    let item = c.sample-item.is ∙ ap (λ ss. get_or ss c.loop-index.index c.sample-item.result) samples in
-    let within = subst (λ ss. c.loop-index.index < length ss) samples c.loop-index-test.true in
+    let (item, within) = sample_read c.args.profile.now c.draft.result.now c.as_slice-sample-items.result.now
+    c.loop-index.index c.sample-item.result c.as_slice-sample-items.ensures c.draft.ensures.draft c.sample-item.is
+    c.loop-index-test.true in
     let p = err_from_is_err_and c.from_residual.result c.from_residual.ensures.1 in
     let (rows, so_far, sums) = c.loop-index.invariant.0 in
     let own = subst (λ d. IsSampleFault d c.args.chosen (total_of c.loop-index.merged) c.loop-index.index
@@ -35,10 +33,9 @@ returns-in_err-merge_sample c = λ choice is_chosen.
 
 pub loop-index-preserved : goal.loop-index-preserved
 loop-index-preserved c =
-    let samples : c.as_slice-sample-items.result.now ≡ c.args.profile.now.samples = c.as_slice-sample-items.ensures
-    ∙ ap (λ (d : Draft). d.samples) c.draft.ensures.draft in
-    let item = c.sample-item.is ∙ ap (λ ss. get_or ss c.loop-index.index c.sample-item.result) samples in
-    let within = subst (λ ss. c.loop-index.index < length ss) samples c.loop-index-test.true in
+    let (item, within) = sample_read c.args.profile.now c.draft.result.now c.as_slice-sample-items.result.now
+    c.loop-index.index c.sample-item.result c.as_slice-sample-items.ensures c.draft.ensures.draft c.sample-item.is
+    c.loop-index-test.true in
     let (rows, so_far, sums) = c.loop-index.invariant.0 in
     let (row, this, adds) = c.in_ok-merge_sample.ensures.added in
     let own = subst (λ d. IsSampleRow d c.args.chosen c.sample-item.result row) c.requires.framed this in
@@ -55,9 +52,8 @@ loop-index-preserved c =
 
 pub returns : goal.returns
 returns c = λ choice is_chosen.
-    let samples : c.as_slice-sample-items.result.now ≡ c.args.profile.now.samples = c.as_slice-sample-items.ensures
-    ∙ ap (λ (d : Draft). d.samples) c.draft.ensures.draft in
-    let whole = subst (λ ss. length ss ≤ c.loop-index.index) samples c.loop-index-test.false in
+    let whole = samples_read c.args.profile.now c.draft.result.now c.as_slice-sample-items.result.now c.loop-index.index
+    c.as_slice-sample-items.ensures c.draft.ensures.draft c.loop-index-test.false in
     let (rows, so_far, sums) = c.loop-index.invariant.0 in
     record {
       rows = rows;

@@ -18,22 +18,32 @@ use Rattle.profile_samples.proofs.name_numbers.NumberedFrames.new.Goals as goal
 abbrev Names : Type 0
 Names = List (Option (List ℕ)) × List (List ℕ)
 
+-- the names of strings and addresses, and the table that has both
+numbered : (draft profile : Draft) (texts : List (Option (List ℕ))) (addresses front all : List (List ℕ))
+    → draft ≡ profile → ◌≡◌ {A = Names} (texts, addresses) (string_names profile, address_names profile)
+    → front ≡ with_texts [] (given texts) → all ≡ with_texts front addresses
+    → (texts ≡ string_names draft) × (addresses ≡ address_names draft) × (all ≡ frame_names draft)
+numbered draft profile texts addresses front all same names front_is all_is =
+    let strings : texts ≡ string_names draft = ap (λ (p : Names). p.0) names ∙ ap string_names (sym same) in
+    let lines : addresses ≡ address_names draft = ap (λ (p : Names). p.1) names ∙ ap address_names (sym same) in (
+      strings,
+      lines,
+      all_is ∙ ap (λ texts. with_texts texts addresses) (front_is ∙ ap (λ s. with_texts [] (given s)) strings)
+          ∙ ap (with_texts (with_texts [] (given (string_names draft)))) lines,
+    )
+
 pub new-requires-2-clause-valid : goal.new-requires-2-clause-valid
 new-requires-2-clause-valid c = subst IsValidDraft (sym c.draft-draft.ensures.draft) c.draft-draft.ensures.valid
 
 pub new-requires-2-clause-strings : goal.new-requires-2-clause-strings
 new-requires-2-clause-strings c =
     let draft = c.draft-draft.result.now in
-    let names = c.names.view_is ∙ c.requires in
-    let strings : map name_in c.names.inside.strings.items ≡ string_names draft = ap (λ (p : Names). p.0) names
-    ∙ ap string_names (sym c.draft-draft.ensures.draft) in
-    let addresses : c.names.inside.addresses.items ≡ address_names draft = ap (λ (p : Names). p.1) names
-    ∙ ap address_names (sym c.draft-draft.ensures.draft) in
-    let front = c.in_ok-table.ensures.texts ∙ ap (λ t. with_texts t (given (map name_in c.as_slice.result.now)))
-    c.new.ensures.texts ∙ ap (λ s. with_texts [] (given s)) (ap (map name_in) c.as_slice.ensures.value ∙ strings) in
-    let table : c.in_ok-table-2.table.texts ≡ frame_names draft =
-    c.in_ok-table-2.ensures.texts ∙ ap (λ t. with_texts t c.as_slice-2.result.now) front
-    ∙ ap (with_texts (with_texts [] (given (string_names draft)))) (c.as_slice-2.ensures.value ∙ addresses) in
+    let (strings, addresses, table) = numbered draft c.args.profile.now (map name_in c.names.inside.strings.items)
+    c.names.inside.addresses.items c.in_ok-table.table.texts c.in_ok-table-2.table.texts c.draft-draft.ensures.draft
+    (c.names.view_is ∙ c.requires)
+    (c.in_ok-table.ensures.texts ∙ ap (λ t. with_texts t (given (map name_in c.as_slice.result.now))) c.new.ensures.texts
+    ∙ ap (λ names. with_texts [] (given (map name_in names))) c.as_slice.ensures.value)
+    (c.in_ok-table-2.ensures.texts ∙ ap (with_texts c.in_ok-table.table.texts) c.as_slice-2.ensures.value) in
     c.as_slice-5.ensures.value
     ∙ c.in_ok-strings.ensures ∙ ap (λ t. map (option_map (place_in t)) (map name_in c.as_slice-3.result.now)) table
     ∙ ap (map (option_map (number_of draft))) (ap (map name_in) c.as_slice-3.ensures.value ∙ strings)
@@ -41,16 +51,12 @@ new-requires-2-clause-strings c =
 pub all_frames-requires-clause-addresses : goal.all_frames-requires-clause-addresses
 all_frames-requires-clause-addresses c =
     let draft = c.draft-draft.result.now in
-    let names = c.names.view_is ∙ c.requires in
-    let strings : map name_in c.names.inside.strings.items ≡ string_names draft = ap (λ (p : Names). p.0) names
-    ∙ ap string_names (sym c.draft-draft.ensures.draft) in
-    let addresses : c.names.inside.addresses.items ≡ address_names draft = ap (λ (p : Names). p.1) names
-    ∙ ap address_names (sym c.draft-draft.ensures.draft) in
-    let front = c.in_ok-table.ensures.texts ∙ ap (λ t. with_texts t (given (map name_in c.as_slice.result.now)))
-    c.new.ensures.texts ∙ ap (λ s. with_texts [] (given s)) (ap (map name_in) c.as_slice.ensures.value ∙ strings) in
-    let table : c.in_ok-table-2.table.texts ≡ frame_names draft =
-    c.in_ok-table-2.ensures.texts ∙ ap (λ t. with_texts t c.as_slice-2.result.now) front
-    ∙ ap (with_texts (with_texts [] (given (string_names draft)))) (c.as_slice-2.ensures.value ∙ addresses) in
+    let (strings, addresses, table) = numbered draft c.args.profile.now (map name_in c.names.inside.strings.items)
+    c.names.inside.addresses.items c.in_ok-table.table.texts c.in_ok-table-2.table.texts c.draft-draft.ensures.draft
+    (c.names.view_is ∙ c.requires)
+    (c.in_ok-table.ensures.texts ∙ ap (λ t. with_texts t (given (map name_in c.as_slice.result.now))) c.new.ensures.texts
+    ∙ ap (λ names. with_texts [] (given (map name_in names))) c.as_slice.ensures.value)
+    (c.in_ok-table-2.ensures.texts ∙ ap (with_texts c.in_ok-table.table.texts) c.as_slice-2.ensures.value) in
     c.as_slice-6.ensures.value ∙ c.in_ok-addresses.ensures ∙ ap (λ t. map (place_in t) c.as_slice-4.result.now) table
     ∙ ap (map (number_of draft)) (c.as_slice-4.ensures.value ∙ addresses)
     ∙ address_numbers_are draft draft.locations
@@ -70,16 +76,12 @@ all_frames-requires-clause-named c =
 pub invariant_of-result : goal.invariant_of-result
 invariant_of-result c =
     let draft = c.draft-draft.result.now in
-    let names = c.names.view_is ∙ c.requires in
-    let strings : map name_in c.names.inside.strings.items ≡ string_names draft = ap (λ (p : Names). p.0) names
-    ∙ ap string_names (sym c.draft-draft.ensures.draft) in
-    let addresses : c.names.inside.addresses.items ≡ address_names draft = ap (λ (p : Names). p.1) names
-    ∙ ap address_names (sym c.draft-draft.ensures.draft) in
-    let front = c.in_ok-table.ensures.texts ∙ ap (λ t. with_texts t (given (map name_in c.as_slice.result.now)))
-    c.new.ensures.texts ∙ ap (λ s. with_texts [] (given s)) (ap (map name_in) c.as_slice.ensures.value ∙ strings) in
-    let table : c.in_ok-table-2.table.texts ≡ frame_names draft =
-    c.in_ok-table-2.ensures.texts ∙ ap (λ t. with_texts t c.as_slice-2.result.now) front
-    ∙ ap (with_texts (with_texts [] (given (string_names draft)))) (c.as_slice-2.ensures.value ∙ addresses) in
+    let (strings, addresses, table) = numbered draft c.args.profile.now (map name_in c.names.inside.strings.items)
+    c.names.inside.addresses.items c.in_ok-table.table.texts c.in_ok-table-2.table.texts c.draft-draft.ensures.draft
+    (c.names.view_is ∙ c.requires)
+    (c.in_ok-table.ensures.texts ∙ ap (λ t. with_texts t (given (map name_in c.as_slice.result.now))) c.new.ensures.texts
+    ∙ ap (λ names. with_texts [] (given (map name_in names))) c.as_slice.ensures.value)
+    (c.in_ok-table-2.ensures.texts ∙ ap (with_texts c.in_ok-table.table.texts) c.as_slice-2.ensures.value) in
     let ids : c.in_ok-places.places ≡ location_ids draft = search rules in
     let valid : IsValidDraft draft = subst IsValidDraft (sym c.draft-draft.ensures.draft) c.draft-draft.ensures.valid in
     record {

@@ -1,160 +1,154 @@
 -- What faults of an input say, and the text of answers.
-use Rattle.std.proofs.Common.{◌≡◌, ◌≢◌, ℕ, List, refl, sym, ap, ◌∙◌, subst}
+use Rattle.std.proofs.Common.{◌≡◌, ◌≢◌, ℕ, true, false, List, refl, sym, ap, ◌∙◌, subst, inl, inr}
 use Rattle.std.specs.Prelude.{Option, Some, None, Result, Ok, Err, MatchResult}
+use denote.Ref.{Bor}
 use Rattle.pprof_profile.specs.declared.faults.ProfileFault.{ProfileFault}
 use Rattle.pprof_profile.specs.declared.faults.ProfileFault.TheVariants as profile
 use Rattle.pprof_profile.specs.declared.messages.Draft.{Draft}
 use Rattle.pprof_profile.specs.Profiles.{IsProfile, IsProfileFault}
 use Rattle.profile_rows.specs.declared.weighted_stacks.WeightedStack.{WeightedStack}
+use Rattle.folded_text.specs.declared.folded.FoldedFault.{FoldedFault}
+use Rattle.folded_text.specs.declared.folded.FoldedFault.TheVariants as folded
+use Rattle.folded_text.specs.FoldedText.{IsFirstFault, IsWorkFault}
 use Rattle.profile_samples.specs.declared.sampling.BatchFault.{BatchFault}
 use Rattle.profile_samples.specs.declared.sampling.BatchFault.TheVariants as batch
 use Rattle.profile_samples.specs.declared.sampling.ValueChoice.{ValueChoice}
-use Rattle.profile_samples.specs.declared.sampling.ValueChoice.TheVariants.{Default, Named}
-use Rattle.profile_samples.specs.declared.sampling.ValueChoice.TheVariants as choices
-use Rattle.profile_samples.specs.Samples.{AreStacksOf, IsFirstStacksFault, chosen_type_of, type_named}
+use Rattle.profile_samples.specs.declared.sampling.ValueChoice.TheVariants.{All, Default, Named}
+use Rattle.profile_samples.specs.Batches.{chosen_types_of, one_from}
+use Rattle.profile_samples.specs.Samples.{chosen_type_of, type_named}
 use Rattle.flame_report.specs.Answers.{answer_by, kept_by}
 use Rattle.flame_report.specs.declared.query.Kind.{Kind}
 use Rattle.flame_report.specs.declared.query.Query.{Query}
+use Rattle.flame_words.specs.declared.request.Format.{Format}
+use Rattle.flame_words.specs.declared.request.Format.TheVariants.{Folded, Pprof}
 use Rattle.flame_words.specs.declared.request.Source.{Source}
+use Rattle.flame_answers.specs.declared.outcomes.InputFault.TheVariants as refused
 use Rattle.flame_answers.specs.declared.outcomes.ToolFault.{ToolFault}
 use Rattle.flame_answers.specs.declared.outcomes.ToolFault.TheVariants as tool
-use Rattle.flame_words.specs.declared.request.Format.TheVariants.{Folded, Pprof}
-use Rattle.flame_answers.specs.Answers.{AreRowsIn, HasNoRows, IsAnswerOfProfile, IsAnswerOfText, IsChoice, IsFaultIn}
-use Rattle.flame_answers.specs.Answers.{IsRefusedIn, IsReport, answer_text, batch_fault_of, profile_fault_of}
+use Rattle.flame_answers.specs.Answers.{IsAnswerOfAll, IsReport, answer_text}
+use Rattle.flame_answers.specs.Inputs.{Got, IsChoice, IsChoiceOfAll, IsChosen, IsFirstOfSamples, IsIn, IsRefusedIn}
+use Rattle.flame_answers.specs.Inputs.{IsSampled, IsSpelled, IsToldAs, Wanted}
+use Rattle.flame_answers.specs.Inputs.Wanted.{for_report, for_store}
+
+-- ---- answers
+
+-- a query that keeps every row is answered by all of them
+IsReport-of_all : (source : Source) (query : Query) (format : Format) (kind : Kind) (input text : List ℕ)
+    → source.format ≡ format → query.kind ≡ kind → ((rows : List WeightedStack) → kept_by query rows ≡ rows)
+    → IsAnswerOfAll format source.value input kind text → IsReport source.format source.value query input text
+IsReport-of_all source query format kind input text same asked keeps (all, spelled, whole) = record {
+  rows = all;
+  spelled = subst (λ f. IsIn f (for_report source.value) input all) (sym same) spelled;
+  whole = whole ∙ ap (λ k. answer_text (answer_by k all)) (sym asked)
+      ∙ ap (λ kept. answer_text (answer_by query.kind kept)) (sym (keeps all));
+}
+
+pub answered-of_all : {T : Type 0} (bytes : T → List ℕ) (source : Source) (query : Query) (format : Format)
+    (kind : Kind) (input : List ℕ) (outcome : Result T ToolFault) → source.format ≡ format → query.kind ≡ kind
+    → ((rows : List WeightedStack) → kept_by query rows ≡ rows)
+    → MatchResult outcome (λ text. IsAnswerOfAll format source.value input kind (bytes text))
+    (λ fault. IsRefusedIn format (for_report source.value) input fault)
+    → MatchResult outcome (λ text. IsReport source.format source.value query input (bytes text))
+    (λ fault. IsRefusedIn source.format (for_report source.value) input fault)
+answered-of_all bytes source query format kind input (Ok text) same asked keeps answered =
+    IsReport-of_all source query format kind input (bytes text) same asked keeps answered
+answered-of_all bytes source query format kind input (Err fault) same asked keeps answered =
+    subst (λ f. IsRefusedIn f (for_report source.value) input fault) (sym same) answered
 
 -- ---- folded text
 
--- a query that keeps every row of folded text is answered by all of them
-IsReport-of_text : (source : Source) (query : Query) (kind : Kind) (input text : List ℕ)
-    → source.format ≡ Folded → query.kind ≡ kind → ((rows : List WeightedStack) → kept_by query rows ≡ rows)
-    → IsAnswerOfText input kind text → IsReport source.format source.value query input text
-IsReport-of_text source query kind input text format asked keeps (rows, spelled, whole) = record {
-  rows = rows;
-  spelled = subst (λ f. AreRowsIn f source.value input rows) (sym format) spelled;
-  whole = whole ∙ ap (λ k. answer_text (answer_by k rows)) (sym asked)
-      ∙ ap (λ kept. answer_text (answer_by query.kind kept)) (sym (keeps rows));
-}
+pub text_refused : (wanted : Wanted) (input : List ℕ) (fault : FoldedFault) (told : ToolFault)
+    → IsFirstFault input fault → ((got : Got wanted) → IsSpelled wanted input got → fault ≡ folded.NoMemory)
+    → IsToldAs folded.NoMemory (λ f. tool.Input (refused.Folded f)) fault told → IsRefusedIn Folded wanted input told
+text_refused wanted input fault told first none (inl memory) =
+    subst (λ (t : ToolFault). IsRefusedIn Folded wanted input t) (sym memory.1) tt
+text_refused wanted input fault told first none (inr other) =
+    subst (λ (t : ToolFault). IsRefusedIn Folded wanted input t) (sym other.1)
+    ((first, other.0), λ got this. other.0 (none got this))
 
-pub answered-of_text : {T : Type 0} (bytes : T → List ℕ) (source : Source) (query : Query)
-    (kind : Kind) (input : List ℕ) (outcome : Result T ToolFault) → source.format ≡ Folded → query.kind ≡ kind
-    → ((rows : List WeightedStack) → kept_by query rows ≡ rows)
-    → ((value : Option (List ℕ)) → MatchResult outcome
-    (λ text. IsAnswerOfText input kind (bytes text)) (λ fault. IsRefusedIn Folded value input fault))
-    → MatchResult outcome (λ text. IsReport source.format source.value query input (bytes text))
-    (λ fault. IsRefusedIn source.format source.value input fault)
-answered-of_text bytes source query kind input (Ok text) format asked keeps answered =
-    IsReport-of_text source query kind input (bytes text) format asked keeps (answered source.value)
-answered-of_text bytes source query kind input (Err fault) format asked keeps answered =
-    subst (λ f. IsRefusedIn f source.value input fault) (sym format) (answered source.value)
-
--- a query that keeps every row of a profile's samples is answered by all of them
-IsReport-of_profile : (source : Source) (query : Query) (kind : Kind) (input text : List ℕ)
-    → source.format ≡ Pprof → query.kind ≡ kind → ((rows : List WeightedStack) → kept_by query rows ≡ rows)
-    → IsAnswerOfProfile source.value input kind text → IsReport source.format source.value query input text
-IsReport-of_profile source query kind input text format asked keeps (rows, spelled, whole) = record {
-  rows = rows;
-  spelled = subst (λ f. AreRowsIn f source.value input rows) (sym format) spelled;
-  whole = whole ∙ ap (λ k. answer_text (answer_by k rows)) (sym asked)
-      ∙ ap (λ kept. answer_text (answer_by query.kind kept)) (sym (keeps rows));
-}
-
-pub answered-of_profile : {T : Type 0} (bytes : T → List ℕ) (source : Source) (query : Query)
-    (kind : Kind) (input : List ℕ) (outcome : Result T ToolFault) → source.format ≡ Pprof → query.kind ≡ kind
-    → ((rows : List WeightedStack) → kept_by query rows ≡ rows)
-    → MatchResult outcome (λ text. IsAnswerOfProfile source.value input kind (bytes text))
-    (λ fault. IsRefusedIn Pprof source.value input fault)
-    → MatchResult outcome (λ text. IsReport source.format source.value query input (bytes text))
-    (λ fault. IsRefusedIn source.format source.value input fault)
-answered-of_profile bytes source query kind input (Ok text) format asked keeps answered =
-    IsReport-of_profile source query kind input (bytes text) format asked keeps answered
-answered-of_profile bytes source query kind input (Err fault) format asked keeps answered =
-    subst (λ f. IsRefusedIn f source.value input fault) (sym format) answered
+-- what work on a text's rows ends without a result by
+pub work_refused : (wanted : Wanted) (input : List ℕ) (fault : FoldedFault) (told : ToolFault)
+    → IsWorkFault input fault → ((got : Got wanted) → IsSpelled wanted input got → fault ≡ folded.NoMemory)
+    → IsToldAs folded.NoMemory (λ f. tool.Input (refused.Folded f)) fault told → IsRefusedIn Folded wanted input told
+work_refused wanted input fault told (inl first) none as_told = text_refused wanted input fault told first none as_told
+work_refused wanted input fault told (inr late) none (inl memory) =
+    subst (λ (t : ToolFault). IsRefusedIn Folded wanted input t) (sym memory.1) tt
+work_refused wanted input fault told (inr late) none (inr other) = absurd (other.0 late.0)
 
 -- ---- profiles
 
-refused_profile : (value : Option (List ℕ)) (input : List ℕ) (fault : ProfileFault) → (fault ≢ profile.NoMemory
-    → IsProfileFault input fault) → ((draft : Draft) → IsProfile input draft → fault ≡ profile.NoMemory)
-    → fault ≢ profile.NoMemory → (IsProfileFault input fault × (fault ≢ profile.NoMemory)) × HasNoRows Pprof value input
-refused_profile value input fault first drafts other =
-    ((first other, other), λ rows this. other (drafts this.draft this.profile))
-
-pub profile_refused : (value : Option (List ℕ)) (input : List ℕ) (fault : ProfileFault) → (fault ≢ profile.NoMemory
-    → IsProfileFault input fault) → ((draft : Draft) → IsProfile input draft → fault ≡ profile.NoMemory)
-    → IsRefusedIn Pprof value input (profile_fault_of fault)
-profile_refused value input profile.Gzip first drafts = refused_profile value input profile.Gzip first drafts (λ e. cc)
-profile_refused value input (profile.Wire fault) first drafts =
-    refused_profile value input (profile.Wire fault) first drafts (λ e. cc)
-profile_refused value input profile.NotUtf8 first drafts =
-    refused_profile value input profile.NotUtf8 first drafts (λ e. cc)
-profile_refused value input profile.NoStrings first drafts =
-    refused_profile value input profile.NoStrings first drafts (λ e. cc)
-profile_refused value input profile.FirstString first drafts =
-    refused_profile value input profile.FirstString first drafts (λ e. cc)
-profile_refused value input profile.StringIndex first drafts =
-    refused_profile value input profile.StringIndex first drafts (λ e. cc)
-profile_refused value input profile.ZeroId first drafts =
-    refused_profile value input profile.ZeroId first drafts (λ e. cc)
-profile_refused value input profile.DoubleId first drafts =
-    refused_profile value input profile.DoubleId first drafts (λ e. cc)
-profile_refused value input profile.NoLocation first drafts =
-    refused_profile value input profile.NoLocation first drafts (λ e. cc)
-profile_refused value input profile.NoMapping first drafts =
-    refused_profile value input profile.NoMapping first drafts (λ e. cc)
-profile_refused value input profile.NoFunction first drafts =
-    refused_profile value input profile.NoFunction first drafts (λ e. cc)
-profile_refused value input profile.ValueCount first drafts =
-    refused_profile value input profile.ValueCount first drafts (λ e. cc)
-profile_refused value input profile.NoMemory first drafts = tt
+pub bytes_refused : (wanted : Wanted) (input : List ℕ) (fault : ProfileFault) (told : ToolFault)
+    → (fault ≢ profile.NoMemory → IsProfileFault input fault)
+    → ((draft : Draft) → IsProfile input draft → fault ≡ profile.NoMemory)
+    → IsToldAs profile.NoMemory (λ f. tool.Input (refused.Profile f)) fault told → IsRefusedIn Pprof wanted input told
+bytes_refused wanted input fault told first drafts (inl memory) =
+    subst (λ (t : ToolFault). IsRefusedIn Pprof wanted input t) (sym memory.1) tt
+bytes_refused wanted input fault told first drafts (inr other) =
+    subst (λ (t : ToolFault). IsRefusedIn Pprof wanted input t) (sym other.1)
+    ((first other.0, other.0), λ got this. other.0 (drafts this.draft this.profile))
 
 -- ---- samples
 
 -- a choice is by its text alone
-same_choice : (draft : Draft) (value : Option (List ℕ)) (one other : ValueChoice)
-    → IsChoice value one → IsChoice value other → chosen_type_of draft one ≡ chosen_type_of draft other
-same_choice draft None Default Default a b = refl
-same_choice draft None Default choices.All a b = absurd b
-same_choice draft None choices.All other a b = absurd a
-same_choice draft None Default (Named text) a b = absurd b
-same_choice draft None (Named text) other a b = absurd a
-same_choice draft (Some value) Default other a b = absurd a
-same_choice draft (Some value) choices.All other a b = absurd a
-same_choice draft (Some value) (Named text) Default a b = absurd b
-same_choice draft (Some value) (Named text) choices.All a b = absurd b
-same_choice draft (Some value) (Named text) (Named also) a b = ap (type_named draft) (a ∙ sym b)
+same_choice : {A : Type 0} (f : ValueChoice → A)
+    → ((text also : Bor (List ℕ)) → text.now ≡ also.now → f (Named text) ≡ f (Named also))
+    → (value : Option (List ℕ)) (one other : ValueChoice) → IsChoice value one → IsChoice value other → f one ≡ f other
+same_choice f named None Default Default a b = refl
+same_choice f named None Default (Named text) a b = absurd b
+same_choice f named None Default All a b = absurd b
+same_choice f named None (Named text) other a b = absurd a
+same_choice f named None All other a b = absurd a
+same_choice f named (Some value) Default other a b = absurd a
+same_choice f named (Some value) All other a b = absurd a
+same_choice f named (Some value) (Named text) Default a b = absurd b
+same_choice f named (Some value) (Named text) All a b = absurd b
+same_choice f named (Some value) (Named text) (Named also) a b = named text also (a ∙ sym b)
 
-same_rows : (draft : Draft) (value : Option (List ℕ)) (one other : ValueChoice) (rows : List WeightedStack)
-    → IsChoice value one → IsChoice value other → AreStacksOf draft one rows → AreStacksOf draft other rows
-same_rows draft value one other rows a b this =
+same_all : {A : Type 0} (f : ValueChoice → A) (one other : ValueChoice) → IsChoiceOfAll one → IsChoiceOfAll other
+    → f one ≡ f other
+same_all f Default other a b = absurd a
+same_all f (Named text) other a b = absurd a
+same_all f All Default a b = absurd b
+same_all f All (Named text) a b = absurd b
+same_all f All All a b = refl
+
+same_sampled : (wanted : Wanted) (draft : Draft) (one other : ValueChoice) (got : Got wanted)
+    → IsChosen wanted one → IsChosen wanted other → IsSampled wanted draft one got → IsSampled wanted draft other got
+same_sampled (for_report value) draft one other got a b this =
+    let same = same_choice (chosen_type_of draft) (λ text also e. ap (type_named draft) e) value one other a b in
     record {
       chosen = this.chosen;
-      is_chosen = sym (same_choice draft value one other a b)
-          ∙ this.is_chosen;
+      is_chosen = sym same ∙ this.is_chosen;
       rows_samples = this.rows_samples;
       total_fits = this.total_fits;
     }
+same_sampled (for_store false value) draft one other got a b this =
+    let same = same_choice (chosen_types_of draft) (λ text also e. ap (λ t. one_from (type_named draft t)) e)
+    value one other a b in
+    record {
+      first = this.first;
+      is_chosen = sym same ∙ this.is_chosen;
+      rows_samples = this.rows_samples;
+      is_batch = this.is_batch;
+    }
+same_sampled (for_store true value) draft one other got a b this =
+    record {
+      first = this.first;
+      is_chosen = sym (same_all (chosen_types_of draft) one other a b) ∙ this.is_chosen;
+      rows_samples = this.rows_samples;
+      is_batch = this.is_batch;
+    }
 
-refused_batch : (value : Option (List ℕ)) (input : List ℕ) (draft : Draft) (choice : ValueChoice) (fault : BatchFault)
-    → IsProfile input draft → ((other : Draft) → IsProfile input other → draft ≡ other)
-    → IsChoice value choice → IsFirstStacksFault draft choice fault → ((rows : List WeightedStack)
-    → AreStacksOf draft choice rows → fault ≡ batch.NoMemory) → fault ≢ batch.NoMemory
-    → IsFaultIn Pprof value input (tool.Batch fault) × HasNoRows Pprof value input
-refused_batch value input draft choice fault is only chosen first rows other = (
-  (record { draft = draft; profile = is; choice = choice; chosen = chosen; first = first }, other),
-  λ found this. other (rows found (same_rows draft value this.choice choice found this.chosen chosen
-      (subst (λ d. AreStacksOf d this.choice found) (sym (only this.draft this.profile)) this.sampled))),
-)
-
-pub batch_refused : (value : Option (List ℕ)) (input : List ℕ) (draft : Draft) (choice : ValueChoice)
-    (fault : BatchFault) → IsProfile input draft → ((other : Draft) → IsProfile input other → draft ≡ other)
-    → IsChoice value choice → IsFirstStacksFault draft choice fault → ((rows : List WeightedStack)
-    → AreStacksOf draft choice rows → fault ≡ batch.NoMemory) → IsRefusedIn Pprof value input (batch_fault_of fault)
-batch_refused value input draft choice batch.NoValue is only chosen first rows =
-    refused_batch value input draft choice batch.NoValue is only chosen first rows (λ e. cc)
-batch_refused value input draft choice (batch.Width count) is only chosen first rows = absurd first
-batch_refused value input draft choice (batch.Negative at) is only chosen first rows =
-    refused_batch value input draft choice (batch.Negative at) is only chosen first rows (λ e. cc)
-batch_refused value input draft choice (batch.Depth at) is only chosen first rows =
-    refused_batch value input draft choice (batch.Depth at) is only chosen first rows (λ e. cc)
-batch_refused value input draft choice (batch.Heavy at) is only chosen first rows =
-    refused_batch value input draft choice (batch.Heavy at) is only chosen first rows (λ e. cc)
-batch_refused value input draft choice batch.NoMemory is only chosen first rows = tt
+pub samples_refused : (wanted : Wanted) (input : List ℕ) (draft : Draft) (choice : ValueChoice) (fault : BatchFault)
+    (told : ToolFault) → IsProfile input draft → ((other : Draft) → IsProfile input other → draft ≡ other)
+    → IsChosen wanted choice → IsFirstOfSamples wanted draft choice fault
+    → ((got : Got wanted) → IsSampled wanted draft choice got → fault ≡ batch.NoMemory)
+    → IsToldAs batch.NoMemory (λ f. tool.Input (refused.Batch f)) fault told → IsRefusedIn Pprof wanted input told
+samples_refused wanted input draft choice fault told is only chosen first none (inl memory) =
+    subst (λ (t : ToolFault). IsRefusedIn Pprof wanted input t) (sym memory.1) tt
+samples_refused wanted input draft choice fault told is only chosen first none (inr other) =
+    subst (λ (t : ToolFault). IsRefusedIn Pprof wanted input t) (sym other.1) (
+      (record { draft = draft; profile = is; choice = choice; chosen = chosen; first = first }, other.0),
+      λ got this. other.0 (none got (same_sampled wanted draft this.choice choice got this.chosen chosen
+          (subst (λ d. IsSampled wanted d this.choice got) (sym (only this.draft this.profile)) this.sampled))),
+    )

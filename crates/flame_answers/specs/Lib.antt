@@ -1,3 +1,4 @@
 pub mod Answers
+pub mod Inputs
 pub mod Outcomes
 pub mod Parts

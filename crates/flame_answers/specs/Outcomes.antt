@@ -3,7 +3,7 @@ use Rattle.std.specs.Prelude.{ℕ, List, [], ◌∷◌, ◌++◌, Option, Some, 
 use Rattle.flame_answers.specs.declared.outcomes.Outcome.{Outcome}
 use Rattle.flame_answers.specs.declared.outcomes.Outcome.TheVariants.{Done, Words, Fault}
 use Rattle.flame_answers.specs.declared.outcomes.ToolFault.{ToolFault}
-use Rattle.flame_answers.specs.declared.outcomes.ToolFault.TheVariants.{Folded, Profile, Batch, Name, Sessions, Live}
+use Rattle.flame_answers.specs.declared.outcomes.ToolFault.TheVariants.{Input, Name, Sessions, Live}
 use Rattle.flame_answers.specs.declared.outcomes.ToolFault.TheVariants.{Read, Write, TooLong, NoMemory}
 use Rattle.live_report.specs.declared.fault.LiveFault.{LiveFault}
 use Rattle.live_report.specs.Faults.{is_shortage}
@@ -15,9 +15,7 @@ live_code_of fault = cond (is_shortage fault) 4 5
 -- 1: the input is refused. 2: a name of the words can't be one, or there is no session for a warm start. 3: the world
 -- outside failed. 4: memory ran out. Else the rows couldn't be stored or confirmed.
 abbrev pub fault_code_of : ToolFault → ℕ
-fault_code_of (Folded fault) = 1
-fault_code_of (Profile fault) = 1
-fault_code_of (Batch fault) = 1
+fault_code_of (Input fault) = 1
 fault_code_of Name = 2
 fault_code_of Sessions = 2
 fault_code_of (Live fault) = live_code_of fault
@@ -34,9 +32,7 @@ code_of (Fault fault) = fault_code_of fault
 
 -- the text of a fault of the program's own; those of an input and of a store have the text of the crate that tells them
 abbrev pub fault_text_of : ToolFault → Option (List ℕ)
-fault_text_of (Folded fault) = None
-fault_text_of (Profile fault) = None
-fault_text_of (Batch fault) = None
+fault_text_of (Input fault) = None
 fault_text_of (Live fault) = None
 fault_text_of Name = Some (codes "C1 Name")
 fault_text_of Sessions = Some (codes "C2 Sessions")

@@ -6,11 +6,13 @@ ghost use Rattle.profile_rows.specs.TopList.{AreTotalsOf};
 ghost use Rattle.flame_report.specs.Answers.{answer_by, answer_of};
 ghost use Rattle.flame_report.specs.declared.query.Kind.TheVariants.{Top};
 ghost use Rattle.flame_report.specs.declared.query.Kind.TheVariants as kinds;
-ghost use Rattle.flame_answers.specs.Answers.{AreMergedIn, IsAnswer, IsAnswerOfProfile, IsAnswerOfText, IsChoice, IsExport, IsInputFault, IsRefusedIn, IsReport, answer_text, batch_fault_of, folded_fault_of, profile_fault_of};
+ghost use Rattle.flame_answers.specs.Answers.{IsAnswer, IsAnswerOfAll, IsExport, IsInputFault, IsReport, answer_text};
+ghost use Rattle.flame_answers.specs.Inputs.{AreMergedIn, IsChoice, IsRefusedIn, IsToldAs};
+ghost use Rattle.flame_answers.specs.Inputs.Wanted.{for_report};
 ghost use Rattle.flame_words.specs.declared.request.Format.TheVariants.{Folded, Pprof};
 
 use crate::live::live_report;
-use crate::outcomes::ToolFault;
+use crate::outcomes::{InputFault, ToolFault};
 use flame_report::laws::answers_are_by_the_aggregate;
 use flame_report::{Answer, Kind, Query, Rank, flame_json, report_of_stacks, top_list, top_text};
 use flame_words::{Format, Request, Source};
@@ -66,7 +68,7 @@ pub fn report_on(
 ) -> Result<Vec<u8>, ToolFault>
     ensures { MatchResult result
         (λ text. IsReport source.now.format source.now.value query.now input.now text.items)
-        (λ fault. IsRefusedIn source.now.format source.now.value input.now fault) }
+        (λ fault. IsRefusedIn source.now.format (for_report source.now.value) input.now fault) }
 {
     match (source.format, query.kind) {
         (Format::Folded, Kind::Top { rank, count }) if query.keeps_all() => {
@@ -93,8 +95,8 @@ fn folded_top(
     input: &[u8],
 ) -> Result<Vec<u8>, ToolFault>
     ensures { (value : Option (List ℕ)) → MatchResult result
-        (λ text. IsAnswerOfText input.now (Top rank count) text.items)
-        (λ fault. IsRefusedIn Folded value input.now fault) }
+        (λ text. IsAnswerOfAll Folded value input.now (Top rank count) text.items)
+        (λ fault. IsRefusedIn Folded (for_report value) input.now fault) }
 {
     match folded_totals(alloc, hashing, input) {
         Ok(totals) => Ok(totals_text(alloc, totals, rank, count)?),
@@ -105,8 +107,8 @@ fn folded_top(
 /// The folded report of folded text's rows, whose names aren't kept for it.
 fn folded_lines(alloc: Global, hashing: Hashing, input: &[u8]) -> Result<Vec<u8>, ToolFault>
     ensures { (value : Option (List ℕ)) → MatchResult result
-        (λ text. IsAnswerOfText input.now kinds.Folded text.items)
-        (λ fault. IsRefusedIn Folded value input.now fault) }
+        (λ text. IsAnswerOfAll Folded value input.now kinds.Folded text.items)
+        (λ fault. IsRefusedIn Folded (for_report value) input.now fault) }
 {
     match folded_report(alloc, hashing, input) {
         Ok(text) => Ok(text),
@@ -124,8 +126,8 @@ fn profile_top(
     input: &[u8],
 ) -> Result<Vec<u8>, ToolFault>
     ensures { MatchResult result
-        (λ text. IsAnswerOfProfile value.now input.now (Top rank count) text.items)
-        (λ fault. IsRefusedIn Pprof value.now input.now fault) }
+        (λ text. IsAnswerOfAll Pprof value.now input.now (Top rank count) text.items)
+        (λ fault. IsRefusedIn Pprof (for_report value.now) input.now fault) }
 {
     let profile = match decode(alloc, input) {
         Ok(profile) => profile,
@@ -165,7 +167,7 @@ pub fn export(
 ) -> Result<Vec<u8>, ToolFault>
     ensures { MatchResult result
         (λ bytes. IsExport kind.now unit.now input.now bytes.items)
-        (λ fault. IsRefusedIn Folded None input.now fault) }
+        (λ fault. IsRefusedIn Folded (for_report None) input.now fault) }
 {
     match export_folded(alloc, hashing, input, kind.as_str(), unit.as_str()) {
         Ok(bytes) => Ok(bytes),
@@ -182,7 +184,7 @@ fn merged_rows(
 ) -> Result<WeightedStacks, ToolFault>
     ensures { MatchResult result
         (λ merged. AreMergedIn source.now.format source.now.value input.now merged)
-        (λ fault. IsRefusedIn source.now.format source.now.value input.now fault) }
+        (λ fault. IsRefusedIn source.now.format (for_report source.now.value) input.now fault) }
 {
     match source.format {
         Format::Folded => merged_lines(alloc, hashing, input),
@@ -194,7 +196,7 @@ fn merged_rows(
 fn merged_lines(alloc: Global, hashing: Hashing, input: &[u8]) -> Result<WeightedStacks, ToolFault>
     ensures { (value : Option (List ℕ)) → MatchResult result
         (λ merged. AreMergedIn Folded value input.now merged)
-        (λ fault. IsRefusedIn Folded value input.now fault) }
+        (λ fault. IsRefusedIn Folded (for_report value) input.now fault) }
 {
     match merge_folded(alloc, hashing, input) {
         Ok(merged) => Ok(merged),
@@ -211,7 +213,7 @@ fn merged_samples(
 ) -> Result<WeightedStacks, ToolFault>
     ensures { MatchResult result
         (λ merged. AreMergedIn Pprof value.now input.now merged)
-        (λ fault. IsRefusedIn Pprof value.now input.now fault) }
+        (λ fault. IsRefusedIn Pprof (for_report value.now) input.now fault) }
 {
     let profile = match decode(alloc, input) {
         Ok(profile) => profile,
@@ -264,30 +266,30 @@ fn text_of(alloc: Global, answer: Answer) -> Result<Vec<u8>, NoMemory>
 
 // The program's fault for one of folded text: want of memory is one for all.
 pub(crate) fn folded_fault(fault: FoldedFault) -> ToolFault
-    ensures { result ≡ folded_fault_of fault }
+    ensures { IsToldAs FoldedFault.NoMemory (λ fault. ToolFault.Input (InputFault.Folded fault)) fault result }
 {
     match fault {
         FoldedFault::NoMemory => ToolFault::NoMemory,
-        _ => ToolFault::Folded(fault),
+        _ => ToolFault::Input(InputFault::Folded(fault)),
     }
 }
 
 // The program's fault for one of a profile.
 pub(crate) fn profile_fault(fault: ProfileFault) -> ToolFault
-    ensures { result ≡ profile_fault_of fault }
+    ensures { IsToldAs ProfileFault.NoMemory (λ fault. ToolFault.Input (InputFault.Profile fault)) fault result }
 {
     match fault {
         ProfileFault::NoMemory => ToolFault::NoMemory,
-        _ => ToolFault::Profile(fault),
+        _ => ToolFault::Input(InputFault::Profile(fault)),
     }
 }
 
 // The program's fault for one of a profile's samples.
 pub(crate) fn batch_fault(fault: BatchFault) -> ToolFault
-    ensures { result ≡ batch_fault_of fault }
+    ensures { IsToldAs BatchFault.NoMemory (λ fault. ToolFault.Input (InputFault.Batch fault)) fault result }
 {
     match fault {
         BatchFault::NoMemory => ToolFault::NoMemory,
-        _ => ToolFault::Batch(fault),
+        _ => ToolFault::Input(InputFault::Batch(fault)),
     }
 }

@@ -10,5 +10,5 @@ mod streams;
 pub use answers::{answer, export, report_on};
 pub use flame_words::{Format, Request, Source};
 pub use live_report::{NoProgress, Progress};
-pub use outcomes::{Outcome, Status, ToolFault};
+pub use outcomes::{InputFault, Outcome, Status, ToolFault};
 pub use streams::{MAX_INPUT, ReadFault, WriteFault, read_input, write_text};

@@ -1,7 +1,9 @@
 //! What `live` writes of an input.
 
 ghost use Rattle.std.specs.Prelude.{ℕ, ◌≡◌, Bool, List, MatchResult, Option};
-ghost use Rattle.flame_answers.specs.Answers.{IsBatchIn, IsLiveChoice, IsLiveRefused, IsLiveText, store_fault_of};
+ghost use Rattle.flame_answers.specs.Answers.{IsLiveText};
+ghost use Rattle.flame_answers.specs.Inputs.{IsChosen, IsIn, IsRefusedIn, IsToldAs};
+ghost use Rattle.flame_answers.specs.Inputs.Wanted.{for_store};
 ghost use Rattle.flame_words.specs.declared.request.Format.TheVariants.{Folded, Pprof};
 
 use crate::answers::{batch_fault, choice_of, folded_fault, profile_fault};
@@ -28,7 +30,7 @@ pub(crate) fn live_report<P: Progress, R: Threads + Wait + Sync>(
 ) -> Result<Vec<u8>, ToolFault>
     ensures { MatchResult result
         (λ text. IsLiveText source.now.format source.now.value options input.now text.items)
-        (λ fault. IsLiveRefused source.now.format options.all source.now.value input.now fault) }
+        (λ fault. IsRefusedIn source.now.format (for_store options.all source.now.value) input.now fault) }
 {
     let batch = live_batch(alloc, hashing, source, options.all(), input)?;
     let Ok(batch) = Arc::new(alloc, batch) else {
@@ -49,8 +51,8 @@ fn live_batch(
     input: &[u8],
 ) -> Result<Batch, ToolFault>
     ensures { MatchResult result
-        (λ batch. IsBatchIn source.now.format all source.now.value input.now batch)
-        (λ fault. IsLiveRefused source.now.format all source.now.value input.now fault) }
+        (λ batch. IsIn source.now.format (for_store all source.now.value) input.now batch)
+        (λ fault. IsRefusedIn source.now.format (for_store all source.now.value) input.now fault) }
 {
     match source.format {
         Format::Folded => folded_batch(alloc, hashing, input),
@@ -61,8 +63,8 @@ fn live_batch(
 /// The batch of folded text.
 fn folded_batch(alloc: Global, hashing: Hashing, input: &[u8]) -> Result<Batch, ToolFault>
     ensures { (all : Bool) (value : Option (List ℕ)) → MatchResult result
-        (λ batch. IsBatchIn Folded all value input.now batch)
-        (λ fault. IsLiveRefused Folded all value input.now fault) }
+        (λ batch. IsIn Folded (for_store all value) input.now batch)
+        (λ fault. IsRefusedIn Folded (for_store all value) input.now fault) }
 {
     match read_folded_with(alloc, hashing, input) {
         Ok(batch) => Ok(batch),
@@ -79,8 +81,8 @@ fn profile_batch(
     input: &[u8],
 ) -> Result<Batch, ToolFault>
     ensures { MatchResult result
-        (λ batch. IsBatchIn Pprof all value.now input.now batch)
-        (λ fault. IsLiveRefused Pprof all value.now input.now fault) }
+        (λ batch. IsIn Pprof (for_store all value.now) input.now batch)
+        (λ fault. IsRefusedIn Pprof (for_store all value.now) input.now fault) }
 {
     let profile = match decode(alloc, input) {
         Ok(profile) => profile,
@@ -94,7 +96,7 @@ fn profile_batch(
 
 /// The choice of one value or of all.
 fn live_choice<'a>(all: bool, value: &'a Option<Text>) -> ValueChoice<'a>
-    ensures { IsLiveChoice all value.entry.now result }
+    ensures { IsChosen (for_store all value.entry.now) result }
 {
     if all {
         ValueChoice::All
@@ -105,7 +107,7 @@ fn live_choice<'a>(all: bool, value: &'a Option<Text>) -> ValueChoice<'a>
 
 // The program's fault for one of the store: want of memory is one for all.
 fn store_fault(fault: LiveFault) -> ToolFault
-    ensures { result ≡ store_fault_of fault }
+    ensures { IsToldAs LiveFault.NoMemory ToolFault.Live fault result }
 {
     match fault {
         LiveFault::NoMemory => ToolFault::NoMemory,

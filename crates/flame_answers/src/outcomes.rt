@@ -11,15 +11,38 @@ use profile_samples::BatchFault;
 use std::error::Error;
 use std::fmt;
 
-/// A fault that ends the program. Its `Display` is what the program says of it.
+/// Why an input has no rows.
 #[derive(Clone, Copy, Debug, PartialEq, Eq)]
-pub enum ToolFault {
-    /// The input isn't folded text.
+pub enum InputFault {
+    /// It isn't folded text.
     Folded(FoldedFault),
-    /// The input is no profile.
+    /// It is no profile.
     Profile(ProfileFault),
     /// The profile's samples give no rows.
     Batch(BatchFault),
+}
+
+impl Error for InputFault {}
+
+impl fmt::Display for InputFault {
+    ghost use Rattle.std.specs.Prelude.{None};
+
+    ghost output = { λ _. None };
+
+    fn fmt<W: fmt::Write>(&self, f: &mut fmt::Formatter<W>) -> fmt::Result {
+        match self {
+            InputFault::Folded(fault) => write!(f, "{fault}"),
+            InputFault::Profile(fault) => write!(f, "{fault}"),
+            InputFault::Batch(fault) => write!(f, "{fault}"),
+        }
+    }
+}
+
+/// A fault that ends the program. Its `Display` is what the program says of it.
+#[derive(Clone, Copy, Debug, PartialEq, Eq)]
+pub enum ToolFault {
+    /// The input is refused.
+    Input(InputFault),
     /// A focus or an ignored name can't be a name.
     Name,
     /// There is no session left for a warm start.
@@ -43,9 +66,7 @@ impl fmt::Display for ToolFault {
 
     fn fmt<W: fmt::Write>(&self, f: &mut fmt::Formatter<W>) -> fmt::Result {
         match self {
-            ToolFault::Folded(fault) => write!(f, "{fault}"),
-            ToolFault::Profile(fault) => write!(f, "{fault}"),
-            ToolFault::Batch(fault) => write!(f, "{fault}"),
+            ToolFault::Input(fault) => write!(f, "{fault}"),
             ToolFault::Live(fault) => write!(f, "{fault}"),
             ToolFault::Name => f.write_str("C1 Name"),
             ToolFault::Sessions => f.write_str("C2 Sessions"),
@@ -117,12 +138,7 @@ impl Outcome {
     {
         match self {
             Outcome::Done => 0,
-            Outcome::Fault(
-                ToolFault::Folded(_)
-                | ToolFault::Profile(_)
-                | ToolFault::Batch(_)
-                | ToolFault::TooLong,
-            ) => 1,
+            Outcome::Fault(ToolFault::Input(_) | ToolFault::TooLong) => 1,
             Outcome::Words(_) | Outcome::Fault(ToolFault::Name | ToolFault::Sessions) => 2,
             Outcome::Fault(ToolFault::Read | ToolFault::Write) => 3,
             Outcome::Fault(ToolFault::NoMemory) => 4,

@@ -4,9 +4,6 @@ use Rattle.std.proofs.Common.{◌∙◌, subst, arith, length-append}
 use Rattle.std.specs.Prelude.{◌↔◌, Bool, true, false, cond, is_some}
 use Rattle.std.proofs.lemmas.Bool.{false≢true}
 use Rattle.std.proofs.lemmas.List.{append-nil}
-use Rattle.pprof_profile.specs.declared.faults.ProfileFault.{ProfileFault}
-use Rattle.folded_text.specs.declared.folded.FoldedFault.{FoldedFault}
-use Rattle.profile_samples.specs.declared.sampling.BatchFault.{BatchFault}
 use Rattle.flame_answers.specs.Answers.{IsAnswer, IsInputFault, IsReadable}
 use Rattle.flame_answers.specs.Parts.{IsWholeInput, TakesExactly}
 use Rattle.flame_answers.specs.Outcomes.{code_of, live_code_of}
@@ -15,8 +12,7 @@ use Rattle.flame_words.specs.Words.{Reading, reading_of, request_in, request_of}
 use Rattle.flame_words.specs.Words.Reading.{crowded, misnamed, refused}
 use Rattle.flame_answers.specs.declared.outcomes.Outcome.{Outcome}
 use Rattle.flame_answers.specs.declared.outcomes.Outcome.TheVariants.{Done, Words, Fault}
-use Rattle.flame_answers.specs.declared.outcomes.ToolFault.TheVariants.{Folded, Profile, Batch, Name, Sessions, Read}
-use Rattle.flame_answers.specs.declared.outcomes.ToolFault.TheVariants.{Write, TooLong, NoMemory}
+use Rattle.flame_answers.specs.declared.outcomes.ToolFault.TheVariants.{Name, Sessions, Read, Write, TooLong, NoMemory}
 use Rattle.flame_answers.specs.declared.outcomes.ToolFault.TheVariants as tool
 use Rattle.flame_words.specs.declared.request.Request.{Request}
 use Rattle.flame_words.specs.declared.request.Request.TheVariants.{Report, Export, Live}
@@ -81,25 +77,6 @@ readable (Report source query) input text this = (this.rows, this.spelled)
 readable (Export kind unit) input text this = (this.rows, this.spelled)
 readable (Live source options) input text this = (this.batch, this.spelled)
 
--- an input with a fault has none
-no_text : (request : Request) (input : List ℕ) (fault : FoldedFault)
-    → IsInputFault request input (Folded fault) → IsReadable request input → ⊥
-no_text (Report source query) input fault first read = first.1 read.0 read.1
-no_text (Export kind unit) input fault first read = first.1 read.0 read.1
-no_text (Live source options) input fault first read = first.3 read.0 read.1
-
-no_profile : (request : Request) (input : List ℕ) (fault : ProfileFault)
-    → IsInputFault request input (Profile fault) → IsReadable request input → ⊥
-no_profile (Report source query) input fault first read = first.1 read.0 read.1
-no_profile (Export kind unit) input fault first read = first.1 read.0 read.1
-no_profile (Live source options) input fault first read = first.3 read.0 read.1
-
-no_samples : (request : Request) (input : List ℕ) (fault : BatchFault)
-    → IsInputFault request input (Batch fault) → IsReadable request input → ⊥
-no_samples (Report source query) input fault first read = first.1 read.0 read.1
-no_samples (Export kind unit) input fault first read = first.1 read.0 read.1
-no_samples (Live source options) input fault first read = first.3 read.0 read.1
-
 -- what happens to a store ends a run of `live` with 4 or 5
 abbrev code_where : Bool → ℕ
 code_where wanting = cond wanting 4 5
@@ -113,8 +90,8 @@ live_codes fault = by (is_shortage fault)
 
 no_store : (request : Request) (input : List ℕ) (fault : LiveFault) (code : ℕ)
     → IsInputFault request input (tool.Live fault) → IsUntroubled request code → code ≢ 5
-no_store (Report source query) input fault code first calm = absurd first
-no_store (Export kind unit) input fault code first calm = absurd first
+no_store (Report source query) input fault code first calm = absurd first.0
+no_store (Export kind unit) input fault code first calm = absurd first.0
 no_store (Live source options) input fault code first calm = calm
 
 by_store : (code : ℕ) (request : Request) (limit : ℕ) (input : List ℕ) (fault : LiveFault)
@@ -139,15 +116,10 @@ decides words limit unread left before after Done code request end is asked =
     accepted_at code request limit unread is (omega (arith, short, long), own)
 decides words limit unread left before after (Words text) code request end is asked =
     absurd (no_request words request refused refl end.0 asked)
-decides words limit unread left before after (Fault (Folded fault)) code request end is asked =
-    refused_at code request limit unread is (refused_input words limit unread left request
-    end.0.request end.0.input asked end.0.asked end.0.whole (no_text end.0.request end.0.input fault end.0.first))
-decides words limit unread left before after (Fault (Profile fault)) code request end is asked =
-    refused_at code request limit unread is (refused_input words limit unread left request end.0.request
-    end.0.input asked end.0.asked end.0.whole (no_profile end.0.request end.0.input fault end.0.first))
-decides words limit unread left before after (Fault (Batch fault)) code request end is asked =
-    refused_at code request limit unread is (refused_input words limit unread left request end.0.request
-    end.0.input asked end.0.asked end.0.whole (no_samples end.0.request end.0.input fault end.0.first))
+decides words limit unread left before after (Fault (tool.Input fault)) code request end is asked =
+    let this = end.0 in
+    refused_at code request limit unread is (refused_input words limit unread left request this.request this.input
+    asked this.asked this.whole (λ read. this.first.1 read.0 read.1))
 decides words limit unread left before after (Fault (tool.Live fault)) code request end is asked =
     by_store code request limit unread fault is
     (λ calm. no_store end.0.request end.0.input fault code end.0.first (subst (λ (r : Request). IsUntroubled r code)

@@ -6,12 +6,10 @@ use Rattle.flame_answers.specs.Parts.{IsWholeInput, LeavesAfterFault, TakesAtMos
 use Rattle.flame_program.specs.Program.{EndsBy, EndsByFault, IsAsked, read_fault_of}
 use Rattle.flame_answers.specs.declared.outcomes.Outcome.{Outcome}
 use Rattle.flame_answers.specs.declared.outcomes.Outcome.TheVariants.{Done, Words, Fault}
-use Rattle.flame_answers.specs.declared.outcomes.ToolFault.TheVariants.{Folded, Profile, Batch, Name, Sessions, Read}
-use Rattle.flame_answers.specs.declared.outcomes.ToolFault.TheVariants.{Write, TooLong, NoMemory}
+use Rattle.flame_answers.specs.declared.outcomes.ToolFault.TheVariants.{Name, Sessions, Read, Write, TooLong, NoMemory}
 use Rattle.flame_answers.specs.declared.outcomes.ToolFault.{ToolFault}
 use Rattle.flame_answers.specs.declared.outcomes.ToolFault.TheVariants as tool
 use Rattle.flame_words.specs.declared.request.Request.{Request}
-use Rattle.flame_words.specs.declared.request.Request.TheVariants.{Report, Export, Live}
 use Rattle.flame_answers.specs.Answers.{IsInputFault}
 use Rattle.flame_words.specs.Words.{request_of}
 use Rattle.flame_answers.specs.declared.streams.ReadFault.{ReadFault}
@@ -43,11 +41,7 @@ pub takes_at_most : (words : List (List ℕ)) (limit : ℕ) (unread left before 
     → EndsBy words limit unread left before after cause → TakesAtMost (limit + 1) unread left
 takes_at_most words limit unread left before after Done end = whole_taken limit unread left end.1.input end.1.whole
 takes_at_most words limit unread left before after (Words text) end = nothing_taken (limit + 1) unread left end.1
-takes_at_most words limit unread left before after (Fault (Folded fault)) end =
-    whole_taken limit unread left end.0.input end.0.whole
-takes_at_most words limit unread left before after (Fault (Profile fault)) end =
-    whole_taken limit unread left end.0.input end.0.whole
-takes_at_most words limit unread left before after (Fault (Batch fault)) end =
+takes_at_most words limit unread left before after (Fault (tool.Input fault)) end =
     whole_taken limit unread left end.0.input end.0.whole
 takes_at_most words limit unread left before after (Fault (tool.Live fault)) end =
     whole_taken limit unread left end.0.input end.0.whole
@@ -60,54 +54,24 @@ takes_at_most words limit unread left before after (Fault TooLong) end =
     let taken = end.1 in (taken.0, omega (arith, taken.1), taken.2)
 takes_at_most words limit unread left before after (Fault NoMemory) end = one_more_taken limit unread left end.0
 
--- an input is refused by none of the program's other faults
-never_name : (request : Request) (input : List ℕ) → IsInputFault request input Name → ⊥
-never_name (Report source query) input first = first
-never_name (Export kind unit) input first = first
-never_name (Live source options) input first = first
-
-never_sessions : (request : Request) (input : List ℕ) → IsInputFault request input Sessions → ⊥
-never_sessions (Report source query) input first = first
-never_sessions (Export kind unit) input first = first
-never_sessions (Live source options) input first = first
-
-never_read : (request : Request) (input : List ℕ) → IsInputFault request input Read → ⊥
-never_read (Report source query) input first = first
-never_read (Export kind unit) input first = first
-never_read (Live source options) input first = first
-
-never_write : (request : Request) (input : List ℕ) → IsInputFault request input Write → ⊥
-never_write (Report source query) input first = first
-never_write (Export kind unit) input first = first
-never_write (Live source options) input first = first
-
-never_too_long : (request : Request) (input : List ℕ) → IsInputFault request input TooLong → ⊥
-never_too_long (Report source query) input first = first
-never_too_long (Export kind unit) input first = first
-never_too_long (Live source options) input first = first
-
 -- an input that isn't answered ends the run before anything is written
 pub ends_by_input_fault : (words : List (List ℕ))
     (limit : ℕ) (unread left before : Option (List ℕ)) (request : Request) (input : List ℕ) (fault : ToolFault)
     → request_of words ≡ Some request → IsWholeInput limit unread left input
     → IsInputFault request input fault → EndsByFault words limit unread left before before fault
-ends_by_input_fault words limit unread left before request input (Folded fault) asked whole first =
-    (record { request = request; asked = asked; input = input; whole = whole; first = first }, Keeps-refl before)
-ends_by_input_fault words limit unread left before request input (Profile fault) asked whole first =
-    (record { request = request; asked = asked; input = input; whole = whole; first = first }, Keeps-refl before)
-ends_by_input_fault words limit unread left before request input (Batch fault) asked whole first =
+ends_by_input_fault words limit unread left before request input (tool.Input fault) asked whole first =
     (record { request = request; asked = asked; input = input; whole = whole; first = first }, Keeps-refl before)
 ends_by_input_fault words limit unread left before request input Name asked whole first =
-    absurd (never_name request input first)
+    absurd first
 ends_by_input_fault words limit unread left before request input Sessions asked whole first =
-    absurd (never_sessions request input first)
+    absurd first
 ends_by_input_fault words limit unread left before request input (tool.Live fault) asked whole first =
     (record { request = request; asked = asked; input = input; whole = whole; first = first }, Keeps-refl before)
 ends_by_input_fault words limit unread left before request input Read asked whole first =
-    absurd (never_read request input first)
+    absurd first
 ends_by_input_fault words limit unread left before request input Write asked whole first =
-    absurd (never_write request input first)
+    absurd first
 ends_by_input_fault words limit unread left before request input TooLong asked whole first =
-    absurd (never_too_long request input first)
+    absurd first
 ends_by_input_fault words limit unread left before request input NoMemory asked whole first =
     ((input, whole.short, whole.taken), Keeps-refl before)

@@ -9,8 +9,7 @@ use Rattle.flame_answers.specs.declared.outcomes.Outcome.{Outcome}
 use Rattle.flame_answers.specs.declared.outcomes.Outcome.TheVariants.{Done, Words, Fault}
 use Rattle.flame_answers.specs.declared.outcomes.ToolFault.{ToolFault}
 use Rattle.flame_answers.specs.declared.outcomes.ToolFault.TheVariants as tool
-use Rattle.flame_answers.specs.declared.outcomes.ToolFault.TheVariants.{Folded, Profile, Batch, Name, Sessions, Read}
-use Rattle.flame_answers.specs.declared.outcomes.ToolFault.TheVariants.{Write, TooLong, NoMemory}
+use Rattle.flame_answers.specs.declared.outcomes.ToolFault.TheVariants.{Name, Sessions, Read, Write, TooLong, NoMemory}
 use Rattle.flame_answers.specs.declared.streams.ReadFault.{ReadFault}
 use Rattle.flame_answers.specs.declared.streams.ReadFault.TheVariants as reading
 use Rattle.flame_words.specs.declared.words.WordsFault.{WordsFault}
@@ -56,12 +55,8 @@ pub record IsRefusedInput (words : List (List ℕ)) (limit : ℕ) (unread left :
 -- what a fault says of the reader. Nothing was written, but at a fault of writing.
 abbrev pub EndsByFault : List (List ℕ) → ℕ → Option (List ℕ) → Option (List ℕ) → Option (List ℕ)
     → Option (List ℕ) → ToolFault → Type 0
-EndsByFault words limit unread left before after (Folded fault) =
-    IsRefusedInput words limit unread left (Folded fault) × Keeps before after
-EndsByFault words limit unread left before after (Profile fault) =
-    IsRefusedInput words limit unread left (Profile fault) × Keeps before after
-EndsByFault words limit unread left before after (Batch fault) =
-    IsRefusedInput words limit unread left (Batch fault) × Keeps before after
+EndsByFault words limit unread left before after (tool.Input fault) =
+    IsRefusedInput words limit unread left (tool.Input fault) × Keeps before after
 EndsByFault words limit unread left before after (tool.Live fault) =
     IsRefusedInput words limit unread left (tool.Live fault) × Keeps before after
 EndsByFault words limit unread left before after Name = IsMisnamed words × Keeps unread left × Keeps before after

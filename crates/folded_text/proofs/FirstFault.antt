@@ -15,87 +15,87 @@ use Rattle.folded_text.proofs.Reading.{AreRowLines-same, IsFirstFault-folded, fa
 abbrev IsOneFault : FoldedFault → FoldedFault → Type 0
 IsOneFault fault other = (fault ≡ NoMemory) ⊎ ((other ≡ NoMemory) ⊎ (fault ≡ other))
 
-NotUtf8-NoCount : (held number : ℕ) (line : List ℕ) (x y : ℕ)
-    → IsLineFault held number line (NotUtf8 x) → IsLineFault held number line (NoCount y) → ⊥
-NotUtf8-NoCount held number line x y ha hb = ha.1 hb.1
+NotUtf8-NoCount : (earlier number : ℕ) (line : List ℕ) (x y : ℕ)
+    → IsLineFault earlier number line (NotUtf8 x) → IsLineFault earlier number line (NoCount y) → ⊥
+NotUtf8-NoCount earlier number line x y ha hb = ha.1 hb.1
 
-NotUtf8-Count : (held number : ℕ) (line : List ℕ) (x y : ℕ)
-    → IsLineFault held number line (NotUtf8 x) → IsLineFault held number line (Count y) → ⊥
-NotUtf8-Count held number line x y ha hb = ha.1 hb.1
+NotUtf8-Count : (earlier number : ℕ) (line : List ℕ) (x y : ℕ)
+    → IsLineFault earlier number line (NotUtf8 x) → IsLineFault earlier number line (Count y) → ⊥
+NotUtf8-Count earlier number line x y ha hb = ha.1 hb.1
 
-NotUtf8-Depth : (held number : ℕ) (line : List ℕ) (x y : ℕ)
-    → IsLineFault held number line (NotUtf8 x) → IsLineFault held number line (Depth y) → ⊥
-NotUtf8-Depth held number line x y ha hb = ha.1 hb.1
+NotUtf8-Depth : (earlier number : ℕ) (line : List ℕ) (x y : ℕ)
+    → IsLineFault earlier number line (NotUtf8 x) → IsLineFault earlier number line (Depth y) → ⊥
+NotUtf8-Depth earlier number line x y ha hb = ha.1 hb.1
 
-NotUtf8-Heavy : (held number : ℕ) (line : List ℕ) (x y : ℕ)
-    → IsLineFault held number line (NotUtf8 x) → IsLineFault held number line (Heavy y) → ⊥
-NotUtf8-Heavy held number line x y ha hb = ha.1 hb.2.utf8
+NotUtf8-Heavy : (earlier number : ℕ) (line : List ℕ) (x y : ℕ)
+    → IsLineFault earlier number line (NotUtf8 x) → IsLineFault earlier number line (Heavy y) → ⊥
+NotUtf8-Heavy earlier number line x y ha hb = ha.1 hb.2.utf8
 
-NoCount-Count : (held number : ℕ) (line : List ℕ) (x y : ℕ)
-    → IsLineFault held number line (NoCount x) → IsLineFault held number line (Count y) → ⊥
-NoCount-Count held number line x y ha hb = ha.2 hb.2 hb.3 hb.4
+NoCount-Count : (earlier number : ℕ) (line : List ℕ) (x y : ℕ)
+    → IsLineFault earlier number line (NoCount x) → IsLineFault earlier number line (Count y) → ⊥
+NoCount-Count earlier number line x y ha hb = ha.2 hb.2 hb.3 hb.4
 
-NoCount-Depth : (held number : ℕ) (line : List ℕ) (x y : ℕ)
-    → IsLineFault held number line (NoCount x) → IsLineFault held number line (Depth y) → ⊥
-NoCount-Depth held number line x y ha hb = ha.2 hb.2 hb.3 hb.4
+NoCount-Depth : (earlier number : ℕ) (line : List ℕ) (x y : ℕ)
+    → IsLineFault earlier number line (NoCount x) → IsLineFault earlier number line (Depth y) → ⊥
+NoCount-Depth earlier number line x y ha hb = ha.2 hb.2 hb.3 hb.4
 
-NoCount-Heavy : (held number : ℕ) (line : List ℕ) (x y : ℕ)
-    → IsLineFault held number line (NoCount x) → IsLineFault held number line (Heavy y) → ⊥
-NoCount-Heavy held number line x y ha hb = ha.2 hb.2.counted.0 hb.2.counted.1 hb.2.counted.2.count
+NoCount-Heavy : (earlier number : ℕ) (line : List ℕ) (x y : ℕ)
+    → IsLineFault earlier number line (NoCount x) → IsLineFault earlier number line (Heavy y) → ⊥
+NoCount-Heavy earlier number line x y ha hb = ha.2 hb.2.counted.0 hb.2.counted.1 hb.2.counted.2.count
 
-Count-Depth : (held number : ℕ) (line : List ℕ) (x y : ℕ)
-    → IsLineFault held number line (Count x) → IsLineFault held number line (Depth y) → ⊥
-Count-Depth held number line x y ha hb =
+Count-Depth : (earlier number : ℕ) (line : List ℕ) (x y : ℕ)
+    → IsLineFault earlier number line (Count x) → IsLineFault earlier number line (Depth y) → ⊥
+Count-Depth earlier number line x y ha hb =
     let same = HasCount-same line ha.2 hb.2 ha.3 hb.3 ha.4 hb.4 in
     omega (arith, ap (digits_value 10) same.1, ha.5, hb.5)
 
-Count-Heavy : (held number : ℕ) (line : List ℕ) (x y : ℕ)
-    → IsLineFault held number line (Count x) → IsLineFault held number line (Heavy y) → ⊥
-Count-Heavy held number line x y ha hb =
+Count-Heavy : (earlier number : ℕ) (line : List ℕ) (x y : ℕ)
+    → IsLineFault earlier number line (Count x) → IsLineFault earlier number line (Heavy y) → ⊥
+Count-Heavy earlier number line x y ha hb =
     let same = shared line hb.1 ha.2 ha.3 hb.2 ha.4 in
     let small = hb.2.fits in
     omega (arith, same.weight, small, ha.5)
 
-Depth-Heavy : (held number : ℕ) (line : List ℕ) (x y : ℕ)
-    → IsLineFault held number line (Depth x) → IsLineFault held number line (Heavy y) → ⊥
-Depth-Heavy held number line x y ha hb =
+Depth-Heavy : (earlier number : ℕ) (line : List ℕ) (x y : ℕ)
+    → IsLineFault earlier number line (Depth x) → IsLineFault earlier number line (Heavy y) → ⊥
+Depth-Heavy earlier number line x y ha hb =
     let same = shared line hb.1 ha.2 ha.3 hb.2 ha.4 in
     let deep = hb.2.depth in
     omega (arith, ap length same.frames, deep, ha.6)
 
-one_fault : (held number : ℕ) (line : List ℕ) (fault other : FoldedFault)
-    → IsLineFault held number line fault → IsLineFault held number line other → IsOneFault fault other
-one_fault held number line NoMemory other ha hb = inl refl
-one_fault held number line (NotUtf8 x) (NotUtf8 y) ha hb = inr (inr (ap NotUtf8 (ha.0 ∙ sym hb.0)))
-one_fault held number line (NotUtf8 x) (NoCount y) ha hb = absurd (NotUtf8-NoCount held number line x y ha hb)
-one_fault held number line (NotUtf8 x) (Count y) ha hb = absurd (NotUtf8-Count held number line x y ha hb)
-one_fault held number line (NotUtf8 x) (Depth y) ha hb = absurd (NotUtf8-Depth held number line x y ha hb)
-one_fault held number line (NotUtf8 x) (Heavy y) ha hb = absurd (NotUtf8-Heavy held number line x y ha hb)
-one_fault held number line (NotUtf8 x) NoMemory ha hb = inr (inl refl)
-one_fault held number line (NoCount x) (NotUtf8 y) ha hb = absurd (NotUtf8-NoCount held number line y x hb ha)
-one_fault held number line (NoCount x) (NoCount y) ha hb = inr (inr (ap NoCount (ha.0 ∙ sym hb.0)))
-one_fault held number line (NoCount x) (Count y) ha hb = absurd (NoCount-Count held number line x y ha hb)
-one_fault held number line (NoCount x) (Depth y) ha hb = absurd (NoCount-Depth held number line x y ha hb)
-one_fault held number line (NoCount x) (Heavy y) ha hb = absurd (NoCount-Heavy held number line x y ha hb)
-one_fault held number line (NoCount x) NoMemory ha hb = inr (inl refl)
-one_fault held number line (Count x) (NotUtf8 y) ha hb = absurd (NotUtf8-Count held number line y x hb ha)
-one_fault held number line (Count x) (NoCount y) ha hb = absurd (NoCount-Count held number line y x hb ha)
-one_fault held number line (Count x) (Count y) ha hb = inr (inr (ap Count (ha.0 ∙ sym hb.0)))
-one_fault held number line (Count x) (Depth y) ha hb = absurd (Count-Depth held number line x y ha hb)
-one_fault held number line (Count x) (Heavy y) ha hb = absurd (Count-Heavy held number line x y ha hb)
-one_fault held number line (Count x) NoMemory ha hb = inr (inl refl)
-one_fault held number line (Depth x) (NotUtf8 y) ha hb = absurd (NotUtf8-Depth held number line y x hb ha)
-one_fault held number line (Depth x) (NoCount y) ha hb = absurd (NoCount-Depth held number line y x hb ha)
-one_fault held number line (Depth x) (Count y) ha hb = absurd (Count-Depth held number line y x hb ha)
-one_fault held number line (Depth x) (Depth y) ha hb = inr (inr (ap Depth (ha.0 ∙ sym hb.0)))
-one_fault held number line (Depth x) (Heavy y) ha hb = absurd (Depth-Heavy held number line x y ha hb)
-one_fault held number line (Depth x) NoMemory ha hb = inr (inl refl)
-one_fault held number line (Heavy x) (NotUtf8 y) ha hb = absurd (NotUtf8-Heavy held number line y x hb ha)
-one_fault held number line (Heavy x) (NoCount y) ha hb = absurd (NoCount-Heavy held number line y x hb ha)
-one_fault held number line (Heavy x) (Count y) ha hb = absurd (Count-Heavy held number line y x hb ha)
-one_fault held number line (Heavy x) (Depth y) ha hb = absurd (Depth-Heavy held number line y x hb ha)
-one_fault held number line (Heavy x) (Heavy y) ha hb = inr (inr (ap Heavy (ha.0 ∙ sym hb.0)))
-one_fault held number line (Heavy x) NoMemory ha hb = inr (inl refl)
+one_fault : (earlier number : ℕ) (line : List ℕ) (fault other : FoldedFault)
+    → IsLineFault earlier number line fault → IsLineFault earlier number line other → IsOneFault fault other
+one_fault earlier number line NoMemory other ha hb = inl refl
+one_fault earlier number line (NotUtf8 x) (NotUtf8 y) ha hb = inr (inr (ap NotUtf8 (ha.0 ∙ sym hb.0)))
+one_fault earlier number line (NotUtf8 x) (NoCount y) ha hb = absurd (NotUtf8-NoCount earlier number line x y ha hb)
+one_fault earlier number line (NotUtf8 x) (Count y) ha hb = absurd (NotUtf8-Count earlier number line x y ha hb)
+one_fault earlier number line (NotUtf8 x) (Depth y) ha hb = absurd (NotUtf8-Depth earlier number line x y ha hb)
+one_fault earlier number line (NotUtf8 x) (Heavy y) ha hb = absurd (NotUtf8-Heavy earlier number line x y ha hb)
+one_fault earlier number line (NotUtf8 x) NoMemory ha hb = inr (inl refl)
+one_fault earlier number line (NoCount x) (NotUtf8 y) ha hb = absurd (NotUtf8-NoCount earlier number line y x hb ha)
+one_fault earlier number line (NoCount x) (NoCount y) ha hb = inr (inr (ap NoCount (ha.0 ∙ sym hb.0)))
+one_fault earlier number line (NoCount x) (Count y) ha hb = absurd (NoCount-Count earlier number line x y ha hb)
+one_fault earlier number line (NoCount x) (Depth y) ha hb = absurd (NoCount-Depth earlier number line x y ha hb)
+one_fault earlier number line (NoCount x) (Heavy y) ha hb = absurd (NoCount-Heavy earlier number line x y ha hb)
+one_fault earlier number line (NoCount x) NoMemory ha hb = inr (inl refl)
+one_fault earlier number line (Count x) (NotUtf8 y) ha hb = absurd (NotUtf8-Count earlier number line y x hb ha)
+one_fault earlier number line (Count x) (NoCount y) ha hb = absurd (NoCount-Count earlier number line y x hb ha)
+one_fault earlier number line (Count x) (Count y) ha hb = inr (inr (ap Count (ha.0 ∙ sym hb.0)))
+one_fault earlier number line (Count x) (Depth y) ha hb = absurd (Count-Depth earlier number line x y ha hb)
+one_fault earlier number line (Count x) (Heavy y) ha hb = absurd (Count-Heavy earlier number line x y ha hb)
+one_fault earlier number line (Count x) NoMemory ha hb = inr (inl refl)
+one_fault earlier number line (Depth x) (NotUtf8 y) ha hb = absurd (NotUtf8-Depth earlier number line y x hb ha)
+one_fault earlier number line (Depth x) (NoCount y) ha hb = absurd (NoCount-Depth earlier number line y x hb ha)
+one_fault earlier number line (Depth x) (Count y) ha hb = absurd (Count-Depth earlier number line y x hb ha)
+one_fault earlier number line (Depth x) (Depth y) ha hb = inr (inr (ap Depth (ha.0 ∙ sym hb.0)))
+one_fault earlier number line (Depth x) (Heavy y) ha hb = absurd (Depth-Heavy earlier number line x y ha hb)
+one_fault earlier number line (Depth x) NoMemory ha hb = inr (inl refl)
+one_fault earlier number line (Heavy x) (NotUtf8 y) ha hb = absurd (NotUtf8-Heavy earlier number line y x hb ha)
+one_fault earlier number line (Heavy x) (NoCount y) ha hb = absurd (NoCount-Heavy earlier number line y x hb ha)
+one_fault earlier number line (Heavy x) (Count y) ha hb = absurd (Count-Heavy earlier number line y x hb ha)
+one_fault earlier number line (Heavy x) (Depth y) ha hb = absurd (Depth-Heavy earlier number line y x hb ha)
+one_fault earlier number line (Heavy x) (Heavy y) ha hb = inr (inr (ap Heavy (ha.0 ∙ sym hb.0)))
+one_fault earlier number line (Heavy x) NoMemory ha hb = inr (inl refl)
 
 -- at one place the lines before spell the same rows, and of two places the first is a row's
 pub IsFirstFault-same : (text : List ℕ) (fault other : FoldedFault)

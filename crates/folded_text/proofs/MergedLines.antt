@@ -34,15 +34,15 @@ added_to at weight line text digits merged new (Ok done) utf8 count value small 
 added_to at weight line text digits merged new (Err fault) utf8 count value small there added fits = tt
 
 -- a row of the line's stack that can weigh no more
-pub refused_at : (at weight number held : ℕ)
+pub refused_at : (at weight number earlier : ℕ)
     (line text digits : List ℕ) (merged : List WeightedStack) (outcome : Result (Unit {0}) FoldedFault)
     → IsUtf8 line → HasCount line text digits
     → weight ≡ digits_value 10 digits → weight < 2 ^ 63 → IsPlacedAt frames_of merged text at
-    → IfErr outcome (λ fault. (fault ≡ Heavy number) × (2 ^ 63 ≤ held + weight))
-    → IfErr outcome (IsLineFault held number line)
-refused_at at weight number held line text digits merged (Ok done) utf8 count value small there fault = tt
-refused_at at weight number held line text digits merged (Err found) utf8 count value small there fault =
-    subst (IsLineFault held number line) (sym fault.0) (
+    → IfErr outcome (λ fault. (fault ≡ Heavy number) × (2 ^ 63 ≤ earlier + weight))
+    → IfErr outcome (IsLineFault earlier number line)
+refused_at at weight number earlier line text digits merged (Ok done) utf8 count value small there fault = tt
+refused_at at weight number earlier line text digits merged (Err found) utf8 count value small there fault =
+    subst (IsLineFault earlier number line) (sym fault.0) (
       refl,
       record { stack = frames_of text; weight = weight },
       IsRowLine-read line text digits weight utf8 count value there.2 small,

@@ -95,23 +95,23 @@ shared line row stack digits this count =
     }
 
 -- a line that spells a row within the total has no fault but want of memory
-faultless : (held number : ℕ) (line : List ℕ) (row : WeightedStack) (fault : FoldedFault)
-    → IsRowLine line row → held + row.weight < 2 ^ 63 → IsLineFault held number line fault → fault ≡ NoMemory
-faultless held number line row (NotUtf8 at) this fits h = absurd (h.1 this.utf8)
-faultless held number line row (NoCount at) this fits h =
+faultless : (earlier number : ℕ) (line : List ℕ) (row : WeightedStack) (fault : FoldedFault)
+    → IsRowLine line row → earlier + row.weight < 2 ^ 63 → IsLineFault earlier number line fault → fault ≡ NoMemory
+faultless earlier number line row (NotUtf8 at) this fits h = absurd (h.1 this.utf8)
+faultless earlier number line row (NoCount at) this fits h =
     absurd (h.2 this.counted.0 this.counted.1 this.counted.2.count)
-faultless held number line row (Count at) this fits h =
+faultless earlier number line row (Count at) this fits h =
     let same = shared line row h.2 h.3 this h.4 in
     let small = this.fits in
     absurd (omega (arith, same.weight, small, h.5))
-faultless held number line row (Depth at) this fits h =
+faultless earlier number line row (Depth at) this fits h =
     let same = shared line row h.2 h.3 this h.4 in
     let deep = this.depth in
     absurd (omega (arith, ap length same.frames, deep, h.6))
-faultless held number line row (Heavy at) this fits h =
+faultless earlier number line row (Heavy at) this fits h =
     let same : row.weight ≡ h.1.weight = ap (λ (r : WeightedStack). r.weight) (IsRowLine-same line row h.1 this h.2) in
     absurd (omega (arith, same, fits, h.3))
-faultless held number line row NoMemory this fits h = refl
+faultless earlier number line row NoMemory this fits h = refl
 
 -- a line among those of rows within the limit has no fault but want of memory
 pub faultless_at : (before : List (List ℕ)) (line : List ℕ) (after : List (List ℕ)) (front rows : List WeightedStack)
@@ -123,9 +123,9 @@ faultless_at before line after front rows number fault all fits known some there
     let total : total_of rows ≡ total_of (cut_rows.0 ++ cut_rows.1 ∷ cut_rows.2) = ap total_of cut_rows.3 in
     let parts = sum_by-append (λ (row : WeightedStack). row.weight) cut_rows.0 (cut_rows.1 ∷ cut_rows.2) in
     let row = sum_by-cons (λ (row : WeightedStack). row.weight) cut_rows.1 cut_rows.2 in
-    let held = ap total_of same in
+    let earlier = ap total_of same in
     faultless
-    (total_of front) number line cut_rows.1 fault cut_rows.5 (omega (arith, total, parts, row, fits, held)) there
+    (total_of front) number line cut_rows.1 fault cut_rows.5 (omega (arith, total, parts, row, fits, earlier)) there
 
 -- folded text has no first fault but want of memory
 pub IsFirstFault-folded : (text : List ℕ) (rows : List WeightedStack) (fault : FoldedFault)
@@ -258,27 +258,27 @@ IsReadTo-end text rest count rows so_far e =
     record { rows_lines = subst (λ ls. AreRowLines ls rows) (sym whole) so_far.known; total_fits = so_far.fits }
 
 -- a line whose stack text and weight don't fit has that fault
-pub IsLineFault-fitting : (held number : ℕ) (line text digits : List ℕ) (weight : ℕ) (fault : FoldedFault)
+pub IsLineFault-fitting : (earlier number : ℕ) (line text digits : List ℕ) (weight : ℕ) (fault : FoldedFault)
     → IsUtf8 line → weight < 2 ^ 63 → HasCount line text digits → weight ≡ digits_value 10 digits
-    → IsFittingFault held number text weight fault → IsLineFault held number line fault
-IsLineFault-fitting held number line text digits weight (NotUtf8 at) utf8 small count value h = absurd h
-IsLineFault-fitting held number line text digits weight (NoCount at) utf8 small count value h = absurd h
-IsLineFault-fitting held number line text digits weight (Count at) utf8 small count value h = absurd h
-IsLineFault-fitting held number line text digits weight (Depth at) utf8 small count value h =
+    → IsFittingFault earlier number text weight fault → IsLineFault earlier number line fault
+IsLineFault-fitting earlier number line text digits weight (NotUtf8 at) utf8 small count value h = absurd h
+IsLineFault-fitting earlier number line text digits weight (NoCount at) utf8 small count value h = absurd h
+IsLineFault-fitting earlier number line text digits weight (Count at) utf8 small count value h = absurd h
+IsLineFault-fitting earlier number line text digits weight (Depth at) utf8 small count value h =
     (h.0, utf8, text, digits, count, omega (arith, value, small), h.1)
-IsLineFault-fitting held number line text digits weight (Heavy at) utf8 small count value h = (
+IsLineFault-fitting earlier number line text digits weight (Heavy at) utf8 small count value h = (
   h.0,
   record { stack = frames_of text; weight = weight },
   IsRowLine-read line text digits weight utf8 count value h.1 small,
   h.2,
 )
-IsLineFault-fitting held number line text digits weight NoMemory utf8 small count value h = absurd h
+IsLineFault-fitting earlier number line text digits weight NoMemory utf8 small count value h = absurd h
 
 -- where memory runs out the line spells a row that can follow
-pub IsLineFault-memory : (held total number : ℕ) (line text digits : List ℕ) (depth weight : ℕ)
-    → total ≡ held → IsUtf8 line → total + weight < 2 ^ 63 → HasCount line text digits → weight ≡ digits_value 10 digits
-    → depth ≡ length (frames_of text) → depth ≤ 65535 → IsLineFault held number line NoMemory
-IsLineFault-memory held total number line text digits depth weight same utf8 fits count value frames most = (
+pub IsLineFault-memory : (earlier total number : ℕ) (line text digits : List ℕ) (depth weight : ℕ)
+    → total ≡ earlier → IsUtf8 line → total + weight < 2 ^ 63 → HasCount line text digits → weight ≡ digits_value 10 digits
+    → depth ≡ length (frames_of text) → depth ≤ 65535 → IsLineFault earlier number line NoMemory
+IsLineFault-memory earlier total number line text digits depth weight same utf8 fits count value frames most = (
   record { stack = frames_of text; weight = weight },
   IsRowLine-read line text digits weight utf8 count value (omega arith) (omega arith),
   omega arith,

@@ -29,6 +29,6 @@ pub waits : (rows merged sums new : List WeightedStack) (row : WeightedStack)
     → (total_of rows + row.weight < 2 ^ 63) × AreMergedSoFar (rows ++ row ∷ []) new
 waits rows merged sums new row same is adds =
     let so_far : AreMergedSoFar rows sums = subst (AreMergedSoFar rows) is same in (
-      subst (λ held. held + row.weight < 2 ^ 63) so_far.total adds.fits,
+      subst (λ earlier. earlier + row.weight < 2 ^ 63) so_far.total adds.fits,
       AreMergedSoFar-row rows (rows ++ row ∷ []) sums new row so_far adds refl,
     )

@@ -65,29 +65,29 @@ IsCountFault number line (Depth at) = ⊥
 IsCountFault number line (Heavy at) = ⊥
 IsCountFault number line NoMemory = ⊥
 
--- why a stack text and a weight give no row that can follow rows of the weight `held`
+-- why a stack text and a weight give no row that can follow rows of the weight `earlier`
 abbrev pub IsFittingFault : ℕ → ℕ → List ℕ → ℕ → FoldedFault → Type 0
-IsFittingFault held number text weight (NotUtf8 at) = ⊥
-IsFittingFault held number text weight (NoCount at) = ⊥
-IsFittingFault held number text weight (Count at) = ⊥
-IsFittingFault held number text weight (Depth at) = (at ≡ number) × (65535 < length (frames_of text))
-IsFittingFault held number text weight (Heavy at) = (at ≡ number) × (length (frames_of text) ≤ 65535)
-    × (2 ^ 63 ≤ held + weight)
-IsFittingFault held number text weight NoMemory = ⊥
+IsFittingFault earlier number text weight (NotUtf8 at) = ⊥
+IsFittingFault earlier number text weight (NoCount at) = ⊥
+IsFittingFault earlier number text weight (Count at) = ⊥
+IsFittingFault earlier number text weight (Depth at) = (at ≡ number) × (65535 < length (frames_of text))
+IsFittingFault earlier number text weight (Heavy at) = (at ≡ number) × (length (frames_of text) ≤ 65535)
+    × (2 ^ 63 ≤ earlier + weight)
+IsFittingFault earlier number text weight NoMemory = ⊥
 
--- Why a line, which isn't empty, adds no row to rows of the weight `held`. Each case says that the ones before it don't
+-- Why a line, which isn't empty, adds no row to rows of the weight `earlier`. Each case says that the ones before it don't
 -- stand, and memory runs out only at a line without a fault: one that spells a row which can follow.
 abbrev pub IsLineFault : ℕ → ℕ → List ℕ → FoldedFault → Type 0
-IsLineFault held number line (NotUtf8 at) = (at ≡ number) × ¬ IsUtf8 line
-IsLineFault held number line (NoCount at) = (at ≡ number) × IsUtf8 line
+IsLineFault earlier number line (NotUtf8 at) = (at ≡ number) × ¬ IsUtf8 line
+IsLineFault earlier number line (NoCount at) = (at ≡ number) × IsUtf8 line
     × ((stack digits : List ℕ) → ¬ HasCount line stack digits)
-IsLineFault held number line (Count at) = (at ≡ number) × IsUtf8 line × (stack : List ℕ) × (digits : List ℕ)
+IsLineFault earlier number line (Count at) = (at ≡ number) × IsUtf8 line × (stack : List ℕ) × (digits : List ℕ)
     × HasCount line stack digits × (2 ^ 63 ≤ digits_value 10 digits)
-IsLineFault held number line (Depth at) = (at ≡ number) × IsUtf8 line × (stack : List ℕ) × (digits : List ℕ)
+IsLineFault earlier number line (Depth at) = (at ≡ number) × IsUtf8 line × (stack : List ℕ) × (digits : List ℕ)
     × HasCount line stack digits × (digits_value 10 digits < 2 ^ 63) × (65535 < length (frames_of stack))
-IsLineFault held number line (Heavy at) = (at ≡ number) × (row : WeightedStack) × IsRowLine line row
-    × (2 ^ 63 ≤ held + row.weight)
-IsLineFault held number line NoMemory = (row : WeightedStack) × IsRowLine line row × (held + row.weight < 2 ^ 63)
+IsLineFault earlier number line (Heavy at) = (at ≡ number) × (row : WeightedStack) × IsRowLine line row
+    × (2 ^ 63 ≤ earlier + row.weight)
+IsLineFault earlier number line NoMemory = (row : WeightedStack) × IsRowLine line row × (earlier + row.weight < 2 ^ 63)
 
 -- The first fault of a text: it stands at a line, and the lines before it spell rows within the limit. Lines count from
 -- 1, empty ones too. Where memory ran out, the lines up to there have no fault.

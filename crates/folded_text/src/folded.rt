@@ -106,25 +106,30 @@ pub(crate) fn stack_and_weight<'a>(
     }
 }
 
-/// Whether a row of so many frames can follow rows of the weight `held`.
-pub(crate) fn fitting(depth: usize, weight: u64, held: u64, number: u64) -> Result<(), FoldedFault>
-    requires { held < 2 ^ 63 }
-    ensures fits { OnOk result ((depth ≤ MAX_DEPTH) × (held + weight < 2 ^ 63)) }
+/// Whether a row of so many frames can follow rows of the weight `earlier`.
+pub(crate) fn fitting(
+    depth: usize,
+    weight: u64,
+    earlier: u64,
+    number: u64,
+) -> Result<(), FoldedFault>
+    requires { earlier < 2 ^ 63 }
+    ensures fits { OnOk result ((depth ≤ MAX_DEPTH) × (earlier + weight < 2 ^ 63)) }
     ensures fault { IfErr result
         (λ fault. (text : List ℕ) → depth ≡ length (frames_of text)
-        → IsFittingFault held number text weight fault) }
+        → IsFittingFault earlier number text weight fault) }
 {
     if depth > MAX_DEPTH {
         return Err(FoldedFault::Depth { line: number });
     }
-    if weight > MAX_TOTAL - held {
+    if weight > MAX_TOTAL - earlier {
         return Err(FoldedFault::Heavy { line: number });
     }
     Ok(())
 }
 
 /// The frames of a line's stack, root first, in the place of others, and the line's weight, where its row can follow
-/// rows of the weight `held`.
+/// rows of the weight `earlier`.
 ///
 /// # Errors
 ///
@@ -132,23 +137,23 @@ pub(crate) fn fitting(depth: usize, weight: u64, held: u64, number: u64) -> Resu
 pub fn read_frames<'a>(
     frames: &mut Vec<&'a str>,
     line: &'a [u8],
-    held: u64,
+    earlier: u64,
     number: u64,
 ) -> Result<u64, FoldedFault>
     requires one_line { All (λ byte. byte ≢ 10) line.now }
-    requires held { held < 2 ^ 63 }
-    ensures spelled { IfOk result (λ weight. (held + weight < 2 ^ 63)
+    requires earlier { earlier < 2 ^ 63 }
+    ensures spelled { IfOk result (λ weight. (earlier + weight < 2 ^ 63)
         × IsRowLine line.now (record { stack = map (λ frame. frame.now) frames.new.items; weight = weight })) }
     ensures names { OnOk result (All IsName (map (λ frame. frame.now) frames.new.items)) }
-    ensures fault { IfErr result (IsLineFault held number line.now) }
+    ensures fault { IfErr result (IsLineFault earlier number line.now) }
 {
     let (stack, weight) = stack_and_weight(line, number)?;
     let Ok(()) = replace_by_text(frames, stack) else {
         // a line's own fault comes before want of memory at it
-        fitting(measured(stack).0, weight, held, number)?;
+        fitting(measured(stack).0, weight, earlier, number)?;
         return Err(FoldedFault::NoMemory);
     };
-    fitting(frames.len(), weight, held, number)?;
+    fitting(frames.len(), weight, earlier, number)?;
     Ok(weight)
 }
 

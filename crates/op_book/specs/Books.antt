@@ -97,12 +97,12 @@ IsTurnFault entries limit sessions session turn NoMemory = ⊥
 IsTurnFault entries limit sessions session turn Version = ⊥
 
 -- what all rows that count weigh, by a value
-abbrev pub weight_held : BookState → ℕ → ℕ
-weight_held book value = total_of (rows_at value (profile_after (operations_of book.entries)))
+abbrev pub weight_so_far : BookState → ℕ → ℕ
+weight_so_far book value = total_of (rows_at value (profile_after (operations_of book.entries)))
 
 -- the rows that an operation adds keep the limit of this value
 abbrev pub HasRoomFor : BookState → PlainOp → ℕ → Type 0
-HasRoomFor book op value = weight_held book value + total_of (rows_at value (rows_added op)) < 2 ^ 63
+HasRoomFor book op value = weight_so_far book value + total_of (rows_at value (rows_added op)) < 2 ^ 63
 
 -- nothing but want of memory keeps the book from the operation
 pub record IsTaken (book : BookState) (session turn : ℕ) (op : PlainOp) : Type 0 where
@@ -114,7 +114,7 @@ pub record IsTaken (book : BookState) (session turn : ℕ) (op : PlainOp) : Type
 pub record IsHeavyFor (book : BookState) (op : PlainOp) (value held : ℕ) : Type 0 where
   pub width : FitsWidth book.width op
   pub within : value < book.width
-  pub held_is : held ≡ weight_held book value
+  pub held_is : held ≡ weight_so_far book value
   pub light : held < 2 ^ 63
   pub heavy : 2 ^ 63 ≤ held + total_of (rows_at value (rows_added op))
   pub lower : (below : ℕ) → below < value → HasRoomFor book op below

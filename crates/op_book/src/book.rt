@@ -2,7 +2,7 @@
 
 ghost use Rattle.std.specs.Prelude.{◌≡◌, ◌<◌, ◌≤◌, ◌^◌, ℕ, [], length, IfOk};
 ghost use Rattle.call_tree.specs.State.{total_in, weights_of};
-ghost use Rattle.op_book.specs.Books.{IsOrderly, IsReplay, IsTreeAfter, weight_held};
+ghost use Rattle.op_book.specs.Books.{IsOrderly, IsReplay, IsTreeAfter, weight_so_far};
 ghost use Rattle.op_book.specs.Operations.{reset};
 ghost use Rattle.profile_rows.specs.Values.{value_of};
 
@@ -190,11 +190,11 @@ impl Book {
     }
 
     /// What all rows that count weigh, by each value.
-    fn held(&self) -> Weights
+    fn totals(&self) -> Weights
         ensures width { length result ≡ self.now.width }
-        ensures held { (value : ℕ) → value_of value result ≡ weight_held self.now value }
+        ensures totals { (value : ℕ) → value_of value result ≡ weight_so_far self.now value }
         ensures tree { (value : ℕ) → value_of value result ≡ total_in (weights_of self.now.tree value) }
-        ensures fits { (value : ℕ) → weight_held self.now value < 2 ^ 63 }
+        ensures fits { (value : ℕ) → weight_so_far self.now value < 2 ^ 63 }
     {
         sums_are_those_of_the_aggregate();
         self.grower.tree().total()

@@ -17,7 +17,7 @@ pub mod SameNames
 pub mod NumberedRows
 pub mod PuttingTogether
 pub mod TallyLaws
-pub mod TextPlaces
+pub mod TextNumbers
 pub mod UniqueRows
 pub mod Weighted
 pub mod WorkedAggregate

@@ -19,10 +19,10 @@ use Rattle.profile_rows.specs.Names.{IsName, is_same_name}
 use Rattle.profile_rows.specs.Rows.{has_name}
 use Rattle.profile_rows.specs.Tallies.{AreSingle, AreTalliesOf, HasCounted, IsNumberedStack, IsTallyOf, names_at}
 use Rattle.profile_rows.specs.Tallies.{tally_at, tally_of}
-use Rattle.profile_rows.specs.TextTables.{place_in, with_text}
+use Rattle.profile_rows.specs.TextTables.{number_in, with_text}
 use Rattle.profile_rows.proofs.TallyLaws.{zero_tally}
-use Rattle.profile_rows.proofs.TextPlaces.{any_push, no_text, none_at_end, place_in-lt, place_in-with, shown_at}
-use Rattle.profile_rows.proofs.TextPlaces.{text_at_place, turned, with_text-new, with_text-there}
+use Rattle.profile_rows.proofs.TextNumbers.{any_push, no_text, none_at_end, number_in-lt, number_in-with, shown_at}
+use Rattle.profile_rows.proofs.TextNumbers.{text_of_number, turned, with_text-new, with_text-there}
 use Rattle.profile_rows.proofs.SameNames.{is_same_name-self}
 
 abbrev texts_of : List (Bor (List ℕ)) → List (List ℕ)
@@ -54,8 +54,8 @@ tally_of-push [] [] name q same = elim (bytes_eq q name) as (λ b. tally_at (zer
 tally_of-push [] (tally ∷ tallies) name q same = absurd (omega (arith, same))
 tally_of-push (first ∷ names) [] name q same = absurd (omega (arith, same))
 tally_of-push (first ∷ names) (tally ∷ tallies) name q same =
-    let more = place_in (names ++ name ∷ []) q in
-    let here = place_in names q in
+    let more = number_in (names ++ name ∷ []) q in
+    let here = number_in names q in
     let next : more + 1 ≡ suc more = omega arith in
     let before : suc here ≡ here + 1 = omega arith in
     elim (bytes_eq q first) as (λ b. tally_at (tally ∷ tallies ++ zero_tally ∷ []) (cond b 0 (more + 1))
@@ -67,13 +67,13 @@ tally_of-push (first ∷ names) (tally ∷ tallies) name q same =
 
 -- a name that is new has a tally of no row
 pub named-new : (rows : List WeightedStack) (names next : List (List ℕ)) (old new : Tallies)
-    (name : List ℕ) (number : ℕ) → next ≡ with_text names name → number ≡ place_in (with_text names name) name
+    (name : List ℕ) (number : ℕ) → next ≡ with_text names name → number ≡ number_in (with_text names name) name
     → number ≡ length old.names.items → new.total ≡ old.total → new.names.items ≡ old.names.items ++ zero_tally ∷ []
     → AreTalliesOf rows names old → AreTalliesOf rows next new
 named-new rows names next old new name number is place end total pushed are =
     let many = are.many in
-    let last : length names ≤ place_in names name =
-    let same = place_in-with names name in omega (arith, many, place, end, same) in
+    let last : length names ≤ number_in names name =
+    let same = number_in-with names name in omega (arith, many, place, end, same) in
     let none : list_any (bytes_eq name) names ≡ false = none_at_end names name last in
     let longer : next ≡ names ++ name ∷ [] = is ∙ with_text-new names name none in
     record {
@@ -93,13 +93,13 @@ named-new rows names next old new name number is place end total pushed are =
 
 -- a name that has a number leaves the tallies
 pub named-known : (rows : List WeightedStack) (names next : List (List ℕ)) (tallies : Tallies)
-    (name : List ℕ) (number : ℕ) → next ≡ with_text names name → number ≡ place_in (with_text names name) name
+    (name : List ℕ) (number : ℕ) → next ≡ with_text names name → number ≡ number_in (with_text names name) name
     → (number ≡ length tallies.names.items → ⊥)
     → number ≤ length names → AreTalliesOf rows names tallies → AreTalliesOf rows next tallies
 named-known rows names next tallies name number is place other most are =
     let many = are.many in
-    let same = place_in-with names name in
-    let below : place_in names name < length names = omega (arith, many, place, other, most, same) in
+    let same = number_in-with names name in
+    let below : number_in names name < length names = omega (arith, many, place, other, most, same) in
     subst (λ ns. AreTalliesOf rows ns tallies) (sym (is ∙ with_text-there names name below)) are
 
 -- ---- rows
@@ -116,7 +116,7 @@ none_counted counted names tallies total frames numbers = record {
     many = ap length tallies ∙ sym (ap length names);
     each = λ q.
         let none : tally_of counted.names.texts counted.tallies.names.items q ≡ zero_tally =
-        ap (λ ts. tally_of counted.names.texts ts q) tallies ∙ past (place_in counted.names.texts q) in
+        ap (λ ts. tally_of counted.names.texts ts q) tallies ∙ past (number_in counted.names.texts q) in
         record {
           flat = ap (λ (t : Tally). t.flat) none;
           cumulative = ap (λ (t : Tally). t.cumulative) none;
@@ -159,11 +159,11 @@ length-with names name =
 
 -- a name that was added has its place before the end
 place-within : (names : List (List ℕ)) (name : List ℕ)
-    → place_in (with_text names name) name < length (with_text names name)
+    → number_in (with_text names name) name < length (with_text names name)
 place-within names name = elim (list_any (bytes_eq name) names) as (λ b. list_any (bytes_eq name) names ≡ b
-    → place_in (cond b names (names ++ name ∷ [])) name < length (cond b names (names ++ name ∷ []))) [
-      | true ↦ λ e. place_in-lt names name e
-      | false ↦ λ e. place_in-lt (names ++ name ∷ []) name (any_push names name name ∙ ap
+    → number_in (cond b names (names ++ name ∷ [])) name < length (cond b names (names ++ name ∷ []))) [
+      | true ↦ λ e. number_in-lt names name e
+      | false ↦ λ e. number_in-lt (names ++ name ∷ []) name (any_push names name name ∙ ap
           (λ b. list_any (bytes_eq name) names || b) (is_same_name-self name)
           ∙ or_true (list_any (bytes_eq name) names))
     ] refl
@@ -174,16 +174,16 @@ place-within names name = elim (list_any (bytes_eq name) names) as (λ b. list_a
 
 -- a frame more, with its number
 pub frame_pushed : (rows : List WeightedStack) (old new : CountedRows) (frame : Bor (List ℕ)) (number : ℕ)
-    → new.names.texts ≡ with_text old.names.texts frame.now → number ≡ place_in new.names.texts frame.now
+    → new.names.texts ≡ with_text old.names.texts frame.now → number ≡ number_in new.names.texts frame.now
     → AreTalliesOf rows new.names.texts new.tallies → new.frames.items ≡ old.frames.items ++ frame ∷ []
     → new.numbers.items ≡ old.numbers.items ++ number ∷ [] → HasCounted rows old → HasCounted rows new
 frame_pushed rows old new frame number names place tallies frames numbers this =
     let longer = length-with old.names.texts frame.now in
     let size = ap length names in
     let low : number < length new.names.texts = let within = place-within old.names.texts frame.now in let same =
-    ap (λ ns. place_in ns frame.now) names in omega (arith, within, size, place, same) in
+    ap (λ ns. number_in ns frame.now) names in omega (arith, within, size, place, same) in
     let at : slice_index_or new.names.texts number [] ≡ frame.now = ap (λ n. slice_index_or new.names.texts n []) place
-    ∙ text_at_place new.names.texts frame.now (subst (λ n. n < length new.names.texts) place low) in
+    ∙ text_of_number new.names.texts frame.now (subst (λ n. n < length new.names.texts) place low) in
     record {
       tallies = tallies;
       inside = subst (All (λ n. n < length new.names.texts)) (sym numbers)

@@ -15,10 +15,10 @@ use Rattle.profile_rows.specs.Names.{IsName, is_same_name}
 use Rattle.profile_rows.specs.Rows.{has_name, ends_with_name, weight_if, weight_where}
 use Rattle.profile_rows.specs.Tallies.{AreSingle, AreTalliesOf, IsNumberedStack, IsTallyOf, frame_counted, has_number}
 use Rattle.profile_rows.specs.Tallies.{leaf_counted, names_at, numbers_counted, row_counted, tally_at, tally_of}
-use Rattle.profile_rows.specs.TextTables.{place_in}
+use Rattle.profile_rows.specs.TextTables.{number_in}
 use Rattle.profile_rows.proofs.RowLaws.{weight_where-le-total, weight_where-push}
 use Rattle.profile_rows.proofs.SameNames.{same_from_is_same_name, is_same_name-self}
-use Rattle.profile_rows.proofs.TextPlaces.{text_at_place, turned}
+use Rattle.profile_rows.proofs.TextNumbers.{text_of_number, turned}
 
 abbrev tally : ℕ → ℕ → ℕ → Tally
 tally flat cumulative row = record { flat = flat; cumulative = cumulative; row = row }
@@ -141,38 +141,38 @@ apart_at name (other ∷ names) zero lt all = all.0
 apart_at name (other ∷ names) (suc number) lt all = apart_at name names number (omega (arith, lt)) all.1
 
 -- the place of a number's name is the number
-pub place_in-own : (names : List (List ℕ)) (number : ℕ)
-    → AreSingle names → number < length names → place_in names (slice_index_or names number []) ≡ number
+pub number_in-own : (names : List (List ℕ)) (number : ℕ)
+    → AreSingle names → number < length names → number_in names (slice_index_or names number []) ≡ number
 unfolding IsDistinct
-place_in-own [] number single lt = absurd (omega (arith, lt))
-place_in-own (first ∷ names) zero single lt = ap (λ b. cond b 0 (place_in names first + 1)) (is_same_name-self first)
-place_in-own (first ∷ names) (suc number) single lt =
+number_in-own [] number single lt = absurd (omega (arith, lt))
+number_in-own (first ∷ names) zero single lt = ap (λ b. cond b 0 (number_in names first + 1)) (is_same_name-self first)
+number_in-own (first ∷ names) (suc number) single lt =
     let name = slice_index_or names number [] in
-    let rest = place_in-own names number single.1 (omega (arith, lt)) in
-    let next : place_in names name + 1 ≡ suc number = omega (arith, rest) in
-    ap (λ b. cond b 0 (place_in names name + 1))
+    let rest = number_in-own names number single.1 (omega (arith, lt)) in
+    let next : number_in names name + 1 ≡ suc number = omega (arith, rest) in
+    ap (λ b. cond b 0 (number_in names name + 1))
     (turned first name (apart_at first names number (omega (arith, lt)) single.0)) ∙ next
 
 -- a name is that of a number where this is its place
 same_number : (names : List (List ℕ)) (q : List ℕ) (number : ℕ) → AreSingle names
-    → number < length names → is_same_name q (slice_index_or names number []) ≡ eqb number (place_in names q)
+    → number < length names → is_same_name q (slice_index_or names number []) ≡ eqb number (number_in names q)
 same_number names q number single lt =
     let name = slice_index_or names number [] in
-    elim (is_same_name q name) as (λ b. is_same_name q name ≡ b → b ≡ eqb number (place_in names q)) [
-      | true ↦ λ e. sym (eq-eqb number (place_in names q)
-          (sym (ap (place_in names) (same_from_is_same_name q name e) ∙ place_in-own names number single lt)))
-      | false ↦ λ e. sym (ne_eqb number (place_in names q) (λ same.
+    elim (is_same_name q name) as (λ b. is_same_name q name ≡ b → b ≡ eqb number (number_in names q)) [
+      | true ↦ λ e. sym (eq-eqb number (number_in names q)
+          (sym (ap (number_in names) (same_from_is_same_name q name e) ∙ number_in-own names number single lt)))
+      | false ↦ λ e. sym (ne_eqb number (number_in names q) (λ same.
           let there : slice_index_or names number [] ≡ q = ap (λ n. slice_index_or names n []) same
-          ∙ text_at_place names q (omega (arith, same, lt)) in
+          ∙ text_of_number names q (omega (arith, same, lt)) in
           false≢true (sym e ∙ ap (is_same_name q) there ∙ is_same_name-self q)))
     ] refl
 
 has_numbers : (names : List (List ℕ)) (numbers : List ℕ) (q : List ℕ)
     → AreSingle names → AllByRecursion (λ number. number < length names) numbers
-    → has_number (place_in names q) numbers ≡ has_name q (names_at names numbers)
+    → has_number (number_in names q) numbers ≡ has_name q (names_at names numbers)
 has_numbers names [] q single all = refl
 has_numbers names (number ∷ numbers) q single all =
-    ap (λ b. b || has_number (place_in names q) numbers) (sym (same_number names q number single all.0))
+    ap (λ b. b || has_number (number_in names q) numbers) (sym (same_number names q number single all.0))
     ∙ ap (λ b. is_same_name q (slice_index_or names number []) || b) (has_numbers names numbers q single all.1)
 
 -- ---- a row
@@ -208,23 +208,23 @@ or_right false b e = e
 
 row_counted-leaf : (row : WeightedStack) (names : List (List ℕ)) (numbers : List ℕ) (leaf number : ℕ)
     (q : List ℕ) (t : Tally) → AreSingle names → IsNumberedStack names row.stack numbers (Some leaf) → t.row < number
-    → cond (eqb leaf (place_in names q)) (leaf_counted (numbers_counted numbers number row.weight (place_in names q) t)
-    row.weight) (numbers_counted numbers number row.weight (place_in names q) t)
+    → cond (eqb leaf (number_in names q)) (leaf_counted (numbers_counted numbers number row.weight (number_in names q) t)
+    row.weight) (numbers_counted numbers number row.weight (number_in names q) t)
     ≡ row_counted row number q t
 row_counted-leaf row names numbers leaf number q t single this fresh =
     let (inside, callers, stack) = this.last in
     let name = slice_index_or names leaf [] in
-    let has : has_number (place_in names q) numbers ≡ has_name q row.stack = has_numbers names numbers q single
+    let has : has_number (number_in names q) numbers ≡ has_name q row.stack = has_numbers names numbers q single
     (recursion_from_All (λ n. n < length names) numbers this.inside) ∙ this.same q in
-    let ends : eqb leaf (place_in names q) ≡ ends_with_name q row.stack = sym (same_number names q leaf single inside)
+    let ends : eqb leaf (number_in names q) ≡ ends_with_name q row.stack = sym (same_number names q leaf single inside)
     ∙ sym (ap (ends_with_name q) stack ∙ ends_with_name-push q callers name) in
     let split : has_name q row.stack ≡ (has_name q callers || is_same_name q name) = ap (has_name q) stack
     ∙ list_any-append (is_same_name q) callers (name ∷ [])
     ∙ ap (λ b. has_name q callers || b) (or_false (is_same_name q name)) in
     let last : ends_with_name q row.stack ≡ is_same_name q name = ap (ends_with_name q) stack
     ∙ ends_with_name-push q callers name in
-    ap (λ b. cond b (leaf_counted (if_has (has_number (place_in names q) numbers) number row.weight t) row.weight)
-    (if_has (has_number (place_in names q) numbers) number row.weight t)) ends
+    ap (λ b. cond b (leaf_counted (if_has (has_number (number_in names q) numbers) number row.weight t) row.weight)
+    (if_has (has_number (number_in names q) numbers) number row.weight t)) ends
     ∙ ap (λ b. cond (ends_with_name q row.stack)
     (leaf_counted (if_has b number row.weight t) row.weight) (if_has b number row.weight t)) has
     ∙ leaf_after (ends_with_name q row.stack) (has_name q row.stack) t number row.weight fresh
@@ -240,9 +240,9 @@ row_counted-empty row number name t empty =
 
 row_counted-none : (row : WeightedStack) (names : List (List ℕ)) (numbers : List ℕ)
     (number : ℕ) (q : List ℕ) (t : Tally) → AreSingle names → IsNumberedStack names row.stack numbers None
-    → numbers_counted numbers number row.weight (place_in names q) t ≡ row_counted row number q t
+    → numbers_counted numbers number row.weight (number_in names q) t ≡ row_counted row number q t
 row_counted-none row names numbers number q t single this =
-    let has : has_number (place_in names q) numbers ≡ false = has_numbers names numbers q single
+    let has : has_number (number_in names q) numbers ≡ false = has_numbers names numbers q single
     (recursion_from_All (λ n. n < length names) numbers this.inside) ∙ this.same q ∙ ap (has_name q) this.last in
     ap (λ b. if_has b number row.weight t) has ∙ row_counted-empty row number q t this.last
 
@@ -258,22 +258,22 @@ named_in name (frame ∷ stack) all has = elim (is_same_name name frame) as (λ 
       | false ↦ λ is e. named_in name stack all.1 e
     ] refl has
 
-IsTallyOf-counted : (rows : List WeightedStack) (row : WeightedStack) (held : ℕ) (name : List ℕ) (tally after : Tally)
-    → All IsName row.stack → IsTallyOf rows held name tally
-    → after ≡ row_counted row (held + row.weight) name tally
-    → IsTallyOf (rows ++ row ∷ []) (held + row.weight) name after
-IsTallyOf-counted rows row held name tally after names is counted = record {
+IsTallyOf-counted : (rows : List WeightedStack) (row : WeightedStack) (earlier : ℕ) (name : List ℕ) (tally after : Tally)
+    → All IsName row.stack → IsTallyOf rows earlier name tally
+    → after ≡ row_counted row (earlier + row.weight) name tally
+    → IsTallyOf (rows ++ row ∷ []) (earlier + row.weight) name after
+IsTallyOf-counted rows row earlier name tally after names is counted = record {
   flat = ap (λ (t : Tally). t.flat) counted ∙ ap (λ n. n + weight_if (ends_with_name name) row) is.flat
       ∙ sym (weight_where-push (ends_with_name name) rows row);
   cumulative = ap (λ (t : Tally). t.cumulative) counted
       ∙ ap (λ n. n + weight_if (has_name name) row) is.cumulative ∙ sym (weight_where-push (has_name name) rows row);
   numbered =
-      subst (λ n. n ≤ held + row.weight) (sym (ap (λ (t : Tally). t.row) counted)) (within (has_name name row.stack));
+      subst (λ n. n ≤ earlier + row.weight) (sym (ap (λ (t : Tally). t.row) counted)) (within (has_name name row.stack));
   named =
       λ some. known (has_name name row.stack) refl (subst (λ n. 0 < n) (ap (λ (t : Tally). t.cumulative) counted) some);
 }
   where
-    within : (b : Bool) → cond b (held + row.weight) tally.row ≤ held + row.weight
+    within : (b : Bool) → cond b (earlier + row.weight) tally.row ≤ earlier + row.weight
     within true = omega arith
     within false = let low = is.numbered in omega arith
 
@@ -310,9 +310,9 @@ pub counted-leaf : (rows : List WeightedStack) (row : WeightedStack) (names : Li
     → length new.names.items ≡ length mid → AreTalliesOf (rows ++ row ∷ []) names new
 counted-leaf rows row names numbers leaf old new mid are this some total many counted written long =
     AreTalliesOf-counted rows row names old new this.named are total (long ∙ many) (λ q.
-    changed_at mid new.names.items leaf (place_in names q) (λ t. leaf_counted t row.weight)
+    changed_at mid new.names.items leaf (number_in names q) (λ t. leaf_counted t row.weight)
     (let low = this.last.0 in let all = are.many in omega (arith, low, all, many)) written
-    ∙ ap (λ t. cond (eqb leaf (place_in names q)) (leaf_counted t row.weight) t) (counted (place_in names q))
+    ∙ ap (λ t. cond (eqb leaf (number_in names q)) (leaf_counted t row.weight) t) (counted (number_in names q))
     ∙ row_counted-leaf row names numbers leaf (old.total + row.weight) q
     (tally_of names old.names.items q) are.single this (fresh rows names old row.weight q some are))
 
@@ -324,7 +324,7 @@ pub counted-none : (rows : List WeightedStack)
     (old.total + row.weight) row.weight q (tally_at old.names.items q)) → AreTalliesOf (rows ++ row ∷ []) names new
 counted-none rows row names numbers old new are this total many counted =
     AreTalliesOf-counted rows row names old new this.named are total many (λ q.
-    counted (place_in names q) ∙ row_counted-none row names numbers
+    counted (number_in names q) ∙ row_counted-none row names numbers
     (old.total + row.weight) q (tally_of names old.names.items q) are.single this)
 
 -- a row without weight leaves what each name weighs
@@ -366,7 +366,7 @@ pub cumulative-most : (rows : List WeightedStack) (names : List (List ℕ)) (tal
 cumulative-most rows names tallies number are lt =
     let name = slice_index_or names number [] in
     let own : tally_of names tallies.names.items name ≡ tally_at tallies.names.items number =
-    ap (tally_at tallies.names.items) (place_in-own names number are.single lt) in
+    ap (tally_at tallies.names.items) (number_in-own names number are.single lt) in
     let here = ap (λ (t : Tally). t.cumulative) own in
     let most = weight_where-le-total (has_name name) rows in
     let tally = (are.each name).cumulative in
@@ -379,7 +379,7 @@ pub flat-most : (rows : List WeightedStack) (names : List (List ℕ)) (tallies :
 flat-most rows names tallies number are lt =
     let name = slice_index_or names number [] in
     let own : tally_of names tallies.names.items name ≡ tally_at tallies.names.items number =
-    ap (tally_at tallies.names.items) (place_in-own names number are.single lt) in
+    ap (tally_at tallies.names.items) (number_in-own names number are.single lt) in
     let here = ap (λ (t : Tally). t.flat) own in
     let most = weight_where-le-total (ends_with_name name) rows in
     let tally = (are.each name).flat in

@@ -20,10 +20,10 @@ use Rattle.profile_rows.specs.declared.weighted_stacks.WeightedStack.{WeightedSt
 use Rattle.profile_rows.specs.Names.{IsName, is_same_name}
 use Rattle.profile_rows.specs.Rows.{flat_weight_of}
 use Rattle.profile_rows.specs.Tallies.{AreSingle, AreTalliesOf, IsTallyOf, tally_at, tally_of}
-use Rattle.profile_rows.specs.TextTables.{place_in}
+use Rattle.profile_rows.specs.TextTables.{number_in}
 use Rattle.profile_rows.specs.TopList.{AreSumsOf, occurrences, sums_at}
 use Rattle.profile_rows.proofs.SameNames.{same_from_is_same_name}
-use Rattle.profile_rows.proofs.TallyLaws.{place_in-own, zero_tally}
+use Rattle.profile_rows.proofs.TallyLaws.{number_in-own, zero_tally}
 
 abbrev Entry : Type 0
 Entry = List ℕ × Tally
@@ -112,9 +112,9 @@ found_zip [] [] name same = refl
 found_zip [] (tally ∷ tallies) name same = absurd (omega (arith, same))
 found_zip (first ∷ names) [] name same = absurd (omega (arith, same))
 found_zip (first ∷ names) (tally ∷ tallies) name same =
-    let next : suc (place_in names name) ≡ place_in names name + 1 = omega arith in
+    let next : suc (number_in names name) ≡ number_in names name + 1 = omega arith in
     elim (is_same_name name first) as (λ b. unwrap_or (cond b (Some tally) (lookup (is_same_name name)
-    (zip names tallies))) zero_tally ≡ tally_at (tally ∷ tallies) (cond b 0 (place_in names name + 1))) [
+    (zip names tallies))) zero_tally ≡ tally_at (tally ∷ tallies) (cond b 0 (number_in names name + 1))) [
       | true ↦ refl
       | false ↦ found_zip names tallies name (omega (arith, same)) ∙ ap (tally_at (tally ∷ tallies)) next
     ]
@@ -180,7 +180,7 @@ pub number_named : (rows : List WeightedStack) (names : List (List ℕ)) (tallie
     → 0 < (tally_at tallies.names.items number).cumulative → IsName (slice_index_or names number [])
 number_named rows names tallies number are lt some =
     (are.each (slice_index_or names number [])).named (subst
-    (λ k. 0 < (tally_at tallies.names.items k).cumulative) (sym (place_in-own names number are.single lt)) some)
+    (λ k. 0 < (tally_at tallies.names.items k).cumulative) (sym (number_in-own names number are.single lt)) some)
 
 -- ---- a name more
 

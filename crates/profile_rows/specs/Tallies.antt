@@ -9,7 +9,7 @@ use Rattle.profile_rows.specs.declared.tallies.Tally.{Tally}
 use Rattle.profile_rows.specs.declared.weighted_stacks.WeightedStack.{WeightedStack}
 use Rattle.profile_rows.specs.Names.{IsName, is_same_name}
 use Rattle.profile_rows.specs.Rows.{has_name, ends_with_name, weight_if, total_of, flat_weight_of, cumulative_weight_of}
-use Rattle.profile_rows.specs.TextTables.{place_in}
+use Rattle.profile_rows.specs.TextTables.{number_in}
 
 -- ---- names by numbers
 
@@ -41,7 +41,7 @@ tally_at tallies number = slice_index_or tallies number (record { flat = 0; cumu
 
 -- the tally of a name, which is 0 where it has no number
 abbrev pub tally_of : List (List ℕ) → List Tally → List ℕ → Tally
-tally_of names tallies name = tally_at tallies (place_in names name)
+tally_of names tallies name = tally_at tallies (number_in names name)
 
 -- a frame of the name in the row of this number: only the row's first frame of a name adds the row's weight
 abbrev pub frame_counted : Tally → ℕ → ℕ → Tally

@@ -7,10 +7,10 @@ use Rattle.std.specs.Str.{bytes_eq}
 use denote.Ref.{Bor}
 use Rattle.profile_rows.specs.declared.hashing.Hashing.{Hashing}
 
--- the first place of a text; where it is missing, how many texts there are
-abbrev pub place_in : List (List ℕ) → List ℕ → ℕ
-place_in [] text = 0
-place_in (first ∷ texts) text = if bytes_eq text first then 0 else place_in texts text + 1
+-- the number of a text; where it is missing, how many texts there are
+abbrev pub number_in : List (List ℕ) → List ℕ → ℕ
+number_in [] text = 0
+number_in (first ∷ texts) text = if bytes_eq text first then 0 else number_in texts text + 1
 
 -- a text that is there isn't added again
 abbrev pub with_text : List (List ℕ) → List ℕ → List (List ℕ)
@@ -26,8 +26,8 @@ pub record NumberedTexts : Type 0 where
   pub texts : List (List ℕ)
   pub hashing : Hashing
 
--- the map has the place of each text, and nothing else
-abbrev pub AreTextPlaces : List (List ℕ) → HashMap (Bor (List ℕ)) ℕ Hashing → Type 0
-AreTextPlaces texts places = (text : List ℕ)
-    → hash.get_by (λ (key : Bor (List ℕ)). bytes_eq text key.now) places
-    ≡ (if list_any (bytes_eq text) texts then Some (place_in texts text) else None)
+-- the map has the number of each text, and nothing else
+abbrev pub AreTextNumbers : List (List ℕ) → HashMap (Bor (List ℕ)) ℕ Hashing → Type 0
+AreTextNumbers texts numbers = (text : List ℕ)
+    → hash.get_by (λ (key : Bor (List ℕ)). bytes_eq text key.now) numbers
+    ≡ (if list_any (bytes_eq text) texts then Some (number_in texts text) else None)

@@ -82,9 +82,9 @@ AreParts totals rows values = (length values ≡ length rows * (length totals - 
     × IsBatch (batch_with totals rows values) × AreTotals (batch_with totals rows values) totals
 
 -- these values and those pass the limit together at this value, and at no lower one
-pub record IsFirstHeavy (held more : List ℕ) (value : ℕ) : Type 0 where
-  pub heavy : 2 ^ 63 ≤ value_of value held + value_of value more
-  pub lower : (below : ℕ) → below < value → value_of below held + value_of below more < 2 ^ 63
+pub record IsFirstHeavy (totals more : List ℕ) (value : ℕ) : Type 0 where
+  pub heavy : 2 ^ 63 ≤ value_of value totals + value_of value more
+  pub lower : (below : ℕ) → below < value → value_of below totals + value_of below more < 2 ^ 63
 
 -- the total of this value keeps the limit with a row of these values
 abbrev pub HasRoom : BatchState → List ℕ → ℕ → Type 0

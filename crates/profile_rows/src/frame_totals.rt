@@ -6,7 +6,7 @@ ghost use Rattle.profile_rows.specs.declared.weighted_stacks.WeightedStack.{Weig
 ghost use Rattle.profile_rows.specs.Names.{IsName};
 ghost use Rattle.profile_rows.specs.Rows.{kept_rows};
 ghost use Rattle.profile_rows.specs.Tallies.{AreTalliesOf, HasCounted};
-ghost use Rattle.profile_rows.specs.TextTables.{place_in, with_text};
+ghost use Rattle.profile_rows.specs.TextTables.{number_in, with_text};
 ghost use Rattle.profile_rows.specs.TopList.{AreTotalsOf};
 
 use crate::hashing::Hashing;
@@ -55,11 +55,11 @@ fn number_of<'a>(
     name: &'a str,
 ) -> Result<usize, NoMemory>
     ensures names { OnOk result (names.new.texts ≡ with_text names.old.texts name.now) }
-    ensures number { IfOk result (λ number. number ≡ place_in names.new.texts name.now) }
+    ensures number { IfOk result (λ number. number ≡ number_in names.new.texts name.now) }
     ensures tallies { (rows : List WeightedStack) → AreTalliesOf rows names.old.texts tallies.old
         → OnOk result (AreTalliesOf rows names.new.texts tallies.new) }
 {
-    let number = names.place_with(name)?;
+    let number = names.number_with(name)?;
     if number == tallies.names.len() {
         tallies.names.push(Tally::none())?;
     }

@@ -1,7 +1,7 @@
 //! Texts that are numbered as they come.
 
 ghost use Rattle.std.specs.Prelude.{◌≡◌, ◌<◌, ◌^◌, [], IfOk, OnOk, map};
-ghost use Rattle.profile_rows.specs.TextTables.{place_in, with_text, with_texts};
+ghost use Rattle.profile_rows.specs.TextTables.{number_in, with_text, with_texts};
 
 use crate::hashing::Hashing;
 use basics::NoMemory;
@@ -13,23 +13,23 @@ use std::marker::Model;
 /// they are hashed.
 #[derive(Drop)]
 pub struct TextTable<'a> {
-    places: HashMap<&'a str, usize, Hashing>,
+    numbers: HashMap<&'a str, usize, Hashing>,
     texts: Vec<&'a str>,
 }
 
 impl<'a> Model for TextTable<'a> {
     ghost use Rattle.std.specs.Prelude.{map};
     ghost use Rattle.std.specs.HashMap.{hasher_of};
-    ghost use Rattle.profile_rows.specs.TextTables.{AreTextPlaces, NumberedTexts};
+    ghost use Rattle.profile_rows.specs.TextTables.{AreTextNumbers, NumberedTexts};
 
     ghost Value = { NumberedTexts };
 
     ghost view = { λ table. record {
       texts = map (λ text. text.now) table.texts.items;
-      hashing = hasher_of table.places;
+      hashing = hasher_of table.numbers;
     } };
 
-    ghost invariant = { λ table. AreTextPlaces (map (λ text. text.now) table.texts.items) table.places };
+    ghost invariant = { λ table. AreTextNumbers (map (λ text. text.now) table.texts.items) table.numbers };
 }
 
 impl<'a> TextTable<'a> {
@@ -39,7 +39,7 @@ impl<'a> TextTable<'a> {
         ensures hashing { result.hashing ≡ hashing }
     {
         TextTable {
-            places: HashMap::with_hasher(alloc, hashing),
+            numbers: HashMap::with_hasher(alloc, hashing),
             texts: Vec::new(alloc),
         }
     }
@@ -52,13 +52,13 @@ impl<'a> TextTable<'a> {
         texts.as_slice()
     }
 
-    /// The place of a text; where it is missing, how many texts there are.
-    pub fn place_of(&self, text: &str) -> usize
-        ensures place { result ≡ place_in self.now.texts text.now }
+    /// The number of a text; where it is missing, how many texts there are.
+    pub fn number_of(&self, text: &str) -> usize
+        ensures number { result ≡ number_in self.now.texts text.now }
         ensures fits { result < 2 ^ 63 }
     {
         let missing = self.texts().len();
-        self.places.get(text).copied().unwrap_or(missing)
+        self.numbers.get(text).copied().unwrap_or(missing)
     }
 
     /// The table with the text, which isn't added again where it is there.
@@ -69,35 +69,35 @@ impl<'a> TextTable<'a> {
     pub fn with(self, text: &'a str) -> Result<TextTable<'a>, NoMemory>
         ensures { IfOk result (λ table. table.texts ≡ with_text self.entry.texts text.now) }
     {
-        if self.places.contains_key(text) {
+        if self.numbers.contains_key(text) {
             return Ok(self);
         }
         let TextTable {
-            mut places,
+            mut numbers,
             mut texts,
         } = self;
-        places.insert(text, texts.as_slice().len())?;
+        numbers.insert(text, texts.as_slice().len())?;
         texts.push(text)?;
-        Ok(TextTable { places, texts })
+        Ok(TextTable { numbers, texts })
     }
 
-    /// The place of a text, which is added where it is missing.
+    /// The number of a text, which is added where it is missing.
     ///
     /// # Errors
     ///
     /// `NoMemory`; the table is then as it was.
-    pub fn place_with(&mut self, text: &'a str) -> Result<usize, NoMemory>
+    pub fn number_with(&mut self, text: &'a str) -> Result<usize, NoMemory>
         ensures texts { OnOk result (self.new.texts ≡ with_text self.old.texts text.now) }
-        ensures place { IfOk result (λ place. place ≡ place_in (with_text self.old.texts text.now) text.now) }
-        ensures fits { IfOk result (λ place. place < 2 ^ 63) }
+        ensures number { IfOk result (λ number. number ≡ number_in (with_text self.old.texts text.now) text.now) }
+        ensures fits { IfOk result (λ number. number < 2 ^ 63) }
     {
-        let place = self.place_of(text);
-        if place < self.texts().len() {
-            return Ok(place);
+        let number = self.number_of(text);
+        if number < self.texts().len() {
+            return Ok(number);
         }
         self.texts.push(text)?;
-        match self.places.insert(text, place) {
-            Ok(_) => Ok(place),
+        match self.numbers.insert(text, number) {
+            Ok(_) => Ok(number),
             Err(_) => {
                 self.texts.pop();
                 Err(NoMemory)

@@ -87,11 +87,11 @@ impl Weights {
             (λ weights. (weights ≡ values.now) × (0 < length values.now) × (length values.now ≤ MAX_WIDTH)) }
     {
         let width = Width::new(u32::try_from(values.len()).ok()?)?;
-        let mut held = [0; 4];
-        held[..values.len()].copy_from_slice(values);
+        let mut four = [0; 4];
+        four[..values.len()].copy_from_slice(values);
         Some(Weights {
             width,
-            values: held,
+            values: four,
         })
     }
 
@@ -181,14 +181,14 @@ impl Weights {
 }
 
 /// The lowest value at which these weights and those pass [`MAX_TOTAL`] together; nothing where none does.
-pub fn first_heavy(held: &Weights, more: &Weights) -> Option<u32>
-    requires width { length held.now ≡ length more.now }
-    requires fits { (value : ℕ) → value_of value held.now < 2 ^ 63 }
-    ensures { MatchOption result ((value : ℕ) → value_of value held.now + value_of value more.now < 2 ^ 63)
-        (λ value. (value < length held.now) × IsFirstHeavy held.now more.now value) }
+pub fn first_heavy(totals: &Weights, more: &Weights) -> Option<u32>
+    requires width { length totals.now ≡ length more.now }
+    requires fits { (value : ℕ) → value_of value totals.now < 2 ^ 63 }
+    ensures { MatchOption result ((value : ℕ) → value_of value totals.now + value_of value more.now < 2 ^ 63)
+        (λ value. (value < length totals.now) × IsFirstHeavy totals.now more.now value) }
 {
-    for value in 0..held.width().get() {
-        if more.value(value) > MAX_TOTAL - held.value(value) {
+    for value in 0..totals.width().get() {
+        if more.value(value) > MAX_TOTAL - totals.value(value) {
             return Some(value);
         }
     }

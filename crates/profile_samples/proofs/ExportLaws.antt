@@ -27,13 +27,13 @@ use Rattle.profile_rows.specs.Rows.{IsBatchRow, total_of}
 use Rattle.profile_rows.specs.Values.{Row, rows_at, singles, value_of, weighing}
 use Rattle.profile_samples.specs.Samples.{AreSampleRows, AreStacksOf, IsSampleRow, address_name, first_name, frames_at}
 use Rattle.profile_samples.specs.Samples.{frames_of_id, item_with, named_by, string_at}
-use Rattle.profile_rows.specs.TextTables.{place_in, with_text, with_texts}
+use Rattle.profile_rows.specs.TextTables.{number_in, with_text, with_texts}
 use Rattle.profile_samples.specs.Export.{KindAndUnit, exported_function, exported_location, exported_profile_of}
 use Rattle.profile_samples.specs.Export.{exported_sample, exported_type, id_in, names_of, profile_with}
 use Rattle.profile_samples.specs.Export.{single_profile_of, strings_of, unit_texts}
 use Rattle.profile_rows.proofs.Cleaning.{cleaned-name}
 use Rattle.profile_rows.proofs.SameNames.{same_from_is_same_name, is_same_name-self}
-use Rattle.profile_rows.proofs.TextPlaces.{any_push, place_in-lt, turned}
+use Rattle.profile_rows.proofs.TextNumbers.{any_push, number_in-lt, turned}
 
 -- whether a text stands among texts
 abbrev pub stands_in : List (List ℕ) → List ℕ → Bool
@@ -130,21 +130,21 @@ stand_where (text ∷ sub) full h = (
 -- ---- places
 
 -- texts that stand in one place are one text
-place_in-one : (texts : List (List ℕ)) (a b : List ℕ)
-    → stands_in texts a ≡ true → stands_in texts b ≡ true → place_in texts a ≡ place_in texts b → a ≡ b
-place_in-one [] a b left right e = absurd (false≢true left)
-place_in-one (first ∷ texts) a b left right e =
+number_in-one : (texts : List (List ℕ)) (a b : List ℕ)
+    → stands_in texts a ≡ true → stands_in texts b ≡ true → number_in texts a ≡ number_in texts b → a ≡ b
+number_in-one [] a b left right e = absurd (false≢true left)
+number_in-one (first ∷ texts) a b left right e =
     elim (bytes_eq a first) as (λ x. bytes_eq a first ≡ x
-    → (x || stands_in texts a) ≡ true → cond x 0 (place_in texts a + 1) ≡ place_in (first ∷ texts) b → a ≡ b) [
+    → (x || stands_in texts a) ≡ true → cond x 0 (number_in texts a + 1) ≡ number_in (first ∷ texts) b → a ≡ b) [
       | true ↦ λ is r.
-          elim (bytes_eq b first) as (λ y. bytes_eq b first ≡ y → 0 ≡ cond y 0 (place_in texts b + 1) → a ≡ b) [
+          elim (bytes_eq b first) as (λ y. bytes_eq b first ≡ y → 0 ≡ cond y 0 (number_in texts b + 1) → a ≡ b) [
             | true ↦ λ also s. same_from_is_same_name a first is ∙ sym (same_from_is_same_name b first also)
             | false ↦ λ other s. absurd (omega (arith, s))
           ] refl
       | false ↦ λ is r. elim (bytes_eq b first) as (λ y. (y || stands_in texts b) ≡ true
-          → place_in texts a + 1 ≡ cond y 0 (place_in texts b + 1) → a ≡ b) [
+          → number_in texts a + 1 ≡ cond y 0 (number_in texts b + 1) → a ≡ b) [
             | true ↦ λ also s. absurd (omega (arith, s))
-            | false ↦ λ other s. place_in-one texts a b r other (omega (arith, s))
+            | false ↦ λ other s. number_in-one texts a b r other (omega (arith, s))
           ] right
     ] refl left e
 
@@ -155,7 +155,7 @@ same_id names a b left right =
     elim (bytes_eq a b) as (λ t. bytes_eq a b ≡ t → eqb (id_in names a) (id_in names b) ≡ t) [
       | true ↦ λ e. eq-eqb (id_in names a) (id_in names b) (ap (id_in names) (same_from_is_same_name a b e))
       | false ↦ λ e. ne_eqb (id_in names a) (id_in names b) (λ same.
-          let one = place_in-one names a b left right (omega (arith, same)) in
+          let one = number_in-one names a b left right (omega (arith, same)) in
           absurd (false≢true (sym e ∙ ap (bytes_eq a) (sym one) ∙ is_same_name-self a)))
     ] refl
 
@@ -198,8 +198,8 @@ functions_not_zero names strings (text ∷ sub) = rw (id_not_zero names text, fu
 -- ---- indices
 
 is_index-place : (strings : List (List ℕ)) (text : List ℕ)
-    → stands_in strings text ≡ true → is_index (length strings) (pos (place_in strings text)) ≡ true
-is_index-place strings text e = lt-ltb (place_in strings text) (length strings) (place_in-lt strings text e)
+    → stands_in strings text ≡ true → is_index (length strings) (pos (number_in strings text)) ≡ true
+is_index-place strings text e = lt-ltb (number_in strings text) (length strings) (number_in-lt strings text e)
 
 is_index-zero : (strings : List (List ℕ)) → is_nonempty strings ≡ true → is_index (length strings) (pos 0) ≡ true
 is_index-zero [] e = absurd (false≢true e)
@@ -426,13 +426,13 @@ export_valid rows units widths =
 
 -- the text at its place
 text_at : (texts : List (List ℕ)) (text : List ℕ)
-    → stands_in texts text ≡ true → slice_index_or texts (place_in texts text) [] ≡ text
+    → stands_in texts text ≡ true → slice_index_or texts (number_in texts text) [] ≡ text
 text_at [] text e = absurd (false≢true e)
 text_at (first ∷ texts) text e =
     elim (bytes_eq text first) as (λ b. bytes_eq text first ≡ b → (b || stands_in texts text) ≡ true
-    → slice_index_or (first ∷ texts) (cond b 0 (place_in texts text + 1)) [] ≡ text) [
+    → slice_index_or (first ∷ texts) (cond b 0 (number_in texts text + 1)) [] ≡ text) [
       | true ↦ λ is r. sym (same_from_is_same_name text first is)
-      | false ↦ λ other r. let up : place_in texts text + 1 ≡ suc (place_in texts text) = omega arith in
+      | false ↦ λ other r. let up : number_in texts text + 1 ≡ suc (number_in texts text) = omega arith in
           ap (λ k. slice_index_or (first ∷ texts) k []) up ∙ text_at texts text r
     ] refl e
 

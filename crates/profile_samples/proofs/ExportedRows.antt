@@ -14,33 +14,33 @@ use Rattle.profile_rows.specs.Values.{Row, rows_at, single, singles, weighing}
 use Rattle.folded_text.specs.declared.folded.FoldedFault.{FoldedFault}
 use Rattle.folded_text.specs.declared.folded.FoldedFault.TheVariants.{NoMemory}
 use Rattle.folded_text.specs.FoldedText.{IsFoldedText, IsWorkFault}
-use Rattle.profile_rows.specs.TextTables.{place_in, with_text, with_texts}
+use Rattle.profile_rows.specs.TextTables.{number_in, with_text, with_texts}
 use Rattle.profile_samples.specs.Export.{AreSamplesOf, IsExportOfText, single_profile_of, exported_sample, id_in}
 use Rattle.profile_samples.specs.Export.{names_of}
 use Rattle.profile_samples.proofs.ExportLaws.{AllStand, RowsStand, rows_stand, stand_where, stands_in, with_text-stands}
 use Rattle.profile_samples.proofs.ExportLaws.{with_texts-own}
 use Rattle.folded_text.proofs.Reading.{IsFirstFault-folded, IsFoldedText-same}
-use Rattle.profile_rows.proofs.TextPlaces.{next_mapped, place_in-more, with_texts-append}
+use Rattle.profile_rows.proofs.TextNumbers.{next_mapped, number_in-more, with_texts-append}
 
 -- ---- a text that is there keeps its place
 
-place_in-kept : (texts : List (List ℕ)) (text q : List ℕ)
-    → stands_in texts q ≡ true → place_in (with_text texts text) q ≡ place_in texts q
-place_in-kept texts text q there =
-    elim (stands_in texts text) as (λ b. place_in (cond b texts (texts ++ text ∷ [])) q ≡ place_in texts q) [
+number_in-kept : (texts : List (List ℕ)) (text q : List ℕ)
+    → stands_in texts q ≡ true → number_in (with_text texts text) q ≡ number_in texts q
+number_in-kept texts text q there =
+    elim (stands_in texts text) as (λ b. number_in (cond b texts (texts ++ text ∷ [])) q ≡ number_in texts q) [
       | true ↦ refl
-      | false ↦ place_in-more texts (text ∷ []) q there
+      | false ↦ number_in-more texts (text ∷ []) q there
     ]
 
 ids_kept : (texts : List (List ℕ)) (text : List ℕ) (stack : List (List ℕ))
     → AllStand texts stack → map (id_in (with_text texts text)) stack ≡ map (id_in texts) stack
 ids_kept texts text [] all = refl
 ids_kept texts text (name ∷ stack) all =
-    ap (λ place. (place + 1) ∷ map (id_in (with_text texts text)) stack) (place_in-kept texts text name all.0)
+    ap (λ place. (place + 1) ∷ map (id_in (with_text texts text)) stack) (number_in-kept texts text name all.0)
     ∙ ap (λ ids. id_in texts name ∷ ids) (ids_kept texts text stack all.1)
 
 -- the ids of a stack's frames so far, and the next one's
-pub ids_with : (start old new seen next : List (List ℕ)) (text : List ℕ) (place : ℕ) → place ≡ place_in
+pub ids_with : (start old new seen next : List (List ℕ)) (text : List ℕ) (place : ℕ) → place ≡ number_in
     (with_text old text) text → new ≡ with_text old text → old ≡ with_texts start seen → next ≡ seen ++ text ∷ []
     → map (id_in old) seen ++ (place + 1) ∷ [] ≡ map (id_in new) next
 ids_with start old new seen next text place is added so_far more =
@@ -129,7 +129,7 @@ AreSamplesOf-push rows row names next samples after ids total sum so_far added n
       samples_rows = written ∙ ap samples_bytes listed;
       fits_rows = subst (λ all. FitsEach FitsSample sample_bytes all) listed
           (fits_joined (map (exported_sample names) before) (sample ∷ []) so_far.fits_rows fits);
-      total_rows = more ∙ ap (λ held. held + row.weight) so_far.total_rows
+      total_rows = more ∙ ap (λ earlier. earlier + row.weight) so_far.total_rows
           ∙ sym (sum_by_push (λ (r : WeightedStack). r.weight) rows row);
     }
 

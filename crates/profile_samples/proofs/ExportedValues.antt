@@ -14,7 +14,7 @@ use Rattle.profile_samples.specs.Export.{KindAndUnit, exported_type, pairs_of, u
 use Rattle.profile_samples.specs.Samples.{last_index}
 use Rattle.profile_rows.specs.TextTables.{with_text, with_texts}
 use Rattle.profile_samples.proofs.ExportLaws.{CanStand}
-use Rattle.profile_rows.proofs.TextPlaces.{no_text, with_texts-append}
+use Rattle.profile_rows.proofs.TextNumbers.{no_text, with_texts-append}
 
 -- ---- kinds and units
 

@@ -24,55 +24,55 @@ use Rattle.profile_samples.proofs.SampleBatches.{same_count, same_first}
 
 -- ---- a sample has one fault by a value: each case says that those of the cases before it don't stand
 
-Negative-Depth : (draft : Draft) (chosen held number : ℕ) (sample : Sample) (x y : ℕ) → IsSampleFault
-    draft chosen held number sample (Negative x) → IsSampleFault draft chosen held number sample (Depth y) → ⊥
-Negative-Depth draft chosen held number sample x y ha hb =
+Negative-Depth : (draft : Draft) (chosen earlier number : ℕ) (sample : Sample) (x y : ℕ) → IsSampleFault
+    draft chosen earlier number sample (Negative x) → IsSampleFault draft chosen earlier number sample (Depth y) → ⊥
+Negative-Depth draft chosen earlier number sample x y ha hb =
     not_below (slice_get sample.values chosen) hb.1 ha.1 hb.2 ha.2
 
-Negative-Heavy : (draft : Draft) (chosen held number : ℕ) (sample : Sample) (x y : ℕ) → IsSampleFault
-    draft chosen held number sample (Negative x) → IsSampleFault draft chosen held number sample (Heavy y) → ⊥
-Negative-Heavy draft chosen held number sample x y ha hb =
+Negative-Heavy : (draft : Draft) (chosen earlier number : ℕ) (sample : Sample) (x y : ℕ) → IsSampleFault
+    draft chosen earlier number sample (Negative x) → IsSampleFault draft chosen earlier number sample (Heavy y) → ⊥
+Negative-Heavy draft chosen earlier number sample x y ha hb =
     not_below (slice_get sample.values chosen) hb.1.weight ha.1 hb.2.value ha.2
 
-Depth-Heavy : (draft : Draft) (chosen held number : ℕ) (sample : Sample) (x y : ℕ) → IsSampleFault
-    draft chosen held number sample (Depth x) → IsSampleFault draft chosen held number sample (Heavy y) → ⊥
-Depth-Heavy draft chosen held number sample x y ha hb =
+Depth-Heavy : (draft : Draft) (chosen earlier number : ℕ) (sample : Sample) (x y : ℕ) → IsSampleFault
+    draft chosen earlier number sample (Depth x) → IsSampleFault draft chosen earlier number sample (Heavy y) → ⊥
+Depth-Heavy draft chosen earlier number sample x y ha hb =
     let deep = hb.2.depth in
     let same = ap length hb.2.stack in
     omega (arith, same, deep, ha.3)
 
-one_sample_fault : (draft : Draft) (chosen held number : ℕ) (sample : Sample) (fault other : BatchFault)
+one_sample_fault : (draft : Draft) (chosen earlier number : ℕ) (sample : Sample) (fault other : BatchFault)
     → fault ≢ NoMemory → other ≢ NoMemory
-    → IsSampleFault draft chosen held number sample fault
-    → IsSampleFault draft chosen held number sample other → fault ≡ other
-one_sample_fault draft chosen held number sample NoValue other named known ha hb = absurd ha
-one_sample_fault draft chosen held number sample (Width c) other named known ha hb = absurd ha
-one_sample_fault draft chosen held number sample NoMemory other named known ha hb = absurd (named refl)
-one_sample_fault draft chosen held number sample (Negative x) NoValue named known ha hb = absurd hb
-one_sample_fault draft chosen held number sample (Negative x) (Width c) named known ha hb = absurd hb
-one_sample_fault draft chosen held number sample (Negative x) (Negative y) named known ha hb =
+    → IsSampleFault draft chosen earlier number sample fault
+    → IsSampleFault draft chosen earlier number sample other → fault ≡ other
+one_sample_fault draft chosen earlier number sample NoValue other named known ha hb = absurd ha
+one_sample_fault draft chosen earlier number sample (Width c) other named known ha hb = absurd ha
+one_sample_fault draft chosen earlier number sample NoMemory other named known ha hb = absurd (named refl)
+one_sample_fault draft chosen earlier number sample (Negative x) NoValue named known ha hb = absurd hb
+one_sample_fault draft chosen earlier number sample (Negative x) (Width c) named known ha hb = absurd hb
+one_sample_fault draft chosen earlier number sample (Negative x) (Negative y) named known ha hb =
     ap Negative (ha.0 ∙ sym hb.0)
-one_sample_fault draft chosen held number sample (Negative x) (Depth y) named known ha hb =
-    absurd (Negative-Depth draft chosen held number sample x y ha hb)
-one_sample_fault draft chosen held number sample (Negative x) (Heavy y) named known ha hb =
-    absurd (Negative-Heavy draft chosen held number sample x y ha hb)
-one_sample_fault draft chosen held number sample (Negative x) NoMemory named known ha hb = absurd (known refl)
-one_sample_fault draft chosen held number sample (Depth x) NoValue named known ha hb = absurd hb
-one_sample_fault draft chosen held number sample (Depth x) (Width c) named known ha hb = absurd hb
-one_sample_fault draft chosen held number sample (Depth x) (Negative y) named known ha hb =
-    absurd (Negative-Depth draft chosen held number sample y x hb ha)
-one_sample_fault draft chosen held number sample (Depth x) (Depth y) named known ha hb = ap Depth (ha.0 ∙ sym hb.0)
-one_sample_fault draft chosen held number sample (Depth x) (Heavy y) named known ha hb =
-    absurd (Depth-Heavy draft chosen held number sample x y ha hb)
-one_sample_fault draft chosen held number sample (Depth x) NoMemory named known ha hb = absurd (known refl)
-one_sample_fault draft chosen held number sample (Heavy x) NoValue named known ha hb = absurd hb
-one_sample_fault draft chosen held number sample (Heavy x) (Width c) named known ha hb = absurd hb
-one_sample_fault draft chosen held number sample (Heavy x) (Negative y) named known ha hb =
-    absurd (Negative-Heavy draft chosen held number sample y x hb ha)
-one_sample_fault draft chosen held number sample (Heavy x) (Depth y) named known ha hb =
-    absurd (Depth-Heavy draft chosen held number sample y x hb ha)
-one_sample_fault draft chosen held number sample (Heavy x) (Heavy y) named known ha hb = ap Heavy (ha.0 ∙ sym hb.0)
-one_sample_fault draft chosen held number sample (Heavy x) NoMemory named known ha hb = absurd (known refl)
+one_sample_fault draft chosen earlier number sample (Negative x) (Depth y) named known ha hb =
+    absurd (Negative-Depth draft chosen earlier number sample x y ha hb)
+one_sample_fault draft chosen earlier number sample (Negative x) (Heavy y) named known ha hb =
+    absurd (Negative-Heavy draft chosen earlier number sample x y ha hb)
+one_sample_fault draft chosen earlier number sample (Negative x) NoMemory named known ha hb = absurd (known refl)
+one_sample_fault draft chosen earlier number sample (Depth x) NoValue named known ha hb = absurd hb
+one_sample_fault draft chosen earlier number sample (Depth x) (Width c) named known ha hb = absurd hb
+one_sample_fault draft chosen earlier number sample (Depth x) (Negative y) named known ha hb =
+    absurd (Negative-Depth draft chosen earlier number sample y x hb ha)
+one_sample_fault draft chosen earlier number sample (Depth x) (Depth y) named known ha hb = ap Depth (ha.0 ∙ sym hb.0)
+one_sample_fault draft chosen earlier number sample (Depth x) (Heavy y) named known ha hb =
+    absurd (Depth-Heavy draft chosen earlier number sample x y ha hb)
+one_sample_fault draft chosen earlier number sample (Depth x) NoMemory named known ha hb = absurd (known refl)
+one_sample_fault draft chosen earlier number sample (Heavy x) NoValue named known ha hb = absurd hb
+one_sample_fault draft chosen earlier number sample (Heavy x) (Width c) named known ha hb = absurd hb
+one_sample_fault draft chosen earlier number sample (Heavy x) (Negative y) named known ha hb =
+    absurd (Negative-Heavy draft chosen earlier number sample y x hb ha)
+one_sample_fault draft chosen earlier number sample (Heavy x) (Depth y) named known ha hb =
+    absurd (Depth-Heavy draft chosen earlier number sample y x hb ha)
+one_sample_fault draft chosen earlier number sample (Heavy x) (Heavy y) named known ha hb = ap Heavy (ha.0 ∙ sym hb.0)
+one_sample_fault draft chosen earlier number sample (Heavy x) NoMemory named known ha hb = absurd (known refl)
 
 -- ---- and by all values that are taken
 
@@ -166,10 +166,10 @@ one_standing draft choice fault other named known (
     ]
 
 -- where one place lies before another, the fault there is want of memory
-earlier : (draft : Draft) (choice : ValueChoice) (fault other : BatchFault)
+earlier_fault : (draft : Draft) (choice : ValueChoice) (fault other : BatchFault)
     (a : StandsInBatch draft choice fault) (b : StandsInBatch draft choice other) (rest : List Sample)
     → b.before ≡ a.before ++ a.sample ∷ rest → fault ≡ NoMemory
-earlier draft choice fault other a b rest within =
+earlier_fault draft choice fault other a b rest within =
     let place = same_first draft choice b.first a.first b.batch.width a.batch.width b.is_chosen a.is_chosen in
     let count = same_count draft choice b.first a.first b.batch.width a.batch.width b.is_chosen a.is_chosen in
     let all : AreRowsOfSamples draft a.first a.batch.width (a.before ++ a.sample ∷ rest) b.batch.rows =
@@ -196,12 +196,12 @@ one_standing_in draft choice fault other named known a b =
           let here : IsValuesFault draft a.first a.batch (length a.before) a.sample other =
           subst (λ s. IsValuesFault draft a.first a.batch (length a.before) s other) (sym same.1)
           (subst (λ ss. IsValuesFault draft a.first a.batch (length ss) b.sample other) (sym same.0)
-          (subst (λ held. IsValuesFault draft a.first held (length b.before) b.sample other) batch
+          (subst (λ earlier. IsValuesFault draft a.first earlier (length b.before) b.sample other) batch
           (subst (λ f. IsValuesFault draft f b.batch (length b.before) b.sample other) place b.there))) in
           one_values_fault draft a.first a.batch
           (length a.before) a.sample fault other a.is_batch.some named known a.there here
-      | inr (inl within) ↦ absurd (known (earlier draft choice other fault b a within.0 within.1))
-      | inr (inr within) ↦ absurd (named (earlier draft choice fault other a b within.0 within.1))
+      | inr (inl within) ↦ absurd (known (earlier_fault draft choice other fault b a within.0 within.1))
+      | inr (inr within) ↦ absurd (named (earlier_fault draft choice fault other a b within.0 within.1))
     ]
 
 -- ---- the first fault of a profile

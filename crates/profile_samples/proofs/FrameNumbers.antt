@@ -26,7 +26,7 @@ use Rattle.profile_samples.specs.Samples.{address_name, first_name, frames_at, f
 use Rattle.profile_samples.specs.Samples.{function_name, item_with, line_name, location_frames, named_by}
 use Rattle.profile_samples.specs.Samples.{sample_stack_of, string_at}
 use Rattle.profile_rows.specs.Tallies.{AreSingle, has_number, names_at}
-use Rattle.profile_rows.specs.TextTables.{place_in, with_text, with_texts}
+use Rattle.profile_rows.specs.TextTables.{number_in, with_text, with_texts}
 use Rattle.profile_rows.proofs.TallyLaws.{has_number-push}
 use Rattle.profile_samples.specs.NameNumbers.{AreFrameNumbers, AreFunctionNumbers, address_names, frame_names}
 use Rattle.profile_samples.specs.NameNumbers.{frame_numbers_of, given, line_number, location_numbers, number_at}
@@ -35,7 +35,7 @@ use Rattle.profile_samples.specs.NameNumbers.{string_numbers, with_number, with_
 use Rattle.profile_samples.proofs.ExportLaws.{AllStand, AreDistinct, distinct_with_texts, stand_where, stands_in}
 use Rattle.profile_samples.proofs.ExportLaws.{with_texts-own, with_texts-stands}
 use Rattle.profile_samples.proofs.ItemsById.{item_with-found}
-use Rattle.profile_rows.proofs.TextPlaces.{place_in-lt, text_at_place}
+use Rattle.profile_rows.proofs.TextNumbers.{number_in-lt, text_of_number}
 
 -- ---- numbers of strings and functions
 
@@ -170,14 +170,14 @@ frame_names-single draft =
     (address_names draft) (distinct_with_texts [] (given (string_names draft)) tt))
 
 below : (names frames : List (List ℕ))
-    → AllStand names frames → AllByRecursion (λ number. number < length names) (map (place_in names) frames)
+    → AllStand names frames → AllByRecursion (λ number. number < length names) (map (number_in names) frames)
 below names [] all = tt
-below names (frame ∷ frames) all = (place_in-lt names frame all.0, below names frames all.1)
+below names (frame ∷ frames) all = (number_in-lt names frame all.0, below names frames all.1)
 
 pub numbers_below : (names frames : List (List ℕ))
-    → AllStand names frames → All (λ number. number < length names) (map (place_in names) frames)
+    → AllStand names frames → All (λ number. number < length names) (map (number_in names) frames)
 numbers_below names frames all =
-    All-from_recursion (λ number. number < length names) (map (place_in names) frames) (below names frames all)
+    All-from_recursion (λ number. number < length names) (map (number_in names) frames) (below names frames all)
 
 -- ---- each number once
 
@@ -258,11 +258,11 @@ list_any-map names q (number ∷ numbers) =
     ap (λ b. is_same_name q (slice_index_or names number []) || b) (list_any-map names q numbers)
 
 any_placed : (names : List (List ℕ)) (q : List ℕ) (frames : List (List ℕ)) → AllStand names frames → list_any
-    (λ number. is_same_name q (slice_index_or names number [])) (map (place_in names) frames) ≡ has_name q frames
+    (λ number. is_same_name q (slice_index_or names number [])) (map (number_in names) frames) ≡ has_name q frames
 any_placed names q [] all = refl
 any_placed names q (frame ∷ frames) all =
     ap (λ name. is_same_name q name || list_any (λ number. is_same_name q (slice_index_or names number []))
-    (map (place_in names) frames)) (text_at_place names frame (place_in-lt names frame all.0))
+    (map (number_in names) frames)) (text_of_number names frame (number_in-lt names frame all.0))
     ∙ ap (λ b. is_same_name q frame || b) (any_placed names q frames all.1)
 
 -- what numbers say of the frames whose they are
@@ -275,21 +275,21 @@ pub record AreNumbersOf (names frames : List (List ℕ)) (numbers : FrameNumbers
   pub leaf : frames ≡ slice_index_or names numbers.leaf [] ∷ callers
 
 numbered : (names : List (List ℕ)) (frame : List ℕ) (frames : List (List ℕ)) → AllStand names (frame ∷ frames)
-    → AreNumbersOf names (frame ∷ frames) (frame_numbers_of (map (place_in names) (frame ∷ frames)))
+    → AreNumbersOf names (frame ∷ frames) (frame_numbers_of (map (number_in names) (frame ∷ frames)))
 numbered names frame frames all = record {
   depth = long (frame ∷ frames);
-  inside = All-from_recursion (λ number. number < length names) (once_of (map (place_in names) (frame ∷ frames)))
+  inside = All-from_recursion (λ number. number < length names) (once_of (map (number_in names) (frame ∷ frames)))
       (all_withs (λ number. number < length names) []
-      (map (place_in names) (frame ∷ frames)) tt (below names (frame ∷ frames) all));
-  same = λ q. list_any-map names q (once_of (map (place_in names) (frame ∷ frames)))
-      ∙ any_withs (λ number. is_same_name q (slice_index_or names number [])) [] (map (place_in names) (frame ∷ frames))
+      (map (number_in names) (frame ∷ frames)) tt (below names (frame ∷ frames) all));
+  same = λ q. list_any-map names q (once_of (map (number_in names) (frame ∷ frames)))
+      ∙ any_withs (λ number. is_same_name q (slice_index_or names number [])) [] (map (number_in names) (frame ∷ frames))
       ∙ any_placed names q (frame ∷ frames) all;
-  leaf_inside = place_in-lt names frame all.0;
+  leaf_inside = number_in-lt names frame all.0;
   callers = frames;
-  leaf = ap (λ name. name ∷ frames) (sym (text_at_place names frame (place_in-lt names frame all.0)));
+  leaf = ap (λ name. name ∷ frames) (sym (text_of_number names frame (number_in-lt names frame all.0)));
 }
   where
-    long : (frames : List (List ℕ)) → length (map (place_in names) frames) ≡ length frames
+    long : (frames : List (List ℕ)) → length (map (number_in names) frames) ≡ length frames
     long [] = refl
     long (frame ∷ frames) = ap suc (long frames)
 
@@ -385,28 +385,28 @@ pub room_left : (draft : Draft) (ids : List ℕ) (i room : ℕ) (numbers : Frame
     → AreNumbersOf (frame_names draft) (frames_of_id draft (get_or ids i 0)) numbers → numbers.depth ≤ room
     → room + length (frames_of_ids draft (take i ids)) ≡ 65535
     → (room - numbers.depth) + length (frames_of_ids draft (take (i + 1) ids)) ≡ 65535
-room_left draft ids i room numbers lt this low held =
+room_left draft ids i room numbers lt this low earlier =
     let depth = this.depth in
     let more = ap length (frames-more draft ids i lt)
     ∙ length-append (frames_of_ids draft (take i ids)) (frames_of_id draft (get_or ids i 0)) in
-    omega (arith, depth, more, low, held)
+    omega (arith, depth, more, low, earlier)
 
 pub room_same : (draft : Draft) (ids : List ℕ) (i room : ℕ) → i < length ids → frames_of_id draft (get_or ids i 0) ≡ []
     → room + length (frames_of_ids draft (take i ids)) ≡ 65535
     → room + length (frames_of_ids draft (take (i + 1) ids)) ≡ 65535
-room_same draft ids i room lt none held =
+room_same draft ids i room lt none earlier =
     let empty = ap length none in
     let more = ap length (frames-more draft ids i lt)
     ∙ length-append (frames_of_ids draft (take i ids)) (frames_of_id draft (get_or ids i 0)) in
-    omega (arith, empty, more, held)
+    omega (arith, empty, more, earlier)
 
 pub room_short : (draft : Draft) (ids : List ℕ) (i room : ℕ) (numbers : FrameNumbers) → i < length ids
     → AreNumbersOf (frame_names draft) (frames_of_id draft (get_or ids i 0)) numbers → room < numbers.depth
     → room + length (frames_of_ids draft (take i ids)) ≡ 65535 → 65535 < length (frames_of_ids draft ids)
-room_short draft ids i room numbers lt this low held =
+room_short draft ids i room numbers lt this low earlier =
     let depth = this.depth in
     let long = length-flat_map-take (frames_of_id draft) ids i 0 lt in
-    omega (arith, depth, long, low, held)
+    omega (arith, depth, long, low, earlier)
 
 pub leaf_first : (draft : Draft) (ids : List ℕ) (i : ℕ) (leaf : List ℕ) (callers : List (List ℕ))
     → i < length ids → frames_of_ids draft (take i ids) ≡ [] → frames_of_id draft (get_or ids i 0) ≡ leaf ∷ callers

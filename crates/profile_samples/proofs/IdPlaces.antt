@@ -33,7 +33,7 @@ places_more ids before after at id stands put places other = elim (cases_eq id o
     further (Some place) there ne = there
     further None nowhere ne = λ k lt there. elim (cases_eq k at) [
       | inl e ↦ ne (ap (λ o. unwrap_or o id) (sym stands ∙ ap (slice_get ids) (sym e) ∙ there))
-      | inr other_place ↦ nowhere k (omega (arith, lt, other_place)) there
+      | inr other_number ↦ nowhere k (omega (arith, lt, other_number)) there
     ]
 
 -- the places of all ids

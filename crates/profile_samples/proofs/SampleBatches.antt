@@ -209,7 +209,7 @@ faultless_among draft first batch number before sample after rows fault some kno
     let same : front ≡ batch.rows =
     AreRowsOfSamples-same draft first batch.width before front batch.rows own_before known in
     faultless_by draft first batch number sample row fault own some
-    (λ value. subst (λ held. total_of (rows_at value held) + value_of value row.weights < 2 ^ 63) same
+    (λ value. subst (λ earlier. total_of (rows_at value earlier) + value_of value row.weights < 2 ^ 63) same
     (room_in value front row back rows cut (fits value))) there
 
 -- a profile that gives a batch has no first fault but want of memory
@@ -309,7 +309,7 @@ IsValuesFault-heavy draft first batch number sample totals weights fault are cou
     (is, value, within, heavy) =
     let own = row_of_sample draft first batch.width sample weights count values deep in
     let width = are.width in
-    let held = are.each value in
+    let earlier = are.each value in
     let lt : value < batch.width = omega (arith, within, width) in
     let row : Row = record { stack = sample_stack_of draft sample.location_ids; weights = weights } in
     subst (IsValuesFault draft first batch number sample) (sym is) (
@@ -320,7 +320,7 @@ IsValuesFault-heavy draft first batch number sample totals weights fault are cou
           refl,
           weighing value row,
           row_by draft first batch.width sample row value own lt,
-          omega (arith, heavy, held),
+          omega (arith, heavy, earlier),
         ),
       ),
       row,
@@ -344,9 +344,9 @@ IsValuesFault-memory draft first batch number sample weights count values deep r
 pub has_room : (batch : BatchState) (totals weights : List ℕ) → AreTotals batch totals → ((value : ℕ)
     → value_of value totals + value_of value weights < 2 ^ 63) → (value : ℕ) → HasRoom batch weights value
 has_room batch totals weights are room value =
-    let held = are.each value in
+    let earlier = are.each value in
     let fits = room value in
-    omega (arith, held, fits)
+    omega (arith, earlier, fits)
 
 -- each sample of a valid profile has the values that are taken
 pub has_values : (draft : Draft) (first width count : ℕ) (sample : Sample) → IsValidDraft draft → first

@@ -165,22 +165,22 @@ cut_at draft chosen (s ∷ before) sample after (r ∷ rows) all =
     (r ∷ rest.0, rest.1, rest.2, ap (λ z. r ∷ z) rest.3, (all.0, rest.4), rest.5)
 
 -- a sample that gives a row within the total has no fault but want of memory
-pub faultless : (draft : Draft) (chosen held number : ℕ) (sample : Sample) (row : WeightedStack) (fault : BatchFault)
-    → IsSampleRow draft chosen sample row → held + row.weight < 2 ^ 63
-    → IsSampleFault draft chosen held number sample fault → fault ≡ NoMemory
-faultless draft chosen held number sample row NoValue this fits h = absurd h
-faultless draft chosen held number sample row (Width count) this fits h = absurd h
-faultless draft chosen held number sample row (Negative at) this fits h =
+pub faultless : (draft : Draft) (chosen earlier number : ℕ) (sample : Sample) (row : WeightedStack) (fault : BatchFault)
+    → IsSampleRow draft chosen sample row → earlier + row.weight < 2 ^ 63
+    → IsSampleFault draft chosen earlier number sample fault → fault ≡ NoMemory
+faultless draft chosen earlier number sample row NoValue this fits h = absurd h
+faultless draft chosen earlier number sample row (Width count) this fits h = absurd h
+faultless draft chosen earlier number sample row (Negative at) this fits h =
     absurd (not_below (slice_get sample.values chosen) row.weight h.1 this.value h.2)
-faultless draft chosen held number sample row (Depth at) this fits h =
+faultless draft chosen earlier number sample row (Depth at) this fits h =
     let deep = this.depth in
     let same = ap length this.stack in
     absurd (omega (arith, same, deep, h.3))
-faultless draft chosen held number sample row (Heavy at) this fits h =
+faultless draft chosen earlier number sample row (Heavy at) this fits h =
     let same : row.weight ≡ h.1.weight =
     ap (λ (r : WeightedStack). r.weight) (IsSampleRow-same draft chosen sample row h.1 this h.2) in
     absurd (omega (arith, same, fits, h.3))
-faultless draft chosen held number sample row NoMemory this fits h = refl
+faultless draft chosen earlier number sample row NoMemory this fits h = refl
 
 pub chosen_same : (draft : Draft) (choice : ValueChoice) (a b : ℕ)
     → chosen_type_of draft choice ≡ Some a → chosen_type_of draft choice ≡ Some b → a ≡ b
@@ -198,9 +198,9 @@ faultless_at draft chosen number before sample after front rows fault all whole 
     let total : total_of rows ≡ total_of (cut_rows.0 ++ cut_rows.1 ∷ cut_rows.2) = ap total_of cut_rows.3 in
     let parts = sum_by-append (λ (row : WeightedStack). row.weight) cut_rows.0 (cut_rows.1 ∷ cut_rows.2) in
     let row = sum_by-cons (λ (row : WeightedStack). row.weight) cut_rows.1 cut_rows.2 in
-    let held = ap total_of same in
+    let earlier = ap total_of same in
     faultless draft chosen
-    (total_of front) number sample cut_rows.1 fault cut_rows.5 (omega (arith, total, parts, row, whole, held)) there
+    (total_of front) number sample cut_rows.1 fault cut_rows.5 (omega (arith, total, parts, row, whole, earlier)) there
 
 -- a profile that gives rows has no first fault but want of memory
 stands_nowhere : (draft : Draft) (choice : ValueChoice) (rows : List WeightedStack) (fault : BatchFault)
@@ -337,28 +337,28 @@ pub sample_row : (draft : Draft) (chosen : ℕ) (sample : Sample) (weight : ℕ)
 sample_row draft chosen sample weight value deep = record { stack = refl; depth = deep; value = value }
 
 -- a sample that doesn't fit has that fault
-pub IsSampleFault-fit : (draft : Draft) (chosen held number : ℕ) (sample : Sample) (weight : ℕ) (fault : BatchFault)
+pub IsSampleFault-fit : (draft : Draft) (chosen earlier number : ℕ) (sample : Sample) (weight : ℕ) (fault : BatchFault)
     → slice_get sample.values chosen ≡ Some (pos weight)
-    → IsFitFault draft held number sample.location_ids weight fault
-    → IsSampleFault draft chosen held number sample fault
-IsSampleFault-fit draft chosen held number sample weight NoValue value h = absurd h
-IsSampleFault-fit draft chosen held number sample weight (Width count) value h = absurd h
-IsSampleFault-fit draft chosen held number sample weight (Negative at) value h = absurd h
-IsSampleFault-fit draft chosen held number sample weight (Depth at) value h = (h.0, weight, value, h.1)
-IsSampleFault-fit draft chosen held number sample weight (Heavy at) value h = (
+    → IsFitFault draft earlier number sample.location_ids weight fault
+    → IsSampleFault draft chosen earlier number sample fault
+IsSampleFault-fit draft chosen earlier number sample weight NoValue value h = absurd h
+IsSampleFault-fit draft chosen earlier number sample weight (Width count) value h = absurd h
+IsSampleFault-fit draft chosen earlier number sample weight (Negative at) value h = absurd h
+IsSampleFault-fit draft chosen earlier number sample weight (Depth at) value h = (h.0, weight, value, h.1)
+IsSampleFault-fit draft chosen earlier number sample weight (Heavy at) value h = (
   h.0,
   record { stack = sample_stack_of draft sample.location_ids; weight = weight },
   sample_row draft chosen sample weight value h.1,
   h.2,
 )
-IsSampleFault-fit draft chosen held number sample weight NoMemory value h = absurd h
+IsSampleFault-fit draft chosen earlier number sample weight NoMemory value h = absurd h
 
 -- where memory runs out the sample fits
-pub IsSampleFault-memory : (draft : Draft) (chosen held number : ℕ) (sample : Sample) (weight : ℕ)
+pub IsSampleFault-memory : (draft : Draft) (chosen earlier number : ℕ) (sample : Sample) (weight : ℕ)
     → slice_get sample.values chosen ≡ Some (pos weight)
     → length (sample_stack_of draft sample.location_ids) ≤ 65535
-    → held + weight < 2 ^ 63 → IsSampleFault draft chosen held number sample NoMemory
-IsSampleFault-memory draft chosen held number sample weight value deep fits = (
+    → earlier + weight < 2 ^ 63 → IsSampleFault draft chosen earlier number sample NoMemory
+IsSampleFault-memory draft chosen earlier number sample weight value deep fits = (
   record { stack = sample_stack_of draft sample.location_ids; weight = weight },
   sample_row draft chosen sample weight value deep,
   fits,

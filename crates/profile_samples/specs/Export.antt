@@ -14,7 +14,7 @@ use Rattle.folded_text.specs.FoldedText.{IsFoldedText}
 use Rattle.profile_rows.specs.Rows.{total_of}
 use Rattle.profile_rows.specs.Values.{Row, singles}
 use Rattle.profile_samples.specs.declared.exporting.ValueUnit.{ValueUnit}
-use Rattle.profile_rows.specs.TextTables.{place_in, with_texts}
+use Rattle.profile_rows.specs.TextTables.{number_in, with_texts}
 
 -- the kind and the unit of a value
 abbrev pub KindAndUnit : Type 0
@@ -42,10 +42,10 @@ strings_of units names = with_texts [] ([] ∷ unit_texts units ++ names)
 
 -- the id of a name's function and of its location, from 1 on
 abbrev pub id_in : List (List ℕ) → List ℕ → ℕ
-id_in names name = place_in names name + 1
+id_in names name = number_in names name + 1
 
 abbrev pub exported_function : List (List ℕ) → List (List ℕ) → List ℕ → Function
-exported_function names strings name = record no_function { id = id_in names name; name = pos (place_in strings name) }
+exported_function names strings name = record no_function { id = id_in names name; name = pos (number_in strings name) }
 
 abbrev pub exported_location : List (List ℕ) → List ℕ → Location
 exported_location names name =
@@ -57,7 +57,7 @@ exported_sample names row =
     record { location_ids = reverse (map (id_in names) row.stack); values = map pos row.weights; labels = [] }
 
 abbrev pub exported_type : List (List ℕ) → KindAndUnit → ValueType
-exported_type strings unit = record { kind = pos (place_in strings unit.0); unit = pos (place_in strings unit.1) }
+exported_type strings unit = record { kind = pos (number_in strings unit.0); unit = pos (number_in strings unit.1) }
 
 -- a profile of these names and strings
 abbrev pub draft_with : List (List ℕ) → List (List ℕ) → List Sample → List ValueType → Draft

@@ -13,7 +13,7 @@ use Rattle.profile_samples.specs.declared.string_names.StringName.{StringName}
 use Rattle.profile_samples.specs.declared.string_names.StringName.TheVariants.{Missing, Plain, Cleaned}
 use Rattle.profile_samples.specs.Samples.{address_name, function_name, item_with, line_name, location_frames}
 use Rattle.profile_rows.specs.Tallies.{has_number}
-use Rattle.profile_rows.specs.TextTables.{place_in, with_texts}
+use Rattle.profile_rows.specs.TextTables.{number_in, with_texts}
 
 -- ---- numbers of names
 
@@ -43,7 +43,7 @@ frame_names draft = with_texts (with_texts [] (given (string_names draft))) (add
 
 -- a name's number is its place among them
 abbrev pub number_of : Draft → List ℕ → ℕ
-number_of draft name = place_in (frame_names draft) name
+number_of draft name = number_in (frame_names draft) name
 
 -- the number of the name of each string, where it has one
 abbrev pub string_numbers : Draft → List (Option ℕ)

@@ -155,30 +155,30 @@ IsValueFault chosen number values (Depth at) = ⊥
 IsValueFault chosen number values (Heavy at) = ⊥
 IsValueFault chosen number values NoMemory = ⊥
 
--- why the locations and the value of a sample give no row that can follow rows of the weight `held`
+-- why the locations and the value of a sample give no row that can follow rows of the weight `earlier`
 abbrev pub IsFitFault : Draft → ℕ → ℕ → List ℕ → ℕ → BatchFault → Type 0
-IsFitFault draft held number ids weight NoValue = ⊥
-IsFitFault draft held number ids weight (Width count) = ⊥
-IsFitFault draft held number ids weight (Negative at) = ⊥
-IsFitFault draft held number ids weight (Depth at) = (at ≡ number) × (65535 < length (sample_stack_of draft ids))
-IsFitFault draft held number ids weight (Heavy at) = (at ≡ number) × (length (sample_stack_of draft ids) ≤ 65535)
-    × (2 ^ 63 ≤ held + weight)
-IsFitFault draft held number ids weight NoMemory = ⊥
+IsFitFault draft earlier number ids weight NoValue = ⊥
+IsFitFault draft earlier number ids weight (Width count) = ⊥
+IsFitFault draft earlier number ids weight (Negative at) = ⊥
+IsFitFault draft earlier number ids weight (Depth at) = (at ≡ number) × (65535 < length (sample_stack_of draft ids))
+IsFitFault draft earlier number ids weight (Heavy at) = (at ≡ number) × (length (sample_stack_of draft ids) ≤ 65535)
+    × (2 ^ 63 ≤ earlier + weight)
+IsFitFault draft earlier number ids weight NoMemory = ⊥
 
--- Why a sample gives no row that can follow rows of the weight `held`. Each case says that the ones before it don't
+-- Why a sample gives no row that can follow rows of the weight `earlier`. Each case says that the ones before it don't
 -- stand, and memory runs out only at a sample without a fault: one that gives a row which can follow.
 abbrev pub IsSampleFault : Draft → ℕ → ℕ → ℕ → Sample → BatchFault → Type 0
-IsSampleFault draft chosen held number sample NoValue = ⊥
-IsSampleFault draft chosen held number sample (Width count) = ⊥
-IsSampleFault draft chosen held number sample (Negative at) = (at ≡ number)
+IsSampleFault draft chosen earlier number sample NoValue = ⊥
+IsSampleFault draft chosen earlier number sample (Width count) = ⊥
+IsSampleFault draft chosen earlier number sample (Negative at) = (at ≡ number)
     × (below : ℕ) × (slice_get sample.values chosen ≡ Some (negsuc below))
-IsSampleFault draft chosen held number sample (Depth at) = (at ≡ number)
+IsSampleFault draft chosen earlier number sample (Depth at) = (at ≡ number)
     × (weight : ℕ) × (slice_get sample.values chosen ≡ Some (pos weight))
     × (65535 < length (sample_stack_of draft sample.location_ids))
-IsSampleFault draft chosen held number sample (Heavy at) = (at ≡ number)
-    × (row : WeightedStack) × IsSampleRow draft chosen sample row × (2 ^ 63 ≤ held + row.weight)
-IsSampleFault draft chosen held number sample NoMemory = (row : WeightedStack) × IsSampleRow draft chosen sample row
-    × (held + row.weight < 2 ^ 63)
+IsSampleFault draft chosen earlier number sample (Heavy at) = (at ≡ number)
+    × (row : WeightedStack) × IsSampleRow draft chosen sample row × (2 ^ 63 ≤ earlier + row.weight)
+IsSampleFault draft chosen earlier number sample NoMemory = (row : WeightedStack) × IsSampleRow draft chosen sample row
+    × (earlier + row.weight < 2 ^ 63)
 
 -- the fault stands at a sample, and the samples before it give rows within the limit
 abbrev pub StandsAtSample : Draft → ValueChoice → BatchFault → Type 0

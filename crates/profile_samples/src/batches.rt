@@ -88,11 +88,11 @@ fn weights_of(values: &[i64], chosen: &ChosenValues, number: u64) -> Result<Weig
         × IsValueFault (chosen.now.first + value) number values.now fault) }
 {
     let count = chosen.width.get() as usize;
-    let mut held = [0; 4];
+    let mut four = [0; 4];
     for value in 0..count {
-        held[value] = weight_of(values, chosen.first + value, number)?;
+        four[value] = weight_of(values, chosen.first + value, number)?;
     }
-    match Weights::make(&held[..count]) {
+    match Weights::make(&four[..count]) {
         Some(weights) => Ok(weights),
         None => unreachable!(),
     }

@@ -58,44 +58,44 @@ fn check_depth(frames: &NumberedFrames, ids: &[u64], number: u64) -> Result<(), 
     }
 }
 
-/// Whether a sample at these locations gives a row that can follow rows of the weight `held`.
+/// Whether a sample at these locations gives a row that can follow rows of the weight `earlier`.
 fn check_fit(
     frames: &NumberedFrames,
     ids: &[u64],
     weight: u64,
-    held: u64,
+    earlier: u64,
     number: u64,
 ) -> Result<(), BatchFault>
-    requires { held < 2 ^ 63 }
+    requires { earlier < 2 ^ 63 }
     ensures depth { OnOk result (length (sample_stack_of frames.now ids.now) ≤ MAX_DEPTH) }
-    ensures fits { OnOk result (held + weight < 2 ^ 63) }
-    ensures fault { IfErr result (IsFitFault frames.now held number ids.now weight) }
+    ensures fits { OnOk result (earlier + weight < 2 ^ 63) }
+    ensures fault { IfErr result (IsFitFault frames.now earlier number ids.now weight) }
 {
     check_depth(frames, ids, number)?;
-    if weight > MAX_TOTAL - held {
+    if weight > MAX_TOTAL - earlier {
         return Err(BatchFault::Heavy { sample: number });
     }
     Ok(())
 }
 
-/// The weight of a sample that gives a row which can follow rows of the weight `held`.
+/// The weight of a sample that gives a row which can follow rows of the weight `earlier`.
 fn sample_weight(
     frames: &NumberedFrames,
     chosen: usize,
     sample: &Sample,
-    held: u64,
+    earlier: u64,
     number: u64,
 ) -> Result<u64, BatchFault>
     requires values { chosen < length sample.now.values }
-    requires held { held < 2 ^ 63 }
+    requires earlier { earlier < 2 ^ 63 }
     ensures row { IfOk result (λ weight. IsSampleRow frames.now chosen sample.now
         (record { stack = sample_stack_of frames.now sample.now.location_ids; weight = weight })) }
-    ensures fits { IfOk result (λ weight. held + weight < 2 ^ 63) }
-    ensures fault { IfErr result (IsSampleFault frames.now chosen held number sample.now) }
+    ensures fits { IfOk result (λ weight. earlier + weight < 2 ^ 63) }
+    ensures fault { IfErr result (IsSampleFault frames.now chosen earlier number sample.now) }
 {
     let ids = sample.location_ids.as_slice();
     let weight = weight_of(sample.values.as_slice(), chosen, number)?;
-    check_fit(frames, ids, weight, held, number)?;
+    check_fit(frames, ids, weight, earlier, number)?;
     Ok(weight)
 }
 

@@ -87,7 +87,7 @@ fn strings_of<'a>(
 fn id_in(names: &TextTable, name: &str) -> u64
     ensures { result ≡ id_in names.now.texts name.now }
 {
-    names.place_of(name) as u64 + 1
+    names.number_of(name) as u64 + 1
 }
 
 /// The functions of the names.
@@ -103,7 +103,7 @@ fn functions_of(
     for name in names.texts() {
         functions.push(Function {
             id: id_in(names, *name),
-            name: strings.place_of(*name) as i64,
+            name: strings.number_of(*name) as i64,
             system_name: 0,
             filename: 0,
             start_line: 0,
@@ -200,8 +200,8 @@ fn types_of(
     let mut types = Vec::with_capacity(alloc, units.len())?;
     for unit in units {
         types.push(ValueType {
-            kind: strings.place_of(unit.kind) as i64,
-            unit: strings.place_of(unit.unit) as i64,
+            kind: strings.number_of(unit.kind) as i64,
+            unit: strings.number_of(unit.unit) as i64,
         })?;
     }
     Ok(Items::new(types))

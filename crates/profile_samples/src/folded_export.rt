@@ -39,7 +39,7 @@ fn replace_ids<'a>(
 {
     ids.clear();
     for frame in frames {
-        ids.push(names.place_with(*frame)? as u64 + 1)?;
+        ids.push(names.number_with(*frame)? as u64 + 1)?;
     }
     ids.reverse();
     Ok(())
@@ -76,9 +76,11 @@ fn profile_bytes(
     kind: &str,
     unit: &str,
 ) -> Result<Vec<u8>, NoMemory>
-    ensures canonical { (all : List WeightedStack) → AreSamplesOf all rows.now.names.texts rows.now.samples rows.now.total
+    ensures canonical { (all : List WeightedStack)
+        → AreSamplesOf all rows.now.names.texts rows.now.samples rows.now.total
         → IfOk result (λ bytes. bytes.items ≡ canonical_bytes_of (single_profile_of all kind.now unit.now)) }
-    ensures profile { (all : List WeightedStack) → AreSamplesOf all rows.now.names.texts rows.now.samples rows.now.total
+    ensures profile { (all : List WeightedStack)
+        → AreSamplesOf all rows.now.names.texts rows.now.samples rows.now.total
         → IfOk result (λ bytes. IsProfile bytes.items (single_profile_of all kind.now unit.now)) }
 {
     let units = [ValueUnit { kind, unit }];

@@ -18,21 +18,21 @@ use profile_rows::{Hashing, MAX_DEPTH, MAX_TOTAL, WeightedStacks};
 use std::alloc::Global;
 use std::collections::HashMap;
 
-/// Whether a sample at these locations gives a row that can follow rows of the weight `held`.
+/// Whether a sample at these locations gives a row that can follow rows of the weight `earlier`.
 fn check_fit(
     frames: &LocationFrames,
     ids: &[u64],
     weight: u64,
-    held: u64,
+    earlier: u64,
     number: u64,
 ) -> Result<(), BatchFault>
-    requires { held < 2 ^ 63 }
+    requires { earlier < 2 ^ 63 }
     ensures depth { OnOk result (length (sample_stack_of frames.now ids.now) ≤ MAX_DEPTH) }
-    ensures fits { OnOk result (held + weight < 2 ^ 63) }
-    ensures fault { IfErr result (IsFitFault frames.now held number ids.now weight) }
+    ensures fits { OnOk result (earlier + weight < 2 ^ 63) }
+    ensures fault { IfErr result (IsFitFault frames.now earlier number ids.now weight) }
 {
     check_depth(frames, ids, number)?;
-    if weight > MAX_TOTAL - held {
+    if weight > MAX_TOTAL - earlier {
         return Err(BatchFault::Heavy { sample: number });
     }
     Ok(())

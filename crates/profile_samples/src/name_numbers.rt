@@ -5,7 +5,7 @@ ghost use Rattle.std.specs.Prelude.{ℕ, ◌≡◌, ◌<◌, ◌≤◌, ◌↔�
 ghost use Rattle.std.specs.Option.{option_map};
 ghost use Rattle.profile_rows.specs.Names.{IsName, cleaned_name_of};
 ghost use Rattle.profile_samples.specs.Samples.{address_name, frames_of_ids, sample_stack_of};
-ghost use Rattle.profile_rows.specs.TextTables.{place_in, with_texts};
+ghost use Rattle.profile_rows.specs.TextTables.{number_in, with_texts};
 ghost use Rattle.profile_samples.specs.NameNumbers.{address_names, frame_names, frame_numbers_of, given, location_numbers, name_in, number_of, numbers_of, numbers_of_id, once_of, string_names};
 
 use crate::exporting::with_names;
@@ -91,35 +91,35 @@ fn with_given<'a>(
     Ok(table)
 }
 
-/// The places of the names that are there.
-fn given_places(
+/// The numbers of the names that are there.
+fn given_numbers(
     alloc: Global,
     table: &TextTable,
     names: &[StringName],
 ) -> Result<Vec<Option<usize>>, AllocError>
     ensures { IfOk result
-        (λ places. places.items ≡ map (option_map (place_in table.now.texts)) (map name_in names.now)) }
+        (λ numbers. numbers.items ≡ map (option_map (number_in table.now.texts)) (map name_in names.now)) }
 {
-    let mut places = Vec::with_capacity(alloc, names.len())?;
+    let mut numbers = Vec::with_capacity(alloc, names.len())?;
     for name in names {
-        let place = match name.text() {
-            Some(text) => Some(table.place_of(text)),
+        let number = match name.text() {
+            Some(text) => Some(table.number_of(text)),
             None => None,
         };
-        places.push(place)?;
+        numbers.push(number)?;
     }
-    Ok(places)
+    Ok(numbers)
 }
 
-/// The places of names.
-fn places_of(alloc: Global, table: &TextTable, names: &[Name]) -> Result<Vec<usize>, AllocError>
-    ensures { IfOk result (λ places. places.items ≡ map (place_in table.now.texts) names.now) }
+/// The numbers of names.
+fn numbers_in(alloc: Global, table: &TextTable, names: &[Name]) -> Result<Vec<usize>, AllocError>
+    ensures { IfOk result (λ numbers. numbers.items ≡ map (number_in table.now.texts) names.now) }
 {
-    let mut places = Vec::with_capacity(alloc, names.len())?;
+    let mut numbers = Vec::with_capacity(alloc, names.len())?;
     for name in names {
-        places.push(table.place_of(name.text()))?;
+        numbers.push(table.number_of(name.text()))?;
     }
-    Ok(places)
+    Ok(numbers)
 }
 
 /// A location's frames by the numbers of their names.
@@ -258,8 +258,8 @@ impl<'a> NumberedFrames<'a> {
         let draft = profile.draft();
         let table = with_given(TextTable::new(alloc, hashing), names.strings.as_slice())?;
         let table = with_names(table, names.addresses.as_slice())?;
-        let strings = given_places(alloc, &table, names.strings.as_slice())?;
-        let addresses = places_of(alloc, &table, names.addresses.as_slice())?;
+        let strings = given_numbers(alloc, &table, names.strings.as_slice())?;
+        let addresses = numbers_in(alloc, &table, names.addresses.as_slice())?;
         let functions = FunctionNumbers::new(alloc, hashing, draft, strings.as_slice())?;
         let locations = draft.locations.as_slice();
         let marks = vec![in alloc; 0; table.texts().len()]?;

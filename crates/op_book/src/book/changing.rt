@@ -272,11 +272,11 @@ impl Book {
         if batch.width() != width {
             return Err(BookFault::Width { held: width.get() });
         }
-        let held = self.held();
-        match first_heavy(&held, &batch.total()) {
+        let totals = self.totals();
+        match first_heavy(&totals, &batch.total()) {
             Some(value) => Err(BookFault::Heavy {
                 value,
-                held: held.value(value),
+                held: totals.value(value),
             }),
             None => Ok(()),
         }

@@ -33,7 +33,7 @@ pub returns-in_err-fitting-clause-fault : goal.returns-in_err-fitting-clause-fau
 returns-in_err-fitting-clause-fault c =
     let (utf8, small, digits, count, value) = c.in_ok-stack.ensures.counted in
     let p = err_from_is_err_and c.from_residual-in_err-fitting.result c.from_residual-in_err-fitting.ensures.1 in
-    rw (p.1, p.2) (IsLineFault-fitting c.args.held c.args.number c.args.line.now
+    rw (p.1, p.2) (IsLineFault-fitting c.args.earlier c.args.number c.args.line.now
     c.in_ok-stack.stack.now digits c.in_ok-stack.weight c.in_err-fitting.field-0.0 utf8 small count value
     (c.in_err-fitting.ensures.fault c.in_ok-stack.stack.now c.measured.ensures.depth))
 
@@ -41,7 +41,7 @@ pub returns-in_default-clause-fault : goal.returns-in_default-clause-fault
 returns-in_default-clause-fault c =
     let (utf8, small, digits, count, value) = c.in_ok-stack.ensures.counted in
     let (most, fits) = c.in_ok-fitting.ensures.fits in
-    IsLineFault-memory c.args.held c.args.held c.args.number c.args.line.now c.in_ok-stack.stack.now
+    IsLineFault-memory c.args.earlier c.args.earlier c.args.number c.args.line.now c.in_ok-stack.stack.now
     digits c.measured.result.0 c.in_ok-stack.weight refl utf8 fits count value c.measured.ensures.depth most
 
 pub returns-in_err-fitting-2-clause-fault : goal.returns-in_err-fitting-2-clause-fault
@@ -50,6 +50,6 @@ returns-in_err-fitting-2-clause-fault c =
     let p = err_from_is_err_and c.from_residual-in_err-fitting-2.result c.from_residual-in_err-fitting-2.ensures.1 in
     let depth = long (frames_of c.in_ok-stack.stack.now) c.replace_by_text.new.frames.items c.len.result
     (search rules) c.in-Ok.ensures.texts in
-    rw (p.1, p.2) (IsLineFault-fitting c.args.held c.args.number c.args.line.now
+    rw (p.1, p.2) (IsLineFault-fitting c.args.earlier c.args.number c.args.line.now
     c.in_ok-stack.stack.now digits c.in_ok-stack.weight c.in_err-fitting-2.field-0.0 utf8 small count value
     (c.in_err-fitting-2.ensures.fault c.in_ok-stack.stack.now depth))

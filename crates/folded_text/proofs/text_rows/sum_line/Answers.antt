@@ -26,7 +26,7 @@ returns-in-Some-clause-added c =
     ∙ sym c.copied.ensures ∙ c.in-Some.is in
     let here = placed_at frames_of c.args.sums.now.known
     (spelled_rows c.args.sums.now.rows.items) c.in_ok-text.text.now c.in-Some.at c.requires.known.placed found in
-    let fits = subst (λ held. OnOk c.add_to_text.result (held + c.in_ok-text.weight < 2 ^ 63))
+    let fits = subst (λ earlier. OnOk c.add_to_text.result (earlier + c.in_ok-text.weight < 2 ^ 63))
     c.requires.known.total_is c.add_to_text.ensures.fits in
     added_to c.in-Some.at c.in_ok-text.weight c.args.line.now c.in_ok-text.text.now digits
     (spelled_rows c.args.sums.now.rows.items) (spelled_rows c.add_to_text.new.sums.rows.items)

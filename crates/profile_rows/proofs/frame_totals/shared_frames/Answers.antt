@@ -4,7 +4,7 @@ use Rattle.std.proofs.lemmas.Bool.{not-false}
 use Rattle.std.proofs.lemmas.List.{length-map, take_more}
 use denote.Ref.{Bor}
 use Rattle.profile_rows.proofs.SameNames.{same_from_is_same_name}
-use Rattle.profile_rows.proofs.TextPlaces.{no_text, shown_at}
+use Rattle.profile_rows.proofs.TextNumbers.{no_text, shown_at}
 use Rattle.profile_rows.proofs.frame_totals.shared_frames.Goals as goal
 
 -- one text more of those that are lent

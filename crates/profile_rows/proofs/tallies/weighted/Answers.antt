@@ -10,7 +10,7 @@ use Rattle.profile_rows.specs.Names.{IsName}
 use Rattle.profile_rows.specs.Tallies.{tally_at}
 use Rattle.profile_rows.specs.TopList.{AreSumsOf}
 use Rattle.profile_rows.proofs.TallyLaws.{zero_tally}
-use Rattle.profile_rows.proofs.TextPlaces.{no_text, shown_at}
+use Rattle.profile_rows.proofs.TextNumbers.{no_text, shown_at}
 use Rattle.profile_rows.proofs.Weighted.{number_named, shown-AreSumsOf, weighted_in, weightless_more, weighty_more}
 use Rattle.profile_rows.proofs.tallies.weighted.Goals as goal
 use Rattle.profile_rows.proofs.tallies.weighted.Goals.{then-tally-gt0+in_ok-keep+in_ok-push, else-tally-gt0}

@@ -29,8 +29,8 @@ returns-in_err-weight c = λ choice is_chosen.
     let (rows, so_far, counted) = c.loop-index.invariant in
     let own = subst (λ d. IsSampleFault d c.args.chosen c.loop-index.tallies.total c.loop-index.index
     c.sample-item.result c.in_err-weight.field-0.0) c.requires.framed c.in_err-weight.ensures.fault in
-    let there = subst (λ held. IsSampleFault c.args.profile.now
-    c.args.chosen held c.loop-index.index c.sample-item.result c.in_err-weight.field-0.0) counted.total own in
+    let there = subst (λ earlier. IsSampleFault c.args.profile.now
+    c.args.chosen earlier c.loop-index.index c.sample-item.result c.in_err-weight.field-0.0) counted.total own in
     rw (p.1, p.2) (AreRowsSoFar-stands c.args.profile.now choice c.args.chosen
     c.loop-index.index c.sample-item.result rows c.in_err-weight.field-0.0 is_chosen within item so_far there)
 

@@ -11,10 +11,10 @@ returns-in_err-check_fit-clause-fault c =
     let p = err_from_is_err_and c.from_residual-in_err-check_fit.result c.from_residual-in_err-check_fit.ensures.1 in
     let value = subst (λ values. slice_get values c.args.chosen ≡ Some (pos c.in_ok-weight.weight))
     c.as_slice.ensures c.in_ok-weight.ensures.weight.0 in
-    let fit = subst (λ ids. IsFitFault c.args.frames.now c.args.held c.args.number ids
+    let fit = subst (λ ids. IsFitFault c.args.frames.now c.args.earlier c.args.number ids
     c.in_ok-weight.weight c.in_err-check_fit.field-0.0) c.as_slice-ids.ensures c.in_err-check_fit.ensures.fault in
     rw (p.1, p.2) (IsSampleFault-fit c.args.frames.now c.args.chosen
-    c.args.held c.args.number c.args.sample.now c.in_ok-weight.weight c.in_err-check_fit.field-0.0 value fit)
+    c.args.earlier c.args.number c.args.sample.now c.in_ok-weight.weight c.in_err-check_fit.field-0.0 value fit)
 
 pub returns-clause-row : goal.returns-clause-row
 returns-clause-row c =

@@ -1,6 +1,6 @@
 -- The next text is copied.
 use Rattle.std.proofs.Common.{◌++◌, ◌∷◌, [], sym, ap, ◌∙◌, take}
-use Rattle.profile_rows.proofs.TextPlaces.{next_text}
+use Rattle.profile_rows.proofs.TextNumbers.{next_text}
 use Rattle.profile_samples.proofs.exporting.copies_of.Goals as goal
 
 pub loop-text-preserved : goal.loop-text-preserved

@@ -3,7 +3,7 @@ use Rattle.std.proofs.Common.{ap, ◌∙◌, take, pos}
 use Rattle.std.specs.Int.{w64}
 use Rattle.std.proofs.lemmas.Int.{to_z_pos}
 use Rattle.profile_samples.specs.Export.{exported_function}
-use Rattle.profile_rows.proofs.TextPlaces.{next_pushed, next_text}
+use Rattle.profile_rows.proofs.TextNumbers.{next_pushed, next_text}
 use Rattle.profile_samples.proofs.exporting.functions_of.Goals as goal
 
 pub loop-name-preserved : goal.loop-name-preserved
@@ -13,8 +13,8 @@ loop-name-preserved c =
     c.in_ok-push.ensures.items
     (λ i. record {
       id = c.id_in.ensures i;
-      name = (to_z_pos w64 c.place_of.result c.place_of.ensures.fits
-          ∙ ap pos c.place_of.ensures.place) i;
+      name = (to_z_pos w64 c.number_of.result c.number_of.ensures.fits
+          ∙ ap pos c.number_of.ensures.number) i;
       system_name = pos 0;
       filename = pos 0;
       start_line = pos 0;

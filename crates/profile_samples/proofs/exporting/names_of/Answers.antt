@@ -7,7 +7,7 @@ use Rattle.std.proofs.lemmas.Grind.{flat_map-append}
 use Rattle.profile_rows.specs.declared.weighted_stacks.WeightedStack.{WeightedStack}
 use Rattle.profile_rows.specs.Names.{IsName}
 use Rattle.profile_rows.specs.TextTables.{with_texts}
-use Rattle.profile_rows.proofs.TextPlaces.{with_texts-append}
+use Rattle.profile_rows.proofs.TextNumbers.{with_texts-append}
 use Rattle.profile_samples.proofs.exporting.names_of.Goals as goal
 
 pub loop-row-preserved : goal.loop-row-preserved

@@ -3,7 +3,7 @@ use Rattle.std.proofs.Common.{◌≡◌, ◌∷◌, [], ap, sym, ◌∙◌, arit
 use Rattle.std.proofs.lemmas.List.{length-map, take_all}
 use Rattle.profile_samples.specs.Export.{pairs_of, unit_texts}
 use Rattle.profile_rows.specs.TextTables.{with_text, with_texts}
-use Rattle.profile_rows.proofs.TextPlaces.{next_text, next_with, with_texts-append}
+use Rattle.profile_rows.proofs.TextNumbers.{next_text, next_with, with_texts-append}
 use Rattle.profile_samples.proofs.exporting.strings_of.Goals as goal
 
 pub loop-name-preserved : goal.loop-name-preserved

@@ -4,7 +4,7 @@ use Rattle.std.proofs.lemmas.List.{take_more}
 use Rattle.std.proofs.lemmas.List.Elements.{All-more}
 use Rattle.profile_rows.specs.Names.{IsName}
 use Rattle.profile_rows.specs.TextTables.{with_text}
-use Rattle.profile_rows.proofs.TextPlaces.{next_with}
+use Rattle.profile_rows.proofs.TextNumbers.{next_with}
 use Rattle.profile_samples.proofs.exporting.with_names.Goals as goal
 
 pub loop-name-preserved : goal.loop-name-preserved

@@ -4,7 +4,7 @@ use Rattle.std.proofs.Common.{subst}
 use Rattle.std.proofs.lemmas.List.{get_or-map, length-map, take_more}
 use denote.Ref.{Bor}
 use Rattle.profile_samples.proofs.ExportedRows.{ids_with}
-use Rattle.profile_rows.proofs.TextPlaces.{next_with}
+use Rattle.profile_rows.proofs.TextNumbers.{next_with}
 use Rattle.profile_samples.proofs.folded_export.replace_ids.Goals as goal
 
 abbrev text_of : Bor (List ℕ) → List ℕ
@@ -29,11 +29,11 @@ loop-frame-preserved c =
     let more = more_texts frames i c.loop-frame-test.true in
     let text = text_of (slice_index_or frames i none) in
     record {
-      names = next_with c.args.names.now.texts c.loop-frame.names.texts c.place_with.new.self.texts seen all text
-          c.in_ok-place_with.ensures.texts c.loop-frame.invariant.names more;
+      names = next_with c.args.names.now.texts c.loop-frame.names.texts c.number_with.new.self.texts seen all text
+          c.in_ok-number_with.ensures.texts c.loop-frame.invariant.names more;
       ids = c.in_ok-push.ensures.items
-          ∙ ap (λ ids. ids ++ (c.in_ok-place_with.field-0 + 1) ∷ []) c.loop-frame.invariant.ids
-          ∙ ids_with c.args.names.now.texts c.loop-frame.names.texts c.place_with.new.self.texts seen all text
-          c.in_ok-place_with.field-0
-          c.in_ok-place_with.ensures.place c.in_ok-place_with.ensures.texts c.loop-frame.invariant.names more;
+          ∙ ap (λ ids. ids ++ (c.in_ok-number_with.field-0 + 1) ∷ []) c.loop-frame.invariant.ids
+          ∙ ids_with c.args.names.now.texts c.loop-frame.names.texts c.number_with.new.self.texts seen all text
+          c.in_ok-number_with.field-0
+          c.in_ok-number_with.ensures.number c.in_ok-number_with.ensures.texts c.loop-frame.invariant.names more;
     }

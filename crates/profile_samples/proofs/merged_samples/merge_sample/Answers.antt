@@ -87,7 +87,7 @@ returns-in_err-check_fit-in-None-clause-fault c =
     c.as_slice.ensures c.in_ok-weight.ensures.weight.0 in
     let ids = subst (λ ids. IsFitFault c.args.frames.now c.total.result c.args.number ids c.in_ok-weight.weight
     c.in_err-check_fit-in-None.field-0.0) c.as_slice-ids.ensures c.in_err-check_fit-in-None.ensures.fault in
-    let fit = subst (λ held. IsFitFault c.args.frames.now held c.args.number c.args.sample.now.location_ids
+    let fit = subst (λ earlier. IsFitFault c.args.frames.now earlier c.args.number c.args.sample.now.location_ids
     c.in_ok-weight.weight c.in_err-check_fit-in-None.field-0.0) c.total.ensures.total ids in
     rw (p.1, p.2) (IsSampleFault-fit c.args.frames.now c.args.chosen (total_of c.args.merged.now)
     c.args.number c.args.sample.now c.in_ok-weight.weight c.in_err-check_fit-in-None.field-0.0 value fit)
@@ -101,6 +101,6 @@ returns-in_err-push_merged-in-None-clause-fault c =
     let deep = subst (λ ids. length (sample_stack_of c.args.frames.now ids) ≤ 65535)
     c.as_slice-ids.ensures c.in_ok-check_fit-in-None.ensures.depth in
     let fits = subst
-    (λ held. held + c.in_ok-weight.weight < 2 ^ 63) c.total.ensures.total c.in_ok-check_fit-in-None.ensures.fits in
+    (λ earlier. earlier + c.in_ok-weight.weight < 2 ^ 63) c.total.ensures.total c.in_ok-check_fit-in-None.ensures.fits in
     rw (p.1, p.2) (IsSampleFault-memory c.args.frames.now c.args.chosen
     (total_of c.args.merged.now) c.args.number c.args.sample.now c.in_ok-weight.weight value deep fits)

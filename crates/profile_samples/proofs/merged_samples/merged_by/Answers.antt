@@ -26,8 +26,8 @@ returns-in_err-merge_sample c = λ choice is_chosen.
     let (rows, so_far, sums) = c.loop-index.invariant.0 in
     let own = subst (λ d. IsSampleFault d c.args.chosen (total_of c.loop-index.merged) c.loop-index.index
     c.sample-item.result c.in_err-merge_sample.field-0.0) c.requires.framed c.in_err-merge_sample.ensures.fault in
-    let there = subst (λ held. IsSampleFault c.args.profile.now
-    c.args.chosen held c.loop-index.index c.sample-item.result c.in_err-merge_sample.field-0.0) sums.total own in
+    let there = subst (λ earlier. IsSampleFault c.args.profile.now
+    c.args.chosen earlier c.loop-index.index c.sample-item.result c.in_err-merge_sample.field-0.0) sums.total own in
     rw (p.1, p.2) (AreRowsSoFar-stands c.args.profile.now choice c.args.chosen
     c.loop-index.index c.sample-item.result rows c.in_err-merge_sample.field-0.0 is_chosen within item so_far there)
 
@@ -39,7 +39,7 @@ loop-index-preserved c =
     let (rows, so_far, sums) = c.loop-index.invariant.0 in
     let (row, this, adds) = c.in_ok-merge_sample.ensures.added in
     let own = subst (λ d. IsSampleRow d c.args.chosen c.sample-item.result row) c.requires.framed this in
-    let fits = subst (λ held. held + row.weight < 2 ^ 63) sums.total adds.fits in (
+    let fits = subst (λ earlier. earlier + row.weight < 2 ^ 63) sums.total adds.fits in (
       (
         rows ++ row ∷ [],
         AreRowsSoFar-row c.args.profile.now c.args.chosen c.loop-index.index c.sample-item.result rows row

@@ -8,7 +8,7 @@ use Rattle.profile_samples.specs.declared.string_names.StringName.{StringName}
 use Rattle.profile_rows.specs.TextTables.{NumberedTexts, with_text, with_texts}
 use Rattle.profile_samples.specs.NameNumbers.{given, name_in}
 use Rattle.profile_samples.proofs.FrameNumbers.{given-push}
-use Rattle.profile_rows.proofs.TextPlaces.{with_texts-append}
+use Rattle.profile_rows.proofs.TextNumbers.{with_texts-append}
 use Rattle.profile_samples.proofs.name_numbers.with_given.Goals as goal
 use Rattle.profile_samples.proofs.name_numbers.with_given.Goals.{in-Some+in_ok-table, in_default}
 

@@ -11,7 +11,7 @@ returns-clause-taken c = λ rows is fits.
     (λ added known. let (row, this, adds) = added in (
       row,
       this,
-      subst (λ held. held + row.weight < 2 ^ 63) is.0.total adds.fits,
+      subst (λ earlier. earlier + row.weight < 2 ^ 63) is.0.total adds.fits,
       (
         AreMergedSoFar-row rows (rows ++ row ∷ []) (spelled_rows c.args.self.now.rows.items)
             (spelled_rows c.sum_line.new.sums.rows.items) row is.0 adds refl,

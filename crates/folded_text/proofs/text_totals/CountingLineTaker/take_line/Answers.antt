@@ -16,7 +16,7 @@ returns-in_default-clause-taken c = λ rows so_far fits.
     (λ taken _. let (row, this, within, tallied) = taken in (
       row,
       this,
-      subst (λ held. held + row.weight < 2 ^ 63) same.total within,
+      subst (λ earlier. earlier + row.weight < 2 ^ 63) same.total within,
       (
         merged ++ row ∷ [],
         AreMergedSoFar-row rows (rows ++ row ∷ []) merged

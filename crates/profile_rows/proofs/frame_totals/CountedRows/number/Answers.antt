@@ -1,7 +1,7 @@
 -- The frames that are shared stay, and the others are added.
 use Rattle.std.proofs.Common.{◌-◌, ◌++◌, ◌∷◌, [], length, take, drop, get_or, ap, sym, ◌∙◌, refl}
 use Rattle.profile_rows.proofs.NumberedRows.{all_frames, next_frame}
-use Rattle.profile_rows.proofs.TextPlaces.{no_text}
+use Rattle.profile_rows.proofs.TextNumbers.{no_text}
 use Rattle.profile_rows.proofs.frame_totals.CountedRows.number.Goals as goal
 
 pub loop-frame-preserved : goal.loop-frame-preserved

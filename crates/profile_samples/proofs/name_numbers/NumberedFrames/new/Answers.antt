@@ -8,7 +8,7 @@ use Rattle.pprof_profile.specs.Valid.{IsValidDraft, has_double, location_ids}
 use Rattle.profile_rows.specs.Names.{IsName}
 use Rattle.profile_samples.specs.declared.name_numbers.FrameNumbers.{FrameNumbers}
 use Rattle.profile_samples.specs.Samples.{address_name}
-use Rattle.profile_rows.specs.TextTables.{place_in, with_texts}
+use Rattle.profile_rows.specs.TextTables.{number_in, with_texts}
 use Rattle.profile_samples.specs.NameNumbers.{address_names, frame_names, given, location_numbers, name_in, number_of}
 use Rattle.profile_samples.specs.NameNumbers.{numbers_of, string_names}
 use Rattle.profile_samples.proofs.ItemsById.{ids_differ}
@@ -45,7 +45,7 @@ new-requires-2-clause-strings c =
     ∙ ap (λ names. with_texts [] (given (map name_in names))) c.as_slice.ensures.value)
     (c.in_ok-table-2.ensures.texts ∙ ap (with_texts c.in_ok-table.table.texts) c.as_slice-2.ensures.value) in
     c.as_slice-5.ensures.value
-    ∙ c.in_ok-strings.ensures ∙ ap (λ t. map (option_map (place_in t)) (map name_in c.as_slice-3.result.now)) table
+    ∙ c.in_ok-strings.ensures ∙ ap (λ t. map (option_map (number_in t)) (map name_in c.as_slice-3.result.now)) table
     ∙ ap (map (option_map (number_of draft))) (ap (map name_in) c.as_slice-3.ensures.value ∙ strings)
 
 pub all_frames-requires-clause-addresses : goal.all_frames-requires-clause-addresses
@@ -57,7 +57,7 @@ all_frames-requires-clause-addresses c =
     (c.in_ok-table.ensures.texts ∙ ap (λ t. with_texts t (given (map name_in c.as_slice.result.now))) c.new.ensures.texts
     ∙ ap (λ names. with_texts [] (given (map name_in names))) c.as_slice.ensures.value)
     (c.in_ok-table-2.ensures.texts ∙ ap (with_texts c.in_ok-table.table.texts) c.as_slice-2.ensures.value) in
-    c.as_slice-6.ensures.value ∙ c.in_ok-addresses.ensures ∙ ap (λ t. map (place_in t) c.as_slice-4.result.now) table
+    c.as_slice-6.ensures.value ∙ c.in_ok-addresses.ensures ∙ ap (λ t. map (number_in t) c.as_slice-4.result.now) table
     ∙ ap (map (number_of draft)) (c.as_slice-4.ensures.value ∙ addresses)
     ∙ address_numbers_are draft draft.locations
     ∙ ap (λ (d : Draft). map (λ (location : Location). number_of d (address_name location.address)) draft.locations)

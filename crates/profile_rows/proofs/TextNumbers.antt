@@ -11,63 +11,63 @@ use Rattle.std.proofs.lemmas.Bool.{false≢true}
 use Rattle.std.proofs.lemmas.List.{take_more, length-map, map-append}
 use Rattle.std.proofs.lemmas.Map.Text.{hash_map_updates_str}
 use denote.Ref.{Bor}
-use Rattle.profile_rows.specs.TextTables.{AreTextPlaces, place_in, with_text, with_texts}
+use Rattle.profile_rows.specs.TextTables.{AreTextNumbers, number_in, with_text, with_texts}
 use Rattle.profile_rows.proofs.SameNames.{same_from_is_same_name, is_same_name-self}
 
--- what a map that has the places answers
-abbrev place_if_there : List (List ℕ) → List ℕ → Option ℕ
-place_if_there texts text = cond (list_any (bytes_eq text) texts) (Some (place_in texts text)) None
+-- what a map that has the numbers answers
+abbrev number_if_there : List (List ℕ) → List ℕ → Option ℕ
+number_if_there texts text = cond (list_any (bytes_eq text) texts) (Some (number_in texts text)) None
 
-pub place_in-le : (texts : List (List ℕ)) (text : List ℕ) → place_in texts text ≤ length texts
-place_in-le [] text = omega arith
-place_in-le (first ∷ texts) text =
-    let rest = place_in-le texts text in
+pub number_in-le : (texts : List (List ℕ)) (text : List ℕ) → number_in texts text ≤ length texts
+number_in-le [] text = omega arith
+number_in-le (first ∷ texts) text =
+    let rest = number_in-le texts text in
     elim (bytes_eq text first) as (λ b. cond b 0
-    (place_in texts text + 1) ≤ length (first ∷ texts)) [ true ↦ omega arith | false ↦ omega (arith, rest) ]
+    (number_in texts text + 1) ≤ length (first ∷ texts)) [ true ↦ omega arith | false ↦ omega (arith, rest) ]
 
-place_in-missing : (texts : List (List ℕ)) (text : List ℕ)
-    → list_any (bytes_eq text) texts ≡ false → place_in texts text ≡ length texts
-place_in-missing [] text none = refl
-place_in-missing (first ∷ texts) text none =
+number_in-missing : (texts : List (List ℕ)) (text : List ℕ)
+    → list_any (bytes_eq text) texts ≡ false → number_in texts text ≡ length texts
+number_in-missing [] text none = refl
+number_in-missing (first ∷ texts) text none =
     elim (bytes_eq text first) as (λ b. (b || list_any (bytes_eq text) texts) ≡ false
-    → cond b 0 (place_in texts text + 1) ≡ length (first ∷ texts)) [
+    → cond b 0 (number_in texts text + 1) ≡ length (first ∷ texts)) [
       | true ↦ λ e. absurd (false≢true (sym e))
-      | false ↦ λ e. let rest = place_in-missing texts text e in omega (arith, rest)
+      | false ↦ λ e. let rest = number_in-missing texts text e in omega (arith, rest)
     ] none
 
 -- a text that is there stands before the end
-pub place_in-lt : (texts : List (List ℕ)) (text : List ℕ)
-    → list_any (bytes_eq text) texts ≡ true → place_in texts text < length texts
-place_in-lt [] text e = absurd (false≢true e)
-place_in-lt (first ∷ texts) text e =
+pub number_in-lt : (texts : List (List ℕ)) (text : List ℕ)
+    → list_any (bytes_eq text) texts ≡ true → number_in texts text < length texts
+number_in-lt [] text e = absurd (false≢true e)
+number_in-lt (first ∷ texts) text e =
     elim (bytes_eq text first) as (λ b. (b || list_any (bytes_eq text) texts) ≡ true
-    → cond b 0 (place_in texts text + 1) < length (first ∷ texts)) [
+    → cond b 0 (number_in texts text + 1) < length (first ∷ texts)) [
       | true ↦ λ r. omega arith
-      | false ↦ λ r. let rest = place_in-lt texts text r in omega (arith, rest)
+      | false ↦ λ r. let rest = number_in-lt texts text r in omega (arith, rest)
     ] e
 
--- more texts change no place
-pub place_in-more : (texts more : List (List ℕ)) (text : List ℕ)
-    → list_any (bytes_eq text) texts ≡ true → place_in (texts ++ more) text ≡ place_in texts text
-place_in-more [] more text some = absurd (false≢true some)
-place_in-more (first ∷ texts) more text some =
+-- more texts change no number
+pub number_in-more : (texts more : List (List ℕ)) (text : List ℕ)
+    → list_any (bytes_eq text) texts ≡ true → number_in (texts ++ more) text ≡ number_in texts text
+number_in-more [] more text some = absurd (false≢true some)
+number_in-more (first ∷ texts) more text some =
     elim (bytes_eq text first) as (λ b. (b || list_any (bytes_eq text) texts) ≡ true
-    → cond b 0 (place_in (texts ++ more) text + 1) ≡ cond b 0 (place_in texts text + 1)) [
+    → cond b 0 (number_in (texts ++ more) text + 1) ≡ cond b 0 (number_in texts text + 1)) [
       | true ↦ λ e. refl
-      | false ↦ λ e. ap (λ n. n + 1) (place_in-more texts more text e)
+      | false ↦ λ e. ap (λ n. n + 1) (number_in-more texts more text e)
     ] some
 
--- the text at a text's place
-pub text_at_place : (texts : List (List ℕ)) (text : List ℕ)
-    → place_in texts text < length texts → slice_index_or texts (place_in texts text) [] ≡ text
-text_at_place [] text lt = absurd (omega (arith, lt))
-text_at_place (first ∷ texts) text lt =
-    elim (bytes_eq text first) as (λ b. bytes_eq text first ≡ b → cond b 0 (place_in texts text + 1) < suc
-    (length texts) → slice_index_or (first ∷ texts) (cond b 0 (place_in texts text + 1)) [] ≡ text) [
+-- the text at a text's number
+pub text_of_number : (texts : List (List ℕ)) (text : List ℕ)
+    → number_in texts text < length texts → slice_index_or texts (number_in texts text) [] ≡ text
+text_of_number [] text lt = absurd (omega (arith, lt))
+text_of_number (first ∷ texts) text lt =
+    elim (bytes_eq text first) as (λ b. bytes_eq text first ≡ b → cond b 0 (number_in texts text + 1) < suc
+    (length texts) → slice_index_or (first ∷ texts) (cond b 0 (number_in texts text + 1)) [] ≡ text) [
       | true ↦ λ is r. sym (same_from_is_same_name text first is)
       | false ↦ λ is r.
-          let next : place_in texts text + 1 ≡ suc (place_in texts text) = omega arith in
-          ap (λ n. slice_index_or (first ∷ texts) n []) next ∙ text_at_place texts text (omega (arith, r))
+          let next : number_in texts text + 1 ≡ suc (number_in texts text) = omega arith in
+          ap (λ n. slice_index_or (first ∷ texts) n []) next ∙ text_of_number texts text (omega (arith, r))
     ] refl lt
 
 pub any_push : (texts : List (List ℕ)) (text q : List ℕ)
@@ -79,14 +79,14 @@ any_push (first ∷ texts) text q = elim (bytes_eq q first) as (λ b. (b || list
       | false ↦ any_push texts text q
     ]
 
-place_at_end : (texts : List (List ℕ)) (text : List ℕ)
-    → list_any (bytes_eq text) texts ≡ false → place_in (texts ++ text ∷ []) text ≡ length texts
-place_at_end [] text none = ap (λ b. cond b 0 (0 + 1)) (is_same_name-self text)
-place_at_end (first ∷ texts) text none =
+number_at_end : (texts : List (List ℕ)) (text : List ℕ)
+    → list_any (bytes_eq text) texts ≡ false → number_in (texts ++ text ∷ []) text ≡ length texts
+number_at_end [] text none = ap (λ b. cond b 0 (0 + 1)) (is_same_name-self text)
+number_at_end (first ∷ texts) text none =
     elim (bytes_eq text first) as (λ b. (b || list_any (bytes_eq text) texts) ≡ false
-    → cond b 0 (place_in (texts ++ text ∷ []) text + 1) ≡ length (first ∷ texts)) [
+    → cond b 0 (number_in (texts ++ text ∷ []) text + 1) ≡ length (first ∷ texts)) [
       | true ↦ λ e. absurd (false≢true (sym e))
-      | false ↦ λ e. let rest = place_at_end texts text e in omega (arith, rest)
+      | false ↦ λ e. let rest = number_at_end texts text e in omega (arith, rest)
     ] none
 
 pub turned : (a b : List ℕ) → bytes_eq a b ≡ false → bytes_eq b a ≡ false
@@ -95,53 +95,53 @@ turned a b none = elim (bytes_eq b a) as (λ t. bytes_eq b a ≡ t → t ≡ fal
   | false ↦ λ e. refl
 ] refl
 
-own_place : (texts : List (List ℕ)) (text : List ℕ)
-    → list_any (bytes_eq text) texts ≡ false → place_if_there (texts ++ text ∷ []) text ≡ Some (length texts)
-own_place texts text none =
-    ap (λ b. cond b (Some (place_in (texts ++ text ∷ []) text)) None)
+own_number : (texts : List (List ℕ)) (text : List ℕ)
+    → list_any (bytes_eq text) texts ≡ false → number_if_there (texts ++ text ∷ []) text ≡ Some (length texts)
+own_number texts text none =
+    ap (λ b. cond b (Some (number_in (texts ++ text ∷ []) text)) None)
     (any_push texts text text ∙ ap (λ b. b || bytes_eq text text) none ∙ is_same_name-self text)
-    ∙ ap Some (place_at_end texts text none)
+    ∙ ap Some (number_at_end texts text none)
 
-other_place : (texts : List (List ℕ)) (text q : List ℕ)
-    → bytes_eq q text ≡ false → place_if_there (texts ++ text ∷ []) q ≡ place_if_there texts q
-other_place texts text q apart =
-    ap (λ b. cond b (Some (place_in (texts ++ text ∷ []) q)) None)
+other_number : (texts : List (List ℕ)) (text q : List ℕ)
+    → bytes_eq q text ≡ false → number_if_there (texts ++ text ∷ []) q ≡ number_if_there texts q
+other_number texts text q apart =
+    ap (λ b. cond b (Some (number_in (texts ++ text ∷ []) q)) None)
     (any_push texts text q ∙ ap (λ b. list_any (bytes_eq q) texts || b) apart)
     ∙ elim (list_any (bytes_eq q) texts) as (λ b. list_any (bytes_eq q) texts ≡ b
-    → cond (b || false) (Some (place_in (texts ++ text ∷ []) q)) None ≡ cond b (Some (place_in texts q)) None) [
-      | true ↦ λ e. ap Some (place_in-more texts (text ∷ []) q e)
+    → cond (b || false) (Some (number_in (texts ++ text ∷ []) q)) None ≡ cond b (Some (number_in texts q)) None) [
+      | true ↦ λ e. ap Some (number_in-more texts (text ∷ []) q e)
       | false ↦ λ e. refl
     ] refl
 
 -- a text that is new, put into the map
-pub AreTextPlaces-push : (texts : List (List ℕ)) (known after : HashMap (Bor (List ℕ)) ℕ Hashing)
+pub AreTextNumbers-push : (texts : List (List ℕ)) (known after : HashMap (Bor (List ℕ)) ℕ Hashing)
     (text : List ℕ) (at : ℕ) → at ≡ length texts → list_any (bytes_eq text) texts ≡ false
     → hash.UpdatesBy (λ x y. bytes_eq x.now y.now) (λ k. bytes_eq text k.now) known after (Some at)
-    → AreTextPlaces texts known → AreTextPlaces (texts ++ text ∷ []) after
-AreTextPlaces-push texts known after text at end none updates places = λ q.
+    → AreTextNumbers texts known → AreTextNumbers (texts ++ text ∷ []) after
+AreTextNumbers-push texts known after text at end none updates numbers = λ q.
     hash_map_updates_str text known after (Some at) updates q
     ∙ elim (bytes_eq text q) as (λ b. bytes_eq text q ≡ b → cond b (Some at)
-    (hash.get_by (λ (key : Bor (List ℕ)). bytes_eq q key.now) known) ≡ place_if_there (texts ++ text ∷ []) q) [
+    (hash.get_by (λ (key : Bor (List ℕ)). bytes_eq q key.now) known) ≡ number_if_there (texts ++ text ∷ []) q) [
       | true ↦ λ e. ap Some end
-          ∙ sym (own_place texts text none) ∙ ap (place_if_there (texts ++ text ∷ [])) (same_from_is_same_name text q e)
-      | false ↦ λ e. places q ∙ sym (other_place texts text q (turned text q e))
+          ∙ sym (own_number texts text none) ∙ ap (number_if_there (texts ++ text ∷ [])) (same_from_is_same_name text q e)
+      | false ↦ λ e. numbers q ∙ sym (other_number texts text q (turned text q e))
     ] refl
 
 pub is_there : (texts : List (List ℕ)) (known : HashMap (Bor (List ℕ)) ℕ Hashing) (text : List ℕ)
-    → AreTextPlaces texts known
+    → AreTextNumbers texts known
     → is_some (hash.get_by (λ (key : Bor (List ℕ)). bytes_eq text key.now) known) ≡ list_any (bytes_eq text) texts
-is_there texts known text places = ap is_some (places text) ∙ elim (list_any (bytes_eq text) texts) as (λ b. is_some
-    (cond b (Some (place_in texts text)) None) ≡ b) [ true ↦ refl | false ↦ refl ]
+is_there texts known text numbers = ap is_some (numbers text) ∙ elim (list_any (bytes_eq text) texts) as (λ b. is_some
+    (cond b (Some (number_in texts text)) None) ≡ b) [ true ↦ refl | false ↦ refl ]
 
-pub place_answered : (texts : List (List ℕ)) (known : HashMap (Bor (List ℕ)) ℕ Hashing) (text : List ℕ) (missing : ℕ)
-    → missing ≡ length texts → AreTextPlaces texts known
-    → unwrap_or (hash.get_by (λ (key : Bor (List ℕ)). bytes_eq text key.now) known) missing ≡ place_in texts text
-place_answered texts known text missing is places =
-    ap (λ o. unwrap_or o missing) (places text)
+pub number_answered : (texts : List (List ℕ)) (known : HashMap (Bor (List ℕ)) ℕ Hashing) (text : List ℕ) (missing : ℕ)
+    → missing ≡ length texts → AreTextNumbers texts known
+    → unwrap_or (hash.get_by (λ (key : Bor (List ℕ)). bytes_eq text key.now) known) missing ≡ number_in texts text
+number_answered texts known text missing is numbers =
+    ap (λ o. unwrap_or o missing) (numbers text)
     ∙ elim (list_any (bytes_eq text) texts) as (λ b. list_any (bytes_eq text) texts ≡ b
-    → unwrap_or (cond b (Some (place_in texts text)) None) missing ≡ place_in texts text) [
+    → unwrap_or (cond b (Some (number_in texts text)) None) missing ≡ number_in texts text) [
       | true ↦ λ e. refl
-      | false ↦ λ e. is ∙ sym (place_in-missing texts text e)
+      | false ↦ λ e. is ∙ sym (number_in-missing texts text e)
     ] refl
 
 -- ---- texts added in turn
@@ -155,29 +155,29 @@ pub with_texts-append : (texts more others : List (List ℕ))
 with_texts-append texts [] others = refl
 with_texts-append texts (text ∷ more) others = with_texts-append (with_text texts text) more others
 
--- adding a text leaves it the place that it has, or would have
-pub place_in-with : (texts : List (List ℕ)) (text : List ℕ) → place_in (with_text texts text) text ≡ place_in texts text
-place_in-with texts text = elim (list_any (bytes_eq text) texts) as (λ b. list_any (bytes_eq text) texts ≡ b
-    → place_in (cond b texts (texts ++ text ∷ [])) text ≡ place_in texts text) [
+-- adding a text leaves it the number that it has, or would have
+pub number_in-with : (texts : List (List ℕ)) (text : List ℕ) → number_in (with_text texts text) text ≡ number_in texts text
+number_in-with texts text = elim (list_any (bytes_eq text) texts) as (λ b. list_any (bytes_eq text) texts ≡ b
+    → number_in (cond b texts (texts ++ text ∷ [])) text ≡ number_in texts text) [
       | true ↦ λ e. refl
-      | false ↦ λ e. place_at_end texts text e ∙ sym (place_in-missing texts text e)
+      | false ↦ λ e. number_at_end texts text e ∙ sym (number_in-missing texts text e)
     ] refl
 
--- a text whose place is before the end is there
+-- a text whose number is before the end is there
 pub with_text-there : (texts : List (List ℕ)) (text : List ℕ)
-    → place_in texts text < length texts → with_text texts text ≡ texts
+    → number_in texts text < length texts → with_text texts text ≡ texts
 with_text-there texts text inside = elim (list_any (bytes_eq text) texts) as (λ b. list_any (bytes_eq text) texts ≡ b
     → cond b texts (texts ++ text ∷ []) ≡ texts) [
       | true ↦ λ e. refl
-      | false ↦ λ e. let end = place_in-missing texts text e in absurd (omega (arith, end, inside))
+      | false ↦ λ e. let end = number_in-missing texts text e in absurd (omega (arith, end, inside))
     ] refl
 
--- a text whose place is not before the end is missing
+-- a text whose number is not before the end is missing
 pub none_at_end : (texts : List (List ℕ)) (text : List ℕ)
-    → length texts ≤ place_in texts text → list_any (bytes_eq text) texts ≡ false
+    → length texts ≤ number_in texts text → list_any (bytes_eq text) texts ≡ false
 none_at_end texts text end =
     elim (list_any (bytes_eq text) texts) as (λ b. list_any (bytes_eq text) texts ≡ b → b ≡ false) [
-      | true ↦ λ e. let inside = place_in-lt texts text e in absurd (omega (arith, end, inside))
+      | true ↦ λ e. let inside = number_in-lt texts text e in absurd (omega (arith, end, inside))
       | false ↦ λ e. refl
     ] refl
 

@@ -12,7 +12,7 @@ use crate::query::{Query, Rank};
 use basics::Items;
 use profile_rows::laws::top_list_is_front_of_sorted;
 use profile_rows::{
-    FrameTotal, FrameTotals, Hashing, NoMemory, WeightedStack, WeightedStacks, kept_totals_with,
+    FrameTotal, FrameTotals, Hashing, NoMemory, WeightedStack, WeightedStacks, kept_totals,
 };
 use std::alloc::{AllocError, Global};
 use std::cmp::Ordering;
@@ -120,7 +120,7 @@ pub(crate) fn top_of_rows(
     ensures { IfOk result (λ top. top ≡ top_of rank count (kept_by query.now batch.now)) }
 {
     let (focus, ignored) = (query.focus.as_ref(), query.ignore.as_ref());
-    let totals = kept_totals_with(alloc, hashing, batch, focus, ignored)?;
+    let totals = kept_totals(alloc, hashing, batch, focus, ignored)?;
     top_list(totals, rank, count)
 }
 

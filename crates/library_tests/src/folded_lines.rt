@@ -171,7 +171,7 @@ fn kept_weights(
     focus: Option<&Name>,
     ignore: Option<&Name>,
 ) -> Result<(u64, Option<(u64, u64)>), Fail> {
-    let totals = kept_totals(alloc, rows, focus, ignore)?;
+    let totals = kept_totals(alloc, Hashing::fixed(), rows, focus, ignore)?;
     Ok((totals.total, weights(&totals, "b")))
 }
 

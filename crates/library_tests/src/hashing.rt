@@ -3,7 +3,7 @@
 use crate::folded_lines::{RECURSIVE, weights};
 use crate::helpers::rows_of;
 use stack_text::{
-    Hashing, Name, folded_report, folded_totals, kept_totals_with, merge_folded, read_folded_with,
+    Hashing, Name, folded_report, folded_totals, kept_totals, merge_folded, read_folded_with,
     write_stacks,
 };
 use std::alloc::Global;
@@ -85,7 +85,7 @@ fn reports_are_the_same_wherever_hashes_begin(rt: HostRuntime) -> Result<(), Fai
 fn focused_weights(alloc: Global, hashing: Hashing) -> Result<Option<(u64, u64)>, Fail> {
     let rows = rows_of(alloc, RECURSIVE)?;
     let name = Name::make(alloc, "a")?;
-    let totals = kept_totals_with(alloc, hashing, rows.first(), Some(&name), None)?;
+    let totals = kept_totals(alloc, hashing, rows.first(), Some(&name), None)?;
     Ok(weights(&totals, "b"))
 }
 

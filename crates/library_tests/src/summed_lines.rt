@@ -35,7 +35,7 @@ fn totals_of_lines_are_those_of_their_rows(rt: HostRuntime) -> Result<(), Fail> 
         let text = lines(alloc, count, stacks)?;
         let counted = folded_totals(alloc, Hashing::fixed(), text.as_bytes())?;
         let rows = read_folded(alloc, text.as_bytes())?;
-        let kept = kept_totals(alloc, rows.first(), None, None)?;
+        let kept = kept_totals(alloc, Hashing::fixed(), rows.first(), None, None)?;
         assert!(rt;
             all_names(alloc, counted)? == all_names(alloc, kept)?,
             "{count} over {stacks}"

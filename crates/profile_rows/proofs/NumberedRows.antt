@@ -3,11 +3,11 @@ use Rattle.std.proofs.Common.{◌≡◌, ℕ, zero, suc, ◌+◌, ◌-◌, ◌<�
 use Rattle.std.proofs.Common.{length, map, take, drop, get_or, refl, sym, ap, ◌∙◌, subst, arith, All, Option, Some}
 use Rattle.std.proofs.Common.{None}
 use Rattle.std.specs.Prelude.{MatchOption, slice_get, slice_index_or}
-use Rattle.std.specs.List.{AllByRecursion, IsDistinct, list_any}
+use Rattle.std.specs.List.{AllByRecursion, IsDistinct, common_prefix_len, list_any}
 use Rattle.std.specs.Str.{bytes_eq}
 use Rattle.std.proofs.lemmas.Bool.{false≢true}
 use Rattle.std.proofs.lemmas.List.{get_or-drop, get_or-take, get_or_append_left, length-append, length-drop, length-map}
-use Rattle.std.proofs.lemmas.List.{length-take-le, map-append, take-map, take_all, take_more}
+use Rattle.std.proofs.lemmas.List.{length-take-le, map-append, take_all, take_more}
 use Rattle.std.proofs.lemmas.List.Elements.{All-push, All-take, All-from_recursion, recursion_from_All}
 use Rattle.std.proofs.Math.Seq.{get_or-append_seam}
 use denote.Ref.{Bor}
@@ -23,7 +23,7 @@ use Rattle.profile_rows.specs.TextTables.{number_in, with_text}
 use Rattle.profile_rows.proofs.TallyLaws.{zero_tally}
 use Rattle.profile_rows.proofs.TextNumbers.{any_push, no_text, none_at_end, number_in-lt, number_in-with, shown_at}
 use Rattle.profile_rows.proofs.TextNumbers.{text_of_number, turned, with_text-new, with_text-there}
-use Rattle.profile_rows.proofs.SameNames.{is_same_name-self}
+use Rattle.profile_rows.proofs.SameNames.{is_same_name-self, same_from_is_same_name}
 
 abbrev texts_of : List (Bor (List ℕ)) → List (List ℕ)
 texts_of frames = map (λ (frame : Bor (List ℕ)). frame.now) frames
@@ -109,8 +109,8 @@ unfolding IsDistinct
 none_single = tt
 
 pub none_counted : (counted : CountedRows) → counted.names.texts ≡ [] → counted.tallies.names.items ≡ []
-    → counted.tallies.total ≡ 0 → counted.frames.items ≡ [] → counted.numbers.items ≡ [] → HasCounted [] counted
-none_counted counted names tallies total frames numbers = record {
+    → counted.tallies.total ≡ 0 → counted.numbers.items ≡ [] → HasCounted [] counted
+none_counted counted names tallies total numbers = record {
   tallies = record {
     single = subst AreSingle (sym names) none_single;
     many = ap length tallies ∙ sym (ap length names);
@@ -127,7 +127,6 @@ none_counted counted names tallies total frames numbers = record {
   };
   inside = subst (All (λ number. number < length counted.names.texts))
       (sym numbers) (All-from_recursion (λ number. number < length counted.names.texts) [] tt);
-  frames = ap (names_at counted.names.texts) numbers ∙ sym (ap texts_of frames);
 }
   where
     past : (number : ℕ) → tally_at [] number ≡ zero_tally
@@ -172,47 +171,74 @@ place-within names name = elim (list_any (bytes_eq name) names) as (λ b. list_a
     or_true true = refl
     or_true false = refl
 
--- a frame more, with its number
-pub frame_pushed : (rows : List WeightedStack) (old new : CountedRows) (frame : Bor (List ℕ)) (number : ℕ)
-    → new.names.texts ≡ with_text old.names.texts frame.now → number ≡ number_in new.names.texts frame.now
-    → AreTalliesOf rows new.names.texts new.tallies → new.frames.items ≡ old.frames.items ++ frame ∷ []
-    → new.numbers.items ≡ old.numbers.items ++ number ∷ [] → HasCounted rows old → HasCounted rows new
-frame_pushed rows old new frame number names place tallies frames numbers this =
-    let longer = length-with old.names.texts frame.now in
+-- the number of a name that was added is inside
+number_inside : (old new : List (List ℕ)) (name : List ℕ) (number : ℕ)
+    → new ≡ with_text old name → number ≡ number_in new name → number < length new
+number_inside old new name number names place =
+    let within = place-within old name in
     let size = ap length names in
-    let low : number < length new.names.texts = let within = place-within old.names.texts frame.now in let same =
-    ap (λ ns. number_in ns frame.now) names in omega (arith, within, size, place, same) in
-    let at : slice_index_or new.names.texts number [] ≡ frame.now = ap (λ n. slice_index_or new.names.texts n []) place
-    ∙ text_of_number new.names.texts frame.now (subst (λ n. n < length new.names.texts) place low) in
+    let same = ap (λ ns. number_in ns name) names in
+    omega (arith, within, size, place, same)
+
+-- a number more, that of a frame's name
+pub frame_numbered : (rows : List WeightedStack) (old new : CountedRows) (frame : List ℕ) (number : ℕ)
+    → new.names.texts ≡ with_text old.names.texts frame → number ≡ number_in new.names.texts frame
+    → AreTalliesOf rows new.names.texts new.tallies → new.numbers.items ≡ old.numbers.items ++ number ∷ []
+    → HasCounted rows old → HasCounted rows new
+frame_numbered rows old new frame number names place tallies numbers this =
+    let longer = length-with old.names.texts frame in
+    let size = ap length names in
     record {
       tallies = tallies;
       inside = subst (All (λ n. n < length new.names.texts)) (sym numbers)
           (All-push (λ n. n < length new.names.texts) old.numbers.items number
-          (λ k d lt. let within = this.inside k d lt in omega (arith, within, longer, size)) low);
-      frames = ap (names_at new.names.texts) numbers
-          ∙ map-append (λ n. slice_index_or new.names.texts n []) old.numbers.items (number ∷ [])
-          ∙ ap (λ ns. ns ++ slice_index_or new.names.texts number [] ∷ [])
-          (ap (λ ns. names_at ns old.numbers.items) names
-          ∙ names_at-with old.names.texts frame.now old.numbers.items
-          (recursion_from_All (λ n. n < length old.names.texts) old.numbers.items this.inside) ∙ this.frames)
-          ∙ ap (λ name. texts_of old.frames.items ++ name ∷ []) at
-          ∙ sym (ap texts_of frames ∙ map-append (λ (f : Bor (List ℕ)). f.now) old.frames.items (frame ∷ []));
+          (λ k d lt. let within = this.inside k d lt in omega (arith, within, longer, size))
+          (number_inside old.names.texts new.names.texts frame number names place));
     }
 
--- the first frames, with their numbers
-pub frames_kept : (rows : List WeightedStack) (old new : CountedRows) (count : ℕ)
-    → new.names.texts ≡ old.names.texts → new.tallies ≡ old.tallies → new.frames.items ≡ take count old.frames.items
+-- the name that a number more adds
+pub name_numbered : (old new : List (List ℕ)) (before after : List ℕ) (frame : List ℕ) (number : ℕ)
+    → new ≡ with_text old frame → number ≡ number_in new frame → after ≡ before ++ number ∷ []
+    → All (λ n. n < length old) before → names_at new after ≡ names_at old before ++ frame ∷ []
+name_numbered old new before after frame number names place numbers inside =
+    let within = number_inside old new frame number names place in
+    let at : slice_index_or new number [] ≡ frame = ap (λ n. slice_index_or new n []) place
+    ∙ text_of_number new frame (subst (λ n. n < length new) place within) in
+    ap (names_at new) numbers
+    ∙ map-append (λ n. slice_index_or new n []) before (number ∷ [])
+    ∙ ap (λ ns. ns ++ slice_index_or new number [] ∷ []) (ap (λ ns. names_at ns before) names
+    ∙ names_at-with old frame before (recursion_from_All (λ n. n < length old) before inside))
+    ∙ ap (λ name. names_at old before ++ name ∷ []) at
+
+-- the first numbers alone
+pub numbers_kept : (rows : List WeightedStack) (old new : CountedRows) (count : ℕ)
+    → new.names.texts ≡ old.names.texts → new.tallies ≡ old.tallies
     → new.numbers.items ≡ take count old.numbers.items → HasCounted rows old → HasCounted rows new
-frames_kept rows old new count names tallies frames numbers this = record {
+numbers_kept rows old new count names tallies numbers this = record {
   tallies = subst (λ ns. AreTalliesOf rows ns new.tallies)
       (sym names) (subst (AreTalliesOf rows old.names.texts) (sym tallies) this.tallies);
   inside = subst (λ (ns : List (List ℕ)). All (λ n. n < length ns) new.numbers.items) (sym names)
       (subst (All (λ n. n < length old.names.texts))
       (sym numbers) (All-take (λ n. n < length old.names.texts) count old.numbers.items this.inside));
-  frames = ap (λ ns. names_at ns new.numbers.items) names ∙ ap (names_at old.names.texts) numbers
-      ∙ sym (take-map (λ n. slice_index_or old.names.texts n []) count old.numbers.items) ∙ ap (take count) this.frames
-      ∙ take-map (λ (f : Bor (List ℕ)). f.now) count old.frames.items ∙ sym (ap texts_of frames);
 }
+
+-- what two lists of texts share from their beginnings
+pub shared_same : (left right : List (List ℕ)) → take (common_prefix_len bytes_eq left right) left
+    ≡ take (common_prefix_len bytes_eq left right) right
+shared_same [] [] = refl
+shared_same [] (text ∷ right) = refl
+shared_same (text ∷ left) [] = refl
+shared_same (text ∷ left) (other ∷ right) =
+    let shared = common_prefix_len bytes_eq left right in
+    let next : 1 + shared ≡ suc shared = omega arith in
+    elim (bytes_eq text other) as (λ b. bytes_eq text other ≡ b
+    → take (cond b (1 + common_prefix_len bytes_eq left right) 0) (text ∷ left)
+    ≡ take (cond b (1 + common_prefix_len bytes_eq left right) 0) (other ∷ right)) [
+      | true ↦ λ e. ap (λ n. take n (text ∷ left)) next
+          ∙ ap (λ first. first ∷ take shared left) (same_from_is_same_name text other e)
+          ∙ ap (λ rest. other ∷ rest) (shared_same left right) ∙ ap (λ n. take n (other ∷ right)) (sym next)
+      | false ↦ λ e. refl
+    ] refl
 
 -- ---- a row's frames
 
@@ -279,20 +305,20 @@ leaf_of names stack numbers (Some number) is inside (before, last) = (
 )
 
 -- the numbers of a row's frames, of which the last is the leaf's
-pub row_numbered : (rows : List WeightedStack) (counted : CountedRows) (frames : List (Bor (List ℕ)))
-    (numbers : List ℕ) (leaf : Option ℕ) → HasCounted rows counted → texts_of counted.frames.items ≡ texts_of frames
-    → All IsName (texts_of frames) → numbers ≡ counted.numbers.items → leaf ≡ slice_get numbers (length numbers - 1)
-    → IsNumberedStack counted.names.texts (texts_of frames) numbers leaf
-row_numbered rows counted frames numbers leaf this same named lent last =
-    let stack : names_at counted.names.texts numbers ≡ texts_of frames = ap (names_at counted.names.texts) lent
-    ∙ this.frames ∙ same in
+pub row_numbered : (rows : List WeightedStack) (counted : CountedRows) (stack : List (List ℕ))
+    (numbers : List ℕ) (leaf : Option ℕ) → HasCounted rows counted
+    → names_at counted.names.texts counted.numbers.items ≡ stack
+    → All IsName stack → numbers ≡ counted.numbers.items → leaf ≡ slice_get numbers (length numbers - 1)
+    → IsNumberedStack counted.names.texts stack numbers leaf
+row_numbered rows counted stack numbers leaf this same named lent last =
+    let names : names_at counted.names.texts numbers ≡ stack = ap (names_at counted.names.texts) lent ∙ same in
     let inside : All (λ n. n < length counted.names.texts) numbers =
     subst (All (λ n. n < length counted.names.texts)) (sym lent) this.inside in
     record {
       named = named;
       inside = inside;
-      same = λ name. ap (has_name name) stack;
-      last = leaf_of counted.names.texts (texts_of frames) numbers leaf stack inside
+      same = λ name. ap (has_name name) names;
+      last = leaf_of counted.names.texts stack numbers leaf names inside
           (subst (λ o. MatchOption o (numbers ≡ []) (λ number. (before : List ℕ) × (numbers ≡ before ++ number ∷ [])))
           (sym last) (last_of numbers));
     }

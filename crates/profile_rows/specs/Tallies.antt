@@ -2,7 +2,6 @@
 use Rattle.std.specs.Prelude.{ℕ, ◌≡◌, ◌<◌, ◌≤◌, ◌+◌, ◌==◌, ◌++◌, ◌∷◌, [], All, Bool, List, MatchOption, Option, length}
 use Rattle.std.specs.Prelude.{map, slice_index_or, if◌then◌else◌}
 use Rattle.std.specs.List.{IsDistinct, list_any}
-use denote.Ref.{Bor}
 use Rattle.profile_rows.specs.declared.frame_totals.CountedRows.{CountedRows}
 use Rattle.profile_rows.specs.declared.tallies.Tallies.{Tallies}
 use Rattle.profile_rows.specs.declared.tallies.Tally.{Tally}
@@ -83,9 +82,7 @@ pub record AreTalliesOf (rows : List WeightedStack) (names : List (List ℕ)) (t
   pub each : (name : List ℕ) → IsTallyOf rows tallies.total name (tally_of names tallies.names.items name)
   pub total : tallies.total ≡ total_of rows
 
--- these rows are counted; the numbers that are kept are those of the frames that are
+-- these rows are counted; each number that is kept is that of a name
 pub record HasCounted (rows : List WeightedStack) (counted : CountedRows) : Type 0 where
   pub tallies : AreTalliesOf rows counted.names.texts counted.tallies
   pub inside : All (λ number. number < length counted.names.texts) counted.numbers.items
-  pub frames : names_at counted.names.texts counted.numbers.items
-      ≡ map (λ (frame : Bor (List ℕ)). frame.now) counted.frames.items

@@ -1,11 +1,13 @@
 //! What the names of rows weigh, without the rows.
 
 ghost use Rattle.std.specs.Prelude.{ℕ, ◌≡◌, ◌≤◌, ◌+◌, ◌^◌, ◌<◌, ◌++◌, ◌∷◌, [], All, List, IfOk, OnOk, length, map, take};
+ghost use Rattle.std.specs.List.{common_prefix_len};
 ghost use Rattle.std.specs.Option.{option_copied};
+ghost use Rattle.std.specs.Str.{bytes_eq};
 ghost use Rattle.profile_rows.specs.declared.weighted_stacks.WeightedStack.{WeightedStack};
 ghost use Rattle.profile_rows.specs.Names.{IsName};
 ghost use Rattle.profile_rows.specs.Rows.{kept_rows};
-ghost use Rattle.profile_rows.specs.Tallies.{AreTalliesOf, HasCounted};
+ghost use Rattle.profile_rows.specs.Tallies.{AreTalliesOf, HasCounted, names_at};
 ghost use Rattle.profile_rows.specs.TextTables.{number_in, with_text};
 ghost use Rattle.profile_rows.specs.TopList.{AreTotalsOf};
 
@@ -42,9 +44,7 @@ pub struct FrameTotals {
 pub struct CountedRows<'a> {
     pub names: TextTable<'a>,
     pub tallies: Tallies,
-    /// The frames of the row before, of which the next may have many at the same places.
-    pub frames: Vec<&'a str>,
-    /// The numbers of their names.
+    /// The numbers of the names in the row before, of which the next may have many at the same places.
     pub numbers: Vec<usize>,
 }
 
@@ -66,18 +66,19 @@ fn number_of<'a>(
     Ok(number)
 }
 
-/// How many frames two rows share from their roots.
-fn shared_frames(before: &[&str], frames: &[&str]) -> usize
-    ensures within { (result ≤ length before.now) × (result ≤ length frames.now) }
-    ensures same { take result (map (λ frame. frame.now) before.now)
-        ≡ take result (map (λ frame. frame.now) frames.now) }
+/// How many frames a row shares from its root with one whose names have these numbers.
+fn shared_frames(names: &TextTable<'_>, numbers: &[usize], frames: &[&str]) -> usize
+    requires { All (λ number. number < length names.now.texts) numbers.now }
+    ensures { result ≡ common_prefix_len bytes_eq (names_at names.now.texts numbers.now)
+        (map (λ frame. frame.now) frames.now) }
 {
-    for (at, frame) in before.iter().enumerate() {
-        if at >= frames.len() || *frame != frames[at] {
+    let texts = names.texts();
+    for (at, number) in numbers.iter().enumerate() {
+        if at >= frames.len() || texts[*number] != frames[at] {
             return at;
         }
     }
-    before.len()
+    numbers.len()
 }
 
 impl<'a> CountedRows<'a> {
@@ -90,7 +91,6 @@ impl<'a> CountedRows<'a> {
         CountedRows {
             names: TextTable::new(alloc, hashing),
             tallies: Tallies { names, total: 0 },
-            frames: Vec::new(alloc),
             numbers: Vec::new(alloc),
         }
     }
@@ -100,34 +100,33 @@ impl<'a> CountedRows<'a> {
         requires { (rows : List WeightedStack) × HasCounted rows self.old }
         ensures within { result ≤ length frames.now }
         ensures counted { (rows : List WeightedStack) → HasCounted rows self.old → HasCounted rows self.new }
-        ensures frames { map (λ frame. frame.now) self.new.frames.items
+        ensures names { names_at self.new.names.texts self.new.numbers.items
             ≡ take result (map (λ frame. frame.now) frames.now) }
     {
-        let shared = shared_frames(self.frames.as_slice(), frames);
-        self.frames.truncate(shared);
+        let shared = shared_frames(&self.names, self.numbers.as_slice(), frames);
         self.numbers.truncate(shared);
         shared
     }
 
-    /// Adds a frame with its number.
+    /// Adds the number of a frame's name.
     fn push_frame(&mut self, frame: &'a str) -> Result<(), NoMemory>
+        requires { (rows : List WeightedStack) × HasCounted rows self.old }
         ensures counted { (rows : List WeightedStack) → HasCounted rows self.old
             → OnOk result (HasCounted rows self.new) }
-        ensures frames { OnOk result (map (λ frame. frame.now) self.new.frames.items
-            ≡ map (λ frame. frame.now) self.old.frames.items ++ frame.now ∷ []) }
+        ensures names { OnOk result (names_at self.new.names.texts self.new.numbers.items
+            ≡ names_at self.old.names.texts self.old.numbers.items ++ frame.now ∷ []) }
     {
         let number = number_of(&mut self.names, &mut self.tallies, frame)?;
-        self.frames.push(frame)?;
         Ok(self.numbers.push(number)?)
     }
 
-    /// Puts these frames with their numbers in the place of the row before, and looks up no name of those that it
-    /// shares.
+    /// Puts the numbers of these frames' names in the place of those of the row before, and looks up no name of the
+    /// frames that both share from their roots.
     fn number(&mut self, frames: &[&'a str]) -> Result<(), NoMemory>
         requires { (rows : List WeightedStack) × HasCounted rows self.old }
         ensures counted { (rows : List WeightedStack) → HasCounted rows self.old
             → OnOk result (HasCounted rows self.new) }
-        ensures frames { OnOk result (map (λ frame. frame.now) self.new.frames.items
+        ensures names { OnOk result (names_at self.new.names.texts self.new.numbers.items
             ≡ map (λ frame. frame.now) frames.now) }
     {
         let shared = self.keep_shared(frames);
@@ -205,29 +204,12 @@ fn count_batch_row<'a>(
 }
 
 /// What the names weigh in the rows that have the focus, where there is one, and not the ignored name, where there is
-/// one. Takes memory for names, and none for each row.
+/// one. Takes memory for names, and none for each row. `hashing` says how names are hashed.
 ///
 /// # Errors
 ///
 /// `NoMemory`.
 pub fn kept_totals(
-    alloc: Global,
-    batch: &WeightedStacks,
-    focus: Option<&Name>,
-    ignored: Option<&Name>,
-) -> Result<FrameTotals, NoMemory>
-    ensures { IfOk result
-        (AreTotalsOf (kept_rows (option_copied focus.entry) (option_copied ignored.entry) batch.now)) }
-{
-    kept_totals_with(alloc, Hashing::fixed(), batch, focus, ignored)
-}
-
-/// As [`kept_totals`], and `hashing` says how names are hashed.
-///
-/// # Errors
-///
-/// `NoMemory`.
-pub fn kept_totals_with(
     alloc: Global,
     hashing: Hashing,
     batch: &WeightedStacks,

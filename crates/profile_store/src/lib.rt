@@ -112,7 +112,6 @@ pub use stack_text::folded_report;
 pub use stack_text::folded_totals;
 pub use stack_text::keeps;
 pub use stack_text::kept_totals;
-pub use stack_text::kept_totals_with;
 pub use stack_text::merge_folded;
 pub use stack_text::merge_samples;
 pub use stack_text::profile_of;

@@ -12,7 +12,7 @@ pub use folded_text::{
 pub use profile_rows::{
     Batch, FrameTotal, FrameTotals, Hashing, MAX_DEPTH, MAX_TOTAL, MAX_WIDTH, Name, NameFault,
     NoMemory, OwnedRow, PushFault, Refused, Row, Rows, Stack, WeightedStack, WeightedStacks,
-    Weights, Width, aggregate, first_heavy, keeps, kept_totals, kept_totals_with,
+    Weights, Width, aggregate, first_heavy, keeps, kept_totals,
 };
 pub use profile_samples::{
     BatchFault, ValueChoice, ValueUnit, batch_of, batch_of_with, export_folded, merge_samples,

@@ -1,31 +1,75 @@
--- The next frame is the same.
-use Rattle.std.proofs.Common.{◌≡◌, ◌+◌, ◌<◌, ◌++◌, ◌∷◌, [], ℕ, List, length, map, take, get_or, ap, sym, ◌∙◌, arith}
-use Rattle.std.proofs.lemmas.Bool.{not-false}
-use Rattle.std.proofs.lemmas.List.{length-map, take_more}
+-- The next frame is the same, or none of those that follow is shared.
+use Rattle.std.proofs.Common.{◌≡◌, ◌<◌, ◌≤◌, [], ℕ, Bool, List, length, map, drop, get_or, true, false, ap, sym, ◌∙◌}
+use Rattle.std.proofs.Common.{arith}
+use Rattle.std.proofs.lemmas.Bool.{not-false, not-true}
+use Rattle.std.proofs.lemmas.List.{drop_all, get_or-map, length-map}
+use Rattle.std.proofs.lemmas.List.Sums.{common_prefix_len-drop_no, common_prefix_len-drop_yes, common_prefix_len-le}
+use Rattle.std.specs.Prelude.{slice_index_or}
+use Rattle.std.specs.List.{common_prefix_len}
+use Rattle.std.specs.Str.{bytes_eq}
 use denote.Ref.{Bor}
-use Rattle.profile_rows.proofs.SameNames.{same_from_is_same_name}
+use Rattle.profile_rows.specs.Tallies.{names_at}
 use Rattle.profile_rows.proofs.TextNumbers.{no_text, shown_at}
 use Rattle.profile_rows.proofs.frame_totals.shared_frames.Goals as goal
+use Rattle.profile_rows.proofs.frame_totals.shared_frames.Goals.{then-at-frames-via-then-at-frames}
+use Rattle.profile_rows.proofs.frame_totals.shared_frames.Goals.{then-at-frames-via-else-at-frames+then-ne}
 
--- one text more of those that are lent
-more : (texts : List (Bor (List ℕ))) (at : ℕ) → at < length texts
-    → take (at + 1) (map (λ (text : Bor (List ℕ)). text.now) texts)
-    ≡ take at (map (λ (text : Bor (List ℕ)). text.now) texts) ++ (get_or texts at no_text).now ∷ []
-more texts at lt =
-    let now = λ (text : Bor (List ℕ)). text.now in
-    let long = length-map texts now in
-    take_more (map now texts) at [] (omega (arith, long, lt))
-    ∙ ap (λ text. take at (map now texts) ++ text ∷ []) (shown_at texts at no_text)
+abbrev now : Bor (List ℕ) → List ℕ
+now text = text.now
+
+-- past the end of one list nothing is shared
+none_left : (xs ys : List (List ℕ)) (i : ℕ)
+    → length ys ≤ i → common_prefix_len bytes_eq (drop i xs) (drop i ys) ≡ 0
+none_left xs ys i end =
+    let none = ap length (drop_all i ys end) in
+    let most = (common_prefix_len-le bytes_eq (drop i xs) (drop i ys)).1 in
+    omega (arith, none, most)
+
+-- the comparison that the loop makes, as that of two lists of texts
+compared : (names : List (List ℕ)) (texts frames : List (Bor (List ℕ))) (numbers : List ℕ) (at : ℕ) (same : Bool)
+    → map now texts ≡ names → at < length numbers
+    → bytes_eq (get_or texts (get_or numbers at 0) no_text).now (get_or frames at no_text).now ≡ same
+    → bytes_eq (get_or (names_at names numbers) at []) (get_or (map now frames) at []) ≡ same
+compared names texts frames numbers at same are lt this =
+    ap (λ text. bytes_eq text (get_or (map now frames) at []))
+    (get_or-map (λ number. slice_index_or names number []) numbers at 0 [] lt
+    ∙ ap (λ ns. get_or ns (get_or numbers at 0) []) (sym are) ∙ shown_at texts (get_or numbers at 0) no_text)
+    ∙ ap (bytes_eq (get_or texts (get_or numbers at 0) no_text).now) (shown_at frames at no_text)
+    ∙ this
+
+pub returns-then-at-frames : goal.returns-then-at-frames
+returns-then-at-frames c =
+    let names = names_at c.args.names.now.texts c.args.numbers.now in
+    let frames = map now c.args.frames.now in
+    let at = c.loop-at.at in
+    let long = length-map c.args.frames.now now in
+    let many = length-map c.args.numbers.now (λ number. slice_index_or c.args.names.now.texts number []) in
+    elim c.then-at-frames.branch [
+      | then-at-frames-via-then-at-frames w ↦
+          let none = none_left names frames at (let end = w.if-at-frames.true in omega (arith, end, long)) in
+          let so_far = c.loop-at.invariant.so_far in
+          omega (arith, none, so_far)
+      | then-at-frames-via-else-at-frames+then-ne w ↦
+          let none = common_prefix_len-drop_no bytes_eq names frames at [] []
+          (let lt = c.loop-at-test.true in omega (arith, many, lt))
+          (let lt = w.if-at-frames.false in omega (arith, long, lt))
+          (compared c.args.names.now.texts c.texts-texts.result.now c.args.frames.now c.args.numbers.now at false
+          c.texts-texts.ensures c.loop-at-test.true (not-true _ (sym w.if-ne.ensures))) in
+          let so_far = c.loop-at.invariant.so_far in
+          omega (arith, none, so_far)
+    ]
 
 pub loop-at-preserved : goal.loop-at-preserved
 loop-at-preserved c =
+    let names = names_at c.args.names.now.texts c.args.numbers.now in
+    let frames = map now c.args.frames.now in
     let at = c.loop-at.at in
-    let same : (get_or c.args.before.now at no_text).now ≡ (get_or c.args.frames.now at no_text).now =
-    same_from_is_same_name _ _ (not-false _ (sym c.if-ne.ensures)) in
-    record {
-      inside = let lt = c.if-at-frames.false in omega (arith, lt);
-      same = more c.args.before.now at c.loop-at-test.true
-          ∙ ap (λ text. take at (map (λ (text : Bor (List ℕ)). text.now) c.args.before.now) ++ text ∷ []) same
-          ∙ ap (λ texts. texts ++ (get_or c.args.frames.now at no_text).now ∷ []) c.loop-at.invariant.same
-          ∙ sym (more c.args.frames.now at c.if-at-frames.false);
-    }
+    let long = length-map c.args.frames.now now in
+    let many = length-map c.args.numbers.now (λ number. slice_index_or c.args.names.now.texts number []) in
+    let more = common_prefix_len-drop_yes bytes_eq names frames at [] []
+    (let lt = c.loop-at-test.true in omega (arith, many, lt))
+    (let lt = c.if-at-frames.false in omega (arith, long, lt))
+    (compared c.args.names.now.texts c.texts-texts.result.now c.args.frames.now c.args.numbers.now at true
+    c.texts-texts.ensures c.loop-at-test.true (not-false _ (sym c.if-ne.ensures))) in
+    let so_far = c.loop-at.invariant.so_far in
+    record { inside = let lt = c.if-at-frames.false in omega (arith, lt); so_far = omega (arith, more, so_far) }

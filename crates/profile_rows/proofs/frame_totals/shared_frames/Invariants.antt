@@ -1,9 +1,14 @@
-use Rattle.std.proofs.Common.{◌≡◌, ◌≤◌, length, map, take}
+use Rattle.std.proofs.Common.{◌≡◌, ◌+◌, ◌≤◌, drop, length, map}
+use Rattle.std.specs.List.{common_prefix_len}
+use Rattle.std.specs.Str.{bytes_eq}
+use Rattle.profile_rows.specs.Tallies.{names_at}
 use Rattle.profile_rows.proofs.frame_totals.shared_frames.Given as goal
 
--- the frames so far are the same
+-- the frames so far are shared
 abbrev pub invariant-loop-at : goal.invariant-loop-at
 invariant-loop-at l = record {
   inside : l.at ≤ length l.frames;
-  same : take l.at (map (λ frame. frame.now) l.before) ≡ take l.at (map (λ frame. frame.now) l.frames);
+  so_far : common_prefix_len bytes_eq (names_at l.names.texts l.numbers) (map (λ frame. frame.now) l.frames)
+      ≡ l.at + common_prefix_len bytes_eq (drop l.at (names_at l.names.texts l.numbers))
+      (drop l.at (map (λ frame. frame.now) l.frames));
 }

@@ -12,8 +12,8 @@ count-requires-clause-counted c =
       rows,
       map (λ (frame : Bor (List ℕ)). frame.now) c.args.frames.now,
       after.tallies,
-      row_numbered rows c.number.new.self c.args.frames.now c.as_slice-numbers.result.now
-          c.copied.result after c.in_ok-number.ensures.frames c.requires.names c.as_slice-numbers.ensures.value
+      row_numbered rows c.number.new.self (map (λ (frame : Bor (List ℕ)). frame.now) c.args.frames.now)
+          c.as_slice-numbers.result.now c.copied.result after c.in_ok-number.ensures.names c.requires.names c.as_slice-numbers.ensures.value
           (c.copied.ensures ∙ c.last.ensures.value),
     )
 
@@ -23,9 +23,8 @@ returns c = λ rows this.
     record {
       tallies = c.count.ensures c.number.new.self.names.texts rows
           (map (λ (frame : Bor (List ℕ)). frame.now) c.args.frames.now) after.tallies
-          (row_numbered rows c.number.new.self c.args.frames.now c.as_slice-numbers.result.now
-          c.copied.result after c.in_ok-number.ensures.frames c.requires.names c.as_slice-numbers.ensures.value
+          (row_numbered rows c.number.new.self (map (λ (frame : Bor (List ℕ)). frame.now) c.args.frames.now)
+          c.as_slice-numbers.result.now c.copied.result after c.in_ok-number.ensures.names c.requires.names c.as_slice-numbers.ensures.value
           (c.copied.ensures ∙ c.last.ensures.value));
       inside = after.inside;
-      frames = after.frames;
     }

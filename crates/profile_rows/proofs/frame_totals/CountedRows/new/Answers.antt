@@ -5,4 +5,4 @@ use Rattle.profile_rows.proofs.frame_totals.CountedRows.new.Goals as goal
 
 pub returns-clause-counted : goal.returns-clause-counted
 returns-clause-counted c =
-    none_counted _ c.new.ensures.texts c.new-names.ensures.items refl c.new-2.ensures.items c.new-3.ensures.items
+    none_counted _ c.new.ensures.texts c.new-names.ensures.items refl c.new-2.ensures.items

@@ -10,8 +10,8 @@ loop-frame-preserved c =
     let rest = take (length frames - c.keep_shared-shared.result) (drop c.keep_shared-shared.result frames) in
     record {
       counted = λ rows this. c.in_ok-push_frame.ensures.counted rows (c.loop-frame.invariant.counted rows this);
-      frames = c.in_ok-push_frame.ensures.frames
-          ∙ ap (λ texts. texts ++ (get_or rest c.loop-frame.frame-index no_text).now ∷ []) c.loop-frame.invariant.frames
+      names = c.in_ok-push_frame.ensures.names
+          ∙ ap (λ texts. texts ++ (get_or rest c.loop-frame.frame-index no_text).now ∷ []) c.loop-frame.invariant.names
           ∙ sym (next_frame frames rest c.keep_shared-shared.result
           c.loop-frame.frame-index refl c.loop-frame-test.true c.keep_shared-shared.ensures.within);
     }
@@ -20,7 +20,7 @@ pub returns-clause-counted : goal.returns-clause-counted
 returns-clause-counted c =
     λ rows this. c.loop-frame.invariant.counted rows (c.keep_shared-shared.ensures.counted rows this)
 
-pub returns-clause-frames : goal.returns-clause-frames
-returns-clause-frames c =
-    c.loop-frame.invariant.frames ∙ all_frames c.args.frames.now _ c.keep_shared-shared.result
+pub returns-clause-names : goal.returns-clause-names
+returns-clause-names c =
+    c.loop-frame.invariant.names ∙ all_frames c.args.frames.now _ c.keep_shared-shared.result
     c.loop-frame.frame-index refl c.loop-frame-test.false c.keep_shared-shared.ensures.within

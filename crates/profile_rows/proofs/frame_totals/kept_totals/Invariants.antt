@@ -2,7 +2,7 @@ use Rattle.std.proofs.Common.{take}
 use Rattle.std.specs.Option.{option_copied}
 use Rattle.profile_rows.specs.Rows.{kept_rows}
 use Rattle.profile_rows.specs.Tallies.{HasCounted}
-use Rattle.profile_rows.proofs.frame_totals.kept_totals_with.Given as goal
+use Rattle.profile_rows.proofs.frame_totals.kept_totals.Given as goal
 
 -- the kept rows so far are counted
 abbrev pub invariant-loop-row : goal.invariant-loop-row

@@ -5,8 +5,8 @@ use Rattle.std.proofs.lemmas.List.Sums.{sum_by_more_le}
 use Rattle.profile_rows.specs.declared.weighted_stacks.WeightedStack.{WeightedStack}
 use Rattle.profile_rows.specs.Rows.{total_of}
 use Rattle.profile_rows.proofs.Kept.{kept_rows-left, kept_rows-more, weight_where-kept-le}
-use Rattle.profile_rows.proofs.frame_totals.kept_totals_with.Goals as goal
-use Rattle.profile_rows.proofs.frame_totals.kept_totals_with.Goals.{then-keeps+in_ok-count_batch_row, else-keeps}
+use Rattle.profile_rows.proofs.frame_totals.kept_totals.Goals as goal
+use Rattle.profile_rows.proofs.frame_totals.kept_totals.Goals.{then-keeps+in_ok-count_batch_row, else-keeps}
 
 pub count_batch_row-requires-clause-fits : goal.count_batch_row-requires-clause-fits
 count_batch_row-requires-clause-fits c =

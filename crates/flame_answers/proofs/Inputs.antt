@@ -14,8 +14,9 @@ use Rattle.profile_samples.specs.declared.sampling.BatchFault.{BatchFault}
 use Rattle.profile_samples.specs.declared.sampling.BatchFault.TheVariants as batch
 use Rattle.profile_samples.specs.declared.sampling.ValueChoice.{ValueChoice}
 use Rattle.profile_samples.specs.declared.sampling.ValueChoice.TheVariants.{All, Default, Named}
-use Rattle.profile_samples.specs.Batches.{chosen_types_of, one_from}
-use Rattle.profile_samples.specs.Samples.{chosen_type_of, type_named}
+use Rattle.profile_rows.specs.Values.{BatchState, single_batch}
+use Rattle.profile_samples.specs.Batches.{IsBatchOf}
+use Rattle.profile_samples.specs.Samples.{chosen_types_of, one_from, type_named}
 use Rattle.flame_report.specs.Answers.{answer_by, kept_by}
 use Rattle.flame_report.specs.declared.query.Kind.{Kind}
 use Rattle.flame_report.specs.declared.query.Query.{Query}
@@ -112,32 +113,30 @@ same_all f All Default a b = absurd b
 same_all f All (Named text) a b = absurd b
 same_all f All All a b = refl
 
+-- what is wanted of a profile's values decides which are taken
+same_types : (wanted : Wanted) (draft : Draft) (one other : ValueChoice) → IsChosen wanted one → IsChosen wanted other
+    → chosen_types_of draft other ≡ chosen_types_of draft one
+same_types (for_report value) draft one other a b =
+    same_choice (chosen_types_of draft) (λ text also e. ap (λ t. one_from (type_named draft t)) e) value other one b a
+same_types (for_store false value) draft one other a b =
+    same_choice (chosen_types_of draft) (λ text also e. ap (λ t. one_from (type_named draft t)) e) value other one b a
+same_types (for_store true value) draft one other a b = same_all (chosen_types_of draft) other one b a
+
+same_batch : (draft : Draft) (one other : ValueChoice) (batch : BatchState)
+    → chosen_types_of draft other ≡ chosen_types_of draft one → IsBatchOf draft one batch → IsBatchOf draft other batch
+same_batch draft one other batch same this = record {
+  first = this.first;
+  is_chosen = same ∙ this.is_chosen;
+  rows_samples = this.rows_samples;
+  is_batch = this.is_batch;
+}
+
 same_sampled : (wanted : Wanted) (draft : Draft) (one other : ValueChoice) (got : Got wanted)
     → IsChosen wanted one → IsChosen wanted other → IsSampled wanted draft one got → IsSampled wanted draft other got
-same_sampled (for_report value) draft one other got a b this =
-    let same = same_choice (chosen_type_of draft) (λ text also e. ap (type_named draft) e) value one other a b in
-    record {
-      chosen = this.chosen;
-      is_chosen = sym same ∙ this.is_chosen;
-      rows_samples = this.rows_samples;
-      total_fits = this.total_fits;
-    }
-same_sampled (for_store false value) draft one other got a b this =
-    let same = same_choice (chosen_types_of draft) (λ text also e. ap (λ t. one_from (type_named draft t)) e)
-    value one other a b in
-    record {
-      first = this.first;
-      is_chosen = sym same ∙ this.is_chosen;
-      rows_samples = this.rows_samples;
-      is_batch = this.is_batch;
-    }
-same_sampled (for_store true value) draft one other got a b this =
-    record {
-      first = this.first;
-      is_chosen = sym (same_all (chosen_types_of draft) one other a b) ∙ this.is_chosen;
-      rows_samples = this.rows_samples;
-      is_batch = this.is_batch;
-    }
+same_sampled (for_report value) draft one other got a b =
+    same_batch draft one other (single_batch got) (same_types (for_report value) draft one other a b)
+same_sampled (for_store all value) draft one other got a b =
+    same_batch draft one other got (same_types (for_store all value) draft one other a b)
 
 pub samples_refused : (wanted : Wanted) (input : List ℕ) (draft : Draft) (choice : ValueChoice) (fault : BatchFault)
     (told : ToolFault) → IsProfile input draft → ((other : Draft) → IsProfile input other → draft ≡ other)

@@ -12,8 +12,7 @@ use Rattle.profile_samples.specs.declared.sampling.BatchFault.{BatchFault}
 use Rattle.profile_samples.specs.declared.sampling.BatchFault.TheVariants as batch
 use Rattle.profile_samples.specs.declared.sampling.ValueChoice.{ValueChoice}
 use Rattle.profile_samples.specs.declared.sampling.ValueChoice.TheVariants.{All, Default, Named}
-use Rattle.profile_samples.specs.Batches.{IsBatchOf, IsFirstBatchFault}
-use Rattle.profile_samples.specs.Samples.{AreStacksOf, IsFirstStacksFault}
+use Rattle.profile_samples.specs.Batches.{AreStacksOf, IsBatchOf, IsFirstBatchFault, IsFirstStacksFault}
 use Rattle.live_report.specs.declared.fault.LiveFault.TheVariants as live
 use Rattle.flame_words.specs.declared.request.Format.{Format}
 use Rattle.flame_words.specs.declared.request.Format.TheVariants.{Folded, Pprof}

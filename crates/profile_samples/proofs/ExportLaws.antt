@@ -1,5 +1,5 @@
 -- The profile of rows is valid, and its rows are those rows.
-use Rattle.std.proofs.Common.{◌≡◌, ℕ, zero, suc, ◌+◌, ◌^◌, ◌<◌, ◌≤◌, Bool, true, false, cond, ◌||◌, eqb, List, [], ◌∷◌}
+use Rattle.std.proofs.Common.{◌≡◌, ℕ, zero, suc, ◌+◌, ◌<◌, ◌≤◌, Bool, true, false, cond, ◌||◌, eqb, List, [], ◌∷◌}
 use Rattle.std.proofs.Common.{◌++◌, length, map, refl, sym, ap, ◌∙◌, subst, arith}
 use Rattle.std.specs.Prelude.{⊤, pos, Option, Some, None, ◌==◌, reverse, slice_get, slice_index_or, unwrap_or}
 use Rattle.std.specs.List.{All, AllByRecursion, list_all, list_any, flat_map}
@@ -7,7 +7,7 @@ use Rattle.std.specs.Str.{bytes_eq}
 use Rattle.std.proofs.lemmas.Bool.{and_parts, eq-eqb, ne_eqb, lt-ltb, false≢true}
 use Rattle.std.proofs.lemmas.List.{length-map, reverse-reverse}
 use Rattle.std.proofs.lemmas.List.Concat.{flat_map-cons}
-use Rattle.std.proofs.lemmas.List.Elements.{All-from_recursion, recursion_from_All}
+use Rattle.std.proofs.lemmas.List.Elements.{recursion_from_All}
 use Rattle.std.proofs.lemmas.List.Folds.{list_all-append, list_any-append}
 use Rattle.std.proofs.lemmas.Grind.{flat_map-append, reverse_onto}
 use Rattle.pprof_profile.specs.declared.faults.ProfileFault.{ProfileFault}
@@ -20,17 +20,15 @@ use Rattle.pprof_profile.specs.Valid.{IsValidDraft, all_index, begins_with_empty
 use Rattle.pprof_profile.specs.Valid.{function_indexes, has_double, is_index, is_known, is_nonempty, location_ids}
 use Rattle.pprof_profile.specs.Valid.{mapping_ids, names_functions, names_locations, names_mappings, no_double_id}
 use Rattle.pprof_profile.specs.Valid.{no_zero_id, sample_indexes, value_type_indexes}
-use Rattle.profile_rows.specs.declared.weighted_stacks.WeightedStack.{WeightedStack}
-use Rattle.profile_samples.specs.declared.sampling.ValueChoice.TheVariants.{Default}
 use Rattle.profile_rows.specs.Names.{IsName, cleaned_name_of}
-use Rattle.profile_rows.specs.Rows.{IsBatchRow, total_of}
-use Rattle.profile_rows.specs.Values.{Row, rows_at, singles, value_of, weighing}
-use Rattle.profile_samples.specs.Samples.{AreSampleRows, AreStacksOf, IsSampleRow, address_name, first_name, frames_at}
-use Rattle.profile_samples.specs.Samples.{frames_of_id, item_with, named_by, string_at}
+use Rattle.profile_rows.specs.Values.{Row, value_of}
+use Rattle.profile_samples.specs.Batches.{AreRowsOfSamples}
+use Rattle.profile_samples.specs.Samples.{IsRowOfSample, address_name, first_name, frames_at, frames_of_id, item_with}
+use Rattle.profile_samples.specs.Samples.{named_by, string_at}
 use Rattle.profile_rows.specs.TextTables.{number_in, with_text, with_texts}
 use Rattle.profile_samples.specs.Export.{KindAndUnit, exported_function, exported_location, exported_profile_of}
 use Rattle.profile_samples.specs.Export.{exported_sample, exported_type, id_in, names_of, profile_with}
-use Rattle.profile_samples.specs.Export.{single_profile_of, strings_of, unit_texts}
+use Rattle.profile_samples.specs.Export.{strings_of, unit_texts}
 use Rattle.profile_rows.proofs.Cleaning.{cleaned-name}
 use Rattle.profile_rows.proofs.SameNames.{same_from_is_same_name, is_same_name-self}
 use Rattle.profile_rows.proofs.TextNumbers.{any_push, number_in-lt, turned}
@@ -490,9 +488,9 @@ value_there value [] within = absurd (omega (arith, within))
 value_there zero (weight ∷ weights) within = refl
 value_there (suc value) (weight ∷ weights) within = value_there value weights (omega (arith, within))
 
--- a row of a stack that a batch can hold, with this value
+-- a row of so many values that a batch can hold
 abbrev pub CanStand : ℕ → Row → Type 0
-CanStand value row = All IsName row.stack × (length row.stack ≤ 65535) × (value < length row.weights)
+CanStand width row = All IsName row.stack × (length row.stack ≤ 65535) × (length row.weights ≡ width)
 
 module _ (names strings : List (List ℕ))
     (rows : List Row) (units : List KindAndUnit) (this : AreExported names strings rows units) where
@@ -505,65 +503,33 @@ module _ (names strings : List (List ℕ))
     each_frame stack all.1 strung.1 are_names.1,
   )
 
-  row_sampled : (value : ℕ) (row : Row) → AllStand names row.stack
-      → AllStand strings row.stack → All IsName row.stack → length row.stack ≤ 65535 → value < length row.weights
-      → IsSampleRow (profile_with names strings rows units) value (exported_sample names row) (weighing value row)
-  row_sampled value row all strung are_names deep within = record {
+  row_sampled : (width : ℕ) (row : Row) → AllStand names row.stack → AllStand strings row.stack → CanStand width row
+      → IsRowOfSample (profile_with names strings rows units) 0 width (exported_sample names row) row
+  row_sampled width row all strung (are_names, deep, size) = record {
     stack =
         sym (ap reverse (flat_of_reversed (frames_of_id (profile_with names strings rows units)) (id_in names) row.stack
         (each_frame row.stack all strung (recursion_from_All IsName row.stack are_names))) ∙ reverse-reverse row.stack);
     depth = deep;
-    value = value_there value row.weights within;
+    count = size;
+    values = λ value lt. ap (slice_get (map pos row.weights)) (plus_none value)
+        ∙ value_there value row.weights (omega (arith, lt, size));
   }
+    where
+      plus_none : (value : ℕ) → 0 + value ≡ value
+      plus_none value = omega arith
 
-  rows_sampled : (value : ℕ) (some : List Row)
-      → RowsStand names some → RowsStand strings some → AllByRecursion (CanStand value) some
-      → AreSampleRows
-      (profile_with names strings rows units) value (map (exported_sample names) some) (rows_at value some)
-  rows_sampled value [] all strung can = refl
-  rows_sampled value (row ∷ some) all strung can =
-      (row_sampled value row all.0 strung.0 can.0.0 can.0.1 can.0.2, rows_sampled value some all.1 strung.1 can.1)
-
--- by each value the rows come back
-pub export_values : (rows : List Row) (units : List KindAndUnit) (value : ℕ) → All (CanStand value) rows
-    → AreSampleRows
-    (exported_profile_of rows units) value (map (exported_sample (names_of rows)) rows) (rows_at value rows)
-export_values rows units value can =
-    let names = names_of rows in
-    let this = exported_names rows units in
-    rows_sampled names (strings_of units names) rows units this value rows this.stacks this.stacks_strung
-    (recursion_from_All (CanStand value) rows can)
-
--- ---- rows of one value
-
-pub rows_at-singles : (rows : List WeightedStack) → rows_at 0 (singles rows) ≡ rows
-rows_at-singles [] = refl
-rows_at-singles (row ∷ rows) = ap (λ rest. row ∷ rest) (rows_at-singles rows)
-
-pub widths-singles : (rows : List WeightedStack) → All (λ row. length row.weights ≡ 1) (singles rows)
-widths-singles rows = All-from_recursion (λ (row : Row). length row.weights ≡ 1) (singles rows) (each rows)
-  where
-    each : (rows : List WeightedStack) → AllByRecursion (λ (row : Row). length row.weights ≡ 1) (singles rows)
-    each [] = tt
-    each (row ∷ rows) = (refl, each rows)
-
-can_stand-singles : (rows : List WeightedStack)
-    → AllByRecursion IsBatchRow rows → AllByRecursion (CanStand 0) (singles rows)
-can_stand-singles [] all = tt
-can_stand-singles (row ∷ rows) all = ((all.0.names, all.0.depth, omega arith), can_stand-singles rows all.1)
+  rows_sampled : (width : ℕ) (some : List Row)
+      → RowsStand names some → RowsStand strings some → AllByRecursion (CanStand width) some
+      → AreRowsOfSamples (profile_with names strings rows units) 0 width (map (exported_sample names) some) some
+  rows_sampled width [] all strung can = refl
+  rows_sampled width (row ∷ some) all strung can =
+      (row_sampled width row all.0 strung.0 can.0, rows_sampled width some all.1 strung.1 can.1)
 
 -- the rows come back
-pub export_rows : (rows : List WeightedStack) (kind unit : List ℕ)
-    → All IsBatchRow rows → total_of rows < 2 ^ 63 → AreStacksOf (single_profile_of rows kind unit) Default rows
-export_rows rows kind unit batch_rows fits =
-    let units = (kind, unit) ∷ [] in
-    let all = All-from_recursion
-    (CanStand 0) (singles rows) (can_stand-singles rows (recursion_from_All IsBatchRow rows batch_rows)) in
-    record {
-      chosen = 0;
-      is_chosen = refl;
-      rows_samples = subst (AreSampleRows (single_profile_of rows kind unit) 0
-          (map (exported_sample (names_of (singles rows))) (singles rows))) (rows_at-singles rows)
-          (export_values (singles rows) units 0 all);
-      total_fits = fits;
-    }
+pub exported_rows : (rows : List Row) (units : List KindAndUnit) (width : ℕ) → AllByRecursion (CanStand width) rows
+    → AreRowsOfSamples
+    (exported_profile_of rows units) 0 width (map (exported_sample (names_of rows)) rows) rows
+exported_rows rows units width can =
+    let names = names_of rows in
+    let this = exported_names rows units in
+    rows_sampled names (strings_of units names) rows units this width rows this.stacks this.stacks_strung can

@@ -3,7 +3,6 @@ use Rattle.std.proofs.Common.{◌≡◌, ℕ, ◌+◌, ◌^◌, ◌<◌, ◌≤�
 use Rattle.std.proofs.Common.{sym, ap, ◌∙◌, arith}
 use Rattle.std.specs.List.{All, AllByRecursion}
 use Rattle.std.proofs.lemmas.List.{get_or_default, take_more}
-use Rattle.std.proofs.lemmas.List.Elements.{All-from_recursion, recursion_from_All}
 use Rattle.profile_rows.specs.declared.weighted_stacks.WeightedStack.{WeightedStack}
 use Rattle.profile_rows.specs.Names.{IsName}
 use Rattle.profile_rows.specs.Values.{BatchState, IsBatch, Row, row_in, rows_at, value_of, weighing}
@@ -47,22 +46,12 @@ last_one strings (unit ∷ next ∷ units) one = absurd (omega (arith, one))
 
 -- ---- rows
 
-can_each : (value width : ℕ) (rows : List Row) → value < width
+pub can_stand : (width : ℕ) (rows : List Row)
     → AllByRecursion (λ (row : WeightedStack). All IsName row.stack × (length row.stack ≤ 65535)) (rows_at 0 rows)
-    → AllByRecursion (λ row. length row.weights ≡ width) rows → AllByRecursion (CanStand value) rows
-can_each value width [] within each widths = tt
-can_each value width (row ∷ rows) within each widths =
-    let size = widths.0 in
-    ((each.0.0, each.0.1, omega (arith, within, size)), can_each value width rows within each.1 widths.1)
-
-pub can_stand : (value width : ℕ) (rows : List Row)
-    → value < width → All (λ (row : WeightedStack). All IsName row.stack × (length row.stack ≤ 65535)) (rows_at 0 rows)
-    → All (λ row. length row.weights ≡ width) rows → All (CanStand value) rows
-can_stand value width rows within each widths =
-    All-from_recursion (CanStand value) rows (can_each value width rows within
-    (recursion_from_All
-    (λ (row : WeightedStack). All IsName row.stack × (length row.stack ≤ 65535)) (rows_at 0 rows) each)
-    (recursion_from_All (λ (row : Row). length row.weights ≡ width) rows widths))
+    → AllByRecursion (λ (row : Row). length row.weights ≡ width) rows → AllByRecursion (CanStand width) rows
+can_stand width [] each widths = tt
+can_stand width (row ∷ rows) each widths =
+    ((each.0.0, each.0.1, widths.0), can_stand width rows each.1 widths.1)
 
 -- the values of a batch's rows keep the limit
 pub weights_small : (batch : BatchState) (at : ℕ)

@@ -1,14 +1,9 @@
 -- What rows the samples of a profile give.
 use Rattle.std.proofs.Common.{◌≡◌, ℕ, zero, suc, ◌+◌, ◌^◌, ◌<◌, ◌≤◌, Bool, true, false, List, [], ◌∷◌, ◌++◌, length}
-use Rattle.std.proofs.Common.{take, drop, get_or, refl, sym, ap, ◌∙◌, inl, inr, subst, arith}
-use Rattle.std.specs.Prelude.{ℤ, pos, negsuc, Option, Some, None, Result, Ok, Err, MatchResult, slice_get, unwrap_or}
-use Rattle.std.specs.Prelude.{is_some, ◌==◌}
+use Rattle.std.proofs.Common.{get_or, refl, sym, ap, ◌∙◌, subst, arith}
+use Rattle.std.specs.Prelude.{ℤ, pos, negsuc, Option, Some, None, slice_get, unwrap_or, is_some, ◌==◌}
 use Rattle.std.specs.Str.{bytes_eq}
 use Rattle.std.proofs.lemmas.Bool.{false≢true, and_parts, eqb-true}
-use Rattle.std.proofs.lemmas.List.{take_all, take-append-drop}
-use Rattle.std.proofs.lemmas.Grind.{common_steps, take_at_read}
-use Rattle.std.proofs.Math.Seq.{drop-cons}
-use Rattle.std.proofs.lemmas.List.Sums.{sum_by-cons, sum_by-append, sum_by_push}
 use Rattle.std.proofs.lemmas.List.Quantifiers.{position-Some}
 use Rattle.pprof_profile.specs.declared.messages.Draft.{Draft}
 use Rattle.pprof_profile.specs.declared.messages.Sample.{Sample}
@@ -19,19 +14,19 @@ use Rattle.pprof_profile.specs.Valid.{names_locations, names_mappings, no_double
 use Rattle.pprof_profile.specs.declared.faults.ProfileFault.TheVariants.{NoStrings, FirstString, StringIndex, ZeroId}
 use Rattle.pprof_profile.specs.declared.faults.ProfileFault.TheVariants.{DoubleId, NoLocation, NoMapping, NoFunction}
 use Rattle.pprof_profile.specs.declared.faults.ProfileFault.TheVariants.{ValueCount}
-use Rattle.profile_rows.specs.declared.weighted_stacks.WeightedStack.{WeightedStack}
+use Rattle.profile_rows.specs.Values.{Row, value_of}
 use Rattle.profile_samples.specs.declared.sampling.BatchFault.{BatchFault}
 use Rattle.profile_samples.specs.declared.sampling.BatchFault.TheVariants.{NoValue, Width, Negative, Depth, Heavy}
 use Rattle.profile_samples.specs.declared.sampling.BatchFault.TheVariants.{NoMemory}
 use Rattle.profile_samples.specs.declared.sampling.ValueChoice.{ValueChoice}
 use Rattle.profile_samples.specs.declared.sampling.ValueChoice.TheVariants.{Default, Named, All}
-use Rattle.profile_rows.specs.Rows.{total_of}
-use Rattle.profile_samples.specs.Samples.{AreSampleRows, AreStacksOf, IsFirstStacksFault, IsFitFault, IsSampleFault}
-use Rattle.profile_samples.specs.Samples.{IsSampleRow, IsStacksWorkFault, sample_stack_of, StandsAtSample}
-use Rattle.profile_samples.specs.Samples.{chosen_type_of, is_zero, last_index, or_last, string_at, type_named}
+use Rattle.profile_samples.specs.Batches.{AreRowsOfSamples}
+use Rattle.profile_samples.specs.Samples.{HasWeights, IsFitFault, IsRowOfSample, IsSampleFault, IsValueFault, all_of}
+use Rattle.profile_samples.specs.Samples.{chosen_types_of, default_type, is_zero, last_index, one_from, or_last, sample_stack_of}
+use Rattle.profile_samples.specs.Samples.{string_at, type_named}
 use Rattle.profile_samples.proofs.ItemsById.{rule_holds}
 
--- ---- the chosen value
+-- ---- the values that are taken
 
 named_within : (draft : Draft) (text : List ℕ) (chosen : ℕ)
     → type_named draft text ≡ Some chosen → chosen < length draft.sample_types
@@ -48,18 +43,60 @@ or_last_within : (draft : Draft) (found : Option ℕ) (chosen : ℕ) → ((at : 
 or_last_within draft None chosen h e = last_within draft.sample_types chosen e
 or_last_within draft (Some at) chosen h e = h chosen e
 
--- the chosen type is one of the types
-pub chosen_within : (draft : Draft) (choice : ValueChoice) (chosen : ℕ)
-    → chosen_type_of draft choice ≡ Some chosen → chosen < length draft.sample_types
-chosen_within draft Default chosen e =
+default_within : (draft : Draft) (chosen : ℕ)
+    → default_type draft ≡ Some chosen → chosen < length draft.sample_types
+default_within draft chosen e =
     elim (is_zero draft.default_sample_type) as (λ b. is_zero draft.default_sample_type ≡ b
     → chosen < length draft.sample_types) [
       | true ↦ λ z. last_within draft.sample_types chosen (rw z at e)
       | false ↦ λ z. or_last_within draft (type_named draft (string_at draft.strings draft.default_sample_type)) chosen
           (λ at named. named_within draft (string_at draft.strings draft.default_sample_type) at named) (rw z at e)
     ] refl
-chosen_within draft (Named text) chosen e = named_within draft text.now chosen e
-chosen_within draft All chosen e = absurd (false≢true (ap is_some e))
+
+first_in : Option (ℕ × ℕ) → ℕ
+first_in None = 0
+first_in (Some pair) = pair.0
+
+count_in : Option (ℕ × ℕ) → ℕ
+count_in None = 0
+count_in (Some pair) = pair.1
+
+pub same_first : (draft : Draft) (choice : ValueChoice) (first other width more : ℕ) → chosen_types_of draft choice
+    ≡ Some (first, width) → chosen_types_of draft choice ≡ Some (other, more) → first ≡ other
+unfolding first_in
+same_first draft choice first other width more one two = ap first_in (sym one ∙ two)
+
+pub same_count : (draft : Draft) (choice : ValueChoice) (first other width more : ℕ) → chosen_types_of draft choice
+    ≡ Some (first, width) → chosen_types_of draft choice ≡ Some (other, more) → width ≡ more
+unfolding count_in
+same_count draft choice first other width more one two = ap count_in (sym one ∙ two)
+
+one_within : (count : ℕ) (found : Option ℕ) (first width : ℕ) → ((chosen : ℕ) → found ≡ Some chosen → chosen < count)
+    → one_from found ≡ Some (first, width) → first + width ≤ count
+unfolding first_in count_in
+one_within count None first width h e = absurd (false≢true (ap is_some e))
+one_within count (Some chosen) first width h e =
+    let lt = h chosen refl in
+    let place : chosen ≡ first = ap first_in e in
+    let one : 1 ≡ width = ap count_in e in
+    omega (arith, lt, place, one)
+
+all_within : (count first width : ℕ) → all_of count ≡ Some (first, width) → first + width ≤ count
+unfolding first_in count_in
+all_within zero first width e = absurd (false≢true (ap is_some e))
+all_within (suc more) first width e =
+    let place : 0 ≡ first = ap first_in e in
+    let whole : suc more ≡ width = ap count_in e in
+    omega (arith, place, whole)
+
+-- the values that are taken are some of those that there are
+pub chosen_types_within : (draft : Draft) (choice : ValueChoice) (first width : ℕ)
+    → chosen_types_of draft choice ≡ Some (first, width) → first + width ≤ length draft.sample_types
+chosen_types_within draft Default first width e =
+    one_within (length draft.sample_types) (default_type draft) first width (default_within draft) e
+chosen_types_within draft (Named text) first width e =
+    one_within (length draft.sample_types) (type_named draft text.now) first width (named_within draft text.now) e
+chosen_types_within draft All first width e = all_within (length draft.sample_types) first width e
 
 -- each sample of a valid profile has as many values as there are sample types
 values_match : (draft : Draft) → IsValidDraft draft → each_has_values (length draft.sample_types) draft.samples ≡ true
@@ -86,26 +123,37 @@ each_matches count (sample ∷ samples) (suc k) d all lt = each_matches count sa
     (and_parts (length sample.values == count) (each_has_values count samples) all).1 (omega (arith, lt))
 
 -- so each has a value for each sample type
-pub values_of_sample : (draft : Draft) (count : ℕ) (sample : Sample) → IsValidDraft draft → count < length draft.samples
+values_of_sample : (draft : Draft) (count : ℕ) (sample : Sample) → IsValidDraft draft → count < length draft.samples
     → sample ≡ get_or draft.samples count sample → length sample.values ≡ length draft.sample_types
 values_of_sample draft count sample valid lt item =
     ap (λ (s : Sample). length s.values) item
     ∙ each_matches (length draft.sample_types) draft.samples count sample (values_match draft valid) lt
 
-pub has_value : (draft : Draft) (chosen count : ℕ) (sample : Sample) → IsValidDraft draft
-    → chosen < length draft.sample_types → count < length draft.samples → sample ≡ get_or draft.samples count sample
-    → chosen < length sample.values
-has_value draft chosen count sample valid within lt item =
+-- and those that are taken
+pub has_values : (draft : Draft) (first width count : ℕ) (sample : Sample) → IsValidDraft draft → first
+    + width ≤ length draft.sample_types → count < length draft.samples → sample ≡ get_or draft.samples count sample
+    → first + width ≤ length sample.values
+has_values draft first width count sample valid within lt item =
     let same = values_of_sample draft count sample valid lt item in
     omega (arith, within, same)
 
 -- ---- rows
 
-same_row : (a b : WeightedStack) → a.stack ≡ b.stack → a.weight ≡ b.weight → a ≡ b
-same_row a b stack weight =
-    let swapped : a ≡ record { stack = b.stack; weight = a.weight } =
-    ap (λ s. let row : WeightedStack = record { stack = s; weight = a.weight } in row) stack in
-    swapped ∙ ap (λ w. let row : WeightedStack = record { stack = b.stack; weight = w } in row) weight
+pub row_of_sample : (draft : Draft) (first width : ℕ) (sample : Sample) (weights : List ℕ) → length weights ≡ width
+    → HasWeights first width sample.values weights → length (sample_stack_of draft sample.location_ids) ≤ 65535
+    → IsRowOfSample draft first width sample
+    (record { stack = sample_stack_of draft sample.location_ids; weights = weights })
+row_of_sample draft first width sample weights count values deep =
+    record { stack = refl; depth = deep; count = count; values = values }
+
+pub same_values : (a b : List ℕ)
+    → length a ≡ length b → ((value : ℕ) → value < length a → value_of value a ≡ value_of value b) → a ≡ b
+same_values [] [] long h = refl
+same_values [] (y ∷ b) long h = absurd (omega (arith, long))
+same_values (x ∷ a) [] long h = absurd (omega (arith, long))
+same_values (x ∷ a) (y ∷ b) long h =
+    let rest = same_values a b (omega (arith, long)) (λ value lt. h (suc value) (omega (arith, lt))) in
+    ap (λ first. first ∷ a) (h 0 (omega arith)) ∙ ap (λ others. y ∷ others) rest
 
 magnitude : Option ℤ → ℕ
 magnitude None = 0
@@ -122,247 +170,176 @@ pub not_below : (value : Option ℤ) (weight below : ℕ) → value ≡ Some (po
 unfolding is_below
 not_below value weight below one other = false≢true (ap is_below (sym one ∙ other))
 
-pub IsSampleRow-same : (draft : Draft) (chosen : ℕ) (sample : Sample) (a b : WeightedStack)
-    → IsSampleRow draft chosen sample a → IsSampleRow draft chosen sample b → a ≡ b
+IsRowOfSample-same : (draft : Draft) (first width : ℕ) (sample : Sample) (a b : Row)
+    → IsRowOfSample draft first width sample a → IsRowOfSample draft first width sample b → a ≡ b
 unfolding magnitude
-IsSampleRow-same draft chosen sample a b one other =
-    same_row a b (one.stack ∙ sym other.stack) (ap magnitude (sym one.value ∙ other.value))
+IsRowOfSample-same draft first width sample a b one other =
+    let stacks = one.stack ∙ sym other.stack in
+    let values = same_values a.weights b.weights (one.count ∙ sym other.count)
+    (λ value lt. let size = one.count in ap magnitude
+    (sym (one.values value (omega (arith, lt, size))) ∙ other.values value (omega (arith, lt, size)))) in
+    λ i. record { stack = stacks i; weights = values i }
 
-pub AreSampleRows-same : (draft : Draft) (chosen : ℕ) (samples : List Sample) (rows others : List WeightedStack)
-    → AreSampleRows draft chosen samples rows → AreSampleRows draft chosen samples others → rows ≡ others
-AreSampleRows-same draft chosen [] rows others one other = one ∙ sym other
-AreSampleRows-same draft chosen (sample ∷ samples) [] others one other = absurd one
-AreSampleRows-same draft chosen (sample ∷ samples) (row ∷ rows) [] one other = absurd other
-AreSampleRows-same draft chosen (sample ∷ samples) (row ∷ rows) (r ∷ others) one other =
-    let here = IsSampleRow-same draft chosen sample row r one.0 other.0 in
-    let rest = AreSampleRows-same draft chosen samples rows others one.1 other.1 in
+pub AreRowsOfSamples-same : (draft : Draft) (first width : ℕ) (samples : List Sample) (rows others : List Row)
+    → AreRowsOfSamples draft first width samples rows
+    → AreRowsOfSamples draft first width samples others → rows ≡ others
+AreRowsOfSamples-same draft first width [] rows others one other = one ∙ sym other
+AreRowsOfSamples-same draft first width (sample ∷ samples) [] others one other = absurd one
+AreRowsOfSamples-same draft first width (sample ∷ samples) (row ∷ rows) [] one other = absurd other
+AreRowsOfSamples-same draft first width (sample ∷ samples) (row ∷ rows) (r ∷ others) one other =
+    let here = IsRowOfSample-same draft first width sample row r one.0 other.0 in
+    let rest = AreRowsOfSamples-same draft first width samples rows others one.1 other.1 in
     ap (λ z. z ∷ rows) here ∙ ap (λ z. r ∷ z) rest
 
-pub AreSampleRows-push : (draft : Draft)
-    (chosen : ℕ) (samples : List Sample) (rows : List WeightedStack) (sample : Sample) (row : WeightedStack)
-    → AreSampleRows draft chosen samples rows
-    → IsSampleRow draft chosen sample row → AreSampleRows draft chosen (samples ++ sample ∷ []) (rows ++ row ∷ [])
-AreSampleRows-push draft chosen [] [] sample row all this = (this, refl)
-AreSampleRows-push draft chosen [] (r ∷ rows) sample row all this = cc
-AreSampleRows-push draft chosen (s ∷ samples) [] sample row all this = absurd all
-AreSampleRows-push draft chosen (s ∷ samples) (r ∷ rows) sample row all this =
-    (all.0, AreSampleRows-push draft chosen samples rows sample row all.1 this)
+pub AreRowsOfSamples-push : (draft : Draft)
+    (first width : ℕ) (samples : List Sample) (rows : List Row) (sample : Sample) (row : Row)
+    → AreRowsOfSamples draft first width samples rows → IsRowOfSample draft first width sample row
+    → AreRowsOfSamples draft first width (samples ++ sample ∷ []) (rows ++ row ∷ [])
+AreRowsOfSamples-push draft first width [] [] sample row all this = (this, refl)
+AreRowsOfSamples-push draft first width [] (r ∷ rows) sample row all this = cc
+AreRowsOfSamples-push draft first width (s ∷ samples) [] sample row all this = absurd all
+AreRowsOfSamples-push draft first width (s ∷ samples) (r ∷ rows) sample row all this =
+    (all.0, AreRowsOfSamples-push draft first width samples rows sample row all.1 this)
 
 -- the rows of samples that hold a sample: those before it, its own, those after it
-abbrev pub CutAtSample : Draft → ℕ → List Sample → Sample → List WeightedStack → Type 0
-CutAtSample draft chosen before sample rows =
-    (front : List WeightedStack) × (row : WeightedStack) × (back : List WeightedStack)
-    × (rows ≡ front ++ row ∷ back) × AreSampleRows draft chosen before front × IsSampleRow draft chosen sample row
+abbrev pub CutAtSample : Draft → ℕ → ℕ → List Sample → Sample → List Row → Type 0
+CutAtSample draft first width before sample rows = (front : List Row) × (row : Row) × (back : List Row) × (rows ≡ front
+    ++ row ∷ back) × AreRowsOfSamples draft first width before front × IsRowOfSample draft first width sample row
 
-cut_at : (draft : Draft)
-    (chosen : ℕ) (before : List Sample) (sample : Sample) (after : List Sample) (rows : List WeightedStack)
-    → AreSampleRows draft chosen (before ++ sample ∷ after) rows → CutAtSample draft chosen before sample rows
-cut_at draft chosen [] sample after [] all = absurd all
-cut_at draft chosen [] sample after (row ∷ rows) all = ([], row, rows, refl, refl, all.0)
-cut_at draft chosen (s ∷ before) sample after [] all = absurd all
-cut_at draft chosen (s ∷ before) sample after (r ∷ rows) all =
-    let rest = cut_at draft chosen before sample after rows all.1 in
+pub cut_at : (draft : Draft) (first width : ℕ) (before : List Sample) (sample : Sample)
+    (after : List Sample) (rows : List Row) → AreRowsOfSamples draft first width (before ++ sample ∷ after) rows
+    → CutAtSample draft first width before sample rows
+cut_at draft first width [] sample after [] all = absurd all
+cut_at draft first width [] sample after (row ∷ rows) all = ([], row, rows, refl, refl, all.0)
+cut_at draft first width (s ∷ before) sample after [] all = absurd all
+cut_at draft first width (s ∷ before) sample after (r ∷ rows) all =
+    let rest = cut_at draft first width before sample after rows all.1 in
     (r ∷ rest.0, rest.1, rest.2, ap (λ z. r ∷ z) rest.3, (all.0, rest.4), rest.5)
 
--- a sample that gives a row within the total has no fault but want of memory
-pub faultless : (draft : Draft) (chosen earlier number : ℕ) (sample : Sample) (row : WeightedStack) (fault : BatchFault)
-    → IsSampleRow draft chosen sample row → earlier + row.weight < 2 ^ 63
-    → IsSampleFault draft chosen earlier number sample fault → fault ≡ NoMemory
-faultless draft chosen earlier number sample row NoValue this fits h = absurd h
-faultless draft chosen earlier number sample row (Width count) this fits h = absurd h
-faultless draft chosen earlier number sample row (Negative at) this fits h =
-    absurd (not_below (slice_get sample.values chosen) row.weight h.1 this.value h.2)
-faultless draft chosen earlier number sample row (Depth at) this fits h =
-    let deep = this.depth in
+-- ---- faults of a sample
+
+-- a sample that gives a row within the totals has no fault but want of memory
+pub faultless : (draft : Draft) (first : ℕ) (totals : List ℕ) (number : ℕ) (sample : Sample) (row : Row)
+    (fault : BatchFault) → IsRowOfSample draft first (length totals) sample row
+    → ((value : ℕ) → value_of value totals + value_of value row.weights < 2 ^ 63)
+    → IsSampleFault draft first totals number sample fault → fault ≡ NoMemory
+faultless draft first totals number sample row NoValue this room h = absurd h
+faultless draft first totals number sample row (Width count) this room h = absurd h
+faultless draft first totals number sample row (Negative at) this room (value, lt, (is, below, e)) =
+    absurd (not_below (slice_get sample.values (first + value)) (value_of value row.weights) below
+    (this.values value lt) e)
+faultless draft first totals number sample row (Depth at) this room (is, weights, values, deep) =
+    let fit = this.depth in
     let same = ap length this.stack in
-    absurd (omega (arith, same, deep, h.3))
-faultless draft chosen earlier number sample row (Heavy at) this fits h =
-    let same : row.weight ≡ h.1.weight =
-    ap (λ (r : WeightedStack). r.weight) (IsSampleRow-same draft chosen sample row h.1 this h.2) in
-    absurd (omega (arith, same, fits, h.3))
-faultless draft chosen earlier number sample row NoMemory this fits h = refl
+    absurd (omega (arith, same, fit, deep))
+faultless draft first totals number sample row (Heavy at) this room (is, other, own, value, lt, heavy) =
+    let same : value_of value row.weights ≡ value_of value other.weights = ap (λ (r : Row). value_of value r.weights)
+    (IsRowOfSample-same draft first (length totals) sample row other this own) in
+    let fits = room value in
+    absurd (omega (arith, same, fits, heavy))
+faultless draft first totals number sample row NoMemory this room h = refl
 
-pub chosen_same : (draft : Draft) (choice : ValueChoice) (a b : ℕ)
-    → chosen_type_of draft choice ≡ Some a → chosen_type_of draft choice ≡ Some b → a ≡ b
-chosen_same draft choice a b one other = ap (λ o. unwrap_or o 0) (sym one ∙ other)
+-- a value that is taken is below 0
+pub IsSampleFault-below : (draft : Draft) (first : ℕ) (totals : List ℕ) (number : ℕ) (sample : Sample) (value : ℕ)
+    (fault : BatchFault) → value < length totals → IsValueFault (first + value) number sample.values fault
+    → IsSampleFault draft first totals number sample fault
+IsSampleFault-below draft first totals number sample value NoValue lt h = absurd h
+IsSampleFault-below draft first totals number sample value (Width count) lt h = absurd h
+IsSampleFault-below draft first totals number sample value (Negative at) lt h = (value, lt, h)
+IsSampleFault-below draft first totals number sample value (Depth at) lt h = absurd h
+IsSampleFault-below draft first totals number sample value (Heavy at) lt h = absurd h
+IsSampleFault-below draft first totals number sample value NoMemory lt h = absurd h
 
--- a sample among those of rows within the limit has no fault but want of memory
-pub faultless_at : (draft : Draft) (chosen number : ℕ) (before : List Sample)
-    (sample : Sample) (after : List Sample) (front rows : List WeightedStack) (fault : BatchFault)
-    → AreSampleRows draft chosen (before ++ sample ∷ after) rows → total_of rows < 2 ^ 63
-    → AreSampleRows draft chosen before front
-    → IsSampleFault draft chosen (total_of front) number sample fault → fault ≡ NoMemory
-faultless_at draft chosen number before sample after front rows fault all whole known there =
-    let cut_rows = cut_at draft chosen before sample after rows all in
-    let same : front ≡ cut_rows.0 = AreSampleRows-same draft chosen before front cut_rows.0 known cut_rows.4 in
-    let total : total_of rows ≡ total_of (cut_rows.0 ++ cut_rows.1 ∷ cut_rows.2) = ap total_of cut_rows.3 in
-    let parts = sum_by-append (λ (row : WeightedStack). row.weight) cut_rows.0 (cut_rows.1 ∷ cut_rows.2) in
-    let row = sum_by-cons (λ (row : WeightedStack). row.weight) cut_rows.1 cut_rows.2 in
-    let earlier = ap total_of same in
-    faultless draft chosen
-    (total_of front) number sample cut_rows.1 fault cut_rows.5 (omega (arith, total, parts, row, whole, earlier)) there
+pub IsSampleFault-deep : (draft : Draft) (first : ℕ) (totals : List ℕ) (number : ℕ)
+    (sample : Sample) (weights : List ℕ) (fault : BatchFault) → HasWeights first (length totals) sample.values weights
+    → fault ≡ Depth number → 65535 < length (sample_stack_of draft sample.location_ids)
+    → IsSampleFault draft first totals number sample fault
+IsSampleFault-deep draft first totals number sample weights fault values is deep =
+    subst (IsSampleFault draft first totals number sample) (sym is) (refl, weights, values, deep)
 
--- a profile that gives rows has no first fault but want of memory
-stands_nowhere : (draft : Draft) (choice : ValueChoice) (rows : List WeightedStack) (fault : BatchFault)
-    → AreStacksOf draft choice rows → StandsAtSample draft choice fault → fault ≡ NoMemory
-stands_nowhere draft choice rows fault batch
-    (chosen, before, sample, after, front, is_chosen, cut, known, fits, there) =
-    let same_type = chosen_same draft choice batch.chosen chosen batch.is_chosen is_chosen in
-    let all = subst (λ c. AreSampleRows draft c draft.samples rows) same_type batch.rows_samples in
-    faultless_at draft chosen (length before) before sample after front rows fault
-    (subst (λ ss. AreSampleRows draft chosen ss rows) cut all) batch.total_fits known there
-
-pub IsFirstStacksFault-batch : (draft : Draft) (choice : ValueChoice) (rows : List WeightedStack) (fault : BatchFault)
-    → AreStacksOf draft choice rows → IsFirstStacksFault draft choice fault → fault ≡ NoMemory
-IsFirstStacksFault-batch draft choice rows NoValue batch h =
-    absurd (false≢true (sym (ap is_some (sym batch.is_chosen ∙ h))))
-IsFirstStacksFault-batch draft choice rows (Width count) batch h = absurd h
-IsFirstStacksFault-batch draft choice rows (Negative at) batch h =
-    stands_nowhere draft choice rows (Negative at) batch h
-IsFirstStacksFault-batch draft choice rows (Depth at) batch h = stands_nowhere draft choice rows (Depth at) batch h
-IsFirstStacksFault-batch draft choice rows (Heavy at) batch h = stands_nowhere draft choice rows (Heavy at) batch h
-IsFirstStacksFault-batch draft choice rows NoMemory batch h = refl
-
--- one profile and choice have one list of rows
-pub AreStacksOf-same : (draft : Draft) (choice : ValueChoice) (rows others : List WeightedStack)
-    → AreStacksOf draft choice rows → AreStacksOf draft choice others → rows ≡ others
-AreStacksOf-same draft choice rows others one other =
-    let same_type = chosen_same draft choice one.chosen other.chosen one.is_chosen other.is_chosen in
-    AreSampleRows-same draft other.chosen draft.samples rows others
-    (subst (λ c. AreSampleRows draft c draft.samples rows) same_type one.rows_samples) other.rows_samples
-
--- what `batch_of` answers decides what rows a profile gives
-pub only_batch : (draft : Draft) (choice : ValueChoice) (outcome : Result (List WeightedStack) BatchFault)
-    → MatchResult outcome (λ batch. AreStacksOf draft choice batch) (λ fault. IsFirstStacksFault draft choice fault)
-    → (rows : List WeightedStack)
-    → AreStacksOf draft choice rows → MatchResult outcome (λ batch. batch ≡ rows) (λ fault. fault ≡ NoMemory)
-only_batch draft choice (Ok batch) read rows this = AreStacksOf-same draft choice batch rows read this
-only_batch draft choice (Err fault) read rows this = IsFirstStacksFault-batch draft choice rows fault this read
-
--- ---- the loop over the samples
-
--- the first `count` samples give these rows
-pub record AreRowsSoFar (draft : Draft) (chosen count : ℕ) (rows : List WeightedStack) : Type 0 where
-  pub known : AreSampleRows draft chosen (take count draft.samples) rows
-  pub fits : total_of rows < 2 ^ 63
-
-pub AreRowsSoFar-row : (draft : Draft)
-    (chosen count : ℕ) (sample : Sample) (rows : List WeightedStack) (row : WeightedStack) (all : List WeightedStack)
-    → count < length draft.samples → sample ≡ get_or draft.samples count sample
-    → AreRowsSoFar draft chosen count rows → IsSampleRow draft chosen sample row
-    → total_of rows + row.weight < 2 ^ 63 → all ≡ rows ++ row ∷ [] → AreRowsSoFar draft chosen (count + 1) all
-AreRowsSoFar-row draft chosen count sample rows row all lt item so_far this fits more =
-    let parts : total_of (rows ++ row ∷ []) ≡ total_of rows + row.weight =
-    sum_by_push (λ (row : WeightedStack). row.weight) rows row in
-    let total : total_of all ≡ total_of (rows ++ row ∷ []) = ap total_of more in
-    let front : take (count + 1) draft.samples ≡ take count draft.samples ++ sample ∷ [] =
-    (take_at_read draft.samples count sample lt).1 ∙ ap (λ s. take count draft.samples ++ s ∷ []) (sym item) in
-    record {
-      known = subst (λ ss. AreSampleRows draft chosen ss all)
-          (sym front) (subst (AreSampleRows draft chosen (take count draft.samples ++ sample ∷ [])) (sym more)
-          (AreSampleRows-push draft chosen (take count draft.samples) rows sample row so_far.known this));
-      fits = omega (arith, parts, total, fits);
-    }
-
-pub AreRowsSoFar-end : (draft : Draft) (choice : ValueChoice) (chosen count : ℕ) (rows : List WeightedStack)
-    → chosen_type_of draft choice ≡ Some chosen
-    → length draft.samples ≤ count → AreRowsSoFar draft chosen count rows → AreStacksOf draft choice rows
-AreRowsSoFar-end draft choice chosen count rows is_chosen whole so_far =
-    record {
-      chosen = chosen;
-      is_chosen = is_chosen;
-      rows_samples = subst (λ ss. AreSampleRows draft chosen ss rows)
-          (take_all count draft.samples whole) so_far.known;
-      total_fits = so_far.fits;
-    }
-
--- a sample with a fault is the first one
-pub AreRowsSoFar-stands : (draft : Draft) (choice : ValueChoice) (chosen count : ℕ) (sample : Sample) (rows : List
-    WeightedStack) (fault : BatchFault) → chosen_type_of draft choice ≡ Some chosen → count < length draft.samples
-    → sample ≡ get_or draft.samples count sample → AreRowsSoFar draft chosen count rows
-    → IsSampleFault draft chosen (total_of rows) count sample fault → StandsAtSample draft choice fault
-AreRowsSoFar-stands draft choice chosen count sample rows fault is_chosen lt item so_far there =
-    let long : length (take count draft.samples) ≡ count = grind (arith, common_steps) in
-    let back : drop count draft.samples ≡ sample ∷ drop (suc count) draft.samples =
-    drop-cons draft.samples count sample lt ∙ ap (λ s. s ∷ drop (suc count) draft.samples) (sym item) in (
-      chosen,
-      take count draft.samples,
-      sample,
-      drop (suc count) draft.samples,
-      rows,
-      is_chosen,
-      sym (take-append-drop count draft.samples) ∙ ap (λ ss. take count draft.samples ++ ss) back,
-      so_far.known,
-      so_far.fits,
-      subst (λ n. IsSampleFault draft chosen (total_of rows) n sample fault) (sym long) there,
+pub IsSampleFault-heavy : (draft : Draft) (first : ℕ) (totals : List ℕ) (number : ℕ) (sample : Sample)
+    (weights : List ℕ) (fault : BatchFault) → length weights ≡ length totals
+    → HasWeights first (length totals) sample.values weights
+    → length (sample_stack_of draft sample.location_ids) ≤ 65535
+    → (fault ≡ Heavy number) × (value : ℕ) × (value < length totals) × (2 ^ 63 ≤ value_of value totals
+    + value_of value weights) → IsSampleFault draft first totals number sample fault
+IsSampleFault-heavy draft first totals number sample weights fault count values deep (is, value, lt, heavy) =
+    subst (IsSampleFault draft first totals number sample) (sym is) (
+      refl,
+      record { stack = sample_stack_of draft sample.location_ids; weights = weights },
+      row_of_sample draft first (length totals) sample weights count values deep,
+      value,
+      lt,
+      heavy,
     )
 
--- what stands at a sample is a profile's first fault
-stands_first : (draft : Draft) (choice : ValueChoice) (fault : BatchFault)
-    → StandsAtSample draft choice fault → IsFirstStacksFault draft choice fault
-stands_first draft choice NoValue there = absurd there.9
-stands_first draft choice (Width count) there = absurd there.9
-stands_first draft choice (Negative at) there = there
-stands_first draft choice (Depth at) there = there
-stands_first draft choice (Heavy at) there = there
-stands_first draft choice NoMemory there = (there.0, there.5)
+-- where memory runs out the sample fits
+pub IsSampleFault-memory : (draft : Draft) (first : ℕ) (totals : List ℕ) (number : ℕ) (sample : Sample)
+    (weights : List ℕ) → length weights ≡ length totals → HasWeights first (length totals) sample.values weights
+    → length (sample_stack_of draft sample.location_ids) ≤ 65535
+    → ((value : ℕ) → value_of value totals + value_of value weights < 2 ^ 63)
+    → IsSampleFault draft first totals number sample NoMemory
+IsSampleFault-memory draft first totals number sample weights count values deep room = (
+  record { stack = sample_stack_of draft sample.location_ids; weights = weights },
+  row_of_sample draft first (length totals) sample weights count values deep,
+  room,
+)
 
-pub first_of_standing : {T : Type 0} (P : T → Type 0) (draft : Draft) (choice : ValueChoice)
-    (outcome : Result T BatchFault) → MatchResult outcome P (λ fault. StandsAtSample draft choice fault)
-    → MatchResult outcome P (λ fault. IsFirstStacksFault draft choice fault)
-first_of_standing P draft choice (Ok made) this = this
-first_of_standing P draft choice (Err fault) there = stands_first draft choice fault there
+-- ---- one value of a sample
 
--- and so is what work on the rows ends with
-work_first : (draft : Draft) (choice : ValueChoice) (fault : BatchFault)
-    → IsStacksWorkFault draft choice fault → IsFirstStacksFault draft choice fault
-work_first draft choice fault this =
-    elim this [
-      | inl there ↦ stands_first draft choice fault there
-      | inr behind ↦ subst (IsFirstStacksFault draft choice) (sym behind.0) (behind.2.chosen, behind.2.is_chosen)
-    ]
+-- the value at a place alone
+pub one_weight : (place weight : ℕ) (values : List ℤ) → slice_get values place ≡ Some (pos weight)
+    → HasWeights place 1 values (weight ∷ [])
+one_weight place weight values is zero lt = let same : place + 0 ≡ place = omega arith in
+    ap (slice_get values) same ∙ is
+one_weight place weight values is (suc value) lt = absurd (omega (arith, lt))
 
-pub first_of_work : {T : Type 0} (P : T → Type 0) (draft : Draft) (choice : ValueChoice) (outcome : Result T BatchFault)
-    → MatchResult outcome P (λ fault. IsStacksWorkFault draft choice fault)
-    → MatchResult outcome P (λ fault. IsFirstStacksFault draft choice fault)
-first_of_work P draft choice (Ok made) this = this
-first_of_work P draft choice (Err fault) this = work_first draft choice fault this
+pub one_value_row : (draft : Draft) (place : ℕ) (sample : Sample) (weight : ℕ)
+    → slice_get sample.values place ≡ Some (pos weight) → length (sample_stack_of draft sample.location_ids) ≤ 65535
+    → IsRowOfSample draft place 1 sample
+    (record { stack = sample_stack_of draft sample.location_ids; weights = weight ∷ [] })
+one_value_row draft place sample weight is deep =
+    row_of_sample draft place 1 sample (weight ∷ []) refl (one_weight place weight sample.values is) deep
 
--- ---- one sample
+pub one_value_room : (earlier weight : ℕ) → earlier + weight < 2 ^ 63
+    → (value : ℕ) → value_of value (earlier ∷ []) + value_of value (weight ∷ []) < 2 ^ 63
+one_value_room earlier weight fits zero = fits
+one_value_room earlier weight fits (suc value) = omega (arith, fits)
 
--- the row of a sample whose locations fit
-pub sample_row : (draft : Draft) (chosen : ℕ) (sample : Sample) (weight : ℕ)
-    → slice_get sample.values chosen ≡ Some (pos weight) → length (sample_stack_of draft sample.location_ids) ≤ 65535
-    → IsSampleRow draft chosen sample (record { stack = sample_stack_of draft sample.location_ids; weight = weight })
-sample_row draft chosen sample weight value deep = record { stack = refl; depth = deep; value = value }
+pub one_value_below : (draft : Draft) (place earlier number : ℕ) (sample : Sample) (fault : BatchFault)
+    → IsValueFault place number sample.values fault → IsSampleFault draft place (earlier ∷ []) number sample fault
+one_value_below draft place earlier number sample fault h =
+    let same : place ≡ place + 0 = omega arith in
+    IsSampleFault-below draft place (earlier ∷ []) number sample 0 fault (omega arith)
+    (subst (λ p. IsValueFault p number sample.values fault) same h)
 
--- a sample that doesn't fit has that fault
-pub IsSampleFault-fit : (draft : Draft) (chosen earlier number : ℕ) (sample : Sample) (weight : ℕ) (fault : BatchFault)
-    → slice_get sample.values chosen ≡ Some (pos weight)
+-- the sample doesn't fit
+pub IsSampleFault-fit : (draft : Draft) (place earlier number : ℕ) (sample : Sample) (weight : ℕ) (fault : BatchFault)
+    → slice_get sample.values place ≡ Some (pos weight)
     → IsFitFault draft earlier number sample.location_ids weight fault
-    → IsSampleFault draft chosen earlier number sample fault
-IsSampleFault-fit draft chosen earlier number sample weight NoValue value h = absurd h
-IsSampleFault-fit draft chosen earlier number sample weight (Width count) value h = absurd h
-IsSampleFault-fit draft chosen earlier number sample weight (Negative at) value h = absurd h
-IsSampleFault-fit draft chosen earlier number sample weight (Depth at) value h = (h.0, weight, value, h.1)
-IsSampleFault-fit draft chosen earlier number sample weight (Heavy at) value h = (
+    → IsSampleFault draft place (earlier ∷ []) number sample fault
+IsSampleFault-fit draft place earlier number sample weight NoValue is h = absurd h
+IsSampleFault-fit draft place earlier number sample weight (Width count) is h = absurd h
+IsSampleFault-fit draft place earlier number sample weight (Negative at) is h = absurd h
+IsSampleFault-fit draft place earlier number sample weight (Depth at) is h =
+    (h.0, weight ∷ [], one_weight place weight sample.values is, h.1)
+IsSampleFault-fit draft place earlier number sample weight (Heavy at) is h = (
   h.0,
-  record { stack = sample_stack_of draft sample.location_ids; weight = weight },
-  sample_row draft chosen sample weight value h.1,
+  record { stack = sample_stack_of draft sample.location_ids; weights = weight ∷ [] },
+  one_value_row draft place sample weight is h.1,
+  0,
+  omega arith,
   h.2,
 )
-IsSampleFault-fit draft chosen earlier number sample weight NoMemory value h = absurd h
+IsSampleFault-fit draft place earlier number sample weight NoMemory is h = absurd h
 
--- where memory runs out the sample fits
-pub IsSampleFault-memory : (draft : Draft) (chosen earlier number : ℕ) (sample : Sample) (weight : ℕ)
-    → slice_get sample.values chosen ≡ Some (pos weight)
+pub one_value_memory : (draft : Draft) (place earlier number : ℕ) (sample : Sample) (weight : ℕ)
+    → slice_get sample.values place ≡ Some (pos weight)
     → length (sample_stack_of draft sample.location_ids) ≤ 65535
-    → earlier + weight < 2 ^ 63 → IsSampleFault draft chosen earlier number sample NoMemory
-IsSampleFault-memory draft chosen earlier number sample weight value deep fits = (
-  record { stack = sample_stack_of draft sample.location_ids; weight = weight },
-  sample_row draft chosen sample weight value deep,
-  fits,
-)
+    → earlier + weight < 2 ^ 63 → IsSampleFault draft place (earlier ∷ []) number sample NoMemory
+one_value_memory draft place earlier number sample weight is deep fits =
+    IsSampleFault-memory draft place (earlier ∷ []) number sample (weight ∷ []) refl
+    (one_weight place weight sample.values is) deep (one_value_room earlier weight fits)
 
 -- ---- a pass over the samples, which are lent
 

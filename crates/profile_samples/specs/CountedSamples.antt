@@ -9,7 +9,8 @@ use Rattle.profile_rows.specs.Tallies.{AreTalliesOf, names_at}
 use Rattle.profile_rows.specs.TopList.{AreTotalsOf}
 use Rattle.profile_samples.specs.declared.sampling.ValueChoice.{ValueChoice}
 use Rattle.profile_samples.specs.NameNumbers.{frame_names}
-use Rattle.profile_samples.specs.Samples.{AreStacksOf, frames_of_ids}
+use Rattle.profile_samples.specs.Batches.{AreStacksOf}
+use Rattle.profile_samples.specs.Samples.{frames_of_ids}
 
 -- the numbers of the names of locations, which names stand in their frames
 pub record AreNumbersOfIds (draft : Draft) (ids numbers : List ℕ) : Type 0 where

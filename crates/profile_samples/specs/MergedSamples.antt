@@ -4,7 +4,7 @@ use Rattle.pprof_profile.specs.declared.messages.Draft.{Draft}
 use Rattle.profile_rows.specs.declared.weighted_stacks.WeightedStack.{WeightedStack}
 use Rattle.profile_rows.specs.Aggregate.{aggregate_of}
 use Rattle.profile_samples.specs.declared.sampling.ValueChoice.{ValueChoice}
-use Rattle.profile_samples.specs.Samples.{AreStacksOf}
+use Rattle.profile_samples.specs.Batches.{AreStacksOf}
 
 -- the rows add up to those of a profile's samples
 pub record IsMergedBatch (draft : Draft) (choice : ValueChoice) (merged : List WeightedStack) : Type 0 where

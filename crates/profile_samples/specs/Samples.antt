@@ -1,6 +1,6 @@
--- What the samples of a profile are as rows (profile.proto, the comments of messages Sample, Location, Line and
--- Function).
-use Rattle.std.specs.Prelude.{Bool, false, ℕ, ℤ, pos, negsuc, ◌≡◌, ◌⊎◌, ◌+◌, ◌^◌, ◌<◌, ◌≤◌, ◌==◌, Option, Some, None}
+-- What a sample of a profile is as a row (profile.proto, the comments of messages Sample, Location, Line and Function).
+use Rattle.std.specs.Prelude.{Bool, false, ℕ, zero, suc, ℤ, pos, negsuc, ◌≡◌, ◌+◌, ◌^◌, ◌<◌, ◌≤◌, ◌==◌}
+use Rattle.std.specs.Prelude.{Option, Some, None}
 use Rattle.std.specs.Prelude.{List, [], ◌∷◌, ◌++◌, length, map, reverse, slice_get, slice_index_or, unwrap_or, codes}
 use Rattle.std.specs.Prelude.{if◌then◌else◌}
 use Rattle.std.specs.List.{flat_map, position}
@@ -12,14 +12,13 @@ use Rattle.pprof_profile.specs.declared.messages.Location.{Location}
 use Rattle.pprof_profile.specs.declared.messages.Line.{Line}
 use Rattle.pprof_profile.specs.declared.messages.Function.{Function}
 use Rattle.pprof_profile.specs.declared.messages.ValueType.{ValueType}
-use Rattle.profile_rows.specs.declared.weighted_stacks.WeightedStack.{WeightedStack}
 use Rattle.profile_samples.specs.declared.sampling.BatchFault.{BatchFault}
 use Rattle.profile_samples.specs.declared.sampling.BatchFault.TheVariants.{NoValue, Width, Negative, Depth, Heavy}
 use Rattle.profile_samples.specs.declared.sampling.BatchFault.TheVariants.{NoMemory}
 use Rattle.profile_samples.specs.declared.sampling.ValueChoice.{ValueChoice}
 use Rattle.profile_samples.specs.declared.sampling.ValueChoice.TheVariants.{Default, Named, All}
 use Rattle.profile_rows.specs.Names.{cleaned_name_of}
-use Rattle.profile_rows.specs.Rows.{total_of}
+use Rattle.profile_rows.specs.Values.{Row, value_of}
 
 -- the string at an index
 abbrev pub string_at : List (List ℕ) → ℤ → List ℕ
@@ -92,7 +91,7 @@ frames_of_maybe draft (Some sample) = frames_of_ids draft sample.location_ids
 abbrev pub frames_of_sample : Draft → ℕ → List (List ℕ)
 frames_of_sample draft number = frames_of_maybe draft (slice_get draft.samples number)
 
--- ---- the chosen value
+-- ---- one sample type
 
 -- the first sample type of this name
 abbrev pub type_named : Draft → List ℕ → Option ℕ
@@ -117,43 +116,47 @@ default_type draft =
     if is_zero draft.default_sample_type then last_index draft.sample_types
     else or_last draft (type_named draft (string_at draft.strings draft.default_sample_type))
 
--- which of the values of each sample is chosen, where it is one
-abbrev pub chosen_type_of : Draft → ValueChoice → Option ℕ
-chosen_type_of draft Default = default_type draft
-chosen_type_of draft (Named text) = type_named draft text.now
-chosen_type_of draft All = None
+-- ---- the values that are taken
 
--- ---- rows
+-- the value at a place alone
+abbrev pub one_from : Option ℕ → Option (ℕ × ℕ)
+one_from None = None
+one_from (Some first) = Some (first, 1)
 
--- the row of a sample, by the value that is chosen
-pub record IsSampleRow (draft : Draft) (chosen : ℕ) (sample : Sample) (row : WeightedStack) : Type 0 where
+-- so many values, where there are any
+abbrev pub all_of : ℕ → Option (ℕ × ℕ)
+all_of zero = None
+all_of (suc more) = Some (0, suc more)
+
+-- the place of the first value that a choice takes of each sample, and how many it takes; the others follow it
+abbrev pub chosen_types_of : Draft → ValueChoice → Option (ℕ × ℕ)
+chosen_types_of draft Default = one_from (default_type draft)
+chosen_types_of draft (Named text) = one_from (type_named draft text.now)
+chosen_types_of draft All = all_of (length draft.sample_types)
+
+-- so many values from a place on are these weights
+abbrev pub HasWeights : ℕ → ℕ → List ℤ → List ℕ → Type 0
+HasWeights first width values weights = (value : ℕ) → value < width
+    → slice_get values (first + value) ≡ Some (pos (value_of value weights))
+
+-- ---- a sample as a row
+
+-- the row of a sample, by so many values from the first that is taken on
+pub record IsRowOfSample (draft : Draft) (first width : ℕ) (sample : Sample) (row : Row) : Type 0 where
   pub stack : row.stack ≡ sample_stack_of draft sample.location_ids
   pub depth : length row.stack ≤ 65535
-  pub value : slice_get sample.values chosen ≡ Some (pos row.weight)
+  pub count : length row.weights ≡ width
+  pub values : HasWeights first width sample.values row.weights
 
--- a row for each sample, in order
-abbrev pub AreSampleRows : Draft → ℕ → List Sample → List WeightedStack → Type 0
-AreSampleRows draft chosen [] rows = rows ≡ []
-AreSampleRows draft chosen (sample ∷ samples) [] = ⊥
-AreSampleRows draft chosen (sample ∷ samples) (row ∷ rows) = IsSampleRow draft chosen sample row
-    × AreSampleRows draft chosen samples rows
-
--- the rows of a profile, by the choice of a value
-pub record AreStacksOf (draft : Draft) (choice : ValueChoice) (rows : List WeightedStack) : Type 0 where
-  pub chosen : ℕ
-  pub is_chosen : chosen_type_of draft choice ≡ Some chosen
-  pub rows_samples : AreSampleRows draft chosen draft.samples rows
-  pub total_fits : total_of rows < 2 ^ 63
-
--- what keeps a sample's value from being a weight
+-- what keeps a value of a sample from being a weight
 abbrev pub IsValueFault : ℕ → ℕ → List ℤ → BatchFault → Type 0
-IsValueFault chosen number values NoValue = ⊥
-IsValueFault chosen number values (Width count) = ⊥
-IsValueFault chosen number values (Negative at) = (at ≡ number) × (below : ℕ)
-    × (slice_get values chosen ≡ Some (negsuc below))
-IsValueFault chosen number values (Depth at) = ⊥
-IsValueFault chosen number values (Heavy at) = ⊥
-IsValueFault chosen number values NoMemory = ⊥
+IsValueFault place number values NoValue = ⊥
+IsValueFault place number values (Width count) = ⊥
+IsValueFault place number values (Negative at) = (at ≡ number) × (below : ℕ)
+    × (slice_get values place ≡ Some (negsuc below))
+IsValueFault place number values (Depth at) = ⊥
+IsValueFault place number values (Heavy at) = ⊥
+IsValueFault place number values NoMemory = ⊥
 
 -- why the locations and the value of a sample give no row that can follow rows of the weight `earlier`
 abbrev pub IsFitFault : Draft → ℕ → ℕ → List ℕ → ℕ → BatchFault → Type 0
@@ -165,42 +168,19 @@ IsFitFault draft earlier number ids weight (Heavy at) = (at ≡ number) × (leng
     × (2 ^ 63 ≤ earlier + weight)
 IsFitFault draft earlier number ids weight NoMemory = ⊥
 
--- Why a sample gives no row that can follow rows of the weight `earlier`. Each case says that the ones before it don't
--- stand, and memory runs out only at a sample without a fault: one that gives a row which can follow.
-abbrev pub IsSampleFault : Draft → ℕ → ℕ → ℕ → Sample → BatchFault → Type 0
-IsSampleFault draft chosen earlier number sample NoValue = ⊥
-IsSampleFault draft chosen earlier number sample (Width count) = ⊥
-IsSampleFault draft chosen earlier number sample (Negative at) = (at ≡ number)
-    × (below : ℕ) × (slice_get sample.values chosen ≡ Some (negsuc below))
-IsSampleFault draft chosen earlier number sample (Depth at) = (at ≡ number)
-    × (weight : ℕ) × (slice_get sample.values chosen ≡ Some (pos weight))
+-- Why a sample gives no row that can follow rows of these totals, one for each value that is taken: a value below 0;
+-- else its depth; else a value that passes the limit. Memory runs out only at a sample which has none of them.
+abbrev pub IsSampleFault : Draft → ℕ → List ℕ → ℕ → Sample → BatchFault → Type 0
+IsSampleFault draft first totals number sample NoValue = ⊥
+IsSampleFault draft first totals number sample (Width count) = ⊥
+IsSampleFault draft first totals number sample (Negative at) = (value : ℕ) × (value < length totals)
+    × IsValueFault (first + value) number sample.values (Negative at)
+IsSampleFault draft first totals number sample (Depth at) = (at ≡ number)
+    × (weights : List ℕ) × HasWeights first (length totals) sample.values weights
     × (65535 < length (sample_stack_of draft sample.location_ids))
-IsSampleFault draft chosen earlier number sample (Heavy at) = (at ≡ number)
-    × (row : WeightedStack) × IsSampleRow draft chosen sample row × (2 ^ 63 ≤ earlier + row.weight)
-IsSampleFault draft chosen earlier number sample NoMemory = (row : WeightedStack) × IsSampleRow draft chosen sample row
-    × (earlier + row.weight < 2 ^ 63)
-
--- the fault stands at a sample, and the samples before it give rows within the limit
-abbrev pub StandsAtSample : Draft → ValueChoice → BatchFault → Type 0
-StandsAtSample draft choice fault = (chosen : ℕ) × (before : List Sample) × (sample : Sample)
-    × (after : List Sample)
-    × (rows : List WeightedStack)
-    × (chosen_type_of draft choice ≡ Some chosen) × (draft.samples ≡ before ++ sample ∷ after)
-    × AreSampleRows draft chosen before rows × (total_of rows < 2 ^ 63)
-    × IsSampleFault draft chosen (total_of rows) (length before) sample fault
-
--- Why a profile gives no rows: no such value, or the first sample with a fault. Memory runs out only where there is
--- such a value.
-abbrev pub IsFirstStacksFault : Draft → ValueChoice → BatchFault → Type 0
-IsFirstStacksFault draft choice NoValue = chosen_type_of draft choice ≡ None
-IsFirstStacksFault draft choice (Width count) = ⊥
-IsFirstStacksFault draft choice (Negative at) = StandsAtSample draft choice (Negative at)
-IsFirstStacksFault draft choice (Depth at) = StandsAtSample draft choice (Depth at)
-IsFirstStacksFault draft choice (Heavy at) = StandsAtSample draft choice (Heavy at)
-IsFirstStacksFault draft choice NoMemory = (chosen : ℕ) × (chosen_type_of draft choice ≡ Some chosen)
-
--- Why work on the rows of a profile's samples has no result, once it has begun: a fault stands at a sample, or memory
--- runs out behind the last one.
-abbrev pub IsStacksWorkFault : Draft → ValueChoice → BatchFault → Type 0
-IsStacksWorkFault draft choice fault = StandsAtSample draft choice fault
-    ⊎ ((fault ≡ NoMemory) × (rows : List WeightedStack) × AreStacksOf draft choice rows)
+IsSampleFault draft first totals number sample (Heavy at) = (at ≡ number)
+    × (row : Row) × IsRowOfSample draft first (length totals) sample row
+    × (value : ℕ) × (value < length totals) × (2 ^ 63 ≤ value_of value totals + value_of value row.weights)
+IsSampleFault draft first totals number sample NoMemory =
+    (row : Row) × IsRowOfSample draft first (length totals) sample row
+    × ((value : ℕ) → value_of value totals + value_of value row.weights < 2 ^ 63)

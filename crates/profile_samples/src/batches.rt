@@ -1,89 +1,27 @@
 //! A profile's samples as a batch: the values that are chosen, a row for each sample, and why there is none.
 
-ghost use Rattle.std.specs.Prelude.{ℕ, ◌≡◌, ◌≢◌, ◌+◌, ◌^◌, ◌<◌, ◌≤◌, ◌∷◌, ◌++◌, ◌⊎◌, [], IfErr, IfOk, MatchOption, MatchResult, OnErr, OnOk, None, Some, length, pos, slice_get};
-ghost use Rattle.profile_rows.specs.Values.{BatchState, HasRoom, IsBatch, Row, rows_at, value_of};
+ghost use Rattle.std.specs.Prelude.{ℕ, ◌≡◌, ◌≢◌, ◌+◌, ◌^◌, ◌<◌, ◌≤◌, ◌∷◌, ◌++◌, ◌⊎◌, [], IfErr, IfOk, List, MatchResult, OnErr, OnOk, Some, length};
+ghost use Rattle.profile_rows.specs.Values.{AreTotals, BatchState, HasRoom, IsBatch, Row, rows_at, value_of};
 ghost use Rattle.profile_rows.specs.Rows.{total_of};
 ghost use Rattle.profile_samples.specs.declared.sampling.BatchFault.{BatchFault};
 ghost use Rattle.profile_samples.specs.declared.sampling.ValueChoice.{ValueChoice};
-ghost use Rattle.profile_samples.specs.Samples.{IsValueFault, sample_stack_of};
-ghost use Rattle.profile_samples.specs.Batches.{AreRowsOfSamples, IsBatchOf, IsFirstBatchFault, IsRowOfSample, IsValuesFault, StandsInBatch, chosen_types_of, one_from};
+ghost use Rattle.profile_samples.specs.Samples.{HasWeights, IsRowOfSample, IsSampleFault, IsValueFault, chosen_types_of, sample_stack_of};
+ghost use Rattle.profile_samples.specs.Batches.{AreRowsOfSamples, IsBatchOf, IsFirstBatchFault, StandsAtSample};
 
-use crate::sampling::{BatchFault, ValueChoice, check_depth, chosen_type, stack_at, weight_of};
+use crate::sampling::{
+    BatchFault, ChosenValues, ValueChoice, check_depth, chosen_values, stack_at, weight_of,
+};
 use crate::unfolding::LocationFrames;
 use basics::NoMemory;
 use pprof_profile::{Draft, Profile, Sample};
-use profile_rows::{Batch, Hashing, MAX_DEPTH, Weights, Width, first_heavy};
+use profile_rows::{Batch, Hashing, MAX_DEPTH, MAX_WIDTH, Weights, first_heavy};
 use std::alloc::Global;
-
-/// The values that are taken of each sample: the place of the first, and how many they are.
-#[derive(Clone, Copy)]
-struct ChosenValues {
-    first: usize,
-    width: Width,
-}
-
-/// So many values, where a row can have them.
-fn width_of(count: usize) -> Option<Width>
-    ensures { MatchOption result ((count ≡ 0) ⊎ (4 < count)) (λ width. (width ≡ count) × (width ≤ 4)) }
-{
-    Width::new(u32::try_from(count).ok()?)
-}
-
-/// All values of the samples.
-fn all_values(draft: &Draft) -> Result<ChosenValues, BatchFault>
-    ensures few { IfOk result (λ chosen. chosen.width ≤ 4) }
-    ensures chosen { MatchResult result
-        (λ chosen. chosen_types_of draft.now ValueChoice.All ≡ Some (chosen.first, chosen.width))
-        (λ fault. IsFirstBatchFault draft.now ValueChoice.All fault) }
-{
-    let count = draft.sample_types.len();
-    match width_of(count) {
-        Some(width) => Ok(ChosenValues { first: 0, width }),
-        None if count == 0 => Err(BatchFault::NoValue),
-        None => Err(BatchFault::Width { count }),
-    }
-}
-
-/// The value at this place alone, where there is one.
-fn one_value(first: Option<usize>) -> Result<ChosenValues, BatchFault>
-    ensures few { IfOk result (λ chosen. chosen.width ≤ 4) }
-    ensures chosen { MatchResult result (λ chosen. one_from first ≡ Some (chosen.first, chosen.width))
-        (λ fault. (one_from first ≡ None) × (fault ≡ BatchFault.NoValue)) }
-{
-    match first {
-        Some(first) => Ok(ChosenValues {
-            first,
-            width: Width::one(),
-        }),
-        None => Err(BatchFault::NoValue),
-    }
-}
-
-/// The values that a choice takes.
-fn chosen_values(
-    alloc: Global,
-    draft: &Draft,
-    choice: ValueChoice,
-) -> Result<ChosenValues, BatchFault>
-    ensures few { IfOk result (λ chosen. chosen.width ≤ 4) }
-    ensures chosen { MatchResult result
-        (λ chosen. chosen_types_of draft.now choice.entry ≡ Some (chosen.first, chosen.width))
-        (λ fault. IsFirstBatchFault draft.now choice.entry fault) }
-{
-    match choice {
-        ValueChoice::All => all_values(draft),
-        ValueChoice::Default | ValueChoice::Named(_) => {
-            one_value(chosen_type(alloc, draft, choice))
-        }
-    }
-}
 
 /// The values that are taken, as weights.
 fn weights_of(values: &[i64], chosen: &ChosenValues, number: u64) -> Result<Weights, BatchFault>
     requires { chosen.now.first + chosen.now.width ≤ length values.now }
     ensures count { IfOk result (λ weights. length weights ≡ chosen.now.width) }
-    ensures weights { IfOk result (λ weights. (value : ℕ) → value < chosen.now.width
-        → slice_get values.now (chosen.now.first + value) ≡ Some (pos (value_of value weights))) }
+    ensures weights { IfOk result (HasWeights chosen.now.first chosen.now.width values.now) }
     ensures fault { IfErr result (λ fault. (value : ℕ) × (value < chosen.now.width)
         × IsValueFault (chosen.now.first + value) number values.now fault) }
 {
@@ -148,12 +86,14 @@ fn add_sample(
     ensures added { OnOk result ((row : Row) × IsRowOfSample frames.now chosen.now.first batch.old.width sample.now row
         × ((value : ℕ) → HasRoom batch.old row.weights value)
         × (batch.new ≡ record { width = batch.old.width; rows = batch.old.rows ++ row ∷ [] })) }
-    ensures fault { IfErr result (IsValuesFault frames.now chosen.now.first batch.old number sample.now) }
+    ensures fault { IfErr result (λ fault. (totals : List ℕ) × AreTotals batch.old totals
+        × IsSampleFault frames.now chosen.now.first totals number sample.now fault) }
 {
     let ids = sample.location_ids.as_slice();
+    let totals = batch.total();
     let weights = weights_of(sample.values.as_slice(), chosen, number)?;
     check_depth(frames, ids, number)?;
-    check_room(&batch.total(), &weights, number)?;
+    check_room(&totals, &weights, number)?;
     Ok(push_row(alloc, frames, batch, ids, &weights)?)
 }
 
@@ -169,7 +109,7 @@ fn batch_by(
     requires typed { chosen.now.first + chosen.now.width ≤ length profile.now.sample_types }
     ensures { (choice : ValueChoice) → chosen_types_of profile.now choice ≡ Some (chosen.now.first, chosen.now.width)
         → MatchResult result (λ batch. IsBatchOf profile.now choice batch)
-        (λ fault. StandsInBatch profile.now choice fault) }
+        (λ fault. StandsAtSample MAX_WIDTH profile.now choice fault) }
 {
     let mut batch = Batch::new(alloc, chosen.width);
     for (index, sample) in profile.draft().samples.as_slice().iter().enumerate() {
@@ -216,7 +156,7 @@ pub fn batch_of_with(
         → IsFirstBatchFault profile.now choice.entry first
         → MatchResult result (λ batch. ⊥) (λ fault. (fault ≡ BatchFault.NoMemory) ⊎ (fault ≡ first)) }
 {
-    let chosen = chosen_values(alloc, profile.draft(), choice)?;
+    let chosen = chosen_values(alloc, profile.draft(), choice, MAX_WIDTH)?;
     let frames = LocationFrames::new(alloc, hashing, profile)?;
     batch_by(alloc, profile, &frames, &chosen)
 }

@@ -7,12 +7,13 @@ ghost use Rattle.profile_rows.specs.Tallies.{AreTalliesOf};
 ghost use Rattle.profile_rows.specs.TopList.{AreTotalsOf};
 ghost use Rattle.profile_samples.specs.declared.sampling.BatchFault.{BatchFault};
 ghost use Rattle.profile_samples.specs.declared.sampling.ValueChoice.{ValueChoice};
-ghost use Rattle.profile_samples.specs.Samples.{AreStacksOf, IsFirstStacksFault, IsFitFault, IsSampleFault, IsSampleRow, IsStacksWorkFault, StandsAtSample, chosen_type_of, sample_stack_of};
+ghost use Rattle.profile_samples.specs.Samples.{IsFitFault, IsRowOfSample, IsSampleFault, chosen_types_of, sample_stack_of};
+ghost use Rattle.profile_samples.specs.Batches.{AreStacksOf, IsFirstStacksFault, IsStacksWorkFault, StandsAtSample};
 ghost use Rattle.profile_samples.specs.NameNumbers.{frame_names};
 ghost use Rattle.profile_samples.specs.CountedSamples.{AreNumbersOfIds, AreRowsCounted, AreTotalsOfSamples};
 
 use crate::name_numbers::{NumberedFrames, ProfileNames};
-use crate::sampling::{BatchFault, ValueChoice, chosen_type, weight_of};
+use crate::sampling::{BatchFault, ValueChoice, chosen_value, weight_of};
 use pprof_profile::{Profile, Sample};
 use profile_rows::{FrameTotals, Hashing, MAX_DEPTH, MAX_TOTAL, Tallies};
 use std::alloc::{AllocError, Global};
@@ -88,10 +89,10 @@ fn sample_weight(
 ) -> Result<u64, BatchFault>
     requires values { chosen < length sample.now.values }
     requires earlier { earlier < 2 ^ 63 }
-    ensures row { IfOk result (λ weight. IsSampleRow frames.now chosen sample.now
-        (record { stack = sample_stack_of frames.now sample.now.location_ids; weight = weight })) }
+    ensures row { IfOk result (λ weight. IsRowOfSample frames.now chosen 1 sample.now
+        (record { stack = sample_stack_of frames.now sample.now.location_ids; weights = weight ∷ [] })) }
     ensures fits { IfOk result (λ weight. earlier + weight < 2 ^ 63) }
-    ensures fault { IfErr result (IsSampleFault frames.now chosen earlier number sample.now) }
+    ensures fault { IfErr result (IsSampleFault frames.now chosen (earlier ∷ []) number sample.now) }
 {
     let ids = sample.location_ids.as_slice();
     let weight = weight_of(sample.values.as_slice(), chosen, number)?;
@@ -111,9 +112,9 @@ fn count_samples(
     requires typed { chosen < length profile.now.sample_types }
     requires each { All IsName (frame_names profile.now) }
     requires uncounted { AreTalliesOf [] (frame_names profile.now) tallies.old }
-    ensures { (choice : ValueChoice) → chosen_type_of profile.now choice ≡ Some chosen
+    ensures { (choice : ValueChoice) → chosen_types_of profile.now choice ≡ Some (chosen, 1)
         → MatchResult result (λ counted. AreRowsCounted profile.now choice tallies.new)
-        (λ fault. StandsAtSample profile.now choice fault) }
+        (λ fault. StandsAtSample 1 profile.now choice fault) }
 {
     let mut numbers = Vec::new(alloc);
     for (index, sample) in profile.draft().samples.as_slice().iter().enumerate() {
@@ -135,10 +136,10 @@ fn totals_by(
     chosen: usize,
 ) -> Result<FrameTotals, BatchFault>
     requires framed { frames.now ≡ profile.now }
-    requires chosen { (choice : ValueChoice) × (chosen_type_of profile.now choice ≡ Some chosen) }
+    requires chosen { (choice : ValueChoice) × (chosen_types_of profile.now choice ≡ Some (chosen, 1)) }
     requires each { All IsName (frame_names profile.now) }
     requires uncounted { AreTalliesOf [] (frame_names profile.now) tallies.old }
-    ensures { (choice : ValueChoice) → chosen_type_of profile.now choice ≡ Some chosen
+    ensures { (choice : ValueChoice) → chosen_types_of profile.now choice ≡ Some (chosen, 1)
         → MatchResult result (AreTotalsOfSamples profile.now choice)
         (λ fault. IsStacksWorkFault profile.now choice fault) }
 {
@@ -167,9 +168,7 @@ pub fn sample_totals(
         → IsFirstStacksFault profile.now choice.entry first
         → MatchResult result (λ totals. ⊥) (λ fault. (fault ≡ BatchFault.NoMemory) ⊎ (fault ≡ first)) }
 {
-    let Some(chosen) = chosen_type(alloc, profile.draft(), choice) else {
-        return Err(BatchFault::NoValue);
-    };
+    let chosen = chosen_value(alloc, profile.draft(), choice)?;
     let names = ProfileNames::new(alloc, profile.draft())?;
     let frames = NumberedFrames::new(alloc, hashing, profile, &names)?;
     let mut tallies = Tallies::without_rows(alloc, frames.names().len())?;

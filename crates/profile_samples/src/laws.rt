@@ -13,8 +13,7 @@ ghost use Rattle.profile_samples.specs.declared.sampling.ValueChoice.{ValueChoic
 ghost use Rattle.profile_samples.specs.declared.sampling.ValueChoice.TheVariants.{Default};
 ghost use Rattle.profile_samples.specs.declared.sampling.ValueChoice.TheVariants as choices;
 ghost use Rattle.profile_samples.specs.Export.{KindAndUnit, exported_profile_of, single_profile_of};
-ghost use Rattle.profile_samples.specs.Batches.{IsBatchOf, IsFirstBatchFault};
-ghost use Rattle.profile_samples.specs.Samples.{AreStacksOf, IsFirstStacksFault, chosen_type_of};
+ghost use Rattle.profile_samples.specs.Batches.{AreStacksOf, IsBatchOf, IsFirstBatchFault, IsFirstStacksFault};
 
 /// Every rows' export is a valid profile where each row has a value of each kind, and the rows of a batch of one value
 /// are those that its own choice of a value gives back. By all values, every batch comes back.
@@ -28,10 +27,10 @@ pub fn export_reads_back()
         → IsBatchOf (exported_profile_of batch.rows units) choices.All batch }
 {}
 
-/// The batch of a profile by a choice of one value has the rows of its samples by that value.
+/// A batch of one value has the rows of its samples by that value.
 pub fn rows_of_one_value()
-    ensures { (draft : Draft) (choice : ValueChoice) (batch : BatchState) (chosen : ℕ) → IsBatchOf draft choice batch
-        → chosen_type_of draft choice ≡ Some chosen → AreStacksOf draft choice (rows_at 0 batch.rows) }
+    ensures { (draft : Draft) (choice : ValueChoice) (batch : BatchState) → IsBatchOf draft choice batch
+        → batch.width ≡ 1 → AreStacksOf draft choice (rows_at 0 batch.rows) }
 {}
 
 /// A profile has at most one first fault of its samples, want of memory aside: by any choice (`batch`), and by one of

@@ -6,11 +6,13 @@ ghost use Rattle.profile_samples.specs.declared.sampling.BatchFault.{BatchFault}
 ghost use Rattle.profile_samples.specs.declared.sampling.ValueChoice.{ValueChoice};
 ghost use Rattle.profile_rows.specs.Aggregate.{aggregate_of};
 ghost use Rattle.profile_rows.specs.Rows.{total_of};
-ghost use Rattle.profile_samples.specs.Samples.{AreStacksOf, IsFirstStacksFault, IsFitFault, IsSampleFault, IsSampleRow, StandsAtSample, chosen_type_of, sample_stack_of};
+ghost use Rattle.profile_rows.specs.Values.{single};
+ghost use Rattle.profile_samples.specs.Samples.{IsFitFault, IsRowOfSample, IsSampleFault, chosen_types_of, sample_stack_of};
+ghost use Rattle.profile_samples.specs.Batches.{AreStacksOf, IsFirstStacksFault, StandsAtSample};
 ghost use Rattle.profile_rows.specs.Merging.{AddsRow, ArePlacedBy, with_added_at};
 ghost use Rattle.profile_samples.specs.MergedSamples.{IsMergedBatch};
 
-use crate::sampling::{BatchFault, ValueChoice, check_depth, chosen_type, stack_at, weight_of};
+use crate::sampling::{BatchFault, ValueChoice, check_depth, chosen_value, stack_at, weight_of};
 use crate::unfolding::LocationFrames;
 use basics::NoMemory;
 use pprof_profile::{Profile, Sample};
@@ -109,9 +111,10 @@ fn merge_sample<'a>(
     requires values { chosen < length sample.now.values }
     requires placed { ArePlacedBy (sample_stack_of frames.now) known.old merged.old }
     ensures added { OnOk result
-        ((row : WeightedStack) × IsSampleRow frames.now chosen sample.now row × AddsRow merged.old merged.new row) }
+        ((row : WeightedStack) × IsRowOfSample frames.now chosen 1 sample.now (single row)
+        × AddsRow merged.old merged.new row) }
     ensures placed { OnOk result (ArePlacedBy (sample_stack_of frames.now) known.new merged.new) }
-    ensures fault { IfErr result (IsSampleFault frames.now chosen (total_of merged.old) number sample.now) }
+    ensures fault { IfErr result (IsSampleFault frames.now chosen (total_of merged.old ∷ []) number sample.now) }
 {
     let ids = sample.location_ids.as_slice();
     let weight = weight_of(sample.values.as_slice(), chosen, number)?;
@@ -136,9 +139,9 @@ fn merged_by<'a>(
     requires framed { frames.now ≡ profile.now }
     requires typed { chosen < length profile.now.sample_types }
     requires placed { ArePlacedBy (sample_stack_of profile.now) known [] }
-    ensures { (choice : ValueChoice) → chosen_type_of profile.now choice ≡ Some chosen
+    ensures { (choice : ValueChoice) → chosen_types_of profile.now choice ≡ Some (chosen, 1)
         → MatchResult result (λ merged. IsMergedBatch profile.now choice merged)
-        (λ fault. StandsAtSample profile.now choice fault) }
+        (λ fault. StandsAtSample 1 profile.now choice fault) }
 {
     let mut merged = WeightedStacks::new(alloc);
     for (index, sample) in profile.draft().samples.as_slice().iter().enumerate() {
@@ -161,7 +164,7 @@ fn merged_by<'a>(
 ///
 /// # Errors
 ///
-/// Those of [`batch_of`](crate::batch_of); `NoValue` where all values are asked for.
+/// Those of [`batch_of`](crate::batch_of); `Width` where all values are asked for and there is more than one.
 pub fn merge_samples(
     alloc: Global,
     hashing: Hashing,
@@ -177,9 +180,7 @@ pub fn merge_samples(
         → IsFirstStacksFault profile.now choice.entry first
         → MatchResult result (λ merged. ⊥) (λ fault. (fault ≡ BatchFault.NoMemory) ⊎ (fault ≡ first)) }
 {
-    let Some(chosen) = chosen_type(alloc, profile.draft(), choice) else {
-        return Err(BatchFault::NoValue);
-    };
+    let chosen = chosen_value(alloc, profile.draft(), choice)?;
     let frames = LocationFrames::new(alloc, hashing, profile)?;
     let count = profile.draft().samples.len();
     let known = HashMap::with_capacity_and_hasher(alloc, count, hashing)?;

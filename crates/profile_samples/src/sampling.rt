@@ -1,20 +1,18 @@
-//! A profile's samples as rows: the value that is chosen, a row for each sample, and why there is none.
+//! A profile's samples as rows: the values that are chosen, a row for each sample, and why there is none.
 
-ghost use Rattle.std.specs.Prelude.{◌≡◌, ◌+◌, ◌^◌, ◌<◌, ◌∷◌, ◌++◌, [], ◌≤◌, IfErr, IfOk, List, MatchResult, OnOk, Some, ℕ, pos, length, slice_get};
+ghost use Rattle.std.specs.Prelude.{◌≡◌, ◌^◌, ◌<◌, ◌≤◌, ◌⊎◌, IfErr, IfOk, MatchOption, MatchResult, None, OnOk, Some, pos, length, slice_get};
 ghost use Rattle.std.specs.List.{position};
 ghost use Rattle.pprof_profile.specs.declared.messages.ValueType.{ValueType};
-ghost use Rattle.profile_rows.specs.declared.weighted_stacks.WeightedStack.{WeightedStack};
 ghost use Rattle.profile_samples.specs.declared.sampling.ValueChoice.{ValueChoice};
-ghost use Rattle.profile_rows.specs.Rows.{total_of};
-ghost use Rattle.profile_rows.specs.Values.{single_batch};
-ghost use Rattle.profile_samples.specs.Samples.{AreStacksOf, IsFirstStacksFault, StandsAtSample, IsSampleFault, IsSampleRow, IsValueFault, IsFitFault, chosen_type_of, default_type, frames_of_sample, sample_stack_of, type_named};
+ghost use Rattle.profile_samples.specs.Batches.{IsFirstFault, IsFirstStacksFault};
+ghost use Rattle.profile_samples.specs.Samples.{IsValueFault, chosen_types_of, default_type, frames_of_sample, one_from, sample_stack_of, type_named};
 ghost use Rattle.profile_samples.specs.EqualStrings.{equal_at, equal_strings};
 
 use crate::string_names::string_at;
 use crate::unfolding::LocationFrames;
 use basics::NoMemory;
 use pprof_profile::{Draft, Profile, Text, ValueType};
-use profile_rows::{Hashing, MAX_DEPTH, Name, Stack};
+use profile_rows::{Hashing, MAX_DEPTH, MAX_WIDTH, Name, Stack, Width};
 use std::alloc::{AllocError, Global};
 use thiserror::Error;
 
@@ -36,7 +34,8 @@ pub enum BatchFault {
     /// There is no such sample type, or none at all.
     #[error("B1 NoValue")]
     NoValue,
-    /// All values are asked for, and there are more sample types than a row can have values.
+    /// All values are asked for, and there are more sample types than a row can have values: four, or one where rows of
+    /// one value are made.
     #[error("B6 Width count {count}")]
     Width { count: usize },
     /// A value of the sample that is taken is below 0.
@@ -136,15 +135,86 @@ fn default_type(alloc: Global, draft: &Draft) -> Option<usize>
     .or(last)
 }
 
-/// The place of the chosen value among those of a sample, where the choice is of one.
-pub(crate) fn chosen_type(alloc: Global, draft: &Draft, choice: ValueChoice) -> Option<usize>
-    ensures { result ≡ chosen_type_of draft.now choice.entry }
+/// The values that are taken of each sample: the place of the first, and how many they are.
+#[derive(Clone, Copy)]
+pub(crate) struct ChosenValues {
+    pub(crate) first: usize,
+    pub(crate) width: Width,
+}
+
+/// So many values, where there are some, and no more than these.
+fn width_of(count: usize, most: u32) -> Option<Width>
+    requires { most ≤ MAX_WIDTH }
+    ensures { MatchOption result ((count ≡ 0) ⊎ (most < count)) (λ width. (width ≡ count) × (width ≤ most)) }
+{
+    match u32::try_from(count) {
+        Ok(count) if count <= most => Width::new(count),
+        _ => None,
+    }
+}
+
+/// All values of the samples.
+fn all_values(draft: &Draft, most: u32) -> Result<ChosenValues, BatchFault>
+    requires { most ≤ MAX_WIDTH }
+    ensures few { IfOk result (λ chosen. chosen.width ≤ most) }
+    ensures chosen { MatchResult result
+        (λ chosen. chosen_types_of draft.now ValueChoice.All ≡ Some (chosen.first, chosen.width))
+        (λ fault. IsFirstFault most draft.now ValueChoice.All fault) }
+{
+    let count = draft.sample_types.len();
+    match width_of(count, most) {
+        Some(width) => Ok(ChosenValues { first: 0, width }),
+        None if count == 0 => Err(BatchFault::NoValue),
+        None => Err(BatchFault::Width { count }),
+    }
+}
+
+/// The value at this place alone, where there is one.
+fn one_value(first: Option<usize>) -> Result<ChosenValues, BatchFault>
+    ensures one { IfOk result (λ chosen. chosen.width ≡ 1) }
+    ensures chosen { MatchResult result (λ chosen. one_from first ≡ Some (chosen.first, chosen.width))
+        (λ fault. (one_from first ≡ None) × (fault ≡ BatchFault.NoValue)) }
+{
+    match first {
+        Some(first) => Ok(ChosenValues {
+            first,
+            width: Width::one(),
+        }),
+        None => Err(BatchFault::NoValue),
+    }
+}
+
+/// The values that a choice takes, where they are no more than these.
+pub(crate) fn chosen_values(
+    alloc: Global,
+    draft: &Draft,
+    choice: ValueChoice,
+    most: u32,
+) -> Result<ChosenValues, BatchFault>
+    requires some { 0 < most }
+    requires few { most ≤ MAX_WIDTH }
+    ensures few { IfOk result (λ chosen. chosen.width ≤ most) }
+    ensures chosen { MatchResult result
+        (λ chosen. chosen_types_of draft.now choice.entry ≡ Some (chosen.first, chosen.width))
+        (λ fault. IsFirstFault most draft.now choice.entry fault) }
 {
     match choice {
-        ValueChoice::Default => default_type(alloc, draft),
-        ValueChoice::Named(text) => type_named(alloc, draft, text),
-        ValueChoice::All => None,
+        ValueChoice::All => all_values(draft, most),
+        ValueChoice::Default => one_value(default_type(alloc, draft)),
+        ValueChoice::Named(text) => one_value(type_named(alloc, draft, text)),
     }
+}
+
+/// The place of the one value that a choice takes.
+pub(crate) fn chosen_value(
+    alloc: Global,
+    draft: &Draft,
+    choice: ValueChoice,
+) -> Result<usize, BatchFault>
+    ensures { MatchResult result (λ first. chosen_types_of draft.now choice.entry ≡ Some (first, 1))
+        (λ fault. IsFirstStacksFault draft.now choice.entry fault) }
+{
+    Ok(chosen_values(alloc, draft, choice, 1)?.first)
 }
 
 /// The chosen value as a weight.

@@ -1,9 +1,9 @@
 -- The samples are read in order: each is a row more, or has the first fault.
-use Rattle.std.proofs.Common.{subst}
+use Rattle.std.proofs.Common.{subst, arith}
 use Rattle.std.proofs.lemmas.Result.{err_from_is_err_and}
-use Rattle.profile_samples.specs.Batches.{IsRowOfSample, IsValuesFault}
-use Rattle.profile_samples.proofs.SampleBatches.{IsBatchSoFar-row, IsBatchSoFar-end, IsBatchSoFar-stands, has_values}
-use Rattle.profile_samples.proofs.SampleRows.{sample_read, samples_read}
+use Rattle.profile_samples.specs.Samples.{IsRowOfSample, IsSampleFault}
+use Rattle.profile_samples.proofs.SampleBatches.{IsBatchSoFar-row, IsBatchSoFar-end, IsBatchSoFar-stands}
+use Rattle.profile_samples.proofs.SampleRows.{has_values, sample_read, samples_read}
 use Rattle.profile_samples.proofs.batches.batch_by.Goals as goal
 
 pub add_sample-requires-clause-values : goal.add_sample-requires-clause-values
@@ -20,13 +20,14 @@ returns-in_err-add_sample c = λ choice is_chosen.
     c.loop-index.index c.sample-item.result c.as_slice-sample-items.ensures c.draft.ensures.draft c.sample-item.is
     c.loop-index-test.true in
     let p = err_from_is_err_and c.from_residual.result c.from_residual.ensures.1 in
-    let there : IsValuesFault c.args.profile.now c.args.chosen.now.first
-    c.loop-index.batch c.loop-index.index c.sample-item.result c.in_err-add_sample.field-0.0 =
-    subst (λ d. IsValuesFault d c.args.chosen.now.first c.loop-index.batch c.loop-index.index
-    c.sample-item.result c.in_err-add_sample.field-0.0) c.requires.framed c.in_err-add_sample.ensures.fault in
-    rw (p.1, p.2) (IsBatchSoFar-stands c.args.profile.now choice c.args.chosen.now.first c.args.chosen.now.width
-    c.loop-index.index c.sample-item.result c.loop-index.batch c.in_err-add_sample.field-0.0 is_chosen within item
-    c.loop-index.invariant there)
+    let (totals, are, fault) = c.in_err-add_sample.ensures.fault in
+    let there = subst (λ d. IsSampleFault d c.args.chosen.now.first totals c.loop-index.index
+    c.sample-item.result c.in_err-add_sample.field-0.0) c.requires.framed fault in
+    let few = c.loop-index.invariant.is.few in
+    let wide = c.loop-index.invariant.wide in
+    rw (p.1, p.2) (IsBatchSoFar-stands 4 c.args.profile.now choice c.args.chosen.now.first c.args.chosen.now.width
+    c.loop-index.index c.sample-item.result c.loop-index.batch totals c.in_err-add_sample.field-0.0 is_chosen
+    (omega (arith, few, wide)) within item c.loop-index.invariant are there)
 
 pub loop-index-preserved : goal.loop-index-preserved
 loop-index-preserved c =

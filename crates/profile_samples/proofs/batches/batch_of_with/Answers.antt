@@ -3,10 +3,11 @@ use Rattle.std.proofs.Common.{◌≡◌, subst}
 use Rattle.std.specs.Prelude.{Err, Some}
 use Rattle.std.proofs.lemmas.Result.{err_from_is_err_and}
 use Rattle.profile_samples.specs.declared.sampling.BatchFault.TheVariants.{NoMemory}
-use Rattle.profile_samples.specs.Batches.{IsBatchOf, IsFirstBatchFault, chosen_types_of}
-use Rattle.profile_samples.proofs.FirstFaults.{only_batch_fault}
-use Rattle.profile_samples.proofs.SampleBatches.{IsFirstBatchFault-batch, chosen_types_within, first_of_standing}
-use Rattle.profile_samples.proofs.SampleBatches.{only_batch}
+use Rattle.profile_samples.specs.Batches.{IsBatchOf, IsFirstBatchFault}
+use Rattle.profile_samples.specs.Samples.{chosen_types_of}
+use Rattle.profile_samples.proofs.FirstFaults.{only_first_fault}
+use Rattle.profile_samples.proofs.SampleBatches.{IsFirstFault-batch, first_of_standing, only_batch}
+use Rattle.profile_samples.proofs.SampleRows.{chosen_types_within}
 use Rattle.profile_samples.proofs.batches.batch_of_with.Goals as goal
 
 pub returns-in_err-chosen-clause-accepted : goal.returns-in_err-chosen-clause-accepted
@@ -14,15 +15,17 @@ returns-in_err-chosen-clause-accepted c = λ batch this.
     let p = err_from_is_err_and c.from_residual.result c.from_residual.ensures.1 in
     let first = subst (λ d. IsFirstBatchFault d c.args.choice c.in_err-chosen.field-0.0)
     c.draft.ensures.draft c.in_err-chosen.ensures.chosen in
-    rw (p.1, p.2) (IsFirstBatchFault-batch c.args.profile.now c.args.choice batch c.in_err-chosen.field-0.0 this first)
+    rw (p.1, p.2) (IsFirstFault-batch 4 c.args.profile.now c.args.choice batch c.in_err-chosen.field-0.0
+    this.is_batch.few this first)
 
 pub returns-in_err-chosen-clause-every_fault : goal.returns-in_err-chosen-clause-every_fault
 returns-in_err-chosen-clause-every_fault c = λ other some there.
     let p = err_from_is_err_and c.from_residual.result c.from_residual.ensures.1 in
     let first = subst (λ d. IsFirstBatchFault d c.args.choice c.in_err-chosen.field-0.0)
     c.draft.ensures.draft c.in_err-chosen.ensures.chosen in
-    rw (p.1, p.2)
-    (only_batch_fault c.args.profile.now c.args.choice (Err c.in_err-chosen.field-0.0) first other some there)
+    rw (p.1, p.2) (only_first_fault (λ batch. IsBatchOf c.args.profile.now c.args.choice batch) 4
+    c.args.profile.now c.args.choice (Err c.in_err-chosen.field-0.0) (λ batch this. (batch, this.is_batch.few, this))
+    first other some there)
 
 pub returns-in_err-frames-clause-read : goal.returns-in_err-frames-clause-read
 returns-in_err-frames-clause-read c =
@@ -46,13 +49,13 @@ returns-clause-read c =
     let chosen = c.in_ok-chosen.chosen in
     let is = subst (λ d. chosen_types_of d c.args.choice ≡ Some (chosen.first, chosen.width))
     c.draft.ensures.draft c.in_ok-chosen.ensures.chosen in
-    first_of_standing (λ batch. IsBatchOf c.args.profile.now c.args.choice batch)
-    c.args.profile.now c.args.choice chosen.first chosen.width c.batch_by.result is c.in_ok-chosen.ensures.few
-    (c.batch_by.ensures c.args.choice is)
+    first_of_standing (λ batch. IsBatchOf c.args.profile.now c.args.choice batch) 4
+    c.args.profile.now c.args.choice c.batch_by.result (c.batch_by.ensures c.args.choice is)
 
 pub returns-clause-accepted : goal.returns-clause-accepted
 returns-clause-accepted c = only_batch c.args.profile.now c.args.choice c.batch_by.result (returns-clause-read c)
 
 pub returns-clause-every_fault : goal.returns-clause-every_fault
 returns-clause-every_fault c =
-    only_batch_fault c.args.profile.now c.args.choice c.batch_by.result (returns-clause-read c)
+    only_first_fault (λ batch. IsBatchOf c.args.profile.now c.args.choice batch) 4 c.args.profile.now
+    c.args.choice c.batch_by.result (λ batch this. (batch, this.is_batch.few, this)) (returns-clause-read c)

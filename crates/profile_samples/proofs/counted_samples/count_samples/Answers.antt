@@ -1,15 +1,17 @@
 -- The samples are read in order: each is counted, or has the first fault.
-use Rattle.std.proofs.Common.{◌+◌, ◌^◌, ◌<◌, ◌++◌, ◌∷◌, [], subst, refl}
+use Rattle.std.proofs.Common.{◌+◌, ◌^◌, ◌<◌, ◌++◌, ◌∷◌, [], subst, arith}
 use Rattle.std.proofs.lemmas.Result.{err_from_is_err_and}
 use Rattle.pprof_profile.specs.declared.messages.Draft.{Draft}
 use Rattle.profile_rows.specs.declared.weighted_stacks.WeightedStack.{WeightedStack}
 use Rattle.profile_rows.specs.Rows.{total_of}
 use Rattle.profile_samples.specs.declared.sampling.BatchFault.TheVariants.{NoMemory}
-use Rattle.profile_samples.specs.Samples.{IsSampleRow, IsSampleFault, sample_stack_of}
+use Rattle.profile_rows.specs.Values.{Row, single_batch}
+use Rattle.profile_samples.specs.Samples.{IsRowOfSample, IsSampleFault, sample_stack_of}
 use Rattle.profile_samples.specs.NameNumbers.{frame_names}
 use Rattle.profile_samples.proofs.SampleNumbers.{sample_numbered}
-use Rattle.profile_samples.proofs.SampleRows.{AreRowsSoFar-row, AreRowsSoFar-end, AreRowsSoFar-stands, has_value}
-use Rattle.profile_samples.proofs.SampleRows.{sample_read, samples_read}
+use Rattle.profile_samples.proofs.SampleBatches.{AreStacksSoFar-fits, AreStacksSoFar-row, AreStacksSoFar-stands}
+use Rattle.profile_samples.proofs.SampleBatches.{IsBatchSoFar-end}
+use Rattle.profile_samples.proofs.SampleRows.{has_values, one_value_room, sample_read, samples_read}
 use Rattle.profile_samples.proofs.counted_samples.count_samples.Goals as goal
 
 pub sample_weight-requires-clause-values : goal.sample_weight-requires-clause-values
@@ -17,8 +19,17 @@ sample_weight-requires-clause-values c =
     let (item, within) = sample_read c.args.profile.now c.draft.result.now c.as_slice-sample-items.result.now
     c.loop-index.index c.sample-item.result c.as_slice-sample-items.ensures c.draft.ensures.draft c.sample-item.is
     c.loop-index-test.true in
-    has_value c.args.profile.now
-    c.args.chosen c.loop-index.index c.sample-item.result c.draft.ensures.valid c.requires.typed within item
+    let typed = c.requires.typed in
+    let have = has_values c.args.profile.now c.args.chosen 1 c.loop-index.index c.sample-item.result
+    c.draft.ensures.valid (omega (arith, typed)) within item in
+    omega (arith, have)
+
+pub sample_weight-requires-clause-earlier : goal.sample_weight-requires-clause-earlier
+sample_weight-requires-clause-earlier c =
+    let (rows, so_far, counted) = c.loop-index.invariant in
+    let fits = AreStacksSoFar-fits c.args.profile.now c.args.chosen c.loop-index.index rows so_far in
+    let total = counted.total in
+    omega (arith, fits, total)
 
 pub returns-in_err-weight : goal.returns-in_err-weight
 returns-in_err-weight c = λ choice is_chosen.
@@ -27,11 +38,11 @@ returns-in_err-weight c = λ choice is_chosen.
     c.loop-index-test.true in
     let p = err_from_is_err_and c.from_residual.result c.from_residual.ensures.1 in
     let (rows, so_far, counted) = c.loop-index.invariant in
-    let own = subst (λ d. IsSampleFault d c.args.chosen c.loop-index.tallies.total c.loop-index.index
+    let own = subst (λ d. IsSampleFault d c.args.chosen (c.loop-index.tallies.total ∷ []) c.loop-index.index
     c.sample-item.result c.in_err-weight.field-0.0) c.requires.framed c.in_err-weight.ensures.fault in
     let there = subst (λ earlier. IsSampleFault c.args.profile.now
-    c.args.chosen earlier c.loop-index.index c.sample-item.result c.in_err-weight.field-0.0) counted.total own in
-    rw (p.1, p.2) (AreRowsSoFar-stands c.args.profile.now choice c.args.chosen
+    c.args.chosen (earlier ∷ []) c.loop-index.index c.sample-item.result c.in_err-weight.field-0.0) counted.total own in
+    rw (p.1, p.2) (AreStacksSoFar-stands c.args.profile.now choice c.args.chosen
     c.loop-index.index c.sample-item.result rows c.in_err-weight.field-0.0 is_chosen within item so_far there)
 
 pub returns-in_err-gather_numbers : goal.returns-in_err-gather_numbers
@@ -42,17 +53,17 @@ returns-in_err-gather_numbers c = λ choice is_chosen.
     let weight = c.in_ok-weight.weight in
     let sample = c.sample-item.result in
     let (rows, so_far, counted) = c.loop-index.invariant in
-    let own = subst (λ (d : Draft). IsSampleRow d c.args.chosen sample (record {
-      stack =
-          sample_stack_of d sample.location_ids;
-      weight = weight;
+    let own = subst (λ (d : Draft). IsRowOfSample d c.args.chosen 1 sample (record {
+      stack = sample_stack_of d sample.location_ids;
+      weights = weight ∷ [];
     })) c.requires.framed c.in_ok-weight.ensures.row in
     let fits = subst (λ h. h + weight < 2 ^ 63) counted.total c.in_ok-weight.ensures.fits in
-    let there : IsSampleFault c.args.profile.now c.args.chosen (total_of rows) c.loop-index.index sample NoMemory =
-    (record { stack = sample_stack_of c.args.profile.now sample.location_ids; weight = weight }, own, fits) in
+    let row : Row = record { stack = sample_stack_of c.args.profile.now sample.location_ids; weights = weight ∷ [] } in
+    let there : IsSampleFault c.args.profile.now c.args.chosen (total_of rows ∷ []) c.loop-index.index sample NoMemory =
+    (row, own, one_value_room (total_of rows) weight fits) in
     let p = err_from_is_err_and
     c.from_residual-in_err-gather_numbers.result c.from_residual-in_err-gather_numbers.ensures.1 in
-    rw (p.1, p.2) (AreRowsSoFar-stands c.args.profile.now
+    rw (p.1, p.2) (AreStacksSoFar-stands c.args.profile.now
     choice c.args.chosen c.loop-index.index sample rows NoMemory is_chosen within item so_far there)
 
 pub count-requires-clause-fits : goal.count-requires-clause-fits
@@ -82,15 +93,14 @@ loop-index-preserved c =
     let stack = sample_stack_of c.args.profile.now sample.location_ids in
     let row : WeightedStack = record { stack = stack; weight = weight } in
     let (rows, so_far, counted) = c.loop-index.invariant in
-    let own = subst (λ (d : Draft). IsSampleRow d c.args.chosen sample (record {
-      stack =
-          sample_stack_of d sample.location_ids;
-      weight = weight;
+    let own = subst (λ (d : Draft). IsRowOfSample d c.args.chosen 1 sample (record {
+      stack = sample_stack_of d sample.location_ids;
+      weights = weight ∷ [];
     })) c.requires.framed c.in_ok-weight.ensures.row in
     let fits = subst (λ h. h + weight < 2 ^ 63) counted.total c.in_ok-weight.ensures.fits in (
       rows ++ row ∷ [],
-      AreRowsSoFar-row c.args.profile.now c.args.chosen c.loop-index.index sample rows row
-          (rows ++ row ∷ []) within item so_far own fits refl,
+      AreStacksSoFar-row c.args.profile.now c.args.chosen c.loop-index.index sample rows row
+          within item so_far own fits,
       c.count.ensures (frame_names c.args.profile.now) rows stack counted
           (sample_numbered c.args.profile.now c.args.frames.now sample.location_ids
           c.as_slice-ids.result.now c.gather_numbers.new.numbers.items c.as_slice.result.now c.leaf_of.result
@@ -105,7 +115,7 @@ returns c = λ choice is_chosen.
     let (rows, so_far, counted) = c.loop-index.invariant in
     record {
       rows = rows;
-      sampled = AreRowsSoFar-end
-          c.args.profile.now choice c.args.chosen c.loop-index.index rows is_chosen whole so_far;
+      sampled = IsBatchSoFar-end c.args.profile.now choice c.args.chosen 1 c.loop-index.index
+          (single_batch rows) is_chosen whole so_far;
       counted = counted;
     }

@@ -1,22 +1,55 @@
 -- What stands at a sample is the first fault.
-use Rattle.std.proofs.Common.{rules, ℕ, List, ◌≡◌, ◌∙◌, All, Some, ap, length, subst, sym}
+use Rattle.std.proofs.Common.{ℕ, List, ◌≡◌, ◌∙◌, All, Some, ap, length, subst, sym, arith}
+use Rattle.std.specs.Prelude.{Err}
 use Rattle.std.proofs.lemmas.List.{length-map}
+use Rattle.std.proofs.lemmas.Result.{err_from_is_err_and}
 use denote.Ref.{Bor}
 use Rattle.pprof_profile.specs.declared.messages.Draft.{Draft}
 use Rattle.profile_rows.specs.Names.{IsName}
+use Rattle.profile_rows.specs.Values.{single_batch}
 use Rattle.profile_samples.specs.NameNumbers.{frame_names}
-use Rattle.profile_samples.specs.Samples.{chosen_type_of}
+use Rattle.profile_samples.specs.Samples.{chosen_types_of}
+use Rattle.profile_samples.specs.Batches.{IsFirstStacksFault}
 use Rattle.profile_samples.specs.CountedSamples.{AreTotalsOfSamples}
-use Rattle.profile_samples.proofs.FirstFaults.{only_stacks_fault}
+use Rattle.profile_samples.proofs.FirstFaults.{only_first_fault}
 use Rattle.profile_samples.proofs.FrameNumbers.{frame_names-single}
 use Rattle.profile_samples.proofs.MergedSamples.{only_sample_totals}
-use Rattle.profile_samples.proofs.SampleRows.{first_of_work}
+use Rattle.profile_samples.proofs.SampleBatches.{first_of_work, memory_first}
 use Rattle.profile_samples.proofs.counted_samples.sample_totals.Goals as goal
+
+pub returns-in_err-chosen-clause-accepted : goal.returns-in_err-chosen-clause-accepted
+returns-in_err-chosen-clause-accepted c =
+    let p = err_from_is_err_and c.from_residual.result c.from_residual.ensures.1 in
+    let first = subst (λ d. IsFirstStacksFault d c.args.choice c.in_err-chosen.field-0.0)
+    c.draft.ensures.draft c.in_err-chosen.ensures in
+    rw (p.1, p.2) (only_sample_totals c.args.profile.now c.args.choice (Err c.in_err-chosen.field-0.0) first)
+
+pub returns-in_err-chosen-clause-every_fault : goal.returns-in_err-chosen-clause-every_fault
+returns-in_err-chosen-clause-every_fault c =
+    let p = err_from_is_err_and c.from_residual.result c.from_residual.ensures.1 in
+    let first = subst (λ d. IsFirstStacksFault d c.args.choice c.in_err-chosen.field-0.0)
+    c.draft.ensures.draft c.in_err-chosen.ensures in
+    rw (p.1, p.2) (only_first_fault (AreTotalsOfSamples c.args.profile.now c.args.choice) 1 c.args.profile.now
+    c.args.choice (Err c.in_err-chosen.field-0.0) (λ totals these. (single_batch these.rows, omega arith, these.sampled)) first)
+
+pub returns-in_err-frames-clause-read : goal.returns-in_err-frames-clause-read
+returns-in_err-frames-clause-read c =
+    let p = err_from_is_err_and c.from_residual-in_err-frames.result c.from_residual-in_err-frames.ensures.1 in
+    let is = subst (λ d. chosen_types_of d c.args.choice ≡ Some (c.in_ok-chosen.chosen, 1)) c.draft.ensures.draft
+    c.in_ok-chosen.ensures in
+    rw (p.1, p.2) (memory_first c.args.profile.now c.args.choice c.in_ok-chosen.chosen is)
+
+pub returns-in_err-tallies-clause-read : goal.returns-in_err-tallies-clause-read
+returns-in_err-tallies-clause-read c =
+    let p = err_from_is_err_and c.from_residual-in_err-tallies.result c.from_residual-in_err-tallies.ensures.1 in
+    let is = subst (λ d. chosen_types_of d c.args.choice ≡ Some (c.in_ok-chosen.chosen, 1)) c.draft.ensures.draft
+    c.in_ok-chosen.ensures in
+    rw (p.1, p.2) (memory_first c.args.profile.now c.args.choice c.in_ok-chosen.chosen is)
 
 pub totals_by-requires-clause-chosen : goal.totals_by-requires-clause-chosen
 totals_by-requires-clause-chosen c =
-    let chosen : chosen_type_of c.args.profile.now c.args.choice ≡ Some c.in-Some.chosen = search rules in
-    (c.args.choice, chosen)
+    (c.args.choice, subst (λ d. chosen_types_of d c.args.choice ≡ Some (c.in_ok-chosen.chosen, 1)) c.draft.ensures.draft
+    c.in_ok-chosen.ensures)
 
 pub totals_by-requires-clause-each : goal.totals_by-requires-clause-each
 totals_by-requires-clause-each c =
@@ -33,7 +66,8 @@ totals_by-requires-clause-uncounted c =
 
 pub returns-clause-read : goal.returns-clause-read
 returns-clause-read c =
-    let chosen : chosen_type_of c.args.profile.now c.args.choice ≡ Some c.in-Some.chosen = search rules in
+    let chosen = subst (λ d. chosen_types_of d c.args.choice ≡ Some (c.in_ok-chosen.chosen, 1)) c.draft.ensures.draft
+    c.in_ok-chosen.ensures in
     first_of_work (AreTotalsOfSamples c.args.profile.now c.args.choice)
     c.args.profile.now c.args.choice c.totals_by.result (c.totals_by.ensures c.args.choice chosen)
 
@@ -43,5 +77,5 @@ returns-clause-accepted c =
 
 pub returns-clause-every_fault : goal.returns-clause-every_fault
 returns-clause-every_fault c =
-    only_stacks_fault (AreTotalsOfSamples c.args.profile.now c.args.choice) c.args.profile.now
-    c.args.choice c.totals_by.result (λ totals these. (these.rows, these.sampled)) (returns-clause-read c)
+    only_first_fault (AreTotalsOfSamples c.args.profile.now c.args.choice) 1 c.args.profile.now c.args.choice
+    c.totals_by.result (λ totals these. (single_batch these.rows, omega arith, these.sampled)) (returns-clause-read c)

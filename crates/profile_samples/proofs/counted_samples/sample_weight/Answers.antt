@@ -2,9 +2,16 @@
 use Rattle.std.proofs.Common.{◌≡◌, ◌≤◌, length, subst}
 use Rattle.std.specs.Prelude.{Some, pos, slice_get}
 use Rattle.std.proofs.lemmas.Result.{err_from_is_err_and}
-use Rattle.profile_samples.specs.Samples.{IsFitFault, sample_stack_of}
-use Rattle.profile_samples.proofs.SampleRows.{IsSampleFault-fit, sample_row}
+use Rattle.profile_samples.specs.Samples.{IsFitFault, IsValueFault, sample_stack_of}
+use Rattle.profile_samples.proofs.SampleRows.{IsSampleFault-fit, one_value_below, one_value_row}
 use Rattle.profile_samples.proofs.counted_samples.sample_weight.Goals as goal
+
+pub returns-in_err-weight-clause-fault : goal.returns-in_err-weight-clause-fault
+returns-in_err-weight-clause-fault c =
+    let p = err_from_is_err_and c.from_residual.result c.from_residual.ensures.1 in
+    rw (p.1, p.2) (one_value_below c.args.frames.now c.args.chosen c.args.earlier c.args.number
+    c.args.sample.now c.in_err-weight.field-0.0 (subst (λ values. IsValueFault c.args.chosen c.args.number values
+    c.in_err-weight.field-0.0) c.as_slice.ensures c.in_err-weight.ensures.fault))
 
 pub returns-in_err-check_fit-clause-fault : goal.returns-in_err-check_fit-clause-fault
 returns-in_err-check_fit-clause-fault c =
@@ -22,4 +29,4 @@ returns-clause-row c =
     c.as_slice.ensures c.in_ok-weight.ensures.weight.0 in
     let deep = subst (λ ids. length (sample_stack_of c.args.frames.now ids) ≤ 65535)
     c.as_slice-ids.ensures c.in_ok-check_fit.ensures.depth in
-    sample_row c.args.frames.now c.args.chosen c.args.sample.now c.in_ok-weight.weight value deep
+    one_value_row c.args.frames.now c.args.chosen c.args.sample.now c.in_ok-weight.weight value deep

@@ -1,14 +1,15 @@
 -- What was counted is what the names of the samples' rows weigh.
-use Rattle.std.proofs.Common.{ap, sym, ◌∙◌, subst, inl, inr, refl}
+use Rattle.std.proofs.Common.{ap, sym, ◌∙◌, subst, inl, inr, refl, arith}
 use Rattle.std.proofs.lemmas.Result.{err_from_is_err_and}
 use Rattle.profile_rows.specs.Tallies.{AreTalliesOf}
 use Rattle.profile_samples.specs.NameNumbers.{frame_names}
-use Rattle.profile_samples.proofs.SampleRows.{chosen_within}
+use Rattle.profile_samples.proofs.SampleRows.{chosen_types_within}
 use Rattle.profile_samples.proofs.counted_samples.totals_by.Goals as goal
 
 pub count_samples-requires-clause-typed : goal.count_samples-requires-clause-typed
 count_samples-requires-clause-typed c =
-    chosen_within c.args.profile.now c.requires.chosen.0 c.args.chosen c.requires.chosen.1
+    let within = chosen_types_within c.args.profile.now c.requires.chosen.0 c.args.chosen 1 c.requires.chosen.1 in
+    omega (arith, within)
 
 pub totals-requires : goal.totals-requires
 totals-requires c =

@@ -4,7 +4,8 @@ use Rattle.pprof_profile.specs.declared.messages.Draft.{Draft}
 use Rattle.pprof_profile.specs.Valid.{IsValidDraft}
 use Rattle.profile_samples.specs.Export.{exported_sample, profile_with, single_profile_of, strings_of}
 use Rattle.profile_rows.specs.Values.{singles}
-use Rattle.profile_samples.proofs.ExportLaws.{export_valid, widths-singles}
+use Rattle.profile_samples.proofs.ExportLaws.{export_valid}
+use Rattle.profile_samples.proofs.SampleBatches.{widths-singles}
 use Rattle.profile_samples.proofs.folded_export.profile_bytes.Goals as goal
 
 pub returns-clause-profile : goal.returns-clause-profile

@@ -1,5 +1,5 @@
-use Rattle.profile_samples.proofs.ExportLaws.{export_rows, export_valid}
-use Rattle.profile_samples.proofs.ExportedBatches.{export_batch}
+use Rattle.profile_samples.proofs.ExportLaws.{export_valid}
+use Rattle.profile_samples.proofs.ExportedBatches.{export_batch, export_rows}
 use Rattle.profile_samples.proofs.laws.export_reads_back.Goals as goal
 
 pub returns-clause-valid : goal.returns-clause-valid

@@ -1,8 +1,8 @@
-use Rattle.profile_samples.proofs.FirstFaults.{IsFirstBatchFault-same, IsFirstStacksFault-same}
+use Rattle.profile_samples.proofs.FirstFaults.{IsFirstFault-same}
 use Rattle.profile_samples.proofs.laws.one_first_fault.Goals as goal
 
 pub returns-clause-batch : goal.returns-clause-batch
-returns-clause-batch c = IsFirstBatchFault-same
+returns-clause-batch c = IsFirstFault-same 4
 
 pub returns-clause-stacks : goal.returns-clause-stacks
-returns-clause-stacks c = IsFirstStacksFault-same
+returns-clause-stacks c = IsFirstFault-same 1

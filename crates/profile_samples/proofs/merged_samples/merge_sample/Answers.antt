@@ -1,5 +1,5 @@
 -- The sample's weight goes to the row of its locations, or to a new one.
-use Rattle.std.proofs.Common.{◌≡◌, ℕ, ◌+◌, ◌^◌, ◌<◌, ◌≤◌, List, length, ap, sym, subst, ◌∙◌, refl}
+use Rattle.std.proofs.Common.{◌≡◌, ℕ, ◌+◌, ◌^◌, ◌<◌, ◌≤◌, List, [], ◌∷◌, length, ap, sym, subst, ◌∙◌, refl, arith}
 use Rattle.std.specs.Prelude.{Result, Ok, Err, Some, OnOk, IfErr, pos, slice_get}
 use Rattle.std.proofs.lemmas.Result.{err_from_is_err_and}
 use Rattle.profile_rows.specs.declared.weighted_stacks.WeightedStack.{WeightedStack}
@@ -8,10 +8,11 @@ use Rattle.profile_samples.specs.declared.sampling.BatchFault.TheVariants.{Heavy
 use Rattle.pprof_profile.specs.declared.messages.Draft.{Draft}
 use Rattle.pprof_profile.specs.declared.messages.Sample.{Sample}
 use Rattle.profile_rows.specs.Rows.{total_of}
-use Rattle.profile_samples.specs.Samples.{IsFitFault, IsSampleFault, IsSampleRow, sample_stack_of}
+use Rattle.profile_rows.specs.Values.{single}
+use Rattle.profile_samples.specs.Samples.{IsFitFault, IsRowOfSample, IsSampleFault, IsValueFault, sample_stack_of}
 use Rattle.profile_rows.specs.Merging.{AddsRow, row_at, row_spelled, with_added_at}
 use Rattle.profile_rows.proofs.MergedRows.{AddsRow-added, IsPlacedAt, placed_at}
-use Rattle.profile_samples.proofs.SampleRows.{IsSampleFault-fit, IsSampleFault-memory, sample_row}
+use Rattle.profile_samples.proofs.SampleRows.{IsSampleFault-fit, one_value_below, one_value_memory, one_value_row}
 use Rattle.profile_samples.proofs.merged_samples.merge_sample.Goals as goal
 
 -- a row of the sample's stack, which weighs more now
@@ -20,13 +21,13 @@ added_to : (draft : Draft)
     → slice_get sample.values chosen ≡ Some (pos weight)
     → IsPlacedAt (sample_stack_of draft) sums sample.location_ids at
     → OnOk outcome (new ≡ with_added_at sums at weight) → OnOk outcome (total_of sums + weight < 2 ^ 63)
-    → OnOk outcome ((row : WeightedStack) × IsSampleRow draft chosen sample row × AddsRow sums new row)
+    → OnOk outcome ((row : WeightedStack) × IsRowOfSample draft chosen 1 sample (single row) × AddsRow sums new row)
 added_to draft chosen at weight sample sums new (Ok done) value there added fits =
     let row : WeightedStack = record { stack = sample_stack_of draft sample.location_ids; weight = weight } in
     let same : row ≡ record { stack = (row_at sums at).stack; weight = weight } =
     ap (λ s. let r : WeightedStack = record { stack = s; weight = weight } in r) (sym there.1) in (
       row,
-      sample_row draft chosen sample weight value there.2,
+      one_value_row draft chosen sample weight value there.2,
       subst (λ rows. AddsRow sums rows row) (sym added) (AddsRow-added sums at weight row there.0 fits same),
     )
 added_to draft chosen at weight sample sums new (Err fault) value there added fits = tt
@@ -36,15 +37,24 @@ refused_at : (draft : Draft)
     → slice_get sample.values chosen ≡ Some (pos weight)
     → IsPlacedAt (sample_stack_of draft) sums sample.location_ids at
     → IfErr outcome (λ fault. (fault ≡ Heavy number) × (2 ^ 63 ≤ total_of sums + weight))
-    → IfErr outcome (IsSampleFault draft chosen (total_of sums) number sample)
+    → IfErr outcome (IsSampleFault draft chosen (total_of sums ∷ []) number sample)
 refused_at draft chosen at weight number sample sums (Ok done) value there fault = tt
 refused_at draft chosen at weight number sample sums (Err found) value there fault =
-    subst (IsSampleFault draft chosen (total_of sums) number sample) (sym fault.0) (
+    subst (IsSampleFault draft chosen (total_of sums ∷ []) number sample) (sym fault.0) (
       refl,
-      record { stack = sample_stack_of draft sample.location_ids; weight = weight },
-      sample_row draft chosen sample weight value there.2,
+      record { stack = sample_stack_of draft sample.location_ids; weights = weight ∷ [] },
+      one_value_row draft chosen sample weight value there.2,
+      0,
+      omega arith,
       fault.1,
     )
+
+pub returns-in_err-weight-clause-fault : goal.returns-in_err-weight-clause-fault
+returns-in_err-weight-clause-fault c =
+    let p = err_from_is_err_and c.from_residual.result c.from_residual.ensures.1 in
+    rw (p.1, p.2) (one_value_below c.args.frames.now c.args.chosen (total_of c.args.merged.now) c.args.number
+    c.args.sample.now c.in_err-weight.field-0.0 (subst (λ values. IsValueFault c.args.chosen c.args.number values
+    c.in_err-weight.field-0.0) c.as_slice.ensures c.in_err-weight.ensures.fault))
 
 pub add_to_row-requires : goal.add_to_row-requires
 add_to_row-requires c =
@@ -102,5 +112,5 @@ returns-in_err-push_merged-in-None-clause-fault c =
     c.as_slice-ids.ensures c.in_ok-check_fit-in-None.ensures.depth in
     let fits = subst
     (λ earlier. earlier + c.in_ok-weight.weight < 2 ^ 63) c.total.ensures.total c.in_ok-check_fit-in-None.ensures.fits in
-    rw (p.1, p.2) (IsSampleFault-memory c.args.frames.now c.args.chosen
+    rw (p.1, p.2) (one_value_memory c.args.frames.now c.args.chosen
     (total_of c.args.merged.now) c.args.number c.args.sample.now c.in_ok-weight.weight value deep fits)

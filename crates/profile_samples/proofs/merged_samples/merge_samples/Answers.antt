@@ -1,27 +1,59 @@
 -- What stands at a sample is the first fault.
-use Rattle.std.proofs.Common.{rules, ◌≡◌, Some}
-use Rattle.profile_samples.specs.Samples.{chosen_type_of}
+use Rattle.std.proofs.Common.{◌≡◌, Some, subst, arith}
+use Rattle.std.specs.Prelude.{Err}
+use Rattle.std.proofs.lemmas.Result.{err_from_is_err_and}
+use Rattle.profile_rows.specs.Values.{single_batch}
+use Rattle.profile_samples.specs.Batches.{IsFirstStacksFault}
 use Rattle.profile_samples.specs.MergedSamples.{IsMergedBatch}
-use Rattle.profile_samples.proofs.FirstFaults.{only_stacks_fault}
+use Rattle.profile_samples.specs.Samples.{chosen_types_of}
+use Rattle.profile_samples.proofs.FirstFaults.{only_first_fault}
 use Rattle.profile_samples.proofs.MergedSamples.{only_batch_sums}
-use Rattle.profile_samples.proofs.SampleRows.{chosen_within, first_of_standing}
+use Rattle.profile_samples.proofs.SampleBatches.{first_of_standing, memory_first}
+use Rattle.profile_samples.proofs.SampleRows.{chosen_types_within}
 use Rattle.profile_samples.proofs.merged_samples.merge_samples.Goals as goal
+
+pub returns-in_err-chosen-clause-accepted : goal.returns-in_err-chosen-clause-accepted
+returns-in_err-chosen-clause-accepted c =
+    let p = err_from_is_err_and c.from_residual.result c.from_residual.ensures.1 in
+    let first = subst (λ d. IsFirstStacksFault d c.args.choice c.in_err-chosen.field-0.0)
+    c.draft.ensures.draft c.in_err-chosen.ensures in
+    rw (p.1, p.2) (only_batch_sums c.args.profile.now c.args.choice (Err c.in_err-chosen.field-0.0) first)
+
+pub returns-in_err-chosen-clause-every_fault : goal.returns-in_err-chosen-clause-every_fault
+returns-in_err-chosen-clause-every_fault c =
+    let p = err_from_is_err_and c.from_residual.result c.from_residual.ensures.1 in
+    let first = subst (λ d. IsFirstStacksFault d c.args.choice c.in_err-chosen.field-0.0)
+    c.draft.ensures.draft c.in_err-chosen.ensures in
+    rw (p.1, p.2) (only_first_fault (λ sums. IsMergedBatch c.args.profile.now c.args.choice sums) 1 c.args.profile.now
+    c.args.choice (Err c.in_err-chosen.field-0.0) (λ sums merged. (single_batch merged.rows, omega arith, merged.sampled)) first)
+
+pub returns-in_err-known-clause-read : goal.returns-in_err-known-clause-read
+returns-in_err-known-clause-read c =
+    let p = err_from_is_err_and c.from_residual-in_err-known.result c.from_residual-in_err-known.ensures.1 in
+    let is = subst (λ d. chosen_types_of d c.args.choice ≡ Some (c.in_ok-chosen.chosen, 1)) c.draft.ensures.draft
+    c.in_ok-chosen.ensures in
+    rw (p.1, p.2) (memory_first c.args.profile.now c.args.choice c.in_ok-chosen.chosen is)
 
 pub merged_by-requires-clause-typed : goal.merged_by-requires-clause-typed
 merged_by-requires-clause-typed c =
-    let chosen : chosen_type_of c.args.profile.now c.args.choice ≡ Some c.in-Some.chosen = search rules in
-    chosen_within c.args.profile.now c.args.choice c.in-Some.chosen chosen
+    let chosen = c.in_ok-chosen.chosen in
+    let is = subst (λ d. chosen_types_of d c.args.choice ≡ Some (chosen, 1)) c.draft.ensures.draft
+    c.in_ok-chosen.ensures in
+    let within = chosen_types_within c.args.profile.now c.args.choice chosen 1 is in
+    omega (arith, within)
 
 pub returns-clause-read : goal.returns-clause-read
 returns-clause-read c =
-    let chosen : chosen_type_of c.args.profile.now c.args.choice ≡ Some c.in-Some.chosen = search rules in
-    first_of_standing (λ sums. IsMergedBatch c.args.profile.now c.args.choice sums)
-    c.args.profile.now c.args.choice c.merged_by.result (c.merged_by.ensures c.args.choice chosen)
+    let chosen = c.in_ok-chosen.chosen in
+    let is = subst (λ d. chosen_types_of d c.args.choice ≡ Some (chosen, 1)) c.draft.ensures.draft
+    c.in_ok-chosen.ensures in
+    first_of_standing (λ sums. IsMergedBatch c.args.profile.now c.args.choice sums) 1
+    c.args.profile.now c.args.choice c.merged_by.result (c.merged_by.ensures c.args.choice is)
 
 pub returns-clause-accepted : goal.returns-clause-accepted
 returns-clause-accepted c = only_batch_sums c.args.profile.now c.args.choice c.merged_by.result (returns-clause-read c)
 
 pub returns-clause-every_fault : goal.returns-clause-every_fault
 returns-clause-every_fault c =
-    only_stacks_fault (λ sums. IsMergedBatch c.args.profile.now c.args.choice sums) c.args.profile.now
-    c.args.choice c.merged_by.result (λ sums merged. (merged.rows, merged.sampled)) (returns-clause-read c)
+    only_first_fault (λ sums. IsMergedBatch c.args.profile.now c.args.choice sums) 1 c.args.profile.now c.args.choice
+    c.merged_by.result (λ sums merged. (single_batch merged.rows, omega arith, merged.sampled)) (returns-clause-read c)

@@ -1,12 +1,13 @@
 -- The samples are read in order: each is added to the sums, or has the first fault.
-use Rattle.std.proofs.Common.{◌+◌, ◌^◌, ◌<◌, ◌++◌, ◌∷◌, [], subst, refl}
+use Rattle.std.proofs.Common.{◌+◌, ◌^◌, ◌<◌, ◌++◌, ◌∷◌, [], subst, refl, arith}
 use Rattle.std.proofs.lemmas.Result.{err_from_is_err_and}
-use Rattle.profile_samples.specs.Samples.{IsSampleRow, IsSampleFault, sample_stack_of}
+use Rattle.profile_rows.specs.Values.{single, single_batch}
+use Rattle.profile_samples.specs.Samples.{IsRowOfSample, IsSampleFault, sample_stack_of}
 use Rattle.profile_rows.specs.Rows.{total_of}
 use Rattle.profile_rows.specs.Merging.{ArePlacedBy}
 use Rattle.profile_rows.proofs.MergedRows.{AreMergedSoFar-row, AreMergedSoFar-same}
-use Rattle.profile_samples.proofs.SampleRows.{AreRowsSoFar-row, AreRowsSoFar-end, AreRowsSoFar-stands, has_value}
-use Rattle.profile_samples.proofs.SampleRows.{sample_read, samples_read}
+use Rattle.profile_samples.proofs.SampleBatches.{AreStacksSoFar-row, AreStacksSoFar-stands, IsBatchSoFar-end}
+use Rattle.profile_samples.proofs.SampleRows.{has_values, sample_read, samples_read}
 use Rattle.profile_samples.proofs.merged_samples.merged_by.Goals as goal
 
 pub merge_sample-requires-clause-values : goal.merge_sample-requires-clause-values
@@ -14,8 +15,10 @@ merge_sample-requires-clause-values c =
     let (item, within) = sample_read c.args.profile.now c.draft.result.now c.as_slice-sample-items.result.now
     c.loop-index.index c.sample-item.result c.as_slice-sample-items.ensures c.draft.ensures.draft c.sample-item.is
     c.loop-index-test.true in
-    has_value c.args.profile.now
-    c.args.chosen c.loop-index.index c.sample-item.result c.draft.ensures.valid c.requires.typed within item
+    let typed = c.requires.typed in
+    let have = has_values c.args.profile.now c.args.chosen 1 c.loop-index.index c.sample-item.result
+    c.draft.ensures.valid (omega (arith, typed)) within item in
+    omega (arith, have)
 
 pub returns-in_err-merge_sample : goal.returns-in_err-merge_sample
 returns-in_err-merge_sample c = λ choice is_chosen.
@@ -24,11 +27,12 @@ returns-in_err-merge_sample c = λ choice is_chosen.
     c.loop-index-test.true in
     let p = err_from_is_err_and c.from_residual.result c.from_residual.ensures.1 in
     let (rows, so_far, sums) = c.loop-index.invariant.0 in
-    let own = subst (λ d. IsSampleFault d c.args.chosen (total_of c.loop-index.merged) c.loop-index.index
+    let own = subst (λ d. IsSampleFault d c.args.chosen (total_of c.loop-index.merged ∷ []) c.loop-index.index
     c.sample-item.result c.in_err-merge_sample.field-0.0) c.requires.framed c.in_err-merge_sample.ensures.fault in
     let there = subst (λ earlier. IsSampleFault c.args.profile.now
-    c.args.chosen earlier c.loop-index.index c.sample-item.result c.in_err-merge_sample.field-0.0) sums.total own in
-    rw (p.1, p.2) (AreRowsSoFar-stands c.args.profile.now choice c.args.chosen
+    c.args.chosen (earlier ∷ []) c.loop-index.index c.sample-item.result c.in_err-merge_sample.field-0.0)
+    sums.total own in
+    rw (p.1, p.2) (AreStacksSoFar-stands c.args.profile.now choice c.args.chosen
     c.loop-index.index c.sample-item.result rows c.in_err-merge_sample.field-0.0 is_chosen within item so_far there)
 
 pub loop-index-preserved : goal.loop-index-preserved
@@ -38,12 +42,12 @@ loop-index-preserved c =
     c.loop-index-test.true in
     let (rows, so_far, sums) = c.loop-index.invariant.0 in
     let (row, this, adds) = c.in_ok-merge_sample.ensures.added in
-    let own = subst (λ d. IsSampleRow d c.args.chosen c.sample-item.result row) c.requires.framed this in
+    let own = subst (λ d. IsRowOfSample d c.args.chosen 1 c.sample-item.result (single row)) c.requires.framed this in
     let fits = subst (λ earlier. earlier + row.weight < 2 ^ 63) sums.total adds.fits in (
       (
         rows ++ row ∷ [],
-        AreRowsSoFar-row c.args.profile.now c.args.chosen c.loop-index.index c.sample-item.result rows row
-            (rows ++ row ∷ []) within item so_far own fits refl,
+        AreStacksSoFar-row c.args.profile.now c.args.chosen c.loop-index.index c.sample-item.result rows row
+            within item so_far own fits,
         AreMergedSoFar-row rows (rows ++ row ∷ []) c.loop-index.merged c.merge_sample.new.merged row sums adds refl,
       ),
       subst (λ d. ArePlacedBy (sample_stack_of d) c.merge_sample.new.known c.merge_sample.new.merged)
@@ -57,7 +61,7 @@ returns c = λ choice is_chosen.
     let (rows, so_far, sums) = c.loop-index.invariant.0 in
     record {
       rows = rows;
-      sampled = AreRowsSoFar-end c.args.profile.now choice c.args.chosen
-          c.loop-index.index rows is_chosen whole so_far;
+      sampled = IsBatchSoFar-end c.args.profile.now choice c.args.chosen 1
+          c.loop-index.index (single_batch rows) is_chosen whole so_far;
       same = AreMergedSoFar-same rows c.loop-index.merged sums;
     }

@@ -3,11 +3,11 @@ use Rattle.profile_rows.specs.declared.weighted_stacks.WeightedStack.{WeightedSt
 use Rattle.profile_samples.specs.Samples.{sample_stack_of}
 use Rattle.profile_rows.specs.Merging.{ArePlacedBy}
 use Rattle.profile_rows.specs.Merging.{AreMergedSoFar}
-use Rattle.profile_samples.proofs.SampleRows.{AreRowsSoFar}
+use Rattle.profile_samples.proofs.SampleBatches.{AreStacksSoFar}
 use Rattle.profile_samples.proofs.merged_samples.merged_by.Given as goal
 
 -- the samples so far give rows that add up to the sums so far
 abbrev pub invariant-loop-index : goal.invariant-loop-index
 invariant-loop-index l =
-    ((rows : List WeightedStack) × AreRowsSoFar l.fn.profile l.chosen l.index rows × AreMergedSoFar rows l.merged)
+    ((rows : List WeightedStack) × AreStacksSoFar l.fn.profile l.chosen l.index rows × AreMergedSoFar rows l.merged)
     × ArePlacedBy (sample_stack_of l.fn.profile) l.known l.merged

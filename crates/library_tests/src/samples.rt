@@ -169,7 +169,7 @@ fn the_leaf_is_unfolded_first(rt: HostRuntime) -> Result<(), Fail> {
     expect_text(joined(rt.alloc(), &names), "a b c 0xff ")
 }
 
-// The profile of a row of two values by each of them, and its sample types.
+// The profile of a row of two values by each of them, its sample types, and what becomes of both as one.
 fn two_values(alloc: Global) -> Result<String, Fail> {
     let rows = pairs_of(alloc, &[("f", [3, 30])])?;
     two_values_of(alloc, &rows)
@@ -191,16 +191,24 @@ fn two_values_of(alloc: Global, rows: &Batch) -> Result<String, Fail> {
     both_types(alloc, &profile)
 }
 
+fn all_merged(alloc: Global, profile: &Profile) -> Result<String, Fail> {
+    match merge_samples(alloc, Hashing::fixed(), profile, ValueChoice::All) {
+        Ok(merged) => stacks_text(alloc, &merged),
+        Err(fault) => Ok(format!(in alloc; "{fault}")?),
+    }
+}
+
 fn both_types(alloc: Global, profile: &Profile) -> Result<String, Fail> {
     let first = rows_text(alloc, profile, ValueChoice::Named("samples"))?;
     let last = rows_text(alloc, profile, ValueChoice::Default)?;
     let types = profile.draft().sample_types.len();
-    Ok(format!(in alloc; "{first}{last}{types}")?)
+    let all = all_merged(alloc, profile)?;
+    Ok(format!(in alloc; "{first}{last}{types} {all}")?)
 }
 
 #[test]
 fn each_value_is_exported_as_a_sample_type(rt: HostRuntime) -> Result<(), Fail> {
-    expect_text(two_values(rt.alloc()), "f 3\nf 30\n2")
+    expect_text(two_values(rt.alloc()), "f 3\nf 30\n2 B6 Width count 2")
 }
 
 fn text_of_top(alloc: Global, top: &Top) -> Result<String, Fail> {

@@ -73,7 +73,7 @@ one_sample_fault draft first totals number sample (Heavy x) NoMemory named known
 
 -- ---- the first sample with a fault
 
--- where one place lies before another, the fault there is want of memory
+-- where one index lies before another, the fault there is want of memory
 earlier_fault : (most : ℕ) (draft : Draft) (choice : ValueChoice) (fault other : BatchFault)
     (a : StandsAtSample most draft choice fault) (b : StandsAtSample most draft choice other) (rest : List Sample)
     → b.before ≡ a.before ++ a.sample ∷ rest → fault ≡ NoMemory
@@ -90,7 +90,7 @@ one_standing : (most : ℕ) (draft : Draft) (choice : ValueChoice) (fault other 
 one_standing most draft choice fault other named known a b =
     elim (cuts a.before a.sample a.after b.before b.sample b.after (sym a.cut ∙ b.cut)) [
       | inl same ↦
-          let place = same_first draft choice b.first a.first b.batch.width a.batch.width b.is_chosen a.is_chosen in
+          let index = same_first draft choice b.first a.first b.batch.width a.batch.width b.is_chosen a.is_chosen in
           let count = same_count draft choice b.first a.first b.batch.width a.batch.width b.is_chosen a.is_chosen in
           let own = subst (λ ss. AreRowsOfSamples draft a.first a.batch.width ss b.batch.rows) (sym same.0)
           (rows_of_choice draft choice b.first b.batch.width a.first a.batch.width b.before b.batch.rows
@@ -104,7 +104,7 @@ one_standing most draft choice fault other named known a b =
           subst (λ s. IsSampleFault draft a.first a.totals (length a.before) s other) (sym same.1)
           (subst (λ ss. IsSampleFault draft a.first a.totals (length ss) b.sample other) (sym same.0)
           (subst (λ ts. IsSampleFault draft a.first ts (length b.before) b.sample other) totals
-          (subst (λ f. IsSampleFault draft f b.totals (length b.before) b.sample other) place b.there))) in
+          (subst (λ f. IsSampleFault draft f b.totals (length b.before) b.sample other) index b.there))) in
           one_sample_fault draft a.first a.totals (length a.before) a.sample fault other named known a.there here
       | inr (inl within) ↦ absurd (known (earlier_fault most draft choice other fault b a within.0 within.1))
       | inr (inr within) ↦ absurd (named (earlier_fault most draft choice fault other a b within.0 within.1))

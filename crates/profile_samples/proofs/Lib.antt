@@ -6,7 +6,7 @@ pub mod ExportedValues
 pub mod FirstFaults
 pub mod FrameNumbers
 pub mod ItemsById
-pub mod IdPlaces
+pub mod IdIndex
 pub mod SampleBatches
 pub mod SampleRows
 pub mod MergedSamples

@@ -77,17 +77,17 @@ unfolding first_in count_in
 one_within count None first width h e = absurd (false≢true (ap is_some e))
 one_within count (Some chosen) first width h e =
     let lt = h chosen refl in
-    let place : chosen ≡ first = ap first_in e in
+    let index : chosen ≡ first = ap first_in e in
     let one : 1 ≡ width = ap count_in e in
-    omega (arith, lt, place, one)
+    omega (arith, lt, index, one)
 
 all_within : (count first width : ℕ) → all_of count ≡ Some (first, width) → first + width ≤ count
 unfolding first_in count_in
 all_within zero first width e = absurd (false≢true (ap is_some e))
 all_within (suc more) first width e =
-    let place : 0 ≡ first = ap first_in e in
+    let index : 0 ≡ first = ap first_in e in
     let whole : suc more ≡ width = ap count_in e in
-    omega (arith, place, whole)
+    omega (arith, index, whole)
 
 -- the values that are taken are some of those that there are
 pub chosen_types_within : (draft : Draft) (choice : ValueChoice) (first width : ℕ)
@@ -287,59 +287,59 @@ IsSampleFault-memory draft first totals number sample weights count values deep 
 
 -- ---- one value of a sample
 
--- the value at a place alone
-pub one_weight : (place weight : ℕ) (values : List ℤ) → slice_get values place ≡ Some (pos weight)
-    → HasWeights place 1 values (weight ∷ [])
-one_weight place weight values is zero lt = let same : place + 0 ≡ place = omega arith in
+-- the value at an index alone
+pub one_weight : (index weight : ℕ) (values : List ℤ) → slice_get values index ≡ Some (pos weight)
+    → HasWeights index 1 values (weight ∷ [])
+one_weight index weight values is zero lt = let same : index + 0 ≡ index = omega arith in
     ap (slice_get values) same ∙ is
-one_weight place weight values is (suc value) lt = absurd (omega (arith, lt))
+one_weight index weight values is (suc value) lt = absurd (omega (arith, lt))
 
-pub one_value_row : (draft : Draft) (place : ℕ) (sample : Sample) (weight : ℕ)
-    → slice_get sample.values place ≡ Some (pos weight) → length (sample_stack_of draft sample.location_ids) ≤ 65535
-    → IsRowOfSample draft place 1 sample
+pub one_value_row : (draft : Draft) (index : ℕ) (sample : Sample) (weight : ℕ)
+    → slice_get sample.values index ≡ Some (pos weight) → length (sample_stack_of draft sample.location_ids) ≤ 65535
+    → IsRowOfSample draft index 1 sample
     (record { stack = sample_stack_of draft sample.location_ids; weights = weight ∷ [] })
-one_value_row draft place sample weight is deep =
-    row_of_sample draft place 1 sample (weight ∷ []) refl (one_weight place weight sample.values is) deep
+one_value_row draft index sample weight is deep =
+    row_of_sample draft index 1 sample (weight ∷ []) refl (one_weight index weight sample.values is) deep
 
 pub one_value_room : (earlier weight : ℕ) → earlier + weight < 2 ^ 63
     → (value : ℕ) → value_of value (earlier ∷ []) + value_of value (weight ∷ []) < 2 ^ 63
 one_value_room earlier weight fits zero = fits
 one_value_room earlier weight fits (suc value) = omega (arith, fits)
 
-pub one_value_below : (draft : Draft) (place earlier number : ℕ) (sample : Sample) (fault : BatchFault)
-    → IsValueFault place number sample.values fault → IsSampleFault draft place (earlier ∷ []) number sample fault
-one_value_below draft place earlier number sample fault h =
-    let same : place ≡ place + 0 = omega arith in
-    IsSampleFault-below draft place (earlier ∷ []) number sample 0 fault (omega arith)
+pub one_value_below : (draft : Draft) (index earlier number : ℕ) (sample : Sample) (fault : BatchFault)
+    → IsValueFault index number sample.values fault → IsSampleFault draft index (earlier ∷ []) number sample fault
+one_value_below draft index earlier number sample fault h =
+    let same : index ≡ index + 0 = omega arith in
+    IsSampleFault-below draft index (earlier ∷ []) number sample 0 fault (omega arith)
     (subst (λ p. IsValueFault p number sample.values fault) same h)
 
 -- the sample doesn't fit
-pub IsSampleFault-fit : (draft : Draft) (place earlier number : ℕ) (sample : Sample) (weight : ℕ) (fault : BatchFault)
-    → slice_get sample.values place ≡ Some (pos weight)
+pub IsSampleFault-fit : (draft : Draft) (index earlier number : ℕ) (sample : Sample) (weight : ℕ) (fault : BatchFault)
+    → slice_get sample.values index ≡ Some (pos weight)
     → IsFitFault draft earlier number sample.location_ids weight fault
-    → IsSampleFault draft place (earlier ∷ []) number sample fault
-IsSampleFault-fit draft place earlier number sample weight NoValue is h = absurd h
-IsSampleFault-fit draft place earlier number sample weight (Width count) is h = absurd h
-IsSampleFault-fit draft place earlier number sample weight (Negative at) is h = absurd h
-IsSampleFault-fit draft place earlier number sample weight (Depth at) is h =
-    (h.0, weight ∷ [], one_weight place weight sample.values is, h.1)
-IsSampleFault-fit draft place earlier number sample weight (Heavy at) is h = (
+    → IsSampleFault draft index (earlier ∷ []) number sample fault
+IsSampleFault-fit draft index earlier number sample weight NoValue is h = absurd h
+IsSampleFault-fit draft index earlier number sample weight (Width count) is h = absurd h
+IsSampleFault-fit draft index earlier number sample weight (Negative at) is h = absurd h
+IsSampleFault-fit draft index earlier number sample weight (Depth at) is h =
+    (h.0, weight ∷ [], one_weight index weight sample.values is, h.1)
+IsSampleFault-fit draft index earlier number sample weight (Heavy at) is h = (
   h.0,
   record { stack = sample_stack_of draft sample.location_ids; weights = weight ∷ [] },
-  one_value_row draft place sample weight is h.1,
+  one_value_row draft index sample weight is h.1,
   0,
   omega arith,
   h.2,
 )
-IsSampleFault-fit draft place earlier number sample weight NoMemory is h = absurd h
+IsSampleFault-fit draft index earlier number sample weight NoMemory is h = absurd h
 
-pub one_value_memory : (draft : Draft) (place earlier number : ℕ) (sample : Sample) (weight : ℕ)
-    → slice_get sample.values place ≡ Some (pos weight)
+pub one_value_memory : (draft : Draft) (index earlier number : ℕ) (sample : Sample) (weight : ℕ)
+    → slice_get sample.values index ≡ Some (pos weight)
     → length (sample_stack_of draft sample.location_ids) ≤ 65535
-    → earlier + weight < 2 ^ 63 → IsSampleFault draft place (earlier ∷ []) number sample NoMemory
-one_value_memory draft place earlier number sample weight is deep fits =
-    IsSampleFault-memory draft place (earlier ∷ []) number sample (weight ∷ []) refl
-    (one_weight place weight sample.values is) deep (one_value_room earlier weight fits)
+    → earlier + weight < 2 ^ 63 → IsSampleFault draft index (earlier ∷ []) number sample NoMemory
+one_value_memory draft index earlier number sample weight is deep fits =
+    IsSampleFault-memory draft index (earlier ∷ []) number sample (weight ∷ []) refl
+    (one_weight index weight sample.values is) deep (one_value_room earlier weight fits)
 
 -- ---- a pass over the samples, which are lent
 

@@ -41,7 +41,7 @@ address_names draft = map (λ (location : Location). address_name location.addre
 abbrev pub frame_names : Draft → List (List ℕ)
 frame_names draft = with_texts (with_texts [] (given (string_names draft))) (address_names draft)
 
--- a name's number is its place among them
+-- a name's number is where it stands among them
 abbrev pub number_of : Draft → List ℕ → ℕ
 number_of draft name = number_in (frame_names draft) name
 

@@ -118,7 +118,7 @@ default_type draft =
 
 -- ---- the values that are taken
 
--- the value at a place alone
+-- the value at an index alone
 abbrev pub one_from : Option ℕ → Option (ℕ × ℕ)
 one_from None = None
 one_from (Some first) = Some (first, 1)
@@ -128,13 +128,13 @@ abbrev pub all_of : ℕ → Option (ℕ × ℕ)
 all_of zero = None
 all_of (suc more) = Some (0, suc more)
 
--- the place of the first value that a choice takes of each sample, and how many it takes; the others follow it
+-- the index of the first value that a choice takes of each sample, and how many it takes; the others follow it
 abbrev pub chosen_types_of : Draft → ValueChoice → Option (ℕ × ℕ)
 chosen_types_of draft Default = one_from (default_type draft)
 chosen_types_of draft (Named text) = one_from (type_named draft text.now)
 chosen_types_of draft All = all_of (length draft.sample_types)
 
--- so many values from a place on are these weights
+-- so many values from an index on are these weights
 abbrev pub HasWeights : ℕ → ℕ → List ℤ → List ℕ → Type 0
 HasWeights first width values weights = (value : ℕ) → value < width
     → slice_get values (first + value) ≡ Some (pos (value_of value weights))
@@ -150,13 +150,13 @@ pub record IsRowOfSample (draft : Draft) (first width : ℕ) (sample : Sample) (
 
 -- what keeps a value of a sample from being a weight
 abbrev pub IsValueFault : ℕ → ℕ → List ℤ → BatchFault → Type 0
-IsValueFault place number values NoValue = ⊥
-IsValueFault place number values (Width count) = ⊥
-IsValueFault place number values (Negative at) = (at ≡ number) × (below : ℕ)
-    × (slice_get values place ≡ Some (negsuc below))
-IsValueFault place number values (Depth at) = ⊥
-IsValueFault place number values (Heavy at) = ⊥
-IsValueFault place number values NoMemory = ⊥
+IsValueFault index number values NoValue = ⊥
+IsValueFault index number values (Width count) = ⊥
+IsValueFault index number values (Negative at) = (at ≡ number) × (below : ℕ)
+    × (slice_get values index ≡ Some (negsuc below))
+IsValueFault index number values (Depth at) = ⊥
+IsValueFault index number values (Heavy at) = ⊥
+IsValueFault index number values NoMemory = ⊥
 
 -- why the locations and the value of a sample give no row that can follow rows of the weight `earlier`
 abbrev pub IsFitFault : Draft → ℕ → ℕ → List ℕ → ℕ → BatchFault → Type 0

@@ -6,7 +6,7 @@ ghost use Rattle.pprof_profile.specs.Valid.{IsValidDraft};
 ghost use Rattle.profile_samples.specs.Samples.{address_name, item_with, named_by};
 ghost use Rattle.profile_samples.specs.NameNumbers.{line_number, number_at, number_by, number_of, numbers_of, string_numbers};
 
-use crate::id_places::IdPlaces;
+use crate::id_index::IdIndex;
 use crate::unfolding::function_ids;
 use basics::NoMemory;
 use pprof_profile::{Draft, Function, Line, Location};
@@ -56,7 +56,7 @@ fn function_numbers(
 #[derive(Drop)]
 pub(crate) struct FunctionNumbers<'a> {
     draft: &'a Draft,
-    places: IdPlaces,
+    indices: IdIndex,
     numbers: Vec<Option<usize>>,
 }
 
@@ -68,7 +68,7 @@ impl<'a> Model for FunctionNumbers<'a> {
 
     ghost view = { λ functions. functions.draft.now };
 
-    ghost invariant = { λ functions. AreFunctionNumbers functions.draft.now functions.places functions.numbers.items };
+    ghost invariant = { λ functions. AreFunctionNumbers functions.draft.now functions.indices functions.numbers.items };
 }
 
 impl<'a> FunctionNumbers<'a> {
@@ -88,11 +88,11 @@ impl<'a> FunctionNumbers<'a> {
         ensures { IfOk result (λ functions. functions ≡ draft.now) }
     {
         let functions = draft.functions.as_slice();
-        let places = IdPlaces::new(alloc, hashing, function_ids(alloc, functions)?)?;
+        let indices = IdIndex::new(alloc, hashing, function_ids(alloc, functions)?)?;
         let numbers = function_numbers(alloc, strings, functions)?;
         Ok(FunctionNumbers {
             draft,
-            places,
+            indices,
             numbers,
         })
     }
@@ -102,13 +102,13 @@ impl<'a> FunctionNumbers<'a> {
         ensures { result ≡ option_map (number_of self.now)
             (named_by self.now.strings (item_with (λ function. function.id) id self.now.functions)) }
     {
-        match self.places.find(id) {
+        match self.indices.find(id) {
             Some(at) => self.number_at(at),
             None => None,
         }
     }
 
-    /// The number of the name of the function at a place, where it has one.
+    /// The number of the name of the function at an index, where it has one.
     fn number_at(&self, at: usize) -> Option<usize>
         ensures { result ≡ option_map (number_of self.now)
             (named_by self.now.strings (slice_get self.now.functions at)) }

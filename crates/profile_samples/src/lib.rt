@@ -6,7 +6,7 @@ mod counted_samples;
 mod exporting;
 mod folded_export;
 mod function_numbers;
-mod id_places;
+mod id_index;
 pub mod laws;
 mod merged_samples;
 mod name_numbers;

@@ -10,7 +10,7 @@ ghost use Rattle.profile_samples.specs.NameNumbers.{address_names, frame_names, 
 
 use crate::exporting::with_names;
 use crate::function_numbers::FunctionNumbers;
-use crate::id_places::IdPlaces;
+use crate::id_index::IdIndex;
 use crate::string_names::StringName;
 use crate::unfolding::{address_name, location_ids};
 use basics::NoMemory;
@@ -221,7 +221,7 @@ fn deepest_of(frames: &[FrameNumbers]) -> usize
 #[derive(Drop)]
 pub(crate) struct NumberedFrames<'a> {
     draft: &'a Draft,
-    places: IdPlaces,
+    indices: IdIndex,
     frames: Vec<FrameNumbers>,
     deepest: usize,
     names: TextTable<'a>,
@@ -236,7 +236,7 @@ impl<'a> Model for NumberedFrames<'a> {
     ghost view = { λ numbered. numbered.draft.now };
 
     ghost invariant = { λ numbered.
-        AreFrameNumbers numbered.draft.now numbered.places numbered.frames.items numbered.deepest
+        AreFrameNumbers numbered.draft.now numbered.indices numbered.frames.items numbered.deepest
         numbered.names.texts };
 }
 
@@ -264,11 +264,11 @@ impl<'a> NumberedFrames<'a> {
         let locations = draft.locations.as_slice();
         let marks = vec![in alloc; 0; table.texts().len()]?;
         let frames = all_frames(alloc, &functions, locations, addresses.as_slice(), marks)?;
-        let places = IdPlaces::new(alloc, hashing, location_ids(alloc, locations)?)?;
+        let indices = IdIndex::new(alloc, hashing, location_ids(alloc, locations)?)?;
         let deepest = deepest_of(frames.as_slice());
         Ok(NumberedFrames {
             draft,
-            places,
+            indices,
             frames,
             deepest,
             names: table,
@@ -287,13 +287,13 @@ impl<'a> NumberedFrames<'a> {
     pub fn frames_of(&self, id: u64) -> Option<&FrameNumbers>
         ensures { option_map (λ frames. frames.now) result ≡ numbers_of_id self.now id }
     {
-        match self.places.find(id) {
+        match self.indices.find(id) {
             Some(at) => self.frames_at(at),
             None => None,
         }
     }
 
-    /// The frames of the location at a place.
+    /// The frames of the location at an index.
     fn frames_at(&self, at: usize) -> Option<&FrameNumbers>
         ensures { option_map (λ frames. frames.now) result
             ≡ option_map (location_numbers self.now) (slice_get self.now.locations at) }

@@ -135,7 +135,7 @@ fn default_type(alloc: Global, draft: &Draft) -> Option<usize>
     .or(last)
 }
 
-/// The values that are taken of each sample: the place of the first, and how many they are.
+/// The values that are taken of each sample: the index of the first, and how many they are.
 #[derive(Clone, Copy)]
 pub(crate) struct ChosenValues {
     pub(crate) first: usize,
@@ -169,7 +169,7 @@ fn all_values(draft: &Draft, most: u32) -> Result<ChosenValues, BatchFault>
     }
 }
 
-/// The value at this place alone, where there is one.
+/// The value at this index alone, where there is one.
 fn one_value(first: Option<usize>) -> Result<ChosenValues, BatchFault>
     ensures one { IfOk result (λ chosen. chosen.width ≡ 1) }
     ensures chosen { MatchResult result (λ chosen. one_from first ≡ Some (chosen.first, chosen.width))
@@ -205,7 +205,7 @@ pub(crate) fn chosen_values(
     }
 }
 
-/// The place of the one value that a choice takes.
+/// The index of the one value that a choice takes.
 pub(crate) fn chosen_value(
     alloc: Global,
     draft: &Draft,

@@ -5,7 +5,7 @@ ghost use Rattle.pprof_profile.specs.Valid.{IsValidDraft};
 ghost use Rattle.profile_samples.specs.Samples.{address_name, frames_at, frames_of_id, frames_of_ids, function_name, item_with, line_name, location_frames, named_by};
 ghost use Rattle.std.specs.Option.{option_map};
 
-use crate::id_places::IdPlaces;
+use crate::id_index::IdIndex;
 use crate::string_names::StringNames;
 use basics::NoMemory;
 use pprof_profile::{Draft, Function, Items, Line, Location, Profile, Text};
@@ -70,7 +70,7 @@ fn function_names(
 #[derive(Drop)]
 struct FunctionNames<'a> {
     draft: &'a Draft,
-    places: IdPlaces,
+    indices: IdIndex,
     names: Vec<Option<Name>>,
 }
 
@@ -82,7 +82,7 @@ impl<'a> Model for FunctionNames<'a> {
 
     ghost view = { λ functions. functions.draft.now };
 
-    ghost invariant = { λ functions. AreFunctionNames functions.draft.now functions.places functions.names.items };
+    ghost invariant = { λ functions. AreFunctionNames functions.draft.now functions.indices functions.names.items };
 }
 
 impl<'a> FunctionNames<'a> {
@@ -91,11 +91,11 @@ impl<'a> FunctionNames<'a> {
         ensures { IfOk result (λ functions. functions ≡ draft.now) }
     {
         let functions = draft.functions.as_slice();
-        let places = IdPlaces::new(alloc, hashing, function_ids(alloc, functions)?)?;
+        let indices = IdIndex::new(alloc, hashing, function_ids(alloc, functions)?)?;
         let names = function_names(alloc, draft.strings.as_slice(), functions)?;
         Ok(FunctionNames {
             draft,
-            places,
+            indices,
             names,
         })
     }
@@ -105,13 +105,13 @@ impl<'a> FunctionNames<'a> {
         ensures { option_map (λ name. name.now) result
             ≡ named_by self.now.strings (item_with (λ function. function.id) id self.now.functions) }
     {
-        match self.places.find(id) {
+        match self.indices.find(id) {
             Some(at) => self.name_at(at),
             None => None,
         }
     }
 
-    /// The name of the function at a place, where it has one.
+    /// The name of the function at an index, where it has one.
     fn name_at(&self, at: usize) -> Option<&Name>
         ensures { option_map (λ name. name.now) result
             ≡ named_by self.now.strings (slice_get self.now.functions at) }
@@ -182,7 +182,7 @@ impl<'a> FunctionNames<'a> {
 #[derive(Drop)]
 pub(crate) struct LocationFrames<'a> {
     draft: &'a Draft,
-    places: IdPlaces,
+    indices: IdIndex,
     frames: Vec<Items<Name>>,
 }
 
@@ -194,7 +194,7 @@ impl<'a> Model for LocationFrames<'a> {
 
     ghost view = { λ locations. locations.draft.now };
 
-    ghost invariant = { λ locations. AreLocationFrames locations.draft.now locations.places locations.frames.items };
+    ghost invariant = { λ locations. AreLocationFrames locations.draft.now locations.indices locations.frames.items };
 }
 
 impl<'a> LocationFrames<'a> {
@@ -213,11 +213,11 @@ impl<'a> LocationFrames<'a> {
         let draft = profile.draft();
         let functions = FunctionNames::new(alloc, hashing, draft)?;
         let ids = location_ids(alloc, draft.locations.as_slice())?;
-        let places = IdPlaces::new(alloc, hashing, ids)?;
+        let indices = IdIndex::new(alloc, hashing, ids)?;
         let frames = functions.all_frames(alloc, draft.locations.as_slice())?;
         Ok(LocationFrames {
             draft,
-            places,
+            indices,
             frames,
         })
     }
@@ -226,13 +226,13 @@ impl<'a> LocationFrames<'a> {
     fn frames_of(&self, id: u64) -> &[Name]
         ensures { result.now ≡ frames_of_id self.now id }
     {
-        match self.places.find(id) {
+        match self.indices.find(id) {
             Some(at) => self.frames_at(at),
             None => &[],
         }
     }
 
-    /// The frames of the location at a place, leaf first.
+    /// The frames of the location at an index, leaf first.
     fn frames_at(&self, at: usize) -> &[Name]
         ensures { result.now ≡ frames_at self.now (slice_get self.now.locations at) }
     {

@@ -18,10 +18,14 @@ returns-in_err-weights-clause-fault c =
     let p = err_from_is_err_and c.from_residual.result c.from_residual.ensures.1 in
     let (value, lt, below) = c.in_err-weights.ensures.fault in
     let count = c.total-totals.ensures.totals.width ∙ c.requires.width in
-    rw (p.1, p.2) (c.total-totals.result, c.total-totals.ensures.totals, IsSampleFault-below c.args.frames.now
-    c.args.chosen.now.first c.total-totals.result c.args.number c.args.sample.now value c.in_err-weights.field-0.0
-    (omega (arith, lt, count)) (subst (λ vs. IsValueFault (c.args.chosen.now.first + value) c.args.number vs
-    c.in_err-weights.field-0.0) c.as_slice.ensures below))
+    rw (p.1, p.2) (
+      c.total-totals.result,
+      c.total-totals.ensures.totals,
+      IsSampleFault-below c.args.frames.now
+          c.args.chosen.now.first c.total-totals.result c.args.number c.args.sample.now value c.in_err-weights.field-0.0
+          (omega (arith, lt, count)) (subst (λ vs. IsValueFault (c.args.chosen.now.first + value) c.args.number vs
+          c.in_err-weights.field-0.0) c.as_slice.ensures below),
+    )
 
 pub returns-in_err-check_depth-clause-fault : goal.returns-in_err-check_depth-clause-fault
 returns-in_err-check_depth-clause-fault c =
@@ -34,9 +38,13 @@ returns-in_err-check_depth-clause-fault c =
     c.in_ok-weights.ensures.weights in
     let deep = subst (λ ids. 65535 < length (sample_stack_of c.args.frames.now ids))
     c.as_slice-ids.ensures c.in_err-check_depth.ensures.fault.1 in
-    rw (p.1, p.2) (c.total-totals.result, c.total-totals.ensures.totals, IsSampleFault-deep c.args.frames.now
-    c.args.chosen.now.first c.total-totals.result c.args.number c.args.sample.now weights
-    c.in_err-check_depth.field-0.0 values c.in_err-check_depth.ensures.fault.0 deep)
+    rw (p.1, p.2) (
+      c.total-totals.result,
+      c.total-totals.ensures.totals,
+      IsSampleFault-deep c.args.frames.now
+          c.args.chosen.now.first c.total-totals.result c.args.number c.args.sample.now weights
+          c.in_err-check_depth.field-0.0 values c.in_err-check_depth.ensures.fault.0 deep,
+    )
 
 pub returns-in_err-check_room-clause-fault : goal.returns-in_err-check_room-clause-fault
 returns-in_err-check_room-clause-fault c =
@@ -48,10 +56,14 @@ returns-in_err-check_room-clause-fault c =
     c.in_ok-weights.ensures.weights in
     let deep = subst (λ ids. length (sample_stack_of c.args.frames.now ids) ≤ 65535)
     c.as_slice-ids.ensures c.in_ok-check_depth.ensures.depth in
-    rw (p.1, p.2) (c.total-totals.result, c.total-totals.ensures.totals, IsSampleFault-heavy c.args.frames.now
-    c.args.chosen.now.first c.total-totals.result c.args.number c.args.sample.now weights
-    c.in_err-check_room.field-0.0 (c.in_ok-weights.ensures.count ∙ sym count) values deep
-    c.in_err-check_room.ensures.fault)
+    rw (p.1, p.2) (
+      c.total-totals.result,
+      c.total-totals.ensures.totals,
+      IsSampleFault-heavy c.args.frames.now
+          c.args.chosen.now.first c.total-totals.result c.args.number c.args.sample.now weights
+          c.in_err-check_room.field-0.0 (c.in_ok-weights.ensures.count ∙ sym count) values deep
+          c.in_err-check_room.ensures.fault,
+    )
 
 pub returns-in_err-push_row-clause-fault : goal.returns-in_err-push_row-clause-fault
 returns-in_err-push_row-clause-fault c =
@@ -63,6 +75,10 @@ returns-in_err-push_row-clause-fault c =
     c.in_ok-weights.ensures.weights in
     let deep = subst (λ ids. length (sample_stack_of c.args.frames.now ids) ≤ 65535)
     c.as_slice-ids.ensures c.in_ok-check_depth.ensures.depth in
-    rw (p.1, p.2) (c.total-totals.result, c.total-totals.ensures.totals, IsSampleFault-memory c.args.frames.now
-    c.args.chosen.now.first c.total-totals.result c.args.number c.args.sample.now weights
-    (c.in_ok-weights.ensures.count ∙ sym count) values deep c.in_ok-check_room.ensures.room)
+    rw (p.1, p.2) (
+      c.total-totals.result,
+      c.total-totals.ensures.totals,
+      IsSampleFault-memory c.args.frames.now
+          c.args.chosen.now.first c.total-totals.result c.args.number c.args.sample.now weights
+          (c.in_ok-weights.ensures.count ∙ sym count) values deep c.in_ok-check_room.ensures.room,
+    )

@@ -47,9 +47,11 @@ returns-in_err-tallies-clause-read c =
     rw (p.1, p.2) (memory_first c.args.profile.now c.args.choice c.in_ok-chosen.chosen is)
 
 pub totals_by-requires-clause-chosen : goal.totals_by-requires-clause-chosen
-totals_by-requires-clause-chosen c =
-    (c.args.choice, subst (λ d. chosen_types_of d c.args.choice ≡ Some (c.in_ok-chosen.chosen, 1)) c.draft.ensures.draft
-    c.in_ok-chosen.ensures)
+totals_by-requires-clause-chosen c = (
+  c.args.choice,
+  subst (λ d. chosen_types_of d c.args.choice ≡ Some (c.in_ok-chosen.chosen, 1)) c.draft.ensures.draft
+      c.in_ok-chosen.ensures,
+)
 
 pub totals_by-requires-clause-each : goal.totals_by-requires-clause-each
 totals_by-requires-clause-each c =

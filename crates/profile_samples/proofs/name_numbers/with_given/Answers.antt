@@ -15,7 +15,7 @@ use Rattle.profile_samples.proofs.name_numbers.with_given.Goals.{in-Some+in_ok-t
 IsSoFar : List (List ℕ) → List (List ℕ) → List (Option (List ℕ)) → Type 0
 IsSoFar start table names = (table ≡ with_texts start (given names)) × All IsName (given names)
 
--- a name more, as a name in place of a string's
+-- a name more, as a name in index of a string's
 next_name : (names : List StringName) (name : StringName) (index : ℕ) (found : Option (List ℕ))
     → take (index + 1) names ≡ take index names ++ name ∷ [] → found ≡ name_in name
     → map name_in (take (index + 1) names) ≡ map name_in (take index names) ++ found ∷ []

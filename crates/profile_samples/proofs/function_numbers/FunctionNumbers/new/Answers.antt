@@ -10,7 +10,7 @@ use Rattle.profile_samples.proofs.function_numbers.FunctionNumbers.new.Goals as 
 
 pub invariant_of-result : goal.invariant_of-result
 invariant_of-result c =
-    let ids : c.in_ok-places.places ≡ function_ids c.args.draft.now = search rules in
+    let ids : c.in_ok-indices.indices ≡ function_ids c.args.draft.now = search rules in
     let made : c.in_ok-numbers.numbers.items ≡ map (number_by c.args.strings.now) c.args.draft.now.functions =
     search rules in
     record {

@@ -1,4 +1,4 @@
--- The table has every name, and numbers are places in it.
+-- The table has every name, and numbers are indices in it.
 use Rattle.std.proofs.Common.{rules, ◌≡◌, ◌<◌, ◌≤◌, ℕ, List, Option, [], All, ap, sym, ◌∙◌, length, map, subst}
 use Rattle.std.specs.Prelude.{false}
 use Rattle.std.specs.Option.{option_map}
@@ -82,7 +82,7 @@ invariant_of-result c =
     (c.in_ok-table.ensures.texts ∙ ap (λ t. with_texts t (given (map name_in c.as_slice.result.now))) c.new.ensures.texts
     ∙ ap (λ names. with_texts [] (given (map name_in names))) c.as_slice.ensures.value)
     (c.in_ok-table-2.ensures.texts ∙ ap (with_texts c.in_ok-table.table.texts) c.as_slice-2.ensures.value) in
-    let ids : c.in_ok-places.places ≡ location_ids draft = search rules in
+    let ids : c.in_ok-indices.indices ≡ location_ids draft = search rules in
     let valid : IsValidDraft draft = subst IsValidDraft (sym c.draft-draft.ensures.draft) c.draft-draft.ensures.valid in
     record {
       ids_are = ids;

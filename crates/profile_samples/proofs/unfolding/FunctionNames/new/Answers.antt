@@ -7,7 +7,7 @@ use Rattle.profile_samples.proofs.unfolding.FunctionNames.new.Goals as goal
 
 pub invariant_of-result : goal.invariant_of-result
 invariant_of-result c =
-    let ids : c.in_ok-places.places ≡ function_ids c.args.draft.now = search rules in
+    let ids : c.in_ok-indices.indices ≡ function_ids c.args.draft.now = search rules in
     record {
       ids_are = ids;
       single = subst

@@ -7,16 +7,16 @@ use Rattle.profile_samples.proofs.unfolding.LocationFrames.frames_of.Goals as go
 
 pub returns-in-Some : goal.returns-in-Some
 returns-in-Some c =
-    let this : AreLocationFrames c.args.self.now c.self.inside.places c.self.inside.frames.items = subst (λ draft.
-    AreLocationFrames draft c.self.inside.places c.self.inside.frames.items) c.self.view_is c.self.invariant in
-    let found = location_found c.args.self.now c.self.inside.places c.self.inside.frames.items c.args.id
+    let this : AreLocationFrames c.args.self.now c.self.inside.indices c.self.inside.frames.items = subst (λ draft.
+    AreLocationFrames draft c.self.inside.indices c.self.inside.frames.items) c.self.view_is c.self.invariant in
+    let found = location_found c.args.self.now c.self.inside.indices c.self.inside.frames.items c.args.id
     (Some c.in-Some.at) this c.in-Some.ensures in
     c.frames_at.ensures ∙ ap (frames_at c.args.self.now) (sym found)
 
 pub returns-in-None : goal.returns-in-None
 returns-in-None c =
-    let this : AreLocationFrames c.args.self.now c.self.inside.places c.self.inside.frames.items = subst (λ draft.
-    AreLocationFrames draft c.self.inside.places c.self.inside.frames.items) c.self.view_is c.self.invariant in
+    let this : AreLocationFrames c.args.self.now c.self.inside.indices c.self.inside.frames.items = subst (λ draft.
+    AreLocationFrames draft c.self.inside.indices c.self.inside.frames.items) c.self.view_is c.self.invariant in
     let found = location_found
-    c.args.self.now c.self.inside.places c.self.inside.frames.items c.args.id None this c.in-None.ensures in
+    c.args.self.now c.self.inside.indices c.self.inside.frames.items c.args.id None this c.in-None.ensures in
     ap (frames_at c.args.self.now) (sym found)

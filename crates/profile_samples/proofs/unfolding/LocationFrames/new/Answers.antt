@@ -7,7 +7,7 @@ use Rattle.profile_samples.proofs.unfolding.LocationFrames.new.Goals as goal
 
 pub invariant_of-result : goal.invariant_of-result
 invariant_of-result c =
-    let ids : c.in_ok-places.places ≡ location_ids c.draft-draft.result.now = search rules in
+    let ids : c.in_ok-indices.indices ≡ location_ids c.draft-draft.result.now = search rules in
     let valid : IsValidDraft c.draft-draft.result.now =
     subst IsValidDraft (sym c.draft-draft.ensures.draft) c.draft-draft.ensures.valid in
     record {

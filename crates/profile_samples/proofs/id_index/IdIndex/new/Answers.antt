@@ -1,10 +1,10 @@
--- Each id gets its place.
+-- Each id gets its index.
 use Rattle.std.proofs.Common.{◌≡◌, ◌<◌, ◌≤◌, ◌∙◌, Some, ap, arith, length, slice_index_or, subst, sym}
 use Rattle.std.specs.Prelude.{slice_get}
 use Rattle.std.proofs.lemmas.Option.{slice_get-get_or}
-use Rattle.profile_samples.specs.IdPlaces.{AreIdPlaces, place_found}
-use Rattle.profile_samples.proofs.IdPlaces.{places_all, places_more}
-use Rattle.profile_samples.proofs.id_places.IdPlaces.new.Goals as goal
+use Rattle.profile_samples.specs.IdIndex.{AreIdIndices, index_found}
+use Rattle.profile_samples.proofs.IdIndex.{indices_all, indices_more}
+use Rattle.profile_samples.proofs.id_index.IdIndex.new.Goals as goal
 
 pub loop-at-preserved : goal.loop-at-preserved
 loop-at-preserved c =
@@ -15,14 +15,14 @@ loop-at-preserved c =
     let same : id ≡ slice_index_or ids c.loop-at.at 0 =
     ap (λ items. slice_index_or items c.loop-at.at 0) c.deref-id-items.ensures.value in
     let stands : slice_get ids c.loop-at.at ≡ Some id = slice_get-get_or ids c.loop-at.at 0 lt ∙ ap Some (sym same) in
-    places_more ids (place_found c.loop-at.places)
-    (place_found c.put.new.self) c.loop-at.at id stands c.in_ok-put.ensures c.loop-at.invariant
+    indices_more ids (index_found c.loop-at.indices)
+    (index_found c.put.new.self) c.loop-at.at id stands c.in_ok-put.ensures c.loop-at.invariant
 
 pub invariant_of-result : goal.invariant_of-result
 invariant_of-result c =
     let all : length c.args.ids.items ≤ c.loop-at.at =
     (let past =
     c.loop-at-test.false in let count = ap length c.deref-id-items.ensures.value in omega (arith, past, count)) in
-    let places : AreIdPlaces c.args.ids.items (place_found c.loop-at.places) =
-    places_all c.args.ids.items (place_found c.loop-at.places) c.loop-at.at all c.loop-at.invariant in
-    subst (λ ids. AreIdPlaces ids (place_found c.loop-at.places)) (ap (λ ids. ids.items) (sym c.of.ensures)) places
+    let indices : AreIdIndices c.args.ids.items (index_found c.loop-at.indices) =
+    indices_all c.args.ids.items (index_found c.loop-at.indices) c.loop-at.at all c.loop-at.invariant in
+    subst (λ ids. AreIdIndices ids (index_found c.loop-at.indices)) (ap (λ ids. ids.items) (sym c.of.ensures)) indices

@@ -4,46 +4,46 @@ use Rattle.std.proofs.Common.{sym, inl, inr, arith}
 use Rattle.std.specs.Prelude.{MatchOption, slice_get, unwrap_or}
 use Rattle.std.proofs.lemmas.Bool.{cases_eq, eq-eqb, ne_eqb}
 use Rattle.std.proofs.lemmas.Option.{slice_get_within}
-use Rattle.profile_samples.specs.IdPlaces.{AreIdPlaces}
+use Rattle.profile_samples.specs.IdIndex.{AreIdIndices}
 
 -- what is found among the first ids, so many
-abbrev pub ArePlacesOfFirst : List ℕ → (ℕ → Option ℕ) → ℕ → Type 0
-ArePlacesOfFirst ids find count =
+abbrev pub AreIndicesOfFirst : List ℕ → (ℕ → Option ℕ) → ℕ → Type 0
+AreIndicesOfFirst ids find count =
     (id : ℕ)
     → MatchOption (find id) ((at : ℕ) → at < count → slice_get ids at ≢ Some id) (λ at. slice_get ids at ≡ Some id)
 
--- the place of the next id
-pub places_more : (ids : List ℕ) (before after : ℕ → Option ℕ) (at id : ℕ) → slice_get ids at ≡ Some id
+-- the index of the next id
+pub indices_more : (ids : List ℕ) (before after : ℕ → Option ℕ) (at id : ℕ) → slice_get ids at ≡ Some id
     → ((other : ℕ) → after other ≡ cond (eqb id other) (Some at) (before other))
-    → ArePlacesOfFirst ids before at → ArePlacesOfFirst ids after (at + 1)
-places_more ids before after at id stands put places other = elim (cases_eq id other) [
+    → AreIndicesOfFirst ids before at → AreIndicesOfFirst ids after (at + 1)
+indices_more ids before after at id stands put indices other = elim (cases_eq id other) [
   | inl same ↦ subst
       (λ o. MatchOption o ((k : ℕ) → k < at + 1 → slice_get ids k ≢ Some other) (λ k. slice_get ids k ≡ Some other))
       (sym (put other ∙ ap (λ b. cond b (Some at) (before other)) (eq-eqb id other same))) (stands ∙ ap Some same)
   | inr ne ↦ subst
       (λ o. MatchOption o ((k : ℕ) → k < at + 1 → slice_get ids k ≢ Some other) (λ k. slice_get ids k ≡ Some other))
       (sym (put other ∙ ap (λ b. cond b (Some at) (before other)) (ne_eqb id other ne)))
-      (further (before other) (places other) ne)
+      (further (before other) (indices other) ne)
 ]
   where
     further : (found : Option ℕ)
         → MatchOption found ((k : ℕ) → k < at → slice_get ids k ≢ Some other) (λ k. slice_get ids k ≡ Some other)
         → id ≢ other → MatchOption found
         ((k : ℕ) → k < at + 1 → slice_get ids k ≢ Some other) (λ k. slice_get ids k ≡ Some other)
-    further (Some place) there ne = there
+    further (Some index) there ne = there
     further None nowhere ne = λ k lt there. elim (cases_eq k at) [
       | inl e ↦ ne (ap (λ o. unwrap_or o id) (sym stands ∙ ap (slice_get ids) (sym e) ∙ there))
       | inr other_number ↦ nowhere k (omega (arith, lt, other_number)) there
     ]
 
--- the places of all ids
-pub places_all : (ids : List ℕ) (find : ℕ → Option ℕ) (count : ℕ)
-    → length ids ≤ count → ArePlacesOfFirst ids find count → AreIdPlaces ids find
-places_all ids find count all places id = whole (find id) (places id)
+-- the indices of all ids
+pub indices_all : (ids : List ℕ) (find : ℕ → Option ℕ) (count : ℕ)
+    → length ids ≤ count → AreIndicesOfFirst ids find count → AreIdIndices ids find
+indices_all ids find count all indices id = whole (find id) (indices id)
   where
     whole : (found : Option ℕ)
         → MatchOption found ((k : ℕ) → k < count → slice_get ids k ≢ Some id) (λ k. slice_get ids k ≡ Some id)
         → MatchOption found ((k : ℕ) → slice_get ids k ≢ Some id) (λ k. slice_get ids k ≡ Some id)
-    whole (Some place) there = there
+    whole (Some index) there = there
     whole None nowhere =
         λ k there. (let lt = slice_get_within ids k id there in nowhere k (omega (arith, lt, all)) there)

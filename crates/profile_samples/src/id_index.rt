@@ -1,7 +1,7 @@
 //! Where ids stand among the ids of items.
 
 ghost use Rattle.std.specs.Prelude.{ℕ, ◌≡◌, ◌≢◌, ◌<◌, ◌-◌, ◌^◌, ◌==◌, IfOk, MatchOption, None, OnOk, Some, cond, slice_get};
-ghost use Rattle.profile_samples.specs.IdPlaces.{place_found, place_near};
+ghost use Rattle.profile_samples.specs.IdIndex.{index_found, index_near};
 
 use basics::NoMemory;
 use pprof_profile::IdRange;
@@ -11,62 +11,62 @@ use std::collections::HashMap;
 use std::marker::Model;
 use std::snapshot::Snapshot;
 
-/// A place for each of some ids, by a table for those that lie close together.
+/// An index for each of some ids, by a table for those that lie close together.
 #[derive(Drop)]
-pub(crate) struct PlaceTable {
+pub(crate) struct IndexTable {
     /// The number that the table begins with.
     lowest: u64,
-    /// For each number from there on one more than its place, or 0 where it has none here.
+    /// For each number from there on one more than its index, or 0 where it has none here.
     near: Vec<usize>,
-    /// The places of other ids.
+    /// The indices of other ids.
     far: HashMap<u64, usize, Hashing>,
 }
 
-impl PlaceTable {
-    /// No places yet, with a table for ids of the range.
+impl IndexTable {
+    /// No indices yet, with a table for ids of the range.
     fn new(
         alloc: Global,
         hashing: Hashing,
         range: IdRange,
         count: usize,
-    ) -> Result<PlaceTable, NoMemory>
-        ensures { IfOk result (λ places. (id : ℕ) → place_found places id ≡ None) }
+    ) -> Result<IndexTable, NoMemory>
+        ensures { IfOk result (λ indices. (id : ℕ) → index_found indices id ≡ None) }
     {
-        Ok(PlaceTable {
+        Ok(IndexTable {
             lowest: range.lowest,
             near: vec![in alloc; 0; range.table_len(count)]?,
             far: HashMap::with_hasher(alloc, hashing),
         })
     }
 
-    /// The place of an id.
+    /// The index of an id.
     fn find(&self, id: u64) -> Option<usize>
-        ensures { result ≡ place_found self.now id }
+        ensures { result ≡ index_found self.now id }
     {
         match self.find_near(id) {
-            Some(place) => Some(place),
+            Some(index) => Some(index),
             None => self.far.get(&id).copied(),
         }
     }
 
-    /// The place that the table has for an id.
+    /// The index that the table has for an id.
     fn find_near(&self, id: u64) -> Option<usize>
-        ensures { result ≡ place_near self.now id }
+        ensures { result ≡ index_near self.now id }
     {
         let at = id.checked_sub(self.lowest)?;
         self.near.get(at as usize)?.checked_sub(1)
     }
 
-    /// Gives an id its place.
-    fn put(&mut self, id: u64, place: usize) -> Result<(), NoMemory>
-        requires { place < 2 ^ 64 - 1 }
+    /// Gives an id its index.
+    fn put(&mut self, id: u64, index: usize) -> Result<(), NoMemory>
+        requires { index < 2 ^ 64 - 1 }
         ensures { OnOk result ((other : ℕ)
-            → place_found self.new other ≡ cond (id == other) (Some place) (place_found self.old other)) }
+            → index_found self.new other ≡ cond (id == other) (Some index) (index_found self.old other)) }
     {
         match id.checked_sub(self.lowest) {
-            Some(at) if (at as usize) < self.near.len() => self.near[at as usize] = place + 1,
+            Some(at) if (at as usize) < self.near.len() => self.near[at as usize] = index + 1,
             _ => {
-                self.far.insert(id, place)?;
+                self.far.insert(id, index)?;
             }
         }
         Ok(())
@@ -75,48 +75,48 @@ impl PlaceTable {
 
 /// Where each id stands among the ids of items. A contract sees the ids.
 #[derive(Drop)]
-pub(crate) struct IdPlaces {
+pub(crate) struct IdIndex {
     ids: Snapshot<Vec<u64>>,
-    places: PlaceTable,
+    indices: IndexTable,
 }
 
-impl Model for IdPlaces {
+impl Model for IdIndex {
     ghost use Rattle.std.specs.Prelude.{List, ℕ};
-    ghost use Rattle.profile_samples.specs.IdPlaces.{AreIdPlaces, place_found};
+    ghost use Rattle.profile_samples.specs.IdIndex.{AreIdIndices, index_found};
 
     ghost Value = { List ℕ };
 
-    ghost view = { λ places. places.ids.value.items };
+    ghost view = { λ indices. indices.ids.value.items };
 
-    ghost invariant = { λ places. AreIdPlaces places.ids.value.items (place_found places.places) };
+    ghost invariant = { λ indices. AreIdIndices indices.ids.value.items (index_found indices.indices) };
 }
 
-impl IdPlaces {
-    /// The places of these ids, and `hashing` says how they are hashed.
+impl IdIndex {
+    /// The indices of these ids, and `hashing` says how they are hashed.
     ///
     /// # Errors
     ///
     /// `NoMemory`.
-    pub fn new(alloc: Global, hashing: Hashing, ids: Vec<u64>) -> Result<IdPlaces, NoMemory>
-        ensures { IfOk result (λ places. places ≡ ids.items) }
+    pub fn new(alloc: Global, hashing: Hashing, ids: Vec<u64>) -> Result<IdIndex, NoMemory>
+        ensures { IfOk result (λ indices. indices ≡ ids.items) }
     {
         let range = range_of(ids.as_slice());
-        let mut places = PlaceTable::new(alloc, hashing, range, ids.len())?;
+        let mut indices = IndexTable::new(alloc, hashing, range, ids.len())?;
         for (at, id) in ids.iter().enumerate() {
-            places.put(*id, at)?;
+            indices.put(*id, at)?;
         }
-        Ok(IdPlaces {
+        Ok(IdIndex {
             ids: Snapshot::of(&ids),
-            places,
+            indices,
         })
     }
 
-    /// A place at which the id stands.
+    /// An index at which the id stands.
     pub fn find(&self, id: u64) -> Option<usize>
         ensures { MatchOption result ((at : ℕ) → slice_get self.now at ≢ Some id)
             (λ at. slice_get self.now at ≡ Some id) }
     {
-        self.places.find(id)
+        self.indices.find(id)
     }
 }
 

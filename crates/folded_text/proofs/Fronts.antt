@@ -1,10 +1,11 @@
 -- The first bytes of two texts as numbers are in the order of the texts.
-use Rattle.std.proofs.Common.{◌≡◌, ◌≢◌, ℕ, ◌+◌, ◌*◌, ◌<◌, List, [], ◌∷◌, length, refl, sym, ap, ◌∙◌, subst, arith}
+use Rattle.std.proofs.Common.{◌≡◌, ◌≢◌, ℕ, ◌+◌, ◌*◌, ◌<◌, false, List, [], ◌∷◌, length, drop, get_or, refl, sym, ap, ◌∙◌}
+use Rattle.std.proofs.Common.{subst, arith}
 use Prim.Native.Nat.{zero, suc}
 use Rattle.std.specs.declared.cmp.Ordering.{Ordering}
 use Rattle.std.specs.declared.cmp.Ordering.TheVariants.{Less, Equal, Greater}
-use Rattle.std.specs.Ordering.{MatchOrdering, nat_cmp, ordering_reverse, ordering_then}
-use Rattle.std.specs.Cmp.{ranks}
+use Rattle.std.specs.Ordering.{MatchOrdering, is_ne, nat_cmp, ordering_reverse, ordering_then}
+use Rattle.std.specs.Cmp.{nat_cmp_is, ranks}
 use Rattle.folded_text.specs.StackOrder.{AreDigits, digits_of, front_of, number_of, place_of, stack_text_cmp}
 use Rattle.folded_text.proofs.StackOrder.{stack_text_cmp_total}
 
@@ -69,3 +70,60 @@ fronts_decide text other are also apart =
     decide Equal is ranked = absurd (apart is)
     decide Greater is ranked = is ∙ sym
         (stack_text_cmp_total.antisymm text other ∙ ap ordering_reverse (lower_text 7 0 other text also are ranked))
+
+-- numbers that are the same have the same digits
+same_digits : (high : ℕ) (digits others : List ℕ) → length digits ≡ length others → AreDigits digits → AreDigits others
+    → number_of high digits ≡ number_of high others → digits ≡ others
+same_digits high [] [] same are also is = refl
+same_digits high [] (o ∷ others) same are also is = absurd (omega (arith, same))
+same_digits high (d ∷ digits) [] same are also is = absurd (omega (arith, same))
+same_digits high (d ∷ digits) (o ∷ others) same are also is = by_first
+    (λ first. same_digits (high * 512 + o) digits others (omega (arith, same)) are.1 also.1
+    (ap (λ digit. number_of (high * 512 + digit) digits) (sym first) ∙ is))
+    (nat_cmp d o) (ranks d o)
+  where
+    long : length digits ≡ length others
+    long = omega (arith, same)
+
+    by_first : (d ≡ o → digits ≡ others) → (found : Ordering) → MatchOrdering found (d < o) (d ≡ o) (o < d)
+        → d ∷ digits ≡ o ∷ others
+    by_first rest Less ranked =
+        let below = lower (high * 512 + d) (high * 512 + o) digits others long are.1 also.1 (omega (arith, ranked)) in
+        absurd (omega (arith, below, is))
+    by_first rest Equal ranked = ap (λ digit. digit ∷ digits) ranked ∙ ap (λ more. o ∷ more) (rest ranked)
+    by_first rest Greater ranked =
+        let below = lower (high * 512 + o) (high * 512 + d) others digits (sym long) also.1 are.1
+        (omega (arith, ranked)) in
+        absurd (omega (arith, below, is))
+
+-- texts whose first bytes stand at the same places compare as what is behind these
+past_digits : (count : ℕ) (text other : List ℕ) → digits_of count text ≡ digits_of count other
+    → stack_text_cmp text other ≡ stack_text_cmp (drop count text) (drop count other)
+past_digits zero text other same = refl
+past_digits (suc count) [] [] same = refl
+past_digits (suc count) [] (b ∷ other) same = let first = ap (λ digits. get_or digits 0 0) same in
+    absurd (omega (arith, first))
+past_digits (suc count) (a ∷ text) [] same = let first = ap (λ digits. get_or digits 0 0) same in
+    absurd (omega (arith, first))
+past_digits (suc count) (a ∷ text) (b ∷ other) same =
+    let first = ap (λ digits. get_or digits 0 0) same in
+    let places : place_of a ≡ place_of b = omega (arith, first) in
+    ap (λ o. ordering_then o (stack_text_cmp text other))
+    (sym (nat_cmp_is (place_of a) (place_of b) Equal places))
+    ∙ past_digits count text other (ap (drop 1) same)
+
+-- texts of one front compare as what is behind it
+pub past_fronts : (text other : List ℕ) → AreDigits (digits_of 7 text) → AreDigits (digits_of 7 other)
+    → front_of text ≡ front_of other → stack_text_cmp text other ≡ stack_text_cmp (drop 7 text) (drop 7 other)
+past_fronts text other are also same = past_digits 7 text other
+    (same_digits 0 (digits_of 7 text) (digits_of 7 other) (as_long 7 text other) are also same)
+
+-- numbers of which none is lower are the same
+pub same_front : (front other : ℕ) → is_ne (nat_cmp front other) ≡ false → front ≡ other
+same_front front other even = by_order (nat_cmp front other) even (ranks front other)
+  where
+    by_order : (o : Ordering) → is_ne o ≡ false → MatchOrdering o (front < other) (front ≡ other) (other < front)
+        → front ≡ other
+    by_order Less e ranked = cc
+    by_order Equal e ranked = ranked
+    by_order Greater e ranked = cc

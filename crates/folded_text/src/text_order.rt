@@ -1,6 +1,6 @@
 //! Stack texts in the order of their stacks.
 
-ghost use Rattle.std.specs.Prelude.{◌≡◌, ◌≤◌};
+ghost use Rattle.std.specs.Prelude.{◌≡◌, ◌<◌, ◌≤◌};
 ghost use Rattle.folded_text.specs.StackOrder.{place_of, stack_text_cmp};
 
 use std::cmp::Ordering;
@@ -13,13 +13,15 @@ pub(crate) fn byte_place(byte: u8) -> u16
     if byte == b';' { 0 } else { byte as u16 + 1 }
 }
 
-/// What is left of two texts past the chunks with which both begin.
-fn past_equal_chunks<'a>(left: &'a [u8], right: &'a [u8]) -> (&'a [u8], &'a [u8])
+/// What is left of two texts past the chunks of so many bytes with which both begin.
+fn past_equal_chunks<'a, const SIZE: usize>(left: &'a [u8], right: &'a [u8]) -> (&'a [u8], &'a [u8])
+    requires some { 0 < SIZE }
+    requires few { SIZE ≤ 32 }
     ensures { stack_text_cmp result.0.now result.1.now ≡ stack_text_cmp left.now right.now }
 {
     let (mut rest, mut others) = (left, right);
-    while let Some((chunk, behind)) = rest.split_first_chunk::<32>() {
-        let Some((other, other_behind)) = others.split_first_chunk::<32>() else {
+    while let Some((chunk, behind)) = rest.split_first_chunk::<SIZE>() {
+        let Some((other, other_behind)) = others.split_first_chunk::<SIZE>() else {
             return (rest, others);
         };
         if *chunk != *other {
@@ -56,9 +58,10 @@ fn cmp_bytes(left: &[u8], right: &[u8]) -> Ordering
 
 /// Compares stack texts byte by byte, the semicolon lowest. Those without empty frames are then in the order of their
 /// stacks.
-pub(crate) fn cmp_stack_texts(left: &str, right: &str) -> Ordering
+pub(crate) fn cmp_stack_texts(left: &[u8], right: &[u8]) -> Ordering
     ensures { result ≡ stack_text_cmp left.now right.now }
 {
-    let (left, right) = past_equal_chunks(left.as_bytes(), right.as_bytes());
+    let (left, right) = past_equal_chunks::<32>(left, right);
+    let (left, right) = past_equal_chunks::<8>(left, right);
     cmp_bytes(left, right)
 }

@@ -1,6 +1,6 @@
 //! A row by the text of its stack.
 
-ghost use Rattle.std.specs.Prelude.{ℕ, ◌≡◌, ◌+◌, ◌<◌, ◌^◌, ◌∷◌};
+ghost use Rattle.std.specs.Prelude.{ℕ, ◌≡◌, ◌+◌, ◌<◌, ◌^◌, ◌∷◌, drop};
 ghost use Rattle.folded_text.specs.StackOrder.{AreDigits, digits_of, front_of};
 ghost use Rattle.folded_text.specs.TextRows.{by_text};
 
@@ -68,8 +68,16 @@ impl<'a> TextRow<'a> {
         if fronts.is_ne() {
             return fronts;
         }
-        cmp_stack_texts(self.text, other.text)
+        cmp_stack_texts(behind_front(self.text), behind_front(other.text))
     }
+}
+
+/// What is behind the first seven bytes of a text.
+fn behind_front(text: &str) -> &[u8]
+    ensures { result.now ≡ drop 7 text.now }
+{
+    let bytes = text.as_bytes();
+    &bytes[bytes.len().min(7)..]
 }
 
 /// Where the first byte of a text stands, the end before each byte, and what follows it.

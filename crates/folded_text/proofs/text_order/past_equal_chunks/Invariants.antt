@@ -4,7 +4,7 @@ use Rattle.folded_text.proofs.text_order.past_equal_chunks.Given as goal
 
 -- what is left compares as the whole texts do
 abbrev pub invariant-loop-chunk : goal.invariant-loop-chunk
-invariant-loop-chunk l = stack_text_cmp l.rest l.others ≡ stack_text_cmp l.left l.right
+invariant-loop-chunk g l = stack_text_cmp l.rest l.others ≡ stack_text_cmp l.left l.right
 
 abbrev pub decreases-loop-chunk : goal.decreases-loop-chunk
-decreases-loop-chunk l = length l.rest
+decreases-loop-chunk g l = length l.rest

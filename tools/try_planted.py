@@ -73,16 +73,23 @@ def function_at(text, place):
     return kind[0].upper() + kind[1:] + trait, name
 
 
-def is_in(path, file, function):
-    """Whether what a check names by this path is the function of the file, or stands in it."""
+def stands_in(parts, module, function):
+    """Whether the parts of a path name the function of this module, or what stands in it."""
     kind, name = function
-    parts = [it for it in path.split("::") if it != "fn"]
-    module = [] if file == "src/lib.rt" else file.removeprefix("src/").removesuffix(".rt").split("/")
     inside = parts[len(module) :]
     if parts[: len(module)] != module or not inside:
         return False
     # (behind the trait's name may stand what it is of, as in `FromAllocError`)
     return inside[0] == name if not kind else inside[0].startswith(kind) and inside[1:2] == [name]
+
+
+def is_in(path, file, function):
+    """Whether what a check names by this path is the function of the file, or stands in it. An `impl` may stand in a
+    child module of its type's, and the check names its functions by the type."""
+    parts = [it for it in path.split("::") if it != "fn"]
+    module = [] if file == "src/lib.rt" else file.removeprefix("src/").removesuffix(".rt").split("/")
+    homes = [module[:depth] for depth in range(len(module) + 1)] if function[0] else [module]
+    return any(stands_in(parts, home, function) for home in homes)
 
 
 def unproved(output):

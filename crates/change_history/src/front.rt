@@ -102,9 +102,11 @@ impl<N: StoreName> Front<N> {
     }
 
     /// Adds the change that a book is ready for to the history, and says whether it did: the list is then all of the
-    /// history, this change the last. It did not where the history is longer, and the list is then the longer one.
+    /// history, this change the last. It did not where the history is longer, and the list is then the longer one. The
+    /// book has this list.
     pub fn add(&mut self, head: &Head<N>, ready: &Ready) -> bool
         requires room { length self.old < 2 ^ 62 }
+        requires book { ready.now.before.entries ≡ self.old }
         ensures { MatchBool result (self.new ≡ self.old ++ entry_made ready.now ∷ [])
             (IsPrefix self.old self.new × (length self.old < length self.new)) }
     {

@@ -6,7 +6,7 @@ use Rattle.std.specs.declared.cmp.Ordering.{Ordering}
 use Rattle.std.specs.declared.cmp.Ordering.TheVariants.{Less, Equal, Greater}
 use Rattle.std.specs.Ordering.{MatchOrdering, is_ne, nat_cmp, ordering_reverse, ordering_then}
 use Rattle.std.specs.Cmp.{nat_cmp_is, ranks}
-use Rattle.folded_text.specs.StackOrder.{AreDigits, digits_of, front_of, number_of, place_of, stack_text_cmp}
+use Rattle.folded_text.specs.StackOrder.{AreDigits, digits_of, front_of, number_of, rank_of, stack_text_cmp}
 use Rattle.folded_text.proofs.StackOrder.{stack_text_cmp_total}
 
 -- numbers that begin lower are lower
@@ -35,24 +35,24 @@ lower_text zero high text other are also below = absurd (omega (arith, below))
 lower_text (suc count) high [] [] are also below = absurd (omega (arith, below))
 lower_text (suc count) high [] (b ∷ other) are also below = refl
 lower_text (suc count) high (a ∷ text) [] are also below =
-    let above = lower (high * 512 + 0) (high * 512 + (place_of a + 1))
+    let above = lower (high * 512 + 0) (high * 512 + (rank_of a + 1))
     (digits_of count []) (digits_of count text) (as_long count [] text) also.1 are.1 (omega arith) in
     absurd (omega (arith, below, above))
 lower_text (suc count) high (a ∷ text) (b ∷ other) are also below =
-    by_place (lower_text count (high * 512 + (place_of b + 1)) text other are.1 also.1)
-    (nat_cmp (place_of a) (place_of b)) refl (ranks (place_of a) (place_of b))
+    by_rank (lower_text count (high * 512 + (rank_of b + 1)) text other are.1 also.1)
+    (nat_cmp (rank_of a) (rank_of b)) refl (ranks (rank_of a) (rank_of b))
   where
-    by_place : (number_of (high * 512 + (place_of b + 1)) (digits_of count text) < number_of
-        (high * 512 + (place_of b + 1)) (digits_of count other) → stack_text_cmp text other ≡ Less)
-        → (o : Ordering) → nat_cmp (place_of a) (place_of b) ≡ o → MatchOrdering o (place_of a < place_of b)
-        (place_of a ≡ place_of b) (place_of b < place_of a) → stack_text_cmp (a ∷ text) (b ∷ other) ≡ Less
-    by_place rest Less is ranked = ap (λ o. ordering_then o (stack_text_cmp text other)) is
-    by_place rest Equal is ranked =
+    by_rank : (number_of (high * 512 + (rank_of b + 1)) (digits_of count text) < number_of
+        (high * 512 + (rank_of b + 1)) (digits_of count other) → stack_text_cmp text other ≡ Less)
+        → (o : Ordering) → nat_cmp (rank_of a) (rank_of b) ≡ o → MatchOrdering o (rank_of a < rank_of b)
+        (rank_of a ≡ rank_of b) (rank_of b < rank_of a) → stack_text_cmp (a ∷ text) (b ∷ other) ≡ Less
+    by_rank rest Less is ranked = ap (λ o. ordering_then o (stack_text_cmp text other)) is
+    by_rank rest Equal is ranked =
         ap (λ o. ordering_then o (stack_text_cmp text other)) is
-        ∙ rest (subst (λ place. number_of (high * 512 + (place + 1))
-        (digits_of count text) < number_of (high * 512 + (place_of b + 1)) (digits_of count other)) ranked below)
-    by_place rest Greater is ranked =
-        let above = lower (high * 512 + (place_of b + 1)) (high * 512 + (place_of a + 1)) (digits_of count other)
+        ∙ rest (subst (λ rank. number_of (high * 512 + (rank + 1))
+        (digits_of count text) < number_of (high * 512 + (rank_of b + 1)) (digits_of count other)) ranked below)
+    by_rank rest Greater is ranked =
+        let above = lower (high * 512 + (rank_of b + 1)) (high * 512 + (rank_of a + 1)) (digits_of count other)
         (digits_of count text) (as_long count other text) also.1 are.1 (omega (arith, ranked)) in
         absurd (omega (arith, below, above))
 
@@ -96,7 +96,7 @@ same_digits high (d ∷ digits) (o ∷ others) same are also is = by_first
         (omega (arith, ranked)) in
         absurd (omega (arith, below, is))
 
--- texts whose first bytes stand at the same places compare as what is behind these
+-- texts whose first bytes rank the same compare as what is behind these
 past_digits : (count : ℕ) (text other : List ℕ) → digits_of count text ≡ digits_of count other
     → stack_text_cmp text other ≡ stack_text_cmp (drop count text) (drop count other)
 past_digits zero text other same = refl
@@ -107,9 +107,9 @@ past_digits (suc count) (a ∷ text) [] same = let first = ap (λ digits. get_or
     absurd (omega (arith, first))
 past_digits (suc count) (a ∷ text) (b ∷ other) same =
     let first = ap (λ digits. get_or digits 0 0) same in
-    let places : place_of a ≡ place_of b = omega (arith, first) in
+    let same_rank : rank_of a ≡ rank_of b = omega (arith, first) in
     ap (λ o. ordering_then o (stack_text_cmp text other))
-    (sym (nat_cmp_is (place_of a) (place_of b) Equal places))
+    (sym (nat_cmp_is (rank_of a) (rank_of b) Equal same_rank))
     ∙ past_digits count text other (ap (drop 1) same)
 
 -- texts of one front compare as what is behind it

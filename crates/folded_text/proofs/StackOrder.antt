@@ -13,7 +13,7 @@ use Rattle.std.proofs.lemmas.List.{append-nil, take-append-drop}
 use borrow.Author.Tests.{eqb-false, ne_eqb}
 use Rattle.profile_rows.specs.Rows.{stack_cmp}
 use Rattle.folded_text.specs.FoldedText.{frames_of}
-use Rattle.folded_text.specs.StackOrder.{IsJoined, place_of, stack_text_cmp, text_byte_cmp}
+use Rattle.folded_text.specs.StackOrder.{IsJoined, rank_of, stack_text_cmp, text_byte_cmp}
 use Rattle.folded_text.proofs.Pieces.{pieces}
 
 -- what follows a frame: nothing, or a semicolon and the frames behind it
@@ -30,7 +30,7 @@ Plain frame = AllByRecursion (λ byte. byte ≢ 59) frame
 
 -- ---- bytes
 
-behind : (byte : ℕ) → byte ≢ 59 → place_of byte ≡ byte + 1
+behind : (byte : ℕ) → byte ≢ 59 → rank_of byte ≡ byte + 1
 behind byte other = ap (λ b. cond b 0 (byte + 1)) (ne_eqb byte 59 other)
 
 ends_lower : (byte : ℕ) → byte ≢ 59 → text_byte_cmp 59 byte ≡ Less
@@ -48,7 +48,7 @@ next Greater a b h = omega (arith, h)
 
 goes_on : (a b : ℕ) → a ≢ 59 → b ≢ 59 → text_byte_cmp a b ≡ nat_cmp a b
 goes_on a b first second =
-    ap (λ n. nat_cmp n (place_of b)) (behind a first) ∙ ap (nat_cmp (a + 1)) (behind b second)
+    ap (λ n. nat_cmp n (rank_of b)) (behind a first) ∙ ap (nat_cmp (a + 1)) (behind b second)
     ∙ sym (nat_cmp_is (a + 1) (b + 1) (nat_cmp a b) (next (nat_cmp a b) a b (ranks a b)))
 
 -- ---- frames
@@ -143,12 +143,12 @@ joined_texts-cmp text other joined also =
     ∙ joined-cmp (frames_of text) (frames_of other) (frames_of-Frame text) (frames_of-Frame other)
 
 pub stack_text_cmp_total : IsTotalOrder stack_text_cmp
-stack_text_cmp_total = lists_total (on_total place_of nat_cmp_total)
+stack_text_cmp_total = lists_total (on_total rank_of nat_cmp_total)
 
 -- ---- what two texts begin with
 
 one_byte : (byte : ℕ) → text_byte_cmp byte byte ≡ Equal
-one_byte byte = sym (nat_cmp_is (place_of byte) (place_of byte) Equal refl)
+one_byte byte = sym (nat_cmp_is (rank_of byte) (rank_of byte) Equal refl)
 
 after_front : (front text other : List ℕ) → stack_text_cmp (front ++ text) (front ++ other) ≡ stack_text_cmp text other
 after_front [] text other = refl

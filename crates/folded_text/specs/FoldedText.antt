@@ -75,8 +75,8 @@ IsFittingFault earlier number text weight (Heavy at) = (at ≡ number) × (lengt
     × (2 ^ 63 ≤ earlier + weight)
 IsFittingFault earlier number text weight NoMemory = ⊥
 
--- Why a line, which isn't empty, adds no row to rows of the weight `earlier`. Each case says that the ones before it don't
--- stand, and memory runs out only at a line without a fault: one that spells a row which can follow.
+-- Why a line, which isn't empty, adds no row to rows of the weight `earlier`. Each case says that the ones before it
+-- don't stand, and memory runs out only at a line without a fault: one that spells a row which can follow.
 abbrev pub IsLineFault : ℕ → ℕ → List ℕ → FoldedFault → Type 0
 IsLineFault earlier number line (NotUtf8 at) = (at ≡ number) × ¬ IsUtf8 line
 IsLineFault earlier number line (NoCount at) = (at ≡ number) × IsUtf8 line

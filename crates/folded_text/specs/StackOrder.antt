@@ -12,11 +12,11 @@ abbrev pub IsJoined : List ℕ → Type 0
 IsJoined text = text ≡ join_with_byte 59 (frames_of text)
 
 -- where a byte of a stack text stands: the semicolon, at which a name ends, before each byte that goes on with it
-abbrev pub place_of : ℕ → ℕ
-place_of byte = if byte == 59 then 0 else byte + 1
+abbrev pub rank_of : ℕ → ℕ
+rank_of byte = if byte == 59 then 0 else byte + 1
 
 abbrev pub text_byte_cmp : ℕ → ℕ → Ordering
-text_byte_cmp byte other = nat_cmp (place_of byte) (place_of other)
+text_byte_cmp byte other = nat_cmp (rank_of byte) (rank_of other)
 
 -- Stack texts by their bytes, the semicolon lowest. Those without empty frames are then in the order of their stacks.
 abbrev pub stack_text_cmp : List ℕ → List ℕ → Ordering
@@ -26,7 +26,7 @@ stack_text_cmp = slice_cmp text_byte_cmp
 abbrev pub digits_of : ℕ → List ℕ → List ℕ
 digits_of zero text = []
 digits_of (suc count) [] = 0 ∷ digits_of count []
-digits_of (suc count) (byte ∷ text) = (place_of byte + 1) ∷ digits_of count text
+digits_of (suc count) (byte ∷ text) = (rank_of byte + 1) ∷ digits_of count text
 
 abbrev pub AreDigits : List ℕ → Type 0
 AreDigits digits = AllByRecursion (λ (digit : ℕ). digit < 512) digits

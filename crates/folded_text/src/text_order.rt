@@ -1,13 +1,13 @@
 //! Stack texts in the order of their stacks.
 
 ghost use Rattle.std.specs.Prelude.{◌≡◌, ◌<◌, ◌≤◌};
-ghost use Rattle.folded_text.specs.StackOrder.{place_of, stack_text_cmp};
+ghost use Rattle.folded_text.specs.StackOrder.{rank_of, stack_text_cmp};
 
 use std::cmp::Ordering;
 
 /// Where a byte of a stack text stands: the semicolon before each byte of a name.
-pub(crate) fn byte_place(byte: u8) -> u16
-    ensures place { result ≡ place_of byte }
+pub(crate) fn byte_rank(byte: u8) -> u16
+    ensures rank { result ≡ rank_of byte }
     ensures small { result ≤ 256 }
 {
     if byte == b';' { 0 } else { byte as u16 + 1 }
@@ -42,7 +42,7 @@ fn cmp_bytes(left: &[u8], right: &[u8]) -> Ordering
         let Some((other, other_behind)) = others.split_first() else {
             return Ordering::Greater;
         };
-        let found = byte_place(*byte).cmp(&byte_place(*other));
+        let found = byte_rank(*byte).cmp(&byte_rank(*other));
         if found.is_ne() {
             return found;
         }

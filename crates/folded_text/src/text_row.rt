@@ -4,7 +4,7 @@ ghost use Rattle.std.specs.Prelude.{ℕ, ◌≡◌, ◌+◌, ◌<◌, ◌^◌, �
 ghost use Rattle.folded_text.specs.StackOrder.{AreDigits, digits_of, front_of};
 ghost use Rattle.folded_text.specs.TextRows.{by_text};
 
-use crate::text_order::{byte_place, cmp_stack_texts};
+use crate::text_order::{byte_rank, cmp_stack_texts};
 use std::cmp::Ordering;
 use std::marker::Model;
 
@@ -81,12 +81,12 @@ fn behind_front(text: &str) -> &[u8]
 }
 
 /// Where the first byte of a text stands, the end before each byte, and what follows it.
-fn first_place(text: &[u8]) -> (u64, &[u8])
+fn first_rank(text: &[u8]) -> (u64, &[u8])
     ensures small { result.0 < 512 }
     ensures digits { (count : ℕ) → digits_of (count + 1) text.now ≡ result.0 ∷ digits_of count result.1.now }
 {
     match text.split_first() {
-        Some((byte, rest)) => (byte_place(*byte) as u64 + 1, rest),
+        Some((byte, rest)) => (byte_rank(*byte) as u64 + 1, rest),
         None => (0, text),
     }
 }
@@ -96,13 +96,13 @@ fn front_of(text: &str) -> u64
     ensures front { result ≡ front_of text.now }
     ensures digits { AreDigits (digits_of 7 text.now) }
 {
-    let (first, behind) = first_place(text.as_bytes());
-    let (second, behind) = first_place(behind);
-    let (third, behind) = first_place(behind);
-    let (fourth, behind) = first_place(behind);
-    let (fifth, behind) = first_place(behind);
-    let (sixth, behind) = first_place(behind);
-    let (seventh, _) = first_place(behind);
+    let (first, behind) = first_rank(text.as_bytes());
+    let (second, behind) = first_rank(behind);
+    let (third, behind) = first_rank(behind);
+    let (fourth, behind) = first_rank(behind);
+    let (fifth, behind) = first_rank(behind);
+    let (sixth, behind) = first_rank(behind);
+    let (seventh, _) = first_rank(behind);
     let three = (first * 512 + second) * 512 + third;
     let five = (three * 512 + fourth) * 512 + fifth;
     (five * 512 + sixth) * 512 + seventh

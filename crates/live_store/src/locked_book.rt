@@ -284,9 +284,7 @@ impl<N: StoreName> LockedBook<N> {
         }
     }
 
-    /// Makes the change that the book is ready for: the history has it, then the version that is shown, then the book.
-    /// All that may be refused stands before the history's step. It tells `Version` only where the history is longer
-    /// than the book, and the front then has that longer list.
+    /// Makes the change that the book is ready for. What may want memory stands here, before the history's step.
     fn make<R: Wait>(
         &mut self,
         rt: &R,
@@ -321,6 +319,45 @@ impl<N: StoreName> LockedBook<N> {
             ⊎ ((fault ≡ BookFault.Version) × (length self.old.book.entries < length front.new))) }
     {
         let tree = next_tree(alloc, &ready)?;
+        self.commit(rt, head, front, log, ready, tree)
+    }
+
+    /// The step of a change: the history has it, then the version that is shown, then the book. It takes no memory, and
+    /// is refused only where the history is longer than the book; the front then has that longer list.
+    fn commit<R: Wait>(
+        &mut self,
+        rt: &R,
+        head: &Head<N>,
+        front: &mut Front<N>,
+        log: &mut Log,
+        ready: Ready,
+        tree: Arc<CallTree>,
+    ) -> Result<Placed<N>, BookFault>
+        requires tree { IsTreeAfter ready.before ready.op (arc_value tree) }
+        requires before { ready.before ≡ self.old.book }
+        requires known { front.old ≡ self.old.book.entries }
+        requires change { is_change ready.op ≡ true }
+        requires mine { ready.session ≡ log.old.number }
+        requires taken { ready.turn ≡ changes_told log.old.receipts.items }
+        requires turn { ready.turn ≡ turns_of self.old.book.entries ready.session }
+        requires room { length log.old.receipts.items < log.old.receipts.cap }
+        ensures appended { OnOk result
+            (IsAppended self.old.book ready.session ready.turn ready.op self.new.book) }
+        ensures receipt { OnOk result (log.new.receipts.items
+            ≡ log.old.receipts.items ++ receipt_after self.old.book.entries ready.op ∷ []) }
+        ensures placed { IfOk result (λ placing. IsPlaced front.old log.old.number
+            (changes_told log.old.receipts.items) ready.op placing.place front.new) }
+        ensures told { IfOk result (λ placing. placing.told ≡ front.new) }
+        ensures extended { IfOk result
+            (λ placing. log.new.receipts.items ≡ log.old.receipts.items ++ change_told ready.op placing.place ∷ []) }
+        ensures unchanged { OnErr result (self.new.book ≡ self.old.book) }
+        ensures untold { OnErr result (log.new.receipts.items ≡ log.old.receipts.items) }
+        ensures number { log.new.number ≡ log.old.number }
+        ensures given { self.new.given ≡ self.old.given }
+        ensures seen { IsPrefix front.old front.new }
+        ensures fault { IfErr result (λ fault. (fault ≡ BookFault.Version)
+            × (length self.old.book.entries < length front.new)) }
+    {
         let _ = self.book.entries();
         let mut next = self.front.again();
         if !next.add(head, &ready) {

@@ -53,6 +53,7 @@ impl<'a> TextTable<'a> {
     }
 
     /// The number of a text; where it is missing, how many texts there are.
+    #[inline(always)]
     pub fn number_of(&self, text: &str) -> usize
         ensures number { result ≡ number_in self.now.texts text.now }
         ensures fits { result < 2 ^ 63 }
@@ -86,6 +87,7 @@ impl<'a> TextTable<'a> {
     /// # Errors
     ///
     /// `NoMemory`; the table is then as it was.
+    #[inline(always)]
     pub fn number_with(&mut self, text: &'a str) -> Result<usize, NoMemory>
         ensures texts { OnOk result (self.new.texts ≡ with_text self.old.texts text.now) }
         ensures number { IfOk result (λ number. number ≡ number_in (with_text self.old.texts text.now) text.now) }

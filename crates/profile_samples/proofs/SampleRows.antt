@@ -1,9 +1,11 @@
 -- What rows the samples of a profile give.
 use Rattle.std.proofs.Common.{◌≡◌, ℕ, zero, suc, ◌+◌, ◌^◌, ◌<◌, ◌≤◌, Bool, true, false, List, [], ◌∷◌, ◌++◌, length}
-use Rattle.std.proofs.Common.{get_or, refl, sym, ap, ◌∙◌, subst, arith}
+use Rattle.std.proofs.Common.{get_or, inl, inr, ◌↔◌, refl, sym, ap, ◌∙◌, subst, arith}
 use Rattle.std.specs.Prelude.{ℤ, pos, negsuc, Option, Some, None, slice_get, unwrap_or, is_some, ◌==◌}
 use Rattle.std.specs.Str.{bytes_eq}
-use Rattle.std.proofs.lemmas.Bool.{false≢true, and_parts, eqb-true}
+use Rattle.std.specs.Bool.{IsTrue}
+use Rattle.std.proofs.lemmas.Bool.{false≢true, and_parts, cases_lt, eqb-true}
+use Rattle.std.proofs.lemmas.List.{length-reverse}
 use Rattle.std.proofs.lemmas.List.Quantifiers.{position-Some}
 use Rattle.pprof_profile.specs.declared.messages.Draft.{Draft}
 use Rattle.pprof_profile.specs.declared.messages.Sample.{Sample}
@@ -22,7 +24,7 @@ use Rattle.profile_samples.specs.declared.sampling.ValueChoice.{ValueChoice}
 use Rattle.profile_samples.specs.declared.sampling.ValueChoice.TheVariants.{Default, Named, All}
 use Rattle.profile_samples.specs.Batches.{AreRowsOfSamples}
 use Rattle.profile_samples.specs.Samples.{HasWeights, IsFitFault, IsRowOfSample, IsSampleFault, IsValueFault, all_of}
-use Rattle.profile_samples.specs.Samples.{chosen_types_of, default_type, is_zero, last_index, one_from, or_last, sample_stack_of}
+use Rattle.profile_samples.specs.Samples.{chosen_types_of, default_type, frames_of_ids, is_zero, last_index, one_from, or_last, sample_stack_of}
 use Rattle.profile_samples.specs.Samples.{string_at, type_named}
 use Rattle.profile_samples.proofs.ItemsById.{rule_holds}
 
@@ -216,6 +218,28 @@ cut_at draft first width (s ∷ before) sample after (r ∷ rows) all =
     let rest = cut_at draft first width before sample after rows all.1 in
     (r ∷ rest.0, rest.1, rest.2, ap (λ z. r ∷ z) rest.3, (all.0, rest.4), rest.5)
 
+-- ---- whether frames fit
+
+-- whether a stack can have the frames of these locations
+abbrev pub Decides : Draft → List ℕ → Bool → Type 0
+Decides draft ids fit = IsTrue fit ↔ (length (frames_of_ids draft ids) ≤ 65535)
+
+pub fits_in : (draft : Draft) (ids : List ℕ) (fit : Bool) → Decides draft ids fit → IsTrue fit
+    → length (sample_stack_of draft ids) ≤ 65535
+fits_in draft ids fit decides this =
+    let long = length-reverse (frames_of_ids draft ids) in
+    let few = decides.0 this in
+    omega (arith, long, few)
+
+pub too_deep : (draft : Draft) (ids : List ℕ) (fit : Bool) → Decides draft ids fit → fit ≡ false
+    → 65535 < length (sample_stack_of draft ids)
+too_deep draft ids fit decides none =
+    let long = length-reverse (frames_of_ids draft ids) in
+    elim (cases_lt 65535 (length (frames_of_ids draft ids))) [
+      | inl deep ↦ omega (arith, long, deep)
+      | inr few ↦ absurd (false≢true (sym none ∙ decides.1 few))
+    ]
+
 -- ---- faults of a sample
 
 -- a sample that gives a row within the totals has no fault but want of memory
@@ -314,24 +338,24 @@ one_value_below draft index earlier number sample fault h =
     (subst (λ p. IsValueFault p number sample.values fault) same h)
 
 -- the sample doesn't fit
-pub IsSampleFault-fit : (draft : Draft) (index earlier number : ℕ) (sample : Sample) (weight : ℕ) (fault : BatchFault)
-    → slice_get sample.values index ≡ Some (pos weight)
-    → IsFitFault draft earlier number sample.location_ids weight fault
+pub IsSampleFault-fit : (draft : Draft) (index earlier number : ℕ) (sample : Sample) (weight : ℕ) (fit : Bool)
+    (fault : BatchFault) → slice_get sample.values index ≡ Some (pos weight)
+    → Decides draft sample.location_ids fit → IsFitFault fit earlier number weight fault
     → IsSampleFault draft index (earlier ∷ []) number sample fault
-IsSampleFault-fit draft index earlier number sample weight NoValue is h = absurd h
-IsSampleFault-fit draft index earlier number sample weight (Width count) is h = absurd h
-IsSampleFault-fit draft index earlier number sample weight (Negative at) is h = absurd h
-IsSampleFault-fit draft index earlier number sample weight (Depth at) is h =
-    (h.0, weight ∷ [], one_weight index weight sample.values is, h.1)
-IsSampleFault-fit draft index earlier number sample weight (Heavy at) is h = (
+IsSampleFault-fit draft index earlier number sample weight fit NoValue is decides h = absurd h
+IsSampleFault-fit draft index earlier number sample weight fit (Width count) is decides h = absurd h
+IsSampleFault-fit draft index earlier number sample weight fit (Negative at) is decides h = absurd h
+IsSampleFault-fit draft index earlier number sample weight fit (Depth at) is decides h =
+    (h.0, weight ∷ [], one_weight index weight sample.values is, too_deep draft sample.location_ids fit decides h.1)
+IsSampleFault-fit draft index earlier number sample weight fit (Heavy at) is decides h = (
   h.0,
   record { stack = sample_stack_of draft sample.location_ids; weights = weight ∷ [] },
-  one_value_row draft index sample weight is h.1,
+  one_value_row draft index sample weight is (fits_in draft sample.location_ids fit decides h.1),
   0,
   omega arith,
   h.2,
 )
-IsSampleFault-fit draft index earlier number sample weight NoMemory is h = absurd h
+IsSampleFault-fit draft index earlier number sample weight fit NoMemory is decides h = absurd h
 
 pub one_value_memory : (draft : Draft) (index earlier number : ℕ) (sample : Sample) (weight : ℕ)
     → slice_get sample.values index ≡ Some (pos weight)

@@ -92,7 +92,7 @@ fn add_sample(
     let ids = sample.location_ids.as_slice();
     let totals = batch.total();
     let weights = weights_of(sample.values.as_slice(), chosen, number)?;
-    check_depth(frames, ids, number)?;
+    check_depth(frames.fit(ids), number)?;
     check_room(&totals, &weights, number)?;
     Ok(push_row(alloc, frames, batch, ids, &weights)?)
 }

@@ -7,15 +7,15 @@ ghost use Rattle.profile_rows.specs.Tallies.{AreTalliesOf};
 ghost use Rattle.profile_rows.specs.TopList.{AreTotalsOf};
 ghost use Rattle.profile_samples.specs.declared.sampling.BatchFault.{BatchFault};
 ghost use Rattle.profile_samples.specs.declared.sampling.ValueChoice.{ValueChoice};
-ghost use Rattle.profile_samples.specs.Samples.{IsFitFault, IsRowOfSample, IsSampleFault, chosen_types_of, sample_stack_of};
+ghost use Rattle.profile_samples.specs.Samples.{IsRowOfSample, IsSampleFault, chosen_types_of, sample_stack_of};
 ghost use Rattle.profile_samples.specs.Batches.{AreStacksOf, IsFirstStacksFault, IsStacksWorkFault, StandsAtSample};
 ghost use Rattle.profile_samples.specs.NameNumbers.{frame_names};
 ghost use Rattle.profile_samples.specs.CountedSamples.{AreNumbersOfIds, AreRowsCounted, AreTotalsOfSamples};
 
 use crate::name_numbers::{NumberedFrames, ProfileNames};
-use crate::sampling::{BatchFault, ValueChoice, chosen_value, weight_of};
+use crate::sampling::{BatchFault, ValueChoice, check_fit, chosen_value, weight_of};
 use pprof_profile::{Profile, Sample};
-use profile_rows::{FrameTotals, Hashing, MAX_DEPTH, MAX_TOTAL, Tallies};
+use profile_rows::{FrameTotals, Hashing, Tallies};
 use std::alloc::{AllocError, Global};
 
 /// Adds numbers to a list one by one: most locations have one, and a processor waits for a copy of unknown length.
@@ -46,39 +46,6 @@ fn gather_numbers(
     Ok(())
 }
 
-/// Whether a stack can have the frames of these locations.
-fn check_depth(frames: &NumberedFrames, ids: &[u64], number: u64) -> Result<(), BatchFault>
-    ensures depth { OnOk result (length (sample_stack_of frames.now ids.now) ≤ MAX_DEPTH) }
-    ensures fault { IfErr result (λ fault. (fault ≡ BatchFault.Depth number)
-        × (MAX_DEPTH < length (sample_stack_of frames.now ids.now))) }
-{
-    if frames.fit(ids) {
-        Ok(())
-    } else {
-        Err(BatchFault::Depth { sample: number })
-    }
-}
-
-/// Whether a sample at these locations gives a row that can follow rows of the weight `earlier`.
-fn check_fit(
-    frames: &NumberedFrames,
-    ids: &[u64],
-    weight: u64,
-    earlier: u64,
-    number: u64,
-) -> Result<(), BatchFault>
-    requires { earlier < 2 ^ 63 }
-    ensures depth { OnOk result (length (sample_stack_of frames.now ids.now) ≤ MAX_DEPTH) }
-    ensures fits { OnOk result (earlier + weight < 2 ^ 63) }
-    ensures fault { IfErr result (IsFitFault frames.now earlier number ids.now weight) }
-{
-    check_depth(frames, ids, number)?;
-    if weight > MAX_TOTAL - earlier {
-        return Err(BatchFault::Heavy { sample: number });
-    }
-    Ok(())
-}
-
 /// The weight of a sample that gives a row which can follow rows of the weight `earlier`.
 fn sample_weight(
     frames: &NumberedFrames,
@@ -96,7 +63,7 @@ fn sample_weight(
 {
     let ids = sample.location_ids.as_slice();
     let weight = weight_of(sample.values.as_slice(), chosen, number)?;
-    check_fit(frames, ids, weight, earlier, number)?;
+    check_fit(frames.fit(ids), weight, earlier, number)?;
     Ok(weight)
 }
 

@@ -7,38 +7,18 @@ ghost use Rattle.profile_samples.specs.declared.sampling.ValueChoice.{ValueChoic
 ghost use Rattle.profile_rows.specs.Aggregate.{aggregate_of};
 ghost use Rattle.profile_rows.specs.Rows.{total_of};
 ghost use Rattle.profile_rows.specs.Values.{single};
-ghost use Rattle.profile_samples.specs.Samples.{IsFitFault, IsRowOfSample, IsSampleFault, chosen_types_of, sample_stack_of};
+ghost use Rattle.profile_samples.specs.Samples.{IsRowOfSample, IsSampleFault, chosen_types_of, sample_stack_of};
 ghost use Rattle.profile_samples.specs.Batches.{AreStacksOf, IsFirstStacksFault, StandsAtSample};
 ghost use Rattle.profile_rows.specs.Merging.{AddsRow, ArePlacedBy, with_added_at};
 ghost use Rattle.profile_samples.specs.MergedSamples.{IsMergedBatch};
 
-use crate::sampling::{BatchFault, ValueChoice, check_depth, chosen_value, stack_at, weight_of};
+use crate::sampling::{BatchFault, ValueChoice, check_fit, chosen_value, stack_at, weight_of};
 use crate::unfolding::LocationFrames;
 use basics::NoMemory;
 use pprof_profile::{Profile, Sample};
-use profile_rows::{Hashing, MAX_DEPTH, MAX_TOTAL, WeightedStacks};
+use profile_rows::{Hashing, MAX_DEPTH, WeightedStacks};
 use std::alloc::Global;
 use std::collections::HashMap;
-
-/// Whether a sample at these locations gives a row that can follow rows of the weight `earlier`.
-fn check_fit(
-    frames: &LocationFrames,
-    ids: &[u64],
-    weight: u64,
-    earlier: u64,
-    number: u64,
-) -> Result<(), BatchFault>
-    requires { earlier < 2 ^ 63 }
-    ensures depth { OnOk result (length (sample_stack_of frames.now ids.now) ≤ MAX_DEPTH) }
-    ensures fits { OnOk result (earlier + weight < 2 ^ 63) }
-    ensures fault { IfErr result (IsFitFault frames.now earlier number ids.now weight) }
-{
-    check_depth(frames, ids, number)?;
-    if weight > MAX_TOTAL - earlier {
-        return Err(BatchFault::Heavy { sample: number });
-    }
-    Ok(())
-}
 
 /// Adds a row of the stack at these locations, which fits.
 fn push_row(
@@ -121,7 +101,7 @@ fn merge_sample<'a>(
     match known.get(ids).copied() {
         Some(at) => add_to_row(merged, at, weight, number),
         None => {
-            check_fit(frames, ids, weight, merged.total(), number)?;
+            check_fit(frames.fit(ids), weight, merged.total(), number)?;
             Ok(push_merged(alloc, frames, known, merged, ids, weight)?)
         }
     }

@@ -1,18 +1,18 @@
 //! A profile's samples as rows: the values that are chosen, a row for each sample, and why there is none.
 
-ghost use Rattle.std.specs.Prelude.{◌≡◌, ◌^◌, ◌<◌, ◌≤◌, ◌⊎◌, IfErr, IfOk, MatchOption, MatchResult, None, OnOk, Some, pos, length, slice_get};
+ghost use Rattle.std.specs.Prelude.{◌≡◌, ◌+◌, ◌^◌, ◌<◌, ◌≤◌, ◌⊎◌, false, IfErr, IfOk, IsTrue, MatchOption, MatchResult, None, OnOk, Some, pos, length, slice_get};
 ghost use Rattle.std.specs.List.{position};
 ghost use Rattle.pprof_profile.specs.declared.messages.ValueType.{ValueType};
 ghost use Rattle.profile_samples.specs.declared.sampling.ValueChoice.{ValueChoice};
 ghost use Rattle.profile_samples.specs.Batches.{IsFirstFault, IsFirstStacksFault};
-ghost use Rattle.profile_samples.specs.Samples.{IsValueFault, chosen_types_of, default_type, frames_of_sample, one_from, sample_stack_of, type_named};
+ghost use Rattle.profile_samples.specs.Samples.{IsFitFault, IsValueFault, chosen_types_of, default_type, frames_of_sample, one_from, sample_stack_of, type_named};
 ghost use Rattle.profile_samples.specs.EqualStrings.{equal_at, equal_strings};
 
 use crate::string_names::string_at;
 use crate::unfolding::LocationFrames;
 use basics::NoMemory;
 use pprof_profile::{Draft, Profile, Text, ValueType};
-use profile_rows::{Hashing, MAX_DEPTH, MAX_WIDTH, Name, Stack, Width};
+use profile_rows::{Hashing, MAX_DEPTH, MAX_TOTAL, MAX_WIDTH, Name, Stack, Width};
 use std::alloc::{AllocError, Global};
 use thiserror::Error;
 
@@ -226,21 +226,30 @@ pub(crate) fn weight_of(values: &[i64], chosen: usize, number: u64) -> Result<u6
     u64::try_from(values[chosen]).map_err(|_| BatchFault::Negative { sample: number })
 }
 
-/// Whether a stack can have the frames of these locations.
-pub(crate) fn check_depth(
-    frames: &LocationFrames,
-    ids: &[u64],
-    number: u64,
-) -> Result<(), BatchFault>
-    ensures depth { OnOk result (length (sample_stack_of frames.now ids.now) ≤ MAX_DEPTH) }
-    ensures fault { IfErr result (λ fault. (fault ≡ BatchFault.Depth number)
-        × (MAX_DEPTH < length (sample_stack_of frames.now ids.now))) }
+/// Whether a stack can have the frames of a sample, by whether they fit.
+pub(crate) fn check_depth(fit: bool, number: u64) -> Result<(), BatchFault>
+    ensures depth { OnOk result (IsTrue fit) }
+    ensures fault { IfErr result (λ fault. (fault ≡ BatchFault.Depth number) × (fit ≡ false)) }
 {
-    if frames.fit(ids) {
+    if fit {
         Ok(())
     } else {
         Err(BatchFault::Depth { sample: number })
     }
+}
+
+/// Whether a sample, by whether its frames fit, gives a row that can follow rows of the weight `earlier`.
+pub(crate) fn check_fit(fit: bool, weight: u64, earlier: u64, number: u64) -> Result<(), BatchFault>
+    requires { earlier < 2 ^ 63 }
+    ensures depth { OnOk result (IsTrue fit) }
+    ensures fits { OnOk result (earlier + weight < 2 ^ 63) }
+    ensures fault { IfErr result (IsFitFault fit earlier number weight) }
+{
+    check_depth(fit, number)?;
+    if weight > MAX_TOTAL - earlier {
+        return Err(BatchFault::Heavy { sample: number });
+    }
+    Ok(())
 }
 
 /// The stack of the frames of these locations, which it can have.

@@ -1,8 +1,9 @@
 -- A sample with a value below 0, one that is too deep, one that is too heavy, and want of memory at one that fits.
-use Rattle.std.proofs.Common.{◌≡◌, ◌+◌, ◌<◌, ◌≤◌, ℕ, List, length, subst, sym, ◌∙◌, arith}
+use Rattle.std.proofs.Common.{◌≡◌, ◌+◌, ℕ, List, length, subst, sym, ◌∙◌, arith}
 use Rattle.std.specs.Prelude.{ℤ}
 use Rattle.std.proofs.lemmas.Result.{err_from_is_err_and}
-use Rattle.profile_samples.specs.Samples.{HasWeights, IsValueFault, sample_stack_of}
+use Rattle.profile_samples.specs.Samples.{HasWeights, IsValueFault}
+use Rattle.profile_samples.proofs.SampleRows.{Decides, fits_in, too_deep}
 use Rattle.profile_samples.proofs.SampleRows.{IsSampleFault-below, IsSampleFault-deep, IsSampleFault-heavy}
 use Rattle.profile_samples.proofs.SampleRows.{IsSampleFault-memory}
 use Rattle.profile_samples.proofs.batches.add_sample.Goals as goal
@@ -36,8 +37,9 @@ returns-in_err-check_depth-clause-fault c =
     let values = lent_weights c.args.chosen.now.first c.args.chosen.now.width (length c.total-totals.result)
     c.as_slice.result.now c.args.sample.now.values weights c.as_slice.ensures count
     c.in_ok-weights.ensures.weights in
-    let deep = subst (λ ids. 65535 < length (sample_stack_of c.args.frames.now ids))
-    c.as_slice-ids.ensures c.in_err-check_depth.ensures.fault.1 in
+    let decides = subst (λ ids. Decides c.args.frames.now ids c.fit.result) c.as_slice-ids.ensures c.fit.ensures in
+    let deep = too_deep c.args.frames.now c.args.sample.now.location_ids c.fit.result decides
+    c.in_err-check_depth.ensures.fault.1 in
     rw (p.1, p.2) (
       c.total-totals.result,
       c.total-totals.ensures.totals,
@@ -54,8 +56,9 @@ returns-in_err-check_room-clause-fault c =
     let values = lent_weights c.args.chosen.now.first c.args.chosen.now.width (length c.total-totals.result)
     c.as_slice.result.now c.args.sample.now.values weights c.as_slice.ensures count
     c.in_ok-weights.ensures.weights in
-    let deep = subst (λ ids. length (sample_stack_of c.args.frames.now ids) ≤ 65535)
-    c.as_slice-ids.ensures c.in_ok-check_depth.ensures.depth in
+    let decides = subst (λ ids. Decides c.args.frames.now ids c.fit.result) c.as_slice-ids.ensures c.fit.ensures in
+    let deep = fits_in c.args.frames.now c.args.sample.now.location_ids c.fit.result decides
+    c.in_ok-check_depth.ensures.depth in
     rw (p.1, p.2) (
       c.total-totals.result,
       c.total-totals.ensures.totals,
@@ -73,8 +76,9 @@ returns-in_err-push_row-clause-fault c =
     let values = lent_weights c.args.chosen.now.first c.args.chosen.now.width (length c.total-totals.result)
     c.as_slice.result.now c.args.sample.now.values weights c.as_slice.ensures count
     c.in_ok-weights.ensures.weights in
-    let deep = subst (λ ids. length (sample_stack_of c.args.frames.now ids) ≤ 65535)
-    c.as_slice-ids.ensures c.in_ok-check_depth.ensures.depth in
+    let decides = subst (λ ids. Decides c.args.frames.now ids c.fit.result) c.as_slice-ids.ensures c.fit.ensures in
+    let deep = fits_in c.args.frames.now c.args.sample.now.location_ids c.fit.result decides
+    c.in_ok-check_depth.ensures.depth in
     rw (p.1, p.2) (
       c.total-totals.result,
       c.total-totals.ensures.totals,

@@ -1,5 +1,5 @@
 -- The sample's weight goes to the row of its locations, or to a new one.
-use Rattle.std.proofs.Common.{◌≡◌, ℕ, ◌+◌, ◌^◌, ◌<◌, ◌≤◌, List, [], ◌∷◌, length, ap, sym, subst, ◌∙◌, refl, arith}
+use Rattle.std.proofs.Common.{◌≡◌, ℕ, ◌+◌, ◌^◌, ◌<◌, ◌≤◌, List, [], ◌∷◌, ap, sym, subst, ◌∙◌, refl, arith}
 use Rattle.std.specs.Prelude.{Result, Ok, Err, Some, OnOk, IfErr, pos, slice_get}
 use Rattle.std.proofs.lemmas.Result.{err_from_is_err_and}
 use Rattle.profile_rows.specs.declared.weighted_stacks.WeightedStack.{WeightedStack}
@@ -12,7 +12,8 @@ use Rattle.profile_rows.specs.Values.{single}
 use Rattle.profile_samples.specs.Samples.{IsFitFault, IsRowOfSample, IsSampleFault, IsValueFault, sample_stack_of}
 use Rattle.profile_rows.specs.Merging.{AddsRow, row_at, row_spelled, with_added_at}
 use Rattle.profile_rows.proofs.MergedRows.{AddsRow-added, IsPlacedAt, placed_at}
-use Rattle.profile_samples.proofs.SampleRows.{IsSampleFault-fit, one_value_below, one_value_memory, one_value_row}
+use Rattle.profile_samples.proofs.SampleRows.{Decides, IsSampleFault-fit, fits_in, one_value_below, one_value_memory}
+use Rattle.profile_samples.proofs.SampleRows.{one_value_row}
 use Rattle.profile_samples.proofs.merged_samples.merge_sample.Goals as goal
 
 -- a row of the sample's stack, which weighs more now
@@ -95,12 +96,11 @@ returns-in_err-check_fit-in-None-clause-fault c =
     c.from_residual-in_err-check_fit-in-None.result c.from_residual-in_err-check_fit-in-None.ensures.1 in
     let value = subst (λ values. slice_get values c.args.chosen ≡ Some (pos c.in_ok-weight.weight))
     c.as_slice.ensures c.in_ok-weight.ensures.weight.0 in
-    let ids = subst (λ ids. IsFitFault c.args.frames.now c.total.result c.args.number ids c.in_ok-weight.weight
-    c.in_err-check_fit-in-None.field-0.0) c.as_slice-ids.ensures c.in_err-check_fit-in-None.ensures.fault in
-    let fit = subst (λ earlier. IsFitFault c.args.frames.now earlier c.args.number c.args.sample.now.location_ids
-    c.in_ok-weight.weight c.in_err-check_fit-in-None.field-0.0) c.total.ensures.total ids in
-    rw (p.1, p.2) (IsSampleFault-fit c.args.frames.now c.args.chosen (total_of c.args.merged.now)
-    c.args.number c.args.sample.now c.in_ok-weight.weight c.in_err-check_fit-in-None.field-0.0 value fit)
+    let decides = subst (λ ids. Decides c.args.frames.now ids c.fit.result) c.as_slice-ids.ensures c.fit.ensures in
+    let fault = subst (λ earlier. IsFitFault c.fit.result earlier c.args.number c.in_ok-weight.weight
+    c.in_err-check_fit-in-None.field-0.0) c.total.ensures.total c.in_err-check_fit-in-None.ensures.fault in
+    rw (p.1, p.2) (IsSampleFault-fit c.args.frames.now c.args.chosen (total_of c.args.merged.now) c.args.number
+    c.args.sample.now c.in_ok-weight.weight c.fit.result c.in_err-check_fit-in-None.field-0.0 value decides fault)
 
 pub returns-in_err-push_merged-in-None-clause-fault : goal.returns-in_err-push_merged-in-None-clause-fault
 returns-in_err-push_merged-in-None-clause-fault c =
@@ -108,8 +108,9 @@ returns-in_err-push_merged-in-None-clause-fault c =
     c.from_residual-in_err-push_merged-in-None.result c.from_residual-in_err-push_merged-in-None.ensures.1 in
     let value = subst (λ values. slice_get values c.args.chosen ≡ Some (pos c.in_ok-weight.weight))
     c.as_slice.ensures c.in_ok-weight.ensures.weight.0 in
-    let deep = subst (λ ids. length (sample_stack_of c.args.frames.now ids) ≤ 65535)
-    c.as_slice-ids.ensures c.in_ok-check_fit-in-None.ensures.depth in
+    let decides = subst (λ ids. Decides c.args.frames.now ids c.fit.result) c.as_slice-ids.ensures c.fit.ensures in
+    let deep = fits_in c.args.frames.now c.args.sample.now.location_ids c.fit.result decides
+    c.in_ok-check_fit-in-None.ensures.depth in
     let fits = subst
     (λ earlier. earlier + c.in_ok-weight.weight < 2 ^ 63) c.total.ensures.total c.in_ok-check_fit-in-None.ensures.fits in
     rw (p.1, p.2) (one_value_memory c.args.frames.now c.args.chosen

@@ -6,7 +6,7 @@ use Rattle.op_book.specs.Books.{entry_after}
 use Rattle.op_book.specs.Operations.{PlainEntry, PlainReceipt, placed}
 use Rattle.op_book.specs.Runs.{turns_of}
 use Rattle.live_store.specs.Stores.{changes_told}
-use Rattle.live_store.proofs.locked_book.LockedBook.make.Goals as goal
+use Rattle.live_store.proofs.locked_book.LockedBook.commit.Goals as goal
 
 pub returns-clause-placed : goal.returns-clause-placed
 returns-clause-placed g c =

@@ -1,6 +1,7 @@
 pub mod AnswerLaws
 pub mod BatchRows
 pub mod Cleaning
+pub mod CommonPrefix
 pub mod EntryLaws
 pub mod EqualRows
 pub mod FourValues

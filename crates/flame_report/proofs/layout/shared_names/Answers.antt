@@ -1,27 +1,20 @@
-use Rattle.std.proofs.Common.{ℕ, ◌≡◌, ◌≤◌, length, drop, List, get_or, true, false, subst, sym, ap, arith, ◌∙◌}
+use Rattle.std.proofs.Common.{◌≡◌, get_or, true, false, subst, sym, arith, ◌∙◌}
 use Rattle.std.specs.Prelude.{◌==◌}
-use Rattle.std.specs.List.{common_prefix_len}
 use Rattle.std.specs.Ordering.{eq_by_cmp}
 use Rattle.std.specs.Cmp.Lexicographic.{texts_ties, pointwise}
-use Rattle.std.proofs.lemmas.List.Sums.{common_prefix_len-drop_yes, common_prefix_len-drop_no, common_prefix_len-le}
-use Rattle.std.proofs.lemmas.List.{drop_all}
+use Rattle.std.proofs.lemmas.List.Sums.{common_prefix_len-drop_yes, common_prefix_len-drop_no}
 use Rattle.std.proofs.lemmas.Bool.{not-false, not-true}
 use Rattle.profile_rows.specs.Names.{name_cmp}
+use Rattle.profile_rows.proofs.CommonPrefix.{nothing_shared}
 use Rattle.flame_report.proofs.layout.shared_names.Goals as goal
 use Rattle.flame_report.proofs.layout.shared_names.Goals.{then-at-right-via-then-at-right}
 use Rattle.flame_report.proofs.layout.shared_names.Goals.{then-at-right-via-else-at-right+then-ne}
-
--- past the end of one list nothing is shared
-none_left : (xs ys : List (List ℕ)) (i : ℕ)
-    → length ys ≤ i → common_prefix_len (eq_by_cmp name_cmp) (drop i xs) (drop i ys) ≡ 0
-none_left xs ys i h = let e =
-    drop_all i ys h in omega (arith, ap length e, (common_prefix_len-le (eq_by_cmp name_cmp) (drop i xs) (drop i ys)).1)
 
 pub returns-then-at-right : goal.returns-then-at-right
 returns-then-at-right c =
     elim c.then-at-right.branch [
       | then-at-right-via-then-at-right w ↦
-          let none = none_left c.args.left.now c.args.right.now c.loop-at.at w.if-at-right.true in
+          let none = nothing_shared (eq_by_cmp name_cmp) c.args.left.now c.args.right.now c.loop-at.at w.if-at-right.true in
           record { shared = omega (arith, none, c.loop-at.invariant.so_far); short = omega arith }
       | then-at-right-via-else-at-right+then-ne w ↦
           let unlike : pointwise ◌==◌ c.index-left-at.result w.index-right-at.result ≡ false = not-true _ (cc) in

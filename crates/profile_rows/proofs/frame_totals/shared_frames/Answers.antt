@@ -1,14 +1,15 @@
 -- The next frame is the same, or none of those that follow is shared.
-use Rattle.std.proofs.Common.{◌≡◌, ◌<◌, ◌≤◌, [], ℕ, Bool, List, length, map, drop, get_or, true, false, ap, sym, ◌∙◌}
+use Rattle.std.proofs.Common.{◌≡◌, ◌<◌, [], ℕ, Bool, List, length, map, get_or, true, false, ap, sym, ◌∙◌}
 use Rattle.std.proofs.Common.{arith}
 use Rattle.std.proofs.lemmas.Bool.{not-false, not-true}
-use Rattle.std.proofs.lemmas.List.{drop_all, get_or-map, length-map}
-use Rattle.std.proofs.lemmas.List.Sums.{common_prefix_len-drop_no, common_prefix_len-drop_yes, common_prefix_len-le}
+use Rattle.std.proofs.lemmas.List.{get_or-map, length-map}
+use Rattle.std.proofs.lemmas.List.Sums.{common_prefix_len-drop_no, common_prefix_len-drop_yes}
 use Rattle.std.specs.Prelude.{slice_index_or}
 use Rattle.std.specs.List.{common_prefix_len}
 use Rattle.std.specs.Str.{bytes_eq}
 use denote.Ref.{Bor}
 use Rattle.profile_rows.specs.Tallies.{names_at}
+use Rattle.profile_rows.proofs.CommonPrefix.{nothing_shared}
 use Rattle.profile_rows.proofs.TextNumbers.{no_text, shown_at}
 use Rattle.profile_rows.proofs.frame_totals.shared_frames.Goals as goal
 use Rattle.profile_rows.proofs.frame_totals.shared_frames.Goals.{then-at-frames-via-then-at-frames}
@@ -16,14 +17,6 @@ use Rattle.profile_rows.proofs.frame_totals.shared_frames.Goals.{then-at-frames-
 
 abbrev now : Bor (List ℕ) → List ℕ
 now text = text.now
-
--- past the end of one list nothing is shared
-none_left : (xs ys : List (List ℕ)) (i : ℕ)
-    → length ys ≤ i → common_prefix_len bytes_eq (drop i xs) (drop i ys) ≡ 0
-none_left xs ys i end =
-    let none = ap length (drop_all i ys end) in
-    let most = (common_prefix_len-le bytes_eq (drop i xs) (drop i ys)).1 in
-    omega (arith, none, most)
 
 -- the comparison that the loop makes, as that of two lists of texts
 compared : (names : List (List ℕ)) (texts frames : List (Bor (List ℕ))) (numbers : List ℕ) (at : ℕ) (same : Bool)
@@ -46,7 +39,7 @@ returns-then-at-frames c =
     let many = length-map c.args.numbers.now (λ number. slice_index_or c.args.names.now.texts number []) in
     elim c.then-at-frames.branch [
       | then-at-frames-via-then-at-frames w ↦
-          let none = none_left names frames at (let end = w.if-at-frames.true in omega (arith, end, long)) in
+          let none = nothing_shared bytes_eq names frames at (let end = w.if-at-frames.true in omega (arith, end, long)) in
           let so_far = c.loop-at.invariant.so_far in
           omega (arith, none, so_far)
       | then-at-frames-via-else-at-frames+then-ne w ↦

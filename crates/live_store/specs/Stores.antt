@@ -3,6 +3,7 @@ use Rattle.std.specs.Prelude.{ℕ, ◌≡◌, ◌≢◌, ◌<◌, ◌≤◌, ◌
 use Rattle.logbook.specs.Pages.{Book}
 use Rattle.profile_rows.specs.Rows.{total_of}
 use Rattle.profile_rows.specs.Values.{rows_at}
+use Rattle.op_book.specs.Books.{BookState, IsFirstBookFault}
 use Rattle.op_book.specs.Operations.{MissesWidth, PlainEntry, PlainOp, PlainReceipt, changes_in, is_change}
 use Rattle.op_book.specs.Operations.{operations_of, profile_after, rows_added}
 use Rattle.op_book.specs.Runs.{turns_of}
@@ -63,6 +64,17 @@ IsShownBy seen session book.Session = Unit {0}
 IsShownBy seen session (book.Width held) = Unit {0}
 IsShownBy seen session book.NoMemory = Unit {0}
 IsShownBy seen session book.Version = Unit {0}
+
+-- the first cause that a book of these changes, of this limit and for so many sessions and values, has to refuse a
+-- session its turn for an operation
+pub record IsFirstShown (limit sessions width : ℕ) (seen : List PlainEntry) (session turn : ℕ) (op : PlainOp)
+    (fault : BookFault) : Type 0 where
+  pub book : BookState
+  pub entries_are : book.entries ≡ seen
+  pub limit_is : book.limit ≡ limit
+  pub sessions_are : book.sessions ≡ sessions
+  pub width_is : book.width ≡ width
+  pub first : IsFirstBookFault book session turn op fault
 
 -- memory was wanting, or no version was shown
 abbrev pub IsUnseen : BookFault → Type 0

@@ -10,7 +10,7 @@ ghost use Rattle.op_book.specs.Runs.{turns_of};
 ghost use Rattle.change_history.specs.Histories.{entry_made};
 ghost use Rattle.shown_versions.specs.Views.{IsOf, listed};
 ghost use Rattle.live_store.specs.Sessions.{IsPlaced};
-ghost use Rattle.live_store.specs.Stores.{IsGiveFault, IsShownBy, ShowsCause, changes_told};
+ghost use Rattle.live_store.specs.Stores.{IsFirstShown, IsGiveFault, IsShownBy, IsUnseen, ShowsCause, changes_told};
 
 use crate::fault::SessionFault;
 use crate::told::{Placed, Told};
@@ -190,6 +190,9 @@ impl<N: StoreName> LockedBook<N> {
         ensures cause { IfErr result (λ refused. ShowsCause N.limit N.width
             (changes_told log.old.receipts.items) (add (arc_value batch)) refused.fault) }
         ensures shown { IfErr result (λ refused. IsShownBy front.new log.old.number refused.fault) }
+        ensures first_shown { IfErr result (λ refused. IsUnseen refused.fault
+            ⊎ IsFirstShown N.limit N.sessions N.width front.new log.old.number
+            (changes_told log.old.receipts.items) (add (arc_value batch)) refused.fault) }
     {
         match self.try_add(rt, alloc, head, front, log, &batch) {
             Ok(placed) => Ok(placed),
@@ -230,6 +233,9 @@ impl<N: StoreName> LockedBook<N> {
         ensures cause { IfErr result (ShowsCause N.limit N.width
             (changes_told log.old.receipts.items) (add (arc_value batch.now))) }
         ensures shown { IfErr result (IsShownBy front.new log.old.number) }
+        ensures first_shown { IfErr result (λ fault. IsUnseen fault
+            ⊎ IsFirstShown N.limit N.sessions N.width front.new log.old.number
+            (changes_told log.old.receipts.items) (add (arc_value batch.now)) fault) }
     {
         let _ = self.book.entries();
         if !front.catch_up(&self.front) {
@@ -273,6 +279,9 @@ impl<N: StoreName> LockedBook<N> {
         ensures cause { IfErr result (ShowsCause N.limit N.width (changes_told log.old.receipts.items) reset) }
         ensures light { IfErr result (λ fault. (value held : ℕ) → fault ≢ BookFault.Heavy value held) }
         ensures shown { IfErr result (IsShownBy front.new log.old.number) }
+        ensures first_shown { IfErr result (λ fault. IsUnseen fault
+            ⊎ IsFirstShown N.limit N.sessions N.width front.new log.old.number
+            (changes_told log.old.receipts.items) reset fault) }
     {
         let _ = self.book.entries();
         if !front.catch_up(&self.front) {

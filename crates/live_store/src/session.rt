@@ -7,7 +7,7 @@ ghost use Rattle.op_book.specs.Books.{change_told, receipt_after};
 ghost use Rattle.op_book.specs.Operations.{PlainOp, PlainReceipt, add, answered, ask, plain_op, reset};
 ghost use Rattle.flame_report.specs.declared.answer.Answer.{Answer};
 ghost use Rattle.live_store.specs.Sessions.{IsBorneOut, IsPlaced, changes_by, changes_of};
-ghost use Rattle.live_store.specs.Stores.{IsShownBy, IsUnseen, ShowsCause, changes_told};
+ghost use Rattle.live_store.specs.Stores.{IsFirstShown, IsShownBy, IsUnseen, ShowsCause, changes_told};
 ghost use Rattle.live_store.specs.Workers.{ops_told};
 
 use crate::locked_book::Log;
@@ -132,6 +132,9 @@ impl<'a, N: StoreName> Session<'a, N> {
         ensures cause { IfErr result (λ refused.
             ShowsCause N.limit N.width (changes_told self.old.log) (add (arc_value batch)) refused.fault) }
         ensures shown { IfErr result (λ refused. IsShownBy self.new.seen self.old.number refused.fault) }
+        ensures first_fault { IfErr result (λ refused. IsUnseen refused.fault
+            ⊎ IsFirstShown N.limit N.sessions N.width self.new.seen self.old.number (changes_told self.old.log)
+            (add (arc_value batch)) refused.fault) }
     {
         if self.log.make_room().is_err() {
             return Err(Refused {
@@ -171,6 +174,9 @@ impl<'a, N: StoreName> Session<'a, N> {
         ensures cause { IfErr result (ShowsCause N.limit N.width (changes_told self.old.log) reset) }
         ensures light { IfErr result (λ fault. (value held : ℕ) → fault ≢ BookFault.Heavy value held) }
         ensures shown { IfErr result (IsShownBy self.new.seen self.old.number) }
+        ensures first_fault { IfErr result (λ fault. IsUnseen fault
+            ⊎ IsFirstShown N.limit N.sessions N.width self.new.seen self.old.number (changes_told self.old.log)
+            reset fault) }
     {
         self.log.make_room()?;
         let mut book = self.store.book().lock(rt);

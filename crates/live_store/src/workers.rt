@@ -1,7 +1,7 @@
 //! Workers: threads of which each takes the operations of a list to a session of its own.
 
-ghost use Rattle.std.specs.Prelude.{◌≡◌, ◌≢◌, ◌<◌, ◌≤◌, [], length, map, vec_capacity, All, IfErr, IfOk, IfSome, IsSomeAnd, MatchOption, MatchResult};
-ghost use Rattle.std.specs.Result.{ForOk};
+ghost use Rattle.std.specs.Prelude.{◌≡◌, ◌≢◌, ◌<◌, ◌≤◌, [], length, map, vec_capacity, All, IfErr, IfOk, IfSome, IsSomeAnd, MatchOption};
+ghost use Rattle.std.specs.Option.{ForSome};
 ghost use Rattle.op_book.specs.Operations.{plain_op};
 ghost use Rattle.live_store.specs.Workers.{AreWorkOf, IsSeen, IsStarted, IsStopShown, IsStoppedBy, IsWorkOf, IsWorkersFault, ops_told};
 
@@ -16,7 +16,7 @@ use std::marker::PhantomData;
 use std::snapshot::Snapshot;
 use std::sync::Wait;
 use std::thread;
-use std::thread::{Promise, PromisedHandle, SpawnError, Threads};
+use std::thread::{Promise, PromisedHandle, Threads};
 
 /// What is called around each step of each worker, a refused one included. Workers and steps are numbered from 0.
 pub trait Gate: Sync {
@@ -80,13 +80,13 @@ impl<N: StoreName> Promise<FinishedWorker> for WorkerPromise<N> {
         × (worked.log.session ≡ promise.session) × IsSeen N.sessions worked × IsStarted worked };
 }
 
-/// A worker's thread, or its work, for which no thread could be had.
+/// A worker, and its thread, where one could be had.
 #[derive(Drop)]
-struct StartedWorker<N: StoreName, W> {
+struct StartedWorker<N: StoreName> {
     session: u32,
     list: Snapshot<Vec<Op>>,
-    thread: Result<PromisedHandle<FinishedWorker, WorkerPromise<N>>, SpawnError<W>>,
-    ghost same: { ForOk thread (λ handle. (handle.promise.list.value ≡ list.value)
+    thread: Option<PromisedHandle<FinishedWorker, WorkerPromise<N>>>,
+    ghost same: { ForSome thread (λ handle. (handle.promise.list.value ≡ list.value)
         × (handle.promise.session ≡ session)) },
 }
 
@@ -155,17 +155,24 @@ fn work_all<'a, N: StoreName, G: Gate, R: Threads + Wait + Sync>(
     ensures work { IfOk result (λ all. AreWorkOf N.limit N.width
         (map (λ worker. map plain_op worker.list.items) workers.entry.items) all.items) }
     ensures seen { IfOk result (λ all. All (IsSeen N.sessions) all.items) }
+    ensures sessions { IfOk result (λ all. map (λ worked. worked.log.session) all.items
+        ≡ map (λ worker. worker.session.number) workers.entry.items) }
 {
-    thread::scope(
+    let begun = Vec::with_capacity(alloc, workers.len())?;
+    let worked = Vec::with_capacity(alloc, workers.len())?;
+    Ok(thread::scope(
         thread::scope_env(),
         rt,
-        move |scope| -> Result<Vec<FinishedWorker>, AllocError>
-            ensures work { IfOk result (λ all. AreWorkOf N.limit N.width
-                (map (λ worker. map plain_op worker.list.items) workers.entry.items) all.items) }
-            ensures seen { IfOk result (λ all. All (IsSeen N.sessions) all.items) }
+        move |scope| -> Vec<FinishedWorker>
+            requires begun { (begun.items ≡ []) × (length workers.items ≤ vec_capacity begun) }
+            requires worked { (worked.items ≡ []) × (length workers.items ≤ vec_capacity worked) }
+            ensures work { AreWorkOf N.limit N.width
+                (map (λ worker. map plain_op worker.list.items) workers.entry.items) result.items }
+            ensures seen { All (IsSeen N.sessions) result.items }
+            ensures sessions { map (λ worked. worked.log.session) result.items
+                ≡ map (λ worker. worker.session.number) workers.entry.items }
         {
-            let mut begun = Vec::with_capacity(alloc, workers.len())?;
-            let worked = Vec::with_capacity(alloc, workers.len())?;
+            let mut begun = begun;
             for worker in workers {
                 let session = worker.session.number();
                 let list = Snapshot::of(&worker.list);
@@ -174,29 +181,32 @@ fn work_all<'a, N: StoreName, G: Gate, R: Threads + Wait + Sync>(
                     list: Snapshot::of(&worker.list),
                     of: PhantomData,
                 };
-                let thread = scope.spawn_with(promise, move || work(rt, alloc, worker, gate));
+                let thread = scope
+                    .spawn_with(promise, move || work(rt, alloc, worker, gate))
+                    .ok();
                 begun.push_reserved(StartedWorker {
                     session,
                     list,
                     thread,
                 });
             }
-            Ok(join_all(rt, alloc, begun, worked))
+            join_all(rt, alloc, begun, worked)
         },
-    )
+    ))
 }
 
 /// What each worker did, once its thread has ended.
-fn join_all<N: StoreName, W: Drop, R: Threads + Wait>(
+fn join_all<N: StoreName, R: Threads + Wait>(
     rt: &R,
     alloc: Global,
-    begun: Vec<StartedWorker<N, W>>,
+    begun: Vec<StartedWorker<N>>,
     worked: Vec<FinishedWorker>,
 ) -> Vec<FinishedWorker>
     requires room { (worked.items ≡ []) × (length begun.items ≤ vec_capacity worked) }
     requires sessions { All (λ one. one.session < N.sessions) begun.items }
     ensures work { AreWorkOf N.limit N.width (map (λ one. map plain_op one.list.value.items) begun.items) result.items }
     ensures seen { All (IsSeen N.sessions) result.items }
+    ensures sessions { map (λ one. one.log.session) result.items ≡ map (λ one. one.session) begun.items }
 {
     let mut worked = worked;
     for one in begun {
@@ -206,17 +216,17 @@ fn join_all<N: StoreName, W: Drop, R: Threads + Wait>(
 }
 
 /// What a worker did, once its thread has ended.
-fn join_one<N: StoreName, W: Drop, R: Threads + Wait>(
+fn join_one<N: StoreName, R: Threads + Wait>(
     rt: &R,
     alloc: Global,
-    begun: StartedWorker<N, W>,
+    begun: StartedWorker<N>,
 ) -> FinishedWorker
     requires { begun.session < N.sessions }
     ensures work { IsWorkOf N.limit N.width (map plain_op begun.list.value.items) result }
     ensures session { result.log.session ≡ begun.session }
     ensures seen { IsSeen N.sessions result }
-    ensures start { MatchResult begun.thread (λ _. IsStarted result)
-        (λ _. IsSomeAnd result.stopped (λ stop. stop.cause ≡ Cause.Start)) }
+    ensures start { MatchOption begun.thread (IsSomeAnd result.stopped (λ stop. stop.cause ≡ Cause.Start))
+        (λ _. IsStarted result) }
 {
     let StartedWorker {
         session,
@@ -224,8 +234,8 @@ fn join_one<N: StoreName, W: Drop, R: Threads + Wait>(
         thread,
     } = begun;
     match thread {
-        Ok(thread) => thread.join(rt),
-        Err(_) => FinishedWorker {
+        Some(thread) => thread.join(rt),
+        None => FinishedWorker {
             log: SessionLog {
                 session,
                 receipts: Items::new(Vec::new(alloc)),

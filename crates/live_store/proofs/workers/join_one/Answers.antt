@@ -7,7 +7,7 @@ use Rattle.live_store.proofs.workers.join_one.Goals as goal
 
 pub returns-clause-seen : goal.returns-clause-seen
 returns-clause-seen g c =
-    let none = c.new-in-Err.ensures ∙ c.new.ensures.items in (
+    let none = c.new-in-None.ensures ∙ c.new.ensures.items in (
       search rules,
       (
         [],

@@ -15,4 +15,5 @@ loop-worker-preserved g c =
       search rules,
       subst (All (λ one. one.session < sessions)) (sym c.push_reserved.ensures.items)
           (All-push (λ one. one.session < sessions) c.loop-worker.begun.items _ c.loop-worker.invariant.3 known),
+      grind (arith, common_steps),
     )

@@ -7,7 +7,7 @@ use Rattle.profile_rows.specs.Rows.{total_of}
 use Rattle.call_tree.specs.State.{PlainTree, TreeState, credited, nodes_at, plain_at}
 use Rattle.call_tree.specs.Shape.{node_rows}
 use Rattle.call_tree.specs.Nodes.{AreTrees, nodes_of, plain_of, tree_of}
-use Rattle.call_tree.specs.Plans.{AreCredited, ArePlaces, IsCredited}
+use Rattle.call_tree.specs.Plans.{AreCredited, AreSlots, IsCredited}
 use Rattle.call_tree.proofs.Growing.{AreCredited-start, AreCredited-step}
 use Rattle.call_tree.proofs.Trees.{nodes_at-tree, seen_plain}
 use Rattle.call_tree.proofs.Shapes.{length-node_rows}
@@ -41,9 +41,9 @@ module _ (names : List (List ℕ)) (before now : List (List Node))
   still : plain_at (tree_of names before) value ≡ plain_of names now value
   still = (λ i. record { names = names; nodes = sym left_is i }) ∙ sym (plain_is names now value)
 
-  pub places_now : (places : List ℕ) → ArePlaces (plain_at (tree_of names before) value) batch places
-      → ArePlaces (plain_of names now value) batch places
-  places_now places are = subst (λ (tree : PlainTree). ArePlaces tree batch places) still are
+  pub slots_now : (slots : List ℕ) → AreSlots (plain_at (tree_of names before) value) batch slots
+      → AreSlots (plain_of names now value) batch slots
+  slots_now slots are = subst (λ (tree : PlainTree). AreSlots tree batch slots) still are
 
   pub total_now : total_of (node_rows names (nodes_of now value)) ≡ total_of (nodes_at (tree_of names before) value)
   total_now = ap (λ (tree : PlainTree). total_of tree.nodes) (sym still)
@@ -68,8 +68,8 @@ module _ (names : List (List ℕ)) (before now : List (List Node))
 -- ---- one row of one value, at its node
 
 module _ (names : List (List ℕ)) (before : List (List Node))
-    (old : TreeState) (old_is : tree_of names before ≡ old) (rows : List Row) (place weight : ℕ)
-    (one : length rows ≡ 1) (places : ArePlaces (plain_at old 0) rows (place ∷ []))
+    (old : TreeState) (old_is : tree_of names before ≡ old) (rows : List Row) (slot weight : ℕ)
+    (one : length rows ≡ 1) (slots : AreSlots (plain_at old 0) rows (slot ∷ []))
     (light : total_of (nodes_at old 0) + total_of (rows_at 0 rows) < 2 ^ 63)
     (weight_is : weight ≡ value_of 0 (row_in rows 0).weights) where
   abbrev tree : PlainTree
@@ -78,8 +78,8 @@ module _ (names : List (List ℕ)) (before : List (List Node))
   here_is : plain_at old 0 ≡ tree
   here_is = sym (seen_plain names before old 0 old_is)
 
-  are : ArePlaces tree rows (place ∷ [])
-  are = subst (λ (t : PlainTree). ArePlaces t rows (place ∷ [])) here_is places
+  are : AreSlots tree rows (slot ∷ [])
+  are = subst (λ (t : PlainTree). AreSlots t rows (slot ∷ [])) here_is slots
 
   fits : total_of tree.nodes + total_of (rows_at 0 rows) < 2 ^ 63
   fits = omega (arith, light, ap (λ (t : PlainTree). total_of t.nodes) here_is)
@@ -87,19 +87,19 @@ module _ (names : List (List ℕ)) (before : List (List Node))
   first_lt : 0 < length rows
   first_lt = omega (arith, one)
 
-  pub row_within : place < length (nodes_of before 0)
+  pub row_within : slot < length (nodes_of before 0)
   row_within =
       let within =
-      credit_within tree tree 0 rows (place ∷ []) are fits 0 first_lt (IsCredited-start tree) weight weight_is in
+      credit_within tree tree 0 rows (slot ∷ []) are fits 0 first_lt (IsCredited-start tree) weight weight_is in
       omega (arith, within, length-node_rows names (nodes_of before 0))
 
   pub AreCredited-row : (now : List (List Node)) → length now ≡ length before
-      → node_rows names (nodes_of now 0) ≡ credited (node_rows names (nodes_of before 0)) place weight
+      → node_rows names (nodes_of now 0) ≡ credited (node_rows names (nodes_of before 0)) slot weight
       → ((other : ℕ) → (other ≡ 0 → ⊥) → nodes_of now other ≡ nodes_of before other)
       → AreCredited (tree_of names before) (tree_of names now) rows 1
   AreCredited-row now width here others =
       let first = IsCredited-step tree tree 0 rows
-      (place ∷ []) are fits 0 first_lt (IsCredited-start tree) weight weight_is (plain_of names now 0) refl here in
+      (slot ∷ []) are fits 0 first_lt (IsCredited-start tree) weight weight_is (plain_of names now 0) refl here in
       let all : take 1 (rows_at 0 rows) ≡ rows_at 0 rows =
       take_all 1 (rows_at 0 rows) (omega (arith, one, length-map rows (weighing 0))) in
       let done = subst (IsCredited tree (plain_of names now 0)) all first in

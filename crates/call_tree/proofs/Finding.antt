@@ -43,13 +43,13 @@ weight_of-at (row ∷ rows) stack (suc k) lt e only =
     let here = weight_if_other stack row (λ f. let no : 0 ≡ suc k = only 0 (omega arith) f in omega arith) in
     omega (arith, sum_by-cons (weight_if (is_same_stack stack)) row rows, rest, here)
 
--- of the nodes below an index, the one at a place has the longest front of the stack
+-- of the nodes below an index, the one at a slot has the longest front of the stack
 pub record IsFound
-    (names : List (List ℕ)) (nodes : List Node) (stack : List (List ℕ)) (index place depth : ℕ) : Type 0 where
-  pub place_lt : place < index
-  pub within : place < length nodes
+    (names : List (List ℕ)) (nodes : List Node) (stack : List (List ℕ)) (index slot depth : ℕ) : Type 0 where
+  pub slot_lt : slot < index
+  pub within : slot < length nodes
   pub deep : depth ≤ length stack
-  pub here : stack_at (node_rows names nodes) place ≡ take depth stack
+  pub here : stack_at (node_rows names nodes) slot ≡ take depth stack
   pub longest : (j d : ℕ) → j < index → d ≤ length stack → stack_at (node_rows names nodes) j ≡ take d stack → d ≤ depth
 
 front_length : (n m : ℕ) (stack : List (List ℕ))
@@ -67,7 +67,7 @@ front_length (suc n) (suc m) (x ∷ xs) hn hm e =
 pub IsFound-start : (names : List (List ℕ)) (nodes : List Node) (stack : List (List ℕ))
     → IsTree names nodes → IsFound names nodes stack 1 0 0
 IsFound-start names nodes stack tree = record {
-  place_lt = omega arith;
+  slot_lt = omega arith;
   within = tree.rooted;
   deep = omega arith;
   here = stack_at-root names nodes;
@@ -79,14 +79,14 @@ IsFound-start names nodes stack tree = record {
 }
 
 module _ (names : List (List ℕ))
-    (nodes : List Node) (stack : List (List ℕ)) (index place depth : ℕ) (tree : IsTree names nodes)
-    (found : IsFound names nodes stack index place depth) (pos : 0 < index) (lt : index < length nodes) where
+    (nodes : List Node) (stack : List (List ℕ)) (index slot depth : ℕ) (tree : IsTree names nodes)
+    (found : IsFound names nodes stack index slot depth) (pos : 0 < index) (lt : index < length nodes) where
   child : stack_at (node_rows names nodes) index
       ≡ stack_at (node_rows names nodes) (at nodes index).parent ++ name_at names (at nodes index).name ∷ []
   child = stack_at-child names nodes index pos lt (tree.links index pos lt).0
 
   pub IsFound-matched : depth < length stack
-      → (at nodes index).parent ≡ place → name_at names (at nodes index).name ≡ get_or stack depth []
+      → (at nodes index).parent ≡ slot → name_at names (at nodes index).name ≡ get_or stack depth []
       → IsFound names nodes stack (index + 1) index (depth + 1)
   IsFound-matched more parent name =
       let here : stack_at (node_rows names nodes) index ≡ take (depth + 1) stack =
@@ -94,7 +94,7 @@ module _ (names : List (List ℕ))
       ∙ ap (λ s. s ++ name_at names (at nodes index).name ∷ []) found.here
       ∙ ap (λ n. take depth stack ++ n ∷ []) name ∙ sym (take_more stack depth [] more) in
       record {
-        place_lt = omega arith;
+        slot_lt = omega arith;
         within = lt;
         deep = omega arith;
         here = here;
@@ -105,11 +105,11 @@ module _ (names : List (List ℕ))
             (cases_eq j index);
       }
 
-  pub IsFound-passed : ((at nodes index).parent ≡ place
+  pub IsFound-passed : ((at nodes index).parent ≡ slot
       → depth < length stack → name_at names (at nodes index).name ≡ get_or stack depth [] → ⊥)
-      → IsFound names nodes stack (index + 1) place depth
+      → IsFound names nodes stack (index + 1) slot depth
   IsFound-passed other = record {
-    place_lt = let p = found.place_lt in omega arith;
+    slot_lt = let p = found.slot_lt in omega arith;
     within = found.within;
     deep = found.deep;
     here = found.here;
@@ -130,7 +130,7 @@ module _ (names : List (List ℕ))
           let shorter = found.longest (at nodes index).parent d (tree.links index pos lt).0 (omega arith) both.0 in
           ⊎_elim
           (λ same. absurd (other
-          (tree.apart (at nodes index).parent place (omega (arith, (tree.links index pos lt).0)) found.within
+          (tree.apart (at nodes index).parent slot (omega (arith, (tree.links index pos lt).0)) found.within
           (both.0 ∙ ap (λ n. take n stack) same ∙ sym found.here))
           (omega arith)
           (both.1 ∙ ap (λ n. get_or stack n []) same)))

@@ -11,7 +11,7 @@ use Rattle.profile_rows.specs.Aggregate.{Weighted, aggregate_of, with_row, with_
 use Rattle.profile_rows.proofs.FourValues.{value_of-past}
 use Rattle.call_tree.specs.State.{TreeState, PlainTree, AreGrown, AreStates, IsAppended, IsFresh, IsGrown, nodes_at}
 use Rattle.call_tree.specs.State.{plain_at, name_at, weights_of, no_row}
-use Rattle.call_tree.specs.Plans.{AreCredited, AreFirstPlaces, ArePlaces, IsCredited, place_at}
+use Rattle.call_tree.specs.Plans.{AreCredited, AreFirstSlots, AreSlots, IsCredited, slot_at}
 use Rattle.call_tree.proofs.Indexing.{IsGrown-added}
 use Rattle.call_tree.proofs.Trees.{nodes_at-past}
 
@@ -103,33 +103,33 @@ weights-credited before now rows count batch width credited value =
     narrow [] all past = tt
     narrow (row ∷ rs) all past = let here = all.0 in (omega (arith, here, width, past), narrow rs all.1 past)
 
--- ---- the places of a batch's rows
+-- ---- the slots of a batch's rows
 
--- the places in the tree as it was are those in the tree by any value
-pub ArePlaces-by : (tree : TreeState) (rows : List Row) (places : List ℕ) (value : ℕ)
-    → AreStates tree → value < tree.width → ArePlaces (plain_at tree 0) rows places
-    → ArePlaces (plain_at tree value) rows places
-ArePlaces-by tree rows places value states lt are = record {
+-- the slots in the tree as it was are those in the tree by any value
+pub AreSlots-by : (tree : TreeState) (rows : List Row) (slots : List ℕ) (value : ℕ)
+    → AreStates tree → value < tree.width → AreSlots (plain_at tree 0) rows slots
+    → AreSlots (plain_at tree value) rows slots
+AreSlots-by tree rows slots value states lt are = record {
   size = are.size;
   each = λ k k_lt.
-      let place = are.each k k_lt in
+      let slot = are.each k k_lt in
       let size = states.sizes value lt in
       record {
-        within = omega (arith, size, place.within);
-        stack = states.stacks value (place_at places k) lt
-            ∙ place.stack;
+        within = omega (arith, size, slot.within);
+        stack = states.stacks value (slot_at slots k) lt
+            ∙ slot.stack;
       };
 }
 
-pub ArePlaces-first : (tree : PlainTree) (rows : List Row) (places : List ℕ)
-    → AreFirstPlaces tree (rows_at 0 rows) places (length (rows_at 0 rows)) → ArePlaces tree rows places
-ArePlaces-first tree rows places are = record {
+pub AreSlots-first : (tree : PlainTree) (rows : List Row) (slots : List ℕ)
+    → AreFirstSlots tree (rows_at 0 rows) slots (length (rows_at 0 rows)) → AreSlots tree rows slots
+AreSlots-first tree rows slots are = record {
   size = are.size ∙ length-map rows (weighing 0);
   each = λ k k_lt.
-      let place = are.each k (omega (arith, k_lt, length-map rows (weighing 0))) in
+      let slot = are.each k (omega (arith, k_lt, length-map rows (weighing 0))) in
       record {
-        within = place.within;
-        stack = place.stack
+        within = slot.within;
+        stack = slot.stack
             ∙ ap (λ row. row.stack) (get_or-map (weighing 0) rows k (record { stack = []; weights = [] }) no_row k_lt);
       };
 }

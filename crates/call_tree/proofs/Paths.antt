@@ -52,26 +52,26 @@ has_number-grown names more name (m ∷ numbers) below kept =
     let rest = has_number-grown names more name numbers (λ j h. below (suc j) (omega arith)) kept in
     λ i. here i || rest i
 
-module _ (tree named : PlainTree) (seen : List ℕ) (frames : List (List ℕ)) (i place number : ℕ) (lt : i < length frames)
-    (path : IsOnPath tree seen frames i place) (interned : IsGrown tree named) (nodes : named.nodes ≡ tree.nodes)
+module _ (tree named : PlainTree) (seen : List ℕ) (frames : List (List ℕ)) (i slot number : ℕ) (lt : i < length frames)
+    (path : IsOnPath tree seen frames i slot) (interned : IsGrown tree named) (nodes : named.nodes ≡ tree.nodes)
     (number_lt : number < length named.names)
     (number_is : name_at named.names number ≡ get_or frames i []) (state : IsState named) where
   below_named : (j : ℕ) → j < length seen → get_or seen j 0 < length named.names
   below_named j h = let b = path.below j h in let m = interned.more_names in omega (arith, b, m)
 
-  pub stack_now : stack_at named.nodes place ≡ take i frames
-  stack_now = ap (λ ns. stack_at ns place) nodes ∙ path.here
+  pub stack_now : stack_at named.nodes slot ≡ take i frames
+  stack_now = ap (λ ns. stack_at ns slot) nodes ∙ path.here
 
   seen_now : (name : List ℕ) → has_number named.names name seen ≡ has_name name (take i frames)
   seen_now name = has_number-grown tree.names named.names name seen path.below interned.kept_names ∙ path.seen_is name
 
-  pub there_is : list_any (nat_eq number) seen ≡ has_name (name_at named.names number) (stack_at named.nodes place)
+  pub there_is : list_any (nat_eq number) seen ≡ has_name (name_at named.names number) (stack_at named.nodes slot)
   there_is = sym (has_number-own named.names number seen number_lt below_named state.unlike)
       ∙ seen_now (name_at named.names number)
       ∙ ap (has_name (name_at named.names number)) (sym stack_now)
 
-  pub parent_lt : place < length named.nodes
-  parent_lt = let p = path.place_lt in let n = ap length nodes in omega (arith, p, n)
+  pub parent_lt : slot < length named.nodes
+  parent_lt = let p = path.slot_lt in let n = ap length nodes in omega (arith, p, n)
 
   last_frame : (name : List ℕ)
       → has_name name (take (i + 1) frames) ≡ (has_name name (take i frames) || is_same_name name (get_or frames i []))
@@ -114,10 +114,10 @@ module _ (tree named : PlainTree) (seen : List ℕ) (frames : List (List ℕ)) (
   pub IsOnPath-step : (after : PlainTree) (there : Bool) (next : List ℕ) (child : ℕ)
       → there ≡ list_any (nat_eq number) seen → next ≡ (if there then seen else seen ++ number ∷ [])
       → after.names ≡ named.names → child < length after.nodes
-      → stack_at after.nodes child ≡ stack_at named.nodes place ++ name_at named.names number ∷ []
+      → stack_at after.nodes child ≡ stack_at named.nodes slot ++ name_at named.names number ∷ []
       → IsOnPath after next frames (i + 1) child
   IsOnPath-step after there next child there_e next_e names child_lt child_stack = record {
-    place_lt = child_lt;
+    slot_lt = child_lt;
     here = child_stack ∙ ap (λ s. s ++ name_at named.names number ∷ []) stack_now
         ∙ ap (λ n. take i frames ++ n ∷ []) number_is ∙ sym (take_more frames i [] lt);
     below = subst (λ (s : List ℕ). (j : ℕ) → j < length s → get_or s j 0 < length after.names) (sym next_e)

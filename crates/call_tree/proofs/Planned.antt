@@ -8,7 +8,7 @@ use Rattle.profile_rows.specs.Rows.{total_of}
 use Rattle.profile_rows.specs.Aggregate.{Weighted, with_row, with_rows, aggregate_of}
 use Rattle.profile_rows.specs.Values.{Row, row_in, rows_at, value_of, weighing}
 use Rattle.call_tree.specs.State.{PlainTree, name_at, no_row, node_at, stack_at, credited, IsIndex}
-use Rattle.call_tree.specs.Plans.{ArePlaces, HasSameNodes, IsCredited, place_at}
+use Rattle.call_tree.specs.Plans.{AreSlots, HasSameNodes, IsCredited, slot_at}
 use Rattle.call_tree.proofs.Crediting.{length-credited, stack_at-credited, total_of-credited, aggregate_of-credited}
 
 pub with_rows-push : (m : Weighted) (rows : List WeightedStack) (row : WeightedStack)
@@ -25,20 +25,20 @@ row_is : (value : ℕ) (rows : List Row) (k : ℕ)
     → k < length rows → node_at (rows_at value rows) k ≡ weighing value (row_in rows k)
 row_is value rows k lt = get_or-map (weighing value) rows k (record { stack = []; weights = [] }) no_row lt
 
-module _ (before now : PlainTree) (value : ℕ) (rows : List Row) (places : List ℕ) (are : ArePlaces before rows places)
+module _ (before now : PlainTree) (value : ℕ) (rows : List Row) (slots : List ℕ) (are : AreSlots before rows slots)
     (fits : total_of before.nodes + total_of (rows_at value rows) < 2 ^ 63) (i : ℕ) (lt : i < length rows)
     (done : IsCredited before now (take i (rows_at value rows)))
     (weight : ℕ) (weight_is : weight ≡ value_of value (row_in rows i).weights) where
   in_rows : i < length (rows_at value rows)
   in_rows = omega (arith, lt, length-map rows (weighing value))
 
-  abbrev place : ℕ
-  place = place_at places i
+  abbrev slot : ℕ
+  slot = slot_at slots i
 
   here : node_at (rows_at value rows) i ≡ weighing value (row_in rows i)
   here = row_is value rows i lt
 
-  pub credit_within : place_at places i < length now.nodes
+  pub credit_within : slot_at slots i < length now.nodes
   credit_within = omega (arith, (are.each i lt).within, done.size)
 
   pub credit_fits : total_of now.nodes + weight < 2 ^ 63
@@ -49,25 +49,25 @@ module _ (before now : PlainTree) (value : ℕ) (rows : List Row) (places : List
       omega (arith, part, weight_of_row, done.total, fits)
 
   pub IsCredited-step : (next : PlainTree)
-      → next.names ≡ now.names → next.nodes ≡ credited now.nodes (place_at places i) weight
+      → next.names ≡ now.names → next.nodes ≡ credited now.nodes (slot_at slots i) weight
       → IsCredited before next (take (i + 1) (rows_at value rows))
   IsCredited-step next names nodes = record {
     names = names ∙ done.names;
-    size = ap length nodes ∙ length-credited now.nodes place weight ∙ done.size;
+    size = ap length nodes ∙ length-credited now.nodes slot weight ∙ done.size;
     stacks = λ k. ap (λ ns. stack_at ns k) nodes
-        ∙ stack_at-credited now.nodes place weight k credit_within ∙ done.stacks k;
+        ∙ stack_at-credited now.nodes slot weight k credit_within ∙ done.stacks k;
     total =
         let new : total_of next.nodes ≡ total_of now.nodes + weight = ap total_of nodes
-        ∙ total_of-credited now.nodes place weight credit_within in
+        ∙ total_of-credited now.nodes slot weight credit_within in
         let part = sum_by_more (λ (row : WeightedStack). row.weight) (rows_at value rows) i no_row in_rows in
         let weight_of_row : (node_at (rows_at value rows) i).weight ≡ weight = ap (λ row. row.weight) here
         ∙ sym weight_is in
         omega (arith, new, part, weight_of_row, done.total);
     weights =
-        let row_now : (record { stack = stack_at now.nodes place; weight = weight }) ≡ node_at (rows_at value rows) i =
-        (λ j. record { stack = (done.stacks place ∙ (are.each i lt).stack) j; weight = weight_is j }) ∙ sym here in
-        ap aggregate_of nodes ∙ aggregate_of-credited now.nodes place weight credit_within
-        ∙ ap (λ m. with_row m (record { stack = stack_at now.nodes place; weight = weight })) done.weights
+        let row_now : (record { stack = stack_at now.nodes slot; weight = weight }) ≡ node_at (rows_at value rows) i =
+        (λ j. record { stack = (done.stacks slot ∙ (are.each i lt).stack) j; weight = weight_is j }) ∙ sym here in
+        ap aggregate_of nodes ∙ aggregate_of-credited now.nodes slot weight credit_within
+        ∙ ap (λ m. with_row m (record { stack = stack_at now.nodes slot; weight = weight })) done.weights
         ∙ ap (with_row (with_rows (aggregate_of before.nodes) (take i (rows_at value rows)))) row_now
         ∙ sym
         (with_rows-push (aggregate_of before.nodes) (take i (rows_at value rows)) (node_at (rows_at value rows) i))

@@ -35,7 +35,7 @@ rows_below (row ∷ rows) (more ∷ below) =
 abbrev pub with_below : List (List ℕ) → List Node → List ℕ → List WeightedStack
 with_below names nodes below = rows_below (node_rows names nodes) below
 
--- the sums of the nodes from a place on, whose weights are added to their parents; the root's own weight is no name's
+-- the sums of the nodes from a slot on, whose weights are added to their parents; the root's own weight is no name's
 pub record AreSumsFrom
     (names : List (List ℕ)) (nodes : List Node) (sums : List Sums) (below : List ℕ) (left : ℕ) : Type 0 where
   pub size : length sums ≡ length names

@@ -41,17 +41,17 @@ module _ (tree : TreeState) (states : AreStates tree) where
       weight_in-aggregate_of (nodes_at tree value) stack
       ∙ ap (λ rows. weight_of rows stack) (nodes_at-past tree value (past value le))
 
-  pub weight_in-found : (stack : List (List ℕ)) (value place : ℕ)
-      → value < tree.width → place < length (nodes_at tree 0)
-      → stack_at (nodes_at tree 0) place ≡ stack
-      → weight_in (weights_of tree value) stack ≡ (node_at (nodes_at tree value) place).weight
-  weight_in-found stack value place lt within here =
+  pub weight_in-found : (stack : List (List ℕ)) (value slot : ℕ)
+      → value < tree.width → slot < length (nodes_at tree 0)
+      → stack_at (nodes_at tree 0) slot ≡ stack
+      → weight_in (weights_of tree value) stack ≡ (node_at (nodes_at tree value) slot).weight
+  weight_in-found stack value slot lt within here =
       let rows = nodes_at tree value in
       let size = states.sizes value lt in
-      let is : stack_at rows place ≡ stack = states.stacks value place lt ∙ here in
+      let is : stack_at rows slot ≡ stack = states.stacks value slot lt ∙ here in
       weight_in-aggregate_of rows stack
-      ∙ weight_of-at rows stack place (omega (arith, size, within)) is
-      (λ j j_lt e. (states.each value lt).apart j place j_lt (omega (arith, size, within)) (e ∙ sym is))
+      ∙ weight_of-at rows stack slot (omega (arith, size, within)) is
+      (λ j j_lt e. (states.each value lt).apart j slot j_lt (omega (arith, size, within)) (e ∙ sym is))
 
   pub weight_in-nowhere : (stack : List (List ℕ))
       → ((k : ℕ) → k < length (nodes_at tree 0) → stack_at (nodes_at tree 0) k ≡ stack → ⊥)

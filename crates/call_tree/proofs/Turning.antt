@@ -10,13 +10,13 @@ use Rattle.call_tree.specs.Shape.{node_rows}
 use Rattle.call_tree.proofs.Shapes.{stack_at-root}
 
 pub turned_step : (names : List (List ℕ))
-    (nodes : List Node) (start place parent : ℕ) (before next : List (List ℕ)) (name : List ℕ) → parent < length nodes
-    → stack_at (node_rows names nodes) start ≡ stack_at (node_rows names nodes) place ++ reverse before
-    → stack_at (node_rows names nodes) place ≡ stack_at (node_rows names nodes) parent ++ name ∷ []
+    (nodes : List Node) (start slot parent : ℕ) (before next : List (List ℕ)) (name : List ℕ) → parent < length nodes
+    → stack_at (node_rows names nodes) start ≡ stack_at (node_rows names nodes) slot ++ reverse before
+    → stack_at (node_rows names nodes) slot ≡ stack_at (node_rows names nodes) parent ++ name ∷ []
     → next ≡ before ++ name ∷ []
     → (parent < length nodes)
     × (stack_at (node_rows names nodes) start ≡ stack_at (node_rows names nodes) parent ++ reverse next)
-turned_step names nodes start place parent before next name lt whole child next_is =
+turned_step names nodes start slot parent before next name lt whole child next_is =
     let stack = stack_at (node_rows names nodes) parent in (
       lt,
       whole ∙ ap (λ s. s ++ reverse before) child ∙ append_assoc stack (name ∷ []) (reverse before)
@@ -25,10 +25,10 @@ turned_step names nodes start place parent before next name lt whole child next_
     )
 
 -- at the root nothing is left
-pub turned : (names : List (List ℕ)) (nodes : List Node) (start place : ℕ) (before : List (List ℕ)) → place ≡ 0
-    → stack_at (node_rows names nodes) start ≡ stack_at (node_rows names nodes) place ++ reverse before
+pub turned : (names : List (List ℕ)) (nodes : List Node) (start slot : ℕ) (before : List (List ℕ)) → slot ≡ 0
+    → stack_at (node_rows names nodes) start ≡ stack_at (node_rows names nodes) slot ++ reverse before
     → stack_at (node_rows names nodes) start ≡ reverse before
-turned names nodes start place before end whole =
+turned names nodes start slot before end whole =
     whole ∙ ap (λ p. stack_at (node_rows names nodes) p ++ reverse before) end
     ∙ ap (λ s. s ++ reverse before) (stack_at-root names nodes)
 

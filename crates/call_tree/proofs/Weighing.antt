@@ -89,64 +89,64 @@ AreAlike-all first tables = record { some = omega arith; each = each }
         ap (map without_weight) (nodes_of-more first tables k in_tables) ∙ without-weighed first (table_of tables k)
 
 -- a node as it is read: its links, and its weights from the table
-pub read-all : (first : List Node) (tables : List (List ℕ)) (value k place : ℕ) (weights : ℕ) → suc k ≡ value
-    → k < length tables → place < length first → weights ≡ get_or (table_of tables k) place 0
-    → with_weight (at first place) weights ≡ at (nodes_of (all_of first tables) value) place
-read-all first tables value k place weights e in_tables within is =
-    ap (with_weight (at first place)) is ∙ sym (at-weighed first (table_of tables k) place within)
-    ∙ ap (λ nodes. at nodes place) (sym (nodes_of-more first tables k in_tables))
-    ∙ ap (λ v. at (nodes_of (all_of first tables) v) place) e
+pub read-all : (first : List Node) (tables : List (List ℕ)) (value k slot : ℕ) (weights : ℕ) → suc k ≡ value
+    → k < length tables → slot < length first → weights ≡ get_or (table_of tables k) slot 0
+    → with_weight (at first slot) weights ≡ at (nodes_of (all_of first tables) value) slot
+read-all first tables value k slot weights e in_tables within is =
+    ap (with_weight (at first slot)) is ∙ sym (at-weighed first (table_of tables k) slot within)
+    ∙ ap (λ nodes. at nodes slot) (sym (nodes_of-more first tables k in_tables))
+    ∙ ap (λ v. at (nodes_of (all_of first tables) v) slot) e
 
 -- a node written by value 0: the other values have the same weights
-pub others-first : (first next : List Node) (tables : List (List ℕ)) (place : ℕ) (node : Node)
-    → without_weight node ≡ without_weight (at first place) → next ≡ set first place node
+pub others-first : (first next : List Node) (tables : List (List ℕ)) (slot : ℕ) (node : Node)
+    → without_weight node ≡ without_weight (at first slot) → next ≡ set first slot node
     → (other : ℕ) → (other ≡ 0 → ⊥) → nodes_of (all_of next tables) other ≡ nodes_of (all_of first tables) other
-others-first first next tables place node same next_is zero ne = absurd (ne refl)
-others-first first next tables place node same next_is (suc k) ne =
+others-first first next tables slot node same next_is zero ne = absurd (ne refl)
+others-first first next tables slot node same next_is (suc k) ne =
     let alike : map without_weight next ≡ map without_weight first =
-    ap (map without_weight) next_is ∙ map-set_same without_weight first place node no_node same in
+    ap (map without_weight) next_is ∙ map-set_same without_weight first slot node no_node same in
     λ i. get_or (map (λ table. weighed-alike next first table alike i) tables) k []
 
 -- a node written by a further value
-pub here-all : (first : List Node) (tables : List (List ℕ)) (value k place : ℕ) (node : Node) (next : List ℕ)
+pub here-all : (first : List Node) (tables : List (List ℕ)) (value k slot : ℕ) (node : Node) (next : List ℕ)
     → suc k ≡ value
-    → k < length tables → place < length first → place < length (table_of tables k)
-    → without_weight node ≡ without_weight (at (nodes_of (all_of first tables) value) place)
-    → next ≡ set (table_of tables k) place node.own
-    → nodes_of (all_of first (set tables k next)) value ≡ set (nodes_of (all_of first tables) value) place node
-here-all first tables value k place node next e in_tables within long same next_is =
+    → k < length tables → slot < length first → slot < length (table_of tables k)
+    → without_weight node ≡ without_weight (at (nodes_of (all_of first tables) value) slot)
+    → next ≡ set (table_of tables k) slot node.own
+    → nodes_of (all_of first (set tables k next)) value ≡ set (nodes_of (all_of first tables) value) slot node
+here-all first tables value k slot node next e in_tables within long same next_is =
     let size = length-set tables k next in
     let weights : ℕ = node.own in
     let old = nodes_of-more first tables k in_tables in
-    let links : without_weight node ≡ without_weight (at first place) =
-    same ∙ ap (λ v. without_weight (at (nodes_of (all_of first tables) v) place)) (sym e)
-    ∙ ap (λ nodes. without_weight (at nodes place)) old
-    ∙ ap without_weight (at-weighed first (table_of tables k) place within) in
-    let written : with_weight (at first place) weights ≡ node = ap (λ n. with_weight n weights) (sym links) in
+    let links : without_weight node ≡ without_weight (at first slot) =
+    same ∙ ap (λ v. without_weight (at (nodes_of (all_of first tables) v) slot)) (sym e)
+    ∙ ap (λ nodes. without_weight (at nodes slot)) old
+    ∙ ap without_weight (at-weighed first (table_of tables k) slot within) in
+    let written : with_weight (at first slot) weights ≡ node = ap (λ n. with_weight n weights) (sym links) in
     ap (nodes_of (all_of first (set tables k next))) (sym e)
     ∙ nodes_of-more first (set tables k next) k (omega (arith, size, in_tables))
     ∙ ap (weighed first) (get_or-set_same tables k next [] in_tables ∙ next_is)
-    ∙ weighed-set first (table_of tables k) place weights within long
-    ∙ (λ i. set (sym old i) place (written i))
-    ∙ ap (λ v. set (nodes_of (all_of first tables) v) place node) e
+    ∙ weighed-set first (table_of tables k) slot weights within long
+    ∙ (λ i. set (sym old i) slot (written i))
+    ∙ ap (λ v. set (nodes_of (all_of first tables) v) slot node) e
 
-pub AreTables-set : (size : ℕ) (tables : List (List ℕ)) (k place : ℕ) (weights : ℕ) (next : List ℕ)
+pub AreTables-set : (size : ℕ) (tables : List (List ℕ)) (k slot : ℕ) (weights : ℕ) (next : List ℕ)
     → AreTables size tables
     → k < length tables
-    → place < size → next ≡ set (table_of tables k) place weights → AreTables size (set tables k next)
-AreTables-set size tables k place weights next are lt within next_is = record {
+    → slot < size → next ≡ set (table_of tables k) slot weights → AreTables size (set tables k next)
+AreTables-set size tables k slot weights next are lt within next_is = record {
   long = λ j j_lt. ⊎_elim
       (λ e. let here =
       ap length (ap (λ i. table_of (set tables k next) i) e ∙ get_or-set_same tables k next [] lt ∙ next_is) in
-      omega (arith, here, length-set (table_of tables k) place weights, are.long k lt))
+      omega (arith, here, length-set (table_of tables k) slot weights, are.long k lt))
       (λ ne. let other = ap length (get_or-set_other tables k j next [] ne) in
       omega (arith, other, are.long j (omega (arith, j_lt, length-set tables k next))))
       (cases_eq j k);
   empty = λ j node past. ⊎_elim
-      (λ e. let apart : node ≡ place → ⊥ = λ f. omega (arith, f, past, within) in
+      (λ e. let apart : node ≡ slot → ⊥ = λ f. omega (arith, f, past, within) in
       ap (λ i. get_or (table_of (set tables k next) i) node 0) e
       ∙ ap (λ table. get_or table node 0) (get_or-set_same tables k next [] lt ∙ next_is)
-      ∙ get_or-set_other (table_of tables k) place node weights 0 apart ∙ are.empty k node past)
+      ∙ get_or-set_other (table_of tables k) slot node weights 0 apart ∙ are.empty k node past)
       (λ ne. ap (λ table. get_or table node 0) (get_or-set_other tables k j next [] ne) ∙ are.empty j node past)
       (cases_eq j k);
 }

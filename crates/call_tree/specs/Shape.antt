@@ -5,7 +5,7 @@ use Rattle.profile_rows.specs.Rows.{has_name, total_of}
 use Rattle.call_tree.specs.declared.node.Node.{Node}
 use Rattle.call_tree.specs.State.{name_at, stack_at}
 
--- a node's place in the tree: its parent and its name's number
+-- where a node stands in the tree: its parent and its name's number
 pub record Link : Type 0 where
   pub parent : ℕ
   pub name : ℕ

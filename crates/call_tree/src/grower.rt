@@ -17,7 +17,7 @@ use std::marker::Model;
 use std::mem;
 use std::snapshot::Snapshot;
 
-mod places;
+mod slots;
 
 /// What a [`Grower`] is about to do: the tree that it will have, with a batch more or with nothing in it. A plan
 /// remembers the grower as it was when it was made, and serves it as long as it is so.
@@ -196,7 +196,7 @@ impl Grower {
     {
         let mut grower = self;
         let mut walk = mem::replace(&mut grower.walk, Walk::new(alloc));
-        let places = grower.places_of(alloc, batch.first(), &mut walk)?;
+        let slots = grower.slots_of(alloc, batch.first(), &mut walk)?;
         let Grower {
             tree,
             numbers,
@@ -205,7 +205,7 @@ impl Grower {
         } = grower;
         tree.facts();
         Ok(Grower {
-            tree: tree.add_batch(batch, places.as_slice())?,
+            tree: tree.add_batch(batch, slots.as_slice())?,
             numbers,
             index,
             walk,
@@ -227,9 +227,9 @@ impl Grower {
         let mut walk = mem::replace(&mut self.walk, Walk::new(alloc));
         let node = self.grow(&batch.first().rows()[0].stack, &mut walk);
         self.walk = walk;
-        let place = node?;
+        let slot = node?;
         self.tree.facts();
-        self.tree.add_row(batch, place)?;
+        self.tree.add_row(batch, slot)?;
         Ok(())
     }
 
@@ -263,9 +263,9 @@ impl Grower {
         ensures next_width { IfOk result (λ plan. plan.next.width ≡ self.old.width) }
         ensures grown { AreGrown self.old self.new }
     {
-        let places = self.places_of(alloc, batch.first(), walk)?;
+        let slots = self.slots_of(alloc, batch.first(), walk)?;
         self.tree.facts();
-        let next = self.tree.with_batch(batch, places.as_slice())?;
+        let next = self.tree.with_batch(batch, slots.as_slice())?;
         Ok(Plan {
             next,
             resets: false,

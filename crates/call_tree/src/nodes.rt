@@ -71,16 +71,16 @@ impl Nodes {
     }
 
     /// A node with its weights of a value.
-    pub fn read(&self, value: u32, place: usize) -> Node
+    pub fn read(&self, value: u32, slot: usize) -> Node
         requires value { value < length self.now }
-        requires within { place < length (nodes_of self.now value) }
-        ensures { result ≡ at (nodes_of self.now value) place }
+        requires within { slot < length (nodes_of self.now value) }
+        ensures { result ≡ at (nodes_of self.now value) slot }
     {
-        let node = *self.first.read(place);
+        let node = *self.first.read(slot);
         if value == 0 {
             return node;
         }
-        let own = *self.others[value as usize - 1].read(place);
+        let own = *self.others[value as usize - 1].read(slot);
         Node {
             parent: node.parent,
             name: node.name,
@@ -91,21 +91,21 @@ impl Nodes {
 
     /// Puts a node that differs in its weight alone in place of another, for one value. Other owners of the pages keep
     /// theirs. Nothing changes where memory runs out.
-    pub fn replace(&mut self, value: u32, place: usize, node: Node) -> Result<(), AllocError>
+    pub fn replace(&mut self, value: u32, slot: usize, node: Node) -> Result<(), AllocError>
         requires value { value < length self.old }
-        requires within { place < length (nodes_of self.old value) }
-        requires same { without_weight node ≡ without_weight (at (nodes_of self.old value) place) }
+        requires within { slot < length (nodes_of self.old value) }
+        requires same { without_weight node ≡ without_weight (at (nodes_of self.old value) slot) }
         ensures width { length self.new ≡ length self.old }
-        ensures here { OnOk result (nodes_of self.new value ≡ slice_set (nodes_of self.old value) place node) }
+        ensures here { OnOk result (nodes_of self.new value ≡ slice_set (nodes_of self.old value) slot node) }
         ensures others { OnOk result
             ((other : ℕ) → (other ≡ value → ⊥) → nodes_of self.new other ≡ nodes_of self.old other) }
         ensures err { OnErr result (self.new ≡ self.old) }
     {
         if value == 0 {
-            self.first.replace(place, node)?;
+            self.first.replace(slot, node)?;
         } else {
             let table = &mut self.others[value as usize - 1];
-            table.replace(place, node.own)?;
+            table.replace(slot, node.own)?;
         }
         Ok(())
     }

@@ -6,7 +6,7 @@ ghost use Rattle.profile_rows.specs.Values.{value_of, rows_at};
 ghost use Rattle.call_tree.specs.State.{TreeState, weights_of, total_in, nodes_at, plain_at, name_at, credited, IsAppended, IsChild, IsFresh, AreStates};
 ghost use Rattle.call_tree.specs.Nodes.{AreTrees, nodes_of, plain_of};
 ghost use Rattle.call_tree.specs.Shape.{node_rows};
-ghost use Rattle.call_tree.specs.Plans.{ArePlaces, AreCredited, IsCredited};
+ghost use Rattle.call_tree.specs.Plans.{AreSlots, AreCredited, IsCredited};
 
 use crate::node::Node;
 use crate::nodes::Nodes;
@@ -72,20 +72,20 @@ impl CallTree {
     }
 
     /// This tree with the rows of a batch, each at its node. Nothing of this tree changes.
-    pub(crate) fn with_batch(&self, batch: &Batch, places: &[u32]) -> Result<CallTree, NoMemory>
+    pub(crate) fn with_batch(&self, batch: &Batch, slots: &[u32]) -> Result<CallTree, NoMemory>
         requires width { batch.now.width ≡ self.now.width }
-        requires places { ArePlaces (plain_at self.now 0) batch.now.rows places.now }
+        requires slots { AreSlots (plain_at self.now 0) batch.now.rows slots.now }
         requires fits { (value : ℕ)
             → total_of (nodes_at self.now value) + total_of (rows_at value batch.now.rows) < 2 ^ 63 }
         ensures { IfOk result (λ next. AreCredited self.now next batch.now.rows self.now.width) }
     {
-        self.share()?.add_batch(batch, places)
+        self.share()?.add_batch(batch, slots)
     }
 
     /// The tree with the rows of a batch, each at its node. Pages that nobody else owns change in place.
-    pub(crate) fn add_batch(self, batch: &Batch, places: &[u32]) -> Result<CallTree, NoMemory>
+    pub(crate) fn add_batch(self, batch: &Batch, slots: &[u32]) -> Result<CallTree, NoMemory>
         requires width { batch.now.width ≡ self.width }
-        requires places { ArePlaces (plain_at self 0) batch.now.rows places.now }
+        requires slots { AreSlots (plain_at self 0) batch.now.rows slots.now }
         requires fits { (value : ℕ)
             → total_of (nodes_at self value) + total_of (rows_at value batch.now.rows) < 2 ^ 63 }
         ensures { IfOk result (λ next. AreCredited self next batch.now.rows self.width) }
@@ -97,7 +97,7 @@ impl CallTree {
             total,
         } = self;
         for value in 0..nodes.width().get() {
-            add_rows(&names, &mut nodes, value, batch, places)?;
+            add_rows(&names, &mut nodes, value, batch, slots)?;
         }
         Ok(CallTree {
             names,
@@ -107,17 +107,17 @@ impl CallTree {
     }
 
     /// Adds a batch of one row of one value, at the row's node. Nothing changes where memory runs out.
-    pub(crate) fn add_row(&mut self, batch: &Batch, place: u32) -> Result<(), AllocError>
+    pub(crate) fn add_row(&mut self, batch: &Batch, slot: u32) -> Result<(), AllocError>
         requires single { self.old.width ≡ 1 }
         requires width { batch.now.width ≡ 1 }
         requires one { length batch.now.rows ≡ 1 }
-        requires place { ArePlaces (plain_at self.old 0) batch.now.rows (place ∷ []) }
+        requires slot { AreSlots (plain_at self.old 0) batch.now.rows (slot ∷ []) }
         requires fits { total_of (nodes_at self.old 0) + total_of (rows_at 0 batch.now.rows) < 2 ^ 63 }
         ensures ok { OnOk result (AreCredited self.old self.new batch.now.rows 1) }
         ensures err { OnErr result (self.new ≡ self.old) }
     {
         let weight = batch.weight(0, 0);
-        add_weight(&self.names, &mut self.nodes, 0, place, weight)?;
+        add_weight(&self.names, &mut self.nodes, 0, slot, weight)?;
         self.total = self.total.plus(&batch.total());
         Ok(())
     }
@@ -211,12 +211,12 @@ fn add_rows(
     nodes: &mut Nodes,
     value: u32,
     batch: &Batch,
-    places: &[u32],
+    slots: &[u32],
 ) -> Result<(), AllocError>
     requires trees { AreTrees names.now nodes.old }
     requires value { value < length nodes.old }
     requires width { value < batch.now.width }
-    requires places { ArePlaces (plain_of names.now nodes.old value) batch.now.rows places.now }
+    requires slots { AreSlots (plain_of names.now nodes.old value) batch.now.rows slots.now }
     requires fits { total_of (node_rows names.now (nodes_of nodes.old value))
         + total_of (rows_at value batch.now.rows) < 2 ^ 63 }
     ensures trees { OnOk result (AreTrees names.now nodes.new) }
@@ -226,9 +226,9 @@ fn add_rows(
     ensures others { OnOk result
         ((other : ℕ) → (other ≡ value → ⊥) → nodes_of nodes.new other ≡ nodes_of nodes.old other) }
 {
-    for index in 0..places.len() {
+    for index in 0..slots.len() {
         let weight = batch.weight(index, value);
-        add_weight(names, nodes, value, places[index], weight)?;
+        add_weight(names, nodes, value, slots[index], weight)?;
     }
     Ok(())
 }

@@ -19,7 +19,7 @@ struct Guess {
 #[derive(Drop)]
 pub struct Walk {
     /// Where a name may stand in `names`; any number for one that doesn't.
-    places: Vec<usize>,
+    positions: Vec<usize>,
     names: Vec<u32>,
     /// For each node the one below it that a walk entered last, or the root.
     guesses: Vec<Guess>,
@@ -33,8 +33,8 @@ impl Model for Walk {
     ghost view = { λ w. w.names.items };
 
     ghost invariant = { λ w. (k : ℕ) → k < length w.names.items
-        → (slice_index w.names.items k < length w.places.items)
-        × (slice_index w.places.items (slice_index w.names.items k) ≡ k) };
+        → (slice_index w.names.items k < length w.positions.items)
+        × (slice_index w.positions.items (slice_index w.names.items k) ≡ k) };
 }
 
 impl Walk {
@@ -43,7 +43,7 @@ impl Walk {
         ensures { result ≡ [] }
     {
         Walk {
-            places: Vec::new(alloc),
+            positions: Vec::new(alloc),
             names: Vec::new(alloc),
             guesses: Vec::new(alloc),
         }
@@ -61,16 +61,16 @@ impl Walk {
         ensures there { IfOk result (λ there. there ≡ list_any (nat_eq name) self.old) }
         ensures ok { IfOk result (λ there. self.new ≡ (if there then self.old else self.old ++ name ∷ [])) }
     {
-        while self.places.len() <= name as usize {
-            self.places.push(0)?;
+        while self.positions.len() <= name as usize {
+            self.positions.push(0)?;
         }
-        let place = self.places[name as usize];
-        if place < self.names.len() && self.names[place] == name {
+        let position = self.positions[name as usize];
+        if position < self.names.len() && self.names[position] == name {
             return Ok(true);
         }
-        let place = self.names.len();
+        let position = self.names.len();
         self.names.push(name)?;
-        self.places[name as usize] = place;
+        self.positions[name as usize] = position;
         Ok(false)
     }
 

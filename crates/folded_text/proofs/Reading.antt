@@ -276,7 +276,8 @@ IsLineFault-fitting earlier number line text digits weight NoMemory utf8 small c
 
 -- where memory runs out the line spells a row that can follow
 pub IsLineFault-memory : (earlier total number : ℕ) (line text digits : List ℕ) (depth weight : ℕ)
-    → total ≡ earlier → IsUtf8 line → total + weight < 2 ^ 63 → HasCount line text digits → weight ≡ digits_value 10 digits
+    → total ≡ earlier → IsUtf8 line → total + weight < 2 ^ 63 → HasCount line text digits
+    → weight ≡ digits_value 10 digits
     → depth ≡ length (frames_of text) → depth ≤ 65535 → IsLineFault earlier number line NoMemory
 IsLineFault-memory earlier total number line text digits depth weight same utf8 fits count value frames most = (
   record { stack = frames_of text; weight = weight },

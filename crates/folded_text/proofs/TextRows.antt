@@ -21,10 +21,10 @@ use borrow.Author.Tests.{ne_eqb}
 use Prim.Native.Nat.{zero, suc}
 use Rattle.profile_rows.specs.declared.weighted_stacks.WeightedStack.{WeightedStack}
 use Rattle.profile_rows.specs.Aggregate.{AreWeighty, IsAscending, aggregate_of, rows_of}
-use Rattle.profile_rows.specs.Merging.{ArePlacedBy, RowsBySpelling, row_at, row_spelled, with_added_at}
+use Rattle.profile_rows.specs.Merging.{AreIndexedBy, RowsBySpelling, row_at, row_spelled, with_added_at}
 use Rattle.profile_rows.specs.Rows.{is_same_stack, stack_cmp, total_of, weight_if}
 use Rattle.profile_rows.proofs.InOrder.{rows_of-aggregate}
-use Rattle.profile_rows.proofs.MergedRows.{AddsRow-added, ArePlacedBy-added, ArePlacedBy-push}
+use Rattle.profile_rows.proofs.MergedRows.{AddsRow-added, AreIndexedBy-added, AreIndexedBy-push}
 use Rattle.profile_rows.proofs.RowLaws.{aggregate_of-same, stack_cmp_apart, stack_cmp_total}
 use Rattle.profile_rows.proofs.SameNames.{is_same_name-self, same_from_is_same_name}
 use Rattle.folded_text.specs.declared.folded.FoldedFault.{FoldedFault}
@@ -147,8 +147,9 @@ module _ (rows : List TextState)
       let row : WeightedStack = record { stack = (row_at (spelled_rows rows) at).stack; weight = weight } in
       let adds = AddsRow-added (spelled_rows rows) at weight row in_rows (omega (arith, total_is, fits)) refl in
       record {
-        placed = subst (ArePlacedBy frames_of known)
-            (sym spelled-added) (ArePlacedBy-added frames_of known (spelled_rows rows) at weight in_rows so_far.placed);
+        indexed = subst (AreIndexedBy frames_of known)
+            (sym spelled-added)
+            (AreIndexedBy-added frames_of known (spelled_rows rows) at weight in_rows so_far.indexed);
         counted = λ text.
             let moved = sum_by-set (has text) rows at more found lt in
             let same : has text (get_or rows at found) ≡ has text more = ap (has text) (sym is) in
@@ -170,22 +171,22 @@ pub spelled-push : (rows all : List TextState) (row : TextState)
 spelled-push rows all row is = ap spelled_rows is ∙ map-append spelled_row rows (row ∷ [])
 
 pub AreKnownTexts-push : (known after : RowsBySpelling)
-    (rows all : List TextState) (row : TextState) (total place : ℕ) (are_joined both : Bool) → place ≡ length rows
-    → hash.UpdatesBy (λ x y. bytes_eq x.now y.now) (λ k. bytes_eq row.text k.now) known after (Some place)
+    (rows all : List TextState) (row : TextState) (total index : ℕ) (are_joined both : Bool) → index ≡ length rows
+    → hash.UpdatesBy (λ x y. bytes_eq x.now y.now) (λ k. bytes_eq row.text k.now) known after (Some index)
     → all ≡ rows ++ row ∷ [] → row_spelled known row.text ≡ None
     → IsStackText row.text
     → 0 < row.weight → total + row.weight < 2 ^ 63 → (both ≡ true → (are_joined ≡ true) × IsJoined row.text)
     → AreKnownTexts known rows total are_joined → AreKnownTexts after all (total + row.weight) both
 AreKnownTexts-push
-    known after rows all row total place are_joined both end updates is none text some fits joins so_far = record {
-      placed = ArePlacedBy-push frames_of known after (spelled_rows rows) (spelled_rows all) row.text row.weight place
-          (end ∙ sym (length-map rows spelled_row)) updates (spelled-push rows all row is) text.0 so_far.placed;
+    known after rows all row total index are_joined both end updates is none text some fits joins so_far = record {
+      indexed = AreIndexedBy-push frames_of known after (spelled_rows rows) (spelled_rows all) row.text row.weight index
+          (end ∙ sym (length-map rows spelled_row)) updates (spelled-push rows all row is) text.0 so_far.indexed;
       counted = λ other.
-          let leads = hash_map_updates_str row.text known after (Some place) updates other in
+          let leads = hash_map_updates_str row.text known after (Some index) updates other in
           let before = so_far.counted other in
           ap (rows_with other) is ∙ sum_by_push (has other) rows row
           ∙ elim (bytes_eq row.text other) as (λ b. bytes_eq row.text other ≡ b
-          → rows_with other rows + cond b 1 0 ≡ one_if_known (cond b (Some place) (row_spelled known other))) [
+          → rows_with other rows + cond b 1 0 ≡ one_if_known (cond b (Some index) (row_spelled known other))) [
             | true ↦ λ e.
                 let unknown : row_spelled known other ≡ None =
                 subst (λ t. row_spelled known t ≡ None) (same_from_is_same_name row.text other e) none in
@@ -223,7 +224,7 @@ AreTextRows-known known rows total are_joined e so_far = record {
 pub AreKnownTexts-none : (known : RowsBySpelling) (rows : List TextState) (total : ℕ) (are_joined : Bool) → rows ≡ []
     → total ≡ 0 → ((text : List ℕ) → row_spelled known text ≡ None) → AreKnownTexts known rows total are_joined
 AreKnownTexts-none known rows total are_joined is nothing unknown = record {
-  placed = λ text. subst
+  indexed = λ text. subst
       (λ o. IfSome o (λ at. (at < length (spelled_rows rows)) × ((row_at (spelled_rows rows) at).stack ≡ frames_of text)
       × (length (frames_of text) ≤ 65535))) (sym (unknown text)) tt;
   counted = λ text. ap (rows_with text) is ∙ ap one_if_known (sym (unknown text));

@@ -134,13 +134,13 @@ line_whole row is =
     let some = (numeral row is.fits).0.0 in
     let long : length (line_of row) ≡ length (join_with_byte 59 row.stack) + length (32 ∷ decimal row.weight) =
     length-append (join_with_byte 59 row.stack) (32 ∷ decimal row.weight) in
-    let place : length (line_of row) - 1 - length (join_with_byte 59 row.stack)
+    let index : length (line_of row) - 1 - length (join_with_byte 59 row.stack)
     ≡ suc (length (decimal row.weight) - 1) = omega arith in
     let last : get_or (line_of row) (length (line_of row) - 1) 0
     ≡ get_or (decimal row.weight) (length (decimal row.weight) - 1) 0 =
     get_or-append_right (join_with_byte 59 row.stack)
     (32 ∷ decimal row.weight) (length (join_with_byte 59 row.stack)) (length (line_of row) - 1) 0 refl (omega arith)
-    ∙ ap (λ n. get_or (32 ∷ decimal row.weight) n 0) place in
+    ∙ ap (λ n. get_or (32 ∷ decimal row.weight) n 0) index in
     let digit = All-from_recursion IsAsciiDigit (decimal row.weight) (AllDigits-each
     (decimal row.weight) (numeral row is.fits).0.1) (length (decimal row.weight) - 1) 0 (omega arith) in
     ap (λ b. cond b (take (length (line_of row) - 1) (line_of row)) (line_of row))

@@ -6,7 +6,7 @@ use Rattle.std.specs.Str.{bytes_eq}
 use Rattle.std.specs.declared.cmp.Ordering.{Ordering}
 use Rattle.profile_rows.specs.declared.weighted_stacks.WeightedStack.{WeightedStack}
 use Rattle.profile_rows.specs.Aggregate.{aggregate_of}
-use Rattle.profile_rows.specs.Merging.{ArePlacedBy, RowsBySpelling, row_spelled}
+use Rattle.profile_rows.specs.Merging.{AreIndexedBy, RowsBySpelling, row_spelled}
 use Rattle.profile_rows.specs.Rows.{total_of}
 use Rattle.profile_rows.specs.StackTexts.{TextState}
 use Rattle.folded_text.specs.FoldedText.{IsFoldedText, folded_text_of, frames_of}
@@ -47,7 +47,7 @@ pub record AreTextRows (rows : List TextState) : Type 0 where
 -- Rows of weight above 0 so far: each is known by its text, and none stands twice. `are_joined` says that no stack text
 -- has an empty frame.
 pub record AreKnownTexts (known : RowsBySpelling) (rows : List TextState) (total : ℕ) (are_joined : Bool) : Type 0 where
-  pub placed : ArePlacedBy frames_of known (spelled_rows rows)
+  pub indexed : AreIndexedBy frames_of known (spelled_rows rows)
   pub counted : (text : List ℕ) → rows_with text rows ≡ one_if_known (row_spelled known text)
   pub weighty : All (λ (row : TextState). 0 < row.weight) rows
   pub spelled : All (λ (row : TextState). IsStackText row.text) rows

@@ -24,7 +24,7 @@ use std::collections::HashMap;
 /// Rows of weight above 0, one for each stack text.
 #[derive(Drop)]
 pub(crate) struct TextRows<'a> {
-    /// The place of each stack text's row.
+    /// The index of each stack text's row.
     pub(crate) known: HashMap<&'a str, usize, Hashing>,
     pub(crate) rows: Vec<TextRow<'a>>,
     pub(crate) total: u64,
@@ -59,7 +59,7 @@ fn is_joined(text: &str, depth: usize, bytes: usize) -> bool
 /// Adds to the weight of a row.
 fn add_to_text(sums: &mut TextRows, at: usize, weight: u64, number: u64) -> Result<(), FoldedFault>
     requires known { AreKnownTexts sums.old.known sums.old.rows.items sums.old.total sums.old.are_joined }
-    requires place { at < length sums.old.rows.items }
+    requires index { at < length sums.old.rows.items }
     ensures added { OnOk result
         (spelled_rows sums.new.rows.items ≡ with_added_at (spelled_rows sums.old.rows.items) at weight) }
     ensures known { OnOk result

@@ -146,12 +146,12 @@ pub record IsRestFault (fault : WireFault) (bytes : List ℕ) : Type 0 where
 
 -- ---- where a field's bytes lie
 
--- The bytes that the value lends, if it lends any, end at the place.
+-- The bytes that the value lends, if it lends any, end at the pointer.
 abbrev pub EndsAt : Value → ℕ × ℕ → Type 0
-EndsAt (Varint number) place = Unit {0}
-EndsAt (Fixed64 number) place = Unit {0}
-EndsAt (Fixed32 number) place = Unit {0}
-EndsAt (Bytes bytes) place = (bytes.ref_ptr.0 ≡ place.0) × (bytes.ref_ptr.1 + length bytes.now ≡ place.1)
+EndsAt (Varint number) pointer = Unit {0}
+EndsAt (Fixed64 number) pointer = Unit {0}
+EndsAt (Fixed32 number) pointer = Unit {0}
+EndsAt (Bytes bytes) pointer = (bytes.ref_ptr.0 ≡ pointer.0) × (bytes.ref_ptr.1 + length bytes.now ≡ pointer.1)
 
 -- The field stands at the front of the old window, and the new window is what is left. The bytes that the
 -- field lends are those of the old window, right before the new one.
@@ -159,7 +159,7 @@ pub record IsNextField (old : Window) (field : Field) (new : Window) : Type 0 wh
   pub spelling : List ℕ
   pub after : IsAfter old spelling new
   pub spelled : IsFieldSpelling spelling (field_of field)
-  pub lent : EndsAt field.value new.place
+  pub lent : EndsAt field.value new.pointer
 
 -- ---- the shortest spelling
 

@@ -23,14 +23,14 @@ impl<'a> Model for Fields<'a> {
 
     ghost Value = { Window };
 
-    ghost view = { λ fields. record { bytes = fields.rest.now; place = fields.rest.ref_ptr } };
+    ghost view = { λ fields. record { bytes = fields.rest.now; pointer = fields.rest.ref_ptr } };
 }
 
 impl<'a> Fields<'a> {
     /// The fields of these bytes.
     pub fn new(bytes: &'a [u8]) -> Fields<'a>
         ensures bytes { result.bytes ≡ bytes.now }
-        ensures place { result.place ≡ bytes.entry.ref_ptr }
+        ensures pointer { result.pointer ≡ bytes.entry.ref_ptr }
     {
         Fields { rest: bytes }
     }
@@ -83,7 +83,7 @@ fn field_number(tag: u64) -> Result<u32, WireFault>
 fn first_field(bytes: &[u8]) -> Result<(Field<'_>, usize), WireFault>
     ensures spelled { IfOk result (λ found. IsFieldSpelling (take found.1 bytes.now) (field_of found.0)) }
     ensures within { IfOk result (λ found. (0 < found.1) × (found.1 ≤ length bytes.now)) }
-    ensures place { IfOk result (λ found.
+    ensures pointer { IfOk result (λ found.
         EndsAt found.0.value (bytes.entry.ref_ptr.0, bytes.entry.ref_ptr.1 + found.1)) }
     ensures fault { IfErr result (λ fault. IsFrontFault fault bytes.now) }
 {

@@ -2,11 +2,11 @@
 
 ghost use Rattle.std.specs.Prelude.{◌≡◌, ◌+◌, ◌≤◌, length, take, drop};
 
-/// The bytes from the place `at` on.
+/// The bytes from index `at` on.
 pub(crate) fn bytes_from(bytes: &[u8], at: usize) -> &[u8]
     requires { at ≤ length bytes.now }
     ensures value { result.now ≡ drop at bytes.now }
-    ensures place { result.ref_ptr ≡ (bytes.entry.ref_ptr.0, bytes.entry.ref_ptr.1 + at) }
+    ensures pointer { result.ref_ptr ≡ (bytes.entry.ref_ptr.0, bytes.entry.ref_ptr.1 + at) }
 {
     &bytes[at..]
 }
@@ -15,7 +15,7 @@ pub(crate) fn bytes_from(bytes: &[u8], at: usize) -> &[u8]
 pub(crate) fn first_bytes(bytes: &[u8], count: usize) -> &[u8]
     requires { count ≤ length bytes.now }
     ensures value { result.now ≡ take count bytes.now }
-    ensures place { result.ref_ptr ≡ bytes.entry.ref_ptr }
+    ensures pointer { result.ref_ptr ≡ bytes.entry.ref_ptr }
 {
     &bytes[..count]
 }

@@ -34,7 +34,7 @@ pub struct Field<'a> {
 fn first_delimited(bytes: &[u8]) -> Result<(&[u8], usize), WireFault>
     ensures spelled { IfOk result (λ found. IsDelimited (take found.1 bytes.now) found.0.now) }
     ensures within { IfOk result (λ found. found.1 ≤ length bytes.now) }
-    ensures place { IfOk result (λ found.
+    ensures pointer { IfOk result (λ found.
         (found.0.ref_ptr.0 ≡ bytes.entry.ref_ptr.0)
         × (found.0.ref_ptr.1 + length found.0.now ≡ bytes.entry.ref_ptr.1 + found.1)) }
     ensures fault { IfErr result (λ fault.
@@ -78,7 +78,7 @@ pub(crate) fn first_value(wire_type: u64, bytes: &[u8]) -> Result<(Value<'_>, us
     ensures typed { IfOk result (λ found. wire_type ≡ wire_type_of (value_of found.0)) }
     ensures spelled { IfOk result (λ found. IsValueSpelling (take found.1 bytes.now) (value_of found.0)) }
     ensures within { IfOk result (λ found. found.1 ≤ length bytes.now) }
-    ensures place { IfOk result (λ found.
+    ensures pointer { IfOk result (λ found.
         EndsAt found.0 (bytes.entry.ref_ptr.0, bytes.entry.ref_ptr.1 + found.1)) }
     ensures fault { IfErr result (λ fault. (number : ℕ)
         → IsFieldNumber number → IsTagFault fault number wire_type bytes.now) }

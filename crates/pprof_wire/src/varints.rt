@@ -6,7 +6,7 @@ ghost use Rattle.pprof_wire.specs.Varints.{IsVarint, IsVarintFault};
 use crate::faults::WireFault;
 use crate::parts::bytes_from;
 
-/// The number that is spelled as a varint at `at`, and the place after its spelling (Protocol Buffers
+/// The number that is spelled as a varint at `at`, and the index after its spelling (Protocol Buffers
 /// encoding page, "Base 128 Varints"). A spelling that is longer than needed is read too, up to ten bytes.
 ///
 /// `Truncated` where the bytes end before the spelling does, also where `at` is their end or past it;

@@ -1,4 +1,4 @@
--- Four places for one to four values, and what stands at a place.
+-- Four weights for one to four values, and what each value weighs.
 use Rattle.std.proofs.Common.{◌≡◌, ℕ, zero, suc, ◌+◌, ◌<◌, ◌≤◌, List, [], ◌∷◌, ◌++◌, length, get_or, refl, sym, ap, ◌∙◌}
 use Rattle.std.proofs.Common.{arith, take, drop, length-append, length-drop}
 use Rattle.profile_rows.specs.Values.{IsPadded, value_of}
@@ -43,47 +43,48 @@ value_of-append_zeros n v [] = value_of-zeros n v
 value_of-append_zeros n zero (x ∷ values) = refl
 value_of-append_zeros n (suc v) (x ∷ values) = value_of-append_zeros n v values
 
--- the values past the width are 0 in the places too
-pub value_of-padded : (v w : ℕ) (places : List ℕ) → IsPadded w places → value_of v (take w places) ≡ value_of v places
-value_of-padded v w places is =
-    sym (value_of-append_zeros (length (take w places)) v (take w places)) ∙ ap (value_of v) is.rest
+-- the values past the width are 0 among the four too
+pub value_of-padded : (v w : ℕ) (weights : List ℕ) → IsPadded w weights
+    → value_of v (take w weights) ≡ value_of v weights
+value_of-padded v w weights is =
+    sym (value_of-append_zeros (length (take w weights)) v (take w weights)) ∙ ap (value_of v) is.rest
 
-pub four_places : (w : ℕ) (places : List ℕ) → IsPadded w places → length places ≡ 4
-four_places w places is =
+pub four_weights : (w : ℕ) (weights : List ℕ) → IsPadded w weights → length weights ≡ 4
+four_weights w weights is =
     let few = is.few in
     let taken = is.taken in
-    let sizes = length-append (take w places) (drop (length (take w places)) zeros) in
-    let left = length-drop (length (take w places)) zeros in
+    let sizes = length-append (take w weights) (drop (length (take w weights)) zeros) in
+    let left = length-drop (length (take w weights)) zeros in
     let whole = ap length is.rest in
     omega arith
 
--- four places of which those past the width hold 0
-pub IsPadded-places : (w a b c d : ℕ) → 0 < w → w ≤ 4 → ((v : ℕ) → w ≤ v → value_of v (a ∷ b ∷ c ∷ d ∷ []) ≡ 0)
+-- four weights of which those past the width are 0
+pub IsPadded-weights : (w a b c d : ℕ) → 0 < w → w ≤ 4 → ((v : ℕ) → w ≤ v → value_of v (a ∷ b ∷ c ∷ d ∷ []) ≡ 0)
     → IsPadded w (a ∷ b ∷ c ∷ d ∷ [])
-IsPadded-places zero a b c d some few past = absurd (omega arith)
-IsPadded-places (suc zero) a b c d some few past = record {
+IsPadded-weights zero a b c d some few past = absurd (omega arith)
+IsPadded-weights (suc zero) a b c d some few past = record {
   some = some;
   few = few;
   taken = refl;
   rest = λ i. a ∷ sym (past 1 (omega arith)) i ∷ sym (past 2 (omega arith)) i ∷ sym (past 3 (omega arith)) i ∷ [];
 }
-IsPadded-places (suc (suc zero)) a b c d some few past = record {
+IsPadded-weights (suc (suc zero)) a b c d some few past = record {
   some = some;
   few = few;
   taken = refl;
   rest = λ i. a ∷ b ∷ sym (past 2 (omega arith)) i ∷ sym (past 3 (omega arith)) i ∷ [];
 }
-IsPadded-places (suc (suc (suc zero))) a b c d some few past = record {
+IsPadded-weights (suc (suc (suc zero))) a b c d some few past = record {
   some = some;
   few = few;
   taken = refl;
   rest = λ i. a ∷ b ∷ c ∷ sym (past 3 (omega arith)) i ∷ [];
 }
-IsPadded-places (suc (suc (suc (suc zero)))) a b c d some few past =
+IsPadded-weights (suc (suc (suc (suc zero)))) a b c d some few past =
     record { some = some; few = few; taken = refl; rest = refl }
-IsPadded-places (suc (suc (suc (suc (suc w))))) a b c d some few past = absurd (omega arith)
+IsPadded-weights (suc (suc (suc (suc (suc w))))) a b c d some few past = absurd (omega arith)
 
--- ---- two rows of four places, added place by place
+-- ---- two rows of four weights, added value by value
 
 module _ (w : ℕ) (xs ys : List ℕ) (x : IsPadded w xs) (y : IsPadded w ys) where
   abbrev pub added : List ℕ
@@ -96,19 +97,19 @@ module _ (w : ℕ) (xs ys : List ℕ) (x : IsPadded w xs) (y : IsPadded w ys) wh
   value_of-added (suc (suc zero)) = refl
   value_of-added (suc (suc (suc zero))) = refl
   value_of-added (suc (suc (suc (suc v)))) =
-      let of_x = four_places w xs x in
-      let of_y = four_places w ys y in
+      let of_x = four_weights w xs x in
+      let of_y = four_weights w ys y in
       let no_x = value_of-past (suc (suc (suc (suc v)))) xs (omega arith) in
       let no_y = value_of-past (suc (suc (suc (suc v)))) ys (omega arith) in
       omega arith
 
-  past-width : (v : ℕ) (places : List ℕ) → IsPadded w places → w ≤ v → value_of v places ≡ 0
-  past-width v places is past =
+  past-width : (v : ℕ) (weights : List ℕ) → IsPadded w weights → w ≤ v → value_of v weights ≡ 0
+  past-width v weights is past =
       let taken = is.taken in
-      sym (value_of-padded v w places is) ∙ value_of-past v (take w places) (omega arith)
+      sym (value_of-padded v w weights is) ∙ value_of-past v (take w weights) (omega arith)
 
   pub IsPadded-added : IsPadded w added
-  IsPadded-added = IsPadded-places w _ _ _ _ x.some x.few (λ v past.
+  IsPadded-added = IsPadded-weights w _ _ _ _ x.some x.few (λ v past.
       let no_x = past-width v xs x past in
       let no_y = past-width v ys y past in
       let both = value_of-added v in

@@ -70,10 +70,10 @@ pub named-new : (rows : List WeightedStack) (names next : List (List ℕ)) (old 
     (name : List ℕ) (number : ℕ) → next ≡ with_text names name → number ≡ number_in (with_text names name) name
     → number ≡ length old.names.items → new.total ≡ old.total → new.names.items ≡ old.names.items ++ zero_tally ∷ []
     → AreTalliesOf rows names old → AreTalliesOf rows next new
-named-new rows names next old new name number is place end total pushed are =
+named-new rows names next old new name number is number_is end total pushed are =
     let many = are.many in
     let last : length names ≤ number_in names name =
-    let same = number_in-with names name in omega (arith, many, place, end, same) in
+    let same = number_in-with names name in omega (arith, many, number_is, end, same) in
     let none : list_any (bytes_eq name) names ≡ false = none_at_end names name last in
     let longer : next ≡ names ++ name ∷ [] = is ∙ with_text-new names name none in
     record {
@@ -96,10 +96,10 @@ pub named-known : (rows : List WeightedStack) (names next : List (List ℕ)) (ta
     (name : List ℕ) (number : ℕ) → next ≡ with_text names name → number ≡ number_in (with_text names name) name
     → (number ≡ length tallies.names.items → ⊥)
     → number ≤ length names → AreTalliesOf rows names tallies → AreTalliesOf rows next tallies
-named-known rows names next tallies name number is place other most are =
+named-known rows names next tallies name number is number_is other most are =
     let many = are.many in
     let same = number_in-with names name in
-    let below : number_in names name < length names = omega (arith, many, place, other, most, same) in
+    let below : number_in names name < length names = omega (arith, many, number_is, other, most, same) in
     subst (λ ns. AreTalliesOf rows ns tallies) (sym (is ∙ with_text-there names name below)) are
 
 -- ---- rows
@@ -156,10 +156,10 @@ length-with names name =
       | false ↦ let more = length-append names (name ∷ []) in omega (arith, more)
     ]
 
--- a name that was added has its place before the end
-place-within : (names : List (List ℕ)) (name : List ℕ)
+-- the number of a name that was added is below the end
+number_is-within : (names : List (List ℕ)) (name : List ℕ)
     → number_in (with_text names name) name < length (with_text names name)
-place-within names name = elim (list_any (bytes_eq name) names) as (λ b. list_any (bytes_eq name) names ≡ b
+number_is-within names name = elim (list_any (bytes_eq name) names) as (λ b. list_any (bytes_eq name) names ≡ b
     → number_in (cond b names (names ++ name ∷ [])) name < length (cond b names (names ++ name ∷ []))) [
       | true ↦ λ e. number_in-lt names name e
       | false ↦ λ e. number_in-lt (names ++ name ∷ []) name (any_push names name name ∙ ap
@@ -174,18 +174,18 @@ place-within names name = elim (list_any (bytes_eq name) names) as (λ b. list_a
 -- the number of a name that was added is inside
 number_inside : (old new : List (List ℕ)) (name : List ℕ) (number : ℕ)
     → new ≡ with_text old name → number ≡ number_in new name → number < length new
-number_inside old new name number names place =
-    let within = place-within old name in
+number_inside old new name number names number_is =
+    let within = number_is-within old name in
     let size = ap length names in
     let same = ap (λ ns. number_in ns name) names in
-    omega (arith, within, size, place, same)
+    omega (arith, within, size, number_is, same)
 
 -- a number more, that of a frame's name
 pub frame_numbered : (rows : List WeightedStack) (old new : CountedRows) (frame : List ℕ) (number : ℕ)
     → new.names.texts ≡ with_text old.names.texts frame → number ≡ number_in new.names.texts frame
     → AreTalliesOf rows new.names.texts new.tallies → new.numbers.items ≡ old.numbers.items ++ number ∷ []
     → HasCounted rows old → HasCounted rows new
-frame_numbered rows old new frame number names place tallies numbers this =
+frame_numbered rows old new frame number names number_is tallies numbers this =
     let longer = length-with old.names.texts frame in
     let size = ap length names in
     record {
@@ -193,17 +193,17 @@ frame_numbered rows old new frame number names place tallies numbers this =
       inside = subst (All (λ n. n < length new.names.texts)) (sym numbers)
           (All-push (λ n. n < length new.names.texts) old.numbers.items number
           (λ k d lt. let within = this.inside k d lt in omega (arith, within, longer, size))
-          (number_inside old.names.texts new.names.texts frame number names place));
+          (number_inside old.names.texts new.names.texts frame number names number_is));
     }
 
 -- the name that a number more adds
 pub name_numbered : (old new : List (List ℕ)) (before after : List ℕ) (frame : List ℕ) (number : ℕ)
     → new ≡ with_text old frame → number ≡ number_in new frame → after ≡ before ++ number ∷ []
     → All (λ n. n < length old) before → names_at new after ≡ names_at old before ++ frame ∷ []
-name_numbered old new before after frame number names place numbers inside =
-    let within = number_inside old new frame number names place in
-    let at : slice_index_or new number [] ≡ frame = ap (λ n. slice_index_or new n []) place
-    ∙ text_of_number new frame (subst (λ n. n < length new) place within) in
+name_numbered old new before after frame number names number_is numbers inside =
+    let within = number_inside old new frame number names number_is in
+    let at : slice_index_or new number [] ≡ frame = ap (λ n. slice_index_or new n []) number_is
+    ∙ text_of_number new frame (subst (λ n. n < length new) number_is within) in
     ap (names_at new) numbers
     ∙ map-append (λ n. slice_index_or new n []) before (number ∷ [])
     ∙ ap (λ ns. ns ++ slice_index_or new number [] ∷ []) (ap (λ ns. names_at ns before) names

@@ -140,7 +140,7 @@ apart_at name [] number lt all = absurd (omega (arith, lt))
 apart_at name (other ∷ names) zero lt all = all.0
 apart_at name (other ∷ names) (suc number) lt all = apart_at name names number (omega (arith, lt)) all.1
 
--- the place of a number's name is the number
+-- the number of a number's name is this number
 pub number_in-own : (names : List (List ℕ)) (number : ℕ)
     → AreSingle names → number < length names → number_in names (slice_index_or names number []) ≡ number
 unfolding IsDistinct
@@ -208,7 +208,8 @@ or_right false b e = e
 
 row_counted-leaf : (row : WeightedStack) (names : List (List ℕ)) (numbers : List ℕ) (leaf number : ℕ)
     (q : List ℕ) (t : Tally) → AreSingle names → IsNumberedStack names row.stack numbers (Some leaf) → t.row < number
-    → cond (eqb leaf (number_in names q)) (leaf_counted (numbers_counted numbers number row.weight (number_in names q) t)
+    → cond (eqb leaf (number_in names q))
+    (leaf_counted (numbers_counted numbers number row.weight (number_in names q) t)
     row.weight) (numbers_counted numbers number row.weight (number_in names q) t)
     ≡ row_counted row number q t
 row_counted-leaf row names numbers leaf number q t single this fresh =
@@ -258,7 +259,8 @@ named_in name (frame ∷ stack) all has = elim (is_same_name name frame) as (λ 
       | false ↦ λ is e. named_in name stack all.1 e
     ] refl has
 
-IsTallyOf-counted : (rows : List WeightedStack) (row : WeightedStack) (earlier : ℕ) (name : List ℕ) (tally after : Tally)
+IsTallyOf-counted : (rows : List WeightedStack) (row : WeightedStack) (earlier : ℕ) (name : List ℕ)
+    (tally after : Tally)
     → All IsName row.stack → IsTallyOf rows earlier name tally
     → after ≡ row_counted row (earlier + row.weight) name tally
     → IsTallyOf (rows ++ row ∷ []) (earlier + row.weight) name after
@@ -268,7 +270,8 @@ IsTallyOf-counted rows row earlier name tally after names is counted = record {
   cumulative = ap (λ (t : Tally). t.cumulative) counted
       ∙ ap (λ n. n + weight_if (has_name name) row) is.cumulative ∙ sym (weight_where-push (has_name name) rows row);
   numbered =
-      subst (λ n. n ≤ earlier + row.weight) (sym (ap (λ (t : Tally). t.row) counted)) (within (has_name name row.stack));
+      subst (λ n. n ≤ earlier + row.weight) (sym (ap (λ (t : Tally). t.row) counted))
+      (within (has_name name row.stack));
   named =
       λ some. known (has_name name row.stack) refl (subst (λ n. 0 < n) (ap (λ (t : Tally). t.cumulative) counted) some);
 }

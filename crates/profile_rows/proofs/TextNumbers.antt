@@ -123,7 +123,8 @@ AreTextNumbers-push texts known after text at end none updates numbers = λ q.
     ∙ elim (bytes_eq text q) as (λ b. bytes_eq text q ≡ b → cond b (Some at)
     (hash.get_by (λ (key : Bor (List ℕ)). bytes_eq q key.now) known) ≡ number_if_there (texts ++ text ∷ []) q) [
       | true ↦ λ e. ap Some end
-          ∙ sym (own_number texts text none) ∙ ap (number_if_there (texts ++ text ∷ [])) (same_from_is_same_name text q e)
+          ∙ sym (own_number texts text none) ∙ ap (number_if_there (texts ++ text ∷ []))
+          (same_from_is_same_name text q e)
       | false ↦ λ e. numbers q ∙ sym (other_number texts text q (turned text q e))
     ] refl
 
@@ -156,7 +157,8 @@ with_texts-append texts [] others = refl
 with_texts-append texts (text ∷ more) others = with_texts-append (with_text texts text) more others
 
 -- adding a text leaves it the number that it has, or would have
-pub number_in-with : (texts : List (List ℕ)) (text : List ℕ) → number_in (with_text texts text) text ≡ number_in texts text
+pub number_in-with : (texts : List (List ℕ)) (text : List ℕ)
+    → number_in (with_text texts text) text ≡ number_in texts text
 number_in-with texts text = elim (list_any (bytes_eq text) texts) as (λ b. list_any (bytes_eq text) texts ≡ b
     → number_in (cond b texts (texts ++ text ∷ [])) text ≡ number_in texts text) [
       | true ↦ λ e. refl

@@ -36,8 +36,8 @@ abbrev pub row_spelled : RowsBySpelling → List ℕ → Option ℕ
 row_spelled known spelling = hash.get_by (λ (key : Bor (List ℕ)). bytes_eq spelling key.now) known
 
 -- what a spelling leads to is a row of the stack that it spells
-abbrev pub ArePlacedBy : (List ℕ → List (List ℕ)) → RowsBySpelling → List WeightedStack → Type 0
-ArePlacedBy stack_of known rows = (spelling : List ℕ)
+abbrev pub AreIndexedBy : (List ℕ → List (List ℕ)) → RowsBySpelling → List WeightedStack → Type 0
+AreIndexedBy stack_of known rows = (spelling : List ℕ)
     → IfSome (row_spelled known spelling)
     (λ at. (at < length rows) × ((row_at rows at).stack ≡ stack_of spelling)
     × (length (stack_of spelling) ≤ 65535))

@@ -13,16 +13,16 @@ pub record Row : Type 0 where
 abbrev pub value_of : ℕ → List ℕ → ℕ
 value_of value weights = slice_index_or weights value 0
 
--- four values: these, and 0 in the place of those that there aren't
+-- four values: these, and 0 for those that there aren't
 abbrev pub padded : List ℕ → List ℕ
 padded values = values ++ drop (length values) (0 ∷ 0 ∷ 0 ∷ 0 ∷ [])
 
--- four places, of which the first hold so many values, and the others 0
-pub record IsPadded (width : ℕ) (places : List ℕ) : Type 0 where
+-- four weights, of which the first are so many values, and the others 0
+pub record IsPadded (width : ℕ) (weights : List ℕ) : Type 0 where
   pub some : 0 < width
   pub few : width ≤ 4
-  pub taken : length (take width places) ≡ width
-  pub rest : padded (take width places) ≡ places
+  pub taken : length (take width weights) ≡ width
+  pub rest : padded (take width weights) ≡ weights
 
 -- a row by one of its values
 abbrev pub weighing : ℕ → Row → WeightedStack

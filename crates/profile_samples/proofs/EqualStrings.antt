@@ -22,16 +22,16 @@ pub equal_at-string : (strings : List (List ℕ)) (text : List ℕ) (index : ℤ
 equal_at-string strings text (pos index) = equal_in text strings index
 equal_at-string strings text (negsuc index) = refl
 
-abbrev first_place : (ValueType → Bool) → List ValueType → ℕ
-first_place test [] = 0
-first_place test (kind ∷ kinds) = cond (test kind) 0 (1 + first_place test kinds)
+abbrev first_index : (ValueType → Bool) → List ValueType → ℕ
+first_index test [] = 0
+first_index test (kind ∷ kinds) = cond (test kind) 0 (1 + first_index test kinds)
 
-places_alike : (p q : ValueType → Bool) → ((kind : ValueType) → p kind ≡ q kind)
+indices_alike : (p q : ValueType → Bool) → ((kind : ValueType) → p kind ≡ q kind)
     → (kinds : List ValueType) → position_or_len p kinds ≡ position_or_len q kinds
-places_alike p q alike kinds =
-    sym (is_position_or_len (first_place p) p refl (λ kind more. refl) kinds)
+indices_alike p q alike kinds =
+    sym (is_position_or_len (first_index p) p refl (λ kind more. refl) kinds)
     ∙ is_position_or_len
-    (first_place p) q refl (λ kind more. ap (λ b. cond b 0 (1 + first_place p more)) (alike kind)) kinds
+    (first_index p) q refl (λ kind more. ap (λ b. cond b 0 (1 + first_index p more)) (alike kind)) kinds
 
 -- the first sample type of a name, by what is known of each string
 pub position_of_equal : (strings : List (List ℕ)) (text : List ℕ) (kinds : List ValueType)
@@ -39,5 +39,5 @@ pub position_of_equal : (strings : List (List ℕ)) (text : List ℕ) (kinds : L
     ≡ position (λ (kind : ValueType). bytes_eq (string_at strings kind.kind) text) kinds
 position_of_equal strings text kinds =
     ap (λ n. cond (nat_lt n (length kinds)) (Some n) None)
-    (places_alike (λ kind. equal_at (equal_strings strings text) text kind.kind)
+    (indices_alike (λ kind. equal_at (equal_strings strings text) text kind.kind)
     (λ kind. bytes_eq (string_at strings kind.kind) text) (λ kind. equal_at-string strings text kind.kind) kinds)

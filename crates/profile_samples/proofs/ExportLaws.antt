@@ -125,9 +125,9 @@ stand_where (text ∷ sub) full h = (
   stand_where sub full (λ q e. h q (or_right (bytes_eq q text) (stands_in sub q) e)),
 )
 
--- ---- places
+-- ---- numbers of texts
 
--- texts that stand in one place are one text
+-- texts of one number are one text
 number_in-one : (texts : List (List ℕ)) (a b : List ℕ)
     → stands_in texts a ≡ true → stands_in texts b ≡ true → number_in texts a ≡ number_in texts b → a ≡ b
 number_in-one [] a b left right e = absurd (false≢true left)
@@ -195,9 +195,9 @@ functions_not_zero names strings (text ∷ sub) = rw (id_not_zero names text, fu
 
 -- ---- indices
 
-is_index-place : (strings : List (List ℕ)) (text : List ℕ)
+is_index-number : (strings : List (List ℕ)) (text : List ℕ)
     → stands_in strings text ≡ true → is_index (length strings) (pos (number_in strings text)) ≡ true
-is_index-place strings text e = lt-ltb (number_in strings text) (length strings) (number_in-lt strings text e)
+is_index-number strings text e = lt-ltb (number_in strings text) (length strings) (number_in-lt strings text e)
 
 is_index-zero : (strings : List (List ℕ)) → is_nonempty strings ≡ true → is_index (length strings) (pos 0) ≡ true
 is_index-zero [] e = absurd (false≢true e)
@@ -207,7 +207,7 @@ functions_index : (names strings sub : List (List ℕ)) → is_nonempty strings 
     → list_all (function_indexes (length strings)) (map (exported_function names strings) sub) ≡ true
 functions_index names strings [] some all = refl
 functions_index names strings (text ∷ sub) some all =
-    rw (is_index-place strings text all.0, is_index-zero strings some, functions_index names strings sub some all.1)
+    rw (is_index-number strings text all.0, is_index-zero strings some, functions_index names strings sub some all.1)
     refl
 
 samples_index : (names : List (List ℕ)) (count : ℕ) (rows : List Row)
@@ -235,7 +235,7 @@ types_index : (strings : List (List ℕ)) (units : List KindAndUnit) → UnitsSt
     → list_all (value_type_indexes (length strings)) (map (exported_type strings) units) ≡ true
 types_index strings [] all = refl
 types_index strings (unit ∷ units) all =
-    rw (is_index-place strings unit.0 all.0.0, is_index-place strings unit.1 all.0.1, types_index strings units all.1)
+    rw (is_index-number strings unit.0 all.0.0, is_index-number strings unit.1 all.0.1, types_index strings units all.1)
     refl
 
 units_stand : (strings : List (List ℕ)) (units : List KindAndUnit)

@@ -61,5 +61,6 @@ pub export_rows : (rows : List WeightedStack) (kind unit : List ℕ)
     → All IsBatchRow rows → total_of rows < 2 ^ 63 → AreStacksOf (single_profile_of rows kind unit) choices.Default rows
 export_rows rows kind unit each fits =
     export_one (single_batch rows) ((kind, unit) ∷ []) refl refl (single_is_batch rows fits)
-    (subst (All (λ (row : WeightedStack). All IsName row.stack × (length row.stack ≤ 65535))) (sym (rows_at-singles rows))
+    (subst (All (λ (row : WeightedStack). All IsName row.stack × (length row.stack ≤ 65535)))
+    (sym (rows_at-singles rows))
     (λ k d lt. let row = each k d lt in (row.names, row.depth)))

@@ -22,7 +22,7 @@ use Rattle.profile_samples.proofs.ExportLaws.{with_texts-own}
 use Rattle.folded_text.proofs.Reading.{IsFirstFault-folded, IsFoldedText-same}
 use Rattle.profile_rows.proofs.TextNumbers.{next_mapped, number_in-more, with_texts-append}
 
--- ---- a text that is there keeps its place
+-- ---- a text that is there keeps its number
 
 number_in-kept : (texts : List (List ℕ)) (text q : List ℕ)
     → stands_in texts q ≡ true → number_in (with_text texts text) q ≡ number_in texts q
@@ -36,17 +36,17 @@ ids_kept : (texts : List (List ℕ)) (text : List ℕ) (stack : List (List ℕ))
     → AllStand texts stack → map (id_in (with_text texts text)) stack ≡ map (id_in texts) stack
 ids_kept texts text [] all = refl
 ids_kept texts text (name ∷ stack) all =
-    ap (λ place. (place + 1) ∷ map (id_in (with_text texts text)) stack) (number_in-kept texts text name all.0)
+    ap (λ index. (index + 1) ∷ map (id_in (with_text texts text)) stack) (number_in-kept texts text name all.0)
     ∙ ap (λ ids. id_in texts name ∷ ids) (ids_kept texts text stack all.1)
 
 -- the ids of a stack's frames so far, and the next one's
-pub ids_with : (start old new seen next : List (List ℕ)) (text : List ℕ) (place : ℕ) → place ≡ number_in
+pub ids_with : (start old new seen next : List (List ℕ)) (text : List ℕ) (index : ℕ) → index ≡ number_in
     (with_text old text) text → new ≡ with_text old text → old ≡ with_texts start seen → next ≡ seen ++ text ∷ []
-    → map (id_in old) seen ++ (place + 1) ∷ [] ≡ map (id_in new) next
-ids_with start old new seen next text place is added so_far more =
+    → map (id_in old) seen ++ (index + 1) ∷ [] ≡ map (id_in new) next
+ids_with start old new seen next text index is added so_far more =
     let all : AllStand old seen = subst (λ texts. AllStand texts seen)
     (sym so_far) (stand_where seen (with_texts start seen) (λ q e. with_texts-own start seen q e)) in
-    ap (λ ids. ids ++ (place + 1) ∷ []) (sym (ids_kept old text seen all))
+    ap (λ ids. ids ++ (index + 1) ∷ []) (sym (ids_kept old text seen all))
     ∙ ap (λ p. map (id_in (with_text old text)) seen ++ (p + 1) ∷ []) is
     ∙ next_mapped (id_in (with_text old text)) seen next text more
     ∙ ap (λ names. map (id_in names) next) (sym added)

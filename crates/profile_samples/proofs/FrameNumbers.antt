@@ -257,13 +257,13 @@ list_any-map names q [] = refl
 list_any-map names q (number ∷ numbers) =
     ap (λ b. is_same_name q (slice_index_or names number []) || b) (list_any-map names q numbers)
 
-any_placed : (names : List (List ℕ)) (q : List ℕ) (frames : List (List ℕ)) → AllStand names frames → list_any
+any_known : (names : List (List ℕ)) (q : List ℕ) (frames : List (List ℕ)) → AllStand names frames → list_any
     (λ number. is_same_name q (slice_index_or names number [])) (map (number_in names) frames) ≡ has_name q frames
-any_placed names q [] all = refl
-any_placed names q (frame ∷ frames) all =
+any_known names q [] all = refl
+any_known names q (frame ∷ frames) all =
     ap (λ name. is_same_name q name || list_any (λ number. is_same_name q (slice_index_or names number []))
     (map (number_in names) frames)) (text_of_number names frame (number_in-lt names frame all.0))
-    ∙ ap (λ b. is_same_name q frame || b) (any_placed names q frames all.1)
+    ∙ ap (λ b. is_same_name q frame || b) (any_known names q frames all.1)
 
 -- what numbers say of the frames whose they are
 pub record AreNumbersOf (names frames : List (List ℕ)) (numbers : FrameNumbers) : Type 0 where
@@ -282,8 +282,9 @@ numbered names frame frames all = record {
       (all_withs (λ number. number < length names) []
       (map (number_in names) (frame ∷ frames)) tt (below names (frame ∷ frames) all));
   same = λ q. list_any-map names q (once_of (map (number_in names) (frame ∷ frames)))
-      ∙ any_withs (λ number. is_same_name q (slice_index_or names number [])) [] (map (number_in names) (frame ∷ frames))
-      ∙ any_placed names q (frame ∷ frames) all;
+      ∙ any_withs (λ number. is_same_name q (slice_index_or names number [])) []
+      (map (number_in names) (frame ∷ frames))
+      ∙ any_known names q (frame ∷ frames) all;
   leaf_inside = number_in-lt names frame all.0;
   callers = frames;
   leaf = ap (λ name. name ∷ frames) (sym (text_of_number names frame (number_in-lt names frame all.0)));

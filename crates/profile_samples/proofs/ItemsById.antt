@@ -39,15 +39,15 @@ module _ {A : Type 0} (id_of : A → ℕ) where
   ]
 
   -- where ids differ, an item that has the id is the first one that does
-  pub item_with-place : (items : List A) (at id : ℕ) → has_double (map id_of items) ≡ false
+  pub item_with-index : (items : List A) (at id : ℕ) → has_double (map id_of items) ≡ false
       → slice_get (map id_of items) at ≡ Some id → item_with id_of id items ≡ slice_get items at
-  item_with-place [] at id single e = absurd (false≢true (ap is_some e))
-  item_with-place (item ∷ items) zero id single e = rw (eq-eqb (id_of item) id (some_same (id_of item) id e)) refl
-  item_with-place (item ∷ items) (suc at) id single e =
+  item_with-index [] at id single e = absurd (false≢true (ap is_some e))
+  item_with-index (item ∷ items) zero id single e = rw (eq-eqb (id_of item) id (some_same (id_of item) id e)) refl
+  item_with-index (item ∷ items) (suc at) id single e =
       let parts = or_false (is_known (map id_of items) (id_of item)) (has_double (map id_of items)) single in
       elim (cases_eq (id_of item) id) [
         | inl same ↦ absurd (false≢true (sym parts.0 ∙ known_later items at (id_of item) (e ∙ ap Some (sym same))))
-        | inr other ↦ rw (ne_eqb (id_of item) id other) (item_with-place items at id parts.1 e)
+        | inr other ↦ rw (ne_eqb (id_of item) id other) (item_with-index items at id parts.1 e)
       ]
 
   -- an id that stands nowhere names no item
@@ -64,7 +64,7 @@ module _ {A : Type 0} (id_of : A → ℕ) where
       ((at : ℕ) → slice_get (map id_of items) at ≢ Some id) (λ at. slice_get (map id_of items) at ≡ Some id)
       → item_with id_of id items ≡ option_and_then (λ at. slice_get items at) found
   item_with-found items id None single h = item_with-none items id h
-  item_with-found items id (Some at) single h = item_with-place items at id single h
+  item_with-found items id (Some at) single h = item_with-index items at id single h
 
 -- ---- the ids of a valid profile
 

@@ -27,10 +27,10 @@ use Rattle.profile_samples.proofs.SampleRows.{one_value_room, same_count, same_f
 
 -- ---- the values of a sample
 
--- the first of four places have the values that are taken
-pub record AreTaken (values : List ℤ) (first count : ℕ) (places : List ℕ) : Type 0 where
-  pub size : length places ≡ 4
-  pub each : (k : ℕ) → k < count → slice_get values (first + k) ≡ Some (pos (get_or places k 0))
+-- the first of four weights are the values that are taken
+pub record AreTaken (values : List ℤ) (first count : ℕ) (weights : List ℕ) : Type 0 where
+  pub size : length weights ≡ 4
+  pub each : (k : ℕ) → k < count → slice_get values (first + k) ≡ Some (pos (get_or weights k 0))
 
 -- ---- faults
 
@@ -69,7 +69,8 @@ pub rows_of_choice : (draft : Draft) (choice : ValueChoice) (first width other m
     → AreRowsOfSamples draft first width samples rows → AreRowsOfSamples draft other more samples rows
 rows_of_choice draft choice first width other more samples rows one two all =
     subst (λ w. AreRowsOfSamples draft other w samples rows) (same_count draft choice first other width more one two)
-    (subst (λ f. AreRowsOfSamples draft f width samples rows) (same_first draft choice first other width more one two) all)
+    (subst (λ f. AreRowsOfSamples draft f width samples rows)
+    (same_first draft choice first other width more one two) all)
 
 -- a profile that gives a batch has no first fault but want of memory
 stands_nowhere : (most : ℕ) (draft : Draft) (choice : ValueChoice) (batch : BatchState) (fault : BatchFault)
@@ -207,7 +208,8 @@ singles_at (row ∷ rows) all =
     alone (weight ∷ next ∷ weights) one = absurd (omega (arith, one))
 
     same : (row : Row) → length row.weights ≡ 1 → single (weighing 0 row) ≡ row
-    same row one = ap (λ ws. let made : Row = record { stack = row.stack; weights = ws } in made) (alone row.weights one)
+    same row one = ap (λ ws. let made : Row = record { stack = row.stack; weights = ws } in made)
+        (alone row.weights one)
 
 -- a batch of one value has the rows of that value
 pub batch_of_one : (draft : Draft) (choice : ValueChoice) (batch : BatchState) → IsBatchOf
@@ -282,7 +284,8 @@ pub IsBatchSoFar-stands : (most : ℕ) (draft : Draft) (choice : ValueChoice) (f
     → width ≤ most → count < length draft.samples → sample ≡ get_or draft.samples count sample
     → IsBatchSoFar draft first width count batch → AreTotals batch totals
     → IsSampleFault draft first totals count sample fault → StandsAtSample most draft choice fault
-IsBatchSoFar-stands most draft choice first width count sample batch totals fault is_chosen few lt item so_far are there =
+IsBatchSoFar-stands most draft choice first width count sample batch totals fault is_chosen few lt item so_far are
+    there =
     let long : length (take count draft.samples) ≡ count = grind (arith, common_steps) in
     let back : drop count draft.samples ≡ sample ∷ drop (suc count) draft.samples =
     drop-cons draft.samples count sample lt ∙ ap (λ s. s ∷ drop (suc count) draft.samples) (sym item) in
@@ -316,7 +319,8 @@ AreStacksSoFar-row draft first count sample rows row lt item so_far this fits =
     IsBatchSoFar-row draft first 1 count sample (single_batch rows) (single row) (single_batch (rows ++ row ∷ []))
     lt item so_far this (has_room (single_batch rows) (total_of rows ∷ []) (row.weight ∷ []) (single_totals rows)
     (one_value_room (total_of rows) row.weight fits))
-    (ap (λ some. let batch : BatchState = record { width = 1; rows = some } in batch) (map-append single rows (row ∷ [])))
+    (ap (λ some. let batch : BatchState = record { width = 1; rows = some } in batch)
+    (map-append single rows (row ∷ [])))
 
 pub AreStacksSoFar-stands : (draft : Draft) (choice : ValueChoice) (first count : ℕ) (sample : Sample)
     (rows : List WeightedStack) (fault : BatchFault) → chosen_types_of draft choice ≡ Some (first, 1)

@@ -24,7 +24,8 @@ use Rattle.profile_samples.specs.declared.sampling.ValueChoice.{ValueChoice}
 use Rattle.profile_samples.specs.declared.sampling.ValueChoice.TheVariants.{Default, Named, All}
 use Rattle.profile_samples.specs.Batches.{AreRowsOfSamples}
 use Rattle.profile_samples.specs.Samples.{HasWeights, IsFitFault, IsRowOfSample, IsSampleFault, IsValueFault, all_of}
-use Rattle.profile_samples.specs.Samples.{chosen_types_of, default_type, frames_of_ids, is_zero, last_index, one_from, or_last, sample_stack_of}
+use Rattle.profile_samples.specs.Samples.{chosen_types_of, default_type, frames_of_ids, is_zero}
+use Rattle.profile_samples.specs.Samples.{last_index, one_from, or_last, sample_stack_of}
 use Rattle.profile_samples.specs.Samples.{string_at, type_named}
 use Rattle.profile_samples.proofs.ItemsById.{rule_holds}
 

@@ -9,7 +9,7 @@ ghost use Rattle.profile_rows.specs.Rows.{total_of};
 ghost use Rattle.profile_rows.specs.Values.{single};
 ghost use Rattle.profile_samples.specs.Samples.{IsRowOfSample, IsSampleFault, chosen_types_of, sample_stack_of};
 ghost use Rattle.profile_samples.specs.Batches.{AreStacksOf, IsFirstStacksFault, StandsAtSample};
-ghost use Rattle.profile_rows.specs.Merging.{AddsRow, ArePlacedBy, with_added_at};
+ghost use Rattle.profile_rows.specs.Merging.{AddsRow, AreIndexedBy, with_added_at};
 ghost use Rattle.profile_samples.specs.MergedSamples.{IsMergedBatch};
 
 use crate::sampling::{BatchFault, ValueChoice, check_fit, chosen_value, stack_at, weight_of};
@@ -48,10 +48,10 @@ fn push_merged<'a>(
 ) -> Result<(), NoMemory>
     requires depth { length (sample_stack_of frames.now ids.now) ≤ 65535 }
     requires fits { total_of merged.old + weight < 2 ^ 63 }
-    requires placed { ArePlacedBy (sample_stack_of frames.now) known.old merged.old }
+    requires indexed { AreIndexedBy (sample_stack_of frames.now) known.old merged.old }
     ensures added { OnOk result
         (AddsRow merged.old merged.new (record { stack = sample_stack_of frames.now ids.now; weight = weight })) }
-    ensures placed { OnOk result (ArePlacedBy (sample_stack_of frames.now) known.new merged.new) }
+    ensures indexed { OnOk result (AreIndexedBy (sample_stack_of frames.now) known.new merged.new) }
 {
     let at = merged.rows().len();
     push_row(alloc, frames, merged, ids, weight)?;
@@ -89,11 +89,11 @@ fn merge_sample<'a>(
     number: u64,
 ) -> Result<(), BatchFault>
     requires values { chosen < length sample.now.values }
-    requires placed { ArePlacedBy (sample_stack_of frames.now) known.old merged.old }
+    requires indexed { AreIndexedBy (sample_stack_of frames.now) known.old merged.old }
     ensures added { OnOk result
         ((row : WeightedStack) × IsRowOfSample frames.now chosen 1 sample.now (single row)
         × AddsRow merged.old merged.new row) }
-    ensures placed { OnOk result (ArePlacedBy (sample_stack_of frames.now) known.new merged.new) }
+    ensures indexed { OnOk result (AreIndexedBy (sample_stack_of frames.now) known.new merged.new) }
     ensures fault { IfErr result (IsSampleFault frames.now chosen (total_of merged.old ∷ []) number sample.now) }
 {
     let ids = sample.location_ids.as_slice();
@@ -118,7 +118,7 @@ fn merged_by<'a>(
 ) -> Result<WeightedStacks, BatchFault>
     requires framed { frames.now ≡ profile.now }
     requires typed { chosen < length profile.now.sample_types }
-    requires placed { ArePlacedBy (sample_stack_of profile.now) known [] }
+    requires indexed { AreIndexedBy (sample_stack_of profile.now) known [] }
     ensures { (choice : ValueChoice) → chosen_types_of profile.now choice ≡ Some (chosen, 1)
         → MatchResult result (λ merged. IsMergedBatch profile.now choice merged)
         (λ fault. StandsAtSample 1 profile.now choice fault) }

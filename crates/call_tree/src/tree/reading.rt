@@ -35,9 +35,9 @@ impl CallTree {
         let width = self.nodes.width();
         let count = width.get();
         let mut weights = [0; 4];
-        if let Some(place) = self.place_of(stack) {
+        if let Some(slot) = self.slot_of(stack) {
             for value in 0..count {
-                weights[value as usize] = self.nodes.read(value, place).own;
+                weights[value as usize] = self.nodes.read(value, slot).own;
             }
         }
         weights_from(&weights, width)
@@ -45,29 +45,29 @@ impl CallTree {
 
     /// The node of exactly this stack, where there is one. One pass over the nodes, since a node stands after its
     /// parent.
-    fn place_of(&self, stack: &Stack) -> Option<usize>
+    fn slot_of(&self, stack: &Stack) -> Option<usize>
         ensures { MatchOption result
             ((k : ℕ) → k < length (nodes_at self.now 0) → stack_at (nodes_at self.now 0) k ≡ stack.now → ⊥)
-            (λ place. (place < length (nodes_at self.now 0)) × (stack_at (nodes_at self.now 0) place ≡ stack.now)) }
+            (λ slot. (slot < length (nodes_at self.now 0)) × (stack_at (nodes_at self.now 0) slot ≡ stack.now)) }
     {
         self.nodes.facts();
         let frames = stack.names();
-        let mut place = 0usize;
+        let mut slot = 0usize;
         let mut depth = 0usize;
         for index in 1..self.nodes.len() {
             if depth == frames.len() {
                 break;
             }
             let node = self.nodes.read(0, index);
-            if node.parent as usize == place
+            if node.parent as usize == slot
                 && *self.names.read(node.name as usize) == frames[depth]
             {
-                place = index;
+                slot = index;
                 depth += 1;
             }
         }
         if depth == frames.len() {
-            Some(place)
+            Some(slot)
         } else {
             None
         }
@@ -141,12 +141,12 @@ impl CallTree {
     {
         self.nodes.facts();
         let mut names = Vec::new(alloc);
-        let mut place = at;
-        while place != 0 {
-            let node = self.nodes.read(0, place);
+        let mut slot = at;
+        while slot != 0 {
+            let node = self.nodes.read(0, slot);
             let name = self.names.read(node.name as usize).share()?;
             names.push(name)?;
-            place = node.parent as usize;
+            slot = node.parent as usize;
         }
         names.reverse();
         let fits = names.len() <= MAX_DEPTH;
@@ -197,11 +197,11 @@ impl CallTree {
     {
         self.nodes.facts();
         frames.clear();
-        let mut place = at;
-        while place != 0 {
-            let node = self.nodes.read(0, place);
+        let mut slot = at;
+        while slot != 0 {
+            let node = self.nodes.read(0, slot);
             frames.push(self.names.read(node.name as usize).text())?;
-            place = node.parent as usize;
+            slot = node.parent as usize;
         }
         frames.reverse();
         Ok(())
@@ -309,16 +309,16 @@ fn weighing(width: Width, value: u32, weight: u64) -> Weights
     ensures here { value_of value result ≡ weight }
     ensures others { (other : ℕ) → (other ≡ value → ⊥) → value_of other result ≡ 0 }
 {
-    let mut places = [0; 4];
-    places[value as usize] = weight;
-    weights_from(&places, width)
+    let mut weights = [0; 4];
+    weights[value as usize] = weight;
+    weights_from(&weights, width)
 }
 
-/// The first of four places, as many as the width says.
-fn weights_from(places: &[u64; 4], width: Width) -> Weights
-    ensures { result ≡ take width places.now }
+/// The first of four weights, as many as the width says.
+fn weights_from(weights: &[u64; 4], width: Width) -> Weights
+    ensures { result ≡ take width weights.now }
 {
-    match Weights::make(&places[..width.get() as usize]) {
+    match Weights::make(&weights[..width.get() as usize]) {
         Some(weights) => weights,
         None => unreachable!(),
     }

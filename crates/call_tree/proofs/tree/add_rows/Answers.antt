@@ -9,9 +9,9 @@ add_weight-requires-clause-within c =
     let names = c.args.names.now in
     let value = c.args.value in
     let rows = c.args.batch.now.rows in
-    let lt : c.loop-index.index < length rows = omega (arith, c.loop-index-test.true, c.requires.places.size) in
+    let lt : c.loop-index.index < length rows = omega (arith, c.loop-index-test.true, c.requires.slots.size) in
     let within = credit_within (plain_of names c.args.nodes.now value)
-    (plain_of names c.loop-index.nodes value) value rows c.args.places.now c.requires.places c.requires.fits
+    (plain_of names c.loop-index.nodes value) value rows c.args.slots.now c.requires.slots c.requires.fits
     c.loop-index.index lt c.loop-index.invariant.done c.weight-weight.result c.weight-weight.ensures in
     omega (arith, within, length-node_rows names (nodes_of c.loop-index.nodes value))
 
@@ -20,9 +20,9 @@ add_weight-requires-clause-fits c =
     let names = c.args.names.now in
     let value = c.args.value in
     let rows = c.args.batch.now.rows in
-    let lt : c.loop-index.index < length rows = omega (arith, c.loop-index-test.true, c.requires.places.size) in
+    let lt : c.loop-index.index < length rows = omega (arith, c.loop-index-test.true, c.requires.slots.size) in
     credit_fits (plain_of names c.args.nodes.now value)
-    (plain_of names c.loop-index.nodes value) value rows c.args.places.now c.requires.places c.requires.fits
+    (plain_of names c.loop-index.nodes value) value rows c.args.slots.now c.requires.slots c.requires.fits
     c.loop-index.index lt c.loop-index.invariant.done c.weight-weight.result c.weight-weight.ensures
 
 pub loop-index-preserved : goal.loop-index-preserved
@@ -31,13 +31,13 @@ loop-index-preserved c =
     let value = c.args.value in
     let rows = c.args.batch.now.rows in
     let so_far = c.loop-index.invariant in
-    let lt : c.loop-index.index < length rows = omega (arith, c.loop-index-test.true, c.requires.places.size) in
+    let lt : c.loop-index.index < length rows = omega (arith, c.loop-index-test.true, c.requires.slots.size) in
     let added = c.in_ok-add_weight.ensures in
     record {
       trees = added.trees;
       width = added.width ∙ so_far.width;
       done = IsCredited-step (plain_of names c.args.nodes.now value)
-          (plain_of names c.loop-index.nodes value) value rows c.args.places.now c.requires.places c.requires.fits
+          (plain_of names c.loop-index.nodes value) value rows c.args.slots.now c.requires.slots c.requires.fits
           c.loop-index.index lt so_far.done c.weight-weight.result c.weight-weight.ensures
           (plain_of names c.add_weight.new.nodes value) refl added.nodes;
       others = λ other ne. added.others other ne ∙ so_far.others other ne;

@@ -14,7 +14,8 @@ pub returns-then-at-right : goal.returns-then-at-right
 returns-then-at-right c =
     elim c.then-at-right.branch [
       | then-at-right-via-then-at-right w ↦
-          let none = nothing_shared (eq_by_cmp name_cmp) c.args.left.now c.args.right.now c.loop-at.at w.if-at-right.true in
+          let none = nothing_shared (eq_by_cmp name_cmp) c.args.left.now c.args.right.now c.loop-at.at
+          w.if-at-right.true in
           record { shared = omega (arith, none, c.loop-at.invariant.so_far); short = omega arith }
       | then-at-right-via-else-at-right+then-ne w ↦
           let unlike : pointwise ◌==◌ c.index-left-at.result w.index-right-at.result ≡ false = not-true _ (cc) in

@@ -18,7 +18,7 @@ returns-else-number-len-clause-tallies c = λ rows are.
     let most : c.in_ok-number.number ≤ length c.args.names.now.texts =
     let le = number_in-le c.args.names.now.texts c.args.name.now in
     let same = number_in-with c.args.names.now.texts c.args.name.now in
-    let place = c.in_ok-number.ensures.number in
-    omega (arith, le, same, place) in
+    let number_is = c.in_ok-number.ensures.number in
+    omega (arith, le, same, number_is) in
     named-known rows c.args.names.now.texts c.number_with.new.self.texts c.args.tallies.now
     c.args.name.now c.in_ok-number.number c.in_ok-number.ensures.texts c.in_ok-number.ensures.number other most are

@@ -39,7 +39,8 @@ returns-then-at-frames c =
     let many = length-map c.args.numbers.now (λ number. slice_index_or c.args.names.now.texts number []) in
     elim c.then-at-frames.branch [
       | then-at-frames-via-then-at-frames w ↦
-          let none = nothing_shared bytes_eq names frames at (let end = w.if-at-frames.true in omega (arith, end, long)) in
+          let none = nothing_shared bytes_eq names frames at
+          (let end = w.if-at-frames.true in omega (arith, end, long)) in
           let so_far = c.loop-at.invariant.so_far in
           omega (arith, none, so_far)
       | then-at-frames-via-else-at-frames+then-ne w ↦

@@ -26,11 +26,11 @@ pub returns-else-count-gt0 : goal.returns-else-count-gt0
 returns-else-count-gt0 c = λ at end same. elim c.else-count-gt0.branch [
   | else-count-gt0-via-then-count-gt0+else-eq w ↦
       let last = slice_index_or c.args.rows.now (length c.args.rows.now - 1) w.index-rows-count.result in
-      let place : length c.args.rows.now - 1 ≡ at = omega (arith, end) in
+      let index : length c.args.rows.now - 1 ≡ at = omega (arith, end) in
       let read : row_at c.args.rows.now (length c.args.rows.now - 1) ≡ last = get_or_default c.args.rows.now
       (length c.args.rows.now - 1) no_row w.index-rows-count.result (omega (arith, end)) in
       let equal = (pointwise_decides is_same_name-decides last.stack c.args.stack.now).1
-      (sym (ap (λ (row : WeightedStack). row.stack) read) ∙ ap (λ k. (row_at c.args.rows.now k).stack) place ∙ same) in
+      (sym (ap (λ (row : WeightedStack). row.stack) read) ∙ ap (λ k. (row_at c.args.rows.now k).stack) index ∙ same) in
       let told : pointwise (pointwise ◌==◌) last.stack c.args.stack.now ≡ false = sym w.eq.ensures ∙ w.if-eq.false in
       let clash : true ≡ false = sym equal ∙ told in cc
   | else-count-gt0-via-else-count-gt0 w ↦ omega (arith, w.if-count-gt0.false, end)

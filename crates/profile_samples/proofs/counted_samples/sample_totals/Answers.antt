@@ -30,7 +30,8 @@ returns-in_err-chosen-clause-every_fault c =
     let first = subst (λ d. IsFirstStacksFault d c.args.choice c.in_err-chosen.field-0.0)
     c.draft.ensures.draft c.in_err-chosen.ensures in
     rw (p.1, p.2) (only_first_fault (AreTotalsOfSamples c.args.profile.now c.args.choice) 1 c.args.profile.now
-    c.args.choice (Err c.in_err-chosen.field-0.0) (λ totals these. (single_batch these.rows, omega arith, these.sampled)) first)
+    c.args.choice (Err c.in_err-chosen.field-0.0) (λ totals these.
+    (single_batch these.rows, omega arith, these.sampled)) first)
 
 pub returns-in_err-frames-clause-read : goal.returns-in_err-frames-clause-read
 returns-in_err-frames-clause-read c =

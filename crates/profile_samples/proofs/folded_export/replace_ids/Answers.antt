@@ -1,4 +1,4 @@
--- Each frame has its place, and a place stays as more names come.
+-- Each frame has its number, and a number stays as more names come.
 use Rattle.std.proofs.Common.{◌≡◌, ◌<◌, ◌+◌, ℕ, List, [], ◌∷◌, ◌++◌, length, map, slice_index_or, take, sym, ap, ◌∙◌}
 use Rattle.std.proofs.Common.{subst}
 use Rattle.std.proofs.lemmas.List.{get_or-map, length-map, take_more}

@@ -11,7 +11,7 @@ use Rattle.profile_rows.specs.Rows.{total_of}
 use Rattle.profile_rows.specs.Values.{single}
 use Rattle.profile_samples.specs.Samples.{IsFitFault, IsRowOfSample, IsSampleFault, IsValueFault, sample_stack_of}
 use Rattle.profile_rows.specs.Merging.{AddsRow, row_at, row_spelled, with_added_at}
-use Rattle.profile_rows.proofs.MergedRows.{AddsRow-added, IsPlacedAt, placed_at}
+use Rattle.profile_rows.proofs.MergedRows.{AddsRow-added, IsIndexedAt, indexed_at}
 use Rattle.profile_samples.proofs.SampleRows.{Decides, IsSampleFault-fit, fits_in, one_value_below, one_value_memory}
 use Rattle.profile_samples.proofs.SampleRows.{one_value_row}
 use Rattle.profile_samples.proofs.merged_samples.merge_sample.Goals as goal
@@ -20,7 +20,7 @@ use Rattle.profile_samples.proofs.merged_samples.merge_sample.Goals as goal
 added_to : (draft : Draft)
     (chosen at weight : ℕ) (sample : Sample) (sums new : List WeightedStack) (outcome : Result (Unit {0}) BatchFault)
     → slice_get sample.values chosen ≡ Some (pos weight)
-    → IsPlacedAt (sample_stack_of draft) sums sample.location_ids at
+    → IsIndexedAt (sample_stack_of draft) sums sample.location_ids at
     → OnOk outcome (new ≡ with_added_at sums at weight) → OnOk outcome (total_of sums + weight < 2 ^ 63)
     → OnOk outcome ((row : WeightedStack) × IsRowOfSample draft chosen 1 sample (single row) × AddsRow sums new row)
 added_to draft chosen at weight sample sums new (Ok done) value there added fits =
@@ -36,7 +36,7 @@ added_to draft chosen at weight sample sums new (Err fault) value there added fi
 refused_at : (draft : Draft)
     (chosen at weight number : ℕ) (sample : Sample) (sums : List WeightedStack) (outcome : Result (Unit {0}) BatchFault)
     → slice_get sample.values chosen ≡ Some (pos weight)
-    → IsPlacedAt (sample_stack_of draft) sums sample.location_ids at
+    → IsIndexedAt (sample_stack_of draft) sums sample.location_ids at
     → IfErr outcome (λ fault. (fault ≡ Heavy number) × (2 ^ 63 ≤ total_of sums + weight))
     → IfErr outcome (IsSampleFault draft chosen (total_of sums ∷ []) number sample)
 refused_at draft chosen at weight number sample sums (Ok done) value there fault = tt
@@ -61,8 +61,8 @@ pub add_to_row-requires : goal.add_to_row-requires
 add_to_row-requires c =
     let found : row_spelled c.args.known.now c.as_slice-ids.result.now ≡ Some c.in-Some.at = sym c.get.ensures.value
     ∙ sym c.copied.ensures ∙ c.in-Some.is in
-    (placed_at (sample_stack_of c.args.frames.now)
-    c.args.known.now c.args.merged.now c.as_slice-ids.result.now c.in-Some.at c.requires.placed found).0
+    (indexed_at (sample_stack_of c.args.frames.now)
+    c.args.known.now c.args.merged.now c.as_slice-ids.result.now c.in-Some.at c.requires.indexed found).0
 
 pub returns-in-Some-clause-added : goal.returns-in-Some-clause-added
 returns-in-Some-clause-added c =
@@ -70,10 +70,10 @@ returns-in-Some-clause-added c =
     c.as_slice.ensures c.in_ok-weight.ensures.weight.0 in
     let found : row_spelled c.args.known.now c.as_slice-ids.result.now ≡ Some c.in-Some.at = sym c.get.ensures.value
     ∙ sym c.copied.ensures ∙ c.in-Some.is in
-    let there = subst (λ ids. IsPlacedAt (sample_stack_of c.args.frames.now) c.args.merged.now ids c.in-Some.at)
+    let there = subst (λ ids. IsIndexedAt (sample_stack_of c.args.frames.now) c.args.merged.now ids c.in-Some.at)
     c.as_slice-ids.ensures
-    (placed_at (sample_stack_of c.args.frames.now)
-    c.args.known.now c.args.merged.now c.as_slice-ids.result.now c.in-Some.at c.requires.placed found) in
+    (indexed_at (sample_stack_of c.args.frames.now)
+    c.args.known.now c.args.merged.now c.as_slice-ids.result.now c.in-Some.at c.requires.indexed found) in
     added_to c.args.frames.now c.args.chosen c.in-Some.at c.in_ok-weight.weight c.args.sample.now c.args.merged.now
     c.add_to_row.new.merged c.add_to_row.result value there c.add_to_row.ensures.added c.add_to_row.ensures.fits
 
@@ -83,10 +83,10 @@ returns-in-Some-clause-fault c =
     c.as_slice.ensures c.in_ok-weight.ensures.weight.0 in
     let found : row_spelled c.args.known.now c.as_slice-ids.result.now ≡ Some c.in-Some.at = sym c.get.ensures.value
     ∙ sym c.copied.ensures ∙ c.in-Some.is in
-    let there = subst (λ ids. IsPlacedAt (sample_stack_of c.args.frames.now) c.args.merged.now ids c.in-Some.at)
+    let there = subst (λ ids. IsIndexedAt (sample_stack_of c.args.frames.now) c.args.merged.now ids c.in-Some.at)
     c.as_slice-ids.ensures
-    (placed_at (sample_stack_of c.args.frames.now)
-    c.args.known.now c.args.merged.now c.as_slice-ids.result.now c.in-Some.at c.requires.placed found) in
+    (indexed_at (sample_stack_of c.args.frames.now)
+    c.args.known.now c.args.merged.now c.as_slice-ids.result.now c.in-Some.at c.requires.indexed found) in
     refused_at c.args.frames.now c.args.chosen c.in-Some.at c.in_ok-weight.weight
     c.args.number c.args.sample.now c.args.merged.now c.add_to_row.result value there c.add_to_row.ensures.fault
 
@@ -112,6 +112,7 @@ returns-in_err-push_merged-in-None-clause-fault c =
     let deep = fits_in c.args.frames.now c.args.sample.now.location_ids c.fit.result decides
     c.in_ok-check_fit-in-None.ensures.depth in
     let fits = subst
-    (λ earlier. earlier + c.in_ok-weight.weight < 2 ^ 63) c.total.ensures.total c.in_ok-check_fit-in-None.ensures.fits in
+    (λ earlier. earlier + c.in_ok-weight.weight < 2 ^ 63) c.total.ensures.total
+    c.in_ok-check_fit-in-None.ensures.fits in
     rw (p.1, p.2) (one_value_memory c.args.frames.now c.args.chosen
     (total_of c.args.merged.now) c.args.number c.args.sample.now c.in_ok-weight.weight value deep fits)

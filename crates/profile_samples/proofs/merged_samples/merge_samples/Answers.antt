@@ -25,7 +25,8 @@ returns-in_err-chosen-clause-every_fault c =
     let first = subst (λ d. IsFirstStacksFault d c.args.choice c.in_err-chosen.field-0.0)
     c.draft.ensures.draft c.in_err-chosen.ensures in
     rw (p.1, p.2) (only_first_fault (λ sums. IsMergedBatch c.args.profile.now c.args.choice sums) 1 c.args.profile.now
-    c.args.choice (Err c.in_err-chosen.field-0.0) (λ sums merged. (single_batch merged.rows, omega arith, merged.sampled)) first)
+    c.args.choice (Err c.in_err-chosen.field-0.0) (λ sums merged.
+    (single_batch merged.rows, omega arith, merged.sampled)) first)
 
 pub returns-in_err-known-clause-read : goal.returns-in_err-known-clause-read
 returns-in_err-known-clause-read c =

@@ -14,7 +14,7 @@ add_row-requires-clause-fits c =
     let tree = c.self-2.inside.tree in
     let same : weights_of tree 0 ≡ weights_of c.args.self.now 0 =
     ap (λ (t : TreeState). weights_of t 0) c.self-2.view_is
-    ∙ weights-grown c.self.inside.tree c.grow-node.new.self c.in_ok-place.ensures.grown 0
+    ∙ weights-grown c.self.inside.tree c.grow-node.new.self c.in_ok-slot.ensures.grown 0
     ∙ ap (λ (t : TreeState). weights_of t 0) c.self.view_is in
     omega (arith, c.requires.fits 0, total_in-weights_of tree 0, ap total_in same)
 
@@ -22,7 +22,7 @@ pub returns-in_err-add_row-clause-same : goal.returns-in_err-add_row-clause-same
 returns-in_err-add_row-clause-same c =
     let same : (value : ℕ) → weights_of c.add_row.new.self value ≡ weights_of c.args.self.now value = λ value.
     ap (λ (t : TreeState). weights_of t value) (c.in_err-add_row.ensures.err ∙ c.self-2.view_is)
-    ∙ weights-grown c.self.inside.tree c.grow-node.new.self c.in_ok-place.ensures.grown value
+    ∙ weights-grown c.self.inside.tree c.grow-node.new.self c.in_ok-slot.ensures.grown value
     ∙ ap (λ (t : TreeState). weights_of t value) c.self.view_is in
     search rules
 
@@ -44,5 +44,5 @@ returns-clause-weights c = λ value.
     weights-credited
     tree c.add_row.new.self batch 1 c.first.ensures.batch c.requires.width c.in_ok-add_row.ensures.ok value
     ∙ ap (λ m. with_rows m (rows_at value batch.rows)) (ap (λ (t : TreeState). weights_of t value) c.self-2.view_is
-    ∙ weights-grown c.self.inside.tree c.grow-node.new.self c.in_ok-place.ensures.grown value
+    ∙ weights-grown c.self.inside.tree c.grow-node.new.self c.in_ok-slot.ensures.grown value
     ∙ ap (λ (t : TreeState). weights_of t value) c.self.view_is)

@@ -13,11 +13,11 @@ returns-in-Some-clause-path c =
     let number = c.in-Some.number in
     let frame : c.index-frames-depth.result ≡ get_or frames c.args.depth [] =
     get_or_read frames c.args.depth c.index-frames-depth.result c.requires.within c.index-frames-depth.is [] in
-    let child = subst (λ (t : TreeState). IsChild (plain_at t 0) c.args.place number c.guess-guess.result)
+    let child = subst (λ (t : TreeState). IsChild (plain_at t 0) c.args.slot number c.guess-guess.result)
     c.self.view_is c.in-Some.ensures.0 in
     let name : name_at tree.names number ≡ c.index-frames-depth.result =
     ap (λ t. name_at t.names number) (sym c.self.view_is) ∙ c.in-Some.ensures.1 in
-    IsOnPath-step tree tree c.args.walk.now frames c.args.depth c.args.place number
+    IsOnPath-step tree tree c.args.walk.now frames c.args.depth c.args.slot number
     c.requires.within c.requires.path (IsGrown-refl tree) refl child.name_lt (name ∙ frame) (states.each 0 states.some)
     tree c.in_ok-_there._there c.add.new.self
     c.guess-guess.result c.in_ok-_there.ensures.there c.in_ok-_there.ensures.ok refl child.child_lt child.stack

@@ -16,7 +16,7 @@ child-requires-clause-counts c =
     let some : 0 < length c.args.self.now.values = omega (arith, grown.count, states.some, states.width) in
     let nodes = ap (λ values. get_or values 0 []) c.in_ok-number.ensures.values in
     ap not (c.in_ok-there.ensures.there ∙ there_is (plain_at c.args.self.now 0)
-    (plain_at c.intern.new.self 0) c.args.walk.now frames c.args.depth c.args.place c.in_ok-number.number
+    (plain_at c.intern.new.self 0) c.args.walk.now frames c.args.depth c.args.slot c.in_ok-number.number
     c.requires.within c.requires.path
     (grown.each 0 some) nodes c.in_ok-number.ensures.number.0 (c.in_ok-number.ensures.number.1 ∙ frame) state)
 
@@ -31,10 +31,10 @@ returns-clause-path c =
     let some : 0 < length c.args.self.now.values = omega (arith, grown.count, states.some, states.width) in
     let nodes = ap (λ values. get_or values 0 []) c.in_ok-number.ensures.values in
     if_ok_more c.child.result _ _
-    (λ place child. IsOnPath-step (plain_at c.args.self.now 0)
-    (plain_at c.intern.new.self 0) c.args.walk.now frames c.args.depth c.args.place c.in_ok-number.number
+    (λ slot child. IsOnPath-step (plain_at c.args.self.now 0)
+    (plain_at c.intern.new.self 0) c.args.walk.now frames c.args.depth c.args.slot c.in_ok-number.number
     c.requires.within c.requires.path
     (grown.each 0 some) nodes c.in_ok-number.ensures.number.0 (c.in_ok-number.ensures.number.1 ∙ frame) state
     (plain_at c.child.new.self 0) c.in_ok-there.there
-    c.add.new.self place c.in_ok-there.ensures.there c.in_ok-there.ensures.ok c.child.ensures.names child.0 child.1)
+    c.add.new.self slot c.in_ok-there.ensures.there c.in_ok-there.ensures.ok c.child.ensures.names child.0 child.1)
     c.child.ensures.child

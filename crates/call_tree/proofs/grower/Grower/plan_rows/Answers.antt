@@ -8,10 +8,10 @@ use Rattle.call_tree.proofs.grower.Grower.plan_rows.Goals as goal
 pub returns-clause-next : goal.returns-clause-next
 returns-clause-next c =
     let batch = c.args.batch.now in
-    let grown = c.in_ok-places.ensures.grown in
+    let grown = c.in_ok-slots.ensures.grown in
     let tree = c.self.inside.tree in
     let width = c.requires.width ∙ sym grown.width ∙ sym (ap (λ t. t.width) c.self.view_is) in
     λ value.
     weights-credited tree c.in_ok-next.next batch tree.width c.first.ensures.batch width c.in_ok-next.ensures value
     ∙ ap (λ m. with_rows m (rows_at value batch.rows))
-    (ap (λ t. weights_of t value) c.self.view_is ∙ weights-grown c.args.self.now c.places_of.new.self grown value)
+    (ap (λ t. weights_of t value) c.self.view_is ∙ weights-grown c.args.self.now c.slots_of.new.self grown value)

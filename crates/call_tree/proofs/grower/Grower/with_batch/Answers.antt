@@ -5,23 +5,23 @@ use Rattle.profile_rows.specs.Values.{rows_at}
 use Rattle.profile_rows.specs.Aggregate.{with_rows}
 use Rattle.profile_rows.specs.declared.weighted_stacks.WeightedStack.{WeightedStack}
 use Rattle.call_tree.specs.State.{TreeState, plain_at, same_key, total_in, weights_of}
-use Rattle.call_tree.specs.Plans.{AreFirstPlaces, ArePlaces}
-use Rattle.call_tree.proofs.Growing.{ArePlaces-first, weights-credited, weights-grown}
+use Rattle.call_tree.specs.Plans.{AreFirstSlots, AreSlots}
+use Rattle.call_tree.proofs.Growing.{AreSlots-first, weights-credited, weights-grown}
 use Rattle.call_tree.proofs.Planned.{IsIndex-credited}
 use Rattle.call_tree.proofs.Totals.{total_in-weights_of}
 use Rattle.call_tree.proofs.grower.Grower.with_batch.Goals as goal
 
-pub add_batch-requires-clause-places : goal.add_batch-requires-clause-places
-add_batch-requires-clause-places c =
+pub add_batch-requires-clause-slots : goal.add_batch-requires-clause-slots
+add_batch-requires-clause-slots c =
     let batch = c.args.batch.now in
-    let after = c.places_of.new.self in
-    let places = c.in_ok-places.places.items in
-    let of_rows = subst (λ (rows : List WeightedStack). AreFirstPlaces (plain_at after 0) rows places (length rows))
-    c.first.ensures.first c.in_ok-places.ensures.places in
-    let are = ArePlaces-first (plain_at after 0) batch.rows places of_rows in
+    let after = c.slots_of.new.self in
+    let slots = c.in_ok-slots.slots.items in
+    let of_rows = subst (λ (rows : List WeightedStack). AreFirstSlots (plain_at after 0) rows slots (length rows))
+    c.first.ensures.first c.in_ok-slots.ensures.slots in
+    let are = AreSlots-first (plain_at after 0) batch.rows slots of_rows in
     let here =
-    subst (λ (tree : TreeState). ArePlaces (plain_at tree 0) batch.rows places) (sym c.grower-2.view_is) are in
-    subst (λ (items : List ℕ). ArePlaces (plain_at c.grower-2.inside.tree 0) batch.rows items)
+    subst (λ (tree : TreeState). AreSlots (plain_at tree 0) batch.rows slots) (sym c.grower-2.view_is) are in
+    subst (λ (items : List ℕ). AreSlots (plain_at c.grower-2.inside.tree 0) batch.rows items)
     (sym c.as_slice.ensures.value) here
 
 pub add_batch-requires-clause-fits : goal.add_batch-requires-clause-fits
@@ -29,7 +29,7 @@ add_batch-requires-clause-fits c = λ value.
     let tree = c.grower-2.inside.tree in
     let same : weights_of tree value ≡ weights_of c.args.self value =
     ap (λ (t : TreeState). weights_of t value) c.grower-2.view_is
-    ∙ weights-grown c.grower.inside.tree c.places_of.new.self c.in_ok-places.ensures.grown value
+    ∙ weights-grown c.grower.inside.tree c.slots_of.new.self c.in_ok-slots.ensures.grown value
     ∙ ap (λ (t : TreeState). weights_of t value) c.grower.view_is in
     omega (arith, c.requires.fits value, total_in-weights_of tree value, ap total_in same)
 
@@ -48,11 +48,11 @@ pub returns-clause-weights : goal.returns-clause-weights
 returns-clause-weights c = λ value.
     let batch = c.args.batch.now in
     let tree = c.grower-2.inside.tree in
-    let grown = c.in_ok-places.ensures.grown in
+    let grown = c.in_ok-slots.ensures.grown in
     let width = c.requires.width ∙ sym (ap (λ (t : TreeState). t.width) c.grower.view_is)
     ∙ sym grown.width ∙ sym (ap (λ (t : TreeState). t.width) c.grower-2.view_is) in
     weights-credited
     tree c.in_ok-add_batch.field-0 batch tree.width c.first.ensures.batch width c.in_ok-add_batch.ensures value
     ∙ ap (λ m. with_rows m (rows_at value batch.rows)) (ap (λ (t : TreeState). weights_of t value) c.grower-2.view_is
-    ∙ weights-grown c.grower.inside.tree c.places_of.new.self grown value
+    ∙ weights-grown c.grower.inside.tree c.slots_of.new.self grown value
     ∙ ap (λ (t : TreeState). weights_of t value) c.grower.view_is)

@@ -17,7 +17,7 @@ pub read-own-requires : goal.read-own-requires
 read-own-requires c =
     let first = c.self.inside.first in
     let tables = c.self.inside.others.items in
-    let within : c.args.place < length first =
+    let within : c.args.slot < length first =
     (let size = length-nodes_of first tables c.args.value (omega (arith, c.requires.value, ap length c.self.view_is)) in
     omega (arith, size, c.requires.within, ap (λ all. length (nodes_of all c.args.value)) c.self.view_is)) in
     let lt : c.args.value - 1 < length tables = omega
@@ -31,7 +31,7 @@ pub returns : goal.returns
 returns c =
     let first = c.self.inside.first in
     let tables = c.self.inside.others.items in
-    let within : c.args.place < length first =
+    let within : c.args.slot < length first =
     (let size = length-nodes_of first tables c.args.value (omega (arith, c.requires.value, ap length c.self.view_is)) in
     omega (arith, size, c.requires.within, ap (λ all. length (nodes_of all c.args.value)) c.self.view_is)) in
     let lt : c.args.value - 1 < length tables = omega
@@ -39,11 +39,11 @@ returns c =
     let table_is : c.index.result.now ≡ table_of tables (c.args.value - 1) =
     get_or_read tables (c.args.value - 1) c.index.result.now lt c.index.ensures [] in
     let long = c.self.invariant.1.long (c.args.value - 1) lt in
-    let weights = get_or_read c.index.result.now c.args.place c.read-own.result.now
+    let weights = get_or_read c.index.result.now c.args.slot c.read-own.result.now
     (omega (arith, within, long, ap length table_is)) c.read-own.ensures 0 in
     ap (λ node. with_weight node c.read-own.result.now)
-    (read_is first c.args.place c.read-node.result.now within c.read-node.ensures)
+    (read_is first c.args.slot c.read-node.result.now within c.read-node.ensures)
     ∙ read-all first tables c.args.value
-    (c.args.value - 1) c.args.place c.read-own.result.now (omega (arith, c.if-value-eq0.false)) lt within
-    (weights ∙ ap (λ table. get_or table c.args.place 0) table_is)
-    ∙ ap (λ all. at (nodes_of all c.args.value) c.args.place) c.self.view_is
+    (c.args.value - 1) c.args.slot c.read-own.result.now (omega (arith, c.if-value-eq0.false)) lt within
+    (weights ∙ ap (λ table. get_or table c.args.slot 0) table_is)
+    ∙ ap (λ all. at (nodes_of all c.args.value) c.args.slot) c.self.view_is

@@ -4,18 +4,18 @@ use Rattle.profile_rows.specs.Values.{rows_at}
 use Rattle.call_tree.specs.State.{TreeState, nodes_at, plain_at}
 use Rattle.call_tree.specs.Shape.{node_rows}
 use Rattle.call_tree.specs.Nodes.{AreTrees, HasTotal, nodes_of, plain_of, tree_of}
-use Rattle.call_tree.specs.Plans.{AreCredited, ArePlaces, IsCredited}
-use Rattle.call_tree.proofs.Adding.{AreAddedTo-step, places_now, total_now}
-use Rattle.call_tree.proofs.Growing.{ArePlaces-by}
+use Rattle.call_tree.specs.Plans.{AreCredited, AreSlots, IsCredited}
+use Rattle.call_tree.proofs.Adding.{AreAddedTo-step, slots_now, total_now}
+use Rattle.call_tree.proofs.Growing.{AreSlots-by}
 use Rattle.call_tree.proofs.Totals.{HasTotal-credited}
 use Rattle.call_tree.proofs.tree.CallTree.add_batch.Goals as goal
 
-pub add_rows-requires-clause-places : goal.add_rows-requires-clause-places
-add_rows-requires-clause-places c =
+pub add_rows-requires-clause-slots : goal.add_rows-requires-clause-slots
+add_rows-requires-clause-slots c =
     let tree = c.args.self in
     let value = c.loop-value.value in
     let rows = c.args.batch.now.rows in
-    let places = c.args.places.now in
+    let slots = c.args.slots.now in
     let names_are : c.self.inside.names ≡ tree.names = ap (λ t. t.names) c.self.view_is in
     let tree_is : tree_of tree.names c.self.inside.nodes ≡ tree =
     ap (λ ns. tree_of ns c.self.inside.nodes) (sym (ap (λ t. t.names) c.self.view_is)) ∙ c.self.view_is in
@@ -26,10 +26,10 @@ add_rows-requires-clause-places c =
       c.width.ensures,
       ap (λ t. t.width) c.self.view_is,
     ) in
-    let were = ArePlaces-by tree rows places value c.facts.ensures lt c.requires.places in
-    let are = places_now tree.names c.self.inside.nodes c.loop-value.nodes rows value c.loop-value.invariant places
-    (subst (λ (t : TreeState). ArePlaces (plain_at t value) rows places) (sym tree_is) were) in
-    subst (λ ns. ArePlaces (plain_of ns c.loop-value.nodes value) rows places) (sym names_are) are
+    let were = AreSlots-by tree rows slots value c.facts.ensures lt c.requires.slots in
+    let are = slots_now tree.names c.self.inside.nodes c.loop-value.nodes rows value c.loop-value.invariant slots
+    (subst (λ (t : TreeState). AreSlots (plain_at t value) rows slots) (sym tree_is) were) in
+    subst (λ ns. AreSlots (plain_of ns c.loop-value.nodes value) rows slots) (sym names_are) are
 
 pub add_rows-requires-clause-fits : goal.add_rows-requires-clause-fits
 add_rows-requires-clause-fits c =

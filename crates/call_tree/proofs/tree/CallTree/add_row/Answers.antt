@@ -10,8 +10,8 @@ use Rattle.call_tree.proofs.tree.CallTree.add_row.Goals as goal
 pub add_weight-requires-clause-within : goal.add_weight-requires-clause-within
 add_weight-requires-clause-within c =
     row_within c.self.inside.names
-    c.self.inside.nodes c.args.self.now c.self.view_is c.args.batch.now.rows c.args.place c.weight-weight.result
-    c.requires.one c.requires.place c.requires.fits c.weight-weight.ensures
+    c.self.inside.nodes c.args.self.now c.self.view_is c.args.batch.now.rows c.args.slot c.weight-weight.result
+    c.requires.one c.requires.slot c.requires.fits c.weight-weight.ensures
 
 pub invariant_of-self-2 : goal.invariant_of-self-2
 invariant_of-self-2 c =
@@ -21,8 +21,8 @@ invariant_of-self-2 c =
     let batch = c.args.batch.now in
     let added = c.in_ok-add_weight.ensures in
     let width_is : length before ≡ 1 = ap (λ (t : TreeState). t.width) c.self.view_is ∙ c.requires.single in
-    let one = AreCredited-row names before c.args.self.now c.self.view_is batch.rows c.args.place c.weight-weight.result
-    c.requires.one c.requires.place c.requires.fits c.weight-weight.ensures now added.width added.nodes added.others in
+    let one = AreCredited-row names before c.args.self.now c.self.view_is batch.rows c.args.slot c.weight-weight.result
+    c.requires.one c.requires.slot c.requires.fits c.weight-weight.ensures now added.width added.nodes added.others in
     let credited = subst (AreCredited (tree_of names before) (tree_of names now) batch.rows) (sym width_is) one in (
       added.trees,
       HasTotal-credited (tree_of names before) (tree_of names now)
@@ -38,5 +38,5 @@ returns-clause-ok c =
     let added = c.in_ok-add_weight.ensures in
     subst (λ (tree : TreeState). AreCredited tree (tree_of names now) batch.rows 1) c.self.view_is
     (AreCredited-row
-    names c.self.inside.nodes c.args.self.now c.self.view_is batch.rows c.args.place c.weight-weight.result
-    c.requires.one c.requires.place c.requires.fits c.weight-weight.ensures now added.width added.nodes added.others)
+    names c.self.inside.nodes c.args.self.now c.self.view_is batch.rows c.args.slot c.weight-weight.result
+    c.requires.one c.requires.slot c.requires.fits c.weight-weight.ensures now added.width added.nodes added.others)

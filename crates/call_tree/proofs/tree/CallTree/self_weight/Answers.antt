@@ -35,7 +35,7 @@ loop-value-preserved c =
     let now = c.args.self.now in
     let stack = c.args.stack.now in
     let value = c.loop-value.value in
-    let place = c.in-Some.place in
+    let slot = c.in-Some.slot in
     let lt : value < now.width = omega (
       arith,
       c.loop-value-test.true,
@@ -47,9 +47,9 @@ loop-value-preserved c =
     value c.read.result.own c.loop-value.weights _ c.loop-value.invariant
     (omega (arith, c.loop-value-test.true, c.get-count.ensures.count, c.get-count.ensures.few))
     (ap (λ node. node.own) c.read.ensures
-    ∙ sym (ap (λ row. row.weight) (node_at-node_rows names (nodes_of all value) place))
-    ∙ ap (λ rows. (node_at rows place).weight) (seen names all now value c.self.view_is)
-    ∙ sym (weight_in-found now c.facts.ensures stack value place lt c.in-Some.ensures.0 c.in-Some.ensures.1)) refl
+    ∙ sym (ap (λ row. row.weight) (node_at-node_rows names (nodes_of all value) slot))
+    ∙ ap (λ rows. (node_at rows slot).weight) (seen names all now value c.self.view_is)
+    ∙ sym (weight_in-found now c.facts.ensures stack value slot lt c.in-Some.ensures.0 c.in-Some.ensures.1)) refl
 
 pub returns-clause-weights : goal.returns-clause-weights
 returns-clause-weights c =
@@ -58,8 +58,8 @@ returns-clause-weights c =
     let width = c.width-width.result in
     let states : AreStates now = c.facts.ensures in
     let width_is : width ≡ now.width = c.width-width.ensures ∙ ap (λ t. t.width) c.self.view_is in
-    let filled : IsFilled (λ value. weight_in (weights_of now value) stack) width c.match-place_of.weights =
-    elim c.match-place_of.branch [
+    let filled : IsFilled (λ value. weight_in (weights_of now value) stack) width c.match-slot_of.weights =
+    elim c.match-slot_of.branch [
       | in-Some+else-loop-value-test w ↦
           subst (IsFilled (λ value. weight_in (weights_of now value) stack) width) (sym w.weights-is)
           (subst (λ n. IsFilled (λ value. weight_in (weights_of now value) stack) n w.loop-value.weights)
@@ -71,6 +71,6 @@ returns-clause-weights c =
           (weight_in-nowhere now states stack w.in_default.ensures))
     ] in
     λ value. ap (value_of value) c.weights_from.ensures
-    ∙ value_of-filled (λ value. weight_in (weights_of now value) stack) width c.match-place_of.weights filled
+    ∙ value_of-filled (λ value. weight_in (weights_of now value) stack) width c.match-slot_of.weights filled
     (omega (arith, c.get-count.ensures.few))
     (λ k le. weight_in-past now states stack k (omega (arith, le, width_is))) value

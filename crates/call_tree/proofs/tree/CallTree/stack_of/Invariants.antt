@@ -4,11 +4,11 @@ use Rattle.call_tree.specs.Nodes.{nodes_of}
 use Rattle.call_tree.specs.State.{stack_at}
 use Rattle.call_tree.proofs.tree.CallTree.stack_of.Given as goal
 
--- what is left of the stack stands at the place, and the names so far are its rest, leaf first
-abbrev pub invariant-loop-place : goal.invariant-loop-place
-invariant-loop-place l = (l.place < length (nodes_of l.self-inside.nodes 0))
+-- what is left of the stack stands at the slot, and the names so far are its rest, leaf first
+abbrev pub invariant-loop-slot : goal.invariant-loop-slot
+invariant-loop-slot l = (l.slot < length (nodes_of l.self-inside.nodes 0))
     × (stack_at (node_rows l.self-inside.names (nodes_of l.self-inside.nodes 0)) l.at
-    ≡ stack_at (node_rows l.self-inside.names (nodes_of l.self-inside.nodes 0)) l.place ++ reverse l.names.items)
+    ≡ stack_at (node_rows l.self-inside.names (nodes_of l.self-inside.nodes 0)) l.slot ++ reverse l.names.items)
 
-abbrev pub decreases-loop-place : goal.decreases-loop-place
-decreases-loop-place l = l.place
+abbrev pub decreases-loop-slot : goal.decreases-loop-slot
+decreases-loop-slot l = l.slot

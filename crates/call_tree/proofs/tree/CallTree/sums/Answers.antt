@@ -18,7 +18,8 @@ step : (names : List (List ℕ)) (all : List (List Node)) (tree : TreeState) (va
     (below : List ℕ) (left : ℕ) → tree_of names all ≡ tree → value < tree.width
     → ((at : ℕ) → at < length all → IsTree names (nodes_of all at)) → 1 < left
     → AreSumsFrom names (nodes_of all value) sums below left
-    → IsTree names (nodes_of all value) × (0 < left - 1) × AreSumsFrom names (nodes_of all value) sums below (left - 1 + 1)
+    → IsTree names (nodes_of all value) × (0 < left - 1) × AreSumsFrom names (nodes_of all value) sums below
+    (left - 1 + 1)
 step names all tree value sums below left seen lt trees some so_far =
     let more : left ≡ left - 1 + 1 = omega (arith, some) in (
       trees value (value_lt names all tree value seen lt),

@@ -13,7 +13,8 @@ count-requires-clause-counted c =
       map (λ (frame : Bor (List ℕ)). frame.now) c.args.frames.now,
       after.tallies,
       row_numbered rows c.number.new.self (map (λ (frame : Bor (List ℕ)). frame.now) c.args.frames.now)
-          c.as_slice-numbers.result.now c.copied.result after c.in_ok-number.ensures.names c.requires.names c.as_slice-numbers.ensures.value
+          c.as_slice-numbers.result.now c.copied.result after c.in_ok-number.ensures.names c.requires.names
+          c.as_slice-numbers.ensures.value
           (c.copied.ensures ∙ c.last.ensures.value),
     )
 
@@ -24,7 +25,8 @@ returns c = λ rows this.
       tallies = c.count.ensures c.number.new.self.names.texts rows
           (map (λ (frame : Bor (List ℕ)). frame.now) c.args.frames.now) after.tallies
           (row_numbered rows c.number.new.self (map (λ (frame : Bor (List ℕ)). frame.now) c.args.frames.now)
-          c.as_slice-numbers.result.now c.copied.result after c.in_ok-number.ensures.names c.requires.names c.as_slice-numbers.ensures.value
+          c.as_slice-numbers.result.now c.copied.result after c.in_ok-number.ensures.names c.requires.names
+          c.as_slice-numbers.ensures.value
           (c.copied.ensures ∙ c.last.ensures.value));
       inside = after.inside;
     }

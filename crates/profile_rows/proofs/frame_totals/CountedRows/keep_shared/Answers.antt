@@ -32,7 +32,8 @@ returns-clause-names c =
     let frames = map (λ (frame : Bor (List ℕ)). frame.now) c.args.frames.now in
     let shared = c.shared_frames-shared.ensures in
     ap (names_at texts) c.truncate.ensures.items
-    ∙ sym (take-map (λ number. slice_index_or texts number []) c.shared_frames-shared.result c.args.self.now.numbers.items)
+    ∙ sym (take-map (λ number. slice_index_or texts number []) c.shared_frames-shared.result
+    c.args.self.now.numbers.items)
     ∙ ap (λ numbers. take c.shared_frames-shared.result (names_at texts numbers)) (sym c.as_slice.ensures.value)
     ∙ ap (λ count. take count (names_at texts c.as_slice.result.now)) shared
     ∙ shared_same (names_at texts c.as_slice.result.now) frames

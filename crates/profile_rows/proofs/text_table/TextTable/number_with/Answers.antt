@@ -6,7 +6,8 @@ use Rattle.std.specs.Str.{bytes_eq}
 use Rattle.std.proofs.lemmas.List.{length-map, map-append}
 use denote.Ref.{Bor}
 use Rattle.profile_rows.specs.TextTables.{AreTextNumbers, NumberedTexts, number_in}
-use Rattle.profile_rows.proofs.TextNumbers.{AreTextNumbers-push, none_at_end, number_in-le, number_in-with, with_text-new}
+use Rattle.profile_rows.proofs.TextNumbers.{AreTextNumbers-push, none_at_end, number_in-le}
+use Rattle.profile_rows.proofs.TextNumbers.{number_in-with, with_text-new}
 use Rattle.profile_rows.proofs.TextNumbers.{with_text-there}
 use Rattle.profile_rows.proofs.text_table.TextTable.number_with.Goals as goal
 

@@ -41,7 +41,8 @@ new-requires-2-clause-strings c =
     let (strings, addresses, table) = numbered draft c.args.profile.now (map name_in c.names.inside.strings.items)
     c.names.inside.addresses.items c.in_ok-table.table.texts c.in_ok-table-2.table.texts c.draft-draft.ensures.draft
     (c.names.view_is ∙ c.requires)
-    (c.in_ok-table.ensures.texts ∙ ap (λ t. with_texts t (given (map name_in c.as_slice.result.now))) c.new.ensures.texts
+    (c.in_ok-table.ensures.texts ∙ ap (λ t. with_texts t (given (map name_in c.as_slice.result.now)))
+    c.new.ensures.texts
     ∙ ap (λ names. with_texts [] (given (map name_in names))) c.as_slice.ensures.value)
     (c.in_ok-table-2.ensures.texts ∙ ap (with_texts c.in_ok-table.table.texts) c.as_slice-2.ensures.value) in
     c.as_slice-5.ensures.value
@@ -54,7 +55,8 @@ all_frames-requires-clause-addresses c =
     let (strings, addresses, table) = numbered draft c.args.profile.now (map name_in c.names.inside.strings.items)
     c.names.inside.addresses.items c.in_ok-table.table.texts c.in_ok-table-2.table.texts c.draft-draft.ensures.draft
     (c.names.view_is ∙ c.requires)
-    (c.in_ok-table.ensures.texts ∙ ap (λ t. with_texts t (given (map name_in c.as_slice.result.now))) c.new.ensures.texts
+    (c.in_ok-table.ensures.texts ∙ ap (λ t. with_texts t (given (map name_in c.as_slice.result.now)))
+    c.new.ensures.texts
     ∙ ap (λ names. with_texts [] (given (map name_in names))) c.as_slice.ensures.value)
     (c.in_ok-table-2.ensures.texts ∙ ap (with_texts c.in_ok-table.table.texts) c.as_slice-2.ensures.value) in
     c.as_slice-6.ensures.value ∙ c.in_ok-addresses.ensures ∙ ap (λ t. map (number_in t) c.as_slice-4.result.now) table
@@ -79,7 +81,8 @@ invariant_of-result c =
     let (strings, addresses, table) = numbered draft c.args.profile.now (map name_in c.names.inside.strings.items)
     c.names.inside.addresses.items c.in_ok-table.table.texts c.in_ok-table-2.table.texts c.draft-draft.ensures.draft
     (c.names.view_is ∙ c.requires)
-    (c.in_ok-table.ensures.texts ∙ ap (λ t. with_texts t (given (map name_in c.as_slice.result.now))) c.new.ensures.texts
+    (c.in_ok-table.ensures.texts ∙ ap (λ t. with_texts t (given (map name_in c.as_slice.result.now)))
+    c.new.ensures.texts
     ∙ ap (λ names. with_texts [] (given (map name_in names))) c.as_slice.ensures.value)
     (c.in_ok-table-2.ensures.texts ∙ ap (with_texts c.in_ok-table.table.texts) c.as_slice-2.ensures.value) in
     let ids : c.in_ok-indices.indices ≡ location_ids draft = search rules in

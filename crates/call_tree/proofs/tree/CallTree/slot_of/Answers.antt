@@ -8,11 +8,11 @@ use Rattle.std.proofs.Math.Seq.{take-length}
 use Rattle.call_tree.specs.Nodes.{nodes_of}
 use Rattle.call_tree.proofs.Trees.{length-seen, seen}
 use Rattle.call_tree.proofs.Finding.{IsFound, IsFound-start, IsFound-matched, IsFound-passed}
-use Rattle.call_tree.proofs.tree.CallTree.place_of.Goals as goal
-use Rattle.call_tree.proofs.tree.CallTree.place_of.Goals.{then-node-place+then-eq, else-node-place}
-use Rattle.call_tree.proofs.tree.CallTree.place_of.Goals.{else-node-place-via-then-node-place+else-eq}
-use Rattle.call_tree.proofs.tree.CallTree.place_of.Goals.{else-node-place-via-else-node-place, else-loop-index-test}
-use Rattle.call_tree.proofs.tree.CallTree.place_of.Goals.{then-loop-index-test+then-depth-frames}
+use Rattle.call_tree.proofs.tree.CallTree.slot_of.Goals as goal
+use Rattle.call_tree.proofs.tree.CallTree.slot_of.Goals.{then-node-slot+then-eq, else-node-slot}
+use Rattle.call_tree.proofs.tree.CallTree.slot_of.Goals.{else-node-slot-via-then-node-slot+else-eq}
+use Rattle.call_tree.proofs.tree.CallTree.slot_of.Goals.{else-node-slot-via-else-node-slot, else-loop-index-test}
+use Rattle.call_tree.proofs.tree.CallTree.slot_of.Goals.{then-loop-index-test+then-depth-frames}
 
 pub loop-index-init : goal.loop-index-init
 loop-index-init c = IsFound-start _ _ _ (c.self.invariant.0 0 (omega (arith, c.facts.ensures.some)))
@@ -26,25 +26,25 @@ loop-index-preserved c =
     let node_is : c.read-node.result ≡ at nodes c.loop-index.index = c.read-node.ensures in
     let name_lt : c.read-node.result.name < length names =
     omega (arith, (tree.links c.loop-index.index (omega arith) (omega arith)).1, ap (λ node. node.name) node_is) in
-    elim c.if-node-place.branch [
-      | then-node-place+then-eq w ↦
+    elim c.if-node-slot.branch [
+      | then-node-slot+then-eq w ↦
           let name : w.read.result.now ≡ name_at names c.read-node.result.name =
           get_or_read names c.read-node.result.name w.read.result.now name_lt w.read.ensures [] in
           let frame : w.index-frames-depth.result ≡ get_or frames c.loop-index.depth [] = get_or_read
           frames c.loop-index.depth w.index-frames-depth.result (omega arith) w.index-frames-depth.is [] in
           let same : w.read.result.now ≡ w.index-frames-depth.result =
           same_from_is_same_name _ _ (sym w.eq.ensures ∙ w.if-eq.true) in
-          let next = IsFound-matched names nodes frames c.loop-index.index c.loop-index.place
+          let next = IsFound-matched names nodes frames c.loop-index.index c.loop-index.slot
           c.loop-index.depth tree c.loop-index.invariant (omega arith) (omega arith) (omega arith)
-          (sym (ap (λ node. node.parent) node_is) ∙ w.if-node-place.true)
+          (sym (ap (λ node. node.parent) node_is) ∙ w.if-node-slot.true)
           (sym (ap (λ node. name_at names node.name) node_is) ∙ sym name ∙ same ∙ frame) in
           subst (λ (p : ℕ × ℕ). IsFound names nodes frames (c.loop-index.index + 1) p.0 p.1)
-          (λ i. (sym w.place-is i, sym w.depth-is i)) next
-      | else-node-place w ↦
+          (λ i. (sym w.slot-is i, sym w.depth-is i)) next
+      | else-node-slot w ↦
           let next = IsFound-passed names nodes frames c.loop-index.index
-          c.loop-index.place c.loop-index.depth tree c.loop-index.invariant (omega arith) (omega arith)
-          (λ parent deep named. elim w.else-node-place.branch [
-            | else-node-place-via-then-node-place+else-eq w2 ↦
+          c.loop-index.slot c.loop-index.depth tree c.loop-index.invariant (omega arith) (omega arith)
+          (λ parent deep named. elim w.else-node-slot.branch [
+            | else-node-slot-via-then-node-slot+else-eq w2 ↦
                 let name : w2.read.result.now ≡ name_at names c.read-node.result.name =
                 get_or_read names c.read-node.result.name w2.read.result.now name_lt w2.read.ensures [] in
                 let frame : w2.index-frames-depth.result ≡ get_or frames c.loop-index.depth [] = get_or_read
@@ -56,11 +56,11 @@ loop-index-preserved c =
                 let no : is_same_name w2.read.result.now w2.index-frames-depth.result ≡ false = sym w2.eq.ensures
                 ∙ w2.if-eq.false in
                 cc
-            | else-node-place-via-else-node-place w2 ↦ w2.if-node-place.false
+            | else-node-slot-via-else-node-slot w2 ↦ w2.if-node-slot.false
                 (ap (λ node. node.parent) node_is ∙ parent)
           ]) in
           subst (λ (p : ℕ × ℕ). IsFound names nodes frames (c.loop-index.index + 1) p.0 p.1)
-          (λ i. (sym w.place-is i, sym w.depth-is i)) next
+          (λ i. (sym w.slot-is i, sym w.depth-is i)) next
     ]
 
 pub returns-then-depth-frames-2 : goal.returns-then-depth-frames-2
@@ -68,9 +68,9 @@ returns-then-depth-frames-2 c =
     let names = c.self.inside.names in
     let all = c.self.inside.nodes in
     let frames = c.names-frames.result.now in
-    let place = c.loop-index.place in (
+    let slot = c.loop-index.slot in (
       omega (arith, c.loop-index.invariant.within, length-seen names all c.args.self.now 0 c.self.view_is),
-      ap (λ rows. stack_at rows place) (sym (seen names all c.args.self.now 0 c.self.view_is))
+      ap (λ rows. stack_at rows slot) (sym (seen names all c.args.self.now 0 c.self.view_is))
           ∙ c.loop-index.invariant.here
           ∙ ap (λ n. take n frames) c.if-depth-frames-2.true ∙ take-length frames ∙ c.names-frames.ensures.names,
     )

@@ -4,7 +4,7 @@ ghost use Rattle.std.specs.Prelude.{◌≡◌, ◌<◌, ◌+◌, ◌≤◌, ◌+
 ghost use Rattle.std.specs.FinMap as map;
 ghost use Rattle.profile_rows.specs.Rows.{has_name};
 ghost use Rattle.call_tree.specs.State.{IsFresh, AreGrown, nodes_at, plain_at, name_at, stack_at};
-ghost use Rattle.call_tree.specs.Plans.{AreFirstPlaces};
+ghost use Rattle.call_tree.specs.Plans.{AreFirstSlots};
 ghost use Rattle.call_tree.specs.Walks.{IsOnPath};
 
 use super::Grower;
@@ -14,23 +14,23 @@ use std::alloc::Global;
 
 impl Grower {
     /// The nodes of rows, one for each row, with new nodes where there are none.
-    pub(super) fn places_of(
+    pub(super) fn slots_of(
         &mut self,
         alloc: Global,
         batch: &WeightedStacks,
         walk: &mut Walk,
     ) -> Result<Vec<u32>, NoMemory>
-        ensures places { IfOk result
-            (λ places. AreFirstPlaces (plain_at self.new 0) batch.now places.items (length batch.now)) }
+        ensures slots { IfOk result
+            (λ slots. AreFirstSlots (plain_at self.new 0) batch.now slots.items (length batch.now)) }
         ensures grown { AreGrown self.old self.new }
     {
         let rows = batch.rows();
-        let mut places = Vec::with_capacity(alloc, rows.len())?;
+        let mut slots = Vec::with_capacity(alloc, rows.len())?;
         for row in rows {
             let node = self.grow(&row.stack, walk)?;
-            places.push(node)?;
+            slots.push(node)?;
         }
-        Ok(places)
+        Ok(slots)
     }
 
     /// The node of a stack, with new nodes of weight 0 where there are none.
@@ -42,11 +42,11 @@ impl Grower {
         walk.start();
         self.tree.facts();
         let frames = stack.names();
-        let mut place = 0u32;
+        let mut slot = 0u32;
         for depth in 0..frames.len() {
-            place = self.enter(frames, depth, place, walk)?;
+            slot = self.enter(frames, depth, slot, walk)?;
         }
-        Ok(place)
+        Ok(slot)
     }
 
     /// One frame further. Where the row before went on by the same name, its node is taken, and nothing is looked up.
@@ -54,24 +54,24 @@ impl Grower {
         &mut self,
         frames: &[Name],
         depth: usize,
-        place: u32,
+        slot: u32,
         walk: &mut Walk,
     ) -> Result<u32, NoMemory>
         requires within { depth < length frames.now }
         requires deep { length frames.now ≤ 65535 }
-        requires path { IsOnPath (plain_at self.old 0) walk.old frames.now depth place }
+        requires path { IsOnPath (plain_at self.old 0) walk.old frames.now depth slot }
         ensures path { IfOk result (λ child. IsOnPath (plain_at self.new 0) walk.new frames.now (depth + 1) child) }
         ensures grown { AreGrown self.old self.new }
     {
         self.tree.facts();
         let name = &frames[depth];
-        let guess = walk.guess(place, name);
-        if let Some(number) = self.tree.number_below(place, guess, name) {
+        let guess = walk.guess(slot, name);
+        if let Some(number) = self.tree.number_below(slot, guess, name) {
             let _there = walk.add(number)?;
             return Ok(guess);
         }
-        let child = self.look_up(frames, depth, place, walk)?;
-        walk.keep(place, name, child)?;
+        let child = self.look_up(frames, depth, slot, walk)?;
+        walk.keep(slot, name, child)?;
         Ok(child)
     }
 
@@ -80,19 +80,19 @@ impl Grower {
         &mut self,
         frames: &[Name],
         depth: usize,
-        place: u32,
+        slot: u32,
         walk: &mut Walk,
     ) -> Result<u32, NoMemory>
         requires within { depth < length frames.now }
         requires deep { length frames.now ≤ 65535 }
-        requires path { IsOnPath (plain_at self.old 0) walk.old frames.now depth place }
+        requires path { IsOnPath (plain_at self.old 0) walk.old frames.now depth slot }
         ensures path { IfOk result (λ child. IsOnPath (plain_at self.new 0) walk.new frames.now (depth + 1) child) }
         ensures grown { AreGrown self.old self.new }
     {
         let number = self.intern(&frames[depth])?;
         let there = walk.add(number)?;
         self.tree.facts();
-        self.child(place, number, !there)
+        self.child(slot, number, !there)
     }
 
     /// The number of a name, a new one where it has none.

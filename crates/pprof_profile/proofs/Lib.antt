@@ -5,7 +5,6 @@ pub mod MessagesOnce
 pub mod ProfileOnce
 pub mod Appending
 pub mod ByFields
-pub mod ByFieldsBack
 pub mod ReadBack
 pub mod MessagesBack
 pub mod Plain

@@ -7,7 +7,7 @@ use Rattle.pprof_profile.specs.declared.messages.Draft.{Draft}
 use Rattle.pprof_profile.specs.Valid.{IsValidDraft}
 use Rattle.pprof_profile.specs.Profiles.{BeginsAsGzip, SpellsDraft, IsProfile}
 use Rattle.pprof_profile.specs.Canonical.{canonical_bytes_of, FitsDraft}
-use Rattle.pprof_profile.proofs.MessagesBack.{draft_back}
+use Rattle.pprof_profile.proofs.MessagesBack.Drafts.{draft_back}
 
 small_type : (value : FieldValue) → wire_type_of value ≤ 5
 small_type (varint number) = omega arith

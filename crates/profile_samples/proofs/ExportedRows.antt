@@ -24,7 +24,7 @@ use Rattle.profile_rows.proofs.TextNumbers.{next_mapped, number_in-more, with_te
 
 -- ---- a text that is there keeps its number
 
-number_in-kept : (texts : List (List ℕ)) (text q : List ℕ)
+pub number_in-kept : (texts : List (List ℕ)) (text q : List ℕ)
     → stands_in texts q ≡ true → number_in (with_text texts text) q ≡ number_in texts q
 number_in-kept texts text q there =
     elim (stands_in texts text) as (λ b. number_in (cond b texts (texts ++ text ∷ [])) q ≡ number_in texts q) [

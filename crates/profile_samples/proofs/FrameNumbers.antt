@@ -2,7 +2,8 @@
 use Rattle.std.proofs.Common.{◌≡◌, ◌≢◌, ℕ, zero, suc, ◌+◌, ◌-◌, ◌*◌, ◌<◌, ◌≤◌, inl, inr, drop, take, set, length-append}
 use Rattle.std.proofs.Common.{length-set, take-append-drop, Bool, true, false, cond, eqb, ◌||◌, List, [], ◌∷◌, ◌++◌}
 use Rattle.std.proofs.Common.{length, map, get_or, Option, Some, None, refl, sym, ap, ◌∙◌, subst, arith, All}
-use Rattle.std.specs.Prelude.{ℤ, pos, negsuc, MatchOption, is_some, reverse, slice_get, slice_index_or, unwrap_or}
+use Rattle.std.specs.Prelude.{ℤ, pos, negsuc, MatchOption, is_some, not, reverse, slice_get, slice_index_or, unwrap_or}
+use Rattle.std.specs.Prelude.{if◌then◌else◌}
 use Rattle.std.specs.List.{AllByRecursion, IsDistinct, list_any}
 use Rattle.std.specs.Option.{option_and_then, option_map, option_or}
 use Rattle.std.specs.Str.{bytes_eq}
@@ -10,7 +11,7 @@ use Rattle.std.proofs.lemmas.Bool.{cases_eq, cases_lt, false≢true, eqb-true, e
 use Rattle.std.proofs.lemmas.List.{flat_map_more, get_or-set_other, get_or-set_same, get_or_past, length-map}
 use Rattle.std.proofs.lemmas.List.{reverse-append, take_more}
 use Rattle.std.proofs.lemmas.List.Elements.{All-from_recursion, All-set, All-weaker, recursion_from_All}
-use Rattle.std.proofs.lemmas.List.Folds.{length-flat_map-take}
+use Rattle.std.proofs.lemmas.List.Folds.{length-flat_map-take, list_any-append}
 use Rattle.std.proofs.Math.Nat.{mul-suc}
 use Rattle.std.proofs.lemmas.Grind.{flat_map-append}
 use Rattle.pprof_profile.specs.declared.messages.Draft.{Draft}
@@ -28,49 +29,186 @@ use Rattle.profile_samples.specs.Samples.{sample_stack_of, string_at}
 use Rattle.profile_rows.specs.Tallies.{AreSingle, has_number, names_at}
 use Rattle.profile_rows.specs.TextTables.{number_in, with_text, with_texts}
 use Rattle.profile_rows.proofs.TallyLaws.{has_number-push}
-use Rattle.profile_samples.specs.NameNumbers.{AreFrameNumbers, AreFunctionNumbers, address_names, frame_names}
+use Rattle.profile_samples.specs.NameNumbers.{AreFrameNumbers, AreFunctionNumbers, address_names, address_of}
+use Rattle.profile_samples.specs.NameNumbers.{frame_names, index_in, is_at, is_name_of, lacks_name, names_function}
+use Rattle.profile_samples.specs.NameNumbers.{names_of, needs_address, string_names_from}
 use Rattle.profile_samples.specs.NameNumbers.{frame_numbers_of, given, line_number, location_numbers, number_at}
 use Rattle.profile_samples.specs.NameNumbers.{number_by, number_of, numbers_of, numbers_of_id, once_of, string_names}
 use Rattle.profile_samples.specs.NameNumbers.{string_numbers, with_number, with_numbers}
 use Rattle.profile_samples.proofs.ExportLaws.{AllStand, AreDistinct, distinct_with_texts, stand_where, stands_in}
-use Rattle.profile_samples.proofs.ExportLaws.{with_texts-own, with_texts-stands}
+use Rattle.profile_samples.proofs.ExportLaws.{with_text-stands, with_texts-own, with_texts-stands}
+use Rattle.profile_samples.proofs.ExportedRows.{number_in-kept}
 use Rattle.profile_samples.proofs.ItemsById.{item_with-found}
 use Rattle.profile_rows.proofs.TextNumbers.{number_in-lt, text_of_number}
 
 -- ---- numbers of strings and functions
 
-number_at-map : (f : List ℕ → ℕ) (strings : List (List ℕ)) (index : ℕ)
-    → slice_index_or (map (option_map f) (map cleaned_name_of strings)) index None
-    ≡ option_map f (cleaned_name_of (slice_index_or strings index []))
-number_at-map f [] zero = refl
-number_at-map f [] (suc index) = refl
-number_at-map f (string ∷ strings) zero = refl
-number_at-map f (string ∷ strings) (suc index) = number_at-map f strings index
+or_right : (x y : Bool) → y ≡ true → (x || y) ≡ true
+or_right true y e = refl
+or_right false y e = e
 
-string_number : (draft : Draft) (index : ℤ) → number_at (string_numbers draft) index
+or_assoc : (a b c : Bool) → ((a || b) || c) ≡ (a || (b || c))
+or_assoc true b c = refl
+or_assoc false b c = refl
+
+pub or_false_right : (a : Bool) → (a || false) ≡ a
+or_false_right true = refl
+or_false_right false = refl
+
+or_left : (x y : Bool) → x ≡ true → (x || y) ≡ true
+or_left x y e = ap (λ b. b || y) e
+
+-- a text that is there keeps its number as more come
+number_in-withs : (front back : List (List ℕ)) (text : List ℕ)
+    → stands_in front text ≡ true → number_in (with_texts front back) text ≡ number_in front text
+number_in-withs front [] text there = refl
+number_in-withs front (next ∷ back) text there =
+    number_in-withs (with_text front next) back text (with_text-stands front next text there)
+    ∙ number_in-kept front next text there
+
+numbers_kept : (front back : List (List ℕ)) (names : List (Option (List ℕ))) → AllStand front (given names)
+    → map (option_map (number_in front)) names ≡ map (option_map (number_in (with_texts front back))) names
+numbers_kept front back [] all = refl
+numbers_kept front back (None ∷ names) all = ap (λ numbers. None ∷ numbers) (numbers_kept front back names all)
+numbers_kept front back (Some name ∷ names) all =
+    ap (λ number. Some number ∷ map (option_map (number_in front)) names) (sym (number_in-withs front back name all.0))
+    ∙ ap (λ numbers. Some (number_in (with_texts front back) name) ∷ numbers) (numbers_kept front back names all.1)
+
+-- the numbers of strings are there before those of addresses
+pub string_numbers_first : (draft : Draft) → map (option_map (number_in (with_texts [] (given (string_names draft)))))
+    (string_names draft) ≡ string_numbers draft
+string_numbers_first draft =
+    numbers_kept (with_texts [] (given (string_names draft))) (given (address_names draft)) (string_names draft)
+    (stand_where (given (string_names draft)) (with_texts [] (given (string_names draft)))
+    (λ q e. with_texts-own [] (given (string_names draft)) q e))
+
+-- those of these strings that name functions are among all that do
+abbrev NamesAmong : Draft → List Function → Type 0
+NamesAmong draft functions =
+    (at : ℕ) → names_function functions at ≡ true → names_function draft.functions at ≡ true
+
+number_at-from : (f : List ℕ → ℕ) (functions : List Function) (at : ℕ) (strings : List (List ℕ)) (index : ℕ)
+    → names_function functions (at + index) ≡ true
+    → slice_index_or (map (option_map f) (string_names_from functions at strings)) index None
+    ≡ option_map f (cleaned_name_of (slice_index_or strings index []))
+number_at-from f functions at [] zero is = refl
+number_at-from f functions at [] (suc index) is = refl
+number_at-from f functions at (string ∷ strings) zero is =
+    ap (λ b. option_map f (if b then cleaned_name_of string else None))
+    (subst (λ n. names_function functions n ≡ true) (omega arith) is)
+number_at-from f functions at (string ∷ strings) (suc index) is =
+    number_at-from f functions (at + 1) strings index
+    (subst (λ n. names_function functions n ≡ true) (omega arith) is)
+
+string_number : (draft : Draft) (index : ℤ)
+    → ((at : ℕ) → index ≡ pos at → names_function draft.functions at ≡ true)
+    → number_at (string_numbers draft) index
     ≡ option_map (number_of draft) (cleaned_name_of (string_at draft.strings index))
-string_number draft (pos index) = number_at-map (number_of draft) draft.strings index
-string_number draft (negsuc index) = refl
+string_number draft (pos index) named =
+    number_at-from (number_of draft) draft.functions 0 draft.strings index
+    (subst (λ n. names_function draft.functions n ≡ true) (omega arith) (named index refl))
+string_number draft (negsuc index) named = refl
 
 option_or-map : (f : List ℕ → ℕ) (a b : Option (List ℕ))
     → option_or (option_map f a) (option_map f b) ≡ option_map f (first_name a b)
 option_or-map f (Some name) b = refl
 option_or-map f None b = refl
 
-pub number_by-name : (draft : Draft) (function : Function)
+number_by-name : (draft : Draft) (function : Function)
+    → ((at : ℕ) → function.name ≡ pos at → names_function draft.functions at ≡ true)
+    → ((at : ℕ) → function.system_name ≡ pos at → names_function draft.functions at ≡ true)
     → number_by (string_numbers draft) function ≡ option_map (number_of draft) (function_name draft.strings function)
-number_by-name draft function =
-    ap (λ n. option_or n (number_at (string_numbers draft) function.system_name)) (string_number draft function.name)
+number_by-name draft function named known =
+    ap (λ n. option_or n (number_at (string_numbers draft) function.system_name))
+    (string_number draft function.name named)
     ∙ ap (option_or (option_map (number_of draft) (cleaned_name_of (string_at draft.strings function.name))))
-    (string_number draft function.system_name)
+    (string_number draft function.system_name known)
     ∙ option_or-map (number_of draft) (cleaned_name_of (string_at draft.strings function.name))
     (cleaned_name_of (string_at draft.strings function.system_name))
 
--- ---- the names stand among those that are numbered
+-- a function's names are those of the first of some functions
+named_first : (function : Function) (functions : List Function) (at : ℕ)
+    → function.name ≡ pos at → names_function (function ∷ functions) at ≡ true
+named_first function functions at is =
+    or_left (is_name_of function at) (names_function functions at)
+    (or_left (is_at (index_in function.name) at) (is_at (index_in function.system_name) at)
+    (ap (λ index. is_at (index_in index) at) is ∙ eq-eqb at at refl))
 
-or_right : (x y : Bool) → y ≡ true → (x || y) ≡ true
-or_right true y e = refl
-or_right false y e = e
+known_first : (function : Function) (functions : List Function) (at : ℕ)
+    → function.system_name ≡ pos at → names_function (function ∷ functions) at ≡ true
+known_first function functions at is =
+    or_left (is_name_of function at) (names_function functions at)
+    (or_right (is_at (index_in function.name) at) (is_at (index_in function.system_name) at)
+    (ap (λ index. is_at (index_in index) at) is ∙ eq-eqb at at refl))
+
+named_later : (function : Function) (functions : List Function) (at : ℕ)
+    → names_function functions at ≡ true → names_function (function ∷ functions) at ≡ true
+named_later function functions at there =
+    or_right (is_name_of function at) (names_function functions at) there
+
+numbers_by-names : (draft : Draft) (functions : List Function) → NamesAmong draft functions
+    → map (number_by (string_numbers draft)) functions
+    ≡ map (λ (function : Function). option_map (number_of draft) (function_name draft.strings function)) functions
+numbers_by-names draft [] among = refl
+numbers_by-names draft (function ∷ functions) among =
+    ap (λ number. number ∷ map (number_by (string_numbers draft)) functions)
+    (number_by-name draft function (λ at is. among at (named_first function functions at is))
+    (λ at is. among at (known_first function functions at is)))
+    ∙ ap (λ numbers. option_map (number_of draft) (function_name draft.strings function) ∷ numbers)
+    (numbers_by-names draft functions (λ at there. among at (named_later function functions at there)))
+
+pub function_numbers_are : (draft : Draft) → map (number_by (string_numbers draft)) draft.functions
+    ≡ map (λ (function : Function). option_map (number_of draft) (function_name draft.strings function)) draft.functions
+function_numbers_are draft = numbers_by-names draft draft.functions (λ at there. there)
+
+-- ---- marks of strings
+
+-- a mark is set at its index alone
+pub marked_here : (marks : List Bool) (index at : ℕ) → index < length marks
+    → get_or (set marks index true) at false ≡ (get_or marks at false || eqb index at)
+marked_here marks index at lt = elim (cases_eq at index) [
+  | inl same ↦ ap (λ k. get_or (set marks index true) k false) same
+      ∙ get_or-set_same marks index true false lt
+      ∙ sym (or_right (get_or marks at false) (eqb index at) (eq-eqb index at (sym same)))
+  | inr apart ↦ get_or-set_other marks index at true false apart
+      ∙ sym (ap (λ b. get_or marks at false || b) (ne_eqb index at (λ e. apart (sym e)))
+      ∙ or_false_right (get_or marks at false))
+]
+
+pub unmarked_past : (marks : List Bool) (index at : ℕ) → length marks ≤ index → at < length marks
+    → get_or marks at false ≡ (get_or marks at false || eqb index at)
+unmarked_past marks index at past lt =
+    sym (ap (λ b. get_or marks at false || b) (ne_eqb index at (λ e. absurd (omega (arith, e, past, lt))))
+    ∙ or_false_right (get_or marks at false))
+
+-- one function more
+pub names_more : (functions : List Function) (function : Function) (at : ℕ) (before between after : Bool)
+    → before ≡ names_function functions at → between ≡ (before || is_at (index_in function.name) at)
+    → after ≡ (between || is_at (index_in function.system_name) at)
+    → after ≡ names_function (functions ++ function ∷ []) at
+names_more functions function at before between after was name system =
+    system ∙ ap (λ b. b || is_at (index_in function.system_name) at) name
+    ∙ or_assoc before (is_at (index_in function.name) at) (is_at (index_in function.system_name) at)
+    ∙ ap (λ b. b || (is_name_of function at)) was
+    ∙ ap (λ b. names_function functions at || b)
+    (sym (or_false_right (is_name_of function at)))
+    ∙ sym (list_any-append
+    (λ (function : Function). is_name_of function at) functions
+    (function ∷ []))
+
+-- one string more
+pub strings_more : (functions : List Function) (at : ℕ) (strings : List (List ℕ)) (string : List ℕ)
+    → string_names_from functions at (strings ++ string ∷ []) ≡ string_names_from functions at strings
+    ++ (if names_function functions (at + length strings) then cleaned_name_of string else None) ∷ []
+strings_more functions at [] string =
+    ap (λ n. (if names_function functions n then cleaned_name_of string else None) ∷ []) (omega arith)
+strings_more functions at (first ∷ strings) string =
+    ap (λ names. (if names_function functions at then cleaned_name_of first else None) ∷ names)
+    (strings_more functions (at + 1) strings string
+    ∙ ap (λ n. string_names_from functions (at + 1) strings
+    ++ (if names_function functions n then cleaned_name_of string else None) ∷ []) (omega arith))
+
+-- ---- the names stand among those that are numbered
 
 given-here : (name : List ℕ) (option : Option (List ℕ)) (options : List (Option (List ℕ)))
     → option ≡ Some name → stands_in (given (option ∷ options)) name ≡ true
@@ -84,20 +222,30 @@ given-later : (name : List ℕ) (option : Option (List ℕ)) (options : List (Op
 given-later name None options e = e
 given-later name (Some other) options e = or_right (bytes_eq name other) (stands_in (given options) name) e
 
-string_stands : (strings : List (List ℕ)) (index : ℕ) (name : List ℕ) → cleaned_name_of
-    (slice_index_or strings index []) ≡ Some name → stands_in (given (map cleaned_name_of strings)) name ≡ true
-string_stands [] zero name e = absurd (false≢true (ap is_some e))
-string_stands [] (suc index) name e = absurd (false≢true (ap is_some e))
-string_stands (string ∷ strings) zero name e = given-here name (cleaned_name_of string) (map cleaned_name_of strings) e
-string_stands (string ∷ strings) (suc index) name e =
-    given-later name (cleaned_name_of string) (map cleaned_name_of strings) (string_stands strings index name e)
+string_stands : (functions : List Function) (at : ℕ) (strings : List (List ℕ)) (index : ℕ) (name : List ℕ)
+    → names_function functions (at + index) ≡ true → cleaned_name_of (slice_index_or strings index []) ≡ Some name
+    → stands_in (given (string_names_from functions at strings)) name ≡ true
+string_stands functions at [] zero name is e = absurd (false≢true (ap is_some e))
+string_stands functions at [] (suc index) name is e = absurd (false≢true (ap is_some e))
+string_stands functions at (string ∷ strings) zero name is e =
+    given-here name (if names_function functions at then cleaned_name_of string else None)
+    (string_names_from functions (at + 1) strings)
+    (ap (λ b. if b then cleaned_name_of string else None)
+    (subst (λ n. names_function functions n ≡ true) (omega arith) is) ∙ e)
+string_stands functions at (string ∷ strings) (suc index) name is e =
+    given-later name (if names_function functions at then cleaned_name_of string else None)
+    (string_names_from functions (at + 1) strings)
+    (string_stands functions (at + 1) strings index name
+    (subst (λ n. names_function functions n ≡ true) (omega arith) is) e)
 
 text_stands : (draft : Draft) (index : ℤ) (name : List ℕ)
+    → ((at : ℕ) → index ≡ pos at → names_function draft.functions at ≡ true)
     → cleaned_name_of (string_at draft.strings index) ≡ Some name → stands_in (frame_names draft) name ≡ true
-text_stands draft (pos index) name e =
-    with_texts-stands (with_texts [] (given (string_names draft))) (address_names draft) name
-    (with_texts-own [] (given (string_names draft)) name (string_stands draft.strings index name e))
-text_stands draft (negsuc index) name e = absurd (false≢true (ap is_some e))
+text_stands draft (pos index) name named e =
+    with_texts-stands (with_texts [] (given (string_names draft))) (given (address_names draft)) name
+    (with_texts-own [] (given (string_names draft)) name (string_stands draft.functions 0 draft.strings index name
+    (subst (λ n. names_function draft.functions n ≡ true) (omega arith) (named index refl)) e))
+text_stands draft (negsuc index) name named e = absurd (false≢true (ap is_some e))
 
 first_stands : (draft : Draft) (a b : Option (List ℕ)) (name : List ℕ) → (a ≡ Some name
     → stands_in (frame_names draft) name ≡ true) → (b ≡ Some name → stands_in (frame_names draft) name ≡ true)
@@ -105,48 +253,73 @@ first_stands : (draft : Draft) (a b : Option (List ℕ)) (name : List ℕ) → (
 first_stands draft (Some first) b name h k e = h e
 first_stands draft None b name h k e = k e
 
-function_stands : (draft : Draft) (function : Option Function) (name : List ℕ)
-    → named_by draft.strings function ≡ Some name → stands_in (frame_names draft) name ≡ true
-function_stands draft None name e = absurd (false≢true (ap is_some e))
-function_stands draft (Some function) name e =
-    first_stands draft (cleaned_name_of (string_at draft.strings function.name))
-    (cleaned_name_of (string_at draft.strings function.system_name)) name
-    (text_stands draft function.name name) (text_stands draft function.system_name name) e
+functions_stand : (draft : Draft) (functions : List Function) (id : ℕ) (name : List ℕ) → NamesAmong draft functions
+    → named_by draft.strings (item_with (λ function. function.id) id functions) ≡ Some name
+    → stands_in (frame_names draft) name ≡ true
+functions_stand draft [] id name among e = absurd (false≢true (ap is_some e))
+functions_stand draft (function ∷ functions) id name among e =
+    elim (eqb function.id id) as (λ b. named_by draft.strings
+    (cond b (Some function) (item_with (λ function. function.id) id functions)) ≡ Some name
+    → stands_in (frame_names draft) name ≡ true) [
+      | true ↦ first_stands draft (cleaned_name_of (string_at draft.strings function.name))
+          (cleaned_name_of (string_at draft.strings function.system_name)) name
+          (text_stands draft function.name name (λ at is. among at (named_first function functions at is)))
+          (text_stands draft function.system_name name (λ at is. among at (known_first function functions at is)))
+      | false ↦ functions_stand draft functions id name
+          (λ at there. among at (named_later function functions at there))
+    ] e
 
 or_else_stands : (names : List (List ℕ)) (found : Option (List ℕ)) (address : List ℕ)
     → ((name : List ℕ) → found ≡ Some name → stands_in names name ≡ true)
-    → stands_in names address ≡ true → stands_in names (unwrap_or found address) ≡ true
-or_else_stands names (Some name) address h e = h name refl
-or_else_stands names None address h e = e
+    → (not (is_some found) ≡ true → stands_in names address ≡ true) → stands_in names (unwrap_or found address) ≡ true
+or_else_stands names (Some name) address h k = h name refl
+or_else_stands names None address h k = k refl
 
-lines_stand : (draft : Draft) (address : ℕ) (lines : List Line) → stands_in (frame_names draft) (address_name address)
-    ≡ true → AllStand (frame_names draft) (map (line_name draft.strings draft.functions address) lines)
-lines_stand draft address [] e = tt
-lines_stand draft address (line ∷ lines) e = (
+lines_stand : (draft : Draft) (address : ℕ) (lines : List Line)
+    → (list_any (lacks_name draft) lines ≡ true → stands_in (frame_names draft) (address_name address) ≡ true)
+    → AllStand (frame_names draft) (map (line_name draft.strings draft.functions address) lines)
+lines_stand draft address [] h = tt
+lines_stand draft address (line ∷ lines) h = (
   or_else_stands (frame_names draft) (named_by draft.strings
       (item_with (λ function. function.id) line.function_id draft.functions)) (address_name address)
-      (function_stands draft (item_with (λ function. function.id) line.function_id draft.functions)) e,
-  lines_stand draft address lines e,
+      (λ name e. functions_stand draft draft.functions line.function_id name (λ at there. there) e)
+      (λ lacks. h (or_left (lacks_name draft line) (list_any (lacks_name draft) lines) lacks)),
+  lines_stand draft address lines
+      (λ later. h (or_right (lacks_name draft line) (list_any (lacks_name draft) lines) later)),
 )
 
-frames_stand : (draft : Draft) (address : ℕ) (lines : List Line) → stands_in (frame_names draft) (address_name address)
-    ≡ true → AllStand (frame_names draft) (frames_from draft.strings draft.functions address lines)
-frames_stand draft address [] e = (e, tt)
-frames_stand draft address (line ∷ lines) e = lines_stand draft address (line ∷ lines) e
+frames_stand : (draft : Draft) (address : ℕ) (lines : List Line)
+    → (needs_address draft lines ≡ true → stands_in (frame_names draft) (address_name address) ≡ true)
+    → AllStand (frame_names draft) (frames_from draft.strings draft.functions address lines)
+frames_stand draft address [] h = (h refl, tt)
+frames_stand draft address (line ∷ lines) h = lines_stand draft address (line ∷ lines) h
 
 located : (draft : Draft) (locations : List Location)
-    → AllStand (frame_names draft) (map (λ (location : Location). address_name location.address) locations)
+    → AllStand (frame_names draft) (given (map (address_of draft) locations))
     → AllByRecursion (λ (location : Location). AllStand (frame_names draft) (location_frames draft location)) locations
 located draft [] all = tt
 located draft (location ∷ locations) all =
-    (frames_stand draft location.address location.lines all.0, located draft locations all.1)
+    elim (needs_address draft location.lines) as (λ b. needs_address draft location.lines ≡ b
+    → AllStand (frame_names draft)
+    (given (cond b (Some (address_name location.address)) None ∷ map (address_of draft) locations))
+    → AllStand (frame_names draft) (location_frames draft location) × AllByRecursion
+    (λ (location : Location). AllStand (frame_names draft) (location_frames draft location)) locations) [
+      | true ↦ λ is these. (
+        frames_stand draft location.address location.lines (λ needs. these.0),
+        located draft locations these.1,
+      )
+      | false ↦ λ is these. (
+        frames_stand draft location.address location.lines (λ needs. absurd (false≢true (sym is ∙ needs))),
+        located draft locations these,
+      )
+    ] refl all
 
 pub locations_stand : (draft : Draft) → AllByRecursion
     (λ (location : Location). AllStand (frame_names draft) (location_frames draft location)) draft.locations
 locations_stand draft =
     located draft draft.locations
-    (stand_where (address_names draft) (frame_names draft)
-    (λ q e. with_texts-own (with_texts [] (given (string_names draft))) (address_names draft) q e))
+    (stand_where (given (address_names draft)) (frame_names draft)
+    (λ q e. with_texts-own (with_texts [] (given (string_names draft))) (given (address_names draft)) q e))
 
 -- ---- numbers of names
 
@@ -167,7 +340,7 @@ single (name ∷ names) all = (apart name names all.0, single names all.1)
 pub frame_names-single : (draft : Draft) → AreSingle (frame_names draft)
 frame_names-single draft =
     single (frame_names draft) (distinct_with_texts (with_texts [] (given (string_names draft)))
-    (address_names draft) (distinct_with_texts [] (given (string_names draft)) tt))
+    (given (address_names draft)) (distinct_with_texts [] (given (string_names draft)) tt))
 
 below : (names frames : List (List ℕ))
     → AllStand names frames → AllByRecursion (λ number. number < length names) (map (number_in names) frames)
@@ -218,10 +391,6 @@ any_with test numbers number = elim (has_number number numbers) as (λ b. has_nu
     known true h = rw (h refl) refl
     known false h = elim (list_any test numbers) as (λ b. b ≡ (b || false)) [ true ↦ refl | false ↦ refl ]
 
-or_assoc : (a b c : Bool) → ((a || b) || c) ≡ (a || (b || c))
-or_assoc true b c = refl
-or_assoc false b c = refl
-
 any_withs : (test : ℕ → Bool) (start numbers : List ℕ)
     → list_any test (with_numbers start numbers) ≡ (list_any test start || list_any test numbers)
 any_withs test start [] = elim (list_any test start) as (λ b. b ≡ (b || false)) [ true ↦ refl | false ↦ refl ]
@@ -265,34 +434,55 @@ any_known names q (frame ∷ frames) all =
     (map (number_in names) frames)) (text_of_number names frame (number_in-lt names frame all.0))
     ∙ ap (λ b. is_same_name q frame || b) (any_known names q frames all.1)
 
+-- where a location keeps no numbers apart, those of its frames are each once
+names_kept : (numbers : List ℕ) → names_of (frame_numbers_of numbers) ≡ once_of numbers
+names_kept [] = refl
+names_kept (number ∷ []) = refl
+names_kept (number ∷ next ∷ numbers) = refl
+
+-- the names at the numbers of names are these names
+named_again : (names frames : List (List ℕ)) → AllStand names frames
+    → names_at names (map (number_in names) frames) ≡ frames
+named_again names [] all = refl
+named_again names (frame ∷ frames) all =
+    ap (λ name. name ∷ names_at names (map (number_in names) frames))
+    (text_of_number names frame (number_in-lt names frame all.0))
+    ∙ ap (λ more. frame ∷ more) (named_again names frames all.1)
+
 -- what numbers say of the frames whose they are
 pub record AreNumbersOf (names frames : List (List ℕ)) (numbers : FrameNumbers) : Type 0 where
-  pub depth : numbers.depth ≡ length frames
-  pub inside : All (λ number. number < length names) numbers.names
-  pub same : (q : List ℕ) → has_name q (names_at names numbers.names) ≡ has_name q frames
-  pub leaf_inside : numbers.leaf < length names
+  pub depth : length numbers.all ≡ length frames
+  pub all_inside : All (λ number. number < length names) numbers.all
+  pub all_are : names_at names numbers.all ≡ frames
+  pub inside : All (λ number. number < length names) (names_of numbers)
+  pub same : (q : List ℕ) → has_name q (names_at names (names_of numbers)) ≡ has_name q frames
+  pub some : 0 < length numbers.all
+  pub leaf_inside : slice_index_or numbers.all 0 0 < length names
   pub callers : List (List ℕ)
-  pub leaf : frames ≡ slice_index_or names numbers.leaf [] ∷ callers
+  pub leaf : frames ≡ slice_index_or names (slice_index_or numbers.all 0 0) [] ∷ callers
 
 numbered : (names : List (List ℕ)) (frame : List ℕ) (frames : List (List ℕ)) → AllStand names (frame ∷ frames)
     → AreNumbersOf names (frame ∷ frames) (frame_numbers_of (map (number_in names) (frame ∷ frames)))
 numbered names frame frames all = record {
-  depth = long (frame ∷ frames);
-  inside = All-from_recursion (λ number. number < length names) (once_of (map (number_in names) (frame ∷ frames)))
+  depth = length-map (frame ∷ frames) (number_in names);
+  all_inside = All-from_recursion (λ number. number < length names) (map (number_in names) (frame ∷ frames))
+      (below names (frame ∷ frames) all);
+  all_are = named_again names (frame ∷ frames) all;
+  inside = subst (All (λ number. number < length names)) (sym (names_kept (map (number_in names) (frame ∷ frames))))
+      (All-from_recursion (λ number. number < length names) (once_of (map (number_in names) (frame ∷ frames)))
       (all_withs (λ number. number < length names) []
-      (map (number_in names) (frame ∷ frames)) tt (below names (frame ∷ frames) all));
-  same = λ q. list_any-map names q (once_of (map (number_in names) (frame ∷ frames)))
+      (map (number_in names) (frame ∷ frames)) tt (below names (frame ∷ frames) all)));
+  same = λ q. ap (λ numbers. has_name q (names_at names numbers))
+      (names_kept (map (number_in names) (frame ∷ frames)))
+      ∙ list_any-map names q (once_of (map (number_in names) (frame ∷ frames)))
       ∙ any_withs (λ number. is_same_name q (slice_index_or names number [])) []
       (map (number_in names) (frame ∷ frames))
       ∙ any_known names q (frame ∷ frames) all;
+  some = omega arith;
   leaf_inside = number_in-lt names frame all.0;
   callers = frames;
   leaf = ap (λ name. name ∷ frames) (sym (text_of_number names frame (number_in-lt names frame all.0)));
 }
-  where
-    long : (frames : List (List ℕ)) → length (map (number_in names) frames) ≡ length frames
-    long [] = refl
-    long (frame ∷ frames) = ap suc (long frames)
 
 location_numbered : (draft : Draft) (address : ℕ) (lines : List Line)
     → AllStand (frame_names draft) (frames_from draft.strings draft.functions address lines)
@@ -370,11 +560,6 @@ given-push [] (Some name) = refl
 given-push (None ∷ names) name = given-push names name
 given-push (Some first ∷ names) name = ap (λ more. first ∷ more) (given-push names name)
 
-pub numbers_of-some : (draft : Draft) (address : ℕ) (lines : List Line)
-    → 0 < length (map (number_of draft) (frames_from draft.strings draft.functions address lines))
-numbers_of-some draft address [] = omega arith
-numbers_of-some draft address (line ∷ lines) = omega arith
-
 -- ---- the frames of ids, one by one
 
 pub frames-more : (draft : Draft) (ids : List ℕ) (i : ℕ) → i < length ids
@@ -383,9 +568,9 @@ frames-more draft ids i lt = ap (frames_of_ids draft) (take_more ids i 0 lt)
     ∙ sym (flat_map_more (frames_of_id draft) [] (take i ids) (get_or ids i 0))
 
 pub room_left : (draft : Draft) (ids : List ℕ) (i room : ℕ) (numbers : FrameNumbers) → i < length ids
-    → AreNumbersOf (frame_names draft) (frames_of_id draft (get_or ids i 0)) numbers → numbers.depth ≤ room
+    → AreNumbersOf (frame_names draft) (frames_of_id draft (get_or ids i 0)) numbers → length numbers.all ≤ room
     → room + length (frames_of_ids draft (take i ids)) ≡ 65535
-    → (room - numbers.depth) + length (frames_of_ids draft (take (i + 1) ids)) ≡ 65535
+    → (room - length numbers.all) + length (frames_of_ids draft (take (i + 1) ids)) ≡ 65535
 room_left draft ids i room numbers lt this low earlier =
     let depth = this.depth in
     let more = ap length (frames-more draft ids i lt)
@@ -402,7 +587,7 @@ room_same draft ids i room lt none earlier =
     omega (arith, empty, more, earlier)
 
 pub room_short : (draft : Draft) (ids : List ℕ) (i room : ℕ) (numbers : FrameNumbers) → i < length ids
-    → AreNumbersOf (frame_names draft) (frames_of_id draft (get_or ids i 0)) numbers → room < numbers.depth
+    → AreNumbersOf (frame_names draft) (frames_of_id draft (get_or ids i 0)) numbers → room < length numbers.all
     → room + length (frames_of_ids draft (take i ids)) ≡ 65535 → 65535 < length (frames_of_ids draft ids)
 room_short draft ids i room numbers lt this low earlier =
     let depth = this.depth in
@@ -462,10 +647,6 @@ once-push before next count mark number marks once so_far is lt other =
     or_true true b e = refl
     or_true false b e = e
 
-    or_false_right : (a : Bool) → (a || false) ≡ a
-    or_false_right true = refl
-    or_false_right false = refl
-
 pub once-same : (before next : List ℕ) (count mark number : ℕ) (marks once : List ℕ)
     → IsOnceSoFar before count mark marks once → next ≡ before ++ number ∷ []
     → get_or marks number 0 ≡ mark → IsOnceSoFar next count mark marks once
@@ -479,6 +660,23 @@ once-same before next count mark number marks once so_far is here =
       seen = so_far.seen;
     }
 
+-- ---- lines that lack a name
+
+any_at : (draft : Draft) (lines : List Line) (index : ℕ) (none : Line) → index < length lines
+    → lacks_name draft (get_or lines index none) ≡ true → list_any (lacks_name draft) lines ≡ true
+any_at draft [] index none lt lacks = absurd (omega (arith, lt))
+any_at draft (line ∷ lines) zero none lt lacks =
+    or_left (lacks_name draft line) (list_any (lacks_name draft) lines) lacks
+any_at draft (line ∷ lines) (suc index) none lt lacks =
+    or_right (lacks_name draft line) (list_any (lacks_name draft) lines)
+    (any_at draft lines index none (omega (arith, lt)) lacks)
+
+-- a location with a line that lacks a name needs its address
+pub lacking : (draft : Draft) (lines : List Line) (index : ℕ) (none : Line) → index < length lines
+    → lacks_name draft (get_or lines index none) ≡ true → needs_address draft lines ≡ true
+lacking draft [] index none lt lacks = refl
+lacking draft (line ∷ lines) index none lt lacks = any_at draft (line ∷ lines) index none lt lacks
+
 -- ---- all locations
 
 pub all_named : (draft : Draft) → All (λ (location : Location). All
@@ -489,13 +687,6 @@ all_named draft =
     (λ location stand. numbers_below (frame_names draft) (location_frames draft location) stand) draft.locations
     (All-from_recursion (λ (location : Location). AllStand (frame_names draft) (location_frames draft location))
     draft.locations (locations_stand draft))
-
-pub address_numbers_are : (draft : Draft) (locations : List Location)
-    → map (number_of draft) (map (λ (location : Location). address_name location.address) locations)
-    ≡ map (λ (location : Location). number_of draft (address_name location.address)) locations
-address_numbers_are draft [] = refl
-address_numbers_are draft (location ∷ locations) =
-    ap (λ numbers. number_of draft (address_name location.address) ∷ numbers) (address_numbers_are draft locations)
 
 text_push : (P : List ℕ → Type 0) (texts : List (List ℕ)) (text : List ℕ)
     → AllByRecursion P texts → P text → AllByRecursion P (texts ++ text ∷ [])
@@ -520,7 +711,7 @@ texts_named P front back all rest =
 -- ---- the deepest location
 
 deepest_bounds : (draft : Draft) (deepest : ℕ) (locations : List Location)
-    → AllByRecursion (λ (frames : FrameNumbers). frames.depth ≤ deepest) (map (location_numbers draft) locations)
+    → AllByRecursion (λ (frames : FrameNumbers). length frames.all ≤ deepest) (map (location_numbers draft) locations)
     → (id : ℕ) → length (frames_at draft (item_with (λ (location : Location). location.id) id locations)) ≤ deepest
 deepest_bounds draft deepest [] all id = omega arith
 deepest_bounds draft deepest (location ∷ locations) all id =
@@ -538,8 +729,8 @@ pub within_deepest : (draft : Draft) (ids : List ℕ) (frames : List FrameNumber
 within_deepest draft ids frames deepest names this id =
     deepest_bounds draft deepest draft.locations
     (recursion_from_All
-    (λ (frames : FrameNumbers). frames.depth ≤ deepest) (map (location_numbers draft) draft.locations)
-    (subst (All (λ (frames : FrameNumbers). frames.depth ≤ deepest)) this.frames_are this.depths)) id
+    (λ (frames : FrameNumbers). length frames.all ≤ deepest) (map (location_numbers draft) draft.locations)
+    (subst (All (λ (frames : FrameNumbers). length frames.all ≤ deepest)) this.frames_are this.depths)) id
 
 -- so many locations have no more frames than so many of the deepest
 pub all_within : (draft : Draft) (deepest : ℕ) → ((id : ℕ) → length (frames_of_id draft id) ≤ deepest)

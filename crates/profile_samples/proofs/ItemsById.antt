@@ -1,6 +1,6 @@
 -- Items by their ids, and addresses as names.
 use Rattle.std.proofs.Common.{◌≡◌, ◌≢◌, ℕ, zero, suc, ◌/◌, ◌%◌, ◌<◌, ◌≤◌, Bool, true, false, eqb, List, [], ◌∷◌, map}
-use Rattle.std.proofs.Common.{refl, sym, ap, ◌∙◌, subst, arith, inl, inr}
+use Rattle.std.proofs.Common.{refl, sym, ap, ◌∙◌, arith, inl, inr}
 use Rattle.std.specs.Prelude.{Option, Some, None, slice_get, ◌||◌, ◌&&◌, not, MatchOption, is_some, unwrap_or, cond}
 use Rattle.std.specs.List.{AllByRecursion}
 use Rattle.std.specs.Fmt.{digits, digits_onto, digit_glyph}
@@ -17,7 +17,6 @@ use Rattle.pprof_profile.specs.declared.faults.ProfileFault.TheVariants.{NoStrin
 use Rattle.pprof_profile.specs.declared.faults.ProfileFault.TheVariants.{DoubleId}
 use Rattle.profile_rows.specs.Names.{IsName}
 use Rattle.profile_samples.specs.Samples.{address_name, item_with}
-use Rattle.profile_samples.specs.Unfolding.{AreFunctionNames, AreLocationFrames}
 
 -- ---- items by their ids
 
@@ -90,29 +89,6 @@ ids_differ draft valid =
     (not (has_double (function_ids draft))) single in
     let locations = and_parts (not (has_double (mapping_ids draft))) (not (has_double (location_ids draft))) front.0 in
     (not_true (has_double (location_ids draft)) locations.1, not_true (has_double (function_ids draft)) front.1)
-
--- a search among the ids finds the function or location that an id names
-pub function_found : (draft : Draft) (ids : List ℕ) (names : List (Option (List ℕ))) (id : ℕ) (found : Option ℕ)
-    → AreFunctionNames draft ids names
-    → MatchOption found ((at : ℕ) → slice_get ids at ≢ Some id) (λ at. slice_get ids at ≡ Some id)
-    → item_with (λ function. function.id) id draft.functions
-    ≡ option_and_then (λ at. slice_get draft.functions at) found
-function_found draft ids names id found this h =
-    item_with-found
-    (λ function. function.id) draft.functions id found (subst (λ i. has_double i ≡ false) this.ids_are this.single)
-    (subst (λ (i : List ℕ). MatchOption found ((at : ℕ) → slice_get i at ≢ Some id) (λ at. slice_get i at ≡ Some id))
-    this.ids_are h)
-
-pub location_found : (draft : Draft) (ids : List ℕ) (frames : List (List (List ℕ))) (id : ℕ) (found : Option ℕ)
-    → AreLocationFrames draft ids frames
-    → MatchOption found ((at : ℕ) → slice_get ids at ≢ Some id) (λ at. slice_get ids at ≡ Some id)
-    → item_with (λ location. location.id) id draft.locations
-    ≡ option_and_then (λ at. slice_get draft.locations at) found
-location_found draft ids frames id found this h =
-    item_with-found
-    (λ location. location.id) draft.locations id found (subst (λ i. has_double i ≡ false) this.ids_are this.single)
-    (subst (λ (i : List ℕ). MatchOption found ((at : ℕ) → slice_get i at ≢ Some id) (λ at. slice_get i at ≡ Some id))
-    this.ids_are h)
 
 -- ---- addresses
 

@@ -6,4 +6,3 @@ pub mod IdIndex
 pub mod MergedSamples
 pub mod NameNumbers
 pub mod Samples
-pub mod Unfolding

@@ -1,6 +1,7 @@
 -- The names of a profile's frames by numbers: equal names have one number.
 use Rattle.std.specs.Prelude.{ℕ, ℤ, pos, negsuc, ◌≡◌, ◌≤◌, All, false, Option, Some, None, List, [], ◌∷◌, ◌++◌, length}
-use Rattle.std.specs.Prelude.{map, slice_index_or, if◌then◌else◌}
+use Rattle.std.specs.Prelude.{map, not, is_some, slice_index_or, true, Bool, if◌then◌else◌, eqb, ◌||◌, ◌+◌}
+use Rattle.std.specs.List.{list_any}
 use Rattle.std.specs.Option.{option_map, option_or}
 use Rattle.pprof_profile.specs.declared.messages.Draft.{Draft}
 use Rattle.pprof_profile.specs.declared.messages.Function.{Function}
@@ -9,9 +10,10 @@ use Rattle.pprof_profile.specs.declared.messages.Line.{Line}
 use Rattle.pprof_profile.specs.Valid.{function_ids, has_double, location_ids}
 use Rattle.profile_rows.specs.Names.{IsName, cleaned_name_of}
 use Rattle.profile_samples.specs.declared.name_numbers.FrameNumbers.{FrameNumbers}
-use Rattle.profile_samples.specs.declared.string_names.StringName.{StringName}
-use Rattle.profile_samples.specs.declared.string_names.StringName.TheVariants.{Missing, Plain, Cleaned}
+use Rattle.profile_samples.specs.declared.string_names.GivenName.{GivenName}
+use Rattle.profile_samples.specs.declared.string_names.GivenName.TheVariants.{Missing, Plain, Made}
 use Rattle.profile_samples.specs.Samples.{address_name, function_name, item_with, line_name, location_frames}
+use Rattle.profile_samples.specs.Samples.{named_by}
 use Rattle.profile_rows.specs.Tallies.{has_number}
 use Rattle.profile_rows.specs.TextTables.{number_in, with_texts}
 
@@ -24,22 +26,62 @@ given (None ∷ names) = given names
 given (Some name ∷ names) = name ∷ given names
 
 -- the name that a string gives, where it gives one
-abbrev pub name_in : StringName → Option (List ℕ)
+abbrev pub name_in : GivenName → Option (List ℕ)
 name_in Missing = None
 name_in (Plain name) = Some name
-name_in (Cleaned name) = Some name
+name_in (Made name) = Some name
 
--- the names of a profile's strings
+-- an index below 0 is that of nothing
+abbrev pub index_in : ℤ → Option ℕ
+index_in (pos index) = Some index
+index_in (negsuc index) = None
+
+-- whether an index is this one
+abbrev pub is_at : Option ℕ → ℕ → Bool
+is_at (Some index) at = eqb index at
+is_at None at = false
+
+-- whether the string at this index names a function
+abbrev pub is_name_of : Function → ℕ → Bool
+is_name_of function at = is_at (index_in function.name) at || is_at (index_in function.system_name) at
+
+-- whether it names some of these functions
+abbrev pub names_function : List Function → ℕ → Bool
+names_function functions at = list_any (λ function. is_name_of function at) functions
+
+-- the names of strings from this index on, where they name functions
+abbrev pub string_names_from : List Function → ℕ → List (List ℕ) → List (Option (List ℕ))
+string_names_from functions at [] = []
+string_names_from functions at (string ∷ strings) =
+    (if names_function functions at then cleaned_name_of string else None)
+    ∷ string_names_from functions (at + 1) strings
+
+-- the names of a profile's strings, where they name functions
 abbrev pub string_names : Draft → List (Option (List ℕ))
-string_names draft = map cleaned_name_of draft.strings
+string_names draft = string_names_from draft.functions 0 draft.strings
 
--- the names of the addresses of a profile's locations
-abbrev pub address_names : Draft → List (List ℕ)
-address_names draft = map (λ (location : Location). address_name location.address) draft.locations
+-- whether a line is called as its location's address: its function is unknown or has no name
+abbrev pub lacks_name : Draft → Line → Bool
+lacks_name draft line =
+    not (is_some (named_by draft.strings (item_with (λ function. function.id) line.function_id draft.functions)))
+
+-- whether some frame of a location of these lines is called as its address
+abbrev pub needs_address : Draft → List Line → Bool
+needs_address draft [] = true
+needs_address draft (line ∷ lines) = list_any (lacks_name draft) (line ∷ lines)
+
+-- the name of a location's address, where a frame needs it
+abbrev pub address_of : Draft → Location → Option (List ℕ)
+address_of draft location =
+    if needs_address draft location.lines then Some (address_name location.address) else None
+
+-- the names of the addresses of a profile's locations, where frames need them
+abbrev pub address_names : Draft → List (Option (List ℕ))
+address_names draft = map (address_of draft) draft.locations
 
 -- every name that a frame of the profile can have, each once
 abbrev pub frame_names : Draft → List (List ℕ)
-frame_names draft = with_texts (with_texts [] (given (string_names draft))) (address_names draft)
+frame_names draft = with_texts (with_texts [] (given (string_names draft))) (given (address_names draft))
 
 -- a name's number is where it stands among them
 abbrev pub number_of : Draft → List ℕ → ℕ
@@ -88,10 +130,22 @@ with_numbers numbers (number ∷ more) = with_numbers (with_number numbers numbe
 abbrev pub once_of : List ℕ → List ℕ
 once_of numbers = with_numbers [] numbers
 
--- how many frames there are, the leaf's number, and the number of each name once
+-- whether there is one number
+abbrev pub is_single : List ℕ → Bool
+is_single [] = false
+is_single (number ∷ []) = true
+is_single (number ∷ next ∷ numbers) = false
+
+-- the number of each frame, and the number of each name once, which isn't kept of a frame alone
 abbrev pub frame_numbers_of : List ℕ → FrameNumbers
-frame_numbers_of numbers =
-    record { depth = length numbers; leaf = slice_index_or numbers 0 0; names = once_of numbers }
+frame_numbers_of numbers = record {
+  all = numbers;
+  once = if is_single numbers then [] else once_of numbers;
+}
+
+-- the number of each name once
+abbrev pub names_of : FrameNumbers → List ℕ
+names_of frames = if is_single frames.all then frames.all else frames.once
 
 -- the frames of a location by the numbers of their names
 abbrev pub location_numbers : Draft → Location → FrameNumbers
@@ -107,6 +161,6 @@ pub record AreFrameNumbers (draft : Draft) (ids : List ℕ) (frames : List Frame
   pub ids_are : ids ≡ location_ids draft
   pub single : has_double ids ≡ false
   pub frames_are : frames ≡ map (location_numbers draft) draft.locations
-  pub depths : All (λ (frames : FrameNumbers). frames.depth ≤ deepest) frames
+  pub depths : All (λ (frames : FrameNumbers). length frames.all ≤ deepest) frames
   pub names_are : names ≡ frame_names draft
   pub each : All IsName (frame_names draft)

@@ -8,10 +8,10 @@ ghost use Rattle.profile_samples.specs.declared.sampling.ValueChoice.{ValueChoic
 ghost use Rattle.profile_samples.specs.Samples.{HasWeights, IsRowOfSample, IsSampleFault, IsValueFault, chosen_types_of, sample_stack_of};
 ghost use Rattle.profile_samples.specs.Batches.{AreRowsOfSamples, IsBatchOf, IsFirstBatchFault, StandsAtSample};
 
+use crate::name_numbers::NumberedFrames;
 use crate::sampling::{
-    BatchFault, ChosenValues, ValueChoice, check_depth, chosen_values, stack_at, weight_of,
+    BatchFault, ChosenValues, ValueChoice, check_depth, chosen_values, weight_of,
 };
-use crate::unfolding::LocationFrames;
 use basics::NoMemory;
 use pprof_profile::{Draft, Profile, Sample};
 use profile_rows::{Batch, Hashing, MAX_DEPTH, MAX_WIDTH, Weights, first_heavy};
@@ -53,7 +53,7 @@ fn check_room(totals: &Weights, weights: &Weights, number: u64) -> Result<(), Ba
 /// Adds a row of the stack at these locations, which fits.
 fn push_row(
     alloc: Global,
-    frames: &LocationFrames,
+    frames: &NumberedFrames,
     batch: &mut Batch,
     ids: &[u64],
     weights: &Weights,
@@ -67,7 +67,7 @@ fn push_row(
           ++ (record { stack = sample_stack_of frames.now ids.now; weights = weights.now }) ∷ [];
     }) }
 {
-    let stack = stack_at(alloc, frames, ids)?;
+    let stack = frames.stack_at(alloc, ids)?;
     batch.push(stack, *weights).map_err(|_| NoMemory)
 }
 
@@ -75,7 +75,7 @@ fn push_row(
 /// before memory can run out at it.
 fn add_sample(
     alloc: Global,
-    frames: &LocationFrames,
+    frames: &NumberedFrames,
     batch: &mut Batch,
     chosen: &ChosenValues,
     sample: &Sample,
@@ -102,7 +102,7 @@ fn add_sample(
 fn batch_by(
     alloc: Global,
     profile: &Profile,
-    frames: &LocationFrames,
+    frames: &NumberedFrames,
     chosen: &ChosenValues,
 ) -> Result<Batch, BatchFault>
     requires framed { frames.now ≡ profile.now }
@@ -157,6 +157,6 @@ pub fn batch_of_with(
         → MatchResult result (λ batch. ⊥) (λ fault. (fault ≡ BatchFault.NoMemory) ⊎ (fault ≡ first)) }
 {
     let chosen = chosen_values(alloc, profile.draft(), choice, MAX_WIDTH)?;
-    let frames = LocationFrames::new(alloc, hashing, profile)?;
+    let frames = NumberedFrames::new(alloc, hashing, profile)?;
     batch_by(alloc, profile, &frames, &chosen)
 }

@@ -12,21 +12,12 @@ ghost use Rattle.profile_samples.specs.Batches.{AreStacksOf, IsFirstStacksFault,
 ghost use Rattle.profile_samples.specs.NameNumbers.{frame_names};
 ghost use Rattle.profile_samples.specs.CountedSamples.{AreNumbersOfIds, AreRowsCounted, AreTotalsOfSamples};
 
-use crate::name_numbers::{NumberedFrames, ProfileNames};
+use crate::name_numbers::NumberedFrames;
 use crate::sampling::{BatchFault, ValueChoice, check_fit, chosen_value, weight_of};
+use crate::unfolding::push_numbers;
 use pprof_profile::{Profile, Sample};
-use profile_rows::{FrameTotals, Hashing, Tallies};
+use profile_rows::{FrameTotals, Hashing, Name, Tallies};
 use std::alloc::{AllocError, Global};
-
-/// Adds numbers to a list one by one: most locations have one, and a processor waits for a copy of unknown length.
-fn push_numbers(numbers: &mut Vec<usize>, more: &[usize]) -> Result<(), AllocError>
-    ensures { OnOk result (numbers.new.items ≡ numbers.old.items ++ more.now) }
-{
-    for number in more {
-        numbers.push(*number)?;
-    }
-    Ok(())
-}
 
 /// Puts the numbers of the names of these locations into a list, those of each location once. They are gathered before
 /// they are counted, so that waits for memory overlap where locations stand far apart.
@@ -40,7 +31,7 @@ fn gather_numbers(
     numbers.clear();
     for id in ids {
         if let Some(found) = frames.frames_of(*id) {
-            push_numbers(numbers, found.names.as_slice())?;
+            push_numbers(numbers, found.names())?;
         }
     }
     Ok(())
@@ -93,6 +84,17 @@ fn count_samples(
     Ok(())
 }
 
+/// The texts of names.
+fn texts_of(alloc: Global, names: &[Name]) -> Result<Vec<&str>, AllocError>
+    ensures { IfOk result (λ texts. map (λ text. text.now) texts.items ≡ names.now) }
+{
+    let mut texts = Vec::with_capacity(alloc, names.len())?;
+    for name in names {
+        texts.push(name.text())?;
+    }
+    Ok(texts)
+}
+
 /// What the names weigh in the rows of a profile's samples by one value. Where memory runs out, the samples before have
 /// no fault, nor has the one at hand.
 fn totals_by(
@@ -111,7 +113,8 @@ fn totals_by(
         (λ fault. IsStacksWorkFault profile.now choice fault) }
 {
     count_samples(alloc, profile, frames, tallies, chosen)?;
-    Ok(tallies.totals(alloc, frames.names())?)
+    let names = texts_of(alloc, frames.names())?;
+    Ok(tallies.totals(alloc, names.as_slice())?)
 }
 
 /// What the names weigh in the rows that [`batch_of`](crate::batch_of) makes of a profile's samples, by one value. The
@@ -136,8 +139,7 @@ pub fn sample_totals(
         → MatchResult result (λ totals. ⊥) (λ fault. (fault ≡ BatchFault.NoMemory) ⊎ (fault ≡ first)) }
 {
     let chosen = chosen_value(alloc, profile.draft(), choice)?;
-    let names = ProfileNames::new(alloc, profile.draft())?;
-    let frames = NumberedFrames::new(alloc, hashing, profile, &names)?;
+    let frames = NumberedFrames::new(alloc, hashing, profile)?;
     let mut tallies = Tallies::without_rows(alloc, frames.names().len())?;
     totals_by(alloc, profile, &frames, &mut tallies, chosen)
 }

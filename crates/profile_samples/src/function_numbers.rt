@@ -1,18 +1,25 @@
 //! The names of a profile's functions by numbers.
 
-ghost use Rattle.std.specs.Prelude.{◌≡◌, ◌<◌, IfOk, length, map, slice_get};
+ghost use Rattle.std.specs.Prelude.{◌≡◌, ◌<◌, IfOk, length, map, slice_get, true};
 ghost use Rattle.std.specs.Option.{option_map};
 ghost use Rattle.pprof_profile.specs.Valid.{IsValidDraft};
 ghost use Rattle.profile_samples.specs.Samples.{address_name, item_with, named_by};
-ghost use Rattle.profile_samples.specs.NameNumbers.{line_number, number_at, number_by, number_of, numbers_of, string_numbers};
+ghost use Rattle.profile_samples.specs.NameNumbers.{address_of, lacks_name, line_number, name_in, needs_address, number_at, number_by, number_of, numbers_of, string_numbers};
 
 use crate::id_index::IdIndex;
-use crate::unfolding::function_ids;
+use crate::string_names::{GivenName, address_name};
 use basics::NoMemory;
 use pprof_profile::{Draft, Function, Line, Location};
 use profile_rows::Hashing;
 use std::alloc::{AllocError, Global};
 use std::marker::Model;
+
+/// The ids of functions.
+fn function_ids(alloc: Global, functions: &[Function]) -> Result<Vec<u64>, AllocError>
+    ensures { IfOk result (λ ids. ids.items ≡ map (λ function. function.id) functions.now) }
+{
+    functions.iter().map(|function| function.id).collect(alloc)
+}
 
 /// The number at an index of strings.
 fn number_at(numbers: &[Option<usize>], index: i64) -> Option<usize>
@@ -119,9 +126,42 @@ impl<'a> FunctionNumbers<'a> {
         }
     }
 
+    /// Whether a frame of a location of these lines is called as its address: there is no line, or one whose function
+    /// has no name.
+    fn needs_address(&self, lines: &[Line]) -> bool
+        ensures { result ≡ needs_address self.now lines.now }
+    {
+        for line in lines {
+            if self.number_of(line.function_id).is_none() {
+                return true;
+            }
+        }
+        lines.is_empty()
+    }
+
+    /// The name of a location's address, where a frame needs it.
+    ///
+    /// # Errors
+    ///
+    /// `NoMemory`.
+    pub fn address_of<'t>(
+        &self,
+        alloc: Global,
+        location: &Location,
+    ) -> Result<GivenName<'t>, NoMemory>
+        ensures { IfOk result (λ name. name_in name ≡ address_of self.now location.now) }
+    {
+        if self.needs_address(location.lines.as_slice()) {
+            Ok(GivenName::Made(address_name(alloc, location.address)?))
+        } else {
+            Ok(GivenName::Missing)
+        }
+    }
+
     /// The number of a line's name, by that of its address.
     fn line_number(&self, location: &Location, line: &Line, address: usize) -> usize
-        requires { address ≡ number_of self.now (address_name location.now.address) }
+        requires { lacks_name self.now line.now ≡ true
+            → address ≡ number_of self.now (address_name location.now.address) }
         ensures { result ≡ line_number self.now location.now.address line.now }
     {
         match self.number_of(line.function_id) {
@@ -138,7 +178,8 @@ impl<'a> FunctionNumbers<'a> {
         address: usize,
     ) -> Result<Vec<usize>, AllocError>
         requires some { 0 < length location.now.lines }
-        requires address { address ≡ number_of self.now (address_name location.now.address) }
+        requires address { needs_address self.now location.now.lines ≡ true
+            → address ≡ number_of self.now (address_name location.now.address) }
         ensures { IfOk result (λ numbers. numbers.items ≡ numbers_of self.now location.now) }
     {
         let lines = location.lines.as_slice();
@@ -149,7 +190,7 @@ impl<'a> FunctionNumbers<'a> {
         Ok(numbers)
     }
 
-    /// The numbers of the names of a location's frames, leaf first, by that of its address.
+    /// The numbers of the names of a location's frames, leaf first, by that of its address, where a frame needs it.
     ///
     /// # Errors
     ///
@@ -160,7 +201,8 @@ impl<'a> FunctionNumbers<'a> {
         location: &Location,
         address: usize,
     ) -> Result<Vec<usize>, AllocError>
-        requires { address ≡ number_of self.now (address_name location.now.address) }
+        requires { needs_address self.now location.now.lines ≡ true
+            → address ≡ number_of self.now (address_name location.now.address) }
         ensures { IfOk result (λ numbers. numbers.items ≡ numbers_of self.now location.now) }
     {
         if location.lines.as_slice().is_empty() {

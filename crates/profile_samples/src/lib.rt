@@ -19,4 +19,5 @@ pub use counted_samples::sample_totals;
 pub use exporting::{ValueUnit, profile_of};
 pub use folded_export::export_folded;
 pub use merged_samples::merge_samples;
-pub use sampling::{BatchFault, ValueChoice, unfold};
+pub use sampling::{BatchFault, ValueChoice};
+pub use unfolding::unfold;

@@ -12,8 +12,8 @@ ghost use Rattle.profile_samples.specs.Batches.{AreStacksOf, IsFirstStacksFault,
 ghost use Rattle.profile_rows.specs.Merging.{AddsRow, AreIndexedBy, with_added_at};
 ghost use Rattle.profile_samples.specs.MergedSamples.{IsMergedBatch};
 
-use crate::sampling::{BatchFault, ValueChoice, check_fit, chosen_value, stack_at, weight_of};
-use crate::unfolding::LocationFrames;
+use crate::name_numbers::NumberedFrames;
+use crate::sampling::{BatchFault, ValueChoice, check_fit, chosen_value, weight_of};
 use basics::NoMemory;
 use pprof_profile::{Profile, Sample};
 use profile_rows::{Hashing, MAX_DEPTH, WeightedStacks};
@@ -23,7 +23,7 @@ use std::collections::HashMap;
 /// Adds a row of the stack at these locations, which fits.
 fn push_row(
     alloc: Global,
-    frames: &LocationFrames,
+    frames: &NumberedFrames,
     batch: &mut WeightedStacks,
     ids: &[u64],
     weight: u64,
@@ -33,14 +33,14 @@ fn push_row(
     ensures { OnOk result
         (batch.new ≡ batch.old ++ (record { stack = sample_stack_of frames.now ids.now; weight = weight }) ∷ []) }
 {
-    let stack = stack_at(alloc, frames, ids)?;
+    let stack = frames.stack_at(alloc, ids)?;
     batch.push(stack, weight).map_err(|_| NoMemory)
 }
 
 /// Adds the row of locations that no sample had yet.
 fn push_merged<'a>(
     alloc: Global,
-    frames: &LocationFrames,
+    frames: &NumberedFrames,
     known: &mut HashMap<&'a [u64], usize, Hashing>,
     merged: &mut WeightedStacks,
     ids: &'a [u64],
@@ -81,7 +81,7 @@ fn add_to_row(
 /// Merges the row of a sample into the row of the same locations, or adds it where there is none.
 fn merge_sample<'a>(
     alloc: Global,
-    frames: &LocationFrames,
+    frames: &NumberedFrames,
     known: &mut HashMap<&'a [u64], usize, Hashing>,
     merged: &mut WeightedStacks,
     chosen: usize,
@@ -112,7 +112,7 @@ fn merge_sample<'a>(
 fn merged_by<'a>(
     alloc: Global,
     profile: &'a Profile,
-    frames: &LocationFrames,
+    frames: &NumberedFrames,
     mut known: HashMap<&'a [u64], usize, Hashing>,
     chosen: usize,
 ) -> Result<WeightedStacks, BatchFault>
@@ -161,7 +161,7 @@ pub fn merge_samples(
         → MatchResult result (λ merged. ⊥) (λ fault. (fault ≡ BatchFault.NoMemory) ⊎ (fault ≡ first)) }
 {
     let chosen = chosen_value(alloc, profile.draft(), choice)?;
-    let frames = LocationFrames::new(alloc, hashing, profile)?;
+    let frames = NumberedFrames::new(alloc, hashing, profile)?;
     let count = profile.draft().samples.len();
     let known = HashMap::with_capacity_and_hasher(alloc, count, hashing)?;
     merged_by(alloc, profile, &frames, known, chosen)

@@ -3,82 +3,39 @@
 
 ghost use Rattle.std.specs.Prelude.{ℕ, ◌≡◌, ◌<◌, ◌≤◌, ◌↔◌, All, IfOk, IsTrue, List, OnOk, MatchOption, [], ◌∷◌, ◌++◌, length, map, slice_get, slice_index_or};
 ghost use Rattle.std.specs.Option.{option_map};
-ghost use Rattle.profile_rows.specs.Names.{IsName, cleaned_name_of};
-ghost use Rattle.profile_samples.specs.Samples.{address_name, frames_of_ids, sample_stack_of};
+ghost use Rattle.profile_rows.specs.Names.{IsName};
+ghost use Rattle.profile_samples.specs.Samples.{frames_of_ids, sample_stack_of};
 ghost use Rattle.profile_rows.specs.TextTables.{number_in, with_texts};
-ghost use Rattle.profile_samples.specs.NameNumbers.{address_names, frame_names, frame_numbers_of, given, location_numbers, name_in, number_of, numbers_of, numbers_of_id, once_of, string_names};
+ghost use Rattle.profile_samples.specs.NameNumbers.{address_of, frame_names, frame_numbers_of, given, location_numbers, name_in, names_of, number_of, numbers_of, numbers_of_id, once_of};
 
-use crate::exporting::with_names;
 use crate::function_numbers::FunctionNumbers;
 use crate::id_index::IdIndex;
-use crate::string_names::StringName;
-use crate::unfolding::{address_name, location_ids};
+use crate::string_names::{GivenName, string_names};
 use basics::NoMemory;
-use pprof_profile::{Draft, Items, Location, Profile, Text};
+use pprof_profile::{Draft, Items, Location, Profile};
 use profile_rows::{Hashing, MAX_DEPTH, Name, TextTable};
 use std::alloc::{AllocError, Global};
 use std::marker::Model;
 
-/// Every name that a frame of a profile can have: those of its strings, of which an empty one has none, and those of
-/// its locations' addresses.
-#[derive(Drop)]
-pub(crate) struct ProfileNames<'a> {
-    strings: Vec<StringName<'a>>,
-    addresses: Vec<Name>,
-}
-
-impl<'a> Model for ProfileNames<'a> {
-    ghost use Rattle.std.specs.Prelude.{List, Option, ℕ, map};
-    ghost use Rattle.profile_samples.specs.NameNumbers.{name_in};
-
-    ghost Value = { List (Option (List ℕ)) × List (List ℕ) };
-
-    ghost view = { λ names. (map name_in names.strings.items, names.addresses.items) };
-}
-
-/// The names of strings.
-fn string_names(alloc: Global, strings: &[Text]) -> Result<Vec<StringName>, NoMemory>
-    ensures { IfOk result (λ names. map name_in names.items ≡ map cleaned_name_of strings.now) }
-{
-    let mut names = Vec::with_capacity(alloc, strings.len())?;
-    for text in strings {
-        names.push(StringName::of(alloc, text.as_str())?)?;
-    }
-    Ok(names)
-}
-
-/// The names of locations' addresses.
-fn address_names(alloc: Global, locations: &[Location]) -> Result<Vec<Name>, NoMemory>
-    ensures { IfOk result
-        (λ names. names.items ≡ map (λ location. address_name location.address) locations.now) }
+/// The names of the addresses of locations that need them.
+fn address_names<'t>(
+    alloc: Global,
+    functions: &FunctionNumbers,
+    locations: &[Location],
+) -> Result<Vec<GivenName<'t>>, NoMemory>
+    ensures { IfOk result (λ names. map name_in names.items ≡ map (address_of functions.now) locations.now) }
 {
     let mut names = Vec::with_capacity(alloc, locations.len())?;
     for location in locations {
-        names.push(address_name(alloc, location.address)?)?;
+        names.push(functions.address_of(alloc, location)?)?;
     }
     Ok(names)
-}
-
-impl<'a> ProfileNames<'a> {
-    /// The names of a profile.
-    ///
-    /// # Errors
-    ///
-    /// `NoMemory`.
-    pub fn new(alloc: Global, draft: &'a Draft) -> Result<ProfileNames<'a>, NoMemory>
-        ensures { IfOk result (λ names. names ≡ (string_names draft.now, address_names draft.now)) }
-    {
-        Ok(ProfileNames {
-            strings: string_names(alloc, draft.strings.as_slice())?,
-            addresses: address_names(alloc, draft.locations.as_slice())?,
-        })
-    }
 }
 
 /// The table with the names that are there.
 fn with_given<'a>(
     mut table: TextTable<'a>,
-    names: &'a [StringName],
+    names: &'a [GivenName],
 ) -> Result<TextTable<'a>, NoMemory>
     ensures texts { IfOk result (λ more. more.texts ≡ with_texts table.entry.texts (given (map name_in names.now))) }
     ensures each { OnOk result (All IsName (given (map name_in names.now))) }
@@ -95,7 +52,7 @@ fn with_given<'a>(
 fn given_numbers(
     alloc: Global,
     table: &TextTable,
-    names: &[StringName],
+    names: &[GivenName],
 ) -> Result<Vec<Option<usize>>, AllocError>
     ensures { IfOk result
         (λ numbers. numbers.items ≡ map (option_map (number_in table.now.texts)) (map name_in names.now)) }
@@ -111,26 +68,38 @@ fn given_numbers(
     Ok(numbers)
 }
 
-/// The numbers of names.
-fn numbers_in(alloc: Global, table: &TextTable, names: &[Name]) -> Result<Vec<usize>, AllocError>
-    ensures { IfOk result (λ numbers. numbers.items ≡ map (number_in table.now.texts) names.now) }
+/// A copy of each text, which is a name.
+fn copied_names(alloc: Global, texts: &[&str]) -> Result<Vec<Name>, NoMemory>
+    requires { All IsName (map (λ text. text.now) texts.now) }
+    ensures { IfOk result (λ names. names.items ≡ map (λ text. text.now) texts.now) }
 {
-    let mut numbers = Vec::with_capacity(alloc, names.len())?;
-    for name in names {
-        numbers.push(table.number_of(name.text()))?;
+    let mut names = Vec::with_capacity(alloc, texts.len())?;
+    for text in texts {
+        names.push(Name::keep(alloc, text)?)?;
     }
-    Ok(numbers)
+    Ok(names)
 }
 
 /// A location's frames by the numbers of their names.
 #[derive(Drop)]
 pub(crate) struct FrameNumbers {
-    /// How many frames there are.
-    pub depth: usize,
-    /// The number of the leaf.
-    pub leaf: usize,
+    /// The number of each frame's name, leaf first: there are some.
+    pub all: Items<usize>,
+    /// The numbers of the names, each once; none where there is one frame.
+    once: Items<usize>,
+}
+
+impl FrameNumbers {
     /// The numbers of the names, each once.
-    pub names: Items<usize>,
+    pub fn names(&self) -> &[usize]
+        ensures { result.now ≡ names_of self.now }
+    {
+        if self.all.len() == 1 {
+            self.all.as_slice()
+        } else {
+            self.once.as_slice()
+        }
+    }
 }
 
 /// The numbers of a list, each once. A number's mark is the greatest where it stood before.
@@ -157,25 +126,35 @@ fn each_once(
     Ok(once)
 }
 
+/// The ids of locations.
+fn location_ids(alloc: Global, locations: &[Location]) -> Result<Vec<u64>, AllocError>
+    ensures { IfOk result (λ ids. ids.items ≡ map (λ location. location.id) locations.now) }
+{
+    locations.iter().map(|location| location.id).collect(alloc)
+}
+
 /// The frames of a location, whose numbers these are, leaf first.
 fn frame_numbers(
     alloc: Global,
-    numbers: &[usize],
+    numbers: Vec<usize>,
     marks: &mut Vec<usize>,
     mark: usize,
 ) -> Result<FrameNumbers, AllocError>
-    requires some { 0 < length numbers.now }
-    requires inside { All (λ number. number < length marks.old.items) numbers.now }
+    requires inside { All (λ number. number < length marks.old.items) numbers.items }
     requires marked { 0 < mark }
     requires fresh { All (λ before. before < mark) marks.old.items }
-    ensures frames { IfOk result (λ frames. frames ≡ frame_numbers_of numbers.now) }
+    ensures frames { IfOk result (λ frames. frames ≡ frame_numbers_of numbers.items) }
     ensures count { OnOk result (length marks.new.items ≡ length marks.old.items) }
     ensures marked { OnOk result (All (λ before. before ≤ mark) marks.new.items) }
 {
+    let once = if numbers.len() == 1 {
+        Vec::new(alloc)
+    } else {
+        each_once(alloc, numbers.as_slice(), marks, mark)?
+    };
     Ok(FrameNumbers {
-        depth: numbers.len(),
-        leaf: numbers[0],
-        names: Items::new(each_once(alloc, numbers, marks, mark)?),
+        once: Items::new(once),
+        all: Items::new(numbers),
     })
 }
 
@@ -184,11 +163,11 @@ fn all_frames(
     alloc: Global,
     functions: &FunctionNumbers,
     locations: &[Location],
-    addresses: &[usize],
+    addresses: &[Option<usize>],
     mut marks: Vec<usize>,
 ) -> Result<Vec<FrameNumbers>, NoMemory>
     requires addresses { addresses.now
-        ≡ map (λ location. number_of functions.now (address_name location.address)) locations.now }
+        ≡ map (option_map (number_of functions.now)) (map (address_of functions.now) locations.now) }
     requires count { length marks.items ≡ length (frame_names functions.now) }
     requires unmarked { All (λ mark. mark ≡ 0) marks.items }
     requires named { All (λ location. All (λ number. number < length (frame_names functions.now))
@@ -197,34 +176,36 @@ fn all_frames(
 {
     let mut frames = Vec::with_capacity(alloc, locations.len())?;
     for (at, location) in locations.iter().enumerate() {
-        let numbers = functions.numbers_of(alloc, location, addresses[at])?;
-        frames.push(frame_numbers(alloc, numbers.as_slice(), &mut marks, at + 1)?)?;
+        let address = addresses[at].unwrap_or(0);
+        let numbers = functions.numbers_of(alloc, location, address)?;
+        frames.push(frame_numbers(alloc, numbers, &mut marks, at + 1)?)?;
     }
     Ok(frames)
 }
 
 /// The most frames that a location has.
 fn deepest_of(frames: &[FrameNumbers]) -> usize
-    ensures { All (λ frames. frames.depth ≤ result) frames.now }
+    ensures { All (λ frames. length frames.all ≤ result) frames.now }
 {
     let mut deepest = 0;
     for frames in frames {
-        if frames.depth > deepest {
-            deepest = frames.depth;
+        let depth = frames.all.len();
+        if depth > deepest {
+            deepest = depth;
         }
     }
     deepest
 }
 
 /// The frames of a profile's locations by the numbers of their names, so that a sample costs a look-up for each
-/// location and a step for each of its names. A contract sees the profile.
+/// location, and the names, each of which may be shared. A contract sees the profile.
 #[derive(Drop)]
 pub(crate) struct NumberedFrames<'a> {
     draft: &'a Draft,
     indices: IdIndex,
     frames: Vec<FrameNumbers>,
     deepest: usize,
-    names: TextTable<'a>,
+    names: Vec<Name>,
 }
 
 impl<'a> Model for NumberedFrames<'a> {
@@ -237,11 +218,11 @@ impl<'a> Model for NumberedFrames<'a> {
 
     ghost invariant = { λ numbered.
         AreFrameNumbers numbered.draft.now numbered.indices numbered.frames.items numbered.deepest
-        numbered.names.texts };
+        numbered.names.items };
 }
 
 impl<'a> NumberedFrames<'a> {
-    /// The frames of a profile's locations, of these names.
+    /// The frames of a profile's locations, and `hashing` says how names and ids are hashed.
     ///
     /// # Errors
     ///
@@ -250,37 +231,38 @@ impl<'a> NumberedFrames<'a> {
         alloc: Global,
         hashing: Hashing,
         profile: &'a Profile,
-        names: &'a ProfileNames,
     ) -> Result<NumberedFrames<'a>, NoMemory>
-        requires { names.now ≡ (string_names profile.now, address_names profile.now) }
         ensures { IfOk result (λ numbered. numbered ≡ profile.now) }
     {
         let draft = profile.draft();
-        let table = with_given(TextTable::new(alloc, hashing), names.strings.as_slice())?;
-        let table = with_names(table, names.addresses.as_slice())?;
-        let strings = given_numbers(alloc, &table, names.strings.as_slice())?;
-        let addresses = numbers_in(alloc, &table, names.addresses.as_slice())?;
-        let functions = FunctionNumbers::new(alloc, hashing, draft, strings.as_slice())?;
+        let strings = string_names(alloc, draft)?;
+        let table = with_given(TextTable::new(alloc, hashing), strings.as_slice())?;
+        let numbers = given_numbers(alloc, &table, strings.as_slice())?;
+        let functions = FunctionNumbers::new(alloc, hashing, draft, numbers.as_slice())?;
         let locations = draft.locations.as_slice();
+        let addresses = address_names(alloc, &functions, locations)?;
+        let table = with_given(table, addresses.as_slice())?;
+        let numbers = given_numbers(alloc, &table, addresses.as_slice())?;
         let marks = vec![in alloc; 0; table.texts().len()]?;
-        let frames = all_frames(alloc, &functions, locations, addresses.as_slice(), marks)?;
+        let frames = all_frames(alloc, &functions, locations, numbers.as_slice(), marks)?;
         let indices = IdIndex::new(alloc, hashing, location_ids(alloc, locations)?)?;
         let deepest = deepest_of(frames.as_slice());
+        let names = copied_names(alloc, table.texts())?;
         Ok(NumberedFrames {
             draft,
             indices,
             frames,
             deepest,
-            names: table,
+            names,
         })
     }
 
     /// The names that have a number, in the order of their numbers.
-    pub fn names(&self) -> &[&'a str]
-        ensures names { map (λ name. name.now) result.now ≡ frame_names self.now }
+    pub fn names(&self) -> &[Name]
+        ensures names { result.now ≡ frame_names self.now }
         ensures each { All IsName (frame_names self.now) }
     {
-        self.names.texts()
+        self.names.as_slice()
     }
 
     /// The frames of the location that an id names.
@@ -327,10 +309,11 @@ impl<'a> NumberedFrames<'a> {
         let mut room = MAX_DEPTH;
         for id in ids {
             if let Some(frames) = self.frames_of(*id) {
-                if frames.depth > room {
+                let depth = frames.all.len();
+                if depth > room {
                     return false;
                 }
-                room -= frames.depth;
+                room -= depth;
             }
         }
         true
@@ -344,7 +327,7 @@ impl<'a> NumberedFrames<'a> {
     {
         for id in ids {
             if let Some(frames) = self.frames_of(*id) {
-                return Some(frames.leaf);
+                return Some(frames.all.as_slice()[0]);
             }
         }
         None

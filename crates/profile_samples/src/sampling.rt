@@ -5,14 +5,13 @@ ghost use Rattle.std.specs.List.{position};
 ghost use Rattle.pprof_profile.specs.declared.messages.ValueType.{ValueType};
 ghost use Rattle.profile_samples.specs.declared.sampling.ValueChoice.{ValueChoice};
 ghost use Rattle.profile_samples.specs.Batches.{IsFirstFault, IsFirstStacksFault};
-ghost use Rattle.profile_samples.specs.Samples.{IsFitFault, IsValueFault, chosen_types_of, default_type, frames_of_sample, one_from, sample_stack_of, type_named};
+ghost use Rattle.profile_samples.specs.Samples.{IsFitFault, IsValueFault, chosen_types_of, default_type, one_from, type_named};
 ghost use Rattle.profile_samples.specs.EqualStrings.{equal_at, equal_strings};
 
 use crate::string_names::string_at;
-use crate::unfolding::LocationFrames;
 use basics::NoMemory;
-use pprof_profile::{Draft, Profile, Text, ValueType};
-use profile_rows::{Hashing, MAX_DEPTH, MAX_TOTAL, MAX_WIDTH, Name, Stack, Width};
+use pprof_profile::{Draft, Text, ValueType};
+use profile_rows::{MAX_TOTAL, MAX_WIDTH, Width};
 use std::alloc::{AllocError, Global};
 use thiserror::Error;
 
@@ -250,32 +249,4 @@ pub(crate) fn check_fit(fit: bool, weight: u64, earlier: u64, number: u64) -> Re
         return Err(BatchFault::Heavy { sample: number });
     }
     Ok(())
-}
-
-/// The stack of the frames of these locations, which it can have.
-pub(crate) fn stack_at(
-    alloc: Global,
-    frames: &LocationFrames,
-    ids: &[u64],
-) -> Result<Stack, NoMemory>
-    requires { length (sample_stack_of frames.now ids.now) ≤ MAX_DEPTH }
-    ensures { IfOk result (λ stack. stack ≡ sample_stack_of frames.now ids.now) }
-{
-    let mut names = frames.leaf_first(alloc, ids)?;
-    names.reverse();
-    Stack::make(names).map_err(|_| NoMemory)
-}
-
-/// The names of a sample's frames, leaf first: the lines of its locations in order. Samples are numbered from 0.
-///
-/// # Errors
-///
-/// `NoMemory`.
-pub fn unfold(alloc: Global, profile: &Profile, sample: usize) -> Result<Vec<Name>, NoMemory>
-    requires { sample < length profile.now.samples }
-    ensures { IfOk result (λ names. names.items ≡ frames_of_sample profile.now sample) }
-{
-    let frames = LocationFrames::new(alloc, Hashing::fixed(), profile)?;
-    let samples = profile.draft().samples.as_slice();
-    frames.leaf_first(alloc, samples[sample].location_ids.as_slice())
 }

@@ -1,16 +1,15 @@
-//! A profile's strings, and the names that they give.
+//! The names that a profile's strings and addresses give.
 
-ghost use Rattle.std.specs.Prelude.{◌≡◌, IfOk, IfSome};
+ghost use Rattle.std.specs.Prelude.{ℕ, ◌≡◌, ◌<◌, ◌||◌, IfOk, IfSome, false, length, map, slice_index_or};
 ghost use Rattle.std.specs.Option.{option_map};
 ghost use Rattle.profile_rows.specs.Names.{IsName, cleaned_name_of};
-ghost use Rattle.profile_samples.specs.Samples.{string_at};
-ghost use Rattle.profile_samples.specs.NameNumbers.{name_in};
+ghost use Rattle.profile_samples.specs.Samples.{address_name, string_at};
+ghost use Rattle.profile_samples.specs.NameNumbers.{index_in, is_at, name_in, names_function, string_names};
 
 use basics::NoMemory;
-use pprof_profile::Text;
+use pprof_profile::{Draft, Function, Text};
 use profile_rows::Name;
-use std::alloc::Global;
-use std::collections::BTreeMap;
+use std::alloc::{AllocError, Global};
 use std::marker::Model;
 
 /// The string at an index; empty where there is none.
@@ -59,32 +58,32 @@ impl<'a> PlainName<'a> {
     }
 }
 
-/// The name that a string gives.
+/// The name that a string or an address gives.
 #[derive(Drop)]
-pub(crate) enum StringName<'a> {
+pub(crate) enum GivenName<'a> {
     /// None, of an empty string.
     Missing,
     /// The string itself.
     Plain(PlainName<'a>),
-    /// A copy in which other bytes stand for those that no name has.
-    Cleaned(Name),
+    /// One that was made: of an address, or of a string with bytes that no name has.
+    Made(Name),
 }
 
-impl<'a> StringName<'a> {
+impl<'a> GivenName<'a> {
     /// The name of a string, which is copied only where it has to be cleaned.
     ///
     /// # Errors
     ///
     /// `NoMemory`.
-    pub fn of(alloc: Global, text: &'a str) -> Result<StringName<'a>, NoMemory>
+    pub fn of(alloc: Global, text: &'a str) -> Result<GivenName<'a>, NoMemory>
         ensures { IfOk result (λ name. name_in name ≡ cleaned_name_of text.now) }
     {
         if let Some(plain) = PlainName::of(text) {
-            return Ok(StringName::Plain(plain));
+            return Ok(GivenName::Plain(plain));
         }
         match Name::clean(alloc, text)? {
-            Some(name) => Ok(StringName::Cleaned(name)),
-            None => Ok(StringName::Missing),
+            Some(name) => Ok(GivenName::Made(name)),
+            None => Ok(GivenName::Missing),
         }
     }
 
@@ -94,59 +93,84 @@ impl<'a> StringName<'a> {
         ensures name { IfSome result (λ text. IsName text.now) }
     {
         match self {
-            StringName::Missing => None,
-            StringName::Plain(name) => Some(name.text()),
-            StringName::Cleaned(name) => Some(name.text()),
+            GivenName::Missing => None,
+            GivenName::Plain(name) => Some(name.text()),
+            GivenName::Made(name) => Some(name.text()),
         }
     }
 }
 
-/// The names of strings. Each is made when it is first asked for, and shared from then on, however many functions ask.
-/// A contract sees the strings.
-#[derive(Drop)]
-pub(crate) struct StringNames<'a> {
-    strings: &'a [Text],
-    names: BTreeMap<i64, Name>,
+/// An index that isn't below 0.
+fn index_in(index: i64) -> Option<usize>
+    ensures { result ≡ index_in index }
+{
+    match usize::try_from(index) {
+        Ok(at) => Some(at),
+        Err(_) => None,
+    }
 }
 
-impl<'a> Model for StringNames<'a> {
-    ghost use Rattle.std.specs.Prelude.{List, ℕ};
-    ghost use Rattle.profile_samples.specs.Unfolding.{AreStringNames};
-
-    ghost Value = { List (List ℕ) };
-
-    ghost view = { λ names. names.strings.now };
-
-    ghost invariant = { λ names. AreStringNames names.strings.now names.names };
+/// The indices of the strings that name a function.
+fn name_indices(function: &Function) -> (Option<usize>, Option<usize>)
+    ensures { result ≡ (index_in function.now.name, index_in function.now.system_name) }
+{
+    (index_in(function.name), index_in(function.system_name))
 }
 
-impl<'a> StringNames<'a> {
-    /// No names yet. Takes no memory.
-    pub fn new(alloc: Global, strings: &'a [Text]) -> StringNames<'a>
-        ensures { result ≡ strings.now }
-    {
-        StringNames {
-            strings,
-            names: BTreeMap::new(alloc),
+/// Marks an index, where it is one of the list.
+fn mark(marks: &mut Vec<bool>, index: Option<usize>)
+    ensures count { length marks.new.items ≡ length marks.old.items }
+    ensures marked { (at : ℕ) → at < length marks.old.items
+        → slice_index_or marks.new.items at false ≡ (slice_index_or marks.old.items at false || is_at index at) }
+{
+    if let Some(at) = index {
+        if at < marks.len() {
+            marks[at] = true;
         }
     }
+}
 
-    /// The name of the string at an index, made now or before. An empty string has none.
-    ///
-    /// # Errors
-    ///
-    /// `NoMemory`.
-    pub fn name_of(&mut self, alloc: Global, index: i64) -> Result<Option<Name>, NoMemory>
-        ensures name { IfOk result (λ name. name ≡ cleaned_name_of (string_at self.old index)) }
-        ensures same { self.new ≡ self.old }
-    {
-        if let Some(name) = self.names.get(&index) {
-            return Ok(Some(name.share()?));
-        }
-        let Some(name) = Name::clean(alloc, string_at(self.strings, index))? else {
-            return Ok(None);
+/// For each of so many strings whether it names a function.
+fn name_marks(alloc: Global, functions: &[Function], count: usize) -> Result<Vec<bool>, AllocError>
+    ensures count { IfOk result (λ marks. length marks.items ≡ count) }
+    ensures marked { IfOk result (λ marks. (at : ℕ) → at < count
+        → slice_index_or marks.items at false ≡ names_function functions.now at) }
+{
+    let mut marks = vec![in alloc; false; count]?;
+    for function in functions {
+        let (name, system_name) = name_indices(function);
+        mark(&mut marks, name);
+        mark(&mut marks, system_name);
+    }
+    Ok(marks)
+}
+
+/// The names of a profile's strings, where they name functions.
+///
+/// # Errors
+///
+/// `NoMemory`.
+pub(crate) fn string_names(alloc: Global, draft: &Draft) -> Result<Vec<GivenName>, NoMemory>
+    ensures { IfOk result (λ names. map name_in names.items ≡ string_names draft.now) }
+{
+    let strings = draft.strings.as_slice();
+    let marks = name_marks(alloc, draft.functions.as_slice(), strings.len())?;
+    let mut names = Vec::with_capacity(alloc, strings.len())?;
+    for (at, text) in strings.iter().enumerate() {
+        let name = if marks[at] {
+            GivenName::of(alloc, text.as_str())?
+        } else {
+            GivenName::Missing
         };
-        self.names.insert(index, name.share()?)?;
-        Ok(Some(name))
+        names.push(name)?;
     }
+    Ok(names)
+}
+
+/// The name of an address: `0x` and hexadecimal digits.
+pub(crate) fn address_name(alloc: Global, address: u64) -> Result<Name, NoMemory>
+    ensures { IfOk result (λ name. name ≡ address_name address) }
+{
+    let text = format!(in alloc; "0x{address:x}")?;
+    Ok(Name::keep(alloc, text.as_str())?)
 }

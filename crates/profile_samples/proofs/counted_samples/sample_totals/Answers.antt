@@ -1,9 +1,7 @@
 -- What stands at a sample is the first fault.
-use Rattle.std.proofs.Common.{ℕ, List, ◌≡◌, ◌∙◌, All, Some, ap, length, subst, sym, arith}
+use Rattle.std.proofs.Common.{◌≡◌, ◌∙◌, All, Some, ap, length, subst, sym, arith}
 use Rattle.std.specs.Prelude.{Err}
-use Rattle.std.proofs.lemmas.List.{length-map}
 use Rattle.std.proofs.lemmas.Result.{err_from_is_err_and}
-use denote.Ref.{Bor}
 use Rattle.pprof_profile.specs.declared.messages.Draft.{Draft}
 use Rattle.profile_rows.specs.Names.{IsName}
 use Rattle.profile_rows.specs.Values.{single_batch}
@@ -56,15 +54,14 @@ totals_by-requires-clause-chosen c = (
 
 pub totals_by-requires-clause-each : goal.totals_by-requires-clause-each
 totals_by-requires-clause-each c =
-    subst (λ (draft : Draft). All IsName (frame_names draft)) c.in_ok-frames.ensures c.names-2.ensures.each
+    subst (λ (draft : Draft). All IsName (frame_names draft)) c.in_ok-frames.ensures c.names.ensures.each
 
 pub totals_by-requires-clause-uncounted : goal.totals_by-requires-clause-uncounted
 totals_by-requires-clause-uncounted c =
-    let names = c.names-2.result.now in
+    let names = c.names.result.now in
     let profile = c.args.profile.now in
     let many : length (frame_names profile) ≡ length names =
-    ap length (sym (c.names-2.ensures.names ∙ ap frame_names c.in_ok-frames.ensures))
-    ∙ length-map names (λ (name : Bor (List ℕ)). name.now) in
+    ap length (sym (c.names.ensures.names ∙ ap frame_names c.in_ok-frames.ensures)) in
     c.in_ok-tallies.ensures (frame_names profile) (frame_names-single profile) many
 
 pub returns-clause-read : goal.returns-clause-read

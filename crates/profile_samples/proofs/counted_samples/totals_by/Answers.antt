@@ -1,6 +1,7 @@
 -- What was counted is what the names of the samples' rows weigh.
-use Rattle.std.proofs.Common.{ap, sym, ◌∙◌, subst, inl, inr, refl, arith}
+use Rattle.std.proofs.Common.{ℕ, List, ap, map, sym, ◌∙◌, subst, inl, inr, refl, arith}
 use Rattle.std.proofs.lemmas.Result.{err_from_is_err_and}
+use denote.Ref.{Bor}
 use Rattle.profile_rows.specs.Tallies.{AreTalliesOf}
 use Rattle.profile_samples.specs.NameNumbers.{frame_names}
 use Rattle.profile_samples.proofs.SampleRows.{chosen_types_within}
@@ -16,7 +17,8 @@ totals-requires c =
     let this = c.in_ok-count_samples.ensures c.requires.chosen.0 c.requires.chosen.1 in (
       this.rows,
       subst (λ names. AreTalliesOf this.rows names c.count_samples.new.tallies)
-          (sym (c.names.ensures.names ∙ ap frame_names c.requires.framed)) this.counted,
+          (sym (ap (map (λ (text : Bor (List ℕ)). text.now)) c.as_slice.ensures.value ∙ c.in_ok-names.ensures
+          ∙ c.names.ensures.names ∙ ap frame_names c.requires.framed)) this.counted,
     )
 
 pub returns-in_err-count_samples : goal.returns-in_err-count_samples
@@ -37,5 +39,6 @@ returns c = λ choice is_chosen.
       rows = this.rows;
       sampled = this.sampled;
       totals_rows = c.in_ok-totals.ensures this.rows (subst (λ names. AreTalliesOf this.rows names
-          c.count_samples.new.tallies) (sym (c.names.ensures.names ∙ ap frame_names c.requires.framed)) this.counted);
+          c.count_samples.new.tallies) (sym (ap (map (λ (text : Bor (List ℕ)). text.now)) c.as_slice.ensures.value
+          ∙ c.in_ok-names.ensures ∙ c.names.ensures.names ∙ ap frame_names c.requires.framed)) this.counted);
     }

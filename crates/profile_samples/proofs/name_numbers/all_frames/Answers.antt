@@ -1,23 +1,32 @@
 -- The frames of the next location.
-use Rattle.std.proofs.Common.{◌≡◌, ◌<◌, ◌++◌, ◌∷◌, [], All, ap, sym, ◌∙◌, get_or, length, map, subst, take, arith}
-use Rattle.std.proofs.lemmas.List.{get_or-map, map_more}
+use Rattle.std.proofs.Common.{◌≡◌, ◌<◌, ◌++◌, ◌∷◌, [], ℕ, List, Option, Some, None, All, ap, sym, ◌∙◌, get_or, length}
+use Rattle.std.proofs.Common.{map, subst, take, arith}
+use Rattle.std.specs.Prelude.{if◌then◌else◌, unwrap_or}
+use Rattle.std.specs.Option.{option_map}
+use Rattle.std.proofs.lemmas.List.{get_or-map, length-map, map_more}
 use Rattle.pprof_profile.specs.declared.messages.Location.{Location}
 use Rattle.profile_samples.specs.Samples.{address_name}
-use Rattle.profile_samples.specs.NameNumbers.{frame_names, frame_numbers_of, location_numbers, number_of, numbers_of}
-use Rattle.profile_samples.proofs.FrameNumbers.{numbers_of-some}
+use Rattle.profile_samples.specs.NameNumbers.{address_of, frame_names, frame_numbers_of, location_numbers, number_of}
+use Rattle.profile_samples.specs.NameNumbers.{numbers_of}
 use Rattle.profile_samples.proofs.name_numbers.all_frames.Goals as goal
 
 pub numbers_of-requires : goal.numbers_of-requires
-numbers_of-requires c =
-    let number = λ (location : Location). number_of c.args.functions.now (address_name location.address) in
-    ap (λ numbers. get_or numbers c.loop-at.at 0) c.requires.addresses
-    ∙ get_or-map number c.args.locations.now c.loop-at.at c.index-locations-at.result 0 c.loop-at-test.true
-    ∙ ap number (sym c.index-locations-at.is)
-
-pub frame_numbers-requires-clause-some : goal.frame_numbers-requires-clause-some
-frame_numbers-requires-clause-some c =
-    subst (λ numbers. 0 < length numbers) (sym (c.as_slice.ensures.value ∙ c.in_ok-numbers.ensures))
-    (numbers_of-some c.args.functions.now c.index-locations-at.result.address c.index-locations-at.result.lines)
+numbers_of-requires c = λ needs.
+    let draft = c.args.functions.now in
+    let at = c.loop-at.at in
+    let location = c.index-locations-at.result in
+    let locations = c.args.locations.now in
+    let many = length-map locations (address_of draft) in
+    let lt = c.loop-at-test.true in
+    let here : get_or c.args.addresses.now at None ≡ option_map (number_of draft) (address_of draft location) =
+    ap (λ (addresses : List (Option ℕ)). get_or addresses at None) c.requires.addresses
+    ∙ get_or-map (option_map (number_of draft)) (map (address_of draft) locations) at None None
+    (omega (arith, many, lt))
+    ∙ ap (option_map (number_of draft)) (get_or-map (address_of draft) locations at location None lt
+    ∙ ap (address_of draft) (sym c.index-locations-at.is)) in
+    c.unwrap_or-address.ensures ∙ ap (λ number. unwrap_or number 0) here
+    ∙ ap (λ b. unwrap_or (option_map (number_of draft) (if b then Some (address_name location.address) else None)) 0)
+    needs
 
 pub frame_numbers-requires-clause-inside : goal.frame_numbers-requires-clause-inside
 frame_numbers-requires-clause-inside c =
@@ -27,7 +36,7 @@ frame_numbers-requires-clause-inside c =
     (numbers_of c.args.functions.now location)) (sym c.index-locations-at.is)
     (c.requires.named c.loop-at.at c.index-locations-at.result c.loop-at-test.true) in
     subst (All (λ number. number < length c.loop-at.marks.items))
-    (sym (c.as_slice.ensures.value ∙ c.in_ok-numbers.ensures))
+    (sym c.in_ok-numbers.ensures)
     (subst (λ most. All (λ number. number < most) (numbers_of c.args.functions.now c.index-locations-at.result))
     (sym count) here)
 
@@ -37,8 +46,8 @@ frame_numbers-requires-clause-fresh c = λ k d lt. let low = c.loop-at.invariant
 pub loop-at-preserved : goal.loop-at-preserved
 loop-at-preserved c =
     let numbers = location_numbers c.args.functions.now in
-    let made = c.in_ok-frame_numbers.ensures.frames ∙ ap frame_numbers_of
-    (c.as_slice.ensures.value ∙ c.in_ok-numbers.ensures) ∙ ap numbers c.index-locations-at.is in (
+    let made = c.in_ok-frame_numbers.ensures.frames ∙ ap frame_numbers_of c.in_ok-numbers.ensures
+    ∙ ap numbers c.index-locations-at.is in (
       c.in_ok-push.ensures.items ∙ ap (λ frames. frames ++ c.in_ok-frame_numbers.field-0 ∷ []) c.loop-at.invariant.0
           ∙ ap (λ frames. map numbers (take c.loop-at.at c.args.locations.now) ++ frames ∷ []) made
           ∙ sym (map_more numbers c.args.locations.now c.loop-at.at c.index-locations-at.result c.loop-at-test.true),

@@ -1,13 +1,13 @@
 -- The next location's frames are no more than the deepest, or become it.
-use Rattle.std.proofs.Common.{◌≤◌, ◌++◌, ◌∷◌, [], ℕ, ap, sym, ◌∙◌, subst, take, arith, All}
+use Rattle.std.proofs.Common.{◌≤◌, ◌++◌, ◌∷◌, [], length, ℕ, ap, sym, ◌∙◌, subst, take, arith, All}
 use Rattle.std.proofs.lemmas.List.{take_all, take_more}
 use Rattle.std.proofs.lemmas.List.Elements.{All-push, All-weaker}
 use Rattle.profile_samples.specs.declared.name_numbers.FrameNumbers.{FrameNumbers}
 use Rattle.profile_samples.proofs.name_numbers.deepest_of.Goals as goal
-use Rattle.profile_samples.proofs.name_numbers.deepest_of.Goals.{then-frames-deepest, else-frames-deepest}
+use Rattle.profile_samples.proofs.name_numbers.deepest_of.Goals.{then-depth-deepest, else-depth-deepest}
 
 abbrev IsWithin : ℕ → FrameNumbers → Type 0
-IsWithin deepest frames = frames.depth ≤ deepest
+IsWithin deepest frames = length frames.all ≤ deepest
 
 pub loop-frames-preserved : goal.loop-frames-preserved
 loop-frames-preserved c =
@@ -16,20 +16,20 @@ loop-frames-preserved c =
     let item = c.frames-item.result in
     let before = take index all in
     let next = take_more all index item c.loop-frames-test.true ∙ ap (λ f. before ++ f ∷ []) (sym c.frames-item.is) in
-    elim c.if-frames-deepest.branch [
-      | then-frames-deepest w ↦
-          let deeper = w.if-frames-deepest.true in
+    elim c.if-depth-deepest.branch [
+      | then-depth-deepest w ↦
+          let deeper = w.if-depth-deepest.true in
           let is = w.deepest-is in
-          subst (All (IsWithin c.if-frames-deepest.deepest)) (sym next)
-          (All-push (IsWithin c.if-frames-deepest.deepest) before item
-          (All-weaker (IsWithin c.loop-frames.deepest) (IsWithin c.if-frames-deepest.deepest)
+          subst (All (IsWithin c.if-depth-deepest.deepest)) (sym next)
+          (All-push (IsWithin c.if-depth-deepest.deepest) before item
+          (All-weaker (IsWithin c.loop-frames.deepest) (IsWithin c.if-depth-deepest.deepest)
           (λ frames low. omega (arith, low, deeper, is)) before c.loop-frames.invariant)
           (omega (arith, is)))
-      | else-frames-deepest w ↦
-          let low = w.if-frames-deepest.false in
+      | else-depth-deepest w ↦
+          let low = w.if-depth-deepest.false in
           let is = w.deepest-is in
-          subst (All (IsWithin c.if-frames-deepest.deepest)) (sym next)
-          (All-push (IsWithin c.if-frames-deepest.deepest) before item
+          subst (All (IsWithin c.if-depth-deepest.deepest)) (sym next)
+          (All-push (IsWithin c.if-depth-deepest.deepest) before item
           (subst (λ deepest. All (IsWithin deepest) before) (sym is) c.loop-frames.invariant)
           (omega (arith, low, is)))
     ]

@@ -4,7 +4,7 @@ use Rattle.std.proofs.Common.{append-nil, map, All}
 use Rattle.std.proofs.lemmas.List.{map-append, take_all, take_more}
 use Rattle.std.proofs.lemmas.List.Elements.{All-push}
 use Rattle.profile_rows.specs.Names.{IsName}
-use Rattle.profile_samples.specs.declared.string_names.StringName.{StringName}
+use Rattle.profile_samples.specs.declared.string_names.GivenName.{GivenName}
 use Rattle.profile_rows.specs.TextTables.{NumberedTexts, with_text, with_texts}
 use Rattle.profile_samples.specs.NameNumbers.{given, name_in}
 use Rattle.profile_samples.proofs.FrameNumbers.{given-push}
@@ -16,7 +16,7 @@ IsSoFar : List (List ℕ) → List (List ℕ) → List (Option (List ℕ)) → T
 IsSoFar start table names = (table ≡ with_texts start (given names)) × All IsName (given names)
 
 -- a name more, as a name in index of a string's
-next_name : (names : List StringName) (name : StringName) (index : ℕ) (found : Option (List ℕ))
+next_name : (names : List GivenName) (name : GivenName) (index : ℕ) (found : Option (List ℕ))
     → take (index + 1) names ≡ take index names ++ name ∷ [] → found ≡ name_in name
     → map name_in (take (index + 1) names) ≡ map name_in (take index names) ++ found ∷ []
 next_name names name index found is here =

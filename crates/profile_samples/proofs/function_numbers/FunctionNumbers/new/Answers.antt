@@ -2,10 +2,9 @@
 use Rattle.std.proofs.Common.{rules, ◌≡◌, sym, subst, ap, ◌∙◌, map}
 use Rattle.std.specs.Prelude.{false}
 use Rattle.pprof_profile.specs.Valid.{function_ids, has_double}
-use Rattle.pprof_profile.specs.declared.messages.Function.{Function}
 use Rattle.profile_samples.specs.NameNumbers.{number_by}
 use Rattle.profile_samples.proofs.ItemsById.{ids_differ}
-use Rattle.profile_samples.proofs.FrameNumbers.{number_by-name}
+use Rattle.profile_samples.proofs.FrameNumbers.{function_numbers_are}
 use Rattle.profile_samples.proofs.function_numbers.FunctionNumbers.new.Goals as goal
 
 pub invariant_of-result : goal.invariant_of-result
@@ -17,6 +16,5 @@ invariant_of-result c =
       ids_are = ids;
       single = subst (λ i. has_double i ≡ false) (sym ids) (ids_differ c.args.draft.now c.requires.valid).1;
       numbers_are = made ∙ ap (λ strings. map (number_by strings) c.args.draft.now.functions) c.requires.strings
-          ∙ ap (λ (f : Function → _). map f c.args.draft.now.functions)
-          (λ i function. number_by-name c.args.draft.now function i);
+          ∙ function_numbers_are c.args.draft.now;
     }

@@ -1,36 +1,31 @@
 -- The table has every name, and numbers are indices in it.
-use Rattle.std.proofs.Common.{rules, ◌≡◌, ◌<◌, ◌≤◌, ℕ, List, Option, [], All, ap, sym, ◌∙◌, length, map, subst}
+use Rattle.std.proofs.Common.{rules, ◌≡◌, ◌<◌, ◌≤◌, ℕ, List, Option, [], All, ap, refl, sym, ◌∙◌, length, map, subst}
 use Rattle.std.specs.Prelude.{false}
 use Rattle.std.specs.Option.{option_map}
+use Rattle.std.proofs.lemmas.List.Elements.{All-replicate}
 use Rattle.pprof_profile.specs.declared.messages.Draft.{Draft}
 use Rattle.pprof_profile.specs.declared.messages.Location.{Location}
 use Rattle.pprof_profile.specs.Valid.{IsValidDraft, has_double, location_ids}
 use Rattle.profile_rows.specs.Names.{IsName}
 use Rattle.profile_samples.specs.declared.name_numbers.FrameNumbers.{FrameNumbers}
-use Rattle.profile_samples.specs.Samples.{address_name}
 use Rattle.profile_rows.specs.TextTables.{number_in, with_texts}
-use Rattle.profile_samples.specs.NameNumbers.{address_names, frame_names, given, location_numbers, name_in, number_of}
-use Rattle.profile_samples.specs.NameNumbers.{numbers_of, string_names}
+use Rattle.profile_samples.specs.NameNumbers.{address_names, address_of, frame_names, given, location_numbers, name_in}
+use Rattle.profile_samples.specs.NameNumbers.{number_of, numbers_of, string_names}
 use Rattle.profile_samples.proofs.ItemsById.{ids_differ}
-use Rattle.profile_samples.proofs.FrameNumbers.{address_numbers_are, all_named, texts_named}
+use Rattle.profile_samples.proofs.FrameNumbers.{all_named, string_numbers_first, texts_named}
 use Rattle.profile_samples.proofs.name_numbers.NumberedFrames.new.Goals as goal
 
-abbrev Names : Type 0
-Names = List (Option (List ℕ)) × List (List ℕ)
+-- the table of names, first of strings, then of addresses too
+front_is : (draft : Draft) (strings : List (Option (List ℕ))) (front : List (List ℕ)) → strings ≡ string_names draft
+    → front ≡ with_texts [] (given strings) → front ≡ with_texts [] (given (string_names draft))
+front_is draft strings front same is = is ∙ ap (λ names. with_texts [] (given names)) same
 
--- the names of strings and addresses, and the table that has both
-numbered : (draft profile : Draft) (texts : List (Option (List ℕ))) (addresses front all : List (List ℕ))
-    → draft ≡ profile → ◌≡◌ {A = Names} (texts, addresses) (string_names profile, address_names profile)
-    → front ≡ with_texts [] (given texts) → all ≡ with_texts front addresses
-    → (texts ≡ string_names draft) × (addresses ≡ address_names draft) × (all ≡ frame_names draft)
-numbered draft profile texts addresses front all same names front_is all_is =
-    let strings : texts ≡ string_names draft = ap (λ (p : Names). p.0) names ∙ ap string_names (sym same) in
-    let lines : addresses ≡ address_names draft = ap (λ (p : Names). p.1) names ∙ ap address_names (sym same) in (
-      strings,
-      lines,
-      all_is ∙ ap (λ texts. with_texts texts addresses) (front_is ∙ ap (λ s. with_texts [] (given s)) strings)
-          ∙ ap (with_texts (with_texts [] (given (string_names draft)))) lines,
-    )
+all_is : (draft : Draft) (strings addresses : List (Option (List ℕ))) (front all : List (List ℕ))
+    → strings ≡ string_names draft → addresses ≡ address_names draft
+    → front ≡ with_texts [] (given strings) → all ≡ with_texts front (given addresses) → all ≡ frame_names draft
+all_is draft strings addresses front all same lines is made =
+    made ∙ ap (λ names. with_texts front (given names)) lines
+    ∙ ap (λ names. with_texts names (given (address_names draft))) (front_is draft strings front same is)
 
 pub new-requires-2-clause-valid : goal.new-requires-2-clause-valid
 new-requires-2-clause-valid c = subst IsValidDraft (sym c.draft-draft.ensures.draft) c.draft-draft.ensures.valid
@@ -38,34 +33,42 @@ new-requires-2-clause-valid c = subst IsValidDraft (sym c.draft-draft.ensures.dr
 pub new-requires-2-clause-strings : goal.new-requires-2-clause-strings
 new-requires-2-clause-strings c =
     let draft = c.draft-draft.result.now in
-    let (strings, addresses, table) = numbered draft c.args.profile.now (map name_in c.names.inside.strings.items)
-    c.names.inside.addresses.items c.in_ok-table.table.texts c.in_ok-table-2.table.texts c.draft-draft.ensures.draft
-    (c.names.view_is ∙ c.requires)
-    (c.in_ok-table.ensures.texts ∙ ap (λ t. with_texts t (given (map name_in c.as_slice.result.now)))
-    c.new.ensures.texts
-    ∙ ap (λ names. with_texts [] (given (map name_in names))) c.as_slice.ensures.value)
-    (c.in_ok-table-2.ensures.texts ∙ ap (with_texts c.in_ok-table.table.texts) c.as_slice-2.ensures.value) in
-    c.as_slice-5.ensures.value
-    ∙ c.in_ok-strings.ensures ∙ ap (λ t. map (option_map (number_in t)) (map name_in c.as_slice-3.result.now)) table
-    ∙ ap (map (option_map (number_of draft))) (ap (map name_in) c.as_slice-3.ensures.value ∙ strings)
+    let strings : map name_in c.in_ok-strings.strings.items ≡ string_names draft =
+    c.in_ok-strings.ensures in
+    let table = front_is draft (map name_in c.in_ok-strings.strings.items) c.in_ok-table.table.texts strings
+    (c.in_ok-table.ensures.texts ∙ ap (λ texts. with_texts texts (given (map name_in c.as_slice.result.now)))
+    c.new.ensures.texts ∙ ap (λ names. with_texts [] (given (map name_in names))) c.as_slice.ensures.value) in
+    c.as_slice-3.ensures.value ∙ c.in_ok-numbers.ensures
+    ∙ ap (λ texts. map (option_map (number_in texts)) (map name_in c.as_slice-2.result.now)) table
+    ∙ ap (map (option_map (number_in (with_texts [] (given (string_names draft))))))
+    (ap (map name_in) c.as_slice-2.ensures.value ∙ strings)
+    ∙ string_numbers_first draft
 
 pub all_frames-requires-clause-addresses : goal.all_frames-requires-clause-addresses
 all_frames-requires-clause-addresses c =
     let draft = c.draft-draft.result.now in
-    let (strings, addresses, table) = numbered draft c.args.profile.now (map name_in c.names.inside.strings.items)
-    c.names.inside.addresses.items c.in_ok-table.table.texts c.in_ok-table-2.table.texts c.draft-draft.ensures.draft
-    (c.names.view_is ∙ c.requires)
-    (c.in_ok-table.ensures.texts ∙ ap (λ t. with_texts t (given (map name_in c.as_slice.result.now)))
-    c.new.ensures.texts
-    ∙ ap (λ names. with_texts [] (given (map name_in names))) c.as_slice.ensures.value)
-    (c.in_ok-table-2.ensures.texts ∙ ap (with_texts c.in_ok-table.table.texts) c.as_slice-2.ensures.value) in
-    c.as_slice-6.ensures.value ∙ c.in_ok-addresses.ensures ∙ ap (λ t. map (number_in t) c.as_slice-4.result.now) table
-    ∙ ap (map (number_of draft)) (c.as_slice-4.ensures.value ∙ addresses)
-    ∙ address_numbers_are draft draft.locations
-    ∙ ap (λ (d : Draft). map (λ (location : Location). number_of d (address_name location.address)) draft.locations)
-    (sym c.in_ok-functions.ensures)
-    ∙ ap (map (λ (location : Location). number_of c.in_ok-functions.functions (address_name location.address)))
-    (sym c.as_slice-locations.ensures)
+    let strings : map name_in c.in_ok-strings.strings.items ≡ string_names draft =
+    c.in_ok-strings.ensures in
+    let addresses : map name_in c.in_ok-addresses.addresses.items ≡ address_names draft = c.in_ok-addresses.ensures
+    ∙ ap (λ (d : Draft). map (address_of d) c.as_slice-locations.result.now) c.in_ok-functions.ensures
+    ∙ ap (map (address_of draft)) c.as_slice-locations.ensures in
+    let table = all_is draft (map name_in c.in_ok-strings.strings.items)
+    (map name_in c.in_ok-addresses.addresses.items) c.in_ok-table.table.texts c.in_ok-table-2.table.texts
+    strings addresses
+    (c.in_ok-table.ensures.texts ∙ ap (λ texts. with_texts texts (given (map name_in c.as_slice.result.now)))
+    c.new.ensures.texts ∙ ap (λ names. with_texts [] (given (map name_in names))) c.as_slice.ensures.value)
+    (c.in_ok-table-2.ensures.texts
+    ∙ ap (λ names. with_texts c.in_ok-table.table.texts (given (map name_in names))) c.as_slice-4.ensures.value) in
+    c.as_slice-6.ensures.value ∙ c.in_ok-numbers-2.ensures
+    ∙ ap (λ texts. map (option_map (number_in texts)) (map name_in c.as_slice-5.result.now)) table
+    ∙ ap (map (option_map (number_of draft))) (ap (map name_in) c.as_slice-5.ensures.value ∙ c.in_ok-addresses.ensures)
+    ∙ ap (λ (d : Draft). map (option_map (number_of d))
+    (map (address_of c.in_ok-functions.functions) c.as_slice-locations.result.now)) (sym c.in_ok-functions.ensures)
+
+pub all_frames-requires-clause-unmarked : goal.all_frames-requires-clause-unmarked
+all_frames-requires-clause-unmarked c =
+    subst (All (λ (mark : ℕ). mark ≡ 0)) (sym (c.in_ok-marks.ensures.items_if_clones_equal (λ y same. same)))
+    (All-replicate (λ (mark : ℕ). mark ≡ 0) _ 0 refl)
 
 pub all_frames-requires-clause-named : goal.all_frames-requires-clause-named
 all_frames-requires-clause-named c =
@@ -75,16 +78,43 @@ all_frames-requires-clause-named c =
     subst (λ (d : Draft). All (λ (location : Location). All (λ number. number < length (frame_names d))
     (numbers_of d location)) c.as_slice-locations.result.now) (sym c.in_ok-functions.ensures) here
 
+pub copied_names-requires : goal.copied_names-requires
+copied_names-requires c =
+    let draft = c.draft-draft.result.now in
+    let strings : map name_in c.in_ok-strings.strings.items ≡ string_names draft =
+    c.in_ok-strings.ensures in
+    let addresses : map name_in c.in_ok-addresses.addresses.items ≡ address_names draft = c.in_ok-addresses.ensures
+    ∙ ap (λ (d : Draft). map (address_of d) c.as_slice-locations.result.now) c.in_ok-functions.ensures
+    ∙ ap (map (address_of draft)) c.as_slice-locations.ensures in
+    let table = all_is draft (map name_in c.in_ok-strings.strings.items)
+    (map name_in c.in_ok-addresses.addresses.items) c.in_ok-table.table.texts c.in_ok-table-2.table.texts
+    strings addresses
+    (c.in_ok-table.ensures.texts ∙ ap (λ texts. with_texts texts (given (map name_in c.as_slice.result.now)))
+    c.new.ensures.texts ∙ ap (λ names. with_texts [] (given (map name_in names))) c.as_slice.ensures.value)
+    (c.in_ok-table-2.ensures.texts
+    ∙ ap (λ names. with_texts c.in_ok-table.table.texts (given (map name_in names))) c.as_slice-4.ensures.value) in
+    subst (All IsName) (sym (c.texts-2.ensures ∙ table))
+    (texts_named IsName (given (string_names draft)) (given (address_names draft))
+    (subst (λ (names : List (Option (List ℕ))). All IsName (given names))
+    (ap (map name_in) c.as_slice.ensures.value ∙ strings) c.in_ok-table.ensures.each)
+    (subst (λ (names : List (Option (List ℕ))). All IsName (given names))
+    (ap (map name_in) c.as_slice-4.ensures.value ∙ addresses) c.in_ok-table-2.ensures.each))
+
 pub invariant_of-result : goal.invariant_of-result
 invariant_of-result c =
     let draft = c.draft-draft.result.now in
-    let (strings, addresses, table) = numbered draft c.args.profile.now (map name_in c.names.inside.strings.items)
-    c.names.inside.addresses.items c.in_ok-table.table.texts c.in_ok-table-2.table.texts c.draft-draft.ensures.draft
-    (c.names.view_is ∙ c.requires)
-    (c.in_ok-table.ensures.texts ∙ ap (λ t. with_texts t (given (map name_in c.as_slice.result.now)))
-    c.new.ensures.texts
-    ∙ ap (λ names. with_texts [] (given (map name_in names))) c.as_slice.ensures.value)
-    (c.in_ok-table-2.ensures.texts ∙ ap (with_texts c.in_ok-table.table.texts) c.as_slice-2.ensures.value) in
+    let strings : map name_in c.in_ok-strings.strings.items ≡ string_names draft =
+    c.in_ok-strings.ensures in
+    let addresses : map name_in c.in_ok-addresses.addresses.items ≡ address_names draft = c.in_ok-addresses.ensures
+    ∙ ap (λ (d : Draft). map (address_of d) c.as_slice-locations.result.now) c.in_ok-functions.ensures
+    ∙ ap (map (address_of draft)) c.as_slice-locations.ensures in
+    let table = all_is draft (map name_in c.in_ok-strings.strings.items)
+    (map name_in c.in_ok-addresses.addresses.items) c.in_ok-table.table.texts c.in_ok-table-2.table.texts
+    strings addresses
+    (c.in_ok-table.ensures.texts ∙ ap (λ texts. with_texts texts (given (map name_in c.as_slice.result.now)))
+    c.new.ensures.texts ∙ ap (λ names. with_texts [] (given (map name_in names))) c.as_slice.ensures.value)
+    (c.in_ok-table-2.ensures.texts
+    ∙ ap (λ names. with_texts c.in_ok-table.table.texts (given (map name_in names))) c.as_slice-4.ensures.value) in
     let ids : c.in_ok-indices.indices ≡ location_ids draft = search rules in
     let valid : IsValidDraft draft = subst IsValidDraft (sym c.draft-draft.ensures.draft) c.draft-draft.ensures.valid in
     record {
@@ -92,11 +122,12 @@ invariant_of-result c =
       single = subst (λ i. has_double i ≡ false) (sym ids) (ids_differ draft valid).0;
       frames_are = c.in_ok-frames.ensures ∙ ap (λ (d : Draft). map (location_numbers d) c.as_slice-locations.result.now)
           c.in_ok-functions.ensures ∙ ap (map (location_numbers draft)) c.as_slice-locations.ensures;
-      depths = subst (All (λ (frames : FrameNumbers). frames.depth ≤ c.deepest_of-deepest.result))
+      depths = subst (All (λ (frames : FrameNumbers). length frames.all ≤ c.deepest_of-deepest.result))
           c.as_slice-7.ensures.value c.deepest_of-deepest.ensures;
-      names_are = table;
-      each = texts_named IsName (given (string_names draft)) (address_names draft)
-          (subst (λ (s : List (Option (List ℕ))). All IsName (given s))
+      names_are = c.in_ok-names.ensures ∙ c.texts-2.ensures ∙ table;
+      each = texts_named IsName (given (string_names draft)) (given (address_names draft))
+          (subst (λ (names : List (Option (List ℕ))). All IsName (given names))
           (ap (map name_in) c.as_slice.ensures.value ∙ strings) c.in_ok-table.ensures.each)
-          (subst (All IsName) (c.as_slice-2.ensures.value ∙ addresses) c.in_ok-table-2.ensures.each);
+          (subst (λ (names : List (Option (List ℕ))). All IsName (given names))
+          (ap (map name_in) c.as_slice-4.ensures.value ∙ addresses) c.in_ok-table-2.ensures.each);
     }

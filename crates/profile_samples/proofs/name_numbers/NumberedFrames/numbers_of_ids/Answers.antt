@@ -1,0 +1,54 @@
+-- The frames of the next location, where it is there.
+use Rattle.std.proofs.Common.{◌≡◌, ◌<◌, ◌+◌, ◌++◌, ℕ, List, [], Some, None, All, ap, sym, ◌∙◌, get_or, length}
+use Rattle.std.proofs.Common.{append-nil, arith, subst, take}
+use Rattle.std.specs.Prelude.{slice_index_or}
+use Rattle.std.proofs.lemmas.List.{map-append}
+use Rattle.std.proofs.lemmas.List.Elements.{All-append}
+use Rattle.pprof_profile.specs.declared.messages.Draft.{Draft}
+use Rattle.profile_rows.specs.Tallies.{names_at}
+use Rattle.profile_samples.specs.NameNumbers.{frame_names}
+use Rattle.profile_samples.specs.Samples.{frames_of_id, frames_of_ids}
+use Rattle.profile_samples.proofs.FrameNumbers.{found_numbers, frames-more}
+use Rattle.profile_samples.proofs.name_numbers.NumberedFrames.numbers_of_ids.Goals as goal
+use Rattle.profile_samples.proofs.name_numbers.NumberedFrames.numbers_of_ids.Goals.{in-Some+in_ok-push_numbers}
+use Rattle.profile_samples.proofs.name_numbers.NumberedFrames.numbers_of_ids.Goals.{in_default}
+
+AreNumbers : Draft → List ℕ → List ℕ → Type 0
+AreNumbers draft ids numbers = All (λ number. number < length (frame_names draft)) numbers
+    × (names_at (frame_names draft) numbers ≡ frames_of_ids draft ids)
+
+-- the numbers with those of one location more
+more : (draft : Draft) (ids numbers next here : List ℕ) (i : ℕ) → i < length ids
+    → AreNumbers draft (take i ids) numbers → next ≡ numbers ++ here
+    → All (λ number. number < length (frame_names draft)) here
+    → names_at (frame_names draft) here ≡ frames_of_id draft (get_or ids i 0) → AreNumbers draft (take (i + 1) ids) next
+unfolding AreNumbers
+more draft ids numbers next here i lt so_far next_is inside here_is =
+    let names = frame_names draft in (
+      subst (All (λ number. number < length names)) (sym next_is)
+          (All-append (λ number. number < length names) numbers here so_far.0 inside),
+      ap (names_at names) next_is ∙ map-append (λ number. slice_index_or names number []) numbers here
+          ∙ ap (λ (front : List (List ℕ)). front ++ names_at names here) so_far.1
+          ∙ ap (λ (back : List (List ℕ)). frames_of_ids draft (take i ids) ++ back) here_is
+          ∙ sym (frames-more draft ids i lt),
+    )
+
+pub loop-id-preserved : goal.loop-id-preserved
+unfolding AreNumbers
+loop-id-preserved c =
+    let draft = c.args.self.now in
+    let id = get_or c.args.ids.now c.loop-id.id-index 0 in
+    elim c.match-frames_of.branch [
+      | in-Some+in_ok-push_numbers w ↦
+          let this = found_numbers draft id (Some w.in-Some.frames.now) w.in-Some.ensures in
+          more draft c.args.ids.now c.loop-id.numbers.items c.match-frames_of.numbers.items w.in-Some.frames.now.all
+          c.loop-id.id-index c.loop-id-test.true c.loop-id.invariant
+          (ap (λ numbers. numbers.items) w.numbers-is ∙ w.in_ok-push_numbers.ensures
+          ∙ ap (λ (all : List ℕ). c.loop-id.numbers.items ++ all) w.as_slice.ensures) this.all_inside this.all_are
+      | in_default w ↦
+          more draft c.args.ids.now c.loop-id.numbers.items c.match-frames_of.numbers.items []
+          c.loop-id.id-index c.loop-id-test.true c.loop-id.invariant
+          (ap (λ numbers. numbers.items) w.numbers-is ∙ sym (append-nil c.loop-id.numbers.items))
+          (λ k d lt. absurd (omega (arith, lt)))
+          (sym (found_numbers draft id None w.in_default.ensures))
+    ]

@@ -6,12 +6,12 @@ pub mod FrameNames
 pub mod Fronts
 pub mod Lines
 pub mod MergedLines
+pub mod OrderedTexts
 pub mod Pieces
 pub mod Reading
 pub mod StackOrder
 pub mod StackTexts
 pub mod TextRows
-pub mod TextSums
 pub mod Waiting
 pub mod WorkedTexts
 pub mod Writing

@@ -1,7 +1,7 @@
 -- Rows by their stack texts, and the report that they make.
 use Rattle.std.proofs.Common.{◌≡◌, ℕ, ◌+◌, ◌<◌, ◌≤◌, ◌^◌, Bool, true, false, cond, eqb, List, [], ◌∷◌, ◌++◌, length}
-use Rattle.std.proofs.Common.{filter, get_or, set, refl, sym, ap, ◌∙◌, subst, inl, inr, arith, length-append}
-use Rattle.std.specs.Prelude.{All, IfOk, IfSome, IsPermutation, IsSorted, MatchResult, Option, Some, None, Result, Ok}
+use Rattle.std.proofs.Common.{filter, get_or, set, refl, sym, ap, ◌∙◌, subst, arith, length-append}
+use Rattle.std.specs.Prelude.{All, IfOk, IfSome, IsPermutation, IsSorted, Option, Some, None, Result, Ok}
 use Rattle.std.specs.Prelude.{Err, ◌==◌, not, sum_by}
 use Rattle.std.specs.List.{AllByRecursion, join_with_byte, slice_split}
 use Rattle.std.specs.Fmt.{decimal}
@@ -22,19 +22,16 @@ use Prim.Native.Nat.{zero, suc}
 use Rattle.profile_rows.specs.declared.weighted_stacks.WeightedStack.{WeightedStack}
 use Rattle.profile_rows.specs.Aggregate.{AreWeighty, IsAscending, aggregate_of, rows_of}
 use Rattle.profile_rows.specs.Merging.{AreIndexedBy, RowsBySpelling, row_at, row_spelled, with_added_at}
-use Rattle.profile_rows.specs.Rows.{is_same_stack, stack_cmp, total_of, weight_if}
+use Rattle.profile_rows.specs.Rows.{is_kept, is_same_stack, kept_rows, stack_cmp, total_of, weight_if}
 use Rattle.profile_rows.proofs.InOrder.{rows_of-aggregate}
 use Rattle.profile_rows.proofs.MergedRows.{AddsRow-added, AreIndexedBy-added, AreIndexedBy-push}
 use Rattle.profile_rows.proofs.RowLaws.{aggregate_of-same, stack_cmp_apart, stack_cmp_total}
 use Rattle.profile_rows.proofs.SameNames.{is_same_name-self, same_from_is_same_name}
-use Rattle.folded_text.specs.declared.folded.FoldedFault.{FoldedFault}
-use Rattle.folded_text.specs.declared.folded.FoldedFault.TheVariants.{NoMemory}
-use Rattle.folded_text.specs.FoldedText.{IsFoldedText, IsWorkFault, folded_text_of, frames_of, row_text, rows_text}
+use Rattle.folded_text.specs.FoldedText.{folded_text_of, frames_of, row_text, rows_text}
 use Rattle.folded_text.specs.StackOrder.{IsJoined}
 use Rattle.profile_rows.specs.StackTexts.{TextState}
-use Rattle.folded_text.specs.TextRows.{AreKnownTexts, AreTextRows, IsReportOfText, IsStackText, by_text, one_if_known}
+use Rattle.folded_text.specs.TextRows.{AreKnownTexts, AreTextRows, IsStackText, by_text, one_if_known}
 use Rattle.folded_text.specs.TextRows.{rows_with, spelled_row, spelled_rows, text_lines}
-use Rattle.folded_text.proofs.Reading.{IsFirstFault-folded, IsFoldedText-same}
 use Rattle.folded_text.proofs.StackOrder.{joined_texts-cmp, stack_text_cmp_total}
 
 -- ---- texts that are their frames, joined
@@ -319,39 +316,54 @@ weighty : (rows : List TextState) → AllByRecursion (λ (row : TextState). 0 < 
 weighty [] all = tt
 weighty (row ∷ rows) all = (all.0, weighty rows all.1)
 
-lines-joined : (rows : List TextState)
+joined-lines : (rows : List TextState)
     → AllByRecursion (λ (row : TextState). IsJoined row.text) rows → text_lines rows ≡ rows_text (spelled_rows rows)
-lines-joined [] all = refl
-lines-joined (row ∷ rows) all =
+joined-lines [] all = refl
+joined-lines (row ∷ rows) all =
     ap (λ text. (text ++ 32 ∷ decimal row.weight ++ 10 ∷ []) ++ text_lines rows) all.0
-    ∙ ap (λ rest. row_text (spelled_row row) ++ rest) (lines-joined rows all.1)
+    ∙ ap (λ rest. row_text (spelled_row row) ++ rest) (joined-lines rows all.1)
+
+-- texts without empty frames stand in lines of folded text as they are
+pub lines-joined : (rows : List TextState)
+    → All (λ (row : TextState). IsJoined row.text) rows → text_lines rows ≡ rows_text (spelled_rows rows)
+lines-joined rows joined = joined-lines rows (recursion_from_All (λ (row : TextState). IsJoined row.text) rows joined)
+
+-- rows in the order of their texts are the rows of their aggregate
+pub spelled-sorted : (rows sorted : List TextState) → AreTextRows rows → IsPermutation rows sorted
+    → IsSorted by_text sorted → spelled_rows sorted ≡ rows_of (aggregate_of (spelled_rows rows))
+spelled-sorted rows sorted texts moved up =
+    let after = AreTextRows-moved rows sorted moved texts in
+    let some : AreWeighty (spelled_rows sorted) =
+    All-from_recursion (λ (row : WeightedStack). 0 < row.weight) (spelled_rows sorted)
+    (weighty sorted (recursion_from_All (λ (row : TextState). 0 < row.weight) sorted after.weighty)) in
+    sym (rows_of-aggregate (spelled_rows sorted) (ascending sorted after up) some)
+    ∙ ap rows_of (spelled-moved rows sorted moved).0
 
 -- the lines of the rows in the order of their texts are the folded report
 pub lines-sorted : (rows sorted : List TextState) → AreTextRows rows
     → IsPermutation rows sorted → IsSorted by_text sorted → text_lines sorted ≡ folded_text_of (spelled_rows rows)
 lines-sorted rows sorted texts moved up =
-    let after = AreTextRows-moved rows sorted moved texts in
-    let some : AreWeighty (spelled_rows sorted) =
-    All-from_recursion (λ (row : WeightedStack). 0 < row.weight) (spelled_rows sorted)
-    (weighty sorted (recursion_from_All (λ (row : TextState). 0 < row.weight) sorted after.weighty)) in
-    lines-joined sorted (recursion_from_All (λ (row : TextState). IsJoined row.text) sorted after.joined)
-    ∙ ap rows_text (sym (rows_of-aggregate (spelled_rows sorted) (ascending sorted after up) some))
-    ∙ ap (λ weights. rows_text (rows_of weights)) (spelled-moved rows sorted moved).0
+    lines-joined sorted (AreTextRows-moved rows sorted moved texts).joined
+    ∙ ap rows_text (spelled-sorted rows sorted texts moved up)
+
+-- ---- what a focus and an ignored name leave of them
+
+pub spelled-kept : (focus ignored : Option (List ℕ)) (rows : List TextState)
+    → spelled_rows (filter (λ (row : TextState). is_kept focus ignored (frames_of row.text)) rows)
+    ≡ kept_rows focus ignored (spelled_rows rows)
+spelled-kept focus ignored [] = refl
+spelled-kept focus ignored (row ∷ rows) =
+    elim (is_kept focus ignored (frames_of row.text)) as
+    (λ b. spelled_rows (cond b (row ∷ filter (λ (row : TextState). is_kept focus ignored (frames_of row.text)) rows)
+    (filter (λ (row : TextState). is_kept focus ignored (frames_of row.text)) rows))
+    ≡ cond b (spelled_row row ∷ kept_rows focus ignored (spelled_rows rows))
+    (kept_rows focus ignored (spelled_rows rows))) [
+      | true ↦ ap (λ more. spelled_row row ∷ more) (spelled-kept focus ignored rows)
+      | false ↦ spelled-kept focus ignored rows
+    ]
 
 -- what is written where all is well is another text where the two are the same
 pub as_text : {T E : Type 0} (bytes : T → List ℕ) (outcome : Result T E) (text other : List ℕ)
     → text ≡ other → IfOk outcome (λ written. bytes written ≡ text) → IfOk outcome (λ written. bytes written ≡ other)
 as_text bytes (Ok written) text other same is = is ∙ same
 as_text bytes (Err fault) text other same is = tt
-
--- what reporting answers decides the report of the rows that a text is folded text of
-pub only_report : {T : Type 0} (bytes : T → List ℕ) (text : List ℕ) (outcome : Result T FoldedFault)
-    → MatchResult outcome (λ report. IsReportOfText text (bytes report)) (IsWorkFault text)
-    → (rows : List WeightedStack) → IsFoldedText text rows
-    → MatchResult outcome (λ report. bytes report ≡ folded_text_of rows) (λ fault. fault ≡ NoMemory)
-only_report bytes text (Ok report) reported rows folded = reported.whole
-    ∙ ap folded_text_of (IsFoldedText-same text reported.rows rows reported.folded folded)
-only_report bytes text (Err fault) reported rows folded = elim reported [
-  | inl first ↦ IsFirstFault-folded text rows fault folded first
-  | inr late ↦ late.0
-]

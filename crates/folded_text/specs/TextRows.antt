@@ -9,7 +9,7 @@ use Rattle.profile_rows.specs.Aggregate.{aggregate_of}
 use Rattle.profile_rows.specs.Merging.{AreIndexedBy, RowsBySpelling, row_spelled}
 use Rattle.profile_rows.specs.Rows.{total_of}
 use Rattle.profile_rows.specs.StackTexts.{TextState}
-use Rattle.folded_text.specs.FoldedText.{IsFoldedText, folded_text_of, frames_of}
+use Rattle.folded_text.specs.FoldedText.{IsFoldedText, frames_of}
 use Rattle.folded_text.specs.declared.text_rows.TextRows.{TextRows}
 use Rattle.folded_text.specs.StackOrder.{IsJoined, stack_text_cmp}
 
@@ -44,6 +44,10 @@ pub record AreTextRows (rows : List TextState) : Type 0 where
   pub once : (text : List ℕ) → rows_with text rows ≤ 1
   pub joined : All (λ (row : TextState). IsJoined row.text) rows
 
+-- texts of stacks without empty frames
+abbrev pub AreJoinedTexts : List TextState → Type 0
+AreJoinedTexts rows = All (λ (row : TextState). IsStackText row.text × IsJoined row.text) rows
+
 -- Rows of weight above 0 so far: each is known by its text, and none stands twice. `are_joined` says that no stack text
 -- has an empty frame.
 pub record AreKnownTexts (known : RowsBySpelling) (rows : List TextState) (total : ℕ) (are_joined : Bool) : Type 0 where
@@ -68,9 +72,3 @@ text_line row = row.text ++ 32 ∷ decimal row.weight ++ 10 ∷ []
 
 abbrev pub text_lines : List TextState → List ℕ
 text_lines rows = flat_map text_line rows
-
--- the report is that of the rows that the text is folded text of
-pub record IsReportOfText (text report : List ℕ) : Type 0 where
-  pub rows : List WeightedStack
-  pub folded : IsFoldedText text rows
-  pub whole : report ≡ folded_text_of rows

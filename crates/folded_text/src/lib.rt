@@ -4,20 +4,20 @@
 mod folded;
 mod known_names;
 pub mod laws;
-mod merged_text;
+mod ordered_rows;
 mod stack_frames;
 mod stack_texts;
 mod taking;
 mod text_order;
 mod text_row;
 mod text_rows;
+mod text_stacks;
 mod text_totals;
 mod written;
 
 pub use folded::{FoldedFault, read_folded, read_folded_with, read_frames};
-pub use merged_text::merge_folded;
+pub use ordered_rows::{OrderedRows, RowNames, read_ordered};
 pub use stack_texts::report_of_stack_texts;
 pub use taking::{LineTaker, take_lines};
-pub use text_rows::folded_report;
 pub use text_totals::folded_totals;
 pub use written::{write_folded, write_stacks};

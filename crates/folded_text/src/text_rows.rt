@@ -5,19 +5,18 @@ ghost use Rattle.std.specs.Prelude.{ℕ, ◌≡◌, ◌≢◌, ◌+◌, ◌^◌,
 ghost use Rattle.profile_rows.specs.declared.weighted_stacks.WeightedStack.{WeightedStack};
 ghost use Rattle.profile_rows.specs.Merging.{AddsRow, AreMergedSoFar, row_spelled, with_added_at};
 ghost use Rattle.profile_rows.specs.Rows.{total_of};
-ghost use Rattle.folded_text.specs.FoldedText.{IsFirstFault, IsFoldedText, IsLineFault, IsRowLine, IsWorkFault, folded_text_of, frames_of};
+ghost use Rattle.folded_text.specs.FoldedText.{IsFirstFault, IsLineFault, IsRowLine, folded_text_of, frames_of};
 ghost use Rattle.folded_text.specs.StackOrder.{IsJoined};
-ghost use Rattle.folded_text.specs.TextRows.{AreKnownTexts, AreSumsOfText, AreTextRows, IsReportOfText, IsStackText, by_text, spelled_rows, text_lines};
+ghost use Rattle.folded_text.specs.TextRows.{AreKnownTexts, AreSumsOfText, AreTextRows, IsStackText, by_text, spelled_rows, text_lines};
 
-use crate::folded::{FoldedFault, fitting, stack_and_weight};
-use crate::merged_text::stacks_of_texts;
-use crate::stack_frames::measured;
+use crate::folded::{FoldedFault, fitting, push_frames, stack_and_weight};
+use crate::known_names::KnownNames;
+use crate::stack_frames::{measured, replace_by_text};
 use crate::taking::{LineTaker, take_lines};
 use crate::text_row::TextRow;
-use crate::written::write_stacks;
 use basics::NoMemory;
 use itoa::Buffer;
-use profile_rows::{Hashing, MAX_TOTAL, aggregate_stacks};
+use profile_rows::{Hashing, MAX_TOTAL, WeightedStacks};
 use std::alloc::Global;
 use std::collections::HashMap;
 
@@ -186,7 +185,7 @@ pub(crate) fn sort_by_text(rows: &mut Vec<TextRow>) -> Result<(), NoMemory>
 }
 
 /// The rows as lines of folded text, each stack as its text has it.
-fn write_text_rows(alloc: Global, rows: &[TextRow]) -> Result<Vec<u8>, NoMemory>
+pub(crate) fn write_text_rows(alloc: Global, rows: &[TextRow]) -> Result<Vec<u8>, NoMemory>
     ensures { IfOk result (λ text. text.items ≡ text_lines rows.now) }
 {
     let mut text = Vec::new(alloc);
@@ -210,34 +209,28 @@ pub(crate) fn report_of_texts(alloc: Global, rows: Vec<TextRow>) -> Result<Vec<u
     write_text_rows(alloc, rows.as_slice())
 }
 
-/// The folded report of rows by their stacks, name by name: also where stack texts have empty frames.
-fn report_of_stacks(alloc: Global, hashing: Hashing, rows: &[TextRow]) -> Result<Vec<u8>, NoMemory>
+/// Rows with the names of their stacks.
+pub(crate) fn stacks_of_texts(
+    alloc: Global,
+    hashing: Hashing,
+    rows: &[TextRow],
+) -> Result<WeightedStacks, NoMemory>
     requires spelled { All (λ row. IsStackText row.text) rows.now }
     requires fits { total_of (spelled_rows rows.now) < 2 ^ 63 }
-    ensures { IfOk result (λ report. report.items ≡ folded_text_of (spelled_rows rows.now)) }
+    ensures { IfOk result (λ stacks. stacks ≡ spelled_rows rows.now) }
 {
-    let stacks = stacks_of_texts(alloc, hashing, rows)?;
-    let sums = aggregate_stacks(alloc, stacks)?;
-    write_stacks(alloc, &sums)
-}
-
-/// The folded report of the rows that [`read_folded`](crate::read_folded) reads: each stack of weight above 0 once,
-/// with its weight, in the order of stacks. Rows are put together and sorted by their texts, and no name is kept where
-/// no stack text has an empty frame. `hashing` says how stack texts and names are hashed.
-///
-/// # Errors
-///
-/// Those of [`read_folded`](crate::read_folded).
-pub fn folded_report(alloc: Global, hashing: Hashing, text: &[u8]) -> Result<Vec<u8>, FoldedFault>
-    ensures reported { MatchResult result (λ report. IsReportOfText text.now report.items) (IsWorkFault text.now) }
-    ensures accepted { (rows : List WeightedStack) → IsFoldedText text.now rows
-        → MatchResult result (λ report. report.items ≡ folded_text_of rows)
-        (λ fault. fault ≡ FoldedFault.NoMemory) }
-{
-    let sums = read_text_rows(alloc, hashing, text)?;
-    if sums.are_joined {
-        Ok(report_of_texts(alloc, sums.rows)?)
-    } else {
-        Ok(report_of_stacks(alloc, hashing, sums.rows.as_slice())?)
+    let mut known = KnownNames::new(alloc, hashing);
+    let mut stacks = WeightedStacks::with_capacity(alloc, rows.len())?;
+    let mut frames = Vec::new(alloc);
+    for row in rows {
+        replace_by_text(&mut frames, row.text())?;
+        push_frames(
+            alloc,
+            &mut known,
+            &mut stacks,
+            frames.as_slice(),
+            row.weight(),
+        )?;
     }
+    Ok(stacks)
 }

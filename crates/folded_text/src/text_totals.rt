@@ -40,7 +40,7 @@ fn count_line<'a>(
 }
 
 /// Counts rows, one after the other.
-fn count_rows<'a>(
+pub(crate) fn count_rows<'a>(
     counted: &mut CountedRows<'a>,
     frames: &mut Vec<&'a str>,
     rows: &[TextRow<'a>],

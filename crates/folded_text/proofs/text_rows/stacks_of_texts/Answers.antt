@@ -3,7 +3,7 @@ use Rattle.std.proofs.Common.{ap, arith}
 use Rattle.profile_rows.specs.Rows.{total_of}
 use Rattle.profile_rows.specs.StackTexts.{TextState}
 use Rattle.folded_text.proofs.Waiting.{follows}
-use Rattle.folded_text.proofs.merged_text.stacks_of_texts.Goals as goal
+use Rattle.folded_text.proofs.text_rows.stacks_of_texts.Goals as goal
 
 pub push_frames-requires-clause-fits : goal.push_frames-requires-clause-fits
 push_frames-requires-clause-fits c =

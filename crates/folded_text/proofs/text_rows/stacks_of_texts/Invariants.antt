@@ -1,6 +1,6 @@
 use Rattle.std.proofs.Common.{◌≡◌, take}
 use Rattle.folded_text.specs.TextRows.{spelled_rows}
-use Rattle.folded_text.proofs.merged_text.stacks_of_texts.Given as goal
+use Rattle.folded_text.proofs.text_rows.stacks_of_texts.Given as goal
 
 -- the stacks so far
 abbrev pub invariant-loop-row : goal.invariant-loop-row

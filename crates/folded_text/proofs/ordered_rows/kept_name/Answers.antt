@@ -1,0 +1,16 @@
+-- Each frame can be a name.
+use Rattle.std.proofs.Common.{◌<◌, ℕ, List, [], sym, subst}
+use Rattle.std.proofs.lemmas.List.{get_or-map, length-map}
+use denote.Ref.{Bor}
+use Rattle.profile_rows.specs.Names.{IsName}
+use Rattle.folded_text.proofs.ordered_rows.kept_name.Goals as goal
+
+abbrev text_of : Bor (List ℕ) → List ℕ
+text_of frame = frame.now
+
+pub keep-requires : goal.keep-requires
+keep-requires c =
+    let frames = c.args.frames.now in
+    let within = subst (λ n. c.args.at < n) (sym (length-map frames text_of)) c.requires.index in
+    subst IsName (get_or-map text_of frames c.args.at (record { ref_ptr = (0, 0); now = [] }) [] c.requires.index)
+    (c.requires.names c.args.at [] within)

@@ -1,0 +1,382 @@
+//! Rows in the order of their stacks, of which reports are made.
+
+ghost use Rattle.std.specs.Prelude.{◌≡◌, ◌-◌, ◌^◌, ◌<◌, ◌≤◌, All, IfOk, List, MatchResult, length, map, slice_index_or, []};
+ghost use Rattle.std.specs.List.{common_prefix_len};
+ghost use Rattle.std.specs.Option.{option_copied};
+ghost use Rattle.std.specs.Ordering.{eq_by_cmp};
+ghost use Rattle.profile_rows.specs.declared.weighted_stacks.WeightedStack.{WeightedStack};
+ghost use Rattle.profile_rows.specs.Aggregate.{AreWeighty, IsAscending, aggregate_of, rows_of};
+ghost use Rattle.profile_rows.specs.Merging.{row_at};
+ghost use Rattle.profile_rows.specs.Names.{IsName, name_cmp};
+ghost use Rattle.profile_rows.specs.Rows.{kept_rows, total_of};
+ghost use Rattle.profile_rows.specs.TopList.{AreTotalsOf};
+ghost use Rattle.folded_text.specs.FoldedText.{IsFoldedText, IsWorkFault, folded_text_of, frames_of};
+ghost use Rattle.folded_text.specs.OrderedRows.{AreNames, IsOrderedText, names_in, rows_in};
+ghost use Rattle.folded_text.specs.TextRows.{AreKnownTexts, spelled_rows};
+
+use crate::folded::FoldedFault;
+use crate::stack_frames::{Frames, measured, replace_by_text};
+use crate::text_rows::{TextRows, read_text_rows, stacks_of_texts};
+use crate::text_stacks::TextStacks;
+use crate::written::write_stacks;
+use basics::NoMemory;
+use profile_rows::{
+    FrameTotals, Hashing, Name, WeightedStack, WeightedStacks, aggregate_stacks, keeps, kept_totals,
+};
+use std::alloc::{AllocError, Global};
+use std::marker::Model;
+
+/// Rows by the names of their stacks, or by their texts.
+#[derive(Drop)]
+pub(crate) enum InOrder<'a> {
+    Named(WeightedStacks),
+    Spelled(TextStacks<'a>),
+}
+
+/// Rows in the order of their stacks, each of weight above 0 and no two of one stack. Where stacks are texts, which are
+/// lent, a name is made only for what an answer has. A contract sees the rows.
+#[derive(Drop)]
+pub struct OrderedRows<'a> {
+    rows: InOrder<'a>,
+}
+
+impl<'a> Model for OrderedRows<'a> {
+    ghost use Rattle.std.specs.Prelude.{List};
+    ghost use Rattle.profile_rows.specs.declared.weighted_stacks.WeightedStack.{WeightedStack};
+    ghost use Rattle.profile_rows.specs.Aggregate.{AreWeighty, IsAscending};
+    ghost use Rattle.folded_text.specs.OrderedRows.{rows_in};
+
+    ghost Value = { List WeightedStack };
+
+    ghost view = { λ ordered. rows_in ordered.rows };
+
+    ghost invariant = { λ ordered. IsAscending (rows_in ordered.rows) × AreWeighty (rows_in ordered.rows) };
+}
+
+/// The names of a row's stack, root first.
+#[derive(Drop)]
+pub enum RowNames<'a> {
+    Named(&'a [Name]),
+    Spelled(Vec<&'a str>),
+}
+
+/// A second owner of a name.
+fn shared_name(names: &[Name], at: usize) -> Result<Name, NoMemory>
+    requires { at < length names.now }
+    ensures { IfOk result (λ name. name ≡ slice_index_or names.now at []) }
+{
+    names[at].share()
+}
+
+/// A frame kept as a name.
+fn kept_name(alloc: Global, frames: &[&str], at: usize) -> Result<Name, NoMemory>
+    requires names { All IsName (map (λ frame. frame.now) frames.now) }
+    requires index { at < length frames.now }
+    ensures { IfOk result (λ name. name ≡ slice_index_or (map (λ frame. frame.now) frames.now) at []) }
+{
+    Name::keep(alloc, frames[at])
+}
+
+impl<'a> RowNames<'a> {
+    /// How many names there are.
+    pub fn len(&self) -> usize
+        ensures { result ≡ length (names_in self.now) }
+    {
+        match self {
+            RowNames::Named(names) => names.len(),
+            RowNames::Spelled(frames) => frames.len(),
+        }
+    }
+
+    /// A name, shared where it is kept and made where it isn't.
+    ///
+    /// # Errors
+    ///
+    /// `NoMemory`.
+    pub fn name(&self, alloc: Global, at: usize) -> Result<Name, NoMemory>
+        requires names { AreNames self.now }
+        requires index { at < length (names_in self.now) }
+        ensures { IfOk result (λ name. name ≡ slice_index_or (names_in self.now) at []) }
+    {
+        match self {
+            RowNames::Named(names) => shared_name(*names, at),
+            RowNames::Spelled(frames) => kept_name(alloc, frames.as_slice(), at),
+        }
+    }
+}
+
+/// How many names two stacks have in common at their roots.
+fn shared_by_names(left: &[Name], right: &[Name]) -> usize
+    ensures { result ≡ common_prefix_len (eq_by_cmp name_cmp) left.now right.now }
+{
+    for (at, name) in left.iter().enumerate() {
+        if at >= right.len() || *name != right[at] {
+            return at;
+        }
+    }
+    left.len()
+}
+
+/// How many frames two stack texts have in common at their roots.
+fn shared_by_texts(left: &str, right: &str) -> usize
+    ensures { result ≡ common_prefix_len (eq_by_cmp name_cmp) (frames_of left.now) (frames_of right.now) }
+{
+    let mut shared = 0;
+    let mut frames = Frames::of(left);
+    let mut others = Frames::of(right);
+    while let Some(frame) = frames.next_frame() {
+        match others.next_frame() {
+            Some(other) if frame == other => shared += 1,
+            _ => return shared,
+        }
+    }
+    shared
+}
+
+/// The rows that a focus and an ignored name leave.
+fn kept_stacks(
+    alloc: Global,
+    rows: WeightedStacks,
+    focus: Option<&Name>,
+    ignored: Option<&Name>,
+) -> Result<WeightedStacks, NoMemory>
+    ensures { IfOk result
+        (λ kept. kept ≡ kept_rows (option_copied focus.entry) (option_copied ignored.entry) rows) }
+{
+    let mut kept = WeightedStacks::new(alloc);
+    for row in rows.into_rows() {
+        if keeps(&row, focus, ignored) {
+            let WeightedStack { stack, weight } = row;
+            if kept.push(stack, weight).is_err() {
+                return Err(NoMemory);
+            }
+        }
+    }
+    Ok(kept)
+}
+
+/// The rows in order that a focus and an ignored name leave.
+fn kept_in_order<'a>(
+    alloc: Global,
+    rows: InOrder<'a>,
+    focus: Option<&Name>,
+    ignored: Option<&Name>,
+) -> Result<InOrder<'a>, NoMemory>
+    ensures { IfOk result (λ kept. rows_in kept
+        ≡ kept_rows (option_copied focus.entry) (option_copied ignored.entry) (rows_in rows.entry)) }
+{
+    match rows {
+        InOrder::Named(rows) => Ok(InOrder::Named(kept_stacks(alloc, rows, focus, ignored)?)),
+        InOrder::Spelled(mut rows) => {
+            rows.keep(focus, ignored);
+            Ok(InOrder::Spelled(rows))
+        }
+    }
+}
+
+/// The rows of stack texts in order: by their texts where none has an empty frame, and else by names.
+fn in_order<'a>(
+    alloc: Global,
+    hashing: Hashing,
+    sums: TextRows<'a>,
+) -> Result<OrderedRows<'a>, NoMemory>
+    requires { AreKnownTexts sums.known sums.rows.items sums.total sums.are_joined }
+    ensures { IfOk result (λ ordered. ordered ≡ rows_of (aggregate_of (spelled_rows sums.entry.rows.items))) }
+{
+    let TextRows {
+        known,
+        rows,
+        total,
+        are_joined,
+    } = sums;
+    drop(known);
+    if are_joined {
+        let rows = TextStacks::sorted(rows, total)?;
+        Ok(OrderedRows {
+            rows: InOrder::Spelled(rows),
+        })
+    } else {
+        let stacks = stacks_of_texts(alloc, hashing, rows.as_slice())?;
+        OrderedRows::of(alloc, stacks)
+    }
+}
+
+/// Reads folded stacks, as [`read_folded`](crate::read_folded) does, and puts their rows in order. `hashing` says how
+/// stack texts and names are hashed.
+///
+/// # Errors
+///
+/// Those of [`read_folded`](crate::read_folded).
+pub fn read_ordered<'a>(
+    alloc: Global,
+    hashing: Hashing,
+    text: &'a [u8],
+) -> Result<OrderedRows<'a>, FoldedFault>
+    ensures read { MatchResult result (IsOrderedText text.now) (IsWorkFault text.now) }
+    ensures accepted { (rows : List WeightedStack) → IsFoldedText text.now rows
+        → MatchResult result (λ ordered. ordered ≡ rows_of (aggregate_of rows))
+        (λ fault. fault ≡ FoldedFault.NoMemory) }
+{
+    let sums = read_text_rows(alloc, hashing, text)?;
+    Ok(in_order(alloc, hashing, sums)?)
+}
+
+impl<'a> OrderedRows<'a> {
+    /// Takes rows that are in order, as they are.
+    pub fn named(rows: WeightedStacks) -> OrderedRows<'a>
+        requires ascending { IsAscending rows }
+        requires weighty { AreWeighty rows }
+        ensures { result ≡ rows }
+    {
+        OrderedRows {
+            rows: InOrder::Named(rows),
+        }
+    }
+
+    /// Puts rows in order: each stack of weight above 0 once, with the sum of its weights.
+    ///
+    /// # Errors
+    ///
+    /// `NoMemory`.
+    pub fn of(alloc: Global, rows: WeightedStacks) -> Result<OrderedRows<'a>, NoMemory>
+        ensures { IfOk result (λ ordered. ordered ≡ rows_of (aggregate_of rows)) }
+    {
+        let rows = aggregate_stacks(alloc, rows)?;
+        Ok(OrderedRows::named(rows))
+    }
+
+    /// That the rows are in order and that each weighs something.
+    pub fn facts(&self)
+        ensures ascending { IsAscending self.now }
+        ensures weighty { AreWeighty self.now }
+    {
+        let _ = &self.rows;
+    }
+
+    /// How many rows there are.
+    pub fn len(&self) -> usize
+        ensures { result ≡ length self.now }
+    {
+        match &self.rows {
+            InOrder::Named(rows) => rows.rows().len(),
+            InOrder::Spelled(rows) => rows.len(),
+        }
+    }
+
+    /// What the rows weigh together. Takes no time per row.
+    pub fn total(&self) -> u64
+        ensures total { result ≡ total_of self.now }
+        ensures fits { total_of self.now < 2 ^ 63 }
+    {
+        match &self.rows {
+            InOrder::Named(rows) => rows.total(),
+            InOrder::Spelled(rows) => rows.total(),
+        }
+    }
+
+    /// What a row weighs.
+    pub fn weight(&self, at: usize) -> u64
+        requires { at < length self.now }
+        ensures { result ≡ (row_at self.now at).weight }
+    {
+        match &self.rows {
+            InOrder::Named(rows) => rows.rows()[at].weight,
+            InOrder::Spelled(rows) => rows.weight(at),
+        }
+    }
+
+    /// How many names a row's stack has.
+    pub fn depth(&self, at: usize) -> usize
+        requires { at < length self.now }
+        ensures { result ≡ length (row_at self.now at).stack }
+    {
+        match &self.rows {
+            InOrder::Named(rows) => rows.rows()[at].stack.names().len(),
+            InOrder::Spelled(rows) => measured(rows.text(at)).0,
+        }
+    }
+
+    /// How many names the stacks of a row and of the row before have in common at their roots.
+    pub fn shared_names(&self, at: usize) -> usize
+        requires follows { 0 < at }
+        requires index { at < length self.now }
+        ensures { result
+            ≡ common_prefix_len (eq_by_cmp name_cmp) (row_at self.now (at - 1)).stack (row_at self.now at).stack }
+    {
+        match &self.rows {
+            InOrder::Named(rows) => {
+                let rows = rows.rows();
+                shared_by_names(rows[at - 1].stack.names(), rows[at].stack.names())
+            }
+            InOrder::Spelled(rows) => shared_by_texts(rows.text(at - 1), rows.text(at)),
+        }
+    }
+
+    /// The names of a row's stack.
+    ///
+    /// # Errors
+    ///
+    /// `NoMemory`.
+    pub fn names<'s>(&'s self, alloc: Global, at: usize) -> Result<RowNames<'s>, NoMemory>
+        requires { at < length self.now }
+        ensures names { IfOk result (λ names. names_in names ≡ (row_at self.now at).stack) }
+        ensures are { IfOk result AreNames }
+        ensures depth { length (row_at self.now at).stack ≤ 65535 }
+    {
+        match &self.rows {
+            InOrder::Named(rows) => Ok(RowNames::Named(rows.rows()[at].stack.names())),
+            InOrder::Spelled(rows) => {
+                let mut frames = Vec::new(alloc);
+                replace_by_text(&mut frames, rows.text(at))?;
+                Ok(RowNames::Spelled(frames))
+            }
+        }
+    }
+
+    /// The rows that have the focus, where there is one, and not the ignored name, where there is one.
+    ///
+    /// # Errors
+    ///
+    /// `NoMemory`.
+    pub fn keep(
+        self,
+        alloc: Global,
+        focus: Option<&Name>,
+        ignored: Option<&Name>,
+    ) -> Result<OrderedRows<'a>, NoMemory>
+        ensures { IfOk result
+            (λ kept. kept ≡ kept_rows (option_copied focus.entry) (option_copied ignored.entry) self.entry) }
+    {
+        Ok(OrderedRows {
+            rows: kept_in_order(alloc, self.rows, focus, ignored)?,
+        })
+    }
+
+    /// The folded report of the rows: a line for each, in order.
+    ///
+    /// # Errors
+    ///
+    /// `NoMemory`.
+    pub fn write(&self, alloc: Global) -> Result<Vec<u8>, NoMemory>
+        ensures { IfOk result (λ text. text.items ≡ folded_text_of self.now) }
+    {
+        match &self.rows {
+            InOrder::Named(rows) => write_stacks(alloc, rows),
+            InOrder::Spelled(rows) => rows.write(alloc),
+        }
+    }
+
+    /// What the names weigh in the rows. `hashing` says how names are hashed.
+    ///
+    /// # Errors
+    ///
+    /// `NoMemory`.
+    pub fn frame_totals(&self, alloc: Global, hashing: Hashing) -> Result<FrameTotals, NoMemory>
+        ensures { IfOk result (AreTotalsOf self.now) }
+    {
+        match &self.rows {
+            InOrder::Named(rows) => kept_totals(alloc, hashing, rows, None, None),
+            InOrder::Spelled(rows) => rows.frame_totals(alloc, hashing),
+        }
+    }
+}

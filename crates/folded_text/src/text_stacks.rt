@@ -1,0 +1,164 @@
+//! Rows whose stacks are texts, in the order of their stacks.
+
+ghost use Rattle.std.specs.Prelude.{◌≡◌, ◌^◌, ◌<◌, ◌≤◌, All, IfOk, filter, length};
+ghost use Rattle.std.specs.List.{common_prefix_len};
+ghost use Rattle.std.specs.Option.{option_copied};
+ghost use Rattle.std.specs.Ordering.{eq_by_cmp};
+ghost use Rattle.profile_rows.specs.Aggregate.{AreWeighty, IsAscending, aggregate_of, rows_of};
+ghost use Rattle.profile_rows.specs.Merging.{row_at};
+ghost use Rattle.profile_rows.specs.Names.{name_cmp};
+ghost use Rattle.profile_rows.specs.Rows.{has_name, is_kept, kept_rows, total_of};
+ghost use Rattle.profile_rows.specs.TopList.{AreTotalsOf};
+ghost use Rattle.folded_text.specs.FoldedText.{frames_of, rows_text};
+ghost use Rattle.folded_text.specs.TextRows.{AreTextRows, IsStackText, spelled_rows};
+
+use crate::stack_frames::Frames;
+use crate::text_row::TextRow;
+use crate::text_rows::{sort_by_text, write_text_rows};
+use crate::text_totals::count_rows;
+use basics::NoMemory;
+use profile_rows::{CountedRows, FrameTotals, Hashing, Name};
+use std::alloc::Global;
+use std::marker::Model;
+
+/// Rows whose stacks are texts without empty frames, and what they weigh together. A contract sees the rows.
+#[derive(Drop)]
+pub(crate) struct TextStacks<'a> {
+    rows: Vec<TextRow<'a>>,
+    total: u64,
+}
+
+impl<'a> Model for TextStacks<'a> {
+    ghost use Rattle.std.specs.Prelude.{List, ◌≡◌, ◌<◌, ◌^◌};
+    ghost use Rattle.profile_rows.specs.declared.weighted_stacks.WeightedStack.{WeightedStack};
+    ghost use Rattle.profile_rows.specs.Rows.{total_of};
+    ghost use Rattle.folded_text.specs.TextRows.{AreJoinedTexts, spelled_rows};
+
+    ghost Value = { List WeightedStack };
+
+    ghost view = { λ stacks. spelled_rows stacks.rows.items };
+
+    ghost invariant = { λ stacks. AreJoinedTexts stacks.rows.items
+        × (stacks.total ≡ total_of (spelled_rows stacks.rows.items)) × (stacks.total < 2 ^ 63) };
+}
+
+/// Whether a stack text has a frame of this name.
+fn has_frame(text: &str, name: &Name) -> bool
+    ensures { result ≡ has_name name.now (frames_of text.now) }
+{
+    let mut frames = Frames::of(text);
+    while let Some(frame) = frames.next_frame() {
+        if name.text() == frame {
+            return true;
+        }
+    }
+    false
+}
+
+/// Whether a stack text has the focus, where there is one, and not the ignored name, where there is one.
+fn keeps(text: &str, focus: Option<&Name>, ignored: Option<&Name>) -> bool
+    ensures { result ≡ is_kept (option_copied focus.entry) (option_copied ignored.entry) (frames_of text.now) }
+{
+    let focused = match focus {
+        Some(name) => has_frame(text, name),
+        None => true,
+    };
+    let left_out = match ignored {
+        Some(name) => has_frame(text, name),
+        None => false,
+    };
+    focused && !left_out
+}
+
+/// Leaves the rows that a focus and an ignored name leave.
+fn keep_rows(rows: &mut Vec<TextRow>, focus: Option<&Name>, ignored: Option<&Name>)
+    ensures { rows.new.items
+        ≡ filter (λ row. is_kept (option_copied focus.entry) (option_copied ignored.entry) (frames_of row.text))
+        rows.old.items }
+{
+    rows.retain(|row| keeps(row.text(), focus, ignored));
+}
+
+/// What rows weigh together.
+fn total_of_texts(rows: &[TextRow]) -> u64
+    requires { total_of (spelled_rows rows.now) < 2 ^ 63 }
+    ensures { result ≡ total_of (spelled_rows rows.now) }
+{
+    let mut total = 0;
+    for row in rows {
+        total += row.weight();
+    }
+    total
+}
+
+impl<'a> TextStacks<'a> {
+    /// Rows of this total, sorted.
+    pub fn sorted(rows: Vec<TextRow<'a>>, total: u64) -> Result<TextStacks<'a>, NoMemory>
+        requires texts { AreTextRows rows.items }
+        requires spelled { All (λ row. IsStackText row.text) rows.items }
+        requires total { total ≡ total_of (spelled_rows rows.items) }
+        requires fits { total < 2 ^ 63 }
+        ensures { IfOk result (λ stacks. stacks ≡ rows_of (aggregate_of (spelled_rows rows.entry.items))) }
+    {
+        let mut rows = rows;
+        sort_by_text(&mut rows)?;
+        Ok(TextStacks { rows, total })
+    }
+
+    /// How many rows there are.
+    pub fn len(&self) -> usize
+        ensures { result ≡ length self.now }
+    {
+        self.rows.len()
+    }
+
+    /// What the rows weigh together.
+    pub fn total(&self) -> u64
+        ensures total { result ≡ total_of self.now }
+        ensures fits { total_of self.now < 2 ^ 63 }
+    {
+        self.total
+    }
+
+    /// What a row weighs.
+    pub fn weight(&self, at: usize) -> u64
+        requires { at < length self.now }
+        ensures { result ≡ (row_at self.now at).weight }
+    {
+        self.rows[at].weight()
+    }
+
+    /// The text of a row's stack.
+    pub fn text(&self, at: usize) -> &'a str
+        requires { at < length self.now }
+        ensures frames { frames_of result.now ≡ (row_at self.now at).stack }
+        ensures spelled { IsStackText result.now }
+    {
+        self.rows[at].text()
+    }
+
+    /// Leaves the rows that a focus and an ignored name leave. Takes no memory.
+    pub fn keep(&mut self, focus: Option<&Name>, ignored: Option<&Name>)
+        ensures { self.new ≡ kept_rows (option_copied focus.entry) (option_copied ignored.entry) self.old }
+    {
+        keep_rows(&mut self.rows, focus, ignored);
+        self.total = total_of_texts(self.rows.as_slice());
+    }
+
+    /// The rows as folded text.
+    pub fn write(&self, alloc: Global) -> Result<Vec<u8>, NoMemory>
+        ensures { IfOk result (λ text. text.items ≡ rows_text self.now) }
+    {
+        write_text_rows(alloc, self.rows.as_slice())
+    }
+
+    /// What the names weigh in the rows.
+    pub fn frame_totals(&self, alloc: Global, hashing: Hashing) -> Result<FrameTotals, NoMemory>
+        ensures { IfOk result (AreTotalsOf self.now) }
+    {
+        let mut counted = CountedRows::new(alloc, hashing);
+        let mut frames = Vec::new(alloc);
+        count_rows(&mut counted, &mut frames, self.rows.as_slice())?;
+        counted.totals(alloc)
+    }
+}

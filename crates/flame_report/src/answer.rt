@@ -1,10 +1,10 @@
 //! Answers: totals, top lists, layouts of rectangles and folded text.
 
-ghost use Rattle.std.specs.Prelude.{◌≡◌, ◌↔◌, [], IfOk, IsTrue};
+ghost use Rattle.std.specs.Prelude.{◌≡◌, ◌↔◌, [], IsTrue};
 
 use crate::query::Columns;
 use basics::Items;
-use profile_rows::{FrameTotal, Name, NoMemory};
+use profile_rows::{FrameTotal, Name};
 use std::marker::Model;
 
 /// The names that weigh most, and what all rows weigh together.
@@ -38,15 +38,10 @@ impl Label {
     }
 
     /// The name as a label.
-    ///
-    /// # Errors
-    ///
-    /// `NoMemory`, at the limit of owners of its text (2^63).
-    pub fn of(name: &Name) -> Result<Label, NoMemory>
-        ensures { IfOk result (λ label. label ≡ name.now) }
+    pub fn of(name: Name) -> Label
+        ensures { result ≡ name }
     {
-        let name = name.share()?;
-        Ok(Label { name: Some(name) })
+        Label { name: Some(name) }
     }
 
     /// The text.

@@ -4,6 +4,7 @@
 ghost use Rattle.std.specs.Prelude.{ℕ, ◌≡◌, ◌++◌, ◌+◌, ◌<◌, ◌≤◌, ◌^◌, false, IfOk, OnOk, drop, length, map, take};
 ghost use Rattle.std.specs.List.{common_prefix_len};
 ghost use Rattle.std.specs.Ordering.{eq_by_cmp};
+ghost use Rattle.folded_text.specs.OrderedRows.{AreNames, names_in};
 ghost use Rattle.profile_rows.specs.Layout.{column_at, last_name, rectangle_at, rectangles_of};
 ghost use Rattle.profile_rows.specs.Names.{name_cmp};
 ghost use Rattle.profile_rows.specs.Paths.{begins_with, path_weight, prefixes};
@@ -14,7 +15,8 @@ ghost use Rattle.flame_report.specs.Sharing.{AreHeld, AreKnownPaths, held_weight
 
 use crate::answer::{Label, Rect};
 use crate::query::Columns;
-use profile_rows::{Name, NoMemory, WeightedStack};
+use basics::NoMemory;
+use folded_text::{OrderedRows, RowNames};
 use std::alloc::{AllocError, Global};
 
 /// Weights in columns: the total of all rows fills them.
@@ -44,21 +46,8 @@ impl Scale {
     }
 }
 
-/// How many names two stacks have in common at their roots.
-fn shared_names(left: &[Name], right: &[Name]) -> usize
-    ensures shared { result ≡ common_prefix_len (eq_by_cmp name_cmp) left.now right.now }
-    ensures short { result ≤ length left.now }
-{
-    for (at, name) in left.iter().enumerate() {
-        if at >= right.len() || *name != right[at] {
-            return at;
-        }
-    }
-    left.len()
-}
-
 /// Of each row, how many of its paths the row before has too.
-fn known_paths(alloc: Global, rows: &[WeightedStack]) -> Result<Vec<usize>, AllocError>
+fn known_paths(alloc: Global, rows: &OrderedRows) -> Result<Vec<usize>, AllocError>
     ensures { IfOk result (λ known. AreKnownPaths known.items rows.now) }
 {
     let mut known = Vec::with_capacity(alloc, rows.len())?;
@@ -66,7 +55,7 @@ fn known_paths(alloc: Global, rows: &[WeightedStack]) -> Result<Vec<usize>, Allo
         let shared = if at == 0 {
             0
         } else {
-            shared_names(rows[at - 1].stack.names(), rows[at].stack.names()) + 1
+            rows.shared_names(at) + 1
         };
         known.push(shared)?;
     }
@@ -74,7 +63,7 @@ fn known_paths(alloc: Global, rows: &[WeightedStack]) -> Result<Vec<usize>, Allo
 }
 
 /// The weight of the rows that begin with the first names of a row that is the first of them.
-fn group_weight(rows: &[WeightedStack], known: &[usize], at: usize, depth: usize) -> u64
+fn group_weight(rows: &OrderedRows, known: &[usize], at: usize, depth: usize) -> u64
     requires ascending { IsAscending rows.now }
     requires known { AreKnownPaths known.now rows.now }
     requires at { at < length rows.now }
@@ -84,19 +73,19 @@ fn group_weight(rows: &[WeightedStack], known: &[usize], at: usize, depth: usize
     requires fits { total_of rows.now < 2 ^ 63 }
     ensures { result ≡ path_weight rows.now (take depth (stack_at rows.now at)) }
 {
-    let mut weight = rows[at].weight;
+    let mut weight = rows.weight(at);
     for next in at + 1..rows.len() {
         if known[next] <= depth {
             return weight;
         }
-        weight += rows[next].weight;
+        weight += rows.weight(next);
     }
     weight
 }
 
 /// Where the path of a row's first names stands, which the row before doesn't have.
 fn span_at(
-    rows: &[WeightedStack],
+    rows: &OrderedRows,
     known: &[usize],
     at: usize,
     depth: usize,
@@ -124,17 +113,19 @@ fn span_at(
 }
 
 /// The rectangle of a path, which is the first names of a stack.
-fn rect_at(names: &[Name], depth: usize, span: Span) -> Result<Rect, NoMemory>
-    requires within { depth ≤ length names.now }
+fn rect_at(alloc: Global, names: &RowNames, depth: usize, span: Span) -> Result<Rect, NoMemory>
+    requires names { AreNames names.now }
+    requires within { depth ≤ length (names_in names.now) }
     requires deep { depth ≤ 65535 }
     ensures { IfOk result
-        (λ rect. (rect.depth ≡ depth) × (rect.name ≡ last_name (take depth names.now)) × (rect.x ≡ span.start)
-        × (rect.weight ≡ span.weight) × (rect.left ≡ span.left) × (rect.right ≡ span.right)) }
+        (λ rect. (rect.depth ≡ depth) × (rect.name ≡ last_name (take depth (names_in names.now)))
+        × (rect.x ≡ span.start) × (rect.weight ≡ span.weight) × (rect.left ≡ span.left)
+        × (rect.right ≡ span.right)) }
 {
     let name = if depth == 0 {
         Label::empty()
     } else {
-        Label::of(&names[depth - 1])?
+        Label::of(names.name(alloc, depth - 1)?)
     };
     Ok(Rect {
         depth: depth as u32,
@@ -146,10 +137,12 @@ fn rect_at(names: &[Name], depth: usize, span: Span) -> Result<Rect, NoMemory>
     })
 }
 
-/// Adds the rectangles of the paths that come first with a row. Below one that takes no column there is none.
-fn layout_row(
+/// Adds the rectangles of the paths that come first with a row, of which the shortest takes a column. Below one that
+/// takes none there is none.
+fn draw_row(
+    alloc: Global,
     rects: &mut Vec<Rect>,
-    rows: &[WeightedStack],
+    rows: &OrderedRows,
     known: &[usize],
     at: usize,
     start: u64,
@@ -166,19 +159,48 @@ fn layout_row(
         ++ map rect_of
         (shown_of scale.now.columns rows.now (drop (known_at rows.now at) (prefixes (stack_at rows.now at))))) }
 {
-    let names = rows[at].stack.names();
+    let names = &rows.names(alloc, at)?;
     for depth in known[at]..names.len() + 1 {
         let span = span_at(rows, known, at, depth, start, scale);
         if span.left >= span.right {
             return Ok(());
         }
-        rects.push(rect_at(names, depth, span)?)?;
+        rects.push(rect_at(alloc, names, depth, span)?)?;
     }
     Ok(())
 }
 
+/// Adds the rectangles of the paths that come first with a row. The names of a row of which nothing is seen aren't
+/// looked at.
+fn layout_row(
+    alloc: Global,
+    rects: &mut Vec<Rect>,
+    rows: &OrderedRows,
+    known: &[usize],
+    at: usize,
+    start: u64,
+    scale: &Scale,
+) -> Result<(), NoMemory>
+    requires ascending { IsAscending rows.now }
+    requires known { AreKnownPaths known.now rows.now }
+    requires at { at < length rows.now }
+    requires start { start + held_weight rows.now at (stack_at rows.now at) ≡ total_of (take at rows.now) }
+    requires total { scale.now.total ≡ total_of rows.now }
+    requires some { 0 < scale.now.total }
+    requires fits { scale.now.total < 2 ^ 63 }
+    ensures { OnOk result (rects.new.items ≡ rects.old.items
+        ++ map rect_of
+        (shown_of scale.now.columns rows.now (drop (known_at rows.now at) (prefixes (stack_at rows.now at))))) }
+{
+    let span = span_at(rows, known, at, known[at], start, scale);
+    if span.left >= span.right {
+        return Ok(());
+    }
+    draw_row(alloc, rects, rows, known, at, start, scale)
+}
+
 /// The weight of the rows so far that are beginnings of a row.
-fn held_above(held: &[u64], rows: &[WeightedStack], at: usize, known: usize) -> u64
+fn held_above(held: &[u64], rows: &OrderedRows, at: usize, known: usize) -> u64
     requires ascending { IsAscending rows.now }
     requires at { at < length rows.now }
     requires held { AreHeld held.now rows.now at }
@@ -191,7 +213,7 @@ fn held_above(held: &[u64], rows: &[WeightedStack], at: usize, known: usize) -> 
 /// Keeps, for each path of a row, the weight of the rows so far that are beginnings of it.
 fn hold(
     held: &mut Vec<u64>,
-    rows: &[WeightedStack],
+    rows: &OrderedRows,
     at: usize,
     known: usize,
     above: u64,
@@ -205,13 +227,13 @@ fn hold(
     ensures { OnOk result (AreHeld held.new.items rows.now (at + 1)) }
 {
     held.truncate(known);
-    held.resize(rows[at].stack.names().len(), above)?;
-    held.push(above + rows[at].weight)?;
+    held.resize(rows.depth(at), above)?;
+    held.push(above + rows.weight(at))?;
     Ok(())
 }
 
 /// The layout of rows in order, whose total is above 0.
-fn layout(alloc: Global, rows: &[WeightedStack], scale: &Scale) -> Result<Vec<Rect>, NoMemory>
+fn layout(alloc: Global, rows: &OrderedRows, scale: &Scale) -> Result<Vec<Rect>, NoMemory>
     requires ascending { IsAscending rows.now }
     requires weighty { AreWeighty rows.now }
     requires total { scale.now.total ≡ total_of rows.now }
@@ -226,6 +248,7 @@ fn layout(alloc: Global, rows: &[WeightedStack], scale: &Scale) -> Result<Vec<Re
     for at in 0..rows.len() {
         let above = held_above(held.as_slice(), rows, at, known[at]);
         layout_row(
+            alloc,
             &mut rects,
             rows,
             known.as_slice(),
@@ -234,7 +257,7 @@ fn layout(alloc: Global, rows: &[WeightedStack], scale: &Scale) -> Result<Vec<Re
             scale,
         )?;
         hold(&mut held, rows, at, known[at], above)?;
-        before += rows[at].weight;
+        before += rows.weight(at);
     }
     Ok(rects)
 }
@@ -242,7 +265,7 @@ fn layout(alloc: Global, rows: &[WeightedStack], scale: &Scale) -> Result<Vec<Re
 /// The layout of rows in order; without rows there are no rectangles.
 pub(crate) fn rects_of(
     alloc: Global,
-    rows: &[WeightedStack],
+    rows: &OrderedRows,
     scale: &Scale,
 ) -> Result<Vec<Rect>, NoMemory>
     requires ascending { IsAscending rows.now }

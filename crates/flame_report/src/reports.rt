@@ -2,7 +2,6 @@
 
 ghost use Rattle.std.specs.Prelude.{◌≡◌, ◌+◌, ◌^◌, ◌<◌, IfOk, IsTrue, List};
 ghost use Rattle.profile_rows.specs.Aggregate.{AreWeighty, IsAscending, aggregate_of, rows_of};
-ghost use Rattle.folded_text.specs.FoldedText.{folded_text_of};
 ghost use Rattle.profile_rows.specs.Rows.{total_of};
 ghost use Rattle.profile_rows.specs.declared.weighted_stacks.WeightedStack.{WeightedStack};
 ghost use Rattle.call_tree.specs.State.{weights_of};
@@ -15,46 +14,34 @@ use crate::query::{Columns, Kind, Query, Rank};
 use crate::top::{kept_total, top_list, top_of_rows};
 use basics::Items;
 use call_tree::CallTree;
-use folded_text::write_stacks;
-use profile_rows::{
-    Batch, FrameTotals, Hashing, NoMemory, WeightedStack, WeightedStacks, aggregate_stacks,
-};
+use folded_text::OrderedRows;
+use profile_rows::{Batch, FrameTotals, Hashing, NoMemory, WeightedStacks};
 use std::alloc::Global;
 
-/// The rows of a batch that a query keeps.
-fn kept_batch(
+/// The rows that a query keeps.
+fn kept_rows<'a>(
     alloc: Global,
-    batch: WeightedStacks,
+    rows: OrderedRows<'a>,
     query: &Query,
-) -> Result<WeightedStacks, NoMemory>
-    ensures { IfOk result (λ kept. kept ≡ kept_by query.now batch) }
+) -> Result<OrderedRows<'a>, NoMemory>
+    ensures { IfOk result (λ kept. kept ≡ kept_by query.now rows.entry) }
 {
     if query.keeps_all() {
-        return Ok(batch);
+        return Ok(rows);
     }
-    let mut kept = WeightedStacks::new(alloc);
-    for row in batch.into_rows() {
-        if query.keeps(&row) {
-            let WeightedStack { stack, weight } = row;
-            if kept.push(stack, weight).is_err() {
-                return Err(NoMemory);
-            }
-        }
-    }
-    Ok(kept)
+    rows.keep(alloc, query.focus.as_ref(), query.ignore.as_ref())
 }
 
 /// The flame graph of rows in order.
-fn flame(alloc: Global, rows: &WeightedStacks, columns: Columns) -> Result<Flame, NoMemory>
-    requires ascending { IsAscending rows.now }
-    requires weighty { AreWeighty rows.now }
+fn flame(alloc: Global, rows: &OrderedRows, columns: Columns) -> Result<Flame, NoMemory>
     ensures { IfOk result (λ flame. flame ≡ flame_of columns rows.now) }
 {
+    rows.facts();
     let scale = Scale {
         total: rows.total(),
         columns,
     };
-    let rects = rects_of(alloc, rows.rows(), &scale)?;
+    let rects = rects_of(alloc, rows, &scale)?;
     Ok(Flame {
         total: scale.total,
         columns,
@@ -62,41 +49,28 @@ fn flame(alloc: Global, rows: &WeightedStacks, columns: Columns) -> Result<Flame
     })
 }
 
-/// Rows in order as folded text.
-fn folded(alloc: Global, rows: &WeightedStacks) -> Result<Items<u8>, NoMemory>
-    requires ascending { IsAscending rows.now }
-    requires weighty { AreWeighty rows.now }
-    ensures { IfOk result (λ text. text ≡ folded_text_of rows.now) }
-{
-    let text = write_stacks(alloc, rows)?;
-    Ok(Items::new(text))
-}
-
-/// The answer over the rows of an aggregate.
-fn answer(
+/// The plain answer to a query over rows in order. `hashing` says how names are hashed.
+///
+/// # Errors
+///
+/// `NoMemory`.
+pub fn report_in_order(
     alloc: Global,
     hashing: Hashing,
-    rows: WeightedStacks,
+    rows: OrderedRows<'_>,
     query: &Query,
 ) -> Result<Answer, NoMemory>
-    requires ascending { IsAscending rows }
-    requires weighty { AreWeighty rows }
-    ensures { IfOk result (λ answer. answer ≡ answer_of rows query.now) }
+    ensures { IfOk result (λ answer. answer ≡ answer_of rows.entry query.now) }
 {
+    let kept = kept_rows(alloc, rows, query)?;
     match query.kind {
-        Kind::Total => Ok(Answer::Total(kept_total(rows.rows(), query))),
+        Kind::Total => Ok(Answer::Total(kept.total())),
         Kind::Top { rank, count } => {
-            let top = top_of_rows(alloc, hashing, &rows, query, rank, count)?;
-            Ok(Answer::Top(top))
+            let totals = kept.frame_totals(alloc, hashing)?;
+            Ok(Answer::Top(top_list(totals, rank, count)?))
         }
-        Kind::Flame { columns } => {
-            let kept = kept_batch(alloc, rows, query)?;
-            Ok(Answer::Flame(flame(alloc, &kept, columns)?))
-        }
-        Kind::Folded => {
-            let kept = kept_batch(alloc, rows, query)?;
-            Ok(Answer::Folded(folded(alloc, &kept)?))
-        }
+        Kind::Flame { columns } => Ok(Answer::Flame(flame(alloc, &kept, columns)?)),
+        Kind::Folded => Ok(Answer::Folded(Items::new(kept.write(alloc)?))),
     }
 }
 
@@ -129,8 +103,8 @@ fn held_answer(alloc: Global, tree: &CallTree, query: &Query) -> Result<Answer, 
             Ok(Answer::Top(top))
         }
         _ => {
-            let rows = tree.weighted_stacks(alloc, query.value)?;
-            answer(alloc, Hashing::fixed(), rows, query)
+            let rows = OrderedRows::named(tree.weighted_stacks(alloc, query.value)?);
+            report_in_order(alloc, Hashing::fixed(), rows, query)
         }
     }
 }
@@ -201,8 +175,8 @@ pub fn report_of_stacks(
             Ok(Answer::Top(top))
         }
         _ => {
-            let rows = aggregate_stacks(alloc, rows)?;
-            answer(alloc, hashing, rows, query)
+            let rows = OrderedRows::of(alloc, rows)?;
+            report_in_order(alloc, hashing, rows, query)
         }
     }
 }

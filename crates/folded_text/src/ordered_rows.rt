@@ -107,7 +107,8 @@ impl<'a> RowNames<'a> {
 
 /// How many names two stacks have in common at their roots.
 fn shared_by_names(left: &[Name], right: &[Name]) -> usize
-    ensures { result ≡ common_prefix_len (eq_by_cmp name_cmp) left.now right.now }
+    ensures shared { result ≡ common_prefix_len (eq_by_cmp name_cmp) left.now right.now }
+    ensures short { result ≤ length left.now }
 {
     for (at, name) in left.iter().enumerate() {
         if at >= right.len() || *name != right[at] {
@@ -119,7 +120,8 @@ fn shared_by_names(left: &[Name], right: &[Name]) -> usize
 
 /// How many frames two stack texts have in common at their roots.
 fn shared_by_texts(left: &str, right: &str) -> usize
-    ensures { result ≡ common_prefix_len (eq_by_cmp name_cmp) (frames_of left.now) (frames_of right.now) }
+    ensures shared { result ≡ common_prefix_len (eq_by_cmp name_cmp) (frames_of left.now) (frames_of right.now) }
+    ensures short { result ≤ length (frames_of left.now) }
 {
     let mut shared = 0;
     let mut frames = Frames::of(left);
@@ -300,8 +302,9 @@ impl<'a> OrderedRows<'a> {
     pub fn shared_names(&self, at: usize) -> usize
         requires follows { 0 < at }
         requires index { at < length self.now }
-        ensures { result
+        ensures shared { result
             ≡ common_prefix_len (eq_by_cmp name_cmp) (row_at self.now (at - 1)).stack (row_at self.now at).stack }
+        ensures short { result ≤ 65535 }
     {
         match &self.rows {
             InOrder::Named(rows) => {

@@ -1,5 +1,6 @@
-use Rattle.std.proofs.Common.{◌≡◌, ◌+◌, ◌-◌, ◌<◌, ◌≤◌, length, take, true, subst, sym, ap, arith, ◌∙◌, slice_index_or}
+use Rattle.std.proofs.Common.{◌≡◌, ◌+◌, ◌-◌, ◌<◌, ◌≤◌, [], length, take, true, subst, sym, ap, arith, ◌∙◌, slice_index_or}
 use Rattle.std.proofs.lemmas.List.{take_all, length-take-le}
+use Rattle.profile_rows.specs.declared.weighted_stacks.WeightedStack.{WeightedStack}
 use Rattle.profile_rows.specs.Paths.{begins_with}
 use Rattle.profile_rows.specs.Names.{name_cmp}
 use Rattle.profile_rows.specs.Rows.{weight_where}
@@ -9,11 +10,14 @@ use Rattle.flame_report.proofs.RowSums.{names_total, names_same, group_first, gr
 use Rattle.flame_report.proofs.RowSums.{weight_where-more, weight_where-take-le, known_next}
 use Rattle.flame_report.proofs.layout.group_weight.Goals as goal
 
+abbrev no_row : WeightedStack
+no_row = record { stack = []; weight = 0 }
+
 pub loop-next-init : goal.loop-next-init
 loop-next-init c =
     let own = order.take_begins_with names_total names_same c.args.depth (stack_at c.args.rows.now c.args.at) in
     record {
-      so_far = sym (group_first _ _ c.args.at c.index-rows-at.result c.requires.at own c.requires.first);
+      so_far = c.weight-weight.ensures ∙ sym (group_first _ _ c.args.at no_row c.requires.at own c.requires.first);
       last = subst (λ n. begins_with name_cmp (take c.args.depth (stack_at c.args.rows.now c.args.at))
           (stack_at c.args.rows.now n) ≡ true) (let e : c.args.at ≡ c.args.at + 1 - 1 = omega arith in e) own;
     }
@@ -25,19 +29,19 @@ returns-then-known-next c =
     (stack_at c.args.rows.now (c.loop-next.next - 1 + 1)) ≤ c.args.depth =
     omega (
       arith,
-      known_next c.args.rows.now c.args.known.now (c.loop-next.next - 1) c.requires.known.at (omega arith),
+      known_next c.args.rows.now c.args.known.now (c.loop-next.next - 1) c.requires.known.at (omega (arith, c.len-next-end.ensures)),
       ap (λ n. slice_index_or c.args.known.now n 0) before,
     ) in
     let size = length-take-le c.args.depth (stack_at c.args.rows.now c.args.at) c.requires.depth in
     let ends =
     group_ends c.args.rows.now _ (c.loop-next.next - 1) c.loop-next.invariant.last (omega (arith, small, size)) in
     let whole = group_whole c.args.rows.now _ (c.loop-next.next - 1) c.requires.ascending
-    (omega arith) c.loop-next.invariant.last ends in
+    (omega (arith, c.len-next-end.ensures)) c.loop-next.invariant.last ends in
     c.loop-next.invariant.so_far ∙ ap (λ n. weight_where (begins_with name_cmp
     (take c.args.depth (stack_at c.args.rows.now c.args.at))) (take n c.args.rows.now)) (sym before) ∙ whole
 
 -- the next row is of the group too
-under : (c : goal.After-index-rows-next) → begins_with name_cmp
+under : (c : goal.After-weight-weight-in-loop-next) → begins_with name_cmp
     (take c.args.depth (stack_at c.args.rows.now c.args.at)) (stack_at c.args.rows.now c.loop-next.next) ≡ true
 under c =
     let before : c.loop-next.next - 1 + 1 ≡ c.loop-next.next = omega arith in
@@ -48,7 +52,7 @@ under c =
       arith,
       size,
       known_next c.args.rows.now c.args.known.now (c.loop-next.next - 1) c.requires.known.at
-          (omega arith),
+          (omega (arith, c.len-next-end.ensures)),
       ap (λ n. slice_index_or c.args.known.now n 0) before,
     ) in
     subst (λ n. begins_with name_cmp (take c.args.depth (stack_at c.args.rows.now c.args.at))
@@ -59,18 +63,18 @@ pub overflow_add-weight : goal.overflow_add-weight
 overflow_add-weight c =
     let path = take c.args.depth (stack_at c.args.rows.now c.args.at) in
     let more = weight_where-more (begins_with name_cmp path)
-    c.args.rows.now c.loop-next.next c.index-rows-next.result c.loop-next-test.true (under c) in
+    c.args.rows.now c.loop-next.next no_row (omega (arith, c.len-next-end.ensures)) (under c) in
     let most = weight_where-take-le (begins_with name_cmp path) c.args.rows.now (c.loop-next.next + 1) in
-    omega (arith, more, most, c.requires.fits)
+    omega (arith, more, most, c.weight-weight-in-loop-next.ensures, c.requires.fits)
 
 pub loop-next-preserved : goal.loop-next-preserved
 loop-next-preserved c =
     let path = take c.args.depth (stack_at c.args.rows.now c.args.at) in
     let more = weight_where-more (begins_with name_cmp path)
-    c.args.rows.now c.loop-next.next c.index-rows-next.result c.loop-next-test.true (under c) in
+    c.args.rows.now c.loop-next.next no_row (omega (arith, c.len-next-end.ensures)) (under c) in
     let back : c.loop-next.next ≡ c.loop-next.next + 1 - 1 = omega arith in
     record {
-      so_far = omega (arith, more);
+      so_far = omega (arith, more, c.weight-weight-in-loop-next.ensures);
       last = subst (λ n. begins_with name_cmp
           (take c.args.depth (stack_at c.args.rows.now c.args.at)) (stack_at c.args.rows.now n) ≡ true) back (under c);
     }
@@ -78,4 +82,4 @@ loop-next-preserved c =
 pub returns : goal.returns
 returns c = c.loop-next.invariant.so_far
     ∙ ap (weight_where (begins_with name_cmp (take c.args.depth (stack_at c.args.rows.now c.args.at))))
-    (take_all c.loop-next.next c.args.rows.now (omega arith))
+    (take_all c.loop-next.next c.args.rows.now (omega (arith, c.len-next-end.ensures)))

@@ -1,4 +1,4 @@
-use Rattle.std.proofs.Common.{◌≡◌, ◌+◌, ◌-◌, ◌++◌, ◌∷◌, [], length, take, vec_len, replicate, slice_index_or, sym, ap}
+use Rattle.std.proofs.Common.{◌≡◌, ◌+◌, ◌-◌, ◌++◌, ◌∷◌, [], length, take, vec_len, replicate, sym, ap}
 use Rattle.std.proofs.Common.{subst, arith, ◌∙◌, suc}
 use Rattle.std.proofs.lemmas.List.{take_all, length-take-le, append_assoc}
 use Rattle.std.proofs.lemmas.List.Sums.{sum_by_more_le}
@@ -8,31 +8,33 @@ use Rattle.flame_report.proofs.RowSums.{stack_at-get}
 use Rattle.flame_report.proofs.Held.{known-le, known-le-held, held_more, held_weight-le}
 use Rattle.flame_report.proofs.layout.hold.Goals as goal
 
+abbrev no_row : WeightedStack
+no_row = record { stack = []; weight = 0 }
+
 pub overflow_add-above : goal.overflow_add-above
 overflow_add-above c =
     omega (
       arith,
       held_weight-le c.args.rows.now c.args.at c.requires.at,
-      sum_by_more_le (λ (row : WeightedStack).
-          row.weight) c.args.rows.now c.args.at c.index-rows-at-2.result c.requires.at,
+      sum_by_more_le (λ (row : WeightedStack). row.weight) c.args.rows.now c.args.at no_row c.requires.at,
+      c.weight.ensures,
       c.requires.above,
       c.requires.fits,
     )
 
 pub returns : goal.returns
 returns c =
-    let same = c.names.ensures.names
-    ∙ sym (stack_at-get c.args.rows.now c.args.at c.index-rows-at.result c.requires.at) in
-    let size = ap length same in
+    let size : c.depth.result ≡ length (stack_at c.args.rows.now c.args.at) =
+    c.depth.ensures ∙ ap length (sym (stack_at-get c.args.rows.now c.args.at no_row c.requires.at)) in
     let front = length-take-le (known_at c.args.rows.now c.args.at) c.args.held.now.items
     (known-le-held c.args.held.now.items c.args.rows.now c.args.at c.requires.held) in
     let less = known-le c.args.rows.now c.args.at c.requires.ascending c.requires.at in
     let cut : c.truncate.new.self.items ≡ take (known_at c.args.rows.now c.args.at) c.args.held.now.items =
     c.truncate.ensures.items ∙ ap (λ n. take n c.args.held.now.items) c.requires.known in
     let long = ap length cut in
-    let all : take (length c.names.result.now) c.truncate.new.self.items ≡ take (known_at c.args.rows.now c.args.at)
+    let all : take (c.depth.result) c.truncate.new.self.items ≡ take (known_at c.args.rows.now c.args.at)
     c.args.held.now.items = take_all _ _ (omega (arith, long, front, less, size)) ∙ cut in
-    let count : length c.names.result.now - vec_len c.truncate.new.self
+    let count : c.depth.result - vec_len c.truncate.new.self
     ≡ length (stack_at c.args.rows.now c.args.at) - known_at c.args.rows.now c.args.at =
     omega (arith, long, front, less, size, c.truncate.new.self.ok) in
     let grown : c.resize.new.self.items ≡ take (known_at c.args.rows.now c.args.at) c.args.held.now.items ++ replicate
@@ -40,8 +42,8 @@ returns c =
     = c.in_ok-resize.ensures.items ∙ (λ i. all i ++ replicate (count i) c.args.above) in
     let next : suc c.args.at ≡ c.args.at + 1 = omega arith in
     subst (AreHeld c.push.new.self.items c.args.rows.now) next
-    (subst (λ items. AreHeld items c.args.rows.now (suc c.args.at)) (sym (c.in_ok-push.ensures.items ∙ ap (λ items.
-    items ++ (c.args.above + (slice_index_or c.args.rows.now c.args.at c.index-rows-at-2.result).weight) ∷ []) grown
+    (subst (λ items. AreHeld items c.args.rows.now (suc c.args.at)) (sym (c.in_ok-push.ensures.items
+    ∙ (λ i. grown i ++ (c.args.above + c.weight.ensures i) ∷ [])
     ∙ append_assoc (take (known_at c.args.rows.now c.args.at) c.args.held.now.items) _ _))
     (held_more c.args.held.now.items c.args.rows.now c.args.at
-    c.args.above c.index-rows-at-2.result c.requires.ascending c.requires.at c.requires.held c.requires.above))
+    c.args.above no_row c.requires.ascending c.requires.at c.requires.held c.requires.above))

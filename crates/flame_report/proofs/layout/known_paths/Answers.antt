@@ -1,6 +1,7 @@
-use Rattle.std.proofs.Common.{◌≡◌, ◌+◌, ◌-◌, ◌<◌, length, sym, ap, arith, ◌∙◌, inl, inr, slice_index_or}
+use Rattle.std.proofs.Common.{◌≡◌, ◌+◌, ◌-◌, ◌<◌, [], get_or, length, sym, ap, arith, ◌∙◌, inl, inr, slice_index_or}
 use Rattle.std.proofs.lemmas.Bool.{cases_eq}
 use Rattle.std.proofs.lemmas.List.{get_or_push, get_or_append_left, length_push}
+use Rattle.profile_rows.specs.declared.weighted_stacks.WeightedStack.{WeightedStack}
 use Rattle.profile_rows.specs.Names.{name_cmp}
 use Rattle.flame_report.specs.Sharing.{shared_paths, stack_at, known_at}
 use Rattle.std.specs.List.{common_prefix_len}
@@ -8,6 +9,9 @@ use Rattle.std.specs.Ordering.{eq_by_cmp}
 use Rattle.flame_report.proofs.RowSums.{stack_at-get, known_at-back}
 use Rattle.flame_report.proofs.layout.known_paths.Goals as goal
 use Rattle.flame_report.proofs.layout.known_paths.Goals.{then-at-eq0, else-at-eq0}
+
+abbrev no_row : WeightedStack
+no_row = record { stack = []; weight = 0 }
 
 at_first : (c : goal.In_ok-push) → c.loop-at.at ≡ 0 → c.if-at-eq0.shared ≡ 0
 at_first c e = elim c.if-at-eq0.branch [ then-at-eq0 w ↦ omega arith | else-at-eq0 w ↦ absurd (omega arith) ]
@@ -17,16 +21,14 @@ at_later : (c : goal.In_ok-push) → 0 < c.loop-at.at → c.if-at-eq0.shared
 at_later c h = elim c.if-at-eq0.branch [
   | then-at-eq0 w ↦ absurd (omega arith)
   | else-at-eq0 w ↦
-      let a = stack_at-get c.args.rows.now (c.loop-at.at - 1) w.index-rows-at.result (omega arith) in
-      let b = stack_at-get c.args.rows.now c.loop-at.at w.index-rows-at-else-at-eq0.result c.loop-at-test.true in
-      let f = w.names.ensures.names ∙ sym a in
-      let g = w.names-else-at-eq0.ensures.names ∙ sym b in
+      let a = stack_at-get c.args.rows.now (c.loop-at.at - 1) no_row (omega (arith, c.len-at-end.ensures)) in
+      let b = stack_at-get c.args.rows.now c.loop-at.at no_row (omega (arith, c.len-at-end.ensures)) in
       omega (
         arith,
         w.shared-is,
         w.shared_names.ensures.shared,
-        ap (λ s. common_prefix_len (eq_by_cmp name_cmp) s w.names-else-at-eq0.result.now) f,
-        ap (λ s. common_prefix_len (eq_by_cmp name_cmp) (stack_at c.args.rows.now (c.loop-at.at - 1)) s) g,
+        ap (λ s. common_prefix_len (eq_by_cmp name_cmp) s (stack_at c.args.rows.now c.loop-at.at)) a,
+        ap (λ s. common_prefix_len (eq_by_cmp name_cmp) (get_or c.args.rows.now (c.loop-at.at - 1) no_row).stack s) b,
       )
 ]
 

@@ -1,5 +1,5 @@
--- WeightedStack by row, each path is drawn where it first comes.
-use Rattle.std.proofs.Common.{◌≡◌, ◌+◌, ◌++◌, length, drop, sym, ap, arith, ◌∙◌, suc, map}
+-- Row by row, each path is drawn where it first comes.
+use Rattle.std.proofs.Common.{◌≡◌, ◌+◌, ◌++◌, [], length, drop, sym, ap, arith, ◌∙◌, suc, map}
 use Rattle.profile_rows.specs.Paths.{prefixes}
 use Rattle.flame_report.specs.Answers.{rect_of}
 use Rattle.flame_report.specs.Sharing.{known_at, paths_until, shown_of, stack_at}
@@ -12,7 +12,7 @@ use Rattle.flame_report.proofs.layout.layout.Goals as goal
 pub overflow_sub-before : goal.overflow_sub-before
 overflow_sub-before c = omega (
   arith,
-  held_weight-le c.args.rows.now c.loop-at.at c.loop-at-test.true,
+  held_weight-le c.args.rows.now c.loop-at.at (omega (arith, c.len-at-end.ensures)),
   c.held_above-above.ensures,
   c.loop-at.invariant.before,
 )
@@ -20,7 +20,7 @@ overflow_sub-before c = omega (
 pub layout_row-requires-clause-start : goal.layout_row-requires-clause-start
 layout_row-requires-clause-start c = omega (
   arith,
-  held_weight-le c.args.rows.now c.loop-at.at c.loop-at-test.true,
+  held_weight-le c.args.rows.now c.loop-at.at (omega (arith, c.len-at-end.ensures)),
   c.held_above-above.ensures,
   c.loop-at.invariant.before,
 )
@@ -31,7 +31,9 @@ loop-at-preserved c =
     record {
       before = omega (
         arith,
-        total-next c.args.rows.now c.loop-at.at c.index-rows-at.result c.loop-at-test.true,
+        total-next c.args.rows.now c.loop-at.at (record { stack = []; weight = 0 })
+            (omega (arith, c.len-at-end.ensures)),
+        c.weight-before.ensures,
         c.loop-at.invariant.before,
       );
       done =
@@ -47,7 +49,7 @@ loop-at-preserved c =
 
 pub returns : goal.returns
 returns c =
-    let end : c.loop-at.at ≡ length c.args.rows.now = omega arith in
+    let end : c.loop-at.at ≡ length c.args.rows.now = omega (arith, c.len-at-end.ensures) in
     c.loop-at.invariant.done
     ∙ ap (λ n. map rect_of (shown_of c.args.scale.now.columns c.args.rows.now (paths_until c.args.rows.now n))) end
     ∙ ap (λ paths. map rect_of (shown_of c.args.scale.now.columns c.args.rows.now paths))

@@ -1,87 +1,37 @@
--- A path more of the row: its rectangle is drawn, or none that is left is.
-use Rattle.std.proofs.Common.{◌≡◌, ◌+◌, ◌≤◌, ◌++◌, ◌∷◌, length, take, drop, map, sym, ap, arith, ◌∙◌, true, false, ◌-◌}
-use Rattle.std.proofs.lemmas.List.{append-nil, length-take-le}
-use Rattle.std.proofs.lemmas.Bool.{lt-ltb, le-ltb}
-use Rattle.profile_rows.specs.Layout.{is_shown, last_name, rectangle_at}
-use Rattle.profile_rows.specs.Paths.{prefixes}
+-- Where the shortest path takes no column, none does.
+use Rattle.std.proofs.Common.{◌≡◌, ◌+◌, ◌-◌, ◌++◌, false, take, length, map, sym, ap, arith, ◌∙◌}
+use Rattle.std.proofs.lemmas.Bool.{le-ltb}
+use Rattle.std.proofs.lemmas.List.{append-nil}
+use Rattle.profile_rows.specs.Layout.{is_shown, rectangle_at}
 use Rattle.flame_report.specs.Answers.{rect_of}
-use Rattle.flame_report.specs.Sharing.{shown_of, stack_at}
-use Rattle.flame_report.specs.declared.answer.Rect.{Rect}
+use Rattle.flame_report.specs.Sharing.{known_at, stack_at}
 use Rattle.flame_report.specs.declared.layout.Span.{Span}
+use Rattle.flame_report.proofs.Held.{known-le}
 use Rattle.flame_report.proofs.Narrow.{none_below}
-use Rattle.flame_report.proofs.Prefixes.{known_at-le, drop-prefixes_all, one_put}
-use Rattle.flame_report.proofs.RowSums.{stack_at-get}
-use Rattle.flame_report.proofs.Drawn.{drawn-yes, same_rect}
 use Rattle.flame_report.proofs.layout.layout_row.Goals as goal
 
-pub loop-depth-init : goal.loop-depth-init
-loop-depth-init c =
+pub span_at-span-requires-clause-depth : goal.span_at-span-requires-clause-depth
+span_at-span-requires-clause-depth c =
     let known = c.requires.known.at c.args.at c.requires.at in
-    record {
-      inside = omega (arith, known, known_at-le c.args.rows.now c.args.at);
-      rest = ap (λ n. c.args.rects.now.items ++ map rect_of (shown_of c.args.scale.now.columns c.args.rows.now
-          (drop n (prefixes (stack_at c.args.rows.now c.args.at))))) known;
-    }
+    let less = known-le c.args.rows.now c.args.at c.requires.ascending c.requires.at in
+    omega (arith, known, less)
 
 pub returns-then-span : goal.returns-then-span
 returns-then-span c =
-    let stack = stack_at c.args.rows.now c.args.at in
-    let same : c.names-names.result.now ≡ stack_at c.args.rows.now c.args.at = c.names-names.ensures.names
-    ∙ sym (stack_at-get c.args.rows.now c.args.at c.index-rows-at.result c.requires.at) in
-    let size = ap length same in
-    let narrow : is_shown (rectangle_at c.args.scale.now.columns c.args.rows.now
-    (take c.loop-depth.depth (stack_at c.args.rows.now c.args.at))) ≡ false =
-    le-ltb _ _ (omega (
+    let rows = c.args.rows.now in
+    let stack = stack_at rows c.args.at in
+    let known = c.requires.known.at c.args.at c.requires.at in
+    let less = known-le rows c.args.at c.requires.ascending c.requires.at in
+    let narrow : is_shown (rectangle_at c.args.scale.now.columns rows (take (known_at rows c.args.at) stack)) ≡ false =
+    ap (λ n. is_shown (rectangle_at c.args.scale.now.columns rows (take n stack))) (sym known)
+    ∙ le-ltb _ _ (omega (
       arith,
       c.if-span.true,
       ap (λ (span : Span). span.left) c.span_at-span.ensures,
       ap (λ (span : Span). span.right) c.span_at-span.ensures,
     )) in
     let none =
-    none_below c.args.scale.now.columns c.args.rows.now (stack_at c.args.rows.now c.args.at) c.loop-depth.depth
-    (length (stack_at c.args.rows.now c.args.at) + 1 - c.loop-depth.depth) (omega (arith, size)) narrow in
-    sym (append-nil c.loop-depth.rects.items)
-    ∙ ap (λ shown. c.loop-depth.rects.items ++ map rect_of shown) (sym none) ∙ c.loop-depth.invariant.rest
-
-pub loop-depth-preserved : goal.loop-depth-preserved
-loop-depth-preserved c =
-    let same : c.names-names.result.now ≡ stack_at c.args.rows.now c.args.at = c.names-names.ensures.names
-    ∙ sym (stack_at-get c.args.rows.now c.args.at c.index-rows-at.result c.requires.at) in
-    let size = ap length same in
-    let deep : c.loop-depth.depth ≤ length (stack_at c.args.rows.now c.args.at) = omega (arith, size) in
-    let is = c.span_at-span.ensures in
-    let wide : is_shown (rectangle_at c.args.scale.now.columns c.args.rows.now
-    (take c.loop-depth.depth (stack_at c.args.rows.now c.args.at))) ≡ true =
-    lt-ltb _ _ (omega (
-      arith,
-      c.if-span.false,
-      ap (λ (span : Span). span.left) c.span_at-span.ensures,
-      ap (λ (span : Span). span.right) c.span_at-span.ensures,
-    )) in
-    let drawn : rect_of (rectangle_at c.args.scale.now.columns c.args.rows.now
-    (take c.loop-depth.depth (stack_at c.args.rows.now c.args.at))) ≡ c.in_ok-rect_at.field-0 =
-    same_rect (rectangle_at c.args.scale.now.columns c.args.rows.now
-    (take c.loop-depth.depth (stack_at c.args.rows.now c.args.at))) c.span_at-span.result c.in_ok-rect_at.field-0 is
-    (c.in_ok-rect_at.ensures.0 ∙ sym (length-take-le c.loop-depth.depth (stack_at c.args.rows.now c.args.at) deep))
-    (c.in_ok-rect_at.ensures.1 ∙ ap (λ names. last_name (take c.loop-depth.depth names)) same)
-    c.in_ok-rect_at.ensures.2 c.in_ok-rect_at.ensures.3 c.in_ok-rect_at.ensures.4 c.in_ok-rect_at.ensures.5 in
-    let more = drawn-yes c.args.scale.now.columns c.args.rows.now
-    (stack_at c.args.rows.now c.args.at) c.loop-depth.depth deep wide
-    ∙ ap (λ (r : Rect). r ∷ map rect_of (shown_of c.args.scale.now.columns c.args.rows.now
-    (drop (c.loop-depth.depth + 1) (prefixes (stack_at c.args.rows.now c.args.at))))) drawn in
-    record {
-      inside = omega arith;
-      rest =
-          ap (λ items. items ++ map rect_of (shown_of c.args.scale.now.columns c.args.rows.now (drop
-          (c.loop-depth.depth + 1) (prefixes (stack_at c.args.rows.now c.args.at))))) c.in_ok-push.ensures.items
-          ∙ one_put c.loop-depth.rects.items _ _ _ c.in_ok-rect_at.field-0 more c.loop-depth.invariant.rest;
-    }
-
-pub returns : goal.returns
-returns c =
-    let same : c.names-names.result.now ≡ stack_at c.args.rows.now c.args.at = c.names-names.ensures.names
-    ∙ sym (stack_at-get c.args.rows.now c.args.at c.index-rows-at.result c.requires.at) in
-    let size = ap length same in
-    let past = drop-prefixes_all (stack_at c.args.rows.now c.args.at) c.loop-depth.depth (omega (arith, size)) in
-    sym (append-nil c.loop-depth.rects.items) ∙ ap (λ paths. c.loop-depth.rects.items ++ map rect_of
-    (shown_of c.args.scale.now.columns c.args.rows.now paths)) (sym past) ∙ c.loop-depth.invariant.rest
+    none_below c.args.scale.now.columns rows stack (known_at rows c.args.at)
+    (length stack + 1 - known_at rows c.args.at) (omega (arith, less)) narrow in
+    sym (append-nil c.args.rects.now.items)
+    ∙ ap (λ shown. c.args.rects.now.items ++ map rect_of shown) (sym none)

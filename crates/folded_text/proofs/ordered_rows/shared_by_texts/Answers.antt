@@ -35,4 +35,7 @@ returns-in_default-next_frame c =
     let step = (λ i. common_prefix_len (eq_by_cmp name_cmp) (c.in-Some.ensures i) (c.in-Some-next_frame.ensures i))
     ∙ ap (λ b. cond b (1 + common_prefix_len (eq_by_cmp name_cmp) c.next_frame.new.self c.next_frame-in-Some.new.self)
     0) apart in
-    omega (arith, step, c.loop-frame.invariant.so_far)
+    record {
+      shared = omega (arith, step, c.loop-frame.invariant.so_far);
+      short = omega (arith, c.loop-frame.invariant.inside);
+    }

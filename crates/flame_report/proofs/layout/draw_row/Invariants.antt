@@ -2,7 +2,7 @@ use Rattle.std.proofs.Common.{◌≡◌, ◌+◌, ◌≤◌, ◌++◌, drop, len
 use Rattle.profile_rows.specs.Paths.{prefixes}
 use Rattle.flame_report.specs.Answers.{rect_of}
 use Rattle.flame_report.specs.Sharing.{known_at, shown_of, stack_at}
-use Rattle.flame_report.proofs.layout.layout_row.Given as goal
+use Rattle.flame_report.proofs.layout.draw_row.Given as goal
 
 -- what is drawn and what is left are together what was drawn before and the row's new paths
 abbrev pub invariant-loop-depth : goal.invariant-loop-depth

@@ -4,7 +4,6 @@ use Rattle.pprof_profile.specs.declared.faults.ProfileFault.TheVariants as profi
 use Rattle.pprof_profile.specs.declared.messages.Draft.{Draft}
 use Rattle.pprof_profile.specs.Profiles.{IsProfile, IsProfileFault}
 use Rattle.profile_rows.specs.declared.weighted_stacks.WeightedStack.{WeightedStack}
-use Rattle.profile_rows.specs.Aggregate.{aggregate_of}
 use Rattle.profile_rows.specs.Values.{BatchState}
 use Rattle.folded_text.specs.declared.folded.FoldedFault.TheVariants as folded
 use Rattle.folded_text.specs.FoldedText.{IsFirstFault, IsFoldedBatch, IsFoldedText}
@@ -74,13 +73,6 @@ pub record IsOfProfile (wanted : Wanted) (input : List ℕ) (got : Got wanted) :
 abbrev pub IsIn : Format → (wanted : Wanted) → List ℕ → Got wanted → Type 0
 IsIn Folded wanted input got = IsSpelled wanted input got
 IsIn Pprof wanted input got = IsOfProfile wanted input got
-
--- rows that add up to those of an input
-pub record AreMergedIn (format : Format) (value : Option (List ℕ)) (input : List ℕ)
-    (merged : List WeightedStack) : Type 0 where
-  pub rows : List WeightedStack
-  pub spelled : IsIn format (for_report value) input rows
-  pub same : aggregate_of merged ≡ aggregate_of rows
 
 -- ---- what refuses it
 

@@ -3,23 +3,24 @@
 ghost use Rattle.std.specs.Prelude.{ℕ, ◌≡◌, ◌∷◌, ◌++◌, [], List, MatchResult, IfOk, None, Option};
 ghost use Rattle.profile_rows.specs.declared.weighted_stacks.WeightedStack.{WeightedStack};
 ghost use Rattle.profile_rows.specs.TopList.{AreTotalsOf};
-ghost use Rattle.flame_report.specs.Answers.{answer_by, answer_of};
+ghost use Rattle.flame_report.specs.Answers.{answer_by};
 ghost use Rattle.flame_report.specs.declared.query.Kind.TheVariants.{Top};
-ghost use Rattle.flame_report.specs.declared.query.Kind.TheVariants as kinds;
 ghost use Rattle.flame_answers.specs.Answers.{IsAnswer, IsAnswerOfAll, IsExport, IsInputFault, IsReport, answer_text};
-ghost use Rattle.flame_answers.specs.Inputs.{AreMergedIn, IsChoice, IsRefusedIn, IsToldAs};
+ghost use Rattle.flame_answers.specs.Inputs.{IsChoice, IsRefusedIn, IsToldAs};
 ghost use Rattle.flame_answers.specs.Inputs.Wanted.{for_report};
 ghost use Rattle.flame_words.specs.declared.request.Format.TheVariants.{Folded, Pprof};
 
 use crate::live::live_report;
 use crate::outcomes::{InputFault, ToolFault};
 use flame_report::laws::answers_are_by_the_aggregate;
-use flame_report::{Answer, Kind, Query, Rank, flame_json, report_of_stacks, top_list, top_text};
+use flame_report::{
+    Answer, Kind, Query, Rank, flame_json, report_in_order, report_of_stacks, top_list, top_text,
+};
 use flame_words::{Format, Request, Source};
-use folded_text::{FoldedFault, folded_report, folded_totals, merge_folded};
+use folded_text::{FoldedFault, folded_totals, read_ordered};
 use live_report::Progress;
 use pprof_profile::{ProfileFault, Text, decode};
-use profile_rows::{FrameTotals, Hashing, NoMemory, WeightedStacks};
+use profile_rows::{FrameTotals, Hashing, NoMemory};
 use profile_samples::{BatchFault, ValueChoice, export_folded, merge_samples, sample_totals};
 use std::alloc::Global;
 use std::sync::Wait;
@@ -77,12 +78,8 @@ pub fn report_on(
         (Format::Pprof, Kind::Top { rank, count }) if query.keeps_all() => {
             profile_top(alloc, hashing, &source.value, rank, count, input)
         }
-        (Format::Folded, Kind::Folded) if query.keeps_all() => folded_lines(alloc, hashing, input),
-        _ => {
-            let merged = merged_rows(alloc, hashing, source, input)?;
-            answers_are_by_the_aggregate();
-            Ok(report_text(alloc, hashing, merged, query)?)
-        }
+        (Format::Folded, _) => folded_answer(alloc, hashing, query, input),
+        (Format::Pprof, _) => profile_answer(alloc, hashing, &source.value, query, input),
     }
 }
 
@@ -100,18 +97,6 @@ fn folded_top(
 {
     match folded_totals(alloc, hashing, input) {
         Ok(totals) => Ok(totals_text(alloc, totals, rank, count)?),
-        Err(fault) => Err(folded_fault(fault)),
-    }
-}
-
-/// The folded report of folded text's rows, whose names aren't kept for it.
-fn folded_lines(alloc: Global, hashing: Hashing, input: &[u8]) -> Result<Vec<u8>, ToolFault>
-    ensures { (value : Option (List ℕ)) → MatchResult result
-        (λ text. IsAnswerOfAll Folded value input.now kinds.Folded text.items)
-        (λ fault. IsRefusedIn Folded (for_report value) input.now fault) }
-{
-    match folded_report(alloc, hashing, input) {
-        Ok(text) => Ok(text),
         Err(fault) => Err(folded_fault(fault)),
     }
 }
@@ -175,54 +160,49 @@ pub fn export(
     }
 }
 
-/// Rows that add up to those of the input.
-fn merged_rows(
+/// The text of the answer over the rows of folded text, which are read in order.
+fn folded_answer(
     alloc: Global,
     hashing: Hashing,
-    source: &Source,
+    query: &Query,
     input: &[u8],
-) -> Result<WeightedStacks, ToolFault>
-    ensures { MatchResult result
-        (λ merged. AreMergedIn source.now.format source.now.value input.now merged)
-        (λ fault. IsRefusedIn source.now.format (for_report source.now.value) input.now fault) }
-{
-    match source.format {
-        Format::Folded => merged_lines(alloc, hashing, input),
-        Format::Pprof => merged_samples(alloc, hashing, &source.value, input),
-    }
-}
-
-/// Rows that add up to those of folded text.
-fn merged_lines(alloc: Global, hashing: Hashing, input: &[u8]) -> Result<WeightedStacks, ToolFault>
+) -> Result<Vec<u8>, ToolFault>
     ensures { (value : Option (List ℕ)) → MatchResult result
-        (λ merged. AreMergedIn Folded value input.now merged)
+        (λ text. IsReport Folded value query.now input.now text.items)
         (λ fault. IsRefusedIn Folded (for_report value) input.now fault) }
 {
-    match merge_folded(alloc, hashing, input) {
-        Ok(merged) => Ok(merged),
-        Err(fault) => Err(folded_fault(fault)),
-    }
+    let rows = match read_ordered(alloc, hashing, input) {
+        Ok(rows) => rows,
+        Err(fault) => return Err(folded_fault(fault)),
+    };
+    let answer = report_in_order(alloc, hashing, rows, query)?;
+    answers_are_by_the_aggregate();
+    Ok(text_of(alloc, answer)?)
 }
 
-/// Rows that add up to those of a profile's samples.
-fn merged_samples(
+/// The text of the answer over rows that add up to those of a profile's samples.
+fn profile_answer(
     alloc: Global,
     hashing: Hashing,
     value: &Option<Text>,
+    query: &Query,
     input: &[u8],
-) -> Result<WeightedStacks, ToolFault>
+) -> Result<Vec<u8>, ToolFault>
     ensures { MatchResult result
-        (λ merged. AreMergedIn Pprof value.now input.now merged)
+        (λ text. IsReport Pprof value.now query.now input.now text.items)
         (λ fault. IsRefusedIn Pprof (for_report value.now) input.now fault) }
 {
     let profile = match decode(alloc, input) {
         Ok(profile) => profile,
         Err(fault) => return Err(profile_fault(fault)),
     };
-    match merge_samples(alloc, hashing, &profile, choice_of(value)) {
-        Ok(merged) => Ok(merged),
-        Err(fault) => Err(batch_fault(fault)),
-    }
+    let rows = match merge_samples(alloc, hashing, &profile, choice_of(value)) {
+        Ok(rows) => rows,
+        Err(fault) => return Err(batch_fault(fault)),
+    };
+    let answer = report_of_stacks(alloc, hashing, rows, query)?;
+    answers_are_by_the_aggregate();
+    Ok(text_of(alloc, answer)?)
 }
 
 /// The choice of a value.
@@ -233,19 +213,6 @@ pub(crate) fn choice_of<'a>(value: &'a Option<Text>) -> ValueChoice<'a>
         Some(text) => ValueChoice::Named(text.as_str()),
         None => ValueChoice::Default,
     }
-}
-
-/// The text of the answer to a query over the rows.
-fn report_text(
-    alloc: Global,
-    hashing: Hashing,
-    rows: WeightedStacks,
-    query: &Query,
-) -> Result<Vec<u8>, NoMemory>
-    ensures { IfOk result (λ text. text.items ≡ answer_text (answer_of rows query.now)) }
-{
-    let answer = report_of_stacks(alloc, hashing, rows, query)?;
-    text_of(alloc, answer)
 }
 
 /// The text of an answer.

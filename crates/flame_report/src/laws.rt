@@ -3,7 +3,7 @@
 ghost use Rattle.std.specs.Prelude.{ℕ, ◌≡◌, ◌≤◌, ◌<◌, ◌↔◌, ◌+◌, ◌++◌, ◌∷◌, [], AllPairs, List, Contains, filter, map, true};
 ghost use Rattle.std.specs.declared.cmp.Ordering.TheVariants.{Less};
 ghost use Rattle.profile_rows.specs.declared.weighted_stacks.WeightedStack.{WeightedStack};
-ghost use Rattle.profile_rows.specs.Aggregate.{aggregate_of};
+ghost use Rattle.profile_rows.specs.Aggregate.{aggregate_of, rows_of};
 ghost use Rattle.flame_report.specs.Answers.{answer_of};
 ghost use Rattle.flame_report.specs.declared.query.Query.{Query};
 ghost use Rattle.profile_rows.specs.Layout.{column_at, is_shown, rectangle_at, rectangles_of};
@@ -85,8 +85,11 @@ pub fn rectangles_come_in_order()
         (filter (λ path. is_shown (rectangle_at columns rows path)) (paths_of rows)) }
 {}
 
-/// The answer to a query depends on the aggregate of the rows alone.
+/// The answer to a query depends on the aggregate of the rows alone (`same`), and is that over the rows in order
+/// (`in_order`).
 pub fn answers_are_by_the_aggregate()
-    ensures { (query : Query) (rows others : List WeightedStack) → aggregate_of rows ≡ aggregate_of others
+    ensures same { (query : Query) (rows others : List WeightedStack) → aggregate_of rows ≡ aggregate_of others
         → answer_of rows query ≡ answer_of others query }
+    ensures in_order { (query : Query) (rows : List WeightedStack)
+        → answer_of (rows_of (aggregate_of rows)) query ≡ answer_of rows query }
 {}

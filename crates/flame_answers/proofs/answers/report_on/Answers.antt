@@ -13,14 +13,8 @@ returns-in-Folded-Top c =
     c.in-Folded-Top.is-0 c.in-Folded-Top.is-1 (c.keeps_all.ensures.keeps c.if-keeps_all.true)
     (c.folded_top.ensures c.args.source.now.value)
 
-pub returns-in-Folded-Folded : goal.returns-in-Folded-Folded
-returns-in-Folded-Folded c =
-    answered-of_all (λ (text : Vec ℕ _). text.items) c.args.source.now c.args.query.now Folded kinds.Folded
-    c.args.input.now c.folded_lines.result c.in-Folded-Folded.is-0 c.in-Folded-Folded.is-1
-    (c.if-keeps_all-2.ensures.keeps refl) (c.folded_lines.ensures c.args.source.now.value)
-
 pub returns-in-Pprof-Top : goal.returns-in-Pprof-Top
 returns-in-Pprof-Top c =
     answered-of_all (λ (text : Vec ℕ _). text.items) c.args.source.now c.args.query.now Pprof
     (kinds.Top c.in-Pprof-Top.rank c.in-Pprof-Top.count) c.args.input.now c.profile_top.result
-    c.in-Pprof-Top.is-0 c.in-Pprof-Top.is-1 (c.if-keeps_all-3.ensures.keeps refl) c.profile_top.ensures
+    c.in-Pprof-Top.is-0 c.in-Pprof-Top.is-1 (c.if-keeps_all-2.ensures.keeps refl) c.profile_top.ensures

@@ -1,6 +1,6 @@
 use Rattle.flame_answers.specs.Inputs.Wanted.{for_report}
 use Rattle.flame_answers.proofs.Inputs.{bytes_refused, samples_refused}
-use Rattle.flame_answers.proofs.answers.merged_samples.Goals as goal
+use Rattle.flame_answers.proofs.answers.profile_answer.Goals as goal
 
 pub returns-in-Err : goal.returns-in-Err
 returns-in-Err c =

@@ -1,6 +1,7 @@
+-- Rows in order answer as all rows do.
 use Rattle.flame_answers.specs.Inputs.Wanted.{for_report}
 use Rattle.flame_answers.proofs.Inputs.{work_refused}
-use Rattle.flame_answers.proofs.answers.merged_lines.Goals as goal
+use Rattle.flame_answers.proofs.answers.folded_answer.Goals as goal
 
 pub returns-in-Err : goal.returns-in-Err
 returns-in-Err c = λ value.

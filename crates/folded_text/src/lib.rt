@@ -16,7 +16,8 @@ mod text_totals;
 mod written;
 
 pub use folded::{FoldedFault, read_folded, read_folded_with, read_frames};
-pub use ordered_rows::{OrderedRows, RowNames, read_ordered};
+pub use known_names::KnownNames;
+pub use ordered_rows::{OrderedRows, RowNames, RowShape, read_ordered};
 pub use stack_texts::report_of_stack_texts;
 pub use taking::{LineTaker, take_lines};
 pub use text_totals::folded_totals;

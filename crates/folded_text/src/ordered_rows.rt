@@ -1,6 +1,6 @@
 //! Rows in the order of their stacks, of which reports are made.
 
-ghost use Rattle.std.specs.Prelude.{◌≡◌, ◌-◌, ◌^◌, ◌<◌, ◌≤◌, All, IfOk, List, MatchResult, length, map, slice_index_or, []};
+ghost use Rattle.std.specs.Prelude.{◌≡◌, ◌+◌, ◌-◌, ◌^◌, ◌<◌, ◌≤◌, All, IfOk, List, MatchResult, length, map, slice_index_or, if◌then◌else◌, ◌∷◌, [], ℕ};
 ghost use Rattle.std.specs.List.{common_prefix_len};
 ghost use Rattle.std.specs.Option.{option_copied};
 ghost use Rattle.std.specs.Ordering.{eq_by_cmp};
@@ -15,6 +15,7 @@ ghost use Rattle.folded_text.specs.OrderedRows.{AreNames, IsOrderedText, names_i
 ghost use Rattle.folded_text.specs.TextRows.{AreKnownTexts, spelled_rows};
 
 use crate::folded::FoldedFault;
+use crate::known_names::KnownNames;
 use crate::stack_frames::{Frames, measured, replace_by_text};
 use crate::text_rows::{TextRows, read_text_rows, stacks_of_texts};
 use crate::text_stacks::TextStacks;
@@ -68,13 +69,18 @@ fn shared_name(names: &[Name], at: usize) -> Result<Name, NoMemory>
     names[at].share()
 }
 
-/// A frame kept as a name.
-fn kept_name(alloc: Global, frames: &[&str], at: usize) -> Result<Name, NoMemory>
+/// The name of a frame.
+fn known_name<'a>(
+    alloc: Global,
+    known: &mut KnownNames<'a>,
+    frames: &[&'a str],
+    at: usize,
+) -> Result<Name, NoMemory>
     requires names { All IsName (map (λ frame. frame.now) frames.now) }
     requires index { at < length frames.now }
     ensures { IfOk result (λ name. name ≡ slice_index_or (map (λ frame. frame.now) frames.now) at []) }
 {
-    Name::keep(alloc, frames[at])
+    known.name_of(alloc, frames[at])
 }
 
 impl<'a> RowNames<'a> {
@@ -88,27 +94,39 @@ impl<'a> RowNames<'a> {
         }
     }
 
-    /// A name, shared where it is kept and made where it isn't.
+    /// A name: a second owner of the row's, or of that which is known of its text or becomes known now.
     ///
     /// # Errors
     ///
     /// `NoMemory`.
-    pub fn name(&self, alloc: Global, at: usize) -> Result<Name, NoMemory>
+    pub fn name(
+        &self,
+        alloc: Global,
+        known: &mut KnownNames<'a>,
+        at: usize,
+    ) -> Result<Name, NoMemory>
         requires names { AreNames self.now }
         requires index { at < length (names_in self.now) }
         ensures { IfOk result (λ name. name ≡ slice_index_or (names_in self.now) at []) }
     {
         match self {
             RowNames::Named(names) => shared_name(*names, at),
-            RowNames::Spelled(frames) => kept_name(alloc, frames.as_slice(), at),
+            RowNames::Spelled(frames) => known_name(alloc, known, frames.as_slice(), at),
         }
     }
 }
 
+/// What is asked of a row's stack before its names are.
+pub struct RowShape {
+    /// How many names it has in common with the stack of the row before, at their roots.
+    pub shared: usize,
+    /// How many names it has.
+    pub depth: usize,
+}
+
 /// How many names two stacks have in common at their roots.
 fn shared_by_names(left: &[Name], right: &[Name]) -> usize
-    ensures shared { result ≡ common_prefix_len (eq_by_cmp name_cmp) left.now right.now }
-    ensures short { result ≤ length left.now }
+    ensures { result ≡ common_prefix_len (eq_by_cmp name_cmp) left.now right.now }
 {
     for (at, name) in left.iter().enumerate() {
         if at >= right.len() || *name != right[at] {
@@ -118,21 +136,33 @@ fn shared_by_names(left: &[Name], right: &[Name]) -> usize
     left.len()
 }
 
-/// How many frames two stack texts have in common at their roots.
-fn shared_by_texts(left: &str, right: &str) -> usize
-    ensures shared { result ≡ common_prefix_len (eq_by_cmp name_cmp) (frames_of left.now) (frames_of right.now) }
-    ensures short { result ≤ length (frames_of left.now) }
+/// Whether the next of some frames is this one.
+fn is_next(frames: &mut Frames, frame: &str) -> bool
+    ensures { (rest : List (List ℕ)) → common_prefix_len (eq_by_cmp name_cmp) frames.old (frame.now ∷ rest)
+        ≡ (if result then 1 + common_prefix_len (eq_by_cmp name_cmp) frames.new rest else 0) }
+{
+    match frames.next_frame() {
+        Some(next) => next == frame,
+        None => false,
+    }
+}
+
+/// How many frames a stack text has in common with that of the row before, at their roots, and how many it has.
+fn shape_by_texts(before: &str, text: &str) -> RowShape
+    ensures shared { result.shared ≡ common_prefix_len (eq_by_cmp name_cmp) (frames_of before.now) (frames_of text.now) }
+    ensures depth { result.depth ≡ length (frames_of text.now) }
 {
     let mut shared = 0;
-    let mut frames = Frames::of(left);
-    let mut others = Frames::of(right);
+    let mut depth = 0;
+    let mut frames = Frames::of(text);
+    let mut others = Frames::of(before);
     while let Some(frame) = frames.next_frame() {
-        match others.next_frame() {
-            Some(other) if frame == other => shared += 1,
-            _ => return shared,
+        if shared == depth && is_next(&mut others, frame) {
+            shared += 1;
         }
+        depth += 1;
     }
-    shared
+    RowShape { shared, depth }
 }
 
 /// The rows that a focus and an ignored name leave.
@@ -290,7 +320,7 @@ impl<'a> OrderedRows<'a> {
     /// How many names a row's stack has.
     pub fn depth(&self, at: usize) -> usize
         requires { at < length self.now }
-        ensures { result ≡ length (row_at self.now at).stack }
+        ensures depth { result ≡ length (row_at self.now at).stack }
     {
         match &self.rows {
             InOrder::Named(rows) => rows.rows()[at].stack.names().len(),
@@ -298,20 +328,25 @@ impl<'a> OrderedRows<'a> {
         }
     }
 
-    /// How many names the stacks of a row and of the row before have in common at their roots.
-    pub fn shared_names(&self, at: usize) -> usize
+    /// How many names a row's stack has, and how many of them the row before has too, at their roots.
+    pub fn shape(&self, at: usize) -> RowShape
         requires follows { 0 < at }
         requires index { at < length self.now }
-        ensures shared { result
+        ensures shared { result.shared
             ≡ common_prefix_len (eq_by_cmp name_cmp) (row_at self.now (at - 1)).stack (row_at self.now at).stack }
-        ensures short { result ≤ 65535 }
+        ensures depth { result.depth ≡ length (row_at self.now at).stack }
+        ensures small { result.depth ≤ 65535 }
     {
         match &self.rows {
             InOrder::Named(rows) => {
                 let rows = rows.rows();
-                shared_by_names(rows[at - 1].stack.names(), rows[at].stack.names())
+                let (before, names) = (rows[at - 1].stack.names(), rows[at].stack.names());
+                RowShape {
+                    shared: shared_by_names(before, names),
+                    depth: names.len(),
+                }
             }
-            InOrder::Spelled(rows) => shared_by_texts(rows.text(at - 1), rows.text(at)),
+            InOrder::Spelled(rows) => shape_by_texts(rows.text(at - 1), rows.text(at)),
         }
     }
 

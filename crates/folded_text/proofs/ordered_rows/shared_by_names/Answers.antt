@@ -16,7 +16,7 @@ returns-then-at-right c =
       | then-at-right-via-then-at-right w ↦
           let none = nothing_shared (eq_by_cmp name_cmp) c.args.left.now c.args.right.now c.loop-at.at
           w.if-at-right.true in
-          record { shared = omega (arith, none, c.loop-at.invariant.so_far); short = omega arith }
+          omega (arith, none, c.loop-at.invariant.so_far)
       | then-at-right-via-else-at-right+then-ne w ↦
           let unlike : pointwise ◌==◌ c.index-left-at.result w.index-right-at.result ≡ false = not-true _ (cc) in
           let apart : eq_by_cmp name_cmp c.index-left-at.result w.index-right-at.result ≡ false =
@@ -26,7 +26,7 @@ returns-then-at-right c =
           (subst (λ x. eq_by_cmp name_cmp x (get_or c.args.right.now c.loop-at.at w.index-right-at.result) ≡ false)
           c.index-left-at.is
           (subst (λ x. eq_by_cmp name_cmp c.index-left-at.result x ≡ false) w.index-right-at.is apart)) in
-          record { shared = omega (arith, none, c.loop-at.invariant.so_far); short = omega arith }
+          omega (arith, none, c.loop-at.invariant.so_far)
     ]
 
 pub loop-at-preserved : goal.loop-at-preserved

@@ -6,7 +6,7 @@ use Rattle.profile_rows.specs.Names.{IsName}
 use Rattle.folded_text.specs.OrderedRows.{AreNames}
 use Rattle.folded_text.proofs.ordered_rows.RowNames.name.Goals as goal
 
-pub kept_name-requires-clause-names : goal.kept_name-requires-clause-names
-kept_name-requires-clause-names c =
+pub known_name-requires-clause-names : goal.known_name-requires-clause-names
+known_name-requires-clause-names c =
     subst (λ frames. All IsName (map (λ (frame : Bor (List ℕ)). frame.now) frames)) (sym c.as_slice.ensures.value)
     (subst AreNames c.in-Spelled.is c.requires.names)

@@ -3,13 +3,13 @@ use Rattle.std.proofs.Common.{◌<◌, ℕ, List, [], sym, subst}
 use Rattle.std.proofs.lemmas.List.{get_or-map, length-map}
 use denote.Ref.{Bor}
 use Rattle.profile_rows.specs.Names.{IsName}
-use Rattle.folded_text.proofs.ordered_rows.kept_name.Goals as goal
+use Rattle.folded_text.proofs.ordered_rows.known_name.Goals as goal
 
 abbrev text_of : Bor (List ℕ) → List ℕ
 text_of frame = frame.now
 
-pub keep-requires : goal.keep-requires
-keep-requires c =
+pub name_of-requires : goal.name_of-requires
+name_of-requires c =
     let frames = c.args.frames.now in
     let within = subst (λ n. c.args.at < n) (sym (length-map frames text_of)) c.requires.index in
     subst IsName (get_or-map text_of frames c.args.at (record { ref_ptr = (0, 0); now = [] }) [] c.requires.index)

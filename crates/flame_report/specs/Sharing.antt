@@ -28,6 +28,11 @@ pub record AreKnownPaths (known : List ℕ) (rows : List WeightedStack) : Type 0
   pub each : length known ≡ length rows
   pub at : (k : ℕ) → k < length rows → slice_index_or known k 0 ≡ known_at rows k
 
+-- of each row, how many names its stack has
+pub record AreDepths (depths : List ℕ) (rows : List WeightedStack) : Type 0 where
+  pub each : length depths ≡ length rows
+  pub at : (k : ℕ) → k < length rows → slice_index_or depths k 0 ≡ length (stack_at rows k)
+
 -- the weight of the rows before an index whose stacks are beginnings of the path: their own weight lies right of it
 abbrev pub held_weight : List WeightedStack → ℕ → List (List ℕ) → ℕ
 held_weight rows n path = weight_where (λ stack. begins_with name_cmp stack path) (take n rows)

@@ -11,13 +11,21 @@ ghost use Rattle.profile_rows.specs.Paths.{begins_with, path_weight, prefixes};
 ghost use Rattle.profile_rows.specs.Rows.{total_of};
 ghost use Rattle.flame_report.specs.Answers.{rect_of};
 ghost use Rattle.profile_rows.specs.Aggregate.{AreWeighty, IsAscending};
-ghost use Rattle.flame_report.specs.Sharing.{AreHeld, AreKnownPaths, held_weight, known_at, shown_of, span_of, stack_at};
+ghost use Rattle.flame_report.specs.Sharing.{AreDepths, AreHeld, AreKnownPaths, held_weight, known_at, shown_of, span_of, stack_at};
 
 use crate::answer::{Label, Rect};
 use crate::query::Columns;
 use basics::NoMemory;
-use folded_text::{OrderedRows, RowNames};
+use folded_text::{KnownNames, OrderedRows, RowNames};
+use profile_rows::Hashing;
 use std::alloc::{AllocError, Global};
+
+/// The rectangles so far, and the names by which they are called.
+#[derive(Drop)]
+struct Drawing<'a> {
+    names: KnownNames<'a>,
+    rects: Vec<Rect>,
+}
 
 /// Weights in columns: the total of all rows fills them.
 #[derive(Clone, Copy)]
@@ -46,20 +54,39 @@ impl Scale {
     }
 }
 
-/// Of each row, how many of its paths the row before has too.
-fn known_paths(alloc: Global, rows: &OrderedRows) -> Result<Vec<usize>, AllocError>
-    ensures { IfOk result (λ known. AreKnownPaths known.items rows.now) }
+/// Of each row, how many of its paths the row before has too, and how many names its stack has.
+#[derive(Drop)]
+struct Shapes {
+    known: Vec<usize>,
+    depths: Vec<usize>,
+}
+
+/// How many paths of a row the row before has too, and how many names its stack has.
+fn shape_at(rows: &OrderedRows, at: usize) -> (usize, usize)
+    requires { at < length rows.now }
+    ensures known { result.0 ≡ known_at rows.now at }
+    ensures depth { result.1 ≡ length (stack_at rows.now at) }
+{
+    if at == 0 {
+        return (0, rows.depth(at));
+    }
+    let shape = rows.shape(at);
+    (shape.shared + 1, shape.depth)
+}
+
+/// The shapes of rows.
+fn shapes_of(alloc: Global, rows: &OrderedRows) -> Result<Shapes, AllocError>
+    ensures known { IfOk result (λ shapes. AreKnownPaths shapes.known.items rows.now) }
+    ensures depths { IfOk result (λ shapes. AreDepths shapes.depths.items rows.now) }
 {
     let mut known = Vec::with_capacity(alloc, rows.len())?;
+    let mut depths = Vec::with_capacity(alloc, rows.len())?;
     for at in 0..rows.len() {
-        let shared = if at == 0 {
-            0
-        } else {
-            rows.shared_names(at) + 1
-        };
+        let (shared, depth) = shape_at(rows, at);
         known.push(shared)?;
+        depths.push(depth)?;
     }
-    Ok(known)
+    Ok(Shapes { known, depths })
 }
 
 /// The weight of the rows that begin with the first names of a row that is the first of them.
@@ -113,7 +140,13 @@ fn span_at(
 }
 
 /// The rectangle of a path, which is the first names of a stack.
-fn rect_at(alloc: Global, names: &RowNames, depth: usize, span: Span) -> Result<Rect, NoMemory>
+fn rect_at<'a>(
+    alloc: Global,
+    known: &mut KnownNames<'a>,
+    names: &RowNames<'a>,
+    depth: usize,
+    span: Span,
+) -> Result<Rect, NoMemory>
     requires names { AreNames names.now }
     requires within { depth ≤ length (names_in names.now) }
     requires deep { depth ≤ 65535 }
@@ -125,7 +158,7 @@ fn rect_at(alloc: Global, names: &RowNames, depth: usize, span: Span) -> Result<
     let name = if depth == 0 {
         Label::empty()
     } else {
-        Label::of(names.name(alloc, depth - 1)?)
+        Label::of(names.name(alloc, known, depth - 1)?)
     };
     Ok(Rect {
         depth: depth as u32,
@@ -139,10 +172,10 @@ fn rect_at(alloc: Global, names: &RowNames, depth: usize, span: Span) -> Result<
 
 /// Adds the rectangles of the paths that come first with a row, of which the shortest takes a column. Below one that
 /// takes none there is none.
-fn draw_row(
+fn draw_row<'a>(
     alloc: Global,
-    rects: &mut Vec<Rect>,
-    rows: &OrderedRows,
+    drawing: &mut Drawing<'a>,
+    rows: &'a OrderedRows,
     known: &[usize],
     at: usize,
     start: u64,
@@ -155,7 +188,7 @@ fn draw_row(
     requires total { scale.now.total ≡ total_of rows.now }
     requires some { 0 < scale.now.total }
     requires fits { scale.now.total < 2 ^ 63 }
-    ensures { OnOk result (rects.new.items ≡ rects.old.items
+    ensures { OnOk result (drawing.new.rects.items ≡ drawing.old.rects.items
         ++ map rect_of
         (shown_of scale.now.columns rows.now (drop (known_at rows.now at) (prefixes (stack_at rows.now at))))) }
 {
@@ -165,17 +198,18 @@ fn draw_row(
         if span.left >= span.right {
             return Ok(());
         }
-        rects.push(rect_at(alloc, names, depth, span)?)?;
+        let rect = rect_at(alloc, &mut drawing.names, names, depth, span)?;
+        drawing.rects.push(rect)?;
     }
     Ok(())
 }
 
 /// Adds the rectangles of the paths that come first with a row. The names of a row of which nothing is seen aren't
 /// looked at.
-fn layout_row(
+fn layout_row<'a>(
     alloc: Global,
-    rects: &mut Vec<Rect>,
-    rows: &OrderedRows,
+    drawing: &mut Drawing<'a>,
+    rows: &'a OrderedRows,
     known: &[usize],
     at: usize,
     start: u64,
@@ -188,7 +222,7 @@ fn layout_row(
     requires total { scale.now.total ≡ total_of rows.now }
     requires some { 0 < scale.now.total }
     requires fits { scale.now.total < 2 ^ 63 }
-    ensures { OnOk result (rects.new.items ≡ rects.old.items
+    ensures { OnOk result (drawing.new.rects.items ≡ drawing.old.rects.items
         ++ map rect_of
         (shown_of scale.now.columns rows.now (drop (known_at rows.now at) (prefixes (stack_at rows.now at))))) }
 {
@@ -196,7 +230,7 @@ fn layout_row(
     if span.left >= span.right {
         return Ok(());
     }
-    draw_row(alloc, rects, rows, known, at, start, scale)
+    draw_row(alloc, drawing, rows, known, at, start, scale)
 }
 
 /// The weight of the rows so far that are beginnings of a row.
@@ -216,24 +250,31 @@ fn hold(
     rows: &OrderedRows,
     at: usize,
     known: usize,
+    depth: usize,
     above: u64,
 ) -> Result<(), AllocError>
     requires ascending { IsAscending rows.now }
     requires at { at < length rows.now }
     requires held { AreHeld held.old.items rows.now at }
     requires known { known ≡ known_at rows.now at }
+    requires depth { depth ≡ length (stack_at rows.now at) }
     requires above { above ≡ held_weight rows.now at (stack_at rows.now at) }
     requires fits { total_of rows.now < 2 ^ 63 }
     ensures { OnOk result (AreHeld held.new.items rows.now (at + 1)) }
 {
     held.truncate(known);
-    held.resize(rows.depth(at), above)?;
+    held.resize(depth, above)?;
     held.push(above + rows.weight(at))?;
     Ok(())
 }
 
 /// The layout of rows in order, whose total is above 0.
-fn layout(alloc: Global, rows: &OrderedRows, scale: &Scale) -> Result<Vec<Rect>, NoMemory>
+fn layout(
+    alloc: Global,
+    hashing: Hashing,
+    rows: &OrderedRows,
+    scale: &Scale,
+) -> Result<Vec<Rect>, NoMemory>
     requires ascending { IsAscending rows.now }
     requires weighty { AreWeighty rows.now }
     requires total { scale.now.total ≡ total_of rows.now }
@@ -241,30 +282,34 @@ fn layout(alloc: Global, rows: &OrderedRows, scale: &Scale) -> Result<Vec<Rect>,
     requires fits { scale.now.total < 2 ^ 63 }
     ensures { IfOk result (λ rects. rects.items ≡ map rect_of (rectangles_of scale.now.columns rows.now)) }
 {
-    let known = known_paths(alloc, rows)?;
-    let mut rects = Vec::new(alloc);
+    let Shapes { known, depths } = shapes_of(alloc, rows)?;
+    let mut drawing = Drawing {
+        names: KnownNames::new(alloc, hashing),
+        rects: Vec::new(alloc),
+    };
     let mut held = Vec::new(alloc);
     let mut before = 0;
     for at in 0..rows.len() {
         let above = held_above(held.as_slice(), rows, at, known[at]);
         layout_row(
             alloc,
-            &mut rects,
+            &mut drawing,
             rows,
             known.as_slice(),
             at,
             before - above,
             scale,
         )?;
-        hold(&mut held, rows, at, known[at], above)?;
+        hold(&mut held, rows, at, known[at], depths[at], above)?;
         before += rows.weight(at);
     }
-    Ok(rects)
+    Ok(drawing.rects)
 }
 
-/// The layout of rows in order; without rows there are no rectangles.
+/// The layout of rows in order; without rows there are no rectangles. `hashing` says how names are hashed.
 pub(crate) fn rects_of(
     alloc: Global,
+    hashing: Hashing,
     rows: &OrderedRows,
     scale: &Scale,
 ) -> Result<Vec<Rect>, NoMemory>
@@ -277,5 +322,5 @@ pub(crate) fn rects_of(
     if scale.total == 0 {
         return Ok(Vec::new(alloc));
     }
-    layout(alloc, rows, scale)
+    layout(alloc, hashing, rows, scale)
 }

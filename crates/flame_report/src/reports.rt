@@ -33,7 +33,12 @@ fn kept_rows<'a>(
 }
 
 /// The flame graph of rows in order.
-fn flame(alloc: Global, rows: &OrderedRows, columns: Columns) -> Result<Flame, NoMemory>
+fn flame(
+    alloc: Global,
+    hashing: Hashing,
+    rows: &OrderedRows,
+    columns: Columns,
+) -> Result<Flame, NoMemory>
     ensures { IfOk result (λ flame. flame ≡ flame_of columns rows.now) }
 {
     rows.facts();
@@ -41,7 +46,7 @@ fn flame(alloc: Global, rows: &OrderedRows, columns: Columns) -> Result<Flame, N
         total: rows.total(),
         columns,
     };
-    let rects = rects_of(alloc, rows, &scale)?;
+    let rects = rects_of(alloc, hashing, rows, &scale)?;
     Ok(Flame {
         total: scale.total,
         columns,
@@ -69,7 +74,7 @@ pub fn report_in_order(
             let totals = kept.frame_totals(alloc, hashing)?;
             Ok(Answer::Top(top_list(totals, rank, count)?))
         }
-        Kind::Flame { columns } => Ok(Answer::Flame(flame(alloc, &kept, columns)?)),
+        Kind::Flame { columns } => Ok(Answer::Flame(flame(alloc, hashing, &kept, columns)?)),
         Kind::Folded => Ok(Answer::Folded(Items::new(kept.write(alloc)?))),
     }
 }

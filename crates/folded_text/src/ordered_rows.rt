@@ -117,6 +117,7 @@ impl<'a> RowNames<'a> {
 }
 
 /// What is asked of a row's stack before its names are.
+#[derive(Clone, Copy)]
 pub struct RowShape {
     /// How many names it has in common with the stack of the row before, at their roots.
     pub shared: usize,

@@ -20,7 +20,7 @@ loop-depth-init c =
     let known = c.requires.known.at c.args.at c.requires.at in
     record {
       inside = omega (arith, known, known_at-le c.args.rows.now c.args.at);
-      rest = ap (λ n. c.args.rects.now.items ++ map rect_of (shown_of c.args.scale.now.columns c.args.rows.now
+      rest = ap (λ n. c.args.drawing.now.rects.items ++ map rect_of (shown_of c.args.scale.now.columns c.args.rows.now
           (drop n (prefixes (stack_at c.args.rows.now c.args.at))))) known;
     }
 
@@ -41,8 +41,8 @@ returns-then-span c =
     let none =
     none_below c.args.scale.now.columns c.args.rows.now (stack_at c.args.rows.now c.args.at) c.loop-depth.depth
     (length (stack_at c.args.rows.now c.args.at) + 1 - c.loop-depth.depth) (omega (arith, size)) narrow in
-    sym (append-nil c.loop-depth.rects.items)
-    ∙ ap (λ shown. c.loop-depth.rects.items ++ map rect_of shown) (sym none) ∙ c.loop-depth.invariant.rest
+    sym (append-nil c.loop-depth.drawing.rects.items)
+    ∙ ap (λ shown. c.loop-depth.drawing.rects.items ++ map rect_of shown) (sym none) ∙ c.loop-depth.invariant.rest
 
 pub loop-depth-preserved : goal.loop-depth-preserved
 loop-depth-preserved c =
@@ -60,12 +60,12 @@ loop-depth-preserved c =
       ap (λ (span : Span). span.right) c.span_at-span.ensures,
     )) in
     let drawn : rect_of (rectangle_at c.args.scale.now.columns c.args.rows.now
-    (take c.loop-depth.depth (stack_at c.args.rows.now c.args.at))) ≡ c.in_ok-rect_at.field-0 =
+    (take c.loop-depth.depth (stack_at c.args.rows.now c.args.at))) ≡ c.in_ok-rect.rect =
     same_rect (rectangle_at c.args.scale.now.columns c.args.rows.now
-    (take c.loop-depth.depth (stack_at c.args.rows.now c.args.at))) c.span_at-span.result c.in_ok-rect_at.field-0 is
-    (c.in_ok-rect_at.ensures.0 ∙ sym (length-take-le c.loop-depth.depth (stack_at c.args.rows.now c.args.at) deep))
-    (c.in_ok-rect_at.ensures.1 ∙ ap (λ names. last_name (take c.loop-depth.depth names)) same)
-    c.in_ok-rect_at.ensures.2 c.in_ok-rect_at.ensures.3 c.in_ok-rect_at.ensures.4 c.in_ok-rect_at.ensures.5 in
+    (take c.loop-depth.depth (stack_at c.args.rows.now c.args.at))) c.span_at-span.result c.in_ok-rect.rect is
+    (c.in_ok-rect.ensures.0 ∙ sym (length-take-le c.loop-depth.depth (stack_at c.args.rows.now c.args.at) deep))
+    (c.in_ok-rect.ensures.1 ∙ ap (λ names. last_name (take c.loop-depth.depth names)) same)
+    c.in_ok-rect.ensures.2 c.in_ok-rect.ensures.3 c.in_ok-rect.ensures.4 c.in_ok-rect.ensures.5 in
     let more = drawn-yes c.args.scale.now.columns c.args.rows.now
     (stack_at c.args.rows.now c.args.at) c.loop-depth.depth deep wide
     ∙ ap (λ (r : Rect). r ∷ map rect_of (shown_of c.args.scale.now.columns c.args.rows.now
@@ -75,7 +75,7 @@ loop-depth-preserved c =
       rest =
           ap (λ items. items ++ map rect_of (shown_of c.args.scale.now.columns c.args.rows.now (drop
           (c.loop-depth.depth + 1) (prefixes (stack_at c.args.rows.now c.args.at))))) c.in_ok-push.ensures.items
-          ∙ one_put c.loop-depth.rects.items _ _ _ c.in_ok-rect_at.field-0 more c.loop-depth.invariant.rest;
+          ∙ one_put c.loop-depth.drawing.rects.items _ _ _ c.in_ok-rect.rect more c.loop-depth.invariant.rest;
     }
 
 pub returns : goal.returns
@@ -84,5 +84,5 @@ returns c =
     ∙ sym (stack_at-get c.args.rows.now c.args.at (record { stack = []; weight = 0 }) c.requires.at) in
     let size = c.len-depth-end.ensures ∙ ap length same in
     let past = drop-prefixes_all (stack_at c.args.rows.now c.args.at) c.loop-depth.depth (omega (arith, size)) in
-    sym (append-nil c.loop-depth.rects.items) ∙ ap (λ paths. c.loop-depth.rects.items ++ map rect_of
+    sym (append-nil c.loop-depth.drawing.rects.items) ∙ ap (λ paths. c.loop-depth.drawing.rects.items ++ map rect_of
     (shown_of c.args.scale.now.columns c.args.rows.now paths)) (sym past) ∙ c.loop-depth.invariant.rest

@@ -4,7 +4,6 @@ use Rattle.std.proofs.lemmas.List.{take_all, length-take-le, append_assoc}
 use Rattle.std.proofs.lemmas.List.Sums.{sum_by_more_le}
 use Rattle.profile_rows.specs.declared.weighted_stacks.WeightedStack.{WeightedStack}
 use Rattle.flame_report.specs.Sharing.{stack_at, known_at, AreHeld}
-use Rattle.flame_report.proofs.RowSums.{stack_at-get}
 use Rattle.flame_report.proofs.Held.{known-le, known-le-held, held_more, held_weight-le}
 use Rattle.flame_report.proofs.layout.hold.Goals as goal
 
@@ -24,17 +23,16 @@ overflow_add-above c =
 
 pub returns : goal.returns
 returns c =
-    let size : c.depth.result ≡ length (stack_at c.args.rows.now c.args.at) =
-    c.depth.ensures ∙ ap length (sym (stack_at-get c.args.rows.now c.args.at no_row c.requires.at)) in
+    let size = c.requires.depth in
     let front = length-take-le (known_at c.args.rows.now c.args.at) c.args.held.now.items
     (known-le-held c.args.held.now.items c.args.rows.now c.args.at c.requires.held) in
     let less = known-le c.args.rows.now c.args.at c.requires.ascending c.requires.at in
     let cut : c.truncate.new.self.items ≡ take (known_at c.args.rows.now c.args.at) c.args.held.now.items =
     c.truncate.ensures.items ∙ ap (λ n. take n c.args.held.now.items) c.requires.known in
     let long = ap length cut in
-    let all : take (c.depth.result) c.truncate.new.self.items ≡ take (known_at c.args.rows.now c.args.at)
+    let all : take (c.args.depth) c.truncate.new.self.items ≡ take (known_at c.args.rows.now c.args.at)
     c.args.held.now.items = take_all _ _ (omega (arith, long, front, less, size)) ∙ cut in
-    let count : c.depth.result - vec_len c.truncate.new.self
+    let count : c.args.depth - vec_len c.truncate.new.self
     ≡ length (stack_at c.args.rows.now c.args.at) - known_at c.args.rows.now c.args.at =
     omega (arith, long, front, less, size, c.truncate.new.self.ok) in
     let grown : c.resize.new.self.items ≡ take (known_at c.args.rows.now c.args.at) c.args.held.now.items ++ replicate

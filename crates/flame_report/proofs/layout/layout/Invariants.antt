@@ -7,6 +7,6 @@ use Rattle.flame_report.proofs.layout.layout.Given as goal
 abbrev pub invariant-loop-at : goal.invariant-loop-at
 invariant-loop-at l = record {
   before : l.before ≡ total_of (take l.at l.rows);
-  done : l.rects.items ≡ map rect_of (shown_of l.scale.columns l.rows (paths_until l.rows l.at));
+  done : l.drawing.rects.items ≡ map rect_of (shown_of l.scale.columns l.rows (paths_until l.rows l.at));
   held : AreHeld l.held.items l.rows l.at;
 }

@@ -33,5 +33,5 @@ returns-then-span c =
     let none =
     none_below c.args.scale.now.columns rows stack (known_at rows c.args.at)
     (length stack + 1 - known_at rows c.args.at) (omega (arith, less)) narrow in
-    sym (append-nil c.args.rects.now.items)
-    ∙ ap (λ shown. c.args.rects.now.items ++ map rect_of shown) (sym none)
+    sym (append-nil c.args.drawing.now.rects.items)
+    ∙ ap (λ shown. c.args.drawing.now.rects.items ++ map rect_of shown) (sym none)

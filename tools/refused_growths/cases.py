@@ -100,9 +100,10 @@ ROWS = {
     "read_folded": "main;a;b 3\nmain;a 2\nmain;c 5\n|",
     "read_folded_of_many_rows": "50 rows, 51 names",
     "read_folded_of_no_count": "F2 NoCount line 3",
-    "merge_folded": '["", " 4", "main;a 2", "main;a;b 3", "main;c 6"]',
-    "folded_report": " 4\nmain;a 2\nmain;a;b 3\nmain;c 6\n",
-    "folded_report_of_empty_frames": "b 4\nb;a 3\n",
+    "read_ordered": " 4\nmain;a 2\nmain;a;b 3\nmain;c 6\n",
+    "read_ordered_of_empty_frames": "b 4\nb;a 3\n",
+    "ordered_rows_write": " 4\nmain;a 2\nmain;a;b 3\nmain;c 6\n",
+    "ordered_rows_write_by_names": "b 4\nb;a 3\n",
     "folded_totals": BY_CUM + "3 3 b\n",
     "write_folded": "main;a 2\nb 4\n",
     "write_folded_of_odd_lines": " 5\na;b 1\na b;c d 7\n",
@@ -160,12 +161,15 @@ REPORTS = {
     "report_of_folded_text": SORTED,
     "report_of": WORKED_LAYOUT,
     "report_of_stacks": line_layout(2, "main", "a"),
+    "report_in_order": WORKED_LAYOUT,
+    "report_in_order_of_a_focus": line_layout(2, "main", "a"),
+    "report_in_order_of_empty_frames": WORKED_LAYOUT,
+    "report_in_order_of_a_top_list": "total 2\n2 2 a\n0 2 main\n",
     "top_list": BY_FLAT,
     "top_list_of_many_names": "total 40\n40 40 g\n0 1 f0\n0 1 f1\n",
     "top_text": BY_FLAT + "0 10 main\n",
     "flame_json": line_layout(1, "main", "a"),
     "flame_json_of_one_column": ONE_COLUMN,
-    "label_of": "main",
 }
 
 ENTRIES = "0.0 add 0, 1.0 add 1, 1.1 add 2, 1.2 add 3, "
@@ -281,5 +285,5 @@ ANSWERS = {
 # The cases that ask for no growth: those, those with a fault that comes first, and a few others on so small a case.
 ASK_FOR_NONE = {
     *WITHOUT_GROWTHS, *NAMED_FAULTS, "batch_push_of_a_heavy_row", "blank_make_of_no_sessions", "check_of_a_wrong_index",
-    "label_of", "name_make_of_no_name", "name_share", "report_of_the_total", "top_list",
+    "name_make_of_no_name", "name_share", "report_of_the_total", "top_list",
 }

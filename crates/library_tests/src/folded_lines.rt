@@ -3,8 +3,8 @@
 use crate::helpers::{rows_of, text_of};
 use profile_rows::CountedRows;
 use stack_text::{
-    FoldedFault, FrameTotals, Hashing, Name, NoMemory, WeightedStacks, aggregate, folded_report,
-    folded_totals, kept_totals, merge_folded, read_folded, write_stacks,
+    FoldedFault, FrameTotals, Hashing, Name, NoMemory, WeightedStacks, aggregate, folded_totals,
+    kept_totals, read_folded, read_ordered, write_stacks,
 };
 use std::alloc::{AllocError, Global};
 use std::test::Fail;
@@ -109,22 +109,13 @@ fn an_aggregate_has_each_stack_once(rt: HostRuntime) -> Result<(), Fail> {
 }
 
 #[test]
-fn lines_of_one_stack_are_merged(rt: HostRuntime) -> Result<(), Fail> {
-    let merged = merge_folded(rt.alloc(), Hashing::fixed(), b"a;b 1\nc 2\na;b 3\n")?;
-    assert_eq!(rt;
-        write_stacks(rt.alloc(), &merged)?.as_slice(),
-        b"a;b 4\nc 2\n".as_slice()
-    );
-    Ok(())
-}
-
-#[test]
-fn folded_report_is_in_the_order_of_stacks(rt: HostRuntime) -> Result<(), Fail> {
+fn ordered_rows_have_each_stack_once(rt: HostRuntime) -> Result<(), Fail> {
     for text in [
         "b;c 1\na!;x 2\na;b 1\nb;c 3\nx 0\n 4\n",
         ";b;;c; 1\na!;x 2\na;b 1\nb;c 3\nx 0\n 4\n",
     ] {
-        let report = folded_report(rt.alloc(), Hashing::fixed(), text.as_bytes())?;
+        let ordered = read_ordered(rt.alloc(), Hashing::fixed(), text.as_bytes())?;
+        let report = ordered.write(rt.alloc())?;
         assert_eq!(rt; report.as_slice(), b" 4\na;b 1\na!;x 2\nb;c 4\n".as_slice());
     }
     Ok(())

@@ -3,8 +3,7 @@
 use crate::folded_lines::{RECURSIVE, weights};
 use crate::helpers::rows_of;
 use stack_text::{
-    Hashing, Name, folded_report, folded_totals, kept_totals, merge_folded, read_folded_with,
-    write_stacks,
+    Hashing, Name, folded_totals, kept_totals, read_folded_with, read_ordered, write_stacks,
 };
 use std::alloc::Global;
 use std::hash::BuildHasher;
@@ -61,9 +60,9 @@ const FOLDED: &[u8] = b"a;b 1\nc 2\na;b 3\n";
 #[test]
 fn rows_are_the_same_wherever_hashes_begin(rt: HostRuntime) -> Result<(), Fail> {
     let hashing = Hashing::random(&rt)?;
-    let merged = merge_folded(rt.alloc(), hashing, FOLDED)?;
+    let ordered = read_ordered(rt.alloc(), hashing, FOLDED)?;
     assert_eq!(rt;
-        write_stacks(rt.alloc(), &merged)?.as_slice(),
+        ordered.write(rt.alloc())?.as_slice(),
         b"a;b 4\nc 2\n".as_slice()
     );
     let rows = read_folded_with(rt.alloc(), hashing, FOLDED)?;
@@ -74,8 +73,11 @@ fn rows_are_the_same_wherever_hashes_begin(rt: HostRuntime) -> Result<(), Fail> 
 #[test]
 fn reports_are_the_same_wherever_hashes_begin(rt: HostRuntime) -> Result<(), Fail> {
     let hashing = Hashing::random(&rt)?;
-    let report = folded_report(rt.alloc(), hashing, FOLDED)?;
-    assert_eq!(rt; report.as_slice(), b"a;b 4\nc 2\n".as_slice());
+    let ordered = read_ordered(rt.alloc(), hashing, b"a;;b 1\nc 2\na;b 3\n")?;
+    assert_eq!(rt;
+        ordered.write(rt.alloc())?.as_slice(),
+        b"a;b 4\nc 2\n".as_slice()
+    );
     let totals = folded_totals(rt.alloc(), hashing, FOLDED)?;
     assert!(rt; totals.total == 6 && weights(&totals, "b") == Some((4, 4)));
     Ok(())

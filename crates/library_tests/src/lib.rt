@@ -19,6 +19,8 @@ mod message_faults;
 #[cfg(test)]
 mod messages;
 #[cfg(test)]
+mod ordered_rows;
+#[cfg(test)]
 mod reports;
 #[cfg(test)]
 mod samples;

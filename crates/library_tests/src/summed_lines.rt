@@ -4,7 +4,7 @@
 use flame_report::{Rank, top_list, top_text};
 use folded_text::FoldedFault;
 use profile_rows::{FrameTotals, MAX_TOTAL};
-use stack_text::{Hashing, folded_totals, kept_totals, merge_folded, read_folded, write_stacks};
+use stack_text::{Hashing, folded_totals, kept_totals, read_folded, read_ordered};
 use std::alloc::Global;
 use std::test::Fail;
 
@@ -66,12 +66,12 @@ fn the_limit_holds_over_all_lines(rt: HostRuntime) -> Result<(), Fail> {
 }
 
 #[test]
-fn merged_rows_are_in_the_order_of_their_stacks(rt: HostRuntime) -> Result<(), Fail> {
+fn ordered_rows_are_in_the_order_of_their_stacks(rt: HostRuntime) -> Result<(), Fail> {
     let text =
         b"b 1\na.b 1\na;b 2\na 3\na;b 4\nc 0\nlong_names_differ_late 1\nlong_names_differ_at_last 1\n";
-    let merged = merge_folded(rt.alloc(), Hashing::fixed(), text)?;
+    let ordered = read_ordered(rt.alloc(), Hashing::fixed(), text)?;
     assert_eq!(rt;
-        write_stacks(rt.alloc(), &merged)?.as_slice(),
+        ordered.write(rt.alloc())?.as_slice(),
         b"a 3\na;b 6\na.b 1\nb 1\nlong_names_differ_at_last 1\nlong_names_differ_late 1\n".as_slice()
     );
     Ok(())

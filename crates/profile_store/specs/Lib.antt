@@ -4,6 +4,7 @@ pub use Rattle.flame_report.specs.Answers
 pub use Rattle.flame_report.specs.Json
 pub use Rattle.flame_report.specs.Labels
 pub use Rattle.folded_text.specs.FoldedText
+pub use Rattle.folded_text.specs.OrderedRows
 pub use Rattle.folded_text.specs.TextSums
 pub use Rattle.live_store.specs.Sessions
 pub use Rattle.live_store.specs.Stores

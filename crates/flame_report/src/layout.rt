@@ -226,8 +226,8 @@ fn layout_row<'a>(
         ++ map rect_of
         (shown_of scale.now.columns rows.now (drop (known_at rows.now at) (prefixes (stack_at rows.now at))))) }
 {
-    let span = span_at(rows, known, at, known[at], start, scale);
-    if span.left >= span.right {
+    let shortest = span_at(rows, known, at, known[at], start, scale);
+    if shortest.left >= shortest.right {
         return Ok(());
     }
     draw_row(alloc, drawing, rows, known, at, start, scale)

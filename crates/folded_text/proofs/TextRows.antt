@@ -232,11 +232,6 @@ AreKnownTexts-none known rows total are_joined is nothing unknown = record {
   fits = omega (arith, nothing);
 }
 
--- what is known of rows so far, without the look-ups
-pub spelled-within : (known : RowsBySpelling) (rows : List TextState) (total : ℕ) (are_joined : Bool)
-    → AreKnownTexts known rows total are_joined → total_of (spelled_rows rows) < 2 ^ 63
-spelled-within known rows total are_joined so_far = omega (arith, so_far.fits, so_far.total_is)
-
 -- sorted rows add up to the same
 pub spelled-moved : (rows sorted : List TextState) → IsPermutation rows sorted → (aggregate_of (spelled_rows sorted)
     ≡ aggregate_of (spelled_rows rows)) × (total_of (spelled_rows sorted) ≡ total_of (spelled_rows rows))

@@ -10,14 +10,14 @@ use Rattle.flame_report.proofs.Held.{known-le}
 use Rattle.flame_report.proofs.Narrow.{none_below}
 use Rattle.flame_report.proofs.layout.layout_row.Goals as goal
 
-pub span_at-span-requires-clause-depth : goal.span_at-span-requires-clause-depth
-span_at-span-requires-clause-depth c =
+pub span_at-shortest-requires-clause-depth : goal.span_at-shortest-requires-clause-depth
+span_at-shortest-requires-clause-depth c =
     let known = c.requires.known.at c.args.at c.requires.at in
     let less = known-le c.args.rows.now c.args.at c.requires.ascending c.requires.at in
     omega (arith, known, less)
 
-pub returns-then-span : goal.returns-then-span
-returns-then-span c =
+pub returns-then-shortest : goal.returns-then-shortest
+returns-then-shortest c =
     let rows = c.args.rows.now in
     let stack = stack_at rows c.args.at in
     let known = c.requires.known.at c.args.at c.requires.at in
@@ -26,9 +26,9 @@ returns-then-span c =
     ap (λ n. is_shown (rectangle_at c.args.scale.now.columns rows (take n stack))) (sym known)
     ∙ le-ltb _ _ (omega (
       arith,
-      c.if-span.true,
-      ap (λ (span : Span). span.left) c.span_at-span.ensures,
-      ap (λ (span : Span). span.right) c.span_at-span.ensures,
+      c.if-shortest.true,
+      ap (λ (span : Span). span.left) c.span_at-shortest.ensures,
+      ap (λ (span : Span). span.right) c.span_at-shortest.ensures,
     )) in
     let none =
     none_below c.args.scale.now.columns rows stack (known_at rows c.args.at)

@@ -325,8 +325,7 @@ fn a_top_list_is_made_from_what_names_weigh(rt: HostRuntime) -> Result<(), Fail>
 
 #[test]
 fn a_label_has_the_text_of_its_name(rt: HostRuntime) -> Result<(), Fail> {
-    let name = Name::make(rt.alloc(), "a b")?;
-    let label = Label::of(&name)?;
+    let label = Label::of(Name::make(rt.alloc(), "a b")?);
     assert_eq!(rt; label.text(), "a b");
     Ok(())
 }

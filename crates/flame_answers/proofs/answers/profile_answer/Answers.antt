@@ -7,8 +7,8 @@ returns-in-Err c =
     bytes_refused (for_report c.args.value.now) c.args.input.now c.in-Err.fault c.profile_fault.result
     c.in-Err.ensures.fault c.in-Err.ensures.every_profile c.profile_fault.ensures
 
-pub returns : goal.returns
-returns c =
+pub returns-in-Err-merge_samples : goal.returns-in-Err-merge_samples
+returns-in-Err-merge_samples c =
     samples_refused (for_report c.args.value.now) c.args.input.now c.in-Ok.profile c.choice_of.result
     c.in-Err-merge_samples.fault c.batch_fault.result c.in-Ok.ensures.read
     (λ other is. c.in-Ok.ensures.every_profile other is)

@@ -230,9 +230,9 @@ where the call succeeds or fails; `.old` and `.new` are a value before and after
 leads to. The definitions that clauses cite stand in the `specs/` of their crate, and [MODEL.md](MODEL.md) says how they
 hang together.
 
-No clause can say that memory is asked for only where it is wanted, so a body that always answers `NoMemory` is proved,
-and tests show that calls succeed; nor how long a call takes. `f_with` has the clauses of `f` and takes a `Hashing`; the
-edits of `f` change its body.
+No clause can say that memory is asked for only where it is wanted, so a body that answers `NoMemory` too early is
+proved, and tests show that calls succeed; nor how long a call takes, or that it hashes by the `Hashing` that it is
+given. `f_with` has the clauses of `f` and takes a `Hashing`; the edits of `f` change its body.
 
 | crate | public calls | edits |
 |---|---|---|

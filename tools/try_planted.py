@@ -30,7 +30,7 @@ OPEN = re.compile(r"^note: src/\S+ (?:it is not proved|`search` found no proof)"
 ANSWER = re.compile(r"^\./proofs/(\S+)/\w+\.antt:\S+ error: (.*)")
 # What it says where a wrong body has another name than the answer takes, which shows nothing: a name of a step, and
 # that of the goal itself.
-NO_STEP = re.compile(r"has no field|there is no")
+NO_STEP = re.compile(r"has no field|there is no|\(nearest:")
 NO_GOAL = re.compile(r"Goals` has no")
 
 

@@ -47,22 +47,12 @@ fn expect_same(
     Ok(())
 }
 
-fn expect_same_for_all_filters(alloc: Global, text: &str, kind: Kind) -> Result<(), Fail> {
-    for (focus, ignore) in [("", ""), ("b", ""), ("", "c"), ("a", "d")] {
-        expect_same(alloc, text, focus, ignore, kind)?;
-    }
-    Ok(())
-}
-
-fn expect_same_for_all_texts(alloc: Global, kind: Kind) -> Result<(), Fail> {
-    for text in TEXTS {
-        expect_same_for_all_filters(alloc, text, kind)?;
-    }
-    Ok(())
-}
-
-#[test]
-fn rows_in_order_have_the_reports_of_all_rows(rt: HostRuntime) -> Result<(), Fail> {
+fn expect_same_for_all_kinds(
+    alloc: Global,
+    text: &str,
+    focus: &str,
+    ignore: &str,
+) -> Result<(), Fail> {
     for kind in [
         Kind::Total,
         top(Rank::Cum, 20),
@@ -70,7 +60,22 @@ fn rows_in_order_have_the_reports_of_all_rows(rt: HostRuntime) -> Result<(), Fai
         flame(7)?,
         flame(100)?,
     ] {
-        expect_same_for_all_texts(rt.alloc(), kind)?;
+        expect_same(alloc, text, focus, ignore, kind)?;
+    }
+    Ok(())
+}
+
+fn expect_same_for_all_filters(alloc: Global, text: &str) -> Result<(), Fail> {
+    for (focus, ignore) in [("", ""), ("b", ""), ("", "c"), ("a", "d")] {
+        expect_same_for_all_kinds(alloc, text, focus, ignore)?;
+    }
+    Ok(())
+}
+
+#[test]
+fn rows_in_order_have_the_reports_of_all_rows(rt: HostRuntime) -> Result<(), Fail> {
+    for text in TEXTS {
+        expect_same_for_all_filters(rt.alloc(), text)?;
     }
     Ok(())
 }

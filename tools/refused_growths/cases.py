@@ -108,7 +108,7 @@ ROWS = {
     "write_folded": "main;a 2\nb 4\n",
     "write_folded_of_odd_lines": " 5\na;b 1\na b;c d 7\n",
     "write_stacks": "a 1\nb;c 2\n",
-    "report_of_stack_texts": "a;b 2\nb 1\nc 4\n",
+    "ordered_rows_of_texts": "a;b 2\nb 1\nc 4\n",
 }
 
 SAMPLES = {

@@ -193,6 +193,7 @@ IsState-tree names nodes tree =
       apart = λ i j hi hj e. tree.apart i j (omega (arith, size)) (omega (arith, size)) e;
       unlike = tree.unlike;
       closed = closed;
+      deep = λ k lt. tree.deep k (omega (arith, size, lt));
       fits = tree.fits;
     }
   where

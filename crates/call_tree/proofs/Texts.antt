@@ -1,11 +1,11 @@
 -- The nodes of weight above 0 as texts.
-use Rattle.std.proofs.Common.{◌≡◌, ℕ, ◌+◌, ◌<◌, List, [], ◌∷◌, ◌++◌, All, AllPairs, length, filter, get_or, map, take}
+use Rattle.std.proofs.Common.{◌≡◌, ℕ, ◌+◌, ◌<◌, ◌≤◌, true, List, [], ◌∷◌, ◌++◌, All, AllPairs, length, filter, get_or, map, take}
 use Rattle.std.proofs.Common.{string_bytes, refl, sym, ap, ◌∙◌, subst, arith}
 use Rattle.std.specs.Prelude.{◌≢◌}
 use Rattle.std.specs.List.{join_with_byte}
 use Rattle.std.proofs.lemmas.List.{get_or_default, map-append}
 use Rattle.std.proofs.lemmas.Bool.{ltb-true}
-use Rattle.std.proofs.lemmas.List.Elements.{All-push, filter_passes}
+use Rattle.std.proofs.lemmas.List.Elements.{All-filter, All-push, filter_passes}
 use Rattle.std.proofs.lemmas.List.Kept.{AllPairs-filter}
 use Rattle.profile_rows.specs.declared.stack_texts.StackText.{StackText}
 use Rattle.profile_rows.specs.declared.weighted_stacks.WeightedStack.{WeightedStack}
@@ -13,6 +13,7 @@ use Rattle.profile_rows.specs.Aggregate.{AreWeighty, aggregate_of}
 use Rattle.profile_rows.specs.Names.{IsName}
 use Rattle.profile_rows.specs.StackTexts.{AreStackTexts, joined_row, plain_text}
 use Rattle.call_tree.specs.State.{PlainTree, IsState, has_weight, no_row, node_at, stack_at}
+use Rattle.profile_rows.proofs.EntryLaws.{weight_where-same}
 use Rattle.call_tree.proofs.Weighty.{aggregate_of-weighty, weighted, weightless}
 
 -- the texts of rows whose stacks are of names
@@ -76,4 +77,12 @@ AreStackTexts-nodes tree texts is all = record {
   weighty = weighty_rows tree.nodes;
   apart = AllPairs-filter (λ (a b : WeightedStack). a.stack ≢ b.stack) has_weight tree.nodes (apart_nodes tree is);
   named = all.named;
+  deep = All-filter has_weight (λ (row : WeightedStack). length row.stack ≤ 65535) tree.nodes (λ k d lt.
+      let here = ap (λ (row : WeightedStack). row.stack) (get_or_default tree.nodes k d no_row lt) in
+      let deep = is.deep k lt in
+      omega (arith, deep, ap length here));
+  fits =
+      let total = weight_where-same (λ stack. true) (filter has_weight tree.nodes) tree.nodes
+      (aggregate_of-weighty tree.nodes) in
+      omega (arith, total, is.fits);
 }

@@ -75,6 +75,7 @@ pub record IsState (tree : PlainTree) : Type 0 where
       → i ≡ j
   pub closed : (k : ℕ) (stack : List (List ℕ)) (name : List ℕ) → k < length tree.nodes
       → stack_at tree.nodes k ≡ stack ++ name ∷ [] → HasParent tree stack name
+  pub deep : (k : ℕ) → k < length tree.nodes → length (stack_at tree.nodes k) ≤ 65535
   pub fits : total_of tree.nodes < 2 ^ 63
 
 -- what every tree keeps true: there is a value, and by each value the nodes are the same but for their weights

@@ -11,9 +11,7 @@ ghost use Rattle.collector.specs.Dealt.{place_in, rows_dealt, stands_before, sta
 
 use anyhow::{Result, bail};
 use profile_store::laws::logs_add_up;
-use profile_store::{
-    CallTree, Journal, Op, Receipt, Reply, SessionLog, audit, report_of_stack_texts,
-};
+use profile_store::{CallTree, Journal, Op, OrderedRows, Receipt, Reply, SessionLog, audit};
 use std::alloc::Global;
 
 /// The folded report of what the last logs add. All others' changes stand before the journal's last reset.
@@ -51,7 +49,8 @@ fn folded_report(alloc: Global, tree: &CallTree) -> Result<Vec<u8>>
         → IfOk result (λ text. text.items ≡ folded_text_of (rows_at 0 rows)) }
 {
     let texts = tree.stack_texts(alloc, 0)?;
-    Ok(report_of_stack_texts(alloc, texts.as_slice())?)
+    let rows = OrderedRows::of_texts(alloc, texts.as_slice())?;
+    Ok(rows.write(alloc)?)
 }
 
 /// Whether all changes of logs stand before this place.

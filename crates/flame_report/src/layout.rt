@@ -1,4 +1,4 @@
-//! The layout of a flame graph, by one pass over rows in order. A row is compared with the row before alone: what the
+//! The layout of a flame graph, over rows in order. A row is compared with the row before alone: what the
 //! two don't share are the paths that come first with this row, in the order of paths.
 
 ghost use Rattle.std.specs.Prelude.{ℕ, ◌≡◌, ◌++◌, ◌+◌, ◌<◌, ◌≤◌, ◌^◌, false, IfOk, OnOk, drop, length, map, take};
@@ -82,8 +82,8 @@ fn shapes_of(alloc: Global, rows: &OrderedRows) -> Result<Shapes, AllocError>
     let mut known = Vec::with_capacity(alloc, rows.len())?;
     let mut depths = Vec::with_capacity(alloc, rows.len())?;
     for at in 0..rows.len() {
-        let (shared, depth) = shape_at(rows, at);
-        known.push(shared)?;
+        let (paths, depth) = shape_at(rows, at);
+        known.push(paths)?;
         depths.push(depth)?;
     }
     Ok(Shapes { known, depths })
@@ -170,8 +170,7 @@ fn rect_at<'a>(
     })
 }
 
-/// Adds the rectangles of the paths that come first with a row, of which the shortest takes a column. Below one that
-/// takes none there is none.
+/// Adds the rectangles of the paths that come first with a row. Below one that takes no column there is none.
 fn draw_row<'a>(
     alloc: Global,
     drawing: &mut Drawing<'a>,

@@ -54,7 +54,7 @@ fn flame(
     })
 }
 
-/// The plain answer to a query over rows in order. `hashing` says how names are hashed.
+/// The plain answer to a query over rows in order, whichever value it names. `hashing` says how names are hashed.
 ///
 /// # Errors
 ///
@@ -95,7 +95,7 @@ fn top_of_tree(
     top_list(FrameTotals { total, frames }, rank, count)
 }
 
-/// The answer over the rows of a tree. What asks for all of them needs no rows.
+/// The answer over the rows of a tree. A total and a top list of all of them need no rows.
 fn held_answer(alloc: Global, tree: &CallTree, query: &Query) -> Result<Answer, NoMemory>
     requires { query.now.value < tree.now.width }
     ensures { IfOk result

@@ -1,11 +1,12 @@
 -- Rows whose stacks are texts, which are rows by their stack texts.
 use Rattle.std.proofs.Common.{◌≡◌, ℕ, suc, ◌<◌, ◌≤◌, true, false, cond, List, [], ◌∷◌, length, get_or, map, refl, sym}
-use Rattle.std.proofs.Common.{ap, ◌∙◌, arith}
-use Rattle.std.specs.Prelude.{All}
+use Rattle.std.proofs.Common.{ap, ◌∙◌, arith, subst}
+use Rattle.std.specs.Prelude.{◌≢◌, All}
 use Rattle.std.specs.List.{AllByRecursion, join_with_byte}
 use Rattle.std.specs.Str.{bytes_eq}
+use Rattle.std.proofs.lemmas.Bool.{eqb-false}
 use Rattle.std.proofs.lemmas.List.{get_or-map, length-map}
-use Rattle.std.proofs.lemmas.List.Elements.{recursion_from_All}
+use Rattle.std.proofs.lemmas.List.Elements.{All-from_recursion, recursion_from_All}
 use Rattle.std.proofs.lemmas.List.Sums.{sum_by-cons}
 use Rattle.profile_rows.specs.declared.stack_texts.StackText.{StackText}
 use Rattle.profile_rows.specs.declared.weighted_stacks.WeightedStack.{WeightedStack}
@@ -14,8 +15,9 @@ use Rattle.profile_rows.specs.Names.{IsName}
 use Rattle.profile_rows.specs.StackTexts.{AreStackTexts, TextState, joined_row, plain_text}
 use Rattle.profile_rows.proofs.SameNames.{same_from_is_same_name}
 use Rattle.folded_text.specs.FoldedText.{frames_of}
-use Rattle.folded_text.specs.TextRows.{AreTextRows, rows_with, spelled_rows}
-use Rattle.folded_text.proofs.Writing.{frames_of-joined}
+use Rattle.folded_text.specs.TextRows.{AreJoinedTexts, AreTextRows, rows_with, spelled_rows}
+use Rattle.folded_text.proofs.Lines.{IsFeed}
+use Rattle.folded_text.proofs.Writing.{frames_of-joined, joined_plain}
 
 abbrev Named : WeightedStack → Type 0
 Named row = All IsName row.stack
@@ -99,3 +101,20 @@ module _ (weights : Weighted) (texts : List StackText)
         (sym (cut_here i d (omega (arith, before, lt))) ∙ ap frames_of same ∙ cut_here j d lt));
     joined = λ k d lt. text_here k d lt ∙ ap (join_with_byte 59) (sym (cut_here k d lt));
   }
+
+  no_feed : (bytes : List ℕ) → AllByRecursion (λ byte. IsFeed byte ≡ false) bytes → All (λ byte. byte ≢ 10) bytes
+  no_feed bytes all = λ k d lt. eqb-false _ 10 (All-from_recursion (λ byte. IsFeed byte ≡ false) bytes all k d lt)
+
+  pub AreJoinedTexts-lent : AreJoinedTexts rows
+  AreJoinedTexts-lent = λ k d lt.
+      let stack = (plain k d lt).stack in
+      let within : k < length are.rows = omega (arith, lt, size) in
+      let names = recursion_from_All IsName stack (are.named k (record { stack = []; weight = 0 }) within) in
+      let deep = are.deep k (record { stack = []; weight = 0 }) within in (
+        (
+          omega (arith, deep, ap length (cut_here k d lt)),
+          subst (All (λ byte. byte ≢ 10)) (sym (text_here k d lt))
+              (no_feed (join_with_byte 59 stack) (joined_plain stack names)),
+        ),
+        AreTextRows-lent.joined k d lt,
+      )

@@ -357,6 +357,12 @@ spelled-kept focus ignored (row ∷ rows) =
       | false ↦ spelled-kept focus ignored rows
     ]
 
+-- rows that are made where all is well are other rows where the two are the same
+pub as_rows : {E : Type 0} (outcome : Result (List WeightedStack) E) (rows others : List WeightedStack)
+    → rows ≡ others → IfOk outcome (λ made. made ≡ rows) → IfOk outcome (λ made. made ≡ others)
+as_rows (Ok made) rows others same is = is ∙ same
+as_rows (Err fault) rows others same is = tt
+
 -- what is written where all is well is another text where the two are the same
 pub as_text : {T E : Type 0} (bytes : T → List ℕ) (outcome : Result T E) (text other : List ℕ)
     → text ≡ other → IfOk outcome (λ written. bytes written ≡ text) → IfOk outcome (λ written. bytes written ≡ other)

@@ -37,7 +37,7 @@ all_append P (x ∷ xs) ys a b = (a.0, all_append P xs ys a.1 b)
 
 -- ---- the stack text
 
-joined_plain : (names : List (List ℕ))
+pub joined_plain : (names : List (List ℕ))
     → AllByRecursion IsName names → AllByRecursion (λ byte. IsFeed byte ≡ false) (join_with_byte 59 names)
 joined_plain [] all = tt
 joined_plain (name ∷ []) all =

@@ -4,8 +4,8 @@ use denote.Ref.{Bor}
 use Rattle.profile_rows.specs.declared.weighted_stacks.WeightedStack.{WeightedStack}
 use Rattle.profile_rows.specs.Aggregate.{aggregate_of, rows_of}
 use Rattle.profile_rows.specs.Names.{IsName}
-use Rattle.folded_text.specs.declared.ordered_rows.RowNames.{RowNames}
-use Rattle.folded_text.specs.declared.ordered_rows.RowNames.TheVariants as names
+use Rattle.folded_text.specs.declared.row_names.RowNames.{RowNames}
+use Rattle.folded_text.specs.declared.row_names.RowNames.TheVariants as names
 use Rattle.folded_text.specs.declared.ordered_rows.InOrder.{InOrder}
 use Rattle.folded_text.specs.declared.ordered_rows.InOrder.TheVariants as order
 use Rattle.folded_text.specs.FoldedText.{IsFoldedText}

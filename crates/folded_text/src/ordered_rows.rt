@@ -5,26 +5,29 @@ ghost use Rattle.std.specs.List.{common_prefix_len};
 ghost use Rattle.std.specs.Option.{option_copied};
 ghost use Rattle.std.specs.Ordering.{eq_by_cmp};
 ghost use Rattle.profile_rows.specs.declared.weighted_stacks.WeightedStack.{WeightedStack};
-ghost use Rattle.profile_rows.specs.Aggregate.{AreWeighty, IsAscending, aggregate_of, rows_of};
+ghost use Rattle.profile_rows.specs.Aggregate.{AreWeighty, IsAscending, Weighted, aggregate_of, rows_of};
 ghost use Rattle.profile_rows.specs.Merging.{row_at};
 ghost use Rattle.profile_rows.specs.Names.{IsName, name_cmp};
 ghost use Rattle.profile_rows.specs.Rows.{kept_rows, total_of};
+ghost use Rattle.profile_rows.specs.StackTexts.{AreStackTexts};
 ghost use Rattle.profile_rows.specs.TopList.{AreTotalsOf};
-ghost use Rattle.folded_text.specs.FoldedText.{IsFoldedText, IsWorkFault, folded_text_of, frames_of};
+ghost use Rattle.folded_text.specs.FoldedText.{IsFoldedText, IsWorkFault, folded_text_of, rows_text};
 ghost use Rattle.folded_text.specs.OrderedRows.{AreNames, IsOrderedText, names_in, rows_in};
 ghost use Rattle.folded_text.specs.TextRows.{AreKnownTexts, spelled_rows};
 
 use crate::folded::FoldedFault;
-use crate::known_names::KnownNames;
-use crate::stack_frames::{Frames, measured, replace_by_text};
+use crate::row_names::RowNames;
+use crate::row_shape::{RowShape, shape_by_names, shape_by_texts};
+use crate::stack_frames::{measured, replace_by_text};
 use crate::text_rows::{TextRows, read_text_rows, stacks_of_texts};
 use crate::text_stacks::TextStacks;
 use crate::written::write_stacks;
 use basics::NoMemory;
 use profile_rows::{
-    FrameTotals, Hashing, Name, WeightedStack, WeightedStacks, aggregate_stacks, keeps, kept_totals,
+    FrameTotals, Hashing, Name, StackText, WeightedStack, WeightedStacks, aggregate_stacks, keeps,
+    kept_totals,
 };
-use std::alloc::{AllocError, Global};
+use std::alloc::Global;
 use std::marker::Model;
 
 /// Rows by the names of their stacks, or by their texts.
@@ -52,118 +55,6 @@ impl<'a> Model for OrderedRows<'a> {
     ghost view = { λ ordered. rows_in ordered.rows };
 
     ghost invariant = { λ ordered. IsAscending (rows_in ordered.rows) × AreWeighty (rows_in ordered.rows) };
-}
-
-/// The names of a row's stack, root first.
-#[derive(Drop)]
-pub enum RowNames<'a> {
-    Named(&'a [Name]),
-    Spelled(Vec<&'a str>),
-}
-
-/// A second owner of a name.
-fn shared_name(names: &[Name], at: usize) -> Result<Name, NoMemory>
-    requires { at < length names.now }
-    ensures { IfOk result (λ name. name ≡ slice_index_or names.now at []) }
-{
-    names[at].share()
-}
-
-/// The name of a frame.
-fn known_name<'a>(
-    alloc: Global,
-    known: &mut KnownNames<'a>,
-    frames: &[&'a str],
-    at: usize,
-) -> Result<Name, NoMemory>
-    requires names { All IsName (map (λ frame. frame.now) frames.now) }
-    requires index { at < length frames.now }
-    ensures { IfOk result (λ name. name ≡ slice_index_or (map (λ frame. frame.now) frames.now) at []) }
-{
-    known.name_of(alloc, frames[at])
-}
-
-impl<'a> RowNames<'a> {
-    /// How many names there are.
-    pub fn len(&self) -> usize
-        ensures { result ≡ length (names_in self.now) }
-    {
-        match self {
-            RowNames::Named(names) => names.len(),
-            RowNames::Spelled(frames) => frames.len(),
-        }
-    }
-
-    /// A name: a second owner of the row's, or of that which is known of its text or becomes known now.
-    ///
-    /// # Errors
-    ///
-    /// `NoMemory`.
-    pub fn name(
-        &self,
-        alloc: Global,
-        known: &mut KnownNames<'a>,
-        at: usize,
-    ) -> Result<Name, NoMemory>
-        requires names { AreNames self.now }
-        requires index { at < length (names_in self.now) }
-        ensures { IfOk result (λ name. name ≡ slice_index_or (names_in self.now) at []) }
-    {
-        match self {
-            RowNames::Named(names) => shared_name(*names, at),
-            RowNames::Spelled(frames) => known_name(alloc, known, frames.as_slice(), at),
-        }
-    }
-}
-
-/// What is asked of a row's stack before its names are.
-#[derive(Clone, Copy)]
-pub struct RowShape {
-    /// How many names it has in common with the stack of the row before, at their roots.
-    pub shared: usize,
-    /// How many names it has.
-    pub depth: usize,
-}
-
-/// How many names two stacks have in common at their roots.
-fn shared_by_names(left: &[Name], right: &[Name]) -> usize
-    ensures { result ≡ common_prefix_len (eq_by_cmp name_cmp) left.now right.now }
-{
-    for (at, name) in left.iter().enumerate() {
-        if at >= right.len() || *name != right[at] {
-            return at;
-        }
-    }
-    left.len()
-}
-
-/// Whether the next of some frames is this one.
-fn is_next(frames: &mut Frames, frame: &str) -> bool
-    ensures { (rest : List (List ℕ)) → common_prefix_len (eq_by_cmp name_cmp) frames.old (frame.now ∷ rest)
-        ≡ (if result then 1 + common_prefix_len (eq_by_cmp name_cmp) frames.new rest else 0) }
-{
-    match frames.next_frame() {
-        Some(next) => next == frame,
-        None => false,
-    }
-}
-
-/// How many frames a stack text has in common with that of the row before, at their roots, and how many it has.
-fn shape_by_texts(before: &str, text: &str) -> RowShape
-    ensures shared { result.shared ≡ common_prefix_len (eq_by_cmp name_cmp) (frames_of before.now) (frames_of text.now) }
-    ensures depth { result.depth ≡ length (frames_of text.now) }
-{
-    let mut shared = 0;
-    let mut depth = 0;
-    let mut frames = Frames::of(text);
-    let mut others = Frames::of(before);
-    while let Some(frame) = frames.next_frame() {
-        if shared == depth && is_next(&mut others, frame) {
-            shared += 1;
-        }
-        depth += 1;
-    }
-    RowShape { shared, depth }
 }
 
 /// The rows that a focus and an ignored name leave.
@@ -278,7 +169,23 @@ impl<'a> OrderedRows<'a> {
         Ok(OrderedRows::named(rows))
     }
 
-    /// That the rows are in order and that each weighs something.
+    /// Puts rows in order by the texts of their stacks, which it lends. No name is made of them.
+    ///
+    /// # Errors
+    ///
+    /// `NoMemory`.
+    pub fn of_texts(alloc: Global, texts: &'a [StackText]) -> Result<OrderedRows<'a>, NoMemory>
+        requires { (weights : Weighted) × AreStackTexts weights texts.now }
+        ensures { (weights : Weighted) → AreStackTexts weights texts.now
+            → IfOk result (λ ordered. ordered ≡ rows_of weights) }
+    {
+        let rows = TextStacks::of_texts(alloc, texts)?;
+        Ok(OrderedRows {
+            rows: InOrder::Spelled(rows),
+        })
+    }
+
+    /// Does nothing; its clauses say that the rows are in order and that each weighs something.
     pub fn facts(&self)
         ensures ascending { IsAscending self.now }
         ensures weighty { AreWeighty self.now }
@@ -341,11 +248,7 @@ impl<'a> OrderedRows<'a> {
         match &self.rows {
             InOrder::Named(rows) => {
                 let rows = rows.rows();
-                let (before, names) = (rows[at - 1].stack.names(), rows[at].stack.names());
-                RowShape {
-                    shared: shared_by_names(before, names),
-                    depth: names.len(),
-                }
+                shape_by_names(rows[at - 1].stack.names(), rows[at].stack.names())
             }
             InOrder::Spelled(rows) => shape_by_texts(rows.text(at - 1), rows.text(at)),
         }
@@ -359,7 +262,7 @@ impl<'a> OrderedRows<'a> {
     pub fn names<'s>(&'s self, alloc: Global, at: usize) -> Result<RowNames<'s>, NoMemory>
         requires { at < length self.now }
         ensures names { IfOk result (λ names. names_in names ≡ (row_at self.now at).stack) }
-        ensures are { IfOk result AreNames }
+        ensures named { IfOk result AreNames }
         ensures depth { length (row_at self.now at).stack ≤ 65535 }
     {
         match &self.rows {
@@ -376,7 +279,7 @@ impl<'a> OrderedRows<'a> {
     ///
     /// # Errors
     ///
-    /// `NoMemory`.
+    /// `NoMemory`; the rows are then gone.
     pub fn keep(
         self,
         alloc: Global,
@@ -397,7 +300,8 @@ impl<'a> OrderedRows<'a> {
     ///
     /// `NoMemory`.
     pub fn write(&self, alloc: Global) -> Result<Vec<u8>, NoMemory>
-        ensures { IfOk result (λ text. text.items ≡ folded_text_of self.now) }
+        ensures lines { IfOk result (λ text. text.items ≡ rows_text self.now) }
+        ensures report { IfOk result (λ text. text.items ≡ folded_text_of self.now) }
     {
         match &self.rows {
             InOrder::Named(rows) => write_stacks(alloc, rows),

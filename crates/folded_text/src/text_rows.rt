@@ -5,7 +5,7 @@ ghost use Rattle.std.specs.Prelude.{ℕ, ◌≡◌, ◌≢◌, ◌+◌, ◌^◌,
 ghost use Rattle.profile_rows.specs.declared.weighted_stacks.WeightedStack.{WeightedStack};
 ghost use Rattle.profile_rows.specs.Merging.{AddsRow, AreMergedSoFar, row_spelled, with_added_at};
 ghost use Rattle.profile_rows.specs.Rows.{total_of};
-ghost use Rattle.folded_text.specs.FoldedText.{IsFirstFault, IsLineFault, IsRowLine, folded_text_of, frames_of};
+ghost use Rattle.folded_text.specs.FoldedText.{IsFirstFault, IsLineFault, IsRowLine, frames_of};
 ghost use Rattle.folded_text.specs.StackOrder.{IsJoined};
 ghost use Rattle.folded_text.specs.TextRows.{AreKnownTexts, AreSumsOfText, AreTextRows, IsStackText, by_text, spelled_rows, text_lines};
 
@@ -197,16 +197,6 @@ pub(crate) fn write_text_rows(alloc: Global, rows: &[TextRow]) -> Result<Vec<u8>
         text.push(b'\n')?;
     }
     Ok(text)
-}
-
-/// The folded report of rows, which are sorted by their texts.
-pub(crate) fn report_of_texts(alloc: Global, rows: Vec<TextRow>) -> Result<Vec<u8>, NoMemory>
-    requires { AreTextRows rows.items }
-    ensures { IfOk result (λ report. report.items ≡ folded_text_of (spelled_rows rows.entry.items)) }
-{
-    let mut rows = rows;
-    sort_by_text(&mut rows)?;
-    write_text_rows(alloc, rows.as_slice())
 }
 
 /// Rows with the names of their stacks.

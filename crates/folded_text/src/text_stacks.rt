@@ -1,13 +1,14 @@
 //! Rows whose stacks are texts, in the order of their stacks.
 
-ghost use Rattle.std.specs.Prelude.{◌≡◌, ◌^◌, ◌<◌, ◌≤◌, All, IfOk, filter, length};
+ghost use Rattle.std.specs.Prelude.{◌≡◌, ◌^◌, ◌<◌, ◌≤◌, All, IfOk, filter, length, map};
 ghost use Rattle.std.specs.List.{common_prefix_len};
 ghost use Rattle.std.specs.Option.{option_copied};
 ghost use Rattle.std.specs.Ordering.{eq_by_cmp};
-ghost use Rattle.profile_rows.specs.Aggregate.{AreWeighty, IsAscending, aggregate_of, rows_of};
+ghost use Rattle.profile_rows.specs.Aggregate.{Weighted, aggregate_of, rows_of};
 ghost use Rattle.profile_rows.specs.Merging.{row_at};
 ghost use Rattle.profile_rows.specs.Names.{name_cmp};
 ghost use Rattle.profile_rows.specs.Rows.{has_name, is_kept, kept_rows, total_of};
+ghost use Rattle.profile_rows.specs.StackTexts.{AreStackTexts, plain_text};
 ghost use Rattle.profile_rows.specs.TopList.{AreTotalsOf};
 ghost use Rattle.folded_text.specs.FoldedText.{frames_of, rows_text};
 ghost use Rattle.folded_text.specs.TextRows.{AreTextRows, IsStackText, spelled_rows};
@@ -17,7 +18,7 @@ use crate::text_row::TextRow;
 use crate::text_rows::{sort_by_text, write_text_rows};
 use crate::text_totals::count_rows;
 use basics::NoMemory;
-use profile_rows::{CountedRows, FrameTotals, Hashing, Name};
+use profile_rows::{CountedRows, FrameTotals, Hashing, Name, StackText};
 use std::alloc::Global;
 use std::marker::Model;
 
@@ -70,7 +71,7 @@ fn keeps(text: &str, focus: Option<&Name>, ignored: Option<&Name>) -> bool
     focused && !left_out
 }
 
-/// Leaves the rows that a focus and an ignored name leave.
+/// Takes out the rows without the focus and those with the ignored name.
 fn keep_rows(rows: &mut Vec<TextRow>, focus: Option<&Name>, ignored: Option<&Name>)
     ensures { rows.new.items
         ≡ filter (λ row. is_kept (option_copied focus.entry) (option_copied ignored.entry) (frames_of row.text))
@@ -91,6 +92,17 @@ fn total_of_texts(rows: &[TextRow]) -> u64
     total
 }
 
+/// The rows with their texts lent.
+fn lent_rows<'a>(alloc: Global, texts: &'a [StackText]) -> Result<Vec<TextRow<'a>>, NoMemory>
+    ensures { IfOk result (λ rows. rows.items ≡ map plain_text texts.now) }
+{
+    let mut rows = Vec::with_capacity(alloc, texts.len())?;
+    for row in texts {
+        rows.push(TextRow::new(row.text.as_str(), row.weight))?;
+    }
+    Ok(rows)
+}
+
 impl<'a> TextStacks<'a> {
     /// Rows of this total, sorted.
     pub fn sorted(rows: Vec<TextRow<'a>>, total: u64) -> Result<TextStacks<'a>, NoMemory>
@@ -103,6 +115,17 @@ impl<'a> TextStacks<'a> {
         let mut rows = rows;
         sort_by_text(&mut rows)?;
         Ok(TextStacks { rows, total })
+    }
+
+    /// Rows of these texts, sorted.
+    pub fn of_texts(alloc: Global, texts: &'a [StackText]) -> Result<TextStacks<'a>, NoMemory>
+        requires { (weights : Weighted) × AreStackTexts weights texts.now }
+        ensures { (weights : Weighted) → AreStackTexts weights texts.now
+            → IfOk result (λ stacks. stacks ≡ rows_of weights) }
+    {
+        let rows = lent_rows(alloc, texts)?;
+        let total = total_of_texts(rows.as_slice());
+        TextStacks::sorted(rows, total)
     }
 
     /// How many rows there are.
@@ -137,7 +160,7 @@ impl<'a> TextStacks<'a> {
         self.rows[at].text()
     }
 
-    /// Leaves the rows that a focus and an ignored name leave. Takes no memory.
+    /// Takes out the rows without the focus and those with the ignored name. Takes no memory.
     pub fn keep(&mut self, focus: Option<&Name>, ignored: Option<&Name>)
         ensures { self.new ≡ kept_rows (option_copied focus.entry) (option_copied ignored.entry) self.old }
     {

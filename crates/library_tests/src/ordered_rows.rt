@@ -3,7 +3,7 @@
 
 use crate::reports::{answer_by_both, answer_text, flame, some_name, top};
 use flame_report::{Kind, Query, Rank, report_in_order};
-use stack_text::{Hashing, read_folded, read_ordered};
+use stack_text::{FoldedFault, Hashing, read_folded, read_ordered};
 use std::alloc::Global;
 use std::test::Fail;
 
@@ -76,6 +76,28 @@ fn expect_same_for_all_filters(alloc: Global, text: &str) -> Result<(), Fail> {
 fn rows_in_order_have_the_reports_of_all_rows(rt: HostRuntime) -> Result<(), Fail> {
     for text in TEXTS {
         expect_same_for_all_filters(rt.alloc(), text)?;
+    }
+    Ok(())
+}
+
+#[test]
+fn a_text_with_a_fault_has_no_rows_in_order(rt: HostRuntime) -> Result<(), Fail> {
+    let table: [(&[u8], FoldedFault); 5] = [
+        (b"a\n", FoldedFault::NoCount { line: 1 }),
+        (b"a 1\nb 1.5\n", FoldedFault::NoCount { line: 2 }),
+        (b"a 1\n\xff 1\n", FoldedFault::NotUtf8 { line: 2 }),
+        (
+            b"a 1\nb 9223372036854775808\n",
+            FoldedFault::Count { line: 2 },
+        ),
+        (
+            b"a 9223372036854775807\nb 1\n",
+            FoldedFault::Heavy { line: 2 },
+        ),
+    ];
+    for (text, want) in table {
+        let fault = read_ordered(rt.alloc(), Hashing::fixed(), text).err();
+        assert!(rt; fault == Some(want), "{text:?}");
     }
     Ok(())
 }

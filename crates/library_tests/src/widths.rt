@@ -4,7 +4,7 @@ ghost use Rattle.std.specs.Prelude.{◌<◌};
 
 use crate::helpers::{all_text, batch_of as made_batch, grower_of};
 use call_tree::CallTree;
-use folded_text::report_of_stack_texts;
+use folded_text::OrderedRows;
 use pprof_profile::Profile;
 use stack_text::{Batch, ValueChoice, ValueUnit, aggregate, batch_of, profile_of, write_stacks};
 use std::alloc::Global;
@@ -87,7 +87,8 @@ fn folded_by_texts(alloc: Global, tree: &CallTree, value: u32) -> Result<Vec<u8>
     requires { value < tree.now.width }
 {
     let texts = tree.stack_texts(alloc, value)?;
-    Ok(report_of_stack_texts(alloc, texts.as_slice())?)
+    let rows = OrderedRows::of_texts(alloc, texts.as_slice())?;
+    Ok(rows.write(alloc)?)
 }
 
 // What a tree has of a value: its stacks from their names, these from their texts, and its names.

@@ -16,7 +16,7 @@ use crate::progress::{Progress, RowGate};
 use crate::storing::{Stored, is_warm, store};
 use call_tree::CallTree;
 use flame_words::LiveOptions;
-use folded_text::report_of_stack_texts;
+use folded_text::OrderedRows;
 use live_store::Blank;
 use op_book::laws::additions_count_since_the_last_reset;
 use op_book::{SessionLog, audit_with};
@@ -179,5 +179,6 @@ fn folded_report(alloc: Global, tree: &CallTree, value: u32) -> Result<Vec<u8>, 
         → IfOk result (λ text. text.items ≡ folded_at value rows) }
 {
     let texts = tree.stack_texts(alloc, value)?;
-    report_of_stack_texts(alloc, texts.as_slice())
+    let rows = OrderedRows::of_texts(alloc, texts.as_slice())?;
+    rows.write(alloc)
 }

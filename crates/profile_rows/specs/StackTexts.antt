@@ -1,10 +1,11 @@
 -- Rows whose stacks are texts.
-use Rattle.std.specs.Prelude.{ℕ, ◌≡◌, ◌≢◌, All, AllPairs, List, map, string_bytes}
+use Rattle.std.specs.Prelude.{ℕ, ◌≡◌, ◌≢◌, ◌<◌, ◌≤◌, ◌^◌, All, AllPairs, List, length, map, string_bytes}
 use Rattle.std.specs.List.{join_with_byte}
 use Rattle.profile_rows.specs.declared.stack_texts.StackText.{StackText}
 use Rattle.profile_rows.specs.declared.weighted_stacks.WeightedStack.{WeightedStack}
 use Rattle.profile_rows.specs.Aggregate.{AreWeighty, Weighted, aggregate_of}
 use Rattle.profile_rows.specs.Names.{IsName}
+use Rattle.profile_rows.specs.Rows.{total_of}
 
 -- a row by its text
 pub record TextState : Type 0 where
@@ -26,3 +27,5 @@ pub record AreStackTexts (weights : Weighted) (texts : List StackText) : Type 0 
   pub weighty : AreWeighty rows
   pub apart : AllPairs (λ (a b : WeightedStack). a.stack ≢ b.stack) rows
   pub named : All (λ (row : WeightedStack). All IsName row.stack) rows
+  pub deep : All (λ (row : WeightedStack). length row.stack ≤ 65535) rows
+  pub fits : total_of rows < 2 ^ 63

@@ -31,7 +31,6 @@ pub use flame_report::report_of;
 pub use flame_report::report_of_stacks;
 pub use flame_report::top_list;
 pub use flame_report::top_text;
-pub use folded_text::report_of_stack_texts;
 pub use live_store::Blank;
 pub use live_store::Cause;
 pub use live_store::FinishedWorker;

@@ -110,7 +110,7 @@ fn deep_line(alloc: Global, frames: usize) -> Result<Vec<u8>, Fail> {
 #[test]
 fn the_deepest_line(rt: HostRuntime) -> Result<(), Fail> {
     let deepest = deep_line(rt.alloc(), 65_535)?;
-    for words in [TOP, FOLD] {
+    for words in [TOP, FOLD, ["flame", "flame"]] {
         let _report = report_of(&rt, rt.alloc(), words.as_slice(), deepest.as_slice())?;
     }
     Ok(())

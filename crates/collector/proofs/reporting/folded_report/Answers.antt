@@ -5,8 +5,8 @@ use Rattle.profile_store.specs.State.{weights_of}
 use Rattle.profile_store.specs.declared.StackText.{StackText}
 use Rattle.collector.proofs.reporting.folded_report.Goals as goal
 
-pub report_of_stack_texts-requires : goal.report_of_stack_texts-requires
-report_of_stack_texts-requires c =
+pub of_texts-requires : goal.of_texts-requires
+of_texts-requires c =
     let weights = weights_of c.args.tree.now 0 in (
       weights,
       subst

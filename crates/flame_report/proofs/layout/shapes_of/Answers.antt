@@ -23,8 +23,8 @@ loop-at-preserved c =
       each = ap length known ∙ length_push c.loop-at.known.items _ ∙ ap (λ n. n + 1) so_far.each;
       also = ap length depths ∙ length_push c.loop-at.depths.items _ ∙ ap (λ n. n + 1) so_far.also;
       known = pushed (known_at c.args.rows.now) c.loop-at.known.items c.push.new.self.items
-          c.shape_at-shared.result.0 c.loop-at.at so_far.each known c.shape_at-shared.ensures.known so_far.known;
+          c.shape_at-paths.result.0 c.loop-at.at so_far.each known c.shape_at-paths.ensures.known so_far.known;
       depth = pushed (λ k. length (stack_at c.args.rows.now k)) c.loop-at.depths.items
-          c.push-in-loop-at.new.self.items c.shape_at-shared.result.1 c.loop-at.at so_far.also depths
-          c.shape_at-shared.ensures.depth so_far.depth;
+          c.push-in-loop-at.new.self.items c.shape_at-paths.result.1 c.loop-at.at so_far.also depths
+          c.shape_at-paths.ensures.depth so_far.depth;
     }

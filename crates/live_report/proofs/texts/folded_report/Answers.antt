@@ -5,8 +5,8 @@ use Rattle.profile_rows.specs.declared.stack_texts.StackText.{StackText}
 use Rattle.call_tree.specs.State.{weights_of}
 use Rattle.live_report.proofs.texts.folded_report.Goals as goal
 
-pub report_of_stack_texts-requires : goal.report_of_stack_texts-requires
-report_of_stack_texts-requires c =
+pub of_texts-requires : goal.of_texts-requires
+of_texts-requires c =
     let weights = weights_of c.args.tree.now c.args.value in (
       weights,
       subst

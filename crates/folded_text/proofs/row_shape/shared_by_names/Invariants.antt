@@ -2,7 +2,7 @@ use Rattle.std.proofs.Common.{◌≡◌, ◌+◌, ◌≤◌, drop, length}
 use Rattle.std.specs.List.{common_prefix_len}
 use Rattle.std.specs.Ordering.{eq_by_cmp}
 use Rattle.profile_rows.specs.Names.{name_cmp}
-use Rattle.folded_text.proofs.ordered_rows.shared_by_names.Given as goal
+use Rattle.folded_text.proofs.row_shape.shared_by_names.Given as goal
 
 abbrev pub invariant-loop-at : goal.invariant-loop-at
 invariant-loop-at l = record {

@@ -4,7 +4,7 @@ use Rattle.std.specs.Prelude.{All}
 use denote.Ref.{Bor}
 use Rattle.profile_rows.specs.Names.{IsName}
 use Rattle.folded_text.specs.OrderedRows.{AreNames}
-use Rattle.folded_text.proofs.ordered_rows.RowNames.name.Goals as goal
+use Rattle.folded_text.proofs.row_names.RowNames.name.Goals as goal
 
 pub known_name-requires-clause-names : goal.known_name-requires-clause-names
 known_name-requires-clause-names c =

@@ -4,7 +4,7 @@ use Rattle.std.specs.List.{common_prefix_len}
 use Rattle.std.specs.Ordering.{eq_by_cmp}
 use Rattle.std.specs.Cmp.Lexicographic.{texts_ties}
 use Rattle.profile_rows.specs.Names.{name_cmp}
-use Rattle.folded_text.proofs.ordered_rows.is_next.Goals as goal
+use Rattle.folded_text.proofs.row_shape.is_next.Goals as goal
 
 pub returns-in-Some : goal.returns-in-Some
 returns-in-Some c = λ rest.

@@ -3,7 +3,7 @@ use Rattle.std.proofs.Common.{◌<◌, ℕ, List, [], sym, subst}
 use Rattle.std.proofs.lemmas.List.{get_or-map, length-map}
 use denote.Ref.{Bor}
 use Rattle.profile_rows.specs.Names.{IsName}
-use Rattle.folded_text.proofs.ordered_rows.known_name.Goals as goal
+use Rattle.folded_text.proofs.row_names.known_name.Goals as goal
 
 abbrev text_of : Bor (List ℕ) → List ℕ
 text_of frame = frame.now

@@ -3,7 +3,7 @@ use Rattle.std.specs.List.{common_prefix_len}
 use Rattle.std.specs.Ordering.{eq_by_cmp}
 use Rattle.profile_rows.specs.Names.{name_cmp}
 use Rattle.folded_text.specs.FoldedText.{frames_of}
-use Rattle.folded_text.proofs.ordered_rows.shape_by_texts.Given as goal
+use Rattle.folded_text.proofs.row_shape.shape_by_texts.Given as goal
 
 -- the frames so far are counted, and those that are the same as the others'
 abbrev pub invariant-loop-frame : goal.invariant-loop-frame

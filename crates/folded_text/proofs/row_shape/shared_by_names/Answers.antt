@@ -6,9 +6,9 @@ use Rattle.std.proofs.lemmas.List.Sums.{common_prefix_len-drop_yes, common_prefi
 use Rattle.std.proofs.lemmas.Bool.{not-false, not-true}
 use Rattle.profile_rows.specs.Names.{name_cmp}
 use Rattle.profile_rows.proofs.CommonPrefix.{nothing_shared}
-use Rattle.folded_text.proofs.ordered_rows.shared_by_names.Goals as goal
-use Rattle.folded_text.proofs.ordered_rows.shared_by_names.Goals.{then-at-right-via-then-at-right}
-use Rattle.folded_text.proofs.ordered_rows.shared_by_names.Goals.{then-at-right-via-else-at-right+then-ne}
+use Rattle.folded_text.proofs.row_shape.shared_by_names.Goals as goal
+use Rattle.folded_text.proofs.row_shape.shared_by_names.Goals.{then-at-right-via-then-at-right}
+use Rattle.folded_text.proofs.row_shape.shared_by_names.Goals.{then-at-right-via-else-at-right+then-ne}
 
 pub returns-then-at-right : goal.returns-then-at-right
 returns-then-at-right c =

@@ -1,6 +1,6 @@
 use Rattle.std.proofs.Common.{◌≡◌, map, take}
 use Rattle.profile_rows.specs.StackTexts.{plain_text}
-use Rattle.folded_text.proofs.stack_texts.lent_rows.Given as goal
+use Rattle.folded_text.proofs.text_stacks.lent_rows.Given as goal
 
 -- the rows so far
 abbrev pub invariant-loop-row : goal.invariant-loop-row

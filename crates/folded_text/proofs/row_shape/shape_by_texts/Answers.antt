@@ -5,7 +5,7 @@ use Rattle.std.proofs.lemmas.List.Sums.{common_prefix_len-le}
 use Rattle.std.specs.Ordering.{eq_by_cmp}
 use Rattle.profile_rows.specs.Names.{name_cmp}
 use Rattle.folded_text.proofs.TextRows.{frames-within}
-use Rattle.folded_text.proofs.ordered_rows.shape_by_texts.Goals as goal
+use Rattle.folded_text.proofs.row_shape.shape_by_texts.Goals as goal
 
 pub overflow_add-shared : goal.overflow_add-shared
 overflow_add-shared c =

@@ -41,6 +41,7 @@ impl<'a> Fields<'a> {
     /// The first of these that applies: `Truncated` or `LongVarint` of the tag, `FieldNumber`, `Group`,
     /// `WireType`, and `Truncated` or `LongVarint` of the value or of its length. A length past the end
     /// is `Truncated`.
+    #[inline(always)]
     pub fn next_field(&mut self) -> Option<Result<Field<'a>, WireFault>>
         ensures end { IsNone result ↔ (self.old.bytes ≡ []) }
         ensures stays { IfNone result (self.new ≡ self.old) }
@@ -80,6 +81,7 @@ fn field_number(tag: u64) -> Result<u32, WireFault>
 }
 
 /// The field at the front, and how many bytes it takes.
+#[inline(always)]
 fn first_field(bytes: &[u8]) -> Result<(Field<'_>, usize), WireFault>
     ensures spelled { IfOk result (λ found. IsFieldSpelling (take found.1 bytes.now) (field_of found.0)) }
     ensures within { IfOk result (λ found. (0 < found.1) × (found.1 ≤ length bytes.now)) }

@@ -34,6 +34,7 @@ impl<'a> Packed<'a> {
 
     /// The next number. After the last one it is `None`. Where no whole number is left it is the fault,
     /// `Truncated` or `LongVarint` as `read_varint` has it, and each further call answers the same.
+    #[inline(always)]
     pub fn next_value(&mut self) -> Option<Result<u64, WireFault>>
         ensures end { IsNone result ↔ (self.old ≡ []) }
         ensures stays { IfNone result (self.new ≡ self.old) }

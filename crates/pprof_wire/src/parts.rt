@@ -3,6 +3,7 @@
 ghost use Rattle.std.specs.Prelude.{◌≡◌, ◌+◌, ◌≤◌, length, take, drop};
 
 /// The bytes from index `at` on.
+#[inline(always)]
 pub(crate) fn bytes_from(bytes: &[u8], at: usize) -> &[u8]
     requires { at ≤ length bytes.now }
     ensures value { result.now ≡ drop at bytes.now }
@@ -12,6 +13,7 @@ pub(crate) fn bytes_from(bytes: &[u8], at: usize) -> &[u8]
 }
 
 /// The first `count` bytes.
+#[inline(always)]
 pub(crate) fn first_bytes(bytes: &[u8], count: usize) -> &[u8]
     requires { count ≤ length bytes.now }
     ensures value { result.now ≡ take count bytes.now }

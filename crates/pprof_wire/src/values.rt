@@ -74,6 +74,7 @@ fn first_fixed32(bytes: &[u8]) -> Result<u32, WireFault>
 }
 
 /// The value of the wire type at the front, and how many bytes it takes.
+#[inline(always)]
 pub(crate) fn first_value(wire_type: u64, bytes: &[u8]) -> Result<(Value<'_>, usize), WireFault>
     ensures typed { IfOk result (λ found. wire_type ≡ wire_type_of (value_of found.0)) }
     ensures spelled { IfOk result (λ found. IsValueSpelling (take found.1 bytes.now) (value_of found.0)) }

@@ -28,7 +28,8 @@ pub fn read_varint(bytes: &[u8], at: usize) -> Result<(u64, usize), WireFault>
     Ok((number, at + len))
 }
 
-/// The number that is spelled at the front, and the length of its spelling.
+/// The number that is spelled at the front, and the length of its spelling. Most are of three bytes at most.
+#[inline(always)]
 pub(crate) fn first_varint(bytes: &[u8]) -> Result<(u64, usize), WireFault>
     ensures spelled { IfOk result (λ found. IsVarint (take found.1 bytes.now) found.0) }
     ensures within { IfOk result (λ found. found.1 ≤ length bytes.now) }
@@ -37,6 +38,16 @@ pub(crate) fn first_varint(bytes: &[u8]) -> Result<(u64, usize), WireFault>
     match bytes {
         [] => Err(WireFault::Truncated),
         [byte, ..] if *byte < 0x80 => Ok((u64::from(*byte), 1)),
+        [low, high, ..] if *high < 0x80 => {
+            let number = u64::from(*low & 0x7f) + (u64::from(*high) << 7);
+            Ok((number, 2))
+        }
+        [low, middle, high, ..] if *high < 0x80 => {
+            let number = u64::from(*low & 0x7f)
+                + (u64::from(*middle & 0x7f) << 7)
+                + (u64::from(*high) << 14);
+            Ok((number, 3))
+        }
         _ => long_varint(bytes),
     }
 }

@@ -1,11 +1,13 @@
 pub mod Gathering
 pub mod KnownIds
 pub mod Once
+pub mod Places
 pub mod MessagesOnce
 pub mod ProfileOnce
 pub mod Appending
 pub mod ByFields
 pub mod ReadBack
+pub mod SampleLists
 pub mod MessagesBack
 pub mod Plain
 pub mod WorkedFields

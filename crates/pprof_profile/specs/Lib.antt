@@ -4,4 +4,5 @@ pub mod KnownIds
 pub mod Messages
 pub mod Profiles
 pub mod Reading
+pub mod SampleLists
 pub mod Valid

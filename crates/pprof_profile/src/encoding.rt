@@ -5,13 +5,15 @@ ghost use Rattle.std.specs.Int.{w64};
 ghost use Rattle.std.specs.Int.RustNames.{FitsSigned};
 ghost use Rattle.pprof_profile.specs.declared.messages.Draft.{Draft};
 ghost use Rattle.pprof_profile.specs.declared.messages.Sample.{Sample};
-ghost use Rattle.pprof_profile.specs.Canonical.{mapping_place_fields, mapping_detail_fields, draft_item_fields, draft_setting_fields, draft_table_fields, samples_bytes, canonical_bytes_of, FitsUnsigned, FitsNumbers, FitsTexts, FitsEach, packed_bytes, number_of_signed, value_type_bytes, sample_bytes, mapping_bytes, location_bytes, function_bytes, bytes_of_fields, value_type_fields, FitsValueType, line_fields, FitsLine, label_fields, FitsLabel, mapping_fields, FitsMapping, function_fields, FitsFunction, location_fields, FitsLocation, sample_fields, FitsSample, draft_fields, FitsDraft};
+ghost use Rattle.pprof_profile.specs.Canonical.{mapping_place_fields, mapping_detail_fields, draft_item_fields, draft_setting_fields, draft_table_fields, samples_bytes, canonical_bytes_of, FitsUnsigned, FitsNumbers, FitsTexts, FitsEach, packed_bytes, number_of_signed, value_type_bytes, sample_bytes, mapping_bytes, location_bytes, function_bytes, bytes_of_fields, value_type_fields, FitsValueType, line_fields, FitsLine, label_fields, FitsLabel, mapping_fields, FitsMapping, function_fields, FitsFunction, location_fields, FitsLocation, sample_fields, FitsSample, each_field, draft_fields, FitsDraft};
 
-use crate::messages::{Draft, Function, Label, Line, Location, Mapping, Sample, ValueType};
+use crate::messages::{Draft, Function, Label, Line, Location, Mapping, ValueType};
+use crate::samples::{SampleRef, Samples};
 use crate::writing::{
-    Written, write_message, write_messages, write_number, write_numbers, write_texts,
+    Written, replace_content, write_each, write_message, write_messages, write_number, write_numbers,
+    write_packed, write_texts,
 };
-use pprof_wire::NoMemory;
+use pprof_wire::{NoMemory, Value, write_field};
 use std::alloc::Global;
 
 impl Written for ValueType {
@@ -137,16 +139,35 @@ impl Written for Location {
     }
 }
 
-impl Written for Sample {
+impl<'a> Written for SampleRef<'a> {
     ghost fields = { sample_fields };
 
     ghost fits = { FitsSample };
 
     fn write(&self, alloc: Global, out: &mut Vec<u8>, spare: &mut Vec<u8>) -> Result<(), NoMemory> {
-        write_numbers(out, 1, &self.location_ids, spare)?;
-        write_numbers(out, 2, &self.values, spare)?;
-        write_messages(alloc, out, 3, &self.labels, spare)
+        write_packed(out, 1, self.location_ids(), spare)?;
+        write_packed(out, 2, self.values(), spare)?;
+        write_each(alloc, out, 3, self.labels(), spare)
     }
+}
+
+/// Appends a field for each sample. One buffer serves for all of them, and one for what is nested in each.
+fn write_samples(
+    alloc: Global,
+    out: &mut Vec<u8>,
+    samples: &Samples,
+    spare: &mut Vec<u8>,
+) -> Result<(), NoMemory>
+    ensures written { OnOk result
+        (out.new.items ≡ out.old.items ++ bytes_of_fields (each_field 2 (map sample_bytes samples.now))) }
+    ensures fits { OnOk result (FitsEach FitsSample sample_bytes samples.now) }
+{
+    let mut nested = Vec::new(alloc);
+    for index in 0..samples.len() {
+        replace_content(alloc, spare, &samples.at(index), &mut nested)?;
+        write_field(out, 2, Value::Bytes(spare.as_slice()))?;
+    }
+    Ok(())
 }
 
 impl Written for Draft {
@@ -174,7 +195,7 @@ fn write_draft_item_fields(
         × (FitsEach FitsFunction function_bytes item.now.functions) × (FitsTexts item.now.strings)) }
 {
     write_messages(alloc, out, 1, &item.sample_types, spare)?;
-    write_messages(alloc, out, 2, &item.samples, spare)?;
+    write_samples(alloc, out, &item.samples, spare)?;
     write_draft_table_fields(alloc, item, out, spare)
 }
 

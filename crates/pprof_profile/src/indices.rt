@@ -4,7 +4,8 @@ ghost use Rattle.std.specs.Prelude.{◌≡◌};
 ghost use Rattle.std.specs.List.{list_all};
 ghost use Rattle.pprof_profile.specs.Valid.{is_index, value_type_indexes, label_indexes, sample_indexes, mapping_indexes, function_indexes, items_index, profile_indexes, all_index};
 
-use crate::messages::{Draft, Function, Label, Mapping, Sample, ValueType};
+use crate::messages::{Draft, Function, Label, Mapping, ValueType};
+use crate::samples::Samples;
 
 /// Each index of the draft is one of a string.
 pub(crate) fn indices_hold(draft: &Draft) -> bool
@@ -25,7 +26,7 @@ fn items_hold(count: usize, draft: &Draft) -> bool
     ensures { result ≡ items_index count draft.now }
 {
     value_types_hold(count, draft.sample_types.as_slice())
-        && samples_hold(count, draft.samples.as_slice())
+        && samples_hold(count, &draft.samples)
         && mappings_hold(count, draft.mappings.as_slice())
         && functions_hold(count, draft.functions.as_slice())
 }
@@ -66,19 +67,21 @@ fn label_holds(count: usize, item: &Label) -> bool
         && index_holds(count, item.num_unit)
 }
 
-fn sample_holds(count: usize, item: &Sample) -> bool
-    ensures { result ≡ sample_indexes count item.now }
+fn labels_hold(count: usize, items: &[Label]) -> bool
+    ensures { result ≡ list_all (label_indexes count) items.now }
 {
-    item.labels
-        .as_slice()
-        .iter()
-        .all(|label| label_holds(count, label))
+    items.iter().all(|item| label_holds(count, item))
 }
 
-fn samples_hold(count: usize, items: &[Sample]) -> bool
-    ensures { result ≡ list_all (sample_indexes count) items.now }
+fn samples_hold(count: usize, samples: &Samples) -> bool
+    ensures { result ≡ list_all (sample_indexes count) samples.now }
 {
-    items.iter().all(|item| sample_holds(count, item))
+    for index in 0..samples.len() {
+        if !labels_hold(count, samples.at(index).labels()) {
+            return false;
+        }
+    }
+    true
 }
 
 fn mapping_holds(count: usize, item: &Mapping) -> bool

@@ -1,6 +1,7 @@
 //! The messages of profile.proto, with its fields' names but for these: `kind` is its `type`, `text` its `str`, and
 //! fields that hold several items have names in the plural.
 
+use crate::samples::Samples;
 use crate::text::Text;
 use basics::Items;
 
@@ -10,7 +11,7 @@ pub struct Draft {
     /// Field 1: what the values of each sample are, in their order.
     pub sample_types: Items<ValueType>,
     /// Field 2: the samples.
-    pub samples: Items<Sample>,
+    pub samples: Samples,
     /// Field 3: the parts of the address space.
     pub mappings: Items<Mapping>,
     /// Field 4: the locations that samples name.
@@ -57,8 +58,9 @@ pub struct Sample {
     pub labels: Items<Label>,
 }
 
+
 /// `message Label`: context of a sample, a text or a number.
-#[derive(Debug, Drop)]
+#[derive(Clone, Copy, Debug)]
 pub struct Label {
     /// Field 1: an index.
     pub key: i64,

@@ -6,6 +6,7 @@ ghost use Rattle.pprof_profile.specs.Messages.{no_value_type, value_type_table, 
 use crate::faults::ProfileFault;
 use crate::messages::{Draft, Function, Label, Line, Location, Mapping, Sample, ValueType};
 use crate::reading::{Message, merge_message, push_message, push_numbers, push_text, set_number};
+use crate::samples::{Samples, push_sample};
 use basics::Items;
 use pprof_wire::Field;
 use std::alloc::Global;
@@ -196,7 +197,7 @@ impl Message for Draft {
     fn empty(alloc: Global) -> Draft {
         Draft {
             sample_types: Items::empty(alloc),
-            samples: Items::empty(alloc),
+            samples: Samples::empty(alloc),
             mappings: Items::empty(alloc),
             locations: Items::empty(alloc),
             functions: Items::empty(alloc),
@@ -215,7 +216,7 @@ impl Message for Draft {
     fn take(&mut self, alloc: Global, field: Field) -> Result<(), ProfileFault> {
         match field.number {
             1 => push_message(alloc, &mut self.sample_types, field.value),
-            2 => push_message(alloc, &mut self.samples, field.value),
+            2 => push_sample(alloc, &mut self.samples, field.value),
             3 => push_message(alloc, &mut self.mappings, field.value),
             4 => push_message(alloc, &mut self.locations, field.value),
             5 => push_message(alloc, &mut self.functions, field.value),

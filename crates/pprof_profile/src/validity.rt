@@ -8,7 +8,8 @@ ghost use Rattle.pprof_profile.specs.Valid.{KeepsFirstRules, begins_with_empty, 
 use crate::faults::ProfileFault;
 use crate::ids::{KnownIds, has_zero_id, unique_ids};
 use crate::indices::indices_hold;
-use crate::messages::{Draft, Line, Location, Sample};
+use crate::messages::{Draft, Line, Location};
+use crate::samples::Samples;
 use crate::text::Text;
 use std::alloc::Global;
 
@@ -34,7 +35,7 @@ pub(crate) fn validate(alloc: Global, draft: &Draft) -> Result<(), ProfileFault>
     let mappings = unique_ids(alloc, draft.mappings.as_slice())?;
     let locations = unique_ids(alloc, draft.locations.as_slice())?;
     let functions = unique_ids(alloc, draft.functions.as_slice())?;
-    if !locations_are_known(&locations, draft.samples.as_slice()) {
+    if !locations_are_known(&locations, &draft.samples) {
         return Err(ProfileFault::NoLocation);
     }
     if !mappings_are_known(&mappings, draft.locations.as_slice()) {
@@ -43,7 +44,7 @@ pub(crate) fn validate(alloc: Global, draft: &Draft) -> Result<(), ProfileFault>
     if !functions_are_known(&functions, draft.locations.as_slice()) {
         return Err(ProfileFault::NoFunction);
     }
-    if !values_match(draft.sample_types.len(), draft.samples.as_slice()) {
+    if !values_match(draft.sample_types.len(), &draft.samples) {
         return Err(ProfileFault::ValueCount);
     }
     Ok(())
@@ -67,10 +68,15 @@ fn first_is_empty(strings: &[Text]) -> bool
 }
 
 /// Each location that a sample names is there.
-fn locations_are_known(known: &KnownIds, samples: &[Sample]) -> bool
+fn locations_are_known(known: &KnownIds, samples: &Samples) -> bool
     ensures { result ≡ names_locations (knows known.now) samples.now }
 {
-    samples.iter().all(|sample| each_is_known(known, sample.location_ids.as_slice()))
+    for index in 0..samples.len() {
+        if !each_is_known(known, samples.at(index).location_ids()) {
+            return false;
+        }
+    }
+    true
 }
 
 fn each_is_known(known: &KnownIds, ids: &[u64]) -> bool
@@ -100,8 +106,13 @@ fn each_line_is_known(known: &KnownIds, lines: &[Line]) -> bool
 }
 
 /// Each sample has so many values.
-fn values_match(count: usize, samples: &[Sample]) -> bool
+fn values_match(count: usize, samples: &Samples) -> bool
     ensures { result ≡ each_has_values count samples.now }
 {
-    samples.iter().all(|sample| sample.values.len() == count)
+    for index in 0..samples.len() {
+        if samples.at(index).values().len() != count {
+            return false;
+        }
+    }
+    true
 }

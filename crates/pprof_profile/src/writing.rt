@@ -114,7 +114,7 @@ pub(crate) fn write_texts(
 }
 
 /// Writes a message where other content stood.
-fn replace_content<M: Written>(
+pub(crate) fn replace_content<M: Written>(
     alloc: Global,
     content: &mut Vec<u8>,
     item: &M,
@@ -127,7 +127,7 @@ fn replace_content<M: Written>(
     item.write(alloc, content, spare)
 }
 
-/// Appends a field for each message. One buffer serves for all of them, and one for what is nested in each.
+/// Appends a field for each message.
 pub(crate) fn write_messages<M: Written>(
     alloc: Global,
     out: &mut Vec<u8>,
@@ -140,8 +140,24 @@ pub(crate) fn write_messages<M: Written>(
         ++ bytes_of_fields (each_field number (map (λ item. bytes_of_fields (M.fields item)) items.now))) }
     ensures fits { OnOk result (FitsEach M.fits (λ item. bytes_of_fields (M.fields item)) items.now) }
 {
+    write_each(alloc, out, number, items.as_slice(), spare)
+}
+
+/// Appends a field for each message that is lent. One buffer serves for all of them, and one for what is nested in each.
+pub(crate) fn write_each<M: Written>(
+    alloc: Global,
+    out: &mut Vec<u8>,
+    number: u32,
+    items: &[M],
+    spare: &mut Vec<u8>,
+) -> Result<(), NoMemory>
+    requires { IsFieldNumber number }
+    ensures written { OnOk result (out.new.items ≡ out.old.items
+        ++ bytes_of_fields (each_field number (map (λ item. bytes_of_fields (M.fields item)) items.now))) }
+    ensures fits { OnOk result (FitsEach M.fits (λ item. bytes_of_fields (M.fields item)) items.now) }
+{
     let mut nested = Vec::new(alloc);
-    for item in items.as_slice() {
+    for item in items {
         replace_content(alloc, spare, item, &mut nested)?;
         write_field(out, number, Value::Bytes(spare.as_slice()))?;
     }

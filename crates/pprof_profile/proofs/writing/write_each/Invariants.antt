@@ -1,6 +1,6 @@
 use Rattle.std.proofs.Common.{◌≡◌, ◌++◌, map, take, List, ℕ}
 use Rattle.pprof_profile.specs.Canonical.{bytes_of_fields, each_field, FitsEach}
-use Rattle.pprof_profile.proofs.writing.write_messages.Given as goal
+use Rattle.pprof_profile.proofs.writing.write_each.Given as goal
 
 abbrev pub invariant-loop-item : goal.invariant-loop-item
 invariant-loop-item g l =

@@ -92,8 +92,14 @@ pub(crate) fn push_numbers<N: Number>(
     }
 }
 
-/// How many varints end in these bytes.
+/// So many bytes, most of which may be numbers, aren't counted through.
+const FEW_BYTES: usize = 4096;
+
+/// How many varints end in these bytes, or how many could where there are few bytes.
 fn count_ends(bytes: &[u8]) -> usize {
+    if bytes.len() < FEW_BYTES {
+        return bytes.len();
+    }
     bytes.iter().filter(|byte| **byte < 0x80).count()
 }
 

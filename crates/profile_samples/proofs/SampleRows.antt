@@ -1,6 +1,7 @@
 -- What rows the samples of a profile give.
 use Rattle.std.proofs.Common.{◌≡◌, ℕ, zero, suc, ◌+◌, ◌^◌, ◌<◌, ◌≤◌, Bool, true, false, List, [], ◌∷◌, ◌++◌, length}
 use Rattle.std.proofs.Common.{get_or, inl, inr, ◌↔◌, refl, sym, ap, ◌∙◌, subst, arith}
+use Rattle.std.proofs.lemmas.Option.{get_or_from_slice_get, slice_get_within}
 use Rattle.std.specs.Prelude.{ℤ, pos, negsuc, Option, Some, None, slice_get, unwrap_or, is_some, ◌==◌}
 use Rattle.std.specs.Str.{bytes_eq}
 use Rattle.std.specs.Bool.{IsTrue}
@@ -368,14 +369,17 @@ one_value_memory draft index earlier number sample weight is deep fits =
 
 -- ---- a pass over the samples, which are lent
 
-pub sample_read : (profile draft : Draft) (lent : List Sample) (at : ℕ) (sample : Sample) → lent ≡ draft.samples
-    → draft ≡ profile → sample ≡ get_or lent at sample → at < length lent
+pub sample_read : (profile draft : Draft) (at : ℕ) (sample : Sample) → draft ≡ profile
+    → slice_get draft.samples at ≡ Some sample
     → (sample ≡ get_or profile.samples at sample) × (at < length profile.samples)
-sample_read profile draft lent at sample is same item lt =
-    let samples : lent ≡ profile.samples = is ∙ ap (λ (d : Draft). d.samples) same in
-    (item ∙ ap (λ ss. get_or ss at sample) samples, subst (λ (ss : List Sample). at < length ss) samples lt)
+sample_read profile draft at sample same item =
+    let there = subst (λ (d : Draft). slice_get d.samples at ≡ Some sample) same item in (
+      sym (get_or_from_slice_get profile.samples at sample sample there),
+      slice_get_within profile.samples at sample there,
+    )
 
-pub samples_read : (profile draft : Draft) (lent : List Sample) (at : ℕ) → lent ≡ draft.samples → draft ≡ profile
-    → length lent ≤ at → length profile.samples ≤ at
-samples_read profile draft lent at is same all =
-    subst (λ (ss : List Sample). length ss ≤ at) (is ∙ ap (λ (d : Draft). d.samples) same) all
+pub samples_read : (profile draft : Draft) (at count : ℕ) → draft ≡ profile → count ≡ length draft.samples
+    → count ≤ at → length profile.samples ≤ at
+samples_read profile draft at count same is all =
+    let size = is ∙ ap (λ (d : Draft). length d.samples) same in
+    omega (arith, size, all)

@@ -13,7 +13,7 @@ use crate::sampling::{
     BatchFault, ChosenValues, ValueChoice, check_depth, chosen_values, weight_of,
 };
 use basics::NoMemory;
-use pprof_profile::{Draft, Profile, Sample};
+use pprof_profile::{Draft, Profile, SampleRef};
 use profile_rows::{Batch, Hashing, MAX_DEPTH, MAX_WIDTH, Weights, first_heavy};
 use std::alloc::Global;
 
@@ -78,7 +78,7 @@ fn add_sample(
     frames: &NumberedFrames,
     batch: &mut Batch,
     chosen: &ChosenValues,
-    sample: &Sample,
+    sample: &SampleRef,
     number: u64,
 ) -> Result<(), BatchFault>
     requires values { chosen.now.first + chosen.now.width ≤ length sample.now.values }
@@ -89,9 +89,9 @@ fn add_sample(
     ensures fault { IfErr result (λ fault. (totals : List ℕ) × AreTotals batch.old totals
         × IsSampleFault frames.now chosen.now.first totals number sample.now fault) }
 {
-    let ids = sample.location_ids.as_slice();
+    let ids = sample.location_ids();
     let totals = batch.total();
-    let weights = weights_of(sample.values.as_slice(), chosen, number)?;
+    let weights = weights_of(sample.values(), chosen, number)?;
     check_depth(frames.fit(ids), number)?;
     check_room(&totals, &weights, number)?;
     Ok(push_row(alloc, frames, batch, ids, &weights)?)
@@ -112,8 +112,10 @@ fn batch_by(
         (λ fault. StandsAtSample MAX_WIDTH profile.now choice fault) }
 {
     let mut batch = Batch::new(alloc, chosen.width);
-    for (index, sample) in profile.draft().samples.as_slice().iter().enumerate() {
-        add_sample(alloc, frames, &mut batch, chosen, sample, index as u64)?;
+    let samples = &profile.draft().samples;
+    for index in 0..samples.len() {
+        let sample = samples.at(index);
+        add_sample(alloc, frames, &mut batch, chosen, &sample, index as u64)?;
     }
     Ok(batch)
 }

@@ -15,7 +15,7 @@ ghost use Rattle.profile_samples.specs.CountedSamples.{AreNumbersOfIds, AreRowsC
 use crate::name_numbers::NumberedFrames;
 use crate::sampling::{BatchFault, ValueChoice, check_fit, chosen_value, weight_of};
 use crate::unfolding::push_numbers;
-use pprof_profile::{Profile, Sample};
+use pprof_profile::{Profile, SampleRef};
 use profile_rows::{FrameTotals, Hashing, Name, Tallies};
 use std::alloc::{AllocError, Global};
 
@@ -41,7 +41,7 @@ fn gather_numbers(
 fn sample_weight(
     frames: &NumberedFrames,
     chosen: usize,
-    sample: &Sample,
+    sample: &SampleRef,
     earlier: u64,
     number: u64,
 ) -> Result<u64, BatchFault>
@@ -52,8 +52,8 @@ fn sample_weight(
     ensures fits { IfOk result (λ weight. earlier + weight < 2 ^ 63) }
     ensures fault { IfErr result (IsSampleFault frames.now chosen (earlier ∷ []) number sample.now) }
 {
-    let ids = sample.location_ids.as_slice();
-    let weight = weight_of(sample.values.as_slice(), chosen, number)?;
+    let ids = sample.location_ids();
+    let weight = weight_of(sample.values(), chosen, number)?;
     check_fit(frames.fit(ids), weight, earlier, number)?;
     Ok(weight)
 }
@@ -75,9 +75,11 @@ fn count_samples(
         (λ fault. StandsAtSample 1 profile.now choice fault) }
 {
     let mut numbers = Vec::new(alloc);
-    for (index, sample) in profile.draft().samples.as_slice().iter().enumerate() {
-        let ids = sample.location_ids.as_slice();
-        let weight = sample_weight(frames, chosen, sample, tallies.total, index as u64)?;
+    let samples = &profile.draft().samples;
+    for index in 0..samples.len() {
+        let sample = samples.at(index);
+        let ids = sample.location_ids();
+        let weight = sample_weight(frames, chosen, &sample, tallies.total, index as u64)?;
         gather_numbers(frames, ids, &mut numbers)?;
         tallies.count(numbers.as_slice(), frames.leaf_of(ids), weight);
     }

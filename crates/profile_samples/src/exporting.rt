@@ -12,7 +12,7 @@ ghost use Rattle.profile_samples.specs.declared.sampling.ValueChoice.TheVariants
 
 use basics::NoMemory;
 use pprof_profile::{
-    Draft, Function, Items, Line, Location, Profile, Sample, Text, ValueType, check,
+    Draft, Function, Items, Line, Location, Profile, Sample, Samples, Text, ValueType, check,
 };
 use profile_rows::{Batch, Hashing, Name, Stack, TextTable, WeightedStack, Weights};
 use std::alloc::Global;
@@ -177,16 +177,15 @@ fn sample_of(
 }
 
 /// The samples of a batch.
-fn samples_of(alloc: Global, names: &TextTable, batch: &Batch) -> Result<Items<Sample>, NoMemory>
+fn samples_of(alloc: Global, names: &TextTable, batch: &Batch) -> Result<Samples, NoMemory>
     ensures { IfOk result (λ samples. samples ≡ map (exported_sample names.now.texts) batch.now.rows) }
 {
-    let count = batch.first().rows().len();
-    let mut samples = Vec::with_capacity(alloc, count)?;
-    for at in 0..count {
+    let mut samples = Samples::empty(alloc);
+    for at in 0..batch.first().rows().len() {
         let row = batch.row(at);
-        samples.push(sample_of(alloc, names, row.stack, &row.weights)?)?;
+        samples.push(&sample_of(alloc, names, row.stack, &row.weights)?)?;
     }
-    Ok(Items::new(samples))
+    Ok(samples)
 }
 
 /// The sample types of values.
@@ -221,7 +220,7 @@ fn copies_of(alloc: Global, texts: &TextTable) -> Result<Items<Text>, NoMemory>
 /// The draft of these samples, names and strings.
 fn draft_of(
     alloc: Global,
-    samples: Items<Sample>,
+    samples: Samples,
     names: &TextTable,
     strings: &TextTable,
     sample_types: Items<ValueType>,
@@ -250,7 +249,7 @@ fn draft_of(
 pub(crate) fn exported_draft(
     alloc: Global,
     hashing: Hashing,
-    samples: Items<Sample>,
+    samples: Samples,
     names: &TextTable,
     units: &[ValueUnit],
 ) -> Result<Draft, NoMemory>

@@ -12,7 +12,7 @@ ghost use Rattle.profile_rows.specs.TextTables.{with_texts};
 use crate::exporting::{ValueUnit, exported_draft};
 use basics::NoMemory;
 use folded_text::{FoldedFault, LineTaker, read_frames, take_lines};
-use pprof_profile::{Items, WrittenSamples, encode_around};
+use pprof_profile::{Samples, WrittenSamples, encode_around};
 use profile_rows::{Hashing, TextTable};
 use std::alloc::Global;
 
@@ -84,7 +84,7 @@ fn profile_bytes(
         → IfOk result (λ bytes. IsProfile bytes.items (single_profile_of all kind.now unit.now)) }
 {
     let units = [ValueUnit { kind, unit }];
-    let draft = exported_draft(alloc, hashing, Items::empty(alloc), &rows.names, &units)?;
+    let draft = exported_draft(alloc, hashing, Samples::empty(alloc), &rows.names, &units)?;
     encode_around(alloc, &draft, &rows.samples)
 }
 

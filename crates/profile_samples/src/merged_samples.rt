@@ -15,7 +15,7 @@ ghost use Rattle.profile_samples.specs.MergedSamples.{IsMergedBatch};
 use crate::name_numbers::NumberedFrames;
 use crate::sampling::{BatchFault, ValueChoice, check_fit, chosen_value, weight_of};
 use basics::NoMemory;
-use pprof_profile::{Profile, Sample};
+use pprof_profile::{Profile, SampleRef};
 use profile_rows::{Hashing, MAX_DEPTH, WeightedStacks};
 use std::alloc::Global;
 use std::collections::HashMap;
@@ -85,7 +85,7 @@ fn merge_sample<'a>(
     known: &mut HashMap<&'a [u64], usize, Hashing>,
     merged: &mut WeightedStacks,
     chosen: usize,
-    sample: &'a Sample,
+    sample: &SampleRef<'a>,
     number: u64,
 ) -> Result<(), BatchFault>
     requires values { chosen < length sample.now.values }
@@ -96,8 +96,8 @@ fn merge_sample<'a>(
     ensures indexed { OnOk result (AreIndexedBy (sample_stack_of frames.now) known.new merged.new) }
     ensures fault { IfErr result (IsSampleFault frames.now chosen (total_of merged.old ∷ []) number sample.now) }
 {
-    let ids = sample.location_ids.as_slice();
-    let weight = weight_of(sample.values.as_slice(), chosen, number)?;
+    let ids = sample.location_ids();
+    let weight = weight_of(sample.values(), chosen, number)?;
     match known.get(ids).copied() {
         Some(at) => add_to_row(merged, at, weight, number),
         None => {
@@ -124,14 +124,16 @@ fn merged_by<'a>(
         (λ fault. StandsAtSample 1 profile.now choice fault) }
 {
     let mut merged = WeightedStacks::new(alloc);
-    for (index, sample) in profile.draft().samples.as_slice().iter().enumerate() {
+    let samples = &profile.draft().samples;
+    for index in 0..samples.len() {
+        let sample = samples.at(index);
         merge_sample(
             alloc,
             frames,
             &mut known,
             &mut merged,
             chosen,
-            sample,
+            &sample,
             index as u64,
         )?;
     }

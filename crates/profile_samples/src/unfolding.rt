@@ -87,6 +87,6 @@ pub fn unfold(alloc: Global, profile: &Profile, sample: usize) -> Result<Vec<Nam
     ensures { IfOk result (λ names. names.items ≡ frames_of_sample profile.now sample) }
 {
     let frames = NumberedFrames::new(alloc, Hashing::fixed(), profile)?;
-    let samples = profile.draft().samples.as_slice();
-    frames.leaf_first(alloc, samples[sample].location_ids.as_slice())
+    let sample = profile.draft().samples.at(sample);
+    frames.leaf_first(alloc, sample.location_ids())
 }

@@ -25,7 +25,7 @@ returns-in_err-weights-clause-fault c =
       IsSampleFault-below c.args.frames.now
           c.args.chosen.now.first c.total-totals.result c.args.number c.args.sample.now value c.in_err-weights.field-0.0
           (omega (arith, lt, count)) (subst (λ vs. IsValueFault (c.args.chosen.now.first + value) c.args.number vs
-          c.in_err-weights.field-0.0) c.as_slice.ensures below),
+          c.in_err-weights.field-0.0) c.values.ensures below),
     )
 
 pub returns-in_err-check_depth-clause-fault : goal.returns-in_err-check_depth-clause-fault
@@ -35,9 +35,9 @@ returns-in_err-check_depth-clause-fault c =
     let weights = c.in_ok-weights.weights in
     let count = c.total-totals.ensures.totals.width ∙ c.requires.width in
     let values = lent_weights c.args.chosen.now.first c.args.chosen.now.width (length c.total-totals.result)
-    c.as_slice.result.now c.args.sample.now.values weights c.as_slice.ensures count
+    c.values.result.now c.args.sample.now.values weights c.values.ensures count
     c.in_ok-weights.ensures.weights in
-    let decides = subst (λ ids. Decides c.args.frames.now ids c.fit.result) c.as_slice-ids.ensures c.fit.ensures in
+    let decides = subst (λ ids. Decides c.args.frames.now ids c.fit.result) c.location_ids-ids.ensures c.fit.ensures in
     let deep = too_deep c.args.frames.now c.args.sample.now.location_ids c.fit.result decides
     c.in_err-check_depth.ensures.fault.1 in
     rw (p.1, p.2) (
@@ -54,9 +54,9 @@ returns-in_err-check_room-clause-fault c =
     let weights = c.in_ok-weights.weights in
     let count = c.total-totals.ensures.totals.width ∙ c.requires.width in
     let values = lent_weights c.args.chosen.now.first c.args.chosen.now.width (length c.total-totals.result)
-    c.as_slice.result.now c.args.sample.now.values weights c.as_slice.ensures count
+    c.values.result.now c.args.sample.now.values weights c.values.ensures count
     c.in_ok-weights.ensures.weights in
-    let decides = subst (λ ids. Decides c.args.frames.now ids c.fit.result) c.as_slice-ids.ensures c.fit.ensures in
+    let decides = subst (λ ids. Decides c.args.frames.now ids c.fit.result) c.location_ids-ids.ensures c.fit.ensures in
     let deep = fits_in c.args.frames.now c.args.sample.now.location_ids c.fit.result decides
     c.in_ok-check_depth.ensures.depth in
     rw (p.1, p.2) (
@@ -74,9 +74,9 @@ returns-in_err-push_row-clause-fault c =
     let weights = c.in_ok-weights.weights in
     let count = c.total-totals.ensures.totals.width ∙ c.requires.width in
     let values = lent_weights c.args.chosen.now.first c.args.chosen.now.width (length c.total-totals.result)
-    c.as_slice.result.now c.args.sample.now.values weights c.as_slice.ensures count
+    c.values.result.now c.args.sample.now.values weights c.values.ensures count
     c.in_ok-weights.ensures.weights in
-    let decides = subst (λ ids. Decides c.args.frames.now ids c.fit.result) c.as_slice-ids.ensures c.fit.ensures in
+    let decides = subst (λ ids. Decides c.args.frames.now ids c.fit.result) c.location_ids-ids.ensures c.fit.ensures in
     let deep = fits_in c.args.frames.now c.args.sample.now.location_ids c.fit.result decides
     c.in_ok-check_depth.ensures.depth in
     rw (p.1, p.2) (

@@ -16,11 +16,10 @@ use Rattle.profile_samples.proofs.counted_samples.count_samples.Goals as goal
 
 pub sample_weight-requires-clause-values : goal.sample_weight-requires-clause-values
 sample_weight-requires-clause-values c =
-    let (item, within) = sample_read c.args.profile.now c.draft.result.now c.as_slice-sample-items.result.now
-    c.loop-index.index c.sample-item.result c.as_slice-sample-items.ensures c.draft.ensures.draft c.sample-item.is
-    c.loop-index-test.true in
+    let (item, within) = sample_read c.args.profile.now c.draft.result.now c.loop-index.index c.at-sample.result
+    c.draft.ensures.draft c.at-sample.ensures in
     let typed = c.requires.typed in
-    let have = has_values c.args.profile.now c.args.chosen 1 c.loop-index.index c.sample-item.result
+    let have = has_values c.args.profile.now c.args.chosen 1 c.loop-index.index c.at-sample.result
     c.draft.ensures.valid (omega (arith, typed)) within item in
     omega (arith, have)
 
@@ -33,25 +32,23 @@ sample_weight-requires-clause-earlier c =
 
 pub returns-in_err-weight : goal.returns-in_err-weight
 returns-in_err-weight c = λ choice is_chosen.
-    let (item, within) = sample_read c.args.profile.now c.draft.result.now c.as_slice-sample-items.result.now
-    c.loop-index.index c.sample-item.result c.as_slice-sample-items.ensures c.draft.ensures.draft c.sample-item.is
-    c.loop-index-test.true in
+    let (item, within) = sample_read c.args.profile.now c.draft.result.now c.loop-index.index c.at-sample.result
+    c.draft.ensures.draft c.at-sample.ensures in
     let p = err_from_is_err_and c.from_residual.result c.from_residual.ensures.1 in
     let (rows, so_far, counted) = c.loop-index.invariant in
     let own = subst (λ d. IsSampleFault d c.args.chosen (c.loop-index.tallies.total ∷ []) c.loop-index.index
-    c.sample-item.result c.in_err-weight.field-0.0) c.requires.framed c.in_err-weight.ensures.fault in
+    c.at-sample.result c.in_err-weight.field-0.0) c.requires.framed c.in_err-weight.ensures.fault in
     let there = subst (λ earlier. IsSampleFault c.args.profile.now
-    c.args.chosen (earlier ∷ []) c.loop-index.index c.sample-item.result c.in_err-weight.field-0.0) counted.total own in
+    c.args.chosen (earlier ∷ []) c.loop-index.index c.at-sample.result c.in_err-weight.field-0.0) counted.total own in
     rw (p.1, p.2) (AreStacksSoFar-stands c.args.profile.now choice c.args.chosen
-    c.loop-index.index c.sample-item.result rows c.in_err-weight.field-0.0 is_chosen within item so_far there)
+    c.loop-index.index c.at-sample.result rows c.in_err-weight.field-0.0 is_chosen within item so_far there)
 
 pub returns-in_err-gather_numbers : goal.returns-in_err-gather_numbers
 returns-in_err-gather_numbers c = λ choice is_chosen.
-    let (item, within) = sample_read c.args.profile.now c.draft.result.now c.as_slice-sample-items.result.now
-    c.loop-index.index c.sample-item.result c.as_slice-sample-items.ensures c.draft.ensures.draft c.sample-item.is
-    c.loop-index-test.true in
+    let (item, within) = sample_read c.args.profile.now c.draft.result.now c.loop-index.index c.at-sample.result
+    c.draft.ensures.draft c.at-sample.ensures in
     let weight = c.in_ok-weight.weight in
-    let sample = c.sample-item.result in
+    let sample = c.at-sample.result in
     let (rows, so_far, counted) = c.loop-index.invariant in
     let own = subst (λ (d : Draft). IsRowOfSample d c.args.chosen 1 sample (record {
       stack = sample_stack_of d sample.location_ids;
@@ -72,24 +69,23 @@ count-requires-clause-fits c = c.in_ok-weight.ensures.fits
 pub count-requires-clause-counted : goal.count-requires-clause-counted
 count-requires-clause-counted c =
     let (rows, so_far, counted) = c.loop-index.invariant in
-    let sample = c.sample-item.result in (
+    let sample = c.at-sample.result in (
       frame_names c.args.profile.now,
       rows,
       sample_stack_of c.args.profile.now sample.location_ids,
       counted,
       sample_numbered c.args.profile.now c.args.frames.now sample.location_ids
-          c.as_slice-ids.result.now c.gather_numbers.new.numbers.items c.as_slice.result.now c.leaf_of.result
-          c.requires.framed c.as_slice-ids.ensures
+          c.location_ids-ids.result.now c.gather_numbers.new.numbers.items c.as_slice.result.now c.leaf_of.result
+          c.requires.framed c.location_ids-ids.ensures
           c.as_slice.ensures.value c.requires.each c.in_ok-gather_numbers.ensures c.leaf_of.ensures,
     )
 
 pub loop-index-preserved : goal.loop-index-preserved
 loop-index-preserved c =
-    let (item, within) = sample_read c.args.profile.now c.draft.result.now c.as_slice-sample-items.result.now
-    c.loop-index.index c.sample-item.result c.as_slice-sample-items.ensures c.draft.ensures.draft c.sample-item.is
-    c.loop-index-test.true in
+    let (item, within) = sample_read c.args.profile.now c.draft.result.now c.loop-index.index c.at-sample.result
+    c.draft.ensures.draft c.at-sample.ensures in
     let weight = c.in_ok-weight.weight in
-    let sample = c.sample-item.result in
+    let sample = c.at-sample.result in
     let stack = sample_stack_of c.args.profile.now sample.location_ids in
     let row : WeightedStack = record { stack = stack; weight = weight } in
     let (rows, so_far, counted) = c.loop-index.invariant in
@@ -103,15 +99,15 @@ loop-index-preserved c =
           within item so_far own fits,
       c.count.ensures (frame_names c.args.profile.now) rows stack counted
           (sample_numbered c.args.profile.now c.args.frames.now sample.location_ids
-          c.as_slice-ids.result.now c.gather_numbers.new.numbers.items c.as_slice.result.now c.leaf_of.result
-          c.requires.framed c.as_slice-ids.ensures
+          c.location_ids-ids.result.now c.gather_numbers.new.numbers.items c.as_slice.result.now c.leaf_of.result
+          c.requires.framed c.location_ids-ids.ensures
           c.as_slice.ensures.value c.requires.each c.in_ok-gather_numbers.ensures c.leaf_of.ensures),
     )
 
 pub returns : goal.returns
 returns c = λ choice is_chosen.
-    let whole = samples_read c.args.profile.now c.draft.result.now c.as_slice-sample-items.result.now c.loop-index.index
-    c.as_slice-sample-items.ensures c.draft.ensures.draft c.loop-index-test.false in
+    let whole = samples_read c.args.profile.now c.draft.result.now c.loop-index.index c.len-index-end.result
+    c.draft.ensures.draft c.len-index-end.ensures c.loop-index-test.false in
     let (rows, so_far, counted) = c.loop-index.invariant in
     record {
       rows = rows;

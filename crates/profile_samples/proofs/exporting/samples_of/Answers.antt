@@ -20,7 +20,7 @@ pub sample_of-requires : goal.sample_of-requires
 sample_of-requires c =
     subst (All (λ weight. weight < 2 ^ 63)) (sym c.row-row.ensures.weights)
     (weights_small c.args.batch.now c.loop-at.at c.first.ensures.batch (within c.args.batch.now.rows c.first.result.now
-    c.rows-count.result.now c.loop-at.at c.rows-count.ensures.rows c.first.ensures.first c.loop-at-test.true))
+    c.rows-at-end.result.now c.loop-at.at c.rows-at-end.ensures.rows c.first.ensures.first c.loop-at-test.true))
 
 pub loop-at-preserved : goal.loop-at-preserved
 loop-at-preserved c =
@@ -30,9 +30,9 @@ loop-at-preserved c =
     let made : c.in_ok-sample_of.field-0 ≡ sample (row_in rows c.loop-at.at) =
     c.in_ok-sample_of.ensures
     ∙ (λ i. sample (record { stack = c.row-row.ensures.stack i; weights = c.row-row.ensures.weights i })) in
-    c.in_ok-push.ensures.items
+    c.in_ok-push.ensures.pushed
     ∙ ap (λ samples. samples ++ c.in_ok-sample_of.field-0 ∷ []) c.loop-at.invariant
     ∙ ap (λ last. map sample before ++ last ∷ []) made
     ∙ sym (map-append sample before (row_in rows c.loop-at.at ∷ []))
     ∙ ap (map sample) (sym (next_row rows c.loop-at.at (within c.args.batch.now.rows c.first.result.now
-    c.rows-count.result.now c.loop-at.at c.rows-count.ensures.rows c.first.ensures.first c.loop-at-test.true)))
+    c.rows-at-end.result.now c.loop-at.at c.rows-at-end.ensures.rows c.first.ensures.first c.loop-at-test.true)))

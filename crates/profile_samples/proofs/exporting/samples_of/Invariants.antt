@@ -4,4 +4,4 @@ use Rattle.profile_samples.proofs.exporting.samples_of.Given as goal
 
 -- the samples so far
 abbrev pub invariant-loop-at : goal.invariant-loop-at
-invariant-loop-at l = l.samples.items ≡ map (exported_sample l.fn.names.texts) (take l.at l.fn.batch.rows)
+invariant-loop-at l = l.samples ≡ map (exported_sample l.fn.names.texts) (take l.at l.fn.batch.rows)

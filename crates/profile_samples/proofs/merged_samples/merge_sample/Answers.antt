@@ -55,38 +55,38 @@ returns-in_err-weight-clause-fault c =
     let p = err_from_is_err_and c.from_residual.result c.from_residual.ensures.1 in
     rw (p.1, p.2) (one_value_below c.args.frames.now c.args.chosen (total_of c.args.merged.now) c.args.number
     c.args.sample.now c.in_err-weight.field-0.0 (subst (λ values. IsValueFault c.args.chosen c.args.number values
-    c.in_err-weight.field-0.0) c.as_slice.ensures c.in_err-weight.ensures.fault))
+    c.in_err-weight.field-0.0) c.values.ensures c.in_err-weight.ensures.fault))
 
 pub add_to_row-requires : goal.add_to_row-requires
 add_to_row-requires c =
-    let found : row_spelled c.args.known.now c.as_slice-ids.result.now ≡ Some c.in-Some.at = sym c.get.ensures.value
+    let found : row_spelled c.args.known.now c.location_ids-ids.result.now ≡ Some c.in-Some.at = sym c.get.ensures.value
     ∙ sym c.copied.ensures ∙ c.in-Some.is in
     (indexed_at (sample_stack_of c.args.frames.now)
-    c.args.known.now c.args.merged.now c.as_slice-ids.result.now c.in-Some.at c.requires.indexed found).0
+    c.args.known.now c.args.merged.now c.location_ids-ids.result.now c.in-Some.at c.requires.indexed found).0
 
 pub returns-in-Some-clause-added : goal.returns-in-Some-clause-added
 returns-in-Some-clause-added c =
     let value = subst (λ values. slice_get values c.args.chosen ≡ Some (pos c.in_ok-weight.weight))
-    c.as_slice.ensures c.in_ok-weight.ensures.weight.0 in
-    let found : row_spelled c.args.known.now c.as_slice-ids.result.now ≡ Some c.in-Some.at = sym c.get.ensures.value
+    c.values.ensures c.in_ok-weight.ensures.weight.0 in
+    let found : row_spelled c.args.known.now c.location_ids-ids.result.now ≡ Some c.in-Some.at = sym c.get.ensures.value
     ∙ sym c.copied.ensures ∙ c.in-Some.is in
     let there = subst (λ ids. IsIndexedAt (sample_stack_of c.args.frames.now) c.args.merged.now ids c.in-Some.at)
-    c.as_slice-ids.ensures
+    c.location_ids-ids.ensures
     (indexed_at (sample_stack_of c.args.frames.now)
-    c.args.known.now c.args.merged.now c.as_slice-ids.result.now c.in-Some.at c.requires.indexed found) in
+    c.args.known.now c.args.merged.now c.location_ids-ids.result.now c.in-Some.at c.requires.indexed found) in
     added_to c.args.frames.now c.args.chosen c.in-Some.at c.in_ok-weight.weight c.args.sample.now c.args.merged.now
     c.add_to_row.new.merged c.add_to_row.result value there c.add_to_row.ensures.added c.add_to_row.ensures.fits
 
 pub returns-in-Some-clause-fault : goal.returns-in-Some-clause-fault
 returns-in-Some-clause-fault c =
     let value = subst (λ values. slice_get values c.args.chosen ≡ Some (pos c.in_ok-weight.weight))
-    c.as_slice.ensures c.in_ok-weight.ensures.weight.0 in
-    let found : row_spelled c.args.known.now c.as_slice-ids.result.now ≡ Some c.in-Some.at = sym c.get.ensures.value
+    c.values.ensures c.in_ok-weight.ensures.weight.0 in
+    let found : row_spelled c.args.known.now c.location_ids-ids.result.now ≡ Some c.in-Some.at = sym c.get.ensures.value
     ∙ sym c.copied.ensures ∙ c.in-Some.is in
     let there = subst (λ ids. IsIndexedAt (sample_stack_of c.args.frames.now) c.args.merged.now ids c.in-Some.at)
-    c.as_slice-ids.ensures
+    c.location_ids-ids.ensures
     (indexed_at (sample_stack_of c.args.frames.now)
-    c.args.known.now c.args.merged.now c.as_slice-ids.result.now c.in-Some.at c.requires.indexed found) in
+    c.args.known.now c.args.merged.now c.location_ids-ids.result.now c.in-Some.at c.requires.indexed found) in
     refused_at c.args.frames.now c.args.chosen c.in-Some.at c.in_ok-weight.weight
     c.args.number c.args.sample.now c.args.merged.now c.add_to_row.result value there c.add_to_row.ensures.fault
 
@@ -95,8 +95,8 @@ returns-in_err-check_fit-in-None-clause-fault c =
     let p = err_from_is_err_and
     c.from_residual-in_err-check_fit-in-None.result c.from_residual-in_err-check_fit-in-None.ensures.1 in
     let value = subst (λ values. slice_get values c.args.chosen ≡ Some (pos c.in_ok-weight.weight))
-    c.as_slice.ensures c.in_ok-weight.ensures.weight.0 in
-    let decides = subst (λ ids. Decides c.args.frames.now ids c.fit.result) c.as_slice-ids.ensures c.fit.ensures in
+    c.values.ensures c.in_ok-weight.ensures.weight.0 in
+    let decides = subst (λ ids. Decides c.args.frames.now ids c.fit.result) c.location_ids-ids.ensures c.fit.ensures in
     let fault = subst (λ earlier. IsFitFault c.fit.result earlier c.args.number c.in_ok-weight.weight
     c.in_err-check_fit-in-None.field-0.0) c.total.ensures.total c.in_err-check_fit-in-None.ensures.fault in
     rw (p.1, p.2) (IsSampleFault-fit c.args.frames.now c.args.chosen (total_of c.args.merged.now) c.args.number
@@ -107,8 +107,8 @@ returns-in_err-push_merged-in-None-clause-fault c =
     let p = err_from_is_err_and
     c.from_residual-in_err-push_merged-in-None.result c.from_residual-in_err-push_merged-in-None.ensures.1 in
     let value = subst (λ values. slice_get values c.args.chosen ≡ Some (pos c.in_ok-weight.weight))
-    c.as_slice.ensures c.in_ok-weight.ensures.weight.0 in
-    let decides = subst (λ ids. Decides c.args.frames.now ids c.fit.result) c.as_slice-ids.ensures c.fit.ensures in
+    c.values.ensures c.in_ok-weight.ensures.weight.0 in
+    let decides = subst (λ ids. Decides c.args.frames.now ids c.fit.result) c.location_ids-ids.ensures c.fit.ensures in
     let deep = fits_in c.args.frames.now c.args.sample.now.location_ids c.fit.result decides
     c.in_ok-check_fit-in-None.ensures.depth in
     let fits = subst

@@ -12,41 +12,38 @@ use Rattle.profile_samples.proofs.merged_samples.merged_by.Goals as goal
 
 pub merge_sample-requires-clause-values : goal.merge_sample-requires-clause-values
 merge_sample-requires-clause-values c =
-    let (item, within) = sample_read c.args.profile.now c.draft.result.now c.as_slice-sample-items.result.now
-    c.loop-index.index c.sample-item.result c.as_slice-sample-items.ensures c.draft.ensures.draft c.sample-item.is
-    c.loop-index-test.true in
+    let (item, within) = sample_read c.args.profile.now c.draft.result.now c.loop-index.index c.at-sample.result
+    c.draft.ensures.draft c.at-sample.ensures in
     let typed = c.requires.typed in
-    let have = has_values c.args.profile.now c.args.chosen 1 c.loop-index.index c.sample-item.result
+    let have = has_values c.args.profile.now c.args.chosen 1 c.loop-index.index c.at-sample.result
     c.draft.ensures.valid (omega (arith, typed)) within item in
     omega (arith, have)
 
 pub returns-in_err-merge_sample : goal.returns-in_err-merge_sample
 returns-in_err-merge_sample c = λ choice is_chosen.
-    let (item, within) = sample_read c.args.profile.now c.draft.result.now c.as_slice-sample-items.result.now
-    c.loop-index.index c.sample-item.result c.as_slice-sample-items.ensures c.draft.ensures.draft c.sample-item.is
-    c.loop-index-test.true in
+    let (item, within) = sample_read c.args.profile.now c.draft.result.now c.loop-index.index c.at-sample.result
+    c.draft.ensures.draft c.at-sample.ensures in
     let p = err_from_is_err_and c.from_residual.result c.from_residual.ensures.1 in
     let (rows, so_far, sums) = c.loop-index.invariant.0 in
     let own = subst (λ d. IsSampleFault d c.args.chosen (total_of c.loop-index.merged ∷ []) c.loop-index.index
-    c.sample-item.result c.in_err-merge_sample.field-0.0) c.requires.framed c.in_err-merge_sample.ensures.fault in
+    c.at-sample.result c.in_err-merge_sample.field-0.0) c.requires.framed c.in_err-merge_sample.ensures.fault in
     let there = subst (λ earlier. IsSampleFault c.args.profile.now
-    c.args.chosen (earlier ∷ []) c.loop-index.index c.sample-item.result c.in_err-merge_sample.field-0.0)
+    c.args.chosen (earlier ∷ []) c.loop-index.index c.at-sample.result c.in_err-merge_sample.field-0.0)
     sums.total own in
     rw (p.1, p.2) (AreStacksSoFar-stands c.args.profile.now choice c.args.chosen
-    c.loop-index.index c.sample-item.result rows c.in_err-merge_sample.field-0.0 is_chosen within item so_far there)
+    c.loop-index.index c.at-sample.result rows c.in_err-merge_sample.field-0.0 is_chosen within item so_far there)
 
 pub loop-index-preserved : goal.loop-index-preserved
 loop-index-preserved c =
-    let (item, within) = sample_read c.args.profile.now c.draft.result.now c.as_slice-sample-items.result.now
-    c.loop-index.index c.sample-item.result c.as_slice-sample-items.ensures c.draft.ensures.draft c.sample-item.is
-    c.loop-index-test.true in
+    let (item, within) = sample_read c.args.profile.now c.draft.result.now c.loop-index.index c.at-sample.result
+    c.draft.ensures.draft c.at-sample.ensures in
     let (rows, so_far, sums) = c.loop-index.invariant.0 in
     let (row, this, adds) = c.in_ok-merge_sample.ensures.added in
-    let own = subst (λ d. IsRowOfSample d c.args.chosen 1 c.sample-item.result (single row)) c.requires.framed this in
+    let own = subst (λ d. IsRowOfSample d c.args.chosen 1 c.at-sample.result (single row)) c.requires.framed this in
     let fits = subst (λ earlier. earlier + row.weight < 2 ^ 63) sums.total adds.fits in (
       (
         rows ++ row ∷ [],
-        AreStacksSoFar-row c.args.profile.now c.args.chosen c.loop-index.index c.sample-item.result rows row
+        AreStacksSoFar-row c.args.profile.now c.args.chosen c.loop-index.index c.at-sample.result rows row
             within item so_far own fits,
         AreMergedSoFar-row rows (rows ++ row ∷ []) c.loop-index.merged c.merge_sample.new.merged row sums adds refl,
       ),
@@ -56,8 +53,8 @@ loop-index-preserved c =
 
 pub returns : goal.returns
 returns c = λ choice is_chosen.
-    let whole = samples_read c.args.profile.now c.draft.result.now c.as_slice-sample-items.result.now c.loop-index.index
-    c.as_slice-sample-items.ensures c.draft.ensures.draft c.loop-index-test.false in
+    let whole = samples_read c.args.profile.now c.draft.result.now c.loop-index.index c.len-index-end.result
+    c.draft.ensures.draft c.len-index-end.ensures c.loop-index-test.false in
     let (rows, so_far, sums) = c.loop-index.invariant.0 in
     record {
       rows = rows;

@@ -93,7 +93,7 @@ fn labelled_sample(alloc: Global, label: Label) -> Result<Sample, Fail> {
 }
 
 fn push_sample(draft: &mut Draft, sample: Sample) -> Result<(), Fail> {
-    draft.samples.push(sample).ok().ok_or("no memory")?;
+    draft.samples.push(&sample)?;
     Ok(())
 }
 

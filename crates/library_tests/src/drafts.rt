@@ -3,7 +3,7 @@
 use crate::messages::{ONE_SAMPLE, written};
 use pprof_profile::{
     Draft, Function, Items, Label, Line, Location, Mapping, Profile, ProfileFault, Refused, Sample,
-    Text, ValueType, check, decode,
+    Samples, Text, ValueType, check, decode,
 };
 use std::alloc::Global;
 use std::test::Fail;
@@ -13,7 +13,7 @@ use test_support::expect_text;
 fn numbers_alone(alloc: Global) -> Draft {
     Draft {
         sample_types: Items::empty(alloc),
-        samples: Items::empty(alloc),
+        samples: Samples::empty(alloc),
         mappings: Items::empty(alloc),
         locations: Items::empty(alloc),
         functions: Items::empty(alloc),
@@ -55,7 +55,7 @@ fn made_sample(alloc: Global) -> Result<Sample, Fail> {
 
 fn add_sample(alloc: Global, draft: &mut Draft) -> Result<(), Fail> {
     let sample = made_sample(alloc)?;
-    draft.samples.push(sample).ok().ok_or("no memory")?;
+    draft.samples.push(&sample)?;
     Ok(())
 }
 

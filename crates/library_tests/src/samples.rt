@@ -142,7 +142,7 @@ fn inlined_lines_and_bare_locations(rt: HostRuntime) -> Result<(), Fail> {
 
 // The frames of a profile's first sample, leaf first.
 fn first_unfolded(alloc: Global, profile: &Profile) -> Result<Vec<Name>, Fail> {
-    if profile.draft().samples.as_slice().is_empty() {
+    if profile.draft().samples.len() == 0 {
         return Err("no sample".into());
     }
     Ok(unfold(alloc, profile, 0)?)

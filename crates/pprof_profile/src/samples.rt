@@ -14,6 +14,7 @@ use crate::reading::{Message, read_onto};
 use basics::Items;
 use pprof_wire::{NoMemory, Value, WireFault};
 use std::alloc::{AllocError, Global};
+use std::fmt::{self, Debug, Formatter, Write};
 use std::marker::Model;
 use std::mem;
 
@@ -76,7 +77,7 @@ impl<'a> SampleRef<'a> {
 }
 
 /// Samples in order: the parts of all stand in three vectors. A contract sees the samples.
-#[derive(Debug, Drop)]
+#[derive(Drop)]
 pub(crate) struct SampleLists {
     spans: Vec<SampleSpans>,
     location_ids: Vec<u64>,
@@ -180,7 +181,7 @@ fn clear_sample(alloc: Global, sample: &mut Sample)
 }
 
 /// A profile's samples in order. A contract sees the list of them.
-#[derive(Debug, Drop)]
+#[derive(Drop)]
 pub struct Samples {
     lists: SampleLists,
     /// The sample that is read, before it is added: its memory serves for one after the other.
@@ -194,6 +195,16 @@ impl Model for Samples {
     ghost Value = { List Sample };
 
     ghost view = { λ samples. samples.lists };
+}
+
+impl Debug for Samples {
+    fn fmt<W: Write>(&self, f: &mut Formatter<W>) -> Result<(), fmt::Error> {
+        let mut list = f.debug_list();
+        for index in 0..self.len() {
+            list.entry(&self.at(index));
+        }
+        list.finish()
+    }
 }
 
 impl Samples {

@@ -71,6 +71,8 @@ pub use pprof_profile::Profile;
 pub use pprof_profile::ProfileFault;
 pub use pprof_profile::Refused as RefusedDraft;
 pub use pprof_profile::Sample;
+pub use pprof_profile::SampleRef;
+pub use pprof_profile::Samples;
 pub use pprof_profile::Text;
 pub use pprof_profile::ValueType;
 pub use pprof_profile::WireFault;

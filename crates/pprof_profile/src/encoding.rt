@@ -10,8 +10,8 @@ ghost use Rattle.pprof_profile.specs.Canonical.{mapping_place_fields, mapping_de
 use crate::messages::{Draft, Function, Label, Line, Location, Mapping, ValueType};
 use crate::samples::{SampleRef, Samples};
 use crate::writing::{
-    Written, replace_content, write_each, write_message, write_messages, write_number, write_numbers,
-    write_packed, write_texts,
+    Written, replace_content, write_each, write_message, write_messages, write_number,
+    write_numbers, write_packed, write_texts,
 };
 use pprof_wire::{NoMemory, Value, write_field};
 use std::alloc::Global;

@@ -58,7 +58,6 @@ pub struct Sample {
     pub labels: Items<Label>,
 }
 
-
 /// `message Label`: context of a sample, a text or a number.
 #[derive(Clone, Copy, Debug)]
 pub struct Label {

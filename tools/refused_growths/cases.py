@@ -67,6 +67,8 @@ BYTES = {
     "encode_of_one_sample": ONE_SAMPLE,
     "items_push": "[5, 6]",
     "items_reserve": "[5]",
+    "samples_push": "[SampleRef { location_ids: [3, 4], values: [-5], labels: "
+    "[Label { key: 1, text: 2, num: 3, num_unit: 4 }] }]",
     "text_copied": "cpu",
     "written_samples_push": ONE_SAMPLE,
     "encode_around": ONE_SAMPLE,

@@ -20,7 +20,9 @@ KNOWN = ROOT / "tools" / "shortages.txt"
 WANT = re.compile(r"\b(?:(?:\w+::)+(?:NoMemory|Place|Start|Version)|NoMemory|AllocError)\b|\bno_memory\(\)")
 # What a source has beside code, and code that makes no value. Clauses and declared types end at their brace.
 COMMENT = re.compile(r"\"(?:[^\"\\]|\\.)*\"|'(?:[^'\\]|\\.)'|//[^\n]*|#\[[^\n]*\]")
-ITEM = re.compile(r"\b(?:use (?:(?!NoMemory as |AllocError as )[^;])*|ghost [^;]*);|\bstruct \w+;")
+ITEM = re.compile(
+    r"\b(?:use (?:(?!NoMemory as |AllocError as )[^;])*|ghost (?:use|\w+ =) [^;]*|ghost \w+: \{[^}]*\});|\bstruct \w+;"
+)
 CLAUSE = re.compile(r"\b(?:ensures|requires|struct|enum)\b[^{;]*\{")
 FROM = re.compile(r"impl(?:<[^\n]*>)? From<(?:NoMemory|AllocError|AllocFailed<T>)> for \w+ \{")
 # What stands around a type, and around a pattern or a function's name.

@@ -99,6 +99,7 @@ ROWS = {
     "counted_rows_count":
         "total 5\n0 5 main\n3 3 b\n" + "".join(f"0 3 {name}\n" for name in "cdefghijklmn") + "2 2 a\n",
     "counted_rows_totals": "total 2\n2 2 a\n0 2 main\n",
+    "numbered_row_replace": "0 main,2 b,3 c,4 d,5 e,6 f,7 g,8 h,9 i,10 j,11 k,2 b,",
     "read_folded": "main;a;b 3\nmain;a 2\nmain;c 5\n|",
     "read_folded_of_many_rows": "50 rows, 51 names",
     "read_folded_of_no_count": "F2 NoCount line 3",
@@ -287,5 +288,5 @@ ANSWERS = {
 # The cases that ask for no growth: those, those with a fault that comes first, and a few others on so small a case.
 ASK_FOR_NONE = {
     *WITHOUT_GROWTHS, *NAMED_FAULTS, "batch_push_of_a_heavy_row", "blank_make_of_no_sessions", "check_of_a_wrong_index",
-    "name_make_of_no_name", "name_share", "report_of_the_total", "top_list",
+    "name_make_of_no_name", "name_share", "report_of_the_total",
 }

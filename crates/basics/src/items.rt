@@ -66,6 +66,15 @@ impl<T> Items<T> {
         Ok(self.items.reserve(more)?)
     }
 
+    /// Takes all items out. The memory stays for others.
+    pub fn clear(&mut self)
+    where
+        T: Drop,
+        ensures { self.new ≡ [] }
+    {
+        self.items.clear();
+    }
+
     /// Adds an item at the end. Where memory runs out the items are as they were, and the new one is handed back.
     pub fn push(&mut self, item: T) -> Result<(), AllocFailed<T>>
         ensures pushed { OnOk result (self.new ≡ self.old ++ item ∷ []) }

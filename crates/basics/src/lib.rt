@@ -3,6 +3,8 @@
 
 mod items;
 mod no_memory;
+mod spans;
 
 pub use items::Items;
 pub use no_memory::NoMemory;
+pub use spans::{Span, append};

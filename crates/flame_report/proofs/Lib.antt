@@ -8,6 +8,7 @@ pub mod Prefixes
 pub mod Ranked
 pub mod RowSums
 pub mod Same
+pub mod Selected
 pub mod Siblings
 pub mod Spans
 pub mod TokenLaws

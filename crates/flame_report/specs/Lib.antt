@@ -1,6 +1,7 @@
 pub mod Answers
 pub mod Equality
 pub mod EqualityLaws
+pub mod First
 pub mod Json
 pub mod Labels
 pub mod Sharing

@@ -3,9 +3,9 @@
 ghost use Rattle.std.specs.Prelude.{ℕ, ◌≡◌, ◌^◌, ◌<◌, List, IfOk, OnOk, IsSorted, IsPermutation, map, take, string_bytes, ◌++◌};
 ghost use Rattle.profile_rows.specs.declared.weighted_stacks.WeightedStack.{WeightedStack};
 ghost use Rattle.profile_rows.specs.Rows.{total_of};
-ghost use Rattle.profile_rows.specs.TopList.{AreSumsOf, AreTotalsOf, top_cmp, top_line, top_list_of, top_text_of};
+ghost use Rattle.profile_rows.specs.TopList.{AreSumsOf, AreTotalsOf, chosen_weight, top_cmp, top_line, top_list_of, top_text_of};
 ghost use Rattle.flame_report.specs.Answers.{kept_by, ranking_of, top_of};
-ghost use Rattle.flame_report.specs.declared.query.Rank.TheVariants.{Flat, Cum};
+ghost use Rattle.flame_report.specs.First.{AreFirst};
 
 use crate::answer::Top;
 use crate::query::{Query, Rank};
@@ -17,41 +17,50 @@ use profile_rows::{
 use std::alloc::{AllocError, Global};
 use std::cmp::Ordering;
 
-/// By falling flat weight, and names of one weight by their bytes.
-fn compare_flat(left: &FrameTotal, right: &FrameTotal) -> Ordering
-    ensures { result ≡ top_cmp (ranking_of Flat) left.now right.now }
+/// The weight that `rank` chooses.
+fn ranked_weight(frame: &FrameTotal, rank: Rank) -> u64
+    ensures { result ≡ chosen_weight (ranking_of rank) frame.now }
 {
-    right
-        .flat
-        .cmp(&left.flat)
+    match rank {
+        Rank::Flat => frame.flat,
+        Rank::Cum => frame.cum,
+    }
+}
+
+/// By falling weight, and names of one weight by their bytes.
+fn compare(left: &FrameTotal, right: &FrameTotal, rank: Rank) -> Ordering
+    ensures { result ≡ top_cmp (ranking_of rank) left.now right.now }
+{
+    ranked_weight(right, rank)
+        .cmp(&ranked_weight(left, rank))
         .then_with(|| left.name.cmp(&right.name))
 }
 
-/// By falling cumulative weight, and names of one weight by their bytes.
-fn compare_cumulative(left: &FrameTotal, right: &FrameTotal) -> Ordering
-    ensures { result ≡ top_cmp (ranking_of Cum) left.now right.now }
+/// The same names with their weights once more, in a list of their own.
+fn copied(alloc: Global, frames: &[FrameTotal]) -> Result<Vec<FrameTotal>, AllocError>
+    ensures { IfOk result (λ copies. copies.items ≡ frames.now) }
 {
-    right
-        .cum
-        .cmp(&left.cum)
-        .then_with(|| left.name.cmp(&right.name))
+    let mut copies = Vec::with_capacity(alloc, frames.len())?;
+    for frame in frames {
+        let (name, flat, cum) = (frame.name.clone()?, frame.flat, frame.cum);
+        copies.push(FrameTotal { name, flat, cum })?;
+    }
+    Ok(copies)
 }
 
-/// Sorts names by their flat weight.
-fn sort_by_flat(list: &mut Vec<FrameTotal>) -> Result<(), AllocError>
-    ensures permutation { IsPermutation list.old.items list.new.items }
-    ensures sorted { OnOk result (IsSorted (top_cmp (ranking_of Flat)) list.new.items) }
+/// Leaves the first `count` names by the weight that `rank` chooses, in no order. They are copies: what a selection
+/// promises ends with the parts that it lends, and says nothing of the list after that.
+fn select_names(list: &mut Vec<FrameTotal>, rank: Rank, count: usize) -> Result<(), AllocError>
+    ensures { OnOk result (AreFirst (top_cmp (ranking_of rank)) count list.old.items list.new.items) }
 {
-    list.sort_by(|left, right| compare_flat(left, right))?;
-    Ok(())
-}
-
-/// Sorts names by their cumulative weight.
-fn sort_by_cumulative(list: &mut Vec<FrameTotal>) -> Result<(), AllocError>
-    ensures permutation { IsPermutation list.old.items list.new.items }
-    ensures sorted { OnOk result (IsSorted (top_cmp (ranking_of Cum)) list.new.items) }
-{
-    list.sort_by(|left, right| compare_cumulative(left, right))?;
+    if count < list.len() {
+        let alloc = *list.allocator();
+        let (first, _, _) = list.select_nth_unstable_by(
+            count,
+            |left, right| compare(left, right, rank),
+        );
+        *list = copied(alloc, first)?;
+    }
     Ok(())
 }
 
@@ -60,19 +69,18 @@ fn sort_names(list: &mut Vec<FrameTotal>, rank: Rank) -> Result<(), AllocError>
     ensures permutation { IsPermutation list.old.items list.new.items }
     ensures sorted { OnOk result (IsSorted (top_cmp (ranking_of rank)) list.new.items) }
 {
-    match rank {
-        Rank::Flat => sort_by_flat(list),
-        Rank::Cum => sort_by_cumulative(list),
-    }
+    list.sort_by(|left, right| compare(left, right, rank))?;
+    Ok(())
 }
 
-/// Keeps the first `count` names by the weight that `rank` chooses.
+/// Keeps the first `count` names by the weight that `rank` chooses, in order. The others are left out before the sort,
+/// so that its time goes by `count`.
 fn rank_names(list: &mut Vec<FrameTotal>, rank: Rank, count: u32) -> Result<(), AllocError>
     ensures { (rows : List WeightedStack) → AreSumsOf rows list.old.items
         → OnOk result (list.new.items ≡ top_list_of (ranking_of rank) count rows) }
 {
+    select_names(list, rank, count as usize)?;
     sort_names(list, rank)?;
-    list.truncate(count as usize);
     top_list_is_front_of_sorted();
     Ok(())
 }

@@ -149,6 +149,13 @@ fn top_count_one_and_zero(rt: HostRuntime) -> Result<(), Fail> {
     Ok(())
 }
 
+#[test]
+fn names_that_tie_at_the_last_place(rt: HostRuntime) -> Result<(), Fail> {
+    let text = "k 1\nj 1\ni 2\nh 1\ng 1\nf 1\ne 1\nd 1\nc 1\nb 1\na 1\n";
+    let got = answered(rt.alloc(), text, top(Rank::Flat, 3));
+    expect_text(got, "total 12\n2 2 i\n1 1 a\n1 1 b\n")
+}
+
 // The rectangles of a layout over all rows of folded text.
 fn rectangles(alloc: Global, rows: &Batch, kind: Kind) -> Result<String, Fail> {
     let query = Query {

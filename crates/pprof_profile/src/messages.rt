@@ -1,6 +1,9 @@
 //! The messages of profile.proto, with its fields' names but for these: `kind` is its `type`, `text` its `str`, and
 //! fields that hold several items have names in the plural.
 
+ghost use Rattle.std.specs.Prelude.{◌≡◌};
+ghost use Rattle.pprof_profile.specs.Messages.{no_sample};
+
 use crate::samples::Samples;
 use crate::text::Text;
 use basics::Items;
@@ -56,6 +59,17 @@ pub struct Sample {
     pub values: Items<i64>,
     /// Field 3: further context.
     pub labels: Items<Label>,
+}
+
+impl Sample {
+    /// Takes everything out of the sample. The memory stays for another.
+    pub(crate) fn clear(&mut self)
+        ensures { self.new ≡ no_sample }
+    {
+        self.location_ids.clear();
+        self.values.clear();
+        self.labels.clear();
+    }
 }
 
 /// `message Label`: context of a sample, a text or a number.

@@ -1,29 +1,19 @@
 //! The samples of a profile, whose parts stand together: a profile has many.
 
 ghost use Rattle.std.specs.Prelude.{◌≡◌, ◌≢◌, ◌<◌, ◌≤◌, ◌++◌, ◌∷◌, [], Err, List, Ok, Some, length, slice_get, IfErr, IfOk, OnErr, OnOk};
-ghost use Rattle.std.specs.List.{slice_range};
 ghost use Rattle.pprof_wire.specs.Fields.{value_of};
 ghost use Rattle.pprof_profile.specs.declared.faults.ProfileFault.{ProfileFault};
 ghost use Rattle.pprof_profile.specs.Messages.{no_sample, sample_table};
 ghost use Rattle.pprof_profile.specs.Reading.{AddsMessage, IsAppended, IsFirstFault};
-ghost use Rattle.pprof_profile.specs.SampleLists.{Grows};
 
 use crate::faults::ProfileFault;
 use crate::messages::{Label, Sample};
 use crate::reading::{Message, read_onto};
-use basics::Items;
+use basics::{Span, append};
 use pprof_wire::{NoMemory, Value, WireFault};
 use std::alloc::{AllocError, Global};
 use std::fmt::{self, Debug, Formatter, Write};
 use std::marker::Model;
-use std::mem;
-
-/// Where items stand among others.
-#[derive(Clone, Copy, Debug)]
-pub(crate) struct Span {
-    pub start: usize,
-    pub end: usize,
-}
 
 /// Where the parts of a sample stand.
 #[derive(Clone, Copy, Debug)]
@@ -99,19 +89,6 @@ impl Model for SampleLists {
         All (AreWithin lists.location_ids.items lists.values.items lists.labels.items) lists.spans.items };
 }
 
-/// Appends items, and says where they stand.
-fn append<T: Copy>(all: &mut Vec<T>, items: &[T]) -> Result<Span, AllocError>
-    ensures kept { Grows all.old.items all.new.items }
-    ensures order { IfOk result (λ span. span.start ≤ span.end) }
-    ensures within { IfOk result (λ span. span.end ≤ length all.new.items) }
-    ensures items { IfOk result (λ span. slice_range all.new.items span.start span.end ≡ items.now) }
-{
-    let start = all.len();
-    all.extend_from_slice(items)?;
-    let end = all.len();
-    Ok(Span { start, end })
-}
-
 impl SampleLists {
     /// No samples. Takes no memory.
     fn empty(alloc: Global) -> SampleLists
@@ -155,29 +132,11 @@ impl SampleLists {
     {
         let spans = self.spans[index];
         SampleRef {
-            location_ids: &self.location_ids[spans.location_ids.start..spans.location_ids.end],
-            values: &self.values[spans.values.start..spans.values.end],
-            labels: &self.labels[spans.labels.start..spans.labels.end],
+            location_ids: spans.location_ids.of(self.location_ids.as_slice()),
+            values: spans.values.of(self.values.as_slice()),
+            labels: spans.labels.of(self.labels.as_slice()),
         }
     }
-}
-
-/// Takes all items out, and leaves their memory for others.
-fn clear<T: Drop>(alloc: Global, items: &mut Items<T>)
-    ensures { items.new ≡ [] }
-{
-    let mut cleared = mem::replace(items, Items::empty(alloc)).into_vec();
-    cleared.clear();
-    *items = Items::new(cleared);
-}
-
-/// Takes everything out of a sample, and leaves its memory for another.
-fn clear_sample(alloc: Global, sample: &mut Sample)
-    ensures { sample.new ≡ no_sample }
-{
-    clear(alloc, &mut sample.location_ids);
-    clear(alloc, &mut sample.values);
-    clear(alloc, &mut sample.labels);
 }
 
 /// A profile's samples in order. A contract sees the list of them.
@@ -251,7 +210,7 @@ impl Samples {
         ensures fault { IfErr result (λ fault. fault ≢ ProfileFault.NoMemory
             → IsFirstFault sample_table no_sample bytes.now fault) }
     {
-        clear_sample(alloc, &mut self.spare);
+        self.spare.clear();
         read_onto(alloc, &mut self.spare, bytes)?;
         let spare = &self.spare;
         Ok(self.lists.push(spare)?)

@@ -9,6 +9,7 @@ use basics::NoMemory;
 
 /// Appends the shortest spelling of the number as a varint. `NoMemory` only where the vector has no room
 /// for it and cannot grow; then nothing is appended.
+#[inline(always)]
 pub fn write_varint(out: &mut Vec<u8>, number: u64) -> Result<(), NoMemory>
     ensures ok { OnOk result (out.new.items ≡ out.old.items ++ varint_of number) }
     ensures err { OnErr result (out.new.items ≡ out.old.items) }
@@ -20,6 +21,7 @@ pub fn write_varint(out: &mut Vec<u8>, number: u64) -> Result<(), NoMemory>
 }
 
 /// The length of the shortest spelling.
+#[inline(always)]
 fn varint_len(number: u64) -> usize
     ensures len { result ≡ length (varint_of number) }
     ensures most { result ≤ 10 }
@@ -34,6 +36,7 @@ fn varint_len(number: u64) -> usize
 }
 
 /// Appends the shortest spelling, for which there is room.
+#[inline(always)]
 fn push_varint(out: &mut Vec<u8>, number: u64)
     requires { vec_len out.old + length (varint_of number) ≤ vec_capacity out.old }
     ensures written { out.new.items ≡ out.old.items ++ varint_of number }
@@ -65,6 +68,7 @@ pub fn write_field(out: &mut Vec<u8>, number: u32, value: Value) -> Result<(), N
 }
 
 /// The wire type of the value.
+#[inline(always)]
 fn wire_type(value: Value) -> u64
     ensures { result ≡ wire_type_of (value_of value.entry) }
 {
@@ -77,6 +81,7 @@ fn wire_type(value: Value) -> u64
 }
 
 /// The length of the value's spelling.
+#[inline(always)]
 fn value_len(value: Value) -> usize
     ensures len { result ≡ length (value_bytes_of (value_of value.entry)) }
     ensures fits { result < 2 ^ 63 + 10 }
@@ -90,6 +95,7 @@ fn value_len(value: Value) -> usize
 }
 
 /// The length of the bytes' length and the bytes.
+#[inline(always)]
 fn delimited_len(content: &[u8]) -> usize
     ensures len { result ≡ length (varint_of (length content.now) ++ content.now) }
     ensures fits { result < 2 ^ 63 + 10 }
@@ -98,6 +104,7 @@ fn delimited_len(content: &[u8]) -> usize
 }
 
 /// Appends the value's spelling, for which there is room.
+#[inline(always)]
 fn push_value(out: &mut Vec<u8>, value: Value)
     requires { vec_len out.old + length (value_bytes_of (value_of value)) ≤ vec_capacity out.old }
     ensures { out.new.items ≡ out.old.items ++ value_bytes_of (value_of value.entry) }

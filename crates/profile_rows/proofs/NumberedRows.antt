@@ -1,32 +1,32 @@
 -- Names that are numbered as rows are counted.
-use Rattle.std.proofs.Common.{◌≡◌, ℕ, zero, suc, ◌+◌, ◌-◌, ◌<◌, ◌≤◌, Bool, true, false, cond, ◌||◌, List, [], ◌∷◌, ◌++◌}
-use Rattle.std.proofs.Common.{length, map, take, drop, get_or, refl, sym, ap, ◌∙◌, subst, arith, All, Option, Some}
+use Rattle.std.proofs.Common.{◌≡◌, ℕ, zero, suc, ◌+◌, ◌-◌, ◌^◌, ◌<◌, ◌≤◌, Bool, true, false, cond, ◌||◌, List, [], ◌∷◌, ◌++◌}
+use Rattle.std.proofs.Common.{length, map, take, drop, get_or, refl, sym, ap, ◌∙◌, subst, arith, All, Option, Some, replicate}
 use Rattle.std.proofs.Common.{None}
 use Rattle.std.specs.Prelude.{MatchOption, slice_get, slice_index_or}
 use Rattle.std.specs.List.{AllByRecursion, IsDistinct, common_prefix_len, list_any}
 use Rattle.std.specs.Str.{bytes_eq}
 use Rattle.std.proofs.lemmas.Bool.{false≢true}
 use Rattle.std.proofs.lemmas.List.{get_or-drop, get_or-take, get_or_append_left, length-append, length-drop, length-map}
-use Rattle.std.proofs.lemmas.List.{length-take-le, map-append, take_all, take_more}
-use Rattle.std.proofs.lemmas.List.Elements.{All-push, All-take, All-from_recursion, recursion_from_All}
+use Rattle.std.proofs.lemmas.List.{append-nil, append_assoc, length-replicate, length-take-le, map-append, take_all, take_more}
+use Rattle.std.proofs.lemmas.List.Elements.{All-head, All-push, All-tail, All-weaker, recursion_from_All}
 use Rattle.std.proofs.Math.Seq.{get_or-append_seam}
 use denote.Ref.{Bor}
-use Rattle.profile_rows.specs.declared.frame_totals.CountedRows.{CountedRows}
 use Rattle.profile_rows.specs.declared.tallies.Tallies.{Tallies}
 use Rattle.profile_rows.specs.declared.tallies.Tally.{Tally}
 use Rattle.profile_rows.specs.declared.weighted_stacks.WeightedStack.{WeightedStack}
 use Rattle.profile_rows.specs.Names.{IsName, is_same_name}
 use Rattle.profile_rows.specs.Rows.{has_name}
-use Rattle.profile_rows.specs.Tallies.{AreSingle, AreTalliesOf, HasCounted, IsNumberedStack, IsTallyOf, names_at}
+use Rattle.profile_rows.specs.Tallies.{AreSingle, AreTalliesOf, IsNumberedStack, IsTallyOf}
 use Rattle.profile_rows.specs.Tallies.{tally_at, tally_of}
-use Rattle.profile_rows.specs.TextTables.{number_in, with_text}
+use Rattle.profile_rows.specs.TextTables.{names_at, number_in, with_text, with_texts}
+use Rattle.profile_rows.specs.NumberedRows.{IsNumberOfText}
 use Rattle.profile_rows.proofs.TallyLaws.{zero_tally}
-use Rattle.profile_rows.proofs.TextNumbers.{any_push, no_text, none_at_end, number_in-lt, number_in-with, shown_at}
-use Rattle.profile_rows.proofs.TextNumbers.{text_of_number, turned, with_text-new, with_text-there}
+use Rattle.profile_rows.proofs.TextNumbers.{any_push, no_text, number_in-kept, number_in-lt, shown_at, text_of, there_inside}
+use Rattle.profile_rows.proofs.TextNumbers.{text_of_number, turned, with_text-there}
 use Rattle.profile_rows.proofs.SameNames.{is_same_name-self, same_from_is_same_name}
 
 abbrev texts_of : List (Bor (List ℕ)) → List (List ℕ)
-texts_of frames = map (λ (frame : Bor (List ℕ)). frame.now) frames
+texts_of = map text_of
 
 -- ---- a name more
 
@@ -47,86 +47,95 @@ single_push (first ∷ names) name single none =
     apart [] all this = (this, tt)
     apart (other ∷ others) all this = (all.0, apart others all.1 this)
 
-tally_of-push : (names : List (List ℕ)) (tallies : List Tally) (name q : List ℕ) → length tallies ≡ length names
-    → tally_of (names ++ name ∷ []) (tallies ++ zero_tally ∷ []) q ≡ tally_of names tallies q
-tally_of-push [] [] name q same = elim (bytes_eq q name) as (λ b. tally_at (zero_tally ∷ []) (cond b 0 (0 + 1))
-    ≡ zero_tally) [ true ↦ refl | false ↦ refl ]
-tally_of-push [] (tally ∷ tallies) name q same = absurd (omega (arith, same))
-tally_of-push (first ∷ names) [] name q same = absurd (omega (arith, same))
-tally_of-push (first ∷ names) (tally ∷ tallies) name q same =
-    let more = number_in (names ++ name ∷ []) q in
+nothing_counted : (count number : ℕ) → tally_at (replicate count zero_tally) number ≡ zero_tally
+nothing_counted zero zero = refl
+nothing_counted zero (suc number) = refl
+nothing_counted (suc count) zero = refl
+nothing_counted (suc count) (suc number) = nothing_counted count number
+
+-- names behind others have tallies of no row
+tally_of-more : (names more : List (List ℕ)) (tallies : List Tally) (count : ℕ) (q : List ℕ)
+    → length tallies ≡ length names
+    → tally_of (names ++ more) (tallies ++ replicate count zero_tally) q ≡ tally_of names tallies q
+tally_of-more [] more [] count q same = nothing_counted count (number_in more q)
+tally_of-more [] more (tally ∷ tallies) count q same = absurd (omega (arith, same))
+tally_of-more (first ∷ names) more [] count q same = absurd (omega (arith, same))
+tally_of-more (first ∷ names) more (tally ∷ tallies) count q same =
+    let further = number_in (names ++ more) q in
     let here = number_in names q in
-    let next : more + 1 ≡ suc more = omega arith in
+    let next : further + 1 ≡ suc further = omega arith in
     let before : suc here ≡ here + 1 = omega arith in
-    elim (bytes_eq q first) as (λ b. tally_at (tally ∷ tallies ++ zero_tally ∷ []) (cond b 0 (more + 1))
+    elim (bytes_eq q first) as (λ b. tally_at (tally ∷ tallies ++ replicate count zero_tally) (cond b 0 (further + 1))
     ≡ tally_at (tally ∷ tallies) (cond b 0 (here + 1))) [
       | true ↦ refl
-      | false ↦ ap (tally_at (tally ∷ tallies ++ zero_tally ∷ [])) next
-          ∙ tally_of-push names tallies name q (omega (arith, same)) ∙ ap (tally_at (tally ∷ tallies)) before
+      | false ↦ ap (tally_at (tally ∷ tallies ++ replicate count zero_tally)) next
+          ∙ tally_of-more names more tallies count q (omega (arith, same)) ∙ ap (tally_at (tally ∷ tallies)) before
     ]
 
--- a name that is new has a tally of no row
-pub named-new : (rows : List WeightedStack) (names next : List (List ℕ)) (old new : Tallies)
-    (name : List ℕ) (number : ℕ) → next ≡ with_text names name → number ≡ number_in (with_text names name) name
-    → number ≡ length old.names.items → new.total ≡ old.total → new.names.items ≡ old.names.items ++ zero_tally ∷ []
-    → AreTalliesOf rows names old → AreTalliesOf rows next new
-named-new rows names next old new name number is number_is end total pushed are =
+-- texts that are added stand behind those that are there
+texts_behind : (names more : List (List ℕ)) → (behind : List (List ℕ)) × (with_texts names more ≡ names ++ behind)
+texts_behind names [] = ([], sym (append-nil names))
+texts_behind names (name ∷ more) = elim (list_any (bytes_eq name) names) as (λ b. (behind : List (List ℕ))
+    × (with_texts (cond b names (names ++ name ∷ [])) more ≡ names ++ behind)) [
+      | true ↦ texts_behind names more
+      | false ↦
+          let (behind, is) = texts_behind (names ++ name ∷ []) more in
+          (name ∷ behind, is ∙ append_assoc names (name ∷ []) behind)
+    ]
+
+pub single_with : (names more : List (List ℕ)) → AreSingle names → AreSingle (with_texts names more)
+single_with names [] single = single
+single_with names (name ∷ more) single = elim (list_any (bytes_eq name) names) as (λ b. list_any (bytes_eq name) names
+    ≡ b → AreSingle (with_texts (cond b names (names ++ name ∷ [])) more)) [
+      | true ↦ λ e. single_with names more single
+      | false ↦ λ e. single_with (names ++ name ∷ []) more (single_push names name single e)
+    ] refl
+
+-- names that are new have tallies of no row
+pub names-new : (rows : List WeightedStack) (names more : List (List ℕ)) (old new : Tallies) → new.total ≡ old.total
+    → new.names.items ≡ old.names.items ++ replicate (length (with_texts names more) - length names) zero_tally
+    → AreTalliesOf rows names old → AreTalliesOf rows (with_texts names more) new
+names-new rows names more old new total grown are =
     let many = are.many in
-    let last : length names ≤ number_in names name =
-    let same = number_in-with names name in omega (arith, many, number_is, end, same) in
-    let none : list_any (bytes_eq name) names ≡ false = none_at_end names name last in
-    let longer : next ≡ names ++ name ∷ [] = is ∙ with_text-new names name none in
+    let (behind, is) = texts_behind names more in
+    let count = length (with_texts names more) - length names in
     record {
-      single = subst AreSingle (sym longer) (single_push names name are.single none);
+      single = single_with names more are.single;
       many =
-          let left = ap length pushed ∙ length-append old.names.items (zero_tally ∷ []) in
-          let right = ap length longer ∙ length-append names (name ∷ []) in
-          omega (arith, left, right, many);
+          let tallies = ap length grown ∙ length-append old.names.items (replicate count zero_tally) in
+          let grew = length-replicate count zero_tally in
+          let texts = ap length is ∙ length-append names behind in
+          omega (arith, tallies, grew, texts, many);
       each = λ q.
-          let same : tally_of next new.names.items q ≡ tally_of names old.names.items q =
-          ap (λ ns. tally_of ns new.names.items q) longer ∙ ap (λ ts. tally_of (names ++ name ∷ []) ts q) pushed
-          ∙ tally_of-push names old.names.items name q many in
-          subst (λ n. IsTallyOf rows n q (tally_of next new.names.items q))
+          let same : tally_of (with_texts names more) new.names.items q ≡ tally_of names old.names.items q =
+          ap (λ ns. tally_of ns new.names.items q) is ∙ ap (λ ts. tally_of (names ++ behind) ts q) grown
+          ∙ tally_of-more names behind old.names.items count q many in
+          subst (λ n. IsTallyOf rows n q (tally_of (with_texts names more) new.names.items q))
           (sym total) (subst (IsTallyOf rows old.total q) (sym same) (are.each q));
       total = total ∙ are.total;
     }
 
--- a name that has a number leaves the tallies
-pub named-known : (rows : List WeightedStack) (names next : List (List ℕ)) (tallies : Tallies)
-    (name : List ℕ) (number : ℕ) → next ≡ with_text names name → number ≡ number_in (with_text names name) name
-    → (number ≡ length tallies.names.items → ⊥)
-    → number ≤ length names → AreTalliesOf rows names tallies → AreTalliesOf rows next tallies
-named-known rows names next tallies name number is number_is other most are =
-    let many = are.many in
-    let same = number_in-with names name in
-    let below : number_in names name < length names = omega (arith, many, number_is, other, most, same) in
-    subst (λ ns. AreTalliesOf rows ns tallies) (sym (is ∙ with_text-there names name below)) are
-
 -- ---- rows
 
-none_single : AreSingle []
+pub none_single : AreSingle []
 unfolding IsDistinct
 none_single = tt
 
-pub none_counted : (counted : CountedRows) → counted.names.texts ≡ [] → counted.tallies.names.items ≡ []
-    → counted.tallies.total ≡ 0 → counted.numbers.items ≡ [] → HasCounted [] counted
-none_counted counted names tallies total numbers = record {
-  tallies = record {
-    single = subst AreSingle (sym names) none_single;
-    many = ap length tallies ∙ sym (ap length names);
-    each = λ q.
-        let none : tally_of counted.names.texts counted.tallies.names.items q ≡ zero_tally =
-        ap (λ ts. tally_of counted.names.texts ts q) tallies ∙ past (number_in counted.names.texts q) in
-        record {
-          flat = ap (λ (t : Tally). t.flat) none;
-          cumulative = ap (λ (t : Tally). t.cumulative) none;
-          numbered = let row = ap (λ (t : Tally). t.row) none in omega (arith, row);
-          named = λ some. let weight = ap (λ (t : Tally). t.cumulative) none in absurd (omega (arith, some, weight));
-        };
-    total = total;
-  };
-  inside = subst (All (λ number. number < length counted.names.texts))
-      (sym numbers) (All-from_recursion (λ number. number < length counted.names.texts) [] tt);
+pub none_counted : (texts : List (List ℕ)) (tallies : Tallies) → texts ≡ [] → tallies.names.items ≡ []
+    → tallies.total ≡ 0 → AreTalliesOf [] texts tallies
+none_counted texts tallies none nothing total = record {
+  single = subst AreSingle (sym none) none_single;
+  many = ap length nothing ∙ sym (ap length none);
+  each = λ q.
+      let zero_is : tally_of texts tallies.names.items q ≡ zero_tally =
+      ap (λ ts. tally_of texts ts q) nothing ∙ past (number_in texts q) in
+      record {
+        flat = ap (λ (t : Tally). t.flat) zero_is;
+        cumulative = ap (λ (t : Tally). t.cumulative) zero_is;
+        numbered = let row = ap (λ (t : Tally). t.row) zero_is in omega (arith, row);
+        named = λ some. let weight = ap (λ (t : Tally). t.cumulative) zero_is in absurd (omega (arith, some, weight));
+      };
+  total = total;
 }
   where
     past : (number : ℕ) → tally_at [] number ≡ zero_tally
@@ -180,47 +189,92 @@ number_inside old new name number names number_is =
     let same = ap (λ ns. number_in ns name) names in
     omega (arith, within, size, number_is, same)
 
--- a number more, that of a frame's name
-pub frame_numbered : (rows : List WeightedStack) (old new : CountedRows) (frame : List ℕ) (number : ℕ)
-    → new.names.texts ≡ with_text old.names.texts frame → number ≡ number_in new.names.texts frame
-    → AreTalliesOf rows new.names.texts new.tallies → new.numbers.items ≡ old.numbers.items ++ number ∷ []
-    → HasCounted rows old → HasCounted rows new
-frame_numbered rows old new frame number names number_is tallies numbers this =
-    let longer = length-with old.names.texts frame in
-    let size = ap length names in
+-- a name more changes the name of no number
+at-with : (names : List (List ℕ)) (name : List ℕ) (number : ℕ) → number < length names
+    → slice_index_or (with_text names name) number [] ≡ slice_index_or names number []
+at-with names name number lt = elim (list_any (bytes_eq name) names) as (λ b. slice_index_or
+    (cond b names (names ++ name ∷ [])) number [] ≡ slice_index_or names number []) [
+      | true ↦ refl
+      | false ↦ get_or_append_left names (name ∷ []) [] number lt
+    ]
+
+-- a number stays that of its text as a name comes
+number-kept : (names : List (List ℕ)) (name : List ℕ) (number : ℕ)
+    → IsNumberOfText names number → IsNumberOfText (with_text names name) number
+number-kept names name number is =
+    let lt = is.inside in
+    let longer = length-with names name in
     record {
-      tallies = tallies;
-      inside = subst (All (λ n. n < length new.names.texts)) (sym numbers)
-          (All-push (λ n. n < length new.names.texts) old.numbers.items number
-          (λ k d lt. let within = this.inside k d lt in omega (arith, within, longer, size))
-          (number_inside old.names.texts new.names.texts frame number names number_is));
+      inside = omega (arith, lt, longer);
+      own = ap (number_in (with_text names name)) (at-with names name number lt)
+          ∙ number_in-kept names name (slice_index_or names number []) (there_inside names
+          (slice_index_or names number []) (subst (λ n. n < length names) (sym is.own) lt)) ∙ is.own;
+      fits = is.fits;
     }
+
+pub numbers-kept : (names : List (List ℕ)) (name : List ℕ) (numbers : List ℕ)
+    → All (IsNumberOfText names) numbers → All (IsNumberOfText (with_text names name)) numbers
+numbers-kept names name numbers = All-weaker (IsNumberOfText names) (IsNumberOfText (with_text names name))
+    (number-kept names name) numbers
+
+-- the name of a number that was added
+added_name : (old new : List (List ℕ)) (name : List ℕ) (number : ℕ)
+    → new ≡ with_text old name → number ≡ number_in new name → slice_index_or new number [] ≡ name
+added_name old new name number names number_is = ap (λ n. slice_index_or new n []) number_is
+    ∙ text_of_number new name (subst (λ n. n < length new) number_is
+    (number_inside old new name number names number_is))
+
+pub numbers-pushed : (old new : List (List ℕ)) (before after : List ℕ) (name : List ℕ) (number : ℕ)
+    → new ≡ with_text old name → number ≡ number_in new name → number < 2 ^ 63 → after ≡ before ++ number ∷ []
+    → All (IsNumberOfText old) before → All (IsNumberOfText new) after
+numbers-pushed old new before after name number names number_is fits numbers are =
+    subst (All (IsNumberOfText new)) (sym numbers) (All-push (IsNumberOfText new) before number
+    (subst (λ ns. All (IsNumberOfText ns) before) (sym names) (numbers-kept old name before are)) (record {
+      inside = number_inside old new name number names number_is;
+      own = ap (number_in new) (added_name old new name number names number_is) ∙ sym number_is;
+      fits = fits;
+    }))
+
+pub are_inside : (texts : List (List ℕ)) (numbers : List ℕ)
+    → All (IsNumberOfText texts) numbers → All (λ number. number < length texts) numbers
+are_inside texts = All-weaker (IsNumberOfText texts) (λ number. number < length texts) (λ number is. is.inside)
+
+-- a name more leaves the frames of a row
+pub frames-kept : (old new : List (List ℕ)) (name : List ℕ) (numbers : List ℕ) → new ≡ with_text old name
+    → All (IsNumberOfText old) numbers → names_at new numbers ≡ names_at old numbers
+frames-kept old new name numbers names are =
+    ap (λ texts. names_at texts numbers) names
+    ∙ names_at-with old name numbers (recursion_from_All (λ number. number < length old) numbers
+    (are_inside old numbers are))
+
+-- the numbers are those of their texts
+pub are_own : (texts : List (List ℕ)) (numbers : List ℕ)
+    → All (IsNumberOfText texts) numbers → map (number_in texts) (names_at texts numbers) ≡ numbers
+are_own texts [] are = refl
+are_own texts (number ∷ numbers) are =
+    ap (λ n. n ∷ map (number_in texts) (names_at texts numbers)) (All-head (IsNumberOfText texts) number numbers are).own
+    ∙ ap (λ ns. number ∷ ns) (are_own texts numbers (All-tail (IsNumberOfText texts) number numbers are))
+
+-- texts of numbers are there
+pub are_known : (texts : List (List ℕ)) (numbers : List ℕ)
+    → All (IsNumberOfText texts) numbers → with_texts texts (names_at texts numbers) ≡ texts
+are_known texts [] are = refl
+are_known texts (number ∷ numbers) are =
+    let is = All-head (IsNumberOfText texts) number numbers are in
+    ap (λ ts. with_texts ts (names_at texts numbers)) (with_text-there texts (slice_index_or texts number [])
+    (subst (λ n. n < length texts) (sym is.own) is.inside))
+    ∙ are_known texts numbers (All-tail (IsNumberOfText texts) number numbers are)
 
 -- the name that a number more adds
 pub name_numbered : (old new : List (List ℕ)) (before after : List ℕ) (frame : List ℕ) (number : ℕ)
     → new ≡ with_text old frame → number ≡ number_in new frame → after ≡ before ++ number ∷ []
     → All (λ n. n < length old) before → names_at new after ≡ names_at old before ++ frame ∷ []
 name_numbered old new before after frame number names number_is numbers inside =
-    let within = number_inside old new frame number names number_is in
-    let at : slice_index_or new number [] ≡ frame = ap (λ n. slice_index_or new n []) number_is
-    ∙ text_of_number new frame (subst (λ n. n < length new) number_is within) in
     ap (names_at new) numbers
     ∙ map-append (λ n. slice_index_or new n []) before (number ∷ [])
     ∙ ap (λ ns. ns ++ slice_index_or new number [] ∷ []) (ap (λ ns. names_at ns before) names
     ∙ names_at-with old frame before (recursion_from_All (λ n. n < length old) before inside))
-    ∙ ap (λ name. names_at old before ++ name ∷ []) at
-
--- the first numbers alone
-pub numbers_kept : (rows : List WeightedStack) (old new : CountedRows) (count : ℕ)
-    → new.names.texts ≡ old.names.texts → new.tallies ≡ old.tallies
-    → new.numbers.items ≡ take count old.numbers.items → HasCounted rows old → HasCounted rows new
-numbers_kept rows old new count names tallies numbers this = record {
-  tallies = subst (λ ns. AreTalliesOf rows ns new.tallies)
-      (sym names) (subst (AreTalliesOf rows old.names.texts) (sym tallies) this.tallies);
-  inside = subst (λ (ns : List (List ℕ)). All (λ n. n < length ns) new.numbers.items) (sym names)
-      (subst (All (λ n. n < length old.names.texts))
-      (sym numbers) (All-take (λ n. n < length old.names.texts) count old.numbers.items this.inside));
-}
+    ∙ ap (λ name. names_at old before ++ name ∷ []) (added_name old new frame number names number_is)
 
 -- what two lists of texts share from their beginnings
 pub shared_same : (left right : List (List ℕ)) → take (common_prefix_len bytes_eq left right) left
@@ -305,20 +359,14 @@ leaf_of names stack numbers (Some number) is inside (before, last) = (
 )
 
 -- the numbers of a row's frames, of which the last is the leaf's
-pub row_numbered : (rows : List WeightedStack) (counted : CountedRows) (stack : List (List ℕ))
-    (numbers : List ℕ) (leaf : Option ℕ) → HasCounted rows counted
-    → names_at counted.names.texts counted.numbers.items ≡ stack
-    → All IsName stack → numbers ≡ counted.numbers.items → leaf ≡ slice_get numbers (length numbers - 1)
-    → IsNumberedStack counted.names.texts stack numbers leaf
-row_numbered rows counted stack numbers leaf this same named lent last =
-    let names : names_at counted.names.texts numbers ≡ stack = ap (names_at counted.names.texts) lent ∙ same in
-    let inside : All (λ n. n < length counted.names.texts) numbers =
-    subst (All (λ n. n < length counted.names.texts)) (sym lent) this.inside in
-    record {
-      named = named;
-      inside = inside;
-      same = λ name. ap (has_name name) names;
-      last = leaf_of counted.names.texts stack numbers leaf names inside
-          (subst (λ o. MatchOption o (numbers ≡ []) (λ number. (before : List ℕ) × (numbers ≡ before ++ number ∷ [])))
-          (sym last) (last_of numbers));
-    }
+pub row_numbered : (texts stack : List (List ℕ)) (numbers : List ℕ) (leaf : Option ℕ)
+    → names_at texts numbers ≡ stack → All (λ number. number < length texts) numbers
+    → All IsName stack → leaf ≡ slice_get numbers (length numbers - 1) → IsNumberedStack texts stack numbers leaf
+row_numbered texts stack numbers leaf names inside named last = record {
+  named = named;
+  inside = inside;
+  same = λ name. ap (has_name name) names;
+  last = leaf_of texts stack numbers leaf names inside
+      (subst (λ o. MatchOption o (numbers ≡ []) (λ number. (before : List ℕ) × (numbers ≡ before ++ number ∷ [])))
+      (sym last) (last_of numbers));
+}

@@ -14,7 +14,8 @@ use Rattle.profile_rows.specs.declared.weighted_stacks.WeightedStack.{WeightedSt
 use Rattle.profile_rows.specs.Names.{IsName, is_same_name}
 use Rattle.profile_rows.specs.Rows.{has_name, ends_with_name, weight_if, weight_where}
 use Rattle.profile_rows.specs.Tallies.{AreSingle, AreTalliesOf, IsNumberedStack, IsTallyOf, frame_counted, has_number}
-use Rattle.profile_rows.specs.Tallies.{leaf_counted, names_at, numbers_counted, row_counted, tally_at, tally_of}
+use Rattle.profile_rows.specs.Tallies.{leaf_counted, numbers_counted, row_counted, tally_at, tally_of}
+use Rattle.profile_rows.specs.TextTables.{names_at}
 use Rattle.profile_rows.specs.TextTables.{number_in}
 use Rattle.profile_rows.proofs.RowLaws.{weight_where-le-total, weight_where-push}
 use Rattle.profile_rows.proofs.SameNames.{same_from_is_same_name, is_same_name-self}

@@ -165,14 +165,27 @@ number_in-with texts text = elim (list_any (bytes_eq text) texts) as (λ b. list
       | false ↦ λ e. number_at_end texts text e ∙ sym (number_in-missing texts text e)
     ] refl
 
+-- a text that is there keeps its number as another comes
+pub number_in-kept : (texts : List (List ℕ)) (text q : List ℕ)
+    → list_any (bytes_eq q) texts ≡ true → number_in (with_text texts text) q ≡ number_in texts q
+number_in-kept texts text q there = elim (list_any (bytes_eq text) texts) as (λ b. number_in
+    (cond b texts (texts ++ text ∷ [])) q ≡ number_in texts q) [
+      | true ↦ refl
+      | false ↦ number_in-more texts (text ∷ []) q there
+    ]
+
 -- a text whose number is before the end is there
-pub with_text-there : (texts : List (List ℕ)) (text : List ℕ)
-    → number_in texts text < length texts → with_text texts text ≡ texts
-with_text-there texts text inside = elim (list_any (bytes_eq text) texts) as (λ b. list_any (bytes_eq text) texts ≡ b
-    → cond b texts (texts ++ text ∷ []) ≡ texts) [
+pub there_inside : (texts : List (List ℕ)) (text : List ℕ)
+    → number_in texts text < length texts → list_any (bytes_eq text) texts ≡ true
+there_inside texts text inside =
+    elim (list_any (bytes_eq text) texts) as (λ b. list_any (bytes_eq text) texts ≡ b → b ≡ true) [
       | true ↦ λ e. refl
       | false ↦ λ e. let end = number_in-missing texts text e in absurd (omega (arith, end, inside))
     ] refl
+
+pub with_text-there : (texts : List (List ℕ)) (text : List ℕ)
+    → number_in texts text < length texts → with_text texts text ≡ texts
+with_text-there texts text inside = ap (λ b. cond b texts (texts ++ text ∷ [])) (there_inside texts text inside)
 
 -- a text whose number is not before the end is missing
 pub none_at_end : (texts : List (List ℕ)) (text : List ℕ)
@@ -191,6 +204,10 @@ shown_at [] zero item = refl
 shown_at [] (suc k) item = refl
 shown_at (first ∷ items) zero item = refl
 shown_at (first ∷ items) (suc k) item = shown_at items k item
+
+-- the text that is lent
+abbrev pub text_of : Bor (List ℕ) → List ℕ
+text_of lent = lent.now
 
 -- what stands past the end
 abbrev pub no_text : Bor (List ℕ)

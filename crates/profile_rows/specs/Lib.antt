@@ -5,6 +5,7 @@ pub mod Layout
 pub mod LentRows
 pub mod LentStacks
 pub mod Names
+pub mod NumberedRows
 pub mod Order
 pub mod OwnedRows
 pub mod Paths

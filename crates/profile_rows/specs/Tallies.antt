@@ -1,6 +1,6 @@
 -- What each name weighs so far, by its number.
 use Rattle.std.specs.Prelude.{ℕ, ◌≡◌, ◌<◌, ◌≤◌, ◌+◌, ◌==◌, ◌++◌, ◌∷◌, [], All, Bool, List, MatchOption, Option, length}
-use Rattle.std.specs.Prelude.{map, slice_index_or, if◌then◌else◌}
+use Rattle.std.specs.Prelude.{slice_index_or, if◌then◌else◌}
 use Rattle.std.specs.List.{IsDistinct, list_any}
 use Rattle.profile_rows.specs.declared.frame_totals.CountedRows.{CountedRows}
 use Rattle.profile_rows.specs.declared.tallies.Tallies.{Tallies}
@@ -8,17 +8,13 @@ use Rattle.profile_rows.specs.declared.tallies.Tally.{Tally}
 use Rattle.profile_rows.specs.declared.weighted_stacks.WeightedStack.{WeightedStack}
 use Rattle.profile_rows.specs.Names.{IsName, is_same_name}
 use Rattle.profile_rows.specs.Rows.{has_name, ends_with_name, weight_if, total_of, flat_weight_of, cumulative_weight_of}
-use Rattle.profile_rows.specs.TextTables.{number_in}
+use Rattle.profile_rows.specs.TextTables.{names_at, number_in}
 
 -- ---- names by numbers
 
 -- no two of these names are the same
 abbrev pub AreSingle : List (List ℕ) → Type 0
 AreSingle names = IsDistinct is_same_name names
-
--- the names of these numbers
-abbrev pub names_at : List (List ℕ) → List ℕ → List (List ℕ)
-names_at names numbers = map (λ number. slice_index_or names number []) numbers
 
 -- whether a number is one of these
 abbrev pub has_number : ℕ → List ℕ → Bool
@@ -82,7 +78,6 @@ pub record AreTalliesOf (rows : List WeightedStack) (names : List (List ℕ)) (t
   pub each : (name : List ℕ) → IsTallyOf rows tallies.total name (tally_of names tallies.names.items name)
   pub total : tallies.total ≡ total_of rows
 
--- these rows are counted; each number that is kept is that of a name
-pub record HasCounted (rows : List WeightedStack) (counted : CountedRows) : Type 0 where
-  pub tallies : AreTalliesOf rows counted.names.texts counted.tallies
-  pub inside : All (λ number. number < length counted.names.texts) counted.numbers.items
+-- these rows are counted
+abbrev pub HasCounted : List WeightedStack → CountedRows → Type 0
+HasCounted rows counted = AreTalliesOf rows counted.row.texts counted.tallies

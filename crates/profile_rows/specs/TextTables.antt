@@ -1,5 +1,5 @@
 -- Distinct texts in the order in which they came.
-use Rattle.std.specs.Prelude.{ℕ, ◌≡◌, ◌+◌, List, [], ◌∷◌, ◌++◌, Some, None, if◌then◌else◌}
+use Rattle.std.specs.Prelude.{ℕ, ◌≡◌, ◌+◌, List, [], ◌∷◌, ◌++◌, Some, None, if◌then◌else◌, map, slice_index_or}
 use Rattle.std.specs.List.{list_any}
 use Rattle.std.specs.HashMap as hash
 use Rattle.std.specs.HashMap.{HashMap}
@@ -11,6 +11,10 @@ use Rattle.profile_rows.specs.declared.hashing.Hashing.{Hashing}
 abbrev pub number_in : List (List ℕ) → List ℕ → ℕ
 number_in [] text = 0
 number_in (first ∷ texts) text = if bytes_eq text first then 0 else number_in texts text + 1
+
+-- the texts of these numbers
+abbrev pub names_at : List (List ℕ) → List ℕ → List (List ℕ)
+names_at texts numbers = map (λ number. slice_index_or texts number []) numbers
 
 -- a text that is there isn't added again
 abbrev pub with_text : List (List ℕ) → List ℕ → List (List ℕ)

@@ -1,8 +1,9 @@
 //! What names weigh in rows, by their numbers.
 
-ghost use Rattle.std.specs.Prelude.{ℕ, ◌≡◌, ◌≢◌, ◌+◌, ◌^◌, ◌<◌, ◌++◌, ◌∷◌, [], All, List, IfOk, length, map, slice_set};
+ghost use Rattle.std.specs.Prelude.{ℕ, ◌≡◌, ◌≢◌, ◌+◌, ◌^◌, ◌<◌, ◌++◌, ◌∷◌, [], All, List, IfOk, OnOk, length, map, slice_set};
 ghost use Rattle.profile_rows.specs.declared.weighted_stacks.WeightedStack.{WeightedStack};
 ghost use Rattle.profile_rows.specs.Tallies.{AreSingle, AreTalliesOf, IsNumberedStack, frame_counted, leaf_counted, numbers_counted, tally_at};
+ghost use Rattle.profile_rows.specs.TextTables.{with_texts};
 ghost use Rattle.profile_rows.specs.TopList.{AreSumsOf, AreTotalsOf};
 
 use crate::frame_totals::{FrameTotal, FrameTotals};
@@ -113,6 +114,23 @@ impl Tallies {
     {
         let names = vec![in alloc; Tally::none(); count]?;
         Ok(Tallies { names, total: 0 })
+    }
+
+    /// Gives names up to so many a tally. What is counted stays as it is: no row has them.
+    ///
+    /// # Errors
+    ///
+    /// `AllocError`.
+    pub(crate) fn reach(&mut self, count: usize) -> Result<(), AllocError>
+        ensures total { self.new.total ≡ self.old.total }
+        ensures counted { (names more : List (List ℕ)) (rows : List WeightedStack)
+            → length (with_texts names more) ≡ count → AreTalliesOf rows names self.old
+            → OnOk result (AreTalliesOf rows (with_texts names more) self.new) }
+    {
+        if count > self.names.len() {
+            self.names.resize(count, Tally::none())?;
+        }
+        Ok(())
     }
 
     /// Counts a row more, of frames with the names of these numbers and a leaf of that number. The row's number is the

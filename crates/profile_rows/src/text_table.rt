@@ -1,6 +1,6 @@
 //! Texts that are numbered as they come.
 
-ghost use Rattle.std.specs.Prelude.{◌≡◌, ◌<◌, ◌^◌, [], IfOk, OnOk, map};
+ghost use Rattle.std.specs.Prelude.{◌≡◌, ◌<◌, ◌^◌, [], IfOk, OnErr, OnOk, map};
 ghost use Rattle.profile_rows.specs.TextTables.{number_in, with_text, with_texts};
 
 use crate::hashing::Hashing;
@@ -92,6 +92,7 @@ impl<'a> TextTable<'a> {
         ensures texts { OnOk result (self.new.texts ≡ with_text self.old.texts text.now) }
         ensures number { IfOk result (λ number. number ≡ number_in (with_text self.old.texts text.now) text.now) }
         ensures fits { IfOk result (λ number. number < 2 ^ 63) }
+        ensures kept { OnErr result (self.new ≡ self.old) }
     {
         let number = self.number_of(text);
         if number < self.texts().len() {

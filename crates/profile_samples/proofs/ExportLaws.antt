@@ -2,7 +2,7 @@
 use Rattle.std.proofs.Common.{◌≡◌, ℕ, zero, suc, ◌+◌, ◌<◌, ◌≤◌, Bool, true, false, cond, ◌||◌, eqb, List, [], ◌∷◌}
 use Rattle.std.proofs.Common.{◌++◌, length, map, refl, sym, ap, ◌∙◌, subst, arith}
 use Rattle.std.specs.Prelude.{⊤, pos, Option, Some, None, ◌==◌, reverse, slice_get, slice_index_or, unwrap_or}
-use Rattle.std.specs.List.{All, AllByRecursion, list_all, list_any, flat_map}
+use Rattle.std.specs.List.{All, AllByRecursion, IsDistinct, list_all, list_any, flat_map}
 use Rattle.std.specs.Str.{bytes_eq}
 use Rattle.std.proofs.lemmas.Bool.{and_parts, eq-eqb, ne_eqb, lt-ltb, false≢true}
 use Rattle.std.proofs.lemmas.List.{length-map, reverse-reverse}
@@ -20,7 +20,8 @@ use Rattle.pprof_profile.specs.Valid.{IsValidDraft, all_index, begins_with_empty
 use Rattle.pprof_profile.specs.Valid.{function_indexes, has_double, is_index, is_known, is_nonempty, location_ids}
 use Rattle.pprof_profile.specs.Valid.{mapping_ids, names_functions, names_locations, names_mappings, no_double_id}
 use Rattle.pprof_profile.specs.Valid.{no_zero_id, sample_indexes, value_type_indexes}
-use Rattle.profile_rows.specs.Names.{IsName, cleaned_name_of}
+use Rattle.profile_rows.specs.Names.{IsName, cleaned_name_of, is_same_name}
+use Rattle.profile_rows.specs.Tallies.{AreSingle}
 use Rattle.profile_rows.specs.Values.{Row, value_of}
 use Rattle.profile_samples.specs.Batches.{AreRowsOfSamples}
 use Rattle.profile_samples.specs.Samples.{IsRowOfSample, address_name, first_name, frames_at, frames_of_id, item_with}
@@ -30,6 +31,7 @@ use Rattle.profile_samples.specs.Export.{KindAndUnit, exported_function, exporte
 use Rattle.profile_samples.specs.Export.{exported_sample, exported_type, id_in, names_of, profile_with}
 use Rattle.profile_samples.specs.Export.{strings_of, unit_texts}
 use Rattle.profile_rows.proofs.Cleaning.{cleaned-name}
+use Rattle.profile_rows.proofs.NumberedRows.{none_single, single_with}
 use Rattle.profile_rows.proofs.SameNames.{same_from_is_same_name, is_same_name-self}
 use Rattle.profile_rows.proofs.TextNumbers.{any_push, number_in-lt, turned}
 
@@ -42,15 +44,7 @@ abbrev pub AllStand : List (List ℕ) → List (List ℕ) → Type 0
 AllStand texts [] = ⊤
 AllStand texts (text ∷ more) = (stands_in texts text ≡ true) × AllStand texts more
 
-abbrev pub AreDistinct : List (List ℕ) → Type 0
-AreDistinct [] = ⊤
-AreDistinct (text ∷ texts) = (stands_in texts text ≡ false) × AreDistinct texts
-
 -- ---- booleans
-
-or_false : (x y : Bool) → (x || y) ≡ false → (x ≡ false) × (y ≡ false)
-or_false true y e = absurd (false≢true (sym e))
-or_false false y e = (refl, e)
 
 or_right : (x y : Bool) → y ≡ true → (x || y) ≡ true
 or_right true y e = refl
@@ -94,28 +88,6 @@ with_texts-own texts (text ∷ more) q e =
           (sym (same_from_is_same_name q text same)) (with_text-own texts text))
       | false ↦ λ other r. with_texts-own (with_text texts text) more q r
     ] refl e
-
-distinct_push : (texts : List (List ℕ)) (text : List ℕ)
-    → AreDistinct texts → stands_in texts text ≡ false → AreDistinct (texts ++ text ∷ [])
-distinct_push [] text all none = (refl, tt)
-distinct_push (first ∷ texts) text all none =
-    let parts = or_false (bytes_eq text first) (stands_in texts text) none in (
-      any_push texts text first
-          ∙ ap (λ b. b || bytes_eq first text) all.0 ∙ turned text first parts.0,
-      distinct_push texts text all.1 parts.1,
-    )
-
-distinct_with_text : (texts : List (List ℕ)) (text : List ℕ) → AreDistinct texts → AreDistinct (with_text texts text)
-distinct_with_text texts text all =
-    elim (stands_in texts text) as (λ b. stands_in texts text ≡ b → AreDistinct (cond b texts (texts ++ text ∷ []))) [
-      | true ↦ λ e. all
-      | false ↦ λ e. distinct_push texts text all e
-    ] refl
-
-pub distinct_with_texts : (texts more : List (List ℕ)) → AreDistinct texts → AreDistinct (with_texts texts more)
-distinct_with_texts texts [] all = all
-distinct_with_texts texts (text ∷ more) all =
-    distinct_with_texts (with_text texts text) more (distinct_with_text texts text all)
 
 pub stand_where : (sub full : List (List ℕ))
     → ((q : List ℕ) → stands_in sub q ≡ true → stands_in full q ≡ true) → AllStand full sub
@@ -162,11 +134,18 @@ known_id : (names sub : List (List ℕ)) (q : List ℕ)
 known_id names [] q e all = refl
 known_id names (text ∷ sub) q e all = rw (same_id names q text e all.0, known_id names sub q e all.1) refl
 
+-- a text that is none of some others doesn't stand among them
+none_same : (text : List ℕ) (others : List (List ℕ))
+    → AllByRecursion (λ (other : List ℕ). is_same_name text other ≡ false) others → stands_in others text ≡ false
+none_same text [] all = refl
+none_same text (other ∷ others) all = rw (all.0, none_same text others all.1) refl
+
 ids_single : (names sub : List (List ℕ))
-    → AllStand names sub → AreDistinct sub → has_double (map (id_in names) sub) ≡ false
+    → AllStand names sub → AreSingle sub → has_double (map (id_in names) sub) ≡ false
+unfolding IsDistinct
 ids_single names [] all apart = refl
 ids_single names (text ∷ sub) all apart =
-    rw (known_id names sub text all.0 all.1, apart.0, ids_single names sub all.1 apart.1) refl
+    rw (known_id names sub text all.0 all.1, none_same text sub apart.0, ids_single names sub all.1 apart.1) refl
 
 -- ---- ids of what is exported
 
@@ -344,7 +323,7 @@ rule_kept rule fault rest e left = ap (λ b. cond b rest (Some fault)) e ∙ lef
 -- what the names and strings of an export are
 pub record AreExported (names strings : List (List ℕ)) (rows : List Row) (units : List KindAndUnit) : Type 0 where
   pub own : AllStand names names
-  pub apart : AreDistinct names
+  pub apart : AreSingle names
   pub strung : AllStand strings names
   pub stacks_strung : RowsStand strings rows
   pub units_there : UnitsStand strings units
@@ -403,7 +382,7 @@ exported_names rows units =
     ∙ or_right (stands_in (unit_texts units) q) (stands_in names q) e)) in
     record {
       own = stand_where names names (λ q e. e);
-      apart = distinct_with_texts [] frames tt;
+      apart = single_with [] frames none_single;
       strung = stand_where names (strings_of units names) spelled;
       stacks_strung = rows_stand (strings_of units names) rows (λ q e. spelled q (with_texts-own [] frames q e));
       units_there = units_stand (strings_of units names) units (λ q e. with_texts-own [] all q

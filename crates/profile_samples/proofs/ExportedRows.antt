@@ -1,5 +1,5 @@
 -- Rows that are written as samples when they come: a name keeps its id as more names come.
-use Rattle.std.proofs.Common.{◌≡◌, ℕ, ◌+◌, true, false, cond, List, [], ◌∷◌, ◌++◌, map, inl, inr, pos, refl, sym, ap}
+use Rattle.std.proofs.Common.{◌≡◌, ℕ, ◌+◌, List, [], ◌∷◌, ◌++◌, map, inl, inr, pos, refl, sym, ap}
 use Rattle.std.proofs.Common.{◌∙◌, subst}
 use Rattle.std.specs.Prelude.{Err, MatchResult, Ok, Result, reverse}
 use Rattle.std.specs.List.{flat_map}
@@ -14,23 +14,13 @@ use Rattle.profile_rows.specs.Values.{Row, rows_at, single, singles, weighing}
 use Rattle.folded_text.specs.declared.folded.FoldedFault.{FoldedFault}
 use Rattle.folded_text.specs.declared.folded.FoldedFault.TheVariants.{NoMemory}
 use Rattle.folded_text.specs.FoldedText.{IsFoldedText, IsWorkFault}
-use Rattle.profile_rows.specs.TextTables.{number_in, with_text, with_texts}
+use Rattle.profile_rows.specs.TextTables.{with_text, with_texts}
 use Rattle.profile_samples.specs.Export.{AreSamplesOf, IsExportOfText, single_profile_of, exported_sample, id_in}
 use Rattle.profile_samples.specs.Export.{names_of}
-use Rattle.profile_samples.proofs.ExportLaws.{AllStand, RowsStand, rows_stand, stand_where, stands_in, with_text-stands}
+use Rattle.profile_samples.proofs.ExportLaws.{AllStand, RowsStand, rows_stand, with_text-stands}
 use Rattle.profile_samples.proofs.ExportLaws.{with_texts-own}
 use Rattle.folded_text.proofs.Reading.{IsFirstFault-folded, IsFoldedText-same}
-use Rattle.profile_rows.proofs.TextNumbers.{next_mapped, number_in-more, with_texts-append}
-
--- ---- a text that is there keeps its number
-
-pub number_in-kept : (texts : List (List ℕ)) (text q : List ℕ)
-    → stands_in texts q ≡ true → number_in (with_text texts text) q ≡ number_in texts q
-number_in-kept texts text q there =
-    elim (stands_in texts text) as (λ b. number_in (cond b texts (texts ++ text ∷ [])) q ≡ number_in texts q) [
-      | true ↦ refl
-      | false ↦ number_in-more texts (text ∷ []) q there
-    ]
+use Rattle.profile_rows.proofs.TextNumbers.{number_in-kept, with_texts-append}
 
 ids_kept : (texts : List (List ℕ)) (text : List ℕ) (stack : List (List ℕ))
     → AllStand texts stack → map (id_in (with_text texts text)) stack ≡ map (id_in texts) stack
@@ -38,18 +28,6 @@ ids_kept texts text [] all = refl
 ids_kept texts text (name ∷ stack) all =
     ap (λ index. (index + 1) ∷ map (id_in (with_text texts text)) stack) (number_in-kept texts text name all.0)
     ∙ ap (λ ids. id_in texts name ∷ ids) (ids_kept texts text stack all.1)
-
--- the ids of a stack's frames so far, and the next one's
-pub ids_with : (start old new seen next : List (List ℕ)) (text : List ℕ) (index : ℕ) → index ≡ number_in
-    (with_text old text) text → new ≡ with_text old text → old ≡ with_texts start seen → next ≡ seen ++ text ∷ []
-    → map (id_in old) seen ++ (index + 1) ∷ [] ≡ map (id_in new) next
-ids_with start old new seen next text index is added so_far more =
-    let all : AllStand old seen = subst (λ texts. AllStand texts seen)
-    (sym so_far) (stand_where seen (with_texts start seen) (λ q e. with_texts-own start seen q e)) in
-    ap (λ ids. ids ++ (index + 1) ∷ []) (sym (ids_kept old text seen all))
-    ∙ ap (λ p. map (id_in (with_text old text)) seen ++ (p + 1) ∷ []) is
-    ∙ next_mapped (id_in (with_text old text)) seen next text more
-    ∙ ap (λ names. map (id_in names) next) (sym added)
 
 -- ---- the samples of rows
 

@@ -22,22 +22,24 @@ use Rattle.pprof_profile.specs.Valid.{has_double}
 use Rattle.profile_rows.specs.Names.{cleaned_name_of, is_same_name}
 use Rattle.profile_rows.specs.Rows.{has_name}
 use Rattle.profile_rows.proofs.SameNames.{is_same_name-self}
-use Rattle.profile_samples.specs.declared.name_numbers.FrameNumbers.{FrameNumbers}
+use Rattle.profile_samples.specs.FrameLists.{FrameNumbers, names_of}
 use Rattle.profile_samples.specs.Samples.{address_name, first_name, frames_at, frames_from, frames_of_id, frames_of_ids}
 use Rattle.profile_samples.specs.Samples.{function_name, item_with, line_name, location_frames, named_by}
 use Rattle.profile_samples.specs.Samples.{sample_stack_of, string_at}
-use Rattle.profile_rows.specs.Tallies.{AreSingle, has_number, names_at}
+use Rattle.profile_rows.specs.Tallies.{AreSingle, has_number}
+use Rattle.profile_rows.specs.TextTables.{names_at}
 use Rattle.profile_rows.specs.TextTables.{number_in, with_text, with_texts}
 use Rattle.profile_rows.proofs.TallyLaws.{has_number-push}
 use Rattle.profile_samples.specs.NameNumbers.{AreFrameNumbers, AreFunctionNumbers, address_names, address_of}
 use Rattle.profile_samples.specs.NameNumbers.{frame_names, index_in, is_at, is_name_of, lacks_name, names_function}
-use Rattle.profile_samples.specs.NameNumbers.{names_of, needs_address, string_names_from}
+use Rattle.profile_samples.specs.NameNumbers.{needs_address, string_names_from}
 use Rattle.profile_samples.specs.NameNumbers.{frame_numbers_of, given, line_number, location_numbers, number_at}
 use Rattle.profile_samples.specs.NameNumbers.{number_by, number_of, numbers_of, numbers_of_id, once_of, string_names}
 use Rattle.profile_samples.specs.NameNumbers.{string_numbers, with_number, with_numbers}
-use Rattle.profile_samples.proofs.ExportLaws.{AllStand, AreDistinct, distinct_with_texts, stand_where, stands_in}
+use Rattle.profile_samples.proofs.ExportLaws.{AllStand, stand_where, stands_in}
 use Rattle.profile_samples.proofs.ExportLaws.{with_text-stands, with_texts-own, with_texts-stands}
-use Rattle.profile_samples.proofs.ExportedRows.{number_in-kept}
+use Rattle.profile_rows.proofs.NumberedRows.{none_single, single_with}
+use Rattle.profile_rows.proofs.TextNumbers.{number_in-kept}
 use Rattle.profile_samples.proofs.ItemsById.{item_with-found}
 use Rattle.profile_rows.proofs.TextNumbers.{number_in-lt, text_of_number}
 
@@ -323,24 +325,10 @@ locations_stand draft =
 
 -- ---- numbers of names
 
-single : (names : List (List ℕ)) → AreDistinct names → AreSingle names
-unfolding IsDistinct
-single [] all = tt
-single (name ∷ names) all = (apart name names all.0, single names all.1)
-  where
-    apart : (name : List ℕ) (names : List (List ℕ))
-        → stands_in names name ≡ false → AllByRecursion (λ (other : List ℕ). is_same_name name other ≡ false) names
-    apart name [] none = tt
-    apart name (other ∷ names) none = elim (bytes_eq name other) as (λ b. bytes_eq name other ≡ b → (b || stands_in
-        names name) ≡ false → AllByRecursion (λ (other : List ℕ). is_same_name name other ≡ false) (other ∷ names)) [
-          | true ↦ λ is e. absurd (false≢true (sym e))
-          | false ↦ λ is e. (is, apart name names e)
-        ] refl none
-
 pub frame_names-single : (draft : Draft) → AreSingle (frame_names draft)
 frame_names-single draft =
-    single (frame_names draft) (distinct_with_texts (with_texts [] (given (string_names draft)))
-    (given (address_names draft)) (distinct_with_texts [] (given (string_names draft)) tt))
+    single_with (with_texts [] (given (string_names draft))) (given (address_names draft))
+    (single_with [] (given (string_names draft)) none_single)
 
 below : (names frames : List (List ℕ))
     → AllStand names frames → AllByRecursion (λ number. number < length names) (map (number_in names) frames)

@@ -4,6 +4,7 @@ pub mod ExportedBatches
 pub mod ExportedRows
 pub mod ExportedValues
 pub mod FirstFaults
+pub mod FrameLists
 pub mod FrameNumbers
 pub mod ItemsById
 pub mod IdIndex

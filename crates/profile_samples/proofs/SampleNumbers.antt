@@ -10,12 +10,13 @@ use Rattle.pprof_profile.specs.declared.messages.Draft.{Draft}
 use Rattle.pprof_profile.specs.declared.messages.Location.{Location}
 use Rattle.profile_rows.specs.Names.{IsName, is_same_name}
 use Rattle.profile_rows.specs.Rows.{has_name}
-use Rattle.profile_rows.specs.Tallies.{IsNumberedStack, names_at}
+use Rattle.profile_rows.specs.Tallies.{IsNumberedStack}
+use Rattle.profile_rows.specs.TextTables.{names_at}
 use Rattle.profile_rows.proofs.TallyLaws.{named_in}
-use Rattle.profile_samples.specs.declared.name_numbers.FrameNumbers.{FrameNumbers}
+use Rattle.profile_samples.specs.FrameLists.{FrameNumbers, names_of}
 use Rattle.profile_samples.specs.Samples.{frames_at, frames_of_id, frames_of_ids, item_with, location_frames}
 use Rattle.profile_samples.specs.Samples.{sample_stack_of}
-use Rattle.profile_samples.specs.NameNumbers.{frame_names, names_of}
+use Rattle.profile_samples.specs.NameNumbers.{frame_names}
 use Rattle.profile_samples.specs.CountedSamples.{AreNumbersOfIds}
 use Rattle.profile_samples.proofs.ExportLaws.{AllStand}
 use Rattle.profile_samples.proofs.FrameNumbers.{AreNumbersOf, frames-more, locations_stand}

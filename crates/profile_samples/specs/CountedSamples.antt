@@ -5,7 +5,8 @@ use Rattle.profile_rows.specs.declared.frame_totals.FrameTotals.{FrameTotals}
 use Rattle.profile_rows.specs.declared.tallies.Tallies.{Tallies}
 use Rattle.profile_rows.specs.declared.weighted_stacks.WeightedStack.{WeightedStack}
 use Rattle.profile_rows.specs.Rows.{has_name}
-use Rattle.profile_rows.specs.Tallies.{AreTalliesOf, names_at}
+use Rattle.profile_rows.specs.Tallies.{AreTalliesOf}
+use Rattle.profile_rows.specs.TextTables.{names_at}
 use Rattle.profile_rows.specs.TopList.{AreTotalsOf}
 use Rattle.profile_samples.specs.declared.sampling.ValueChoice.{ValueChoice}
 use Rattle.profile_samples.specs.NameNumbers.{frame_names}

@@ -9,7 +9,7 @@ use Rattle.pprof_profile.specs.declared.messages.Location.{Location}
 use Rattle.pprof_profile.specs.declared.messages.Line.{Line}
 use Rattle.pprof_profile.specs.Valid.{function_ids, has_double, location_ids}
 use Rattle.profile_rows.specs.Names.{IsName, cleaned_name_of}
-use Rattle.profile_samples.specs.declared.name_numbers.FrameNumbers.{FrameNumbers}
+use Rattle.profile_samples.specs.FrameLists.{FrameNumbers, is_single}
 use Rattle.profile_samples.specs.declared.string_names.GivenName.{GivenName}
 use Rattle.profile_samples.specs.declared.string_names.GivenName.TheVariants.{Missing, Plain, Made}
 use Rattle.profile_samples.specs.Samples.{address_name, function_name, item_with, line_name, location_frames}
@@ -130,22 +130,12 @@ with_numbers numbers (number ∷ more) = with_numbers (with_number numbers numbe
 abbrev pub once_of : List ℕ → List ℕ
 once_of numbers = with_numbers [] numbers
 
--- whether there is one number
-abbrev pub is_single : List ℕ → Bool
-is_single [] = false
-is_single (number ∷ []) = true
-is_single (number ∷ next ∷ numbers) = false
-
 -- the number of each frame, and the number of each name once, which isn't kept of a frame alone
 abbrev pub frame_numbers_of : List ℕ → FrameNumbers
 frame_numbers_of numbers = record {
   all = numbers;
   once = if is_single numbers then [] else once_of numbers;
 }
-
--- the number of each name once
-abbrev pub names_of : FrameNumbers → List ℕ
-names_of frames = if is_single frames.all then frames.all else frames.once
 
 -- the frames of a location by the numbers of their names
 abbrev pub location_numbers : Draft → Location → FrameNumbers

@@ -1,26 +1,25 @@
 //! Folded text as the bytes of a profile, with no row and no sample kept.
 
-ghost use Rattle.std.specs.Prelude.{◌≡◌, ◌+◌, ◌^◌, ◌<◌, ◌∷◌, ◌++◌, [], IfErr, IfOk, List, MatchResult, OnOk, map, reverse};
+ghost use Rattle.std.specs.Prelude.{◌≡◌, ◌+◌, ◌^◌, ◌<◌, ◌∷◌, ◌++◌, [], All, IfErr, IfOk, List, MatchResult, OnOk, map, reverse};
 ghost use Rattle.pprof_profile.specs.Canonical.{canonical_bytes_of};
 ghost use Rattle.pprof_profile.specs.Profiles.{IsProfile};
 ghost use Rattle.profile_rows.specs.declared.weighted_stacks.WeightedStack.{WeightedStack};
-ghost use Rattle.profile_samples.specs.Export.{AreSamplesOf, IsExportOfText, single_profile_of, id_in};
+ghost use Rattle.profile_samples.specs.Export.{AreSamplesOf, IsExportOfText, single_profile_of};
 ghost use Rattle.folded_text.specs.FoldedText.{IsFoldedText, IsLineFault, IsRowLine, IsWorkFault};
 ghost use Rattle.profile_rows.specs.Rows.{total_of};
-ghost use Rattle.profile_rows.specs.TextTables.{with_texts};
 
 use crate::exporting::{ValueUnit, exported_draft};
 use basics::NoMemory;
 use folded_text::{FoldedFault, LineTaker, read_frames, take_lines};
 use pprof_profile::{Samples, WrittenSamples, encode_around};
-use profile_rows::{Hashing, TextTable};
-use std::alloc::Global;
+use profile_rows::{Hashing, NumberedRow};
+use std::alloc::{AllocError, Global};
 
 /// Rows as the samples of the profile that they are exported as: written when they come, their names numbered as they
 /// first stand. The frames of a line, and their ids, take the place of others in the buffers.
 #[derive(Drop)]
 struct SampledRows<'a> {
-    names: TextTable<'a>,
+    row: NumberedRow<'a>,
     samples: WrittenSamples,
     frames: Vec<&'a str>,
     ids: Vec<u64>,
@@ -28,18 +27,13 @@ struct SampledRows<'a> {
 }
 
 /// The ids of the locations of a stack's frames, leaf first, in the place of others.
-fn replace_ids<'a>(
-    names: &mut TextTable<'a>,
-    ids: &mut Vec<u64>,
-    frames: &[&'a str],
-) -> Result<(), NoMemory>
-    ensures names { OnOk result (names.new.texts ≡ with_texts names.old.texts (map (λ frame. frame.now) frames.now)) }
-    ensures ids { OnOk result
-        (ids.new.items ≡ reverse (map (id_in names.new.texts) (map (λ frame. frame.now) frames.now))) }
+fn replace_ids(ids: &mut Vec<u64>, numbers: &[usize]) -> Result<(), AllocError>
+    requires { All (λ number. number < 2 ^ 63) numbers.now }
+    ensures { OnOk result (ids.new.items ≡ reverse (map (λ number. number + 1) numbers.now)) }
 {
     ids.clear();
-    for frame in frames {
-        ids.push(names.number_with(*frame)? as u64 + 1)?;
+    for number in numbers {
+        ids.push(*number as u64 + 1)?;
     }
     ids.reverse();
     Ok(())
@@ -48,19 +42,20 @@ fn replace_ids<'a>(
 /// Adds the row of the frames in the buffer, which fits.
 fn push_row(rows: &mut SampledRows, weight: u64) -> Result<(), NoMemory>
     requires fits { rows.old.total + weight < 2 ^ 63 }
-    ensures { (before : List WeightedStack) → AreSamplesOf before rows.old.names.texts rows.old.samples rows.old.total
+    ensures { (before : List WeightedStack) → AreSamplesOf before rows.old.row.texts rows.old.samples rows.old.total
         → OnOk result (AreSamplesOf
         (before ++ (record { stack = map (λ frame. frame.now) rows.old.frames.items; weight = weight }) ∷ [])
-        rows.new.names.texts rows.new.samples rows.new.total) }
+        rows.new.row.texts rows.new.samples rows.new.total) }
 {
-    replace_ids(&mut rows.names, &mut rows.ids, rows.frames.as_slice())?;
+    rows.row.replace(rows.frames.as_slice())?;
+    replace_ids(&mut rows.ids, rows.row.numbers())?;
     rows.samples.push(rows.ids.as_slice(), &[weight as i64])?;
     rows.total += weight;
     Ok(())
 }
 
 impl<'a> LineTaker<'a> for SampledRows<'a> {
-    ghost is_of = { λ sampled rows. AreSamplesOf rows sampled.names.texts sampled.samples sampled.total };
+    ghost is_of = { λ sampled rows. AreSamplesOf rows sampled.row.texts sampled.samples sampled.total };
 
     fn take_line(&mut self, line: &'a [u8], number: u64) -> Result<(), FoldedFault> {
         let weight = read_frames(&mut self.frames, line, self.total, number)?;
@@ -77,14 +72,20 @@ fn profile_bytes(
     unit: &str,
 ) -> Result<Vec<u8>, NoMemory>
     ensures canonical { (all : List WeightedStack)
-        → AreSamplesOf all rows.now.names.texts rows.now.samples rows.now.total
+        → AreSamplesOf all rows.now.row.texts rows.now.samples rows.now.total
         → IfOk result (λ bytes. bytes.items ≡ canonical_bytes_of (single_profile_of all kind.now unit.now)) }
     ensures profile { (all : List WeightedStack)
-        → AreSamplesOf all rows.now.names.texts rows.now.samples rows.now.total
+        → AreSamplesOf all rows.now.row.texts rows.now.samples rows.now.total
         → IfOk result (λ bytes. IsProfile bytes.items (single_profile_of all kind.now unit.now)) }
 {
     let units = [ValueUnit { kind, unit }];
-    let draft = exported_draft(alloc, hashing, Samples::empty(alloc), &rows.names, &units)?;
+    let draft = exported_draft(
+        alloc,
+        hashing,
+        Samples::empty(alloc),
+        rows.row.names(),
+        &units,
+    )?;
     encode_around(alloc, &draft, &rows.samples)
 }
 
@@ -113,7 +114,7 @@ pub fn export_folded(
         → IfOk result (λ bytes. IsProfile bytes.items (single_profile_of rows kind.now unit.now)) }
 {
     let mut rows = SampledRows {
-        names: TextTable::new(alloc, hashing),
+        row: NumberedRow::new(alloc, hashing),
         samples: WrittenSamples::new(alloc),
         frames: Vec::new(alloc),
         ids: Vec::new(alloc),

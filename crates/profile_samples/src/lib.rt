@@ -5,6 +5,7 @@ mod batches;
 mod counted_samples;
 mod exporting;
 mod folded_export;
+mod frame_lists;
 mod function_numbers;
 mod id_index;
 pub mod laws;

@@ -6,13 +6,14 @@ ghost use Rattle.std.specs.Option.{option_map};
 ghost use Rattle.profile_rows.specs.Names.{IsName};
 ghost use Rattle.profile_samples.specs.Samples.{frames_of_ids, sample_stack_of};
 ghost use Rattle.profile_rows.specs.TextTables.{number_in, with_texts};
-ghost use Rattle.profile_samples.specs.NameNumbers.{address_of, frame_names, frame_numbers_of, given, location_numbers, name_in, names_of, number_of, numbers_of, numbers_of_id, once_of};
+ghost use Rattle.profile_samples.specs.NameNumbers.{address_of, frame_names, frame_numbers_of, given, location_numbers, name_in, number_of, numbers_of, numbers_of_id, once_of};
 
+use crate::frame_lists::{FrameLists, FrameRef};
 use crate::function_numbers::FunctionNumbers;
 use crate::id_index::IdIndex;
 use crate::string_names::{GivenName, string_names};
 use basics::NoMemory;
-use pprof_profile::{Draft, Items, Location, Profile};
+use pprof_profile::{Draft, Location, Profile};
 use profile_rows::{Hashing, MAX_DEPTH, Name, TextTable};
 use std::alloc::{AllocError, Global};
 use std::marker::Model;
@@ -80,28 +81,6 @@ fn copied_names(alloc: Global, texts: &[&str]) -> Result<Vec<Name>, NoMemory>
     Ok(names)
 }
 
-/// A location's frames by the numbers of their names.
-#[derive(Drop)]
-pub(crate) struct FrameNumbers {
-    /// The number of each frame's name, leaf first: there are some.
-    pub all: Items<usize>,
-    /// The numbers of the names, each once; none where there is one frame.
-    once: Items<usize>,
-}
-
-impl FrameNumbers {
-    /// The numbers of the names, each once.
-    pub fn names(&self) -> &[usize]
-        ensures { result.now ≡ names_of self.now }
-    {
-        if self.all.len() == 1 {
-            self.all.as_slice()
-        } else {
-            self.once.as_slice()
-        }
-    }
-}
-
 /// The numbers of a list, each once. A number's mark is the greatest where it stood before.
 fn each_once(
     alloc: Global,
@@ -133,29 +112,25 @@ fn location_ids(alloc: Global, locations: &[Location]) -> Result<Vec<u64>, Alloc
     locations.iter().map(|location| location.id).collect(alloc)
 }
 
-/// The frames of a location, whose numbers these are, leaf first.
-fn frame_numbers(
+/// The numbers of a location's names each once, where it has several frames.
+fn once_of_several(
     alloc: Global,
-    numbers: Vec<usize>,
+    numbers: &[usize],
     marks: &mut Vec<usize>,
     mark: usize,
-) -> Result<FrameNumbers, AllocError>
-    requires inside { All (λ number. number < length marks.old.items) numbers.items }
+) -> Result<Vec<usize>, AllocError>
+    requires inside { All (λ number. number < length marks.old.items) numbers.now }
     requires marked { 0 < mark }
     requires fresh { All (λ before. before < mark) marks.old.items }
-    ensures frames { IfOk result (λ frames. frames ≡ frame_numbers_of numbers.items) }
+    ensures once { IfOk result (λ once.
+        (record { all = numbers.now; once = once.items }) ≡ frame_numbers_of numbers.now) }
     ensures count { OnOk result (length marks.new.items ≡ length marks.old.items) }
     ensures marked { OnOk result (All (λ before. before ≤ mark) marks.new.items) }
 {
-    let once = if numbers.len() == 1 {
-        Vec::new(alloc)
-    } else {
-        each_once(alloc, numbers.as_slice(), marks, mark)?
-    };
-    Ok(FrameNumbers {
-        once: Items::new(once),
-        all: Items::new(numbers),
-    })
+    if numbers.len() == 1 {
+        return Ok(Vec::new(alloc));
+    }
+    each_once(alloc, numbers, marks, mark)
 }
 
 /// The frames of locations, by the numbers of their addresses. Locations are marked from 1.
@@ -165,31 +140,32 @@ fn all_frames(
     locations: &[Location],
     addresses: &[Option<usize>],
     mut marks: Vec<usize>,
-) -> Result<Vec<FrameNumbers>, NoMemory>
+) -> Result<FrameLists, NoMemory>
     requires addresses { addresses.now
         ≡ map (option_map (number_of functions.now)) (map (address_of functions.now) locations.now) }
     requires count { length marks.items ≡ length (frame_names functions.now) }
     requires unmarked { All (λ mark. mark ≡ 0) marks.items }
     requires named { All (λ location. All (λ number. number < length (frame_names functions.now))
         (numbers_of functions.now location)) locations.now }
-    ensures { IfOk result (λ frames. frames.items ≡ map (location_numbers functions.now) locations.now) }
+    ensures { IfOk result (λ frames. frames ≡ map (location_numbers functions.now) locations.now) }
 {
-    let mut frames = Vec::with_capacity(alloc, locations.len())?;
+    let mut frames = FrameLists::with_capacity(alloc, locations.len())?;
     for (at, location) in locations.iter().enumerate() {
         let address = addresses[at].unwrap_or(0);
         let numbers = functions.numbers_of(alloc, location, address)?;
-        frames.push(frame_numbers(alloc, numbers, &mut marks, at + 1)?)?;
+        let once = once_of_several(alloc, numbers.as_slice(), &mut marks, at + 1)?;
+        frames.push(numbers.as_slice(), once.as_slice())?;
     }
     Ok(frames)
 }
 
 /// The most frames that a location has.
-fn deepest_of(frames: &[FrameNumbers]) -> usize
-    ensures { All (λ frames. length frames.all ≤ result) frames.now }
+fn deepest_of(locations: &FrameLists) -> usize
+    ensures { All (λ frames. length frames.all ≤ result) locations.now }
 {
     let mut deepest = 0;
-    for frames in frames {
-        let depth = frames.all.len();
+    for index in 0..locations.len() {
+        let depth = locations.at(index).all().len();
         if depth > deepest {
             deepest = depth;
         }
@@ -203,7 +179,7 @@ fn deepest_of(frames: &[FrameNumbers]) -> usize
 pub(crate) struct NumberedFrames<'a> {
     draft: &'a Draft,
     indices: IdIndex,
-    frames: Vec<FrameNumbers>,
+    frames: FrameLists,
     deepest: usize,
     names: Vec<Name>,
 }
@@ -217,7 +193,7 @@ impl<'a> Model for NumberedFrames<'a> {
     ghost view = { λ numbered. numbered.draft.now };
 
     ghost invariant = { λ numbered.
-        AreFrameNumbers numbered.draft.now numbered.indices numbered.frames.items numbered.deepest
+        AreFrameNumbers numbered.draft.now numbered.indices numbered.frames numbered.deepest
         numbered.names.items };
 }
 
@@ -246,7 +222,7 @@ impl<'a> NumberedFrames<'a> {
         let marks = vec![in alloc; 0; table.texts().len()]?;
         let frames = all_frames(alloc, &functions, locations, numbers.as_slice(), marks)?;
         let indices = IdIndex::new(alloc, hashing, location_ids(alloc, locations)?)?;
-        let deepest = deepest_of(frames.as_slice());
+        let deepest = deepest_of(&frames);
         let names = copied_names(alloc, table.texts())?;
         Ok(NumberedFrames {
             draft,
@@ -266,8 +242,9 @@ impl<'a> NumberedFrames<'a> {
     }
 
     /// The frames of the location that an id names.
-    pub fn frames_of(&self, id: u64) -> Option<&FrameNumbers>
-        ensures { option_map (λ frames. frames.now) result ≡ numbers_of_id self.now id }
+    #[inline(always)]
+    pub fn frames_of(&self, id: u64) -> Option<FrameRef<'_>>
+        ensures { result ≡ numbers_of_id self.now id }
     {
         match self.indices.find(id) {
             Some(at) => self.frames_at(at),
@@ -276,9 +253,9 @@ impl<'a> NumberedFrames<'a> {
     }
 
     /// The frames of the location at an index.
-    fn frames_at(&self, at: usize) -> Option<&FrameNumbers>
-        ensures { option_map (λ frames. frames.now) result
-            ≡ option_map (location_numbers self.now) (slice_get self.now.locations at) }
+    #[inline(always)]
+    fn frames_at(&self, at: usize) -> Option<FrameRef<'_>>
+        ensures { result ≡ option_map (location_numbers self.now) (slice_get self.now.locations at) }
     {
         self.frames.get(at)
     }
@@ -309,7 +286,7 @@ impl<'a> NumberedFrames<'a> {
         let mut room = MAX_DEPTH;
         for id in ids {
             if let Some(frames) = self.frames_of(*id) {
-                let depth = frames.all.len();
+                let depth = frames.all().len();
                 if depth > room {
                     return false;
                 }
@@ -327,7 +304,7 @@ impl<'a> NumberedFrames<'a> {
     {
         for id in ids {
             if let Some(frames) = self.frames_of(*id) {
-                return Some(frames.all.as_slice()[0]);
+                return Some(frames.all()[0]);
             }
         }
         None

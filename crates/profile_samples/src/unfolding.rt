@@ -1,7 +1,7 @@
 //! The frames of samples by their names.
 
 ghost use Rattle.std.specs.Prelude.{◌≡◌, ◌<◌, ◌≤◌, ◌++◌, All, IfOk, OnOk, length};
-ghost use Rattle.profile_rows.specs.Tallies.{names_at};
+ghost use Rattle.profile_rows.specs.TextTables.{names_at};
 ghost use Rattle.profile_samples.specs.NameNumbers.{frame_names};
 ghost use Rattle.profile_samples.specs.Samples.{frames_of_ids, frames_of_sample, sample_stack_of};
 
@@ -44,7 +44,7 @@ impl<'a> NumberedFrames<'a> {
         let mut numbers = Vec::with_capacity(alloc, ids.len())?;
         for id in ids {
             if let Some(frames) = self.frames_of(*id) {
-                push_numbers(&mut numbers, frames.all.as_slice())?;
+                push_numbers(&mut numbers, frames.all())?;
             }
         }
         Ok(numbers)

@@ -3,10 +3,8 @@ use Rattle.std.proofs.Common.{◌<◌, ℕ, List, [], sym, subst}
 use Rattle.std.proofs.lemmas.List.{get_or-map, length-map}
 use denote.Ref.{Bor}
 use Rattle.profile_rows.specs.Names.{IsName}
+use Rattle.profile_rows.proofs.TextNumbers.{text_of}
 use Rattle.folded_text.proofs.row_names.known_name.Goals as goal
-
-abbrev text_of : Bor (List ℕ) → List ℕ
-text_of frame = frame.now
 
 pub name_of-requires : goal.name_of-requires
 name_of-requires c =

@@ -17,7 +17,7 @@ count_batch_row-requires-clause-fits c =
     (λ (row : WeightedStack). row.weight) rows c.loop-row.row-index c.row-item.result c.loop-row-test.true in
     let row : c.row-item.result.weight ≡ (get_or rows c.loop-row.row-index c.row-item.result).weight =
     ap (λ (row : WeightedStack). row.weight) c.row-item.is in
-    let held = c.loop-row.invariant.tallies.total in
+    let held = c.loop-row.invariant.total in
     let batch = ap total_of c.rows-row-items.ensures.rows in
     let fits = c.rows-row-items.ensures.fits in
     omega (arith, before, all, row, held, batch, fits)

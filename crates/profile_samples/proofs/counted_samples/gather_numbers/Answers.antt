@@ -16,9 +16,9 @@ loop-id-preserved c =
     let so_far : AreNumbersOfIds draft (take at ids) before =
     record { inside = c.loop-id.invariant.inside; same = c.loop-id.invariant.same } in
     elim c.match-frames_of.branch [
-      | in-Some+in_ok-push_numbers w ↦ numbers_more draft ids at w.in-Some.found.now
+      | in-Some+in_ok-push_numbers w ↦ numbers_more draft ids at w.in-Some.found
           before w.names.result.now c.match-frames_of.numbers.items c.loop-id-test.true w.names.ensures
-          (found_numbers draft (get_or ids at 0) (Some w.in-Some.found.now) w.in-Some.ensures) so_far
+          (found_numbers draft (get_or ids at 0) (Some w.in-Some.found) w.in-Some.ensures) so_far
           (ap (λ (v : Vec _ _). v.items) w.numbers-is ∙ w.in_ok-push_numbers.ensures)
       | in_default w ↦ numbers_missing draft ids at before c.match-frames_of.numbers.items c.loop-id-test.true
           (found_numbers draft (get_or ids at 0) None w.in_default.ensures) so_far

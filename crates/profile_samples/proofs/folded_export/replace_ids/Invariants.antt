@@ -1,11 +1,6 @@
-use Rattle.std.proofs.Common.{◌≡◌, map, take}
-use Rattle.profile_samples.specs.Export.{id_in}
-use Rattle.profile_rows.specs.TextTables.{with_texts}
+use Rattle.std.proofs.Common.{◌≡◌, ◌+◌, map, take}
 use Rattle.profile_samples.proofs.folded_export.replace_ids.Given as goal
 
--- the frames so far have their numbers, and the ids are theirs
-abbrev pub invariant-loop-frame : goal.invariant-loop-frame
-invariant-loop-frame l = record {
-  names : l.names.texts ≡ with_texts l.fn.names.texts (take l.frame-index (map (λ frame. frame.now) l.frames));
-  ids : l.ids.items ≡ map (id_in l.names.texts) (take l.frame-index (map (λ frame. frame.now) l.frames));
-}
+-- the ids are those of the numbers so far
+abbrev pub invariant-loop-number : goal.invariant-loop-number
+invariant-loop-number l = l.ids.items ≡ map (λ number. number + 1) (take l.number-index l.numbers)

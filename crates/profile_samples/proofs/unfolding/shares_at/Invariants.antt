@@ -1,5 +1,5 @@
 use Rattle.std.proofs.Common.{◌≡◌, take}
-use Rattle.profile_rows.specs.Tallies.{names_at}
+use Rattle.profile_rows.specs.TextTables.{names_at}
 use Rattle.profile_samples.proofs.unfolding.shares_at.Given as goal
 
 -- the names so far

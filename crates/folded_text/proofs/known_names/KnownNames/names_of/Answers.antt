@@ -3,10 +3,8 @@ use Rattle.std.proofs.Common.{◌<◌, ℕ, List, [], ◌∷◌, ◌++◌, lengt
 use Rattle.std.proofs.lemmas.List.{get_or-map, length-map, take_more}
 use denote.Ref.{Bor}
 use Rattle.profile_rows.specs.Names.{IsName}
+use Rattle.profile_rows.proofs.TextNumbers.{text_of}
 use Rattle.folded_text.proofs.known_names.KnownNames.names_of.Goals as goal
-
-abbrev text_of : Bor (List ℕ) → List ℕ
-text_of frame = frame.now
 
 abbrev none : Bor (List ℕ)
 none = record { ref_ptr = (0, 0); now = [] }

@@ -4,7 +4,8 @@ use Rattle.std.proofs.lemmas.List.{map-append}
 use Rattle.std.proofs.lemmas.List.Elements.{All-push, All-weaker}
 use Rattle.pprof_profile.specs.declared.samples.SampleSpans.{SampleSpans}
 use Rattle.pprof_profile.specs.SampleLists.{AreWithin, sample_at}
-use Rattle.pprof_profile.proofs.SampleLists.{are_within_grown, grows_not, samples_grown}
+use Rattle.pprof_profile.proofs.SampleLists.{are_within_grown, samples_grown}
+use Rattle.basics.proofs.Growing.{grows_not}
 use Rattle.pprof_profile.proofs.samples.SampleLists.push.Goals as goal
 
 on_err : {T E P : Type 0} (r : Result T E) → P → OnErr r P
@@ -67,9 +68,9 @@ invariant_of-self-2 c =
     c.append-2.new.all.items c.self.inside.labels.items c.append-3.new.all.items c.append.ensures.kept
     c.append-2.ensures.kept c.append-3.ensures.kept) c.self.inside.spans.items c.self.invariant)
     (record {
-      location_ids_are = record { order = c.in_ok-location_ids.ensures.order; inside = c.in_ok-location_ids.ensures.within };
-      values_are = record { order = c.in_ok-values.ensures.order; inside = c.in_ok-values.ensures.within };
-      labels_are = record { order = c.in_ok-labels.ensures.order; inside = c.in_ok-labels.ensures.within };
+      location_ids_are = c.in_ok-location_ids.ensures.within;
+      values_are = c.in_ok-values.ensures.within;
+      labels_are = c.in_ok-labels.ensures.within;
     }))
 
 pub returns-clause-pushed : goal.returns-clause-pushed

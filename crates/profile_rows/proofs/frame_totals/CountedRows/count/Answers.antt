@@ -1,32 +1,54 @@
 -- The row's frames have their numbers, and its leaf's is the last.
-use Rattle.std.proofs.Common.{ℕ, List, map, ◌∙◌}
+use Rattle.std.proofs.Common.{◌≡◌, ℕ, List, length, map, ap, sym, ◌∙◌, subst, arith}
+use Rattle.std.proofs.lemmas.List.{length-map}
 use denote.Ref.{Bor}
+use Rattle.profile_rows.specs.declared.tallies.Tallies.{Tallies}
+use Rattle.profile_rows.specs.declared.weighted_stacks.WeightedStack.{WeightedStack}
+use Rattle.profile_rows.specs.Tallies.{AreTalliesOf}
+use Rattle.profile_rows.specs.TextTables.{NumberedTexts, with_texts}
 use Rattle.profile_rows.proofs.NumberedRows.{row_numbered}
+use Rattle.profile_rows.proofs.TextNumbers.{text_of}
 use Rattle.profile_rows.proofs.frame_totals.CountedRows.count.Goals as goal
+
+-- the tallies reach all names, of which the row's may be new
+reached : (rows : List WeightedStack) (before frames after : List (List ℕ)) (table : NumberedTexts)
+    (lent : List (Bor (List ℕ))) (old new : Tallies) → after ≡ with_texts before frames → table.texts ≡ after
+    → map text_of lent ≡ table.texts → AreTalliesOf rows before old
+    → ((names more : List (List ℕ)) (rows : List WeightedStack) → length (with_texts names more) ≡ length lent
+    → AreTalliesOf rows names old → AreTalliesOf rows (with_texts names more) new)
+    → AreTalliesOf rows after new
+reached rows before frames after table lent old new names known texts are counted =
+    subst (λ ns. AreTalliesOf rows ns new) (sym names) (counted before frames rows
+    (sym (ap length names) ∙ ap length (sym known) ∙ ap length (sym texts) ∙ length-map lent text_of) are)
+
+pub count-requires-clause-fits : goal.count-requires-clause-fits
+count-requires-clause-fits c =
+    let fits = c.requires.fits in
+    let total = c.in_ok-reach.ensures.total in
+    omega (arith, fits, total)
 
 pub count-requires-clause-counted : goal.count-requires-clause-counted
 count-requires-clause-counted c =
-    let (rows, this) = c.requires.counted in
-    let after = c.in_ok-number.ensures.counted rows this in (
-      c.number.new.self.names.texts,
+    let (rows, this) = c.requires.counted in (
+      c.replace.new.self.texts,
       rows,
-      map (λ (frame : Bor (List ℕ)). frame.now) c.args.frames.now,
-      after.tallies,
-      row_numbered rows c.number.new.self (map (λ (frame : Bor (List ℕ)). frame.now) c.args.frames.now)
-          c.as_slice-numbers.result.now c.copied.result after c.in_ok-number.ensures.names c.requires.names
-          c.as_slice-numbers.ensures.value
-          (c.copied.ensures ∙ c.last.ensures.value),
+      map text_of c.args.frames.now,
+      reached rows c.args.self.now.row.texts (map text_of c.args.frames.now) c.replace.new.self.texts
+          c.names.result.now c.texts.result.now c.args.self.now.tallies c.reach.new.self
+          c.in_ok-replace.ensures.names (ap (λ (table : NumberedTexts). table.texts) c.names.ensures)
+          c.texts.ensures this c.in_ok-reach.ensures.counted,
+      row_numbered c.replace.new.self.texts (map text_of c.args.frames.now) c.numbers-numbers.result.now
+          c.copied.result (c.numbers-numbers.ensures.names ∙ c.in_ok-replace.ensures.frames)
+          c.numbers-numbers.ensures.inside c.requires.names (c.copied.ensures ∙ c.last.ensures.value),
     )
 
 pub returns : goal.returns
 returns c = λ rows this.
-    let after = c.in_ok-number.ensures.counted rows this in
-    record {
-      tallies = c.count.ensures c.number.new.self.names.texts rows
-          (map (λ (frame : Bor (List ℕ)). frame.now) c.args.frames.now) after.tallies
-          (row_numbered rows c.number.new.self (map (λ (frame : Bor (List ℕ)). frame.now) c.args.frames.now)
-          c.as_slice-numbers.result.now c.copied.result after c.in_ok-number.ensures.names c.requires.names
-          c.as_slice-numbers.ensures.value
-          (c.copied.ensures ∙ c.last.ensures.value));
-      inside = after.inside;
-    }
+    c.count.ensures c.replace.new.self.texts rows (map text_of c.args.frames.now)
+    (reached rows c.args.self.now.row.texts (map text_of c.args.frames.now) c.replace.new.self.texts
+    c.names.result.now c.texts.result.now c.args.self.now.tallies c.reach.new.self
+    c.in_ok-replace.ensures.names (ap (λ (table : NumberedTexts). table.texts) c.names.ensures)
+    c.texts.ensures this c.in_ok-reach.ensures.counted)
+    (row_numbered c.replace.new.self.texts (map text_of c.args.frames.now) c.numbers-numbers.result.now
+    c.copied.result (c.numbers-numbers.ensures.names ∙ c.in_ok-replace.ensures.frames)
+    c.numbers-numbers.ensures.inside c.requires.names (c.copied.ensures ∙ c.last.ensures.value))

@@ -10,13 +10,13 @@ use Rattle.profile_samples.proofs.name_numbers.NumberedFrames.leaf_of.Goals as g
 pub returns-in-Some : goal.returns-in-Some
 returns-in-Some c =
     let this = found_numbers c.args.self.now
-    (get_or c.args.ids.now c.loop-id.id-index 0) (Some c.in-Some.frames.now) c.in-Some.ensures in
+    (get_or c.args.ids.now c.loop-id.id-index 0) (Some c.in-Some.frames) c.in-Some.ensures in
     let stack = leaf_first c.args.self.now
     c.args.ids.now c.loop-id.id-index _ this.callers c.loop-id-test.true c.loop-id.invariant this.leaf in
     subst (λ (all : List ℕ). (slice_index_or all 0 0 < length (frame_names c.args.self.now))
     × (callers : List (List ℕ)) × (sample_stack_of c.args.self.now c.args.ids.now
     ≡ callers ++ slice_index_or (frame_names c.args.self.now) (slice_index_or all 0 0) [] ∷ []))
-    (sym c.as_slice.ensures) (this.leaf_inside, stack.0, stack.1)
+    (sym c.all.ensures) (this.leaf_inside, stack.0, stack.1)
 
 pub loop-id-preserved : goal.loop-id-preserved
 loop-id-preserved c =

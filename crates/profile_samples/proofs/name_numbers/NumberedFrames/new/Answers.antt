@@ -1,5 +1,5 @@
 -- The table has every name, and numbers are indices in it.
-use Rattle.std.proofs.Common.{rules, ◌≡◌, ◌<◌, ◌≤◌, ℕ, List, Option, [], All, ap, refl, sym, ◌∙◌, length, map, subst}
+use Rattle.std.proofs.Common.{rules, ◌≡◌, ◌<◌, ℕ, List, Option, [], All, ap, refl, sym, ◌∙◌, length, map, subst}
 use Rattle.std.specs.Prelude.{false}
 use Rattle.std.specs.Option.{option_map}
 use Rattle.std.proofs.lemmas.List.Elements.{All-replicate}
@@ -7,7 +7,6 @@ use Rattle.pprof_profile.specs.declared.messages.Draft.{Draft}
 use Rattle.pprof_profile.specs.declared.messages.Location.{Location}
 use Rattle.pprof_profile.specs.Valid.{IsValidDraft, has_double, location_ids}
 use Rattle.profile_rows.specs.Names.{IsName}
-use Rattle.profile_samples.specs.declared.name_numbers.FrameNumbers.{FrameNumbers}
 use Rattle.profile_rows.specs.TextTables.{number_in, with_texts}
 use Rattle.profile_samples.specs.NameNumbers.{address_names, address_of, frame_names, given, location_numbers, name_in}
 use Rattle.profile_samples.specs.NameNumbers.{number_of, numbers_of, string_names}
@@ -122,8 +121,7 @@ invariant_of-result c =
       single = subst (λ i. has_double i ≡ false) (sym ids) (ids_differ draft valid).0;
       frames_are = c.in_ok-frames.ensures ∙ ap (λ (d : Draft). map (location_numbers d) c.as_slice-locations.result.now)
           c.in_ok-functions.ensures ∙ ap (map (location_numbers draft)) c.as_slice-locations.ensures;
-      depths = subst (All (λ (frames : FrameNumbers). length frames.all ≤ c.deepest_of-deepest.result))
-          c.as_slice-7.ensures.value c.deepest_of-deepest.ensures;
+      depths = c.deepest_of-deepest.ensures;
       names_are = c.in_ok-names.ensures ∙ c.texts-2.ensures ∙ table;
       each = texts_named IsName (given (string_names draft)) (given (address_names draft))
           (subst (λ (names : List (Option (List ℕ))). All IsName (given names))

@@ -5,7 +5,7 @@ use Rattle.std.specs.Prelude.{slice_index_or}
 use Rattle.std.proofs.lemmas.List.{map-append}
 use Rattle.std.proofs.lemmas.List.Elements.{All-append}
 use Rattle.pprof_profile.specs.declared.messages.Draft.{Draft}
-use Rattle.profile_rows.specs.Tallies.{names_at}
+use Rattle.profile_rows.specs.TextTables.{names_at}
 use Rattle.profile_samples.specs.NameNumbers.{frame_names}
 use Rattle.profile_samples.specs.Samples.{frames_of_id, frames_of_ids}
 use Rattle.profile_samples.proofs.FrameNumbers.{found_numbers, frames-more}
@@ -40,11 +40,11 @@ loop-id-preserved c =
     let id = get_or c.args.ids.now c.loop-id.id-index 0 in
     elim c.match-frames_of.branch [
       | in-Some+in_ok-push_numbers w ↦
-          let this = found_numbers draft id (Some w.in-Some.frames.now) w.in-Some.ensures in
-          more draft c.args.ids.now c.loop-id.numbers.items c.match-frames_of.numbers.items w.in-Some.frames.now.all
+          let this = found_numbers draft id (Some w.in-Some.frames) w.in-Some.ensures in
+          more draft c.args.ids.now c.loop-id.numbers.items c.match-frames_of.numbers.items w.in-Some.frames.all
           c.loop-id.id-index c.loop-id-test.true c.loop-id.invariant
           (ap (λ numbers. numbers.items) w.numbers-is ∙ w.in_ok-push_numbers.ensures
-          ∙ ap (λ (all : List ℕ). c.loop-id.numbers.items ++ all) w.as_slice.ensures) this.all_inside this.all_are
+          ∙ ap (λ (all : List ℕ). c.loop-id.numbers.items ++ all) w.all.ensures) this.all_inside this.all_are
       | in_default w ↦
           more draft c.args.ids.now c.loop-id.numbers.items c.match-frames_of.numbers.items []
           c.loop-id.id-index c.loop-id-test.true c.loop-id.invariant

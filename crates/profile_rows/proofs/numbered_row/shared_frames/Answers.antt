@@ -5,15 +5,14 @@ use Rattle.std.proofs.lemmas.Bool.{not-false, not-true}
 use Rattle.std.proofs.lemmas.List.{get_or-map, length-map}
 use Rattle.std.proofs.lemmas.List.Sums.{common_prefix_len-drop_no, common_prefix_len-drop_yes}
 use Rattle.std.specs.Prelude.{slice_index_or}
-use Rattle.std.specs.List.{common_prefix_len}
 use Rattle.std.specs.Str.{bytes_eq}
 use denote.Ref.{Bor}
-use Rattle.profile_rows.specs.Tallies.{names_at}
+use Rattle.profile_rows.specs.TextTables.{names_at}
 use Rattle.profile_rows.proofs.CommonPrefix.{nothing_shared}
 use Rattle.profile_rows.proofs.TextNumbers.{no_text, shown_at}
-use Rattle.profile_rows.proofs.frame_totals.shared_frames.Goals as goal
-use Rattle.profile_rows.proofs.frame_totals.shared_frames.Goals.{then-at-frames-via-then-at-frames}
-use Rattle.profile_rows.proofs.frame_totals.shared_frames.Goals.{then-at-frames-via-else-at-frames+then-ne}
+use Rattle.profile_rows.proofs.numbered_row.shared_frames.Goals as goal
+use Rattle.profile_rows.proofs.numbered_row.shared_frames.Goals.{then-at-frames-via-then-at-frames}
+use Rattle.profile_rows.proofs.numbered_row.shared_frames.Goals.{then-at-frames-via-else-at-frames+then-ne}
 
 abbrev now : Bor (List ℕ) → List ℕ
 now text = text.now

@@ -1,8 +1,8 @@
 use Rattle.std.proofs.Common.{◌≡◌, ◌+◌, ◌≤◌, drop, length, map}
 use Rattle.std.specs.List.{common_prefix_len}
 use Rattle.std.specs.Str.{bytes_eq}
-use Rattle.profile_rows.specs.Tallies.{names_at}
-use Rattle.profile_rows.proofs.frame_totals.shared_frames.Given as goal
+use Rattle.profile_rows.specs.TextTables.{names_at}
+use Rattle.profile_rows.proofs.numbered_row.shared_frames.Given as goal
 
 -- the frames so far are shared
 abbrev pub invariant-loop-at : goal.invariant-loop-at

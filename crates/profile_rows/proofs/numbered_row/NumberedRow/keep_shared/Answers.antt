@@ -1,0 +1,53 @@
+-- The numbers of the first frames stay.
+use Rattle.std.proofs.Common.{◌≡◌, ◌<◌, ℕ, List, [], All, length, map, take, ap, sym, ◌∙◌, arith, subst}
+use Rattle.std.proofs.lemmas.List.{length-map, take-map}
+use Rattle.std.proofs.lemmas.List.Elements.{All-take}
+use Rattle.std.proofs.lemmas.List.Sums.{common_prefix_len-le}
+use Rattle.std.specs.Prelude.{slice_index_or}
+use Rattle.std.specs.List.{common_prefix_len}
+use Rattle.std.specs.Str.{bytes_eq}
+use Rattle.profile_rows.specs.NumberedRows.{IsNumberOfText, NumberedFrames}
+use Rattle.profile_rows.specs.TextTables.{names_at, with_texts}
+use Rattle.profile_rows.proofs.NumberedRows.{are_inside, are_known, shared_same}
+use Rattle.profile_rows.proofs.TextNumbers.{text_of}
+use Rattle.profile_rows.proofs.numbered_row.NumberedRow.keep_shared.Goals as goal
+
+pub shared_frames-shared-requires : goal.shared_frames-shared-requires
+shared_frames-shared-requires c = subst (All (λ number. number < length c.self.inside.names.texts))
+    (sym c.as_slice.ensures.value)
+    (are_inside c.self.inside.names.texts c.self.inside.numbers.items c.self.invariant)
+
+pub returns-clause-within : goal.returns-clause-within
+returns-clause-within c =
+    let long = length-map c.args.frames.now text_of in
+    let most = (common_prefix_len-le bytes_eq
+    (names_at c.self.inside.names.texts c.as_slice.result.now) (map text_of c.args.frames.now)).1 in
+    let shared = c.shared_frames-shared.ensures in
+    omega (arith, long, most, shared)
+
+-- the names of the numbers that stay are those of the frames that are shared
+kept : (texts : List (List ℕ)) (lent before after : List ℕ) (frames : List (List ℕ)) (shared : ℕ)
+    → shared ≡ common_prefix_len bytes_eq (names_at texts lent) frames → lent ≡ before
+    → after ≡ take shared before → names_at texts after ≡ take shared frames
+kept texts lent before after frames shared is same cut =
+    ap (names_at texts) cut
+    ∙ sym (take-map (λ number. slice_index_or texts number []) shared before)
+    ∙ ap (λ numbers. take shared (names_at texts numbers)) (sym same)
+    ∙ ap (λ count. take count (names_at texts lent)) is
+    ∙ shared_same (names_at texts lent) frames
+    ∙ ap (λ count. take count frames) (sym is)
+
+pub returns-clause-frames : goal.returns-clause-frames
+returns-clause-frames c = kept c.self.inside.names.texts c.as_slice.result.now c.self.inside.numbers.items
+    c.truncate.new.self.items (map text_of c.args.frames.now) c.shared_frames-shared.result
+    c.shared_frames-shared.ensures c.as_slice.ensures.value c.truncate.ensures.items
+
+pub returns-clause-known : goal.returns-clause-known
+returns-clause-known c =
+    let texts = c.self.inside.names.texts in
+    let shared = c.shared_frames-shared.result in
+    let first = take shared (map text_of c.args.frames.now) in
+    subst (λ ts. with_texts ts first ≡ ts) (ap (λ (row : NumberedFrames). row.texts) c.self.view_is)
+    (ap (with_texts texts) (sym (returns-clause-frames c))
+    ∙ are_known texts c.truncate.new.self.items (subst (All (IsNumberOfText texts)) (sym c.truncate.ensures.items)
+    (All-take (IsNumberOfText texts) shared c.self.inside.numbers.items c.self.invariant)))

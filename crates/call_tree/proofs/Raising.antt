@@ -1,8 +1,8 @@
 -- One weight more at one node.
-use Rattle.std.proofs.Common.{◌≡◌, ℕ, ◌+◌, ◌<◌, ◌^◌, not, List, length, get_or, refl, sym, ap, ◌∙◌, subst, arith}
+use Rattle.std.proofs.Common.{◌≡◌, ℕ, ◌+◌, ◌<◌, ◌^◌, not, List, length, refl, sym, ap, ◌∙◌, subst, arith}
 use Rattle.std.proofs.Common.{⊎_elim}
 use Rattle.std.proofs.Math.ListN.{set}
-use Rattle.std.proofs.lemmas.List.{get_or-set_same, get_or-set_other, length-set, get_or_read}
+use Rattle.std.proofs.lemmas.List.{get_or-set_same, get_or-set_other, length-set}
 use Rattle.std.proofs.lemmas.List.Sums.{get_or-le-sum_by}
 use Rattle.std.proofs.lemmas.Bool.{cases_eq}
 use Rattle.profile_rows.specs.declared.weighted_stacks.WeightedStack.{WeightedStack}
@@ -10,12 +10,12 @@ use Rattle.profile_rows.specs.Rows.{has_name, total_of}
 use Rattle.call_tree.specs.declared.node.Node.{Node}
 use Rattle.call_tree.specs.State.{name_at, no_row, node_at, stack_at, credited}
 use Rattle.call_tree.specs.Shape.{no_node, node_rows, at, IsTree}
-use Rattle.call_tree.specs.Nodes.{without_weight}
+use Rattle.call_tree.specs.Nodes.{with_weight, without_weight}
 use Rattle.call_tree.proofs.Crediting.{stack_at-credited, total_of-credited}
 use Rattle.call_tree.proofs.Shapes.{node_rows-set, node_at-node_rows, length-node_rows}
 
-abbrev pub heavier : Node → ℕ → Node
-heavier node weight = record node { own = node.own + weight }
+abbrev heavier : Node → ℕ → Node
+heavier node weight = with_weight node (node.own + weight)
 
 module _ (names : List (List ℕ)) (old : List Node) (start w : ℕ) (tree : IsTree names old) (lt : start < length old)
     (fits : total_of (node_rows names old) + w < 2 ^ 63) where
@@ -69,29 +69,26 @@ module _ (names : List (List ℕ)) (old : List Node) (start w : ℕ) (tree : IsT
 
 -- ---- the same, as the code reads and writes
 
-pub read_is : (nodes : List Node) (k : ℕ) (node : Node)
-    → k < length nodes → node ≡ get_or nodes k node → node ≡ at nodes k
-read_is nodes k node lt e = get_or_read nodes k node lt e no_node
-
 pub record IsDone (names : List (List ℕ)) (old last : List Node) (start w : ℕ) : Type 0 where
   pub tree : IsTree names last
   pub rows : node_rows names last ≡ credited (node_rows names old) start w
 
-pub finished : (names : List (List ℕ)) (old last : List Node) (start w : ℕ) (node : Node)
+pub finished : (names : List (List ℕ)) (old last : List Node) (start w own : ℕ)
     → IsTree names old → start < length old
     → total_of (node_rows names old) + w < 2 ^ 63
-    → node ≡ at old start → last ≡ set old start (heavier node w) → IsDone names old last start w
-finished names old last start w node tree lt fits read wrote =
-    let last_is : last ≡ done names old start w tree lt fits = wrote ∙ ap (λ n. set old start (heavier n w)) read in
+    → own ≡ (at old start).own → last ≡ set old start (with_weight (at old start) (own + w))
+    → IsDone names old last start w
+finished names old last start w own tree lt fits read wrote =
+    let last_is : last ≡ done names old start w tree lt fits =
+    wrote ∙ ap (λ n. set old start (with_weight (at old start) (n + w))) read in
     subst (λ ns. IsDone names old ns start w) (sym last_is)
     (record { tree = IsTree-done names old start w tree lt fits; rows = rows_done names old start w tree lt fits })
 
-pub weight_fits : (names : List (List ℕ)) (old : List Node) (start w : ℕ) (node : Node) → start < length old
-    → total_of (node_rows names old) + w < 2 ^ 63 → node ≡ at old start → node.own + w < 2 ^ 63
-weight_fits names old start w node lt fits read =
-    let own = ap (λ n. n.own) read in
+pub weight_fits : (names : List (List ℕ)) (old : List Node) (start w own : ℕ) → start < length old
+    → total_of (node_rows names old) + w < 2 ^ 63 → own ≡ (at old start).own → own + w < 2 ^ 63
+weight_fits names old start w own lt fits read =
     let row : (node_at (node_rows names old) start).weight ≡ (at old start).own =
     ap (λ row. row.weight) (node_at-node_rows names old start) in
     let part = get_or-le-sum_by (λ (row : WeightedStack). row.weight)
     (node_rows names old) start no_row (omega (arith, length-node_rows names old, lt)) in
-    omega (arith, own, row, part, fits)
+    omega (arith, read, row, part, fits)

@@ -1,136 +1,83 @@
 -- Nodes with the weights of a table.
 use Rattle.std.proofs.Common.{◌≡◌, ℕ, zero, suc, ◌+◌, ◌<◌, List, [], ◌∷◌, ◌++◌, length, map, get_or, refl, sym, ap, ◌∙◌}
-use Rattle.std.proofs.Common.{subst, arith, ⊎_elim}
+use Rattle.std.proofs.Common.{false, subst, arith, ⊎_elim}
 use Rattle.std.proofs.Math.ListN.{set}
 use Rattle.std.proofs.Math.Seq.{map-set_same}
-use Rattle.std.proofs.lemmas.List.{get_or-map, length-map, get_or-set_same, get_or-set_other, length-set, length_push}
+use Rattle.std.proofs.lemmas.List.{get_or-map, get_or_read, length-map, map-set, get_or-set_same, get_or-set_other, length-set, length_push}
 use Rattle.std.proofs.lemmas.Bool.{cases_eq}
+use Rattle.call_tree.specs.declared.node.Link.{Link}
 use Rattle.call_tree.specs.declared.node.Node.{Node}
-use Rattle.call_tree.specs.Shape.{no_node, at}
-use Rattle.call_tree.specs.Nodes.{with_weight, without_weight, weighed, nodes_of, AreTables, AreAlike}
+use Rattle.call_tree.specs.Shape.{at}
+use Rattle.call_tree.specs.Nodes.{linked, with_weight, without_weight, weighed, nodes_of, AreTables, AreAlike}
 
-pub length-weighed : (nodes : List Node) (table : List ℕ) → length (weighed nodes table) ≡ length nodes
+pub length-weighed : (links : List Link) (table : List ℕ) → length (weighed links table) ≡ length links
 length-weighed [] table = refl
-length-weighed (n ∷ nodes) [] = ap (λ k. suc k) (length-weighed nodes [])
-length-weighed (n ∷ nodes) (w ∷ table) = ap (λ k. suc k) (length-weighed nodes table)
+length-weighed (l ∷ links) [] = ap (λ k. suc k) (length-weighed links [])
+length-weighed (l ∷ links) (w ∷ table) = ap (λ k. suc k) (length-weighed links table)
 
-pub at-weighed : (nodes : List Node) (table : List ℕ) (k : ℕ) → k < length nodes
-    → at (weighed nodes table) k ≡ with_weight (at nodes k) (get_or table k 0)
-at-weighed [] table k lt = absurd (omega arith)
-at-weighed (n ∷ nodes) [] zero lt = refl
-at-weighed (n ∷ nodes) [] (suc k) lt = at-weighed nodes [] k (omega arith)
-at-weighed (n ∷ nodes) (w ∷ table) zero lt = refl
-at-weighed (n ∷ nodes) (w ∷ table) (suc k) lt = at-weighed nodes table k (omega arith)
+pub at-weighed : (links : List Link) (table : List ℕ) (k : ℕ) (link : Link) → k < length links
+    → at (weighed links table) k ≡ linked (get_or links k link) (get_or table k 0)
+at-weighed [] table k link lt = absurd (omega arith)
+at-weighed (l ∷ links) [] zero link lt = refl
+at-weighed (l ∷ links) [] (suc k) link lt = at-weighed links [] k link (omega arith)
+at-weighed (l ∷ links) (w ∷ table) zero link lt = refl
+at-weighed (l ∷ links) (w ∷ table) (suc k) link lt = at-weighed links table k link (omega arith)
 
-pub without-weighed : (nodes : List Node) (table : List ℕ)
-    → map without_weight (weighed nodes table) ≡ map without_weight nodes
+without-weighed : (links : List Link) (table : List ℕ)
+    → map without_weight (weighed links table) ≡ weighed links []
 without-weighed [] table = refl
-without-weighed (n ∷ nodes) [] = ap (λ rest. without_weight n ∷ rest) (without-weighed nodes [])
-without-weighed (n ∷ nodes) (w ∷ table) = ap (λ rest. without_weight n ∷ rest) (without-weighed nodes table)
+without-weighed (l ∷ links) [] = ap (λ rest. linked l 0 ∷ rest) (without-weighed links [])
+without-weighed (l ∷ links) (w ∷ table) = ap (λ rest. linked l 0 ∷ rest) (without-weighed links table)
 
--- the weights in the nodes themselves don't count
-weighed-without : (nodes : List Node) (table : List ℕ) → weighed (map without_weight nodes) table ≡ weighed nodes table
-weighed-without [] table = refl
-weighed-without (n ∷ nodes) [] = ap (λ rest. without_weight n ∷ rest) (weighed-without nodes [])
-weighed-without (n ∷ nodes) (w ∷ table) = ap (λ rest. with_weight n w ∷ rest) (weighed-without nodes table)
-
-pub weighed-alike : (nodes others : List Node) (table : List ℕ) → map without_weight nodes ≡ map without_weight others
-    → weighed nodes table ≡ weighed others table
-weighed-alike nodes others table e = sym (weighed-without nodes table)
-    ∙ ap (λ ns. weighed ns table) e ∙ weighed-without others table
-
-pub weighed-longer : (nodes : List Node) (table : List ℕ) → weighed nodes (table ++ 0 ∷ []) ≡ weighed nodes table
+weighed-longer : (links : List Link) (table : List ℕ) → weighed links (table ++ 0 ∷ []) ≡ weighed links table
 weighed-longer [] table = refl
-weighed-longer (n ∷ nodes) [] = refl
-weighed-longer (n ∷ nodes) (w ∷ table) = ap (λ rest. with_weight n w ∷ rest) (weighed-longer nodes table)
+weighed-longer (l ∷ links) [] = refl
+weighed-longer (l ∷ links) (w ∷ table) = ap (λ rest. linked l w ∷ rest) (weighed-longer links table)
 
-pub weighed-push : (nodes : List Node) (table : List ℕ) (node : Node) → get_or table (length nodes) 0 ≡ 0
-    → weighed (nodes ++ node ∷ []) table ≡ weighed nodes table ++ without_weight node ∷ []
-weighed-push [] [] node e = refl
-weighed-push [] (w ∷ table) node e = ap (λ weights. with_weight node weights ∷ []) e
-weighed-push (n ∷ nodes) [] node e = ap (λ rest. without_weight n ∷ rest) (weighed-push nodes [] node refl)
-weighed-push (n ∷ nodes) (w ∷ table) node e = ap (λ rest. with_weight n w ∷ rest) (weighed-push nodes table node e)
+weighed-push : (links : List Link) (table : List ℕ) (link : Link) → get_or table (length links) 0 ≡ 0
+    → weighed (links ++ link ∷ []) table ≡ weighed links table ++ linked link 0 ∷ []
+weighed-push [] [] link e = refl
+weighed-push [] (w ∷ table) link e = ap (λ weight. linked link weight ∷ []) e
+weighed-push (l ∷ links) [] link e = ap (λ rest. linked l 0 ∷ rest) (weighed-push links [] link refl)
+weighed-push (l ∷ links) (w ∷ table) link e = ap (λ rest. linked l w ∷ rest) (weighed-push links table link e)
 
-pub weighed-set : (nodes : List Node) (table : List ℕ) (k : ℕ) (weights : ℕ) → k < length nodes → k < length table
-    → weighed nodes (set table k weights) ≡ set (weighed nodes table) k (with_weight (at nodes k) weights)
-weighed-set [] table k weights lt long = absurd (omega arith)
-weighed-set (n ∷ nodes) [] k weights lt long = absurd (omega arith)
-weighed-set (n ∷ nodes) (w ∷ table) zero weights lt long = refl
-weighed-set (n ∷ nodes) (w ∷ table) (suc k) weights lt long =
-    ap (λ rest. with_weight n w ∷ rest) (weighed-set nodes table k weights (omega arith) (omega arith))
+weighed-set : (links : List Link) (table : List ℕ) (k : ℕ) (weight : ℕ) → k < length links → k < length table
+    → weighed links (set table k weight) ≡ set (weighed links table) k (with_weight (at (weighed links table) k) weight)
+weighed-set [] table k weight lt long = absurd (omega arith)
+weighed-set (l ∷ links) [] k weight lt long = absurd (omega arith)
+weighed-set (l ∷ links) (w ∷ table) zero weight lt long = refl
+weighed-set (l ∷ links) (w ∷ table) (suc k) weight lt long =
+    ap (λ rest. linked l w ∷ rest) (weighed-set links table k weight (omega arith) (omega arith))
 
 -- ---- by each value
 
-abbrev pub all_of : List Node → List (List ℕ) → List (List Node)
-all_of first tables = first ∷ map (weighed first) tables
+abbrev pub all_of : List Link → List (List ℕ) → List (List Node)
+all_of links tables = map (weighed links) tables
 
 abbrev pub table_of : List (List ℕ) → ℕ → List ℕ
-table_of tables k = get_or tables k []
+table_of tables value = get_or tables value []
 
-pub nodes_of-more : (first : List Node) (tables : List (List ℕ)) (k : ℕ) → k < length tables
-    → nodes_of (all_of first tables) (suc k) ≡ weighed first (table_of tables k)
-nodes_of-more first tables k lt = get_or-map (weighed first) tables k [] [] lt
+nodes_of-all : (links : List Link) (tables : List (List ℕ)) (value : ℕ) → value < length tables
+    → nodes_of (all_of links tables) value ≡ weighed links (table_of tables value)
+nodes_of-all links tables value lt = get_or-map (weighed links) tables value [] [] lt
 
-pub length-nodes_of : (first : List Node) (tables : List (List ℕ)) (value : ℕ) → value < length (all_of first tables)
-    → length (nodes_of (all_of first tables) value) ≡ length first
-length-nodes_of first tables zero lt = refl
-length-nodes_of first tables (suc k) lt =
-    let in_tables : k < length tables = omega (arith, length-map tables (weighed first)) in
-    ap length (nodes_of-more first tables k in_tables) ∙ length-weighed first (table_of tables k)
+pub length-nodes_of : (links : List Link) (tables : List (List ℕ)) (value : ℕ) → value < length tables
+    → length (nodes_of (all_of links tables) value) ≡ length links
+length-nodes_of links tables value lt =
+    ap length (nodes_of-all links tables value lt) ∙ length-weighed links (table_of tables value)
 
-pub AreAlike-all : (first : List Node) (tables : List (List ℕ)) → AreAlike (all_of first tables)
-AreAlike-all first tables = record { some = omega arith; each = each }
+pub AreAlike-all : (links : List Link) (tables : List (List ℕ)) → 0 < length tables → AreAlike (all_of links tables)
+AreAlike-all links tables some = record {
+  some = omega (arith, some, length-map tables (weighed links));
+  each = λ value lt. plain value (omega (arith, lt, length-map tables (weighed links))) ∙ sym (plain 0 some);
+}
   where
-    each : (value : ℕ) → value < length (all_of first tables)
-        → map without_weight (nodes_of (all_of first tables) value) ≡ map without_weight first
-    each zero lt = refl
-    each (suc k) lt =
-        let in_tables : k < length tables = omega (arith, length-map tables (weighed first)) in
-        ap (map without_weight) (nodes_of-more first tables k in_tables) ∙ without-weighed first (table_of tables k)
+    plain : (value : ℕ) → value < length tables
+        → map without_weight (nodes_of (all_of links tables) value) ≡ weighed links []
+    plain value lt = ap (map without_weight) (nodes_of-all links tables value lt)
+        ∙ without-weighed links (table_of tables value)
 
--- a node as it is read: its links, and its weights from the table
-pub read-all : (first : List Node) (tables : List (List ℕ)) (value k slot : ℕ) (weights : ℕ) → suc k ≡ value
-    → k < length tables → slot < length first → weights ≡ get_or (table_of tables k) slot 0
-    → with_weight (at first slot) weights ≡ at (nodes_of (all_of first tables) value) slot
-read-all first tables value k slot weights e in_tables within is =
-    ap (with_weight (at first slot)) is ∙ sym (at-weighed first (table_of tables k) slot within)
-    ∙ ap (λ nodes. at nodes slot) (sym (nodes_of-more first tables k in_tables))
-    ∙ ap (λ v. at (nodes_of (all_of first tables) v) slot) e
-
--- a node written by value 0: the other values have the same weights
-pub others-first : (first next : List Node) (tables : List (List ℕ)) (slot : ℕ) (node : Node)
-    → without_weight node ≡ without_weight (at first slot) → next ≡ set first slot node
-    → (other : ℕ) → (other ≡ 0 → ⊥) → nodes_of (all_of next tables) other ≡ nodes_of (all_of first tables) other
-others-first first next tables slot node same next_is zero ne = absurd (ne refl)
-others-first first next tables slot node same next_is (suc k) ne =
-    let alike : map without_weight next ≡ map without_weight first =
-    ap (map without_weight) next_is ∙ map-set_same without_weight first slot node no_node same in
-    λ i. get_or (map (λ table. weighed-alike next first table alike i) tables) k []
-
--- a node written by a further value
-pub here-all : (first : List Node) (tables : List (List ℕ)) (value k slot : ℕ) (node : Node) (next : List ℕ)
-    → suc k ≡ value
-    → k < length tables → slot < length first → slot < length (table_of tables k)
-    → without_weight node ≡ without_weight (at (nodes_of (all_of first tables) value) slot)
-    → next ≡ set (table_of tables k) slot node.own
-    → nodes_of (all_of first (set tables k next)) value ≡ set (nodes_of (all_of first tables) value) slot node
-here-all first tables value k slot node next e in_tables within long same next_is =
-    let size = length-set tables k next in
-    let weights : ℕ = node.own in
-    let old = nodes_of-more first tables k in_tables in
-    let links : without_weight node ≡ without_weight (at first slot) =
-    same ∙ ap (λ v. without_weight (at (nodes_of (all_of first tables) v) slot)) (sym e)
-    ∙ ap (λ nodes. without_weight (at nodes slot)) old
-    ∙ ap without_weight (at-weighed first (table_of tables k) slot within) in
-    let written : with_weight (at first slot) weights ≡ node = ap (λ n. with_weight n weights) (sym links) in
-    ap (nodes_of (all_of first (set tables k next))) (sym e)
-    ∙ nodes_of-more first (set tables k next) k (omega (arith, size, in_tables))
-    ∙ ap (weighed first) (get_or-set_same tables k next [] in_tables ∙ next_is)
-    ∙ weighed-set first (table_of tables k) slot weights within long
-    ∙ (λ i. set (sym old i) slot (written i))
-    ∙ ap (λ v. set (nodes_of (all_of first tables) v) slot node) e
-
-pub AreTables-set : (size : ℕ) (tables : List (List ℕ)) (k slot : ℕ) (weights : ℕ) (next : List ℕ)
+AreTables-set : (size : ℕ) (tables : List (List ℕ)) (k slot : ℕ) (weights : ℕ) (next : List ℕ)
     → AreTables size tables
     → k < length tables
     → slot < size → next ≡ set (table_of tables k) slot weights → AreTables size (set tables k next)
@@ -151,26 +98,83 @@ AreTables-set size tables k slot weights next are lt within next_is = record {
       (cases_eq j k);
 }
 
+pub in_tables : (links : List Link) (tables : List (List ℕ)) (all : List (List Node)) → all_of links tables ≡ all
+    → (value : ℕ) → value < length all → value < length tables
+in_tables links tables all seen value lt = omega (arith, lt, ap length seen, length-map tables (weighed links))
+
+-- a table in place of another shows in its value alone
+pub others_put : (links : List Link) (tables : List (List ℕ)) (value other : ℕ) (next : List ℕ) → (other ≡ value → ⊥)
+    → nodes_of (all_of links (set tables value next)) other ≡ nodes_of (all_of links tables) other
+others_put links tables value other next ne =
+    ap (λ all. nodes_of all other) (map-set (weighed links) tables value next)
+    ∙ get_or-set_other (all_of links tables) value other (weighed links next) [] ne
+
+-- a place among the nodes of a value
+module _ (links : List Link) (tables : List (List ℕ)) (all : List (List Node)) (seen : all_of links tables ≡ all)
+    (value slot : ℕ) (value_lt : value < length tables) (slot_lt : slot < length (nodes_of all value)) where
+  pub in_links : slot < length links
+  in_links = omega (arith, slot_lt, ap (λ a. length (nodes_of a value)) seen, length-nodes_of links tables value value_lt)
+
+  nodes_are : nodes_of all value ≡ weighed links (table_of tables value)
+  nodes_are = ap (λ a. nodes_of a value) (sym seen) ∙ nodes_of-all links tables value value_lt
+
+  pub node_is : (link : Link) → link ≡ get_or links slot link
+      → at (nodes_of all value) slot ≡ linked link (get_or (table_of tables value) slot 0)
+  node_is link link_is = ap (λ nodes. at nodes slot) nodes_are
+      ∙ at-weighed links (table_of tables value) slot link in_links
+      ∙ ap (λ l. linked l (get_or (table_of tables value) slot 0)) (sym link_is)
+
+  table_is : (table : List ℕ) → table ≡ get_or tables value table → table ≡ table_of tables value
+  table_is table read = get_or_read tables value table value_lt read []
+
+  -- a table has each node's weight, and more where need be
+  module _ (are : AreTables (length links) tables) (table : List ℕ) (read : table ≡ get_or tables value table) where
+    pub in_table : slot < length table
+    in_table = let long = are.long value value_lt in omega (arith, in_links, long, ap length (table_is table read))
+
+    pub weight_read : (weight : ℕ) → weight ≡ get_or table slot weight → weight ≡ get_or (table_of tables value) slot 0
+    weight_read weight is = get_or_read table slot weight in_table is 0 ∙ ap (λ t. get_or t slot 0) (table_is table read)
+
+    -- what a node weighs, as it is read
+    pub own_read : (weight : ℕ) → weight ≡ get_or table slot weight → weight ≡ (at (nodes_of all value) slot).own
+    own_read weight is = weight_read weight is ∙ sym (ap (λ nodes. (at nodes slot).own) nodes_are
+        ∙ ap (λ node. node.own) (at-weighed links (table_of tables value) slot
+        (record { parent = 0; name = 0; counts = false }) in_links))
+
+    pub weight_put : (weight : ℕ) (next : List ℕ) → next ≡ set table slot weight
+        → nodes_of (all_of links (set tables value next)) value
+        ≡ set (nodes_of all value) slot (with_weight (at (nodes_of all value) slot) weight)
+    weight_put weight next is =
+        nodes_of-all links (set tables value next) value (omega (arith, length-set tables value next, value_lt))
+        ∙ ap (weighed links) (get_or-set_same tables value next [] value_lt ∙ is
+        ∙ ap (λ t. set t slot weight) (table_is table read))
+        ∙ weighed-set links (table_of tables value) slot weight in_links
+        (omega (arith, in_table, ap length (table_is table read)))
+        ∙ ap (λ nodes. set nodes slot (with_weight (at nodes slot) weight)) (sym nodes_are)
+
+    pub tables_put : (weight : ℕ) (next : List ℕ) → next ≡ set table slot weight
+        → AreTables (length links) (set tables value next)
+    tables_put weight next is = AreTables-set (length links) tables value slot weight next are value_lt in_links
+        (is ∙ ap (λ t. set t slot weight) (table_is table read))
+
 -- ---- one node more
 
-pub pushed-all : (first next : List Node) (tables after : List (List ℕ)) (node : Node) → node.own ≡ 0
-    → AreTables (length first) after → length after ≡ length tables
-    → map (weighed first) after ≡ map (weighed first) tables → next ≡ first ++ node ∷ []
-    → (value : ℕ) → value < length (all_of first tables)
-    → nodes_of (all_of next after) value ≡ nodes_of (all_of first tables) value ++ node ∷ []
-pushed-all first next tables after node own are count same next_is zero lt = next_is
-pushed-all first next tables after node own are count same next_is (suc k) lt =
-    let in_tables : k < length after = omega (arith, length-map tables (weighed first), count) in
-    let light : without_weight node ≡ node = λ i. record node { own = sym own i } in
-    nodes_of-more next after k in_tables
-    ∙ ap (λ nodes. weighed nodes (table_of after k)) next_is
-    ∙ weighed-push first (table_of after k) node (are.empty k (length first) (omega arith))
-    ∙ (λ i. (sym (nodes_of-more first after k in_tables) ∙ ap (λ rest. get_or rest k []) same) i ++ light i ∷ [])
+pub pushed-all : (links next : List Link) (tables after : List (List ℕ)) (link : Link)
+    → AreTables (length links) after → length after ≡ length tables
+    → map (weighed links) after ≡ map (weighed links) tables → next ≡ links ++ link ∷ []
+    → (value : ℕ) → value < length (all_of links tables)
+    → nodes_of (all_of next after) value ≡ nodes_of (all_of links tables) value ++ linked link 0 ∷ []
+pushed-all links next tables after link are count same next_is value lt =
+    let in_after : value < length after = omega (arith, lt, length-map tables (weighed links), count) in
+    nodes_of-all next after value in_after
+    ∙ ap (λ ls. weighed ls (table_of after value)) next_is
+    ∙ weighed-push links (table_of after value) link (are.empty value (length links) (omega arith))
+    ∙ (λ i. (sym (nodes_of-all links after value in_after) ∙ ap (λ a. nodes_of a value) same) i ++ linked link 0 ∷ [])
 
 -- room for one node more in one table
 pub record HaveRoom (size : ℕ) (before now : List (List ℕ)) (index : ℕ) : Type 0 where
   pub count : length now ≡ length before
-  pub same : (nodes : List Node) → map (weighed nodes) now ≡ map (weighed nodes) before
+  pub same : (links : List Link) → map (weighed links) now ≡ map (weighed links) before
   pub kept : AreTables size now
   pub longer : (k : ℕ) → k < index → size < length (table_of now k)
 
@@ -191,8 +195,8 @@ module _ (size : ℕ)
   HaveRoom-made next table short table_is next_is =
       subst (λ tables. HaveRoom size before tables (index + 1)) (sym next_is) (record {
         count = length-set now index table ∙ room.count;
-        same = λ nodes. map-set_same (weighed nodes) now index table []
-            (ap (weighed nodes) table_is ∙ weighed-longer nodes (table_of now index)) ∙ room.same nodes;
+        same = λ links. map-set_same (weighed links) now index table []
+            (ap (weighed links) table_is ∙ weighed-longer links (table_of now index)) ∙ room.same links;
         kept = record {
           long = λ j j_lt. ⊎_elim
               (λ e. let is = ap length (ap (table_of (set now index table)) e ∙ here) in omega (arith, is, size_here))
@@ -224,14 +228,12 @@ module _ (size : ℕ)
       nothing (w ∷ t) zero e = e
       nothing (w ∷ t) (suc node) e = nothing t node e
 
--- tables with room serve one node more
 -- empty tables serve no nodes
-pub nodes_of-none : (first : List Node) (tables : List (List ℕ))
-    → first ≡ [] → (value : ℕ) → nodes_of (all_of first tables) value ≡ []
-nodes_of-none first tables none zero = none
-nodes_of-none first tables none (suc k) = ap (λ nodes. get_or (map (weighed nodes) tables) k []) none ∙ nothing tables k
+pub nodes_of-none : (links : List Link) (tables : List (List ℕ))
+    → links ≡ [] → (value : ℕ) → nodes_of (all_of links tables) value ≡ []
+nodes_of-none links tables none value = ap (λ ls. nodes_of (all_of ls tables) value) none ∙ nothing tables value
   where
-    nothing : (tables : List (List ℕ)) (k : ℕ) → get_or (map (weighed []) tables) k [] ≡ []
-    nothing [] k = refl
+    nothing : (tables : List (List ℕ)) (value : ℕ) → nodes_of (map (weighed []) tables) value ≡ []
+    nothing [] value = refl
     nothing (t ∷ tables) zero = refl
-    nothing (t ∷ tables) (suc k) = nothing tables k
+    nothing (t ∷ tables) (suc value) = nothing tables value

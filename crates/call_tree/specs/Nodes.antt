@@ -2,6 +2,7 @@
 use Rattle.std.specs.Prelude.{ℕ, ◌≡◌, ◌<◌, ◌≤◌, List, [], ◌∷◌, length, map, slice_index_or}
 use Rattle.profile_rows.specs.Rows.{total_of}
 use Rattle.profile_rows.specs.Values.{value_of}
+use Rattle.call_tree.specs.declared.node.Link.{Link}
 use Rattle.call_tree.specs.declared.node.Node.{Node}
 use Rattle.call_tree.specs.State.{PlainTree, TreeState, nodes_at}
 use Rattle.call_tree.specs.Shape.{IsTree, node_rows}
@@ -14,11 +15,15 @@ with_weight node weight = record node { own = weight }
 abbrev pub without_weight : Node → Node
 without_weight node = with_weight node 0
 
--- the nodes with the weights of a table, and with none past its end
-abbrev pub weighed : List Node → List ℕ → List Node
+-- the node that stands there and weighs so much
+abbrev pub linked : Link → ℕ → Node
+linked link weight = record { parent = link.parent; name = link.name; counts = link.counts; own = weight }
+
+-- the nodes that stand there with the weights of a table, and with none past its end
+abbrev pub weighed : List Link → List ℕ → List Node
 weighed [] table = []
-weighed (node ∷ nodes) [] = without_weight node ∷ weighed nodes []
-weighed (node ∷ nodes) (weight ∷ table) = with_weight node weight ∷ weighed nodes table
+weighed (link ∷ links) [] = linked link 0 ∷ weighed links []
+weighed (link ∷ links) (weight ∷ table) = linked link weight ∷ weighed links table
 
 -- of the nodes by each value, those by this value
 abbrev pub nodes_of : List (List Node) → ℕ → List Node

@@ -1,51 +1,57 @@
 //! The home of the nodes with their weights of all values.
 
 ghost use Rattle.std.specs.Prelude.{◌≡◌, ◌<◌, ◌++◌, ◌∷◌, ℕ, List, [], length, map, IfOk, OnOk, OnErr, slice_set, slice_index_or};
+ghost use Rattle.std.specs.Arc.{arc_value};
+ghost use Rattle.call_tree.specs.declared.node.Link.{Link};
 ghost use Rattle.call_tree.specs.declared.node.Node.{Node};
-ghost use Rattle.call_tree.specs.Nodes.{AreAlike, AreTables, nodes_of, without_weight, weighed};
+ghost use Rattle.call_tree.specs.Nodes.{AreAlike, AreTables, linked, nodes_of, with_weight, without_weight, weighed};
 ghost use Rattle.call_tree.specs.Shape.{at};
 
-use crate::node::Node;
+use crate::node::{Link, Node};
 use profile_rows::Width;
 use shared_pages::Pages;
 use std::alloc::{AllocError, Global};
 use std::marker::Model;
+use std::sync::Arc;
 
-/// Nodes in order, in pages that may have other owners. Their links and their weights of value 0 stand together, and
-/// the weights of each further value in pages of their own.
+/// Nodes in order, in pages that may have other owners. Where they stand and what they weigh are apart: an addition to
+/// nodes that are there copies weights alone.
 #[derive(Drop)]
 pub struct Nodes {
     width: Width,
-    first: Pages<Node>,
-    /// For each value after the first what each node weighs, and perhaps some zeros more.
-    others: Vec<Pages<u64>>,
+    links: Arc<Pages<Link>>,
+    /// For each value what each node weighs, and perhaps some zeros more.
+    weights: Vec<Pages<u64>>,
 }
 
 impl Model for Nodes {
-    ghost use Rattle.std.specs.Prelude.{◌≡◌, ◌+◌, ◌∷◌, List, length, map};
+    ghost use Rattle.std.specs.Prelude.{◌≡◌, ◌<◌, List, length, map};
+    ghost use Rattle.std.specs.Arc.{arc_value};
     ghost use Rattle.call_tree.specs.declared.node.Node.{Node};
     ghost use Rattle.call_tree.specs.Nodes.{AreTables, weighed};
 
     ghost Value = { List (List Node) };
 
-    ghost view = { λ n. n.first ∷ map (weighed n.first) n.others.items };
+    ghost view = { λ n. map (weighed (arc_value n.links)) n.weights.items };
 
-    ghost invariant = { λ n. (length n.others.items + 1 ≡ n.width) × AreTables (length n.first) n.others.items };
+    ghost invariant = { λ n. (0 < n.width) × (length n.weights.items ≡ n.width)
+        × AreTables (length (arc_value n.links)) n.weights.items };
 }
 
 impl Nodes {
-    /// No nodes. Takes no memory where there is one value.
+    /// No nodes.
     pub fn new(alloc: Global, width: Width) -> Result<Nodes, AllocError>
         ensures { IfOk result (λ nodes. (length nodes ≡ width) × ((value : ℕ) → nodes_of nodes value ≡ [])) }
     {
-        let mut others = Vec::new(alloc);
-        for _ in 1..width.get() {
-            others.push(Pages::new(alloc))?;
+        let mut weights = Vec::new(alloc);
+        for _ in 0..width.get() {
+            weights.push(Pages::new(alloc))?;
         }
+        let links = Arc::new(alloc, Pages::new(alloc))?;
         Ok(Nodes {
             width,
-            first: Pages::new(alloc),
-            others,
+            links,
+            weights,
         })
     }
 
@@ -60,53 +66,62 @@ impl Nodes {
     pub fn len(&self) -> usize
         ensures { result ≡ length (nodes_of self.now 0) }
     {
-        self.first.len()
+        self.links.len()
     }
 
     /// What all nodes keep true, in the words of contracts.
     pub fn facts(&self)
         ensures { AreAlike self.now }
     {
-        let _ = &self.first;
+        let _ = &self.links;
     }
 
-    /// A node with its weights of a value.
+    /// Where a node stands.
+    pub fn link(&self, slot: usize) -> Link
+        requires { slot < length (nodes_of self.now 0) }
+        ensures { linked result 0 ≡ without_weight (at (nodes_of self.now 0) slot) }
+    {
+        *self.links.read(slot)
+    }
+
+    /// What a node weighs by a value.
+    pub fn weight(&self, value: u32, slot: usize) -> u64
+        requires value { value < length self.now }
+        requires within { slot < length (nodes_of self.now value) }
+        ensures { result ≡ (at (nodes_of self.now value) slot).own }
+    {
+        *self.weights[value as usize].read(slot)
+    }
+
+    /// A node with its weight of a value.
     pub fn read(&self, value: u32, slot: usize) -> Node
         requires value { value < length self.now }
         requires within { slot < length (nodes_of self.now value) }
         ensures { result ≡ at (nodes_of self.now value) slot }
     {
-        let node = *self.first.read(slot);
-        if value == 0 {
-            return node;
-        }
-        let own = *self.others[value as usize - 1].read(slot);
+        let link = self.links.read(slot);
         Node {
-            parent: node.parent,
-            name: node.name,
-            counts: node.counts,
-            own,
+            parent: link.parent,
+            name: link.name,
+            counts: link.counts,
+            own: *self.weights[value as usize].read(slot),
         }
     }
 
-    /// Puts a node that differs in its weight alone in place of another, for one value. Other owners of the pages keep
-    /// theirs. Nothing changes where memory runs out.
-    pub fn replace(&mut self, value: u32, slot: usize, node: Node) -> Result<(), AllocError>
+    /// Puts a weight of one value in place of another. Other owners of the pages keep theirs. Nothing changes where
+    /// memory runs out.
+    pub fn put_weight(&mut self, value: u32, slot: usize, weight: u64) -> Result<(), AllocError>
         requires value { value < length self.old }
         requires within { slot < length (nodes_of self.old value) }
-        requires same { without_weight node ≡ without_weight (at (nodes_of self.old value) slot) }
         ensures width { length self.new ≡ length self.old }
-        ensures here { OnOk result (nodes_of self.new value ≡ slice_set (nodes_of self.old value) slot node) }
+        ensures here { OnOk result (nodes_of self.new value
+            ≡ slice_set (nodes_of self.old value) slot (with_weight (at (nodes_of self.old value) slot) weight)) }
         ensures others { OnOk result
             ((other : ℕ) → (other ≡ value → ⊥) → nodes_of self.new other ≡ nodes_of self.old other) }
         ensures err { OnErr result (self.new ≡ self.old) }
     {
-        if value == 0 {
-            self.first.replace(slot, node)?;
-        } else {
-            let table = &mut self.others[value as usize - 1];
-            table.replace(slot, node.own)?;
-        }
+        let table = &mut self.weights[value as usize];
+        table.replace(slot, weight)?;
         Ok(())
     }
 
@@ -116,30 +131,38 @@ impl Nodes {
     {
         Ok(Nodes {
             width: self.width,
-            first: self.first.share()?,
-            others: self.others.clone()?,
+            links: Arc::try_clone(&self.links)?,
+            weights: self.weights.clone()?,
         })
     }
 
     /// One more node of weight 0, at the end.
-    pub fn append(&mut self, node: Node) -> Result<(), AllocError>
-        requires { node.own ≡ 0 }
+    pub fn append(&mut self, link: Link) -> Result<(), AllocError>
         ensures width { length self.new ≡ length self.old }
-        ensures ok { OnOk result
-            ((value : ℕ) → value < length self.old → nodes_of self.new value ≡ nodes_of self.old value ++ node ∷ []) }
+        ensures ok { OnOk result ((value : ℕ) → value < length self.old
+            → nodes_of self.new value ≡ nodes_of self.old value ++ linked link 0 ∷ []) }
         ensures err { OnErr result (self.new ≡ self.old) }
     {
-        take_room(&mut self.others, self.first.len())?;
-        self.first.append(node)?;
+        take_room(&mut self.weights, self.links.len())?;
+        append_link(&mut self.links, link)?;
         Ok(())
     }
+}
+
+/// One more link, at the end. Pages that have other owners are shared anew before.
+fn append_link(links: &mut Arc<Pages<Link>>, link: Link) -> Result<(), AllocError>
+    ensures ok { OnOk result (arc_value links.new ≡ arc_value links.old ++ link ∷ []) }
+    ensures err { OnErr result (arc_value links.new ≡ arc_value links.old) }
+{
+    let pages = Arc::make_mut(links)?;
+    pages.append(link)
 }
 
 /// Room for one more node in each table.
 fn take_room(tables: &mut Vec<Pages<u64>>, size: usize) -> Result<(), AllocError>
     requires { AreTables size tables.old.items }
     ensures count { length tables.new.items ≡ length tables.old.items }
-    ensures same { (nodes : List Node) → map (weighed nodes) tables.new.items ≡ map (weighed nodes) tables.old.items }
+    ensures same { (links : List Link) → map (weighed links) tables.new.items ≡ map (weighed links) tables.old.items }
     ensures kept { AreTables size tables.new.items }
     ensures longer { OnOk result
         ((k : ℕ) → k < length tables.new.items → size < length (slice_index_or tables.new.items k [])) }

@@ -8,7 +8,7 @@ ghost use Rattle.call_tree.specs.Nodes.{AreTrees, nodes_of, plain_of};
 ghost use Rattle.call_tree.specs.Shape.{node_rows};
 ghost use Rattle.call_tree.specs.Plans.{AreSlots, AreCredited, IsCredited};
 
-use crate::node::Node;
+use crate::node::Link;
 use crate::nodes::Nodes;
 use profile_rows::{Batch, Name, NoMemory, Weights, Width};
 use shared_pages::Pages;
@@ -145,11 +145,10 @@ impl CallTree {
         ensures err { OnErr result (self.new ≡ self.old) }
     {
         self.nodes.facts();
-        self.nodes.append(Node {
+        self.nodes.append(Link {
             parent,
             name,
             counts,
-            own: 0,
         })?;
         Ok(())
     }
@@ -163,9 +162,9 @@ impl CallTree {
         if child == 0 || child as usize >= self.nodes.len() {
             return None;
         }
-        let node = self.nodes.read(0, child as usize);
-        if node.parent == parent && *self.names.read(node.name as usize) == *name {
-            Some(node.name)
+        let link = self.nodes.link(child as usize);
+        if link.parent == parent && *self.names.read(link.name as usize) == *name {
+            Some(link.name)
         } else {
             None
         }
@@ -177,11 +176,10 @@ impl CallTree {
             × ((value : ℕ) → value < width → nodes_at tree value ≡ (record { stack = []; weight = 0 }) ∷ [])) }
     {
         let mut nodes = Nodes::new(alloc, width)?;
-        nodes.append(Node {
+        nodes.append(Link {
             parent: 0,
             name: 0,
             counts: false,
-            own: 0,
         })?;
         Ok(CallTree {
             names: Pages::new(alloc),
@@ -254,8 +252,6 @@ fn add_weight(
     ensures err { OnErr result (nodes.new ≡ nodes.old) }
 {
     let _names = names;
-    let mut node = nodes.read(value, at as usize);
-    node.own += weight;
-    nodes.replace(value, at as usize, node)?;
-    Ok(())
+    let own = nodes.weight(value, at as usize) + weight;
+    nodes.put_weight(value, at as usize, own)
 }

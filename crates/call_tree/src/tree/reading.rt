@@ -37,7 +37,7 @@ impl CallTree {
         let mut weights = [0; 4];
         if let Some(slot) = self.slot_of(stack) {
             for value in 0..count {
-                weights[value as usize] = self.nodes.read(value, slot).own;
+                weights[value as usize] = self.nodes.weight(value, slot);
             }
         }
         weights_from(&weights, width)
@@ -58,9 +58,9 @@ impl CallTree {
             if depth == frames.len() {
                 break;
             }
-            let node = self.nodes.read(0, index);
-            if node.parent as usize == slot
-                && *self.names.read(node.name as usize) == frames[depth]
+            let link = self.nodes.link(index);
+            if link.parent as usize == slot
+                && *self.names.read(link.name as usize) == frames[depth]
             {
                 slot = index;
                 depth += 1;
@@ -143,10 +143,10 @@ impl CallTree {
         let mut names = Vec::new(alloc);
         let mut slot = at;
         while slot != 0 {
-            let node = self.nodes.read(0, slot);
-            let name = self.names.read(node.name as usize).share()?;
+            let link = self.nodes.link(slot);
+            let name = self.names.read(link.name as usize).share()?;
             names.push(name)?;
-            slot = node.parent as usize;
+            slot = link.parent as usize;
         }
         names.reverse();
         let fits = names.len() <= MAX_DEPTH;
@@ -165,7 +165,7 @@ impl CallTree {
         self.facts();
         let mut rows = WeightedStacks::new(alloc);
         for index in 0..self.nodes.len() {
-            let weight = self.nodes.read(value, index).own;
+            let weight = self.nodes.weight(value, index);
             if weight > 0 {
                 let stack = self.stack_of(alloc, index)?;
                 rows.push(stack, weight).map_err(|_| NoMemory)?;
@@ -199,9 +199,9 @@ impl CallTree {
         frames.clear();
         let mut slot = at;
         while slot != 0 {
-            let node = self.nodes.read(0, slot);
-            frames.push(self.names.read(node.name as usize).text())?;
-            slot = node.parent as usize;
+            let link = self.nodes.link(slot);
+            frames.push(self.names.read(link.name as usize).text())?;
+            slot = link.parent as usize;
         }
         frames.reverse();
         Ok(())
@@ -240,7 +240,7 @@ impl CallTree {
         let mut frames = Vec::new(alloc);
         let mut joined = String::new(alloc);
         for at in 0..self.nodes.len() {
-            let weight = self.nodes.read(value, at).own;
+            let weight = self.nodes.weight(value, at);
             if weight > 0 {
                 let text = self.stack_text(alloc, &mut frames, &mut joined, at)?;
                 texts.push(StackText { text, weight })?;

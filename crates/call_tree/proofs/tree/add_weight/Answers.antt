@@ -1,23 +1,27 @@
+use Rattle.std.proofs.lemmas.Result.{on_ok_weaker}
 use Rattle.std.proofs.Common.{arith}
+use Rattle.shared_pages.proofs.Cloning.{on_ok_both}
 use Rattle.call_tree.proofs.Raising.{finished, weight_fits}
 use Rattle.call_tree.proofs.Trees.{AreTrees-raised}
 use Rattle.call_tree.proofs.tree.add_weight.Goals as goal
 
-pub overflow_add-node : goal.overflow_add-node
-overflow_add-node c =
-    let fits = weight_fits _ _ _ _ c.read-node.result c.requires.within c.requires.fits c.read-node.ensures in
+pub overflow_add-own : goal.overflow_add-own
+overflow_add-own c =
+    let fits = weight_fits _ _ _ _ c.weight.result c.requires.within c.requires.fits c.weight.ensures in
     omega (arith, fits)
 
 pub returns-clause-trees : goal.returns-clause-trees
 returns-clause-trees c =
     let value = c.args.value in
-    let done = finished _ _ _ _ _ c.read-node.result (c.requires.trees value c.requires.value)
-    c.requires.within c.requires.fits c.read-node.ensures c.in_ok-replace.ensures.here in
-    AreTrees-raised c.args.names.now c.args.nodes.now
-    c.replace.new.self value c.requires.trees c.in_ok-replace.ensures.width done.tree c.in_ok-replace.ensures.others
+    let nodes = c.put_weight.new.self in
+    on_ok_both c.put_weight.result
+    (λ here others. AreTrees-raised c.args.names.now c.args.nodes.now nodes value c.requires.trees c.put_weight.ensures.width
+    (finished _ _ _ _ _ c.weight.result (c.requires.trees value c.requires.value)
+    c.requires.within c.requires.fits c.weight.ensures here).tree others)
+    c.put_weight.ensures.here c.put_weight.ensures.others
 
 pub returns-clause-nodes : goal.returns-clause-nodes
 returns-clause-nodes c =
-    let value = c.args.value in
-    (finished _ _ _ _ _ c.read-node.result (c.requires.trees value c.requires.value)
-    c.requires.within c.requires.fits c.read-node.ensures c.in_ok-replace.ensures.here).rows
+    on_ok_weaker c.put_weight.result
+    (λ here. (finished _ _ _ _ _ c.weight.result (c.requires.trees c.args.value c.requires.value)
+    c.requires.within c.requires.fits c.weight.ensures here).rows) c.put_weight.ensures.here

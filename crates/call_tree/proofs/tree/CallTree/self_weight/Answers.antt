@@ -10,8 +10,8 @@ use Rattle.call_tree.proofs.Trees.{length-seen, seen}
 use Rattle.call_tree.proofs.tree.CallTree.self_weight.Goals as goal
 use Rattle.call_tree.proofs.tree.CallTree.self_weight.Goals.{in-Some+else-loop-value-test, in_default}
 
-pub read-requires-clause-within : goal.read-requires-clause-within
-read-requires-clause-within c =
+pub weight-requires-clause-within : goal.weight-requires-clause-within
+weight-requires-clause-within c =
     let value = c.loop-value.value in
     let lt : value < c.args.self.now.width = omega (
       arith,
@@ -44,9 +44,9 @@ loop-value-preserved c =
       ap (λ t. t.width) c.self.view_is,
     ) in
     IsFilled-step (λ value. weight_in (weights_of now value) stack)
-    value c.read.result.own c.loop-value.weights _ c.loop-value.invariant
+    value c.weight.result c.loop-value.weights _ c.loop-value.invariant
     (omega (arith, c.loop-value-test.true, c.get-count.ensures.count, c.get-count.ensures.few))
-    (ap (λ node. node.own) c.read.ensures
+    (c.weight.ensures
     ∙ sym (ap (λ row. row.weight) (node_at-node_rows names (nodes_of all value) slot))
     ∙ ap (λ rows. (node_at rows slot).weight) (seen names all now value c.self.view_is)
     ∙ sym (weight_in-found now c.facts.ensures stack value slot lt c.in-Some.ensures.0 c.in-Some.ensures.1)) refl

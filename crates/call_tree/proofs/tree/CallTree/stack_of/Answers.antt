@@ -2,7 +2,7 @@ use Rattle.std.proofs.Common.{◌≡◌, ◌++◌, ◌∷◌, [], length, revers
 use Rattle.std.proofs.lemmas.List.{append-nil, get_or_read, length-reverse}
 use Rattle.call_tree.specs.State.{name_at, stack_at}
 use Rattle.call_tree.specs.Shape.{at, node_rows}
-use Rattle.call_tree.specs.Nodes.{nodes_of}
+use Rattle.call_tree.specs.Nodes.{linked, nodes_of, without_weight}
 use Rattle.call_tree.proofs.Trees.{length-seen, seen}
 use Rattle.call_tree.proofs.Shapes.{length-node_rows, stack_at-child}
 use Rattle.call_tree.proofs.Turning.{turned, turned_step}
@@ -24,21 +24,21 @@ loop-slot-preserved c =
     let nodes = nodes_of c.self.inside.nodes 0 in
     let slot = c.loop-slot.slot in
     let before = c.loop-slot.names.items in
-    let node_is : c.read-node.result ≡ at nodes slot = c.read-node.ensures in
+    let node_is : linked c.link-link.result 0 ≡ without_weight (at nodes slot) = c.link-link.ensures in
     let links = (c.self.invariant.0 0 (omega (arith, c.facts.ensures.some))).links slot
     (omega (arith, c.loop-slot-test.true)) c.loop-slot.invariant.0 in
-    let name_is : c.read.result.now ≡ name_at names c.read-node.result.name =
-    get_or_read names c.read-node.result.name c.read.result.now
+    let name_is : c.read.result.now ≡ name_at names c.link-link.result.name =
+    get_or_read names c.link-link.result.name c.read.result.now
     (omega (arith, links.1, ap (λ node. node.name) node_is)) c.read.ensures [] in
     let name : c.in_ok-name.name ≡ name_at names (at nodes slot).name = c.in_ok-name.ensures
     ∙ name_is ∙ ap (λ node. name_at names node.name) node_is in
     let child =
     stack_at-child names nodes slot (omega (arith, c.loop-slot-test.true)) c.loop-slot.invariant.0 links.0 in
-    turned_step names nodes c.args.at slot c.read-node.result.parent before c.push.new.self.items c.in_ok-name.name
+    turned_step names nodes c.args.at slot c.link-link.result.parent before c.push.new.self.items c.in_ok-name.name
     (omega (arith, links.0, c.loop-slot.invariant.0, ap (λ node. node.parent) node_is))
     c.loop-slot.invariant.1 (child ∙ ap (λ p. stack_at
     (node_rows names nodes) p ++ name_at names (at nodes slot).name ∷ []) (sym (ap (λ node. node.parent) node_is))
-    ∙ ap (λ n. stack_at (node_rows names nodes) c.read-node.result.parent ++ n ∷ []) (sym name))
+    ∙ ap (λ n. stack_at (node_rows names nodes) c.link-link.result.parent ++ n ∷ []) (sym name))
     c.in_ok-push.ensures.items
 
 pub prove-unreachable-requires : goal.prove-unreachable-requires

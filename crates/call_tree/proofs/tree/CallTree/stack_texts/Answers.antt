@@ -19,8 +19,8 @@ stack_text-requires c =
       c.len-at-end.ensures,
     )
 
-pub read-weight-requires-clause-within : goal.read-weight-requires-clause-within
-read-weight-requires-clause-within c =
+pub weight-weight-requires-clause-within : goal.weight-weight-requires-clause-within
+weight-weight-requires-clause-within c =
     let size = c.facts.ensures.sizes c.args.value c.requires in
     let of_value = length-seen c.self.inside.names c.self.inside.nodes c.args.self.now c.args.value c.self.view_is in
     omega (
@@ -47,22 +47,22 @@ loop-at-preserved c =
       c.loop-at-test.true,
       c.len-at-end.ensures,
     ) in
-    let weight : c.read-weight.result.own ≡ (node_at rows k).weight =
-    ap (λ node. node.own) c.read-weight.ensures ∙ sym (ap (λ row. row.weight) (node_at-node_rows names nodes k))
+    let weight : c.weight-weight.result ≡ (node_at rows k).weight =
+    c.weight-weight.ensures ∙ sym (ap (λ row. row.weight) (node_at-node_rows names nodes k))
     ∙ ap (λ rows. (node_at rows k).weight) (seen names all c.args.self.now c.args.value c.self.view_is) in
     let stack : stack_at (nodes_at c.args.self.now 0) k ≡ stack_at rows k =
     sym (c.facts.ensures.stacks c.args.value k c.requires) in
     elim c.if-weight-gt0.branch [
       | then-weight-gt0+in_ok-text+in_ok-push w ↦
           text_more rows
-          c.loop-at.texts.items c.if-weight-gt0.texts.items k c.read-weight.result.own lt weight c.loop-at.invariant
-          w.if-weight-gt0.true (record { text = w.in_ok-text.text; weight = c.read-weight.result.own }) refl
+          c.loop-at.texts.items c.if-weight-gt0.texts.items k c.weight-weight.result lt weight c.loop-at.invariant
+          w.if-weight-gt0.true (record { text = w.in_ok-text.text; weight = c.weight-weight.result }) refl
           (w.in_ok-text.ensures.text ∙ ap (λ names. join_with_byte 59 names) stack)
           (subst (All IsName) stack w.in_ok-text.ensures.names)
           (ap (λ texts. texts.items) w.texts-is ∙ w.in_ok-push.ensures.items)
       | else-weight-gt0 w ↦
           text_less rows
-          c.loop-at.texts.items c.if-weight-gt0.texts.items k c.read-weight.result.own lt weight c.loop-at.invariant
+          c.loop-at.texts.items c.if-weight-gt0.texts.items k c.weight-weight.result lt weight c.loop-at.invariant
           (omega (arith, w.if-weight-gt0.false)) (ap (λ texts. texts.items) w.texts-is)
     ]
 

@@ -18,8 +18,8 @@ stack_of-requires c =
       c.len-index-end.ensures,
     )
 
-pub read-weight-requires-clause-within : goal.read-weight-requires-clause-within
-read-weight-requires-clause-within c =
+pub weight-weight-requires-clause-within : goal.weight-weight-requires-clause-within
+weight-weight-requires-clause-within c =
     let size = c.facts.ensures.sizes c.args.value c.requires in
     let of_value = length-seen c.self.inside.names c.self.inside.nodes c.args.self.now c.args.value c.self.view_is in
     omega (
@@ -46,18 +46,18 @@ loop-index-preserved c =
       c.loop-index-test.true,
       c.len-index-end.ensures,
     ) in
-    let weight : c.read-weight.result.own ≡ (node_at rows k).weight =
-    ap (λ node. node.own) c.read-weight.ensures ∙ sym (ap (λ row. row.weight) (node_at-node_rows names nodes k))
+    let weight : c.weight-weight.result ≡ (node_at rows k).weight =
+    c.weight-weight.ensures ∙ sym (ap (λ row. row.weight) (node_at-node_rows names nodes k))
     ∙ ap (λ rows. (node_at rows k).weight) (seen names all c.args.self.now c.args.value c.self.view_is) in
     elim c.if-weight-gt0.branch [
       | then-weight-gt0+in_ok-stack+in_ok-map_err w ↦
           weighted
-          rows c.loop-index.rows c.if-weight-gt0.rows k c.read-weight.result.own lt weight c.loop-index.invariant
+          rows c.loop-index.rows c.if-weight-gt0.rows k c.weight-weight.result lt weight c.loop-index.invariant
           w.if-weight-gt0.true w.in_ok-stack.stack (w.in_ok-stack.ensures
           ∙ sym (c.facts.ensures.stacks c.args.value k c.requires)) (w.rows-is ∙ (search rules))
       | else-weight-gt0 w ↦
           weightless
-          rows c.loop-index.rows c.if-weight-gt0.rows k c.read-weight.result.own lt weight c.loop-index.invariant
+          rows c.loop-index.rows c.if-weight-gt0.rows k c.weight-weight.result lt weight c.loop-index.invariant
           (omega (arith, w.if-weight-gt0.false)) w.rows-is
     ]
 

@@ -25,6 +25,7 @@ pub(crate) trait Written {
 }
 
 /// Appends a single number, if it is not 0.
+#[inline(always)]
 pub(crate) fn write_number<N: Number>(
     out: &mut Vec<u8>,
     number: u32,
@@ -42,6 +43,7 @@ pub(crate) fn write_number<N: Number>(
 }
 
 /// Appends a field of this content, if it is not empty.
+#[inline(always)]
 fn write_content(out: &mut Vec<u8>, number: u32, content: &[u8]) -> Result<(), NoMemory>
     requires { IsFieldNumber number }
     ensures { OnOk result (out.new.items ≡ out.old.items ++ bytes_of_fields (content_fields number content.now)) }
@@ -69,6 +71,7 @@ pub(crate) fn write_numbers<N: Number>(
 }
 
 /// Appends numbers that are lent, packed in one field, if there are any.
+#[inline(always)]
 pub(crate) fn write_packed<N: Number>(
     out: &mut Vec<u8>,
     number: u32,

@@ -52,6 +52,7 @@ fn push_varint(out: &mut Vec<u8>, number: u64)
 
 /// Appends the field, its tag, its length and a varint as short as can be. `NoMemory` only where the
 /// vector has no room for all of it and cannot grow; then nothing is appended.
+#[inline(always)]
 pub fn write_field(out: &mut Vec<u8>, number: u32, value: Value) -> Result<(), NoMemory>
     requires { IsFieldNumber number }
     ensures ok { OnOk result (out.new.items ≡ out.old.items ++ field_bytes_of (plain_field number value.entry)) }

@@ -1,16 +1,17 @@
 -- A tree that grows, and is credited, by each of its values.
 use Rattle.std.proofs.Common.{◌≡◌, ℕ, ◌+◌, ◌<◌, ◌≤◌, true, false, ltb, Bool, List, [], ◌∷◌, ◌++◌, length, refl}
-use Rattle.std.proofs.Common.{sym, ap, ◌∙◌, subst, arith, ⊎_elim}
+use Rattle.std.proofs.Common.{get_or, sym, ap, ◌∙◌, subst, arith, ⊎_elim}
 use Rattle.std.specs.FinMap as map
 use Rattle.std.specs.List.{AllByRecursion}
-use Rattle.std.proofs.lemmas.List.{get_or-map, length-map}
+use Rattle.std.proofs.lemmas.List.{get_or-map, get_or_append_left, length-map, length_push}
 use Rattle.std.proofs.lemmas.List.Elements.{recursion_from_All}
 use Rattle.std.proofs.lemmas.Bool.{cases_eq, ltb-true, ltb-false}
 use Rattle.profile_rows.specs.Values.{BatchState, IsBatch, Row, rows_at, weighing}
+use Rattle.profile_rows.specs.Rows.{total_of}
 use Rattle.profile_rows.specs.Aggregate.{Weighted, aggregate_of, with_row, with_rows}
 use Rattle.profile_rows.proofs.FourValues.{value_of-past}
 use Rattle.call_tree.specs.State.{TreeState, PlainTree, AreGrown, AreStates, IsAppended, IsFresh, IsGrown, nodes_at}
-use Rattle.call_tree.specs.State.{plain_at, name_at, weights_of, no_row}
+use Rattle.call_tree.specs.State.{plain_at, name_at, node_at, weights_of, no_row}
 use Rattle.call_tree.specs.Plans.{AreCredited, AreFirstSlots, AreSlots, IsCredited, slot_at}
 use Rattle.call_tree.proofs.Indexing.{IsGrown-added}
 use Rattle.call_tree.proofs.Trees.{nodes_at-past}
@@ -27,6 +28,21 @@ weights-grown before after grown value =
           ap aggregate_of
           (nodes_at-past after value (omega (arith, past, count)) ∙ sym (nodes_at-past before value past))
     ] refl
+
+pub AreGrown-named : (before after : TreeState) (name : List ℕ) → after.width ≡ before.width
+    → after.names ≡ before.names ++ name ∷ [] → after.values ≡ before.values → AreGrown before after
+AreGrown-named before after name width names values = record {
+  width = width;
+  count = ap length values;
+  each = λ value lt. record {
+    longer = omega (arith, ap (λ vs. length (get_or vs value [])) values);
+    kept = λ k k_lt. ap (λ vs. node_at (get_or vs value []) k) values;
+    weights = ap (λ vs. aggregate_of (get_or vs value [])) values;
+    total = ap (λ vs. total_of (get_or vs value [])) values;
+    more_names = omega (arith, ap length names, length_push before.names name);
+    kept_names = λ k k_lt. ap (λ ns. name_at ns k) names ∙ get_or_append_left before.names (name ∷ []) [] k k_lt;
+  };
+}
 
 pub AreGrown-appended : (before after : TreeState) (parent name : ℕ) (counts : Bool)
     → AreStates before → IsFresh (plain_at before 0) parent name counts

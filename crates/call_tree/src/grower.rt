@@ -1,6 +1,7 @@
 //! A call tree that grows: a plan makes room for a batch, a credit adds it.
 
 ghost use Rattle.std.specs.Prelude.{◌≡◌, ◌<◌, ◌+◌, ◌^◌, ℕ, length, IfOk, OnOk, OnErr};
+ghost use Rattle.std.specs.Arc.{arc_value};
 ghost use Rattle.std.specs.FinMap as map;
 ghost use Rattle.profile_rows.specs.Rows.{total_of};
 ghost use Rattle.profile_rows.specs.Aggregate.{with_rows};
@@ -11,11 +12,12 @@ use crate::tree::CallTree;
 use crate::walk::Walk;
 use indexmap::IndexSet;
 use profile_rows::{Batch, Hashing, Name, NoMemory, Width};
-use std::alloc::Global;
+use std::alloc::{AllocError, Global};
 use std::collections::HashMap;
 use std::marker::Model;
 use std::mem;
 use std::snapshot::Snapshot;
+use std::sync::Arc;
 
 mod slots;
 
@@ -23,7 +25,7 @@ mod slots;
 /// remembers the grower as it was when it was made, and serves it as long as it is so.
 #[derive(Drop)]
 pub struct Plan {
-    next: CallTree,
+    next: Arc<CallTree>,
     /// Whether the next tree begins anew, with names and nodes of its own.
     resets: bool,
     before: Snapshot<CallTree>,
@@ -32,12 +34,13 @@ pub struct Plan {
 impl Model for Plan {
     ghost use Rattle.call_tree.specs.State.{PlanState};
     ghost use Rattle.call_tree.specs.Plans.{IsNext};
+    ghost use Rattle.std.specs.Arc.{arc_value};
 
     ghost Value = { PlanState };
 
-    ghost view = { λ p. record { before = p.before.value; next = p.next } };
+    ghost view = { λ p. record { before = p.before.value; next = arc_value p.next } };
 
-    ghost invariant = { λ p. IsNext p.resets p.before.value p.next };
+    ghost invariant = { λ p. IsNext p.resets p.before.value (arc_value p.next) };
 }
 
 impl Plan {
@@ -47,6 +50,17 @@ impl Plan {
     {
         &self.next
     }
+
+    /// Another owner of that tree, which takes no memory.
+    ///
+    /// # Errors
+    ///
+    /// `AllocError`, where the tree has as many owners as it can have.
+    pub fn share_next(&self) -> Result<Arc<CallTree>, AllocError>
+        ensures { IfOk result (λ tree. arc_value tree ≡ self.now.next) }
+    {
+        Arc::try_clone(&self.next)
+    }
 }
 
 /// A [`CallTree`] that grows by batches: [`plan`](Grower::plan) takes all memory that a batch needs, and
@@ -54,7 +68,7 @@ impl Plan {
 /// an empty tree. A plan may be dropped.
 #[derive(Drop)]
 pub struct Grower {
-    tree: CallTree,
+    tree: Arc<CallTree>,
     /// The names in the order of their numbers.
     numbers: IndexSet<Name, Hashing>,
     /// The node below a node by the number of its name.
@@ -64,15 +78,16 @@ pub struct Grower {
 
 impl Model for Grower {
     ghost use Rattle.std.specs.Prelude.{◌≡◌};
+    ghost use Rattle.std.specs.Arc.{arc_value};
     ghost use Rattle.std.specs.HashMap as hash;
     ghost use Rattle.call_tree.specs.State.{TreeState, IsIndex, plain_at, same_key};
 
     ghost Value = { TreeState };
 
-    ghost view = { λ g. g.tree };
+    ghost view = { λ g. arc_value g.tree };
 
-    ghost invariant = { λ g. (g.numbers.keys ≡ g.tree.names)
-        × IsIndex (hash.get same_key g.index) (plain_at g.tree 0) };
+    ghost invariant = { λ g. (g.numbers.keys ≡ (arc_value g.tree).names)
+        × IsIndex (hash.get same_key g.index) (plain_at (arc_value g.tree) 0) };
 }
 
 impl Grower {
@@ -125,7 +140,7 @@ impl Grower {
         let tree = CallTree::new(alloc, width)?;
         tree.facts();
         Ok(Grower {
-            tree,
+            tree: Arc::new(alloc, tree)?,
             numbers: IndexSet::with_hasher(alloc, hashing),
             index: HashMap::with_hasher(alloc, hashing),
             walk: Walk::new(alloc),
@@ -203,9 +218,11 @@ impl Grower {
             index,
             walk: _,
         } = grower;
+        let tree = Arc::unwrap_or_clone(tree)?;
         tree.facts();
+        let tree = Arc::new(alloc, tree.add_batch(batch, slots.as_slice())?)?;
         Ok(Grower {
-            tree: tree.add_batch(batch, slots.as_slice())?,
+            tree,
             numbers,
             index,
             walk,
@@ -229,7 +246,7 @@ impl Grower {
         self.walk = walk;
         let slot = node?;
         self.tree.facts();
-        self.tree.add_row(batch, slot)?;
+        Arc::make_mut(&mut self.tree)?.add_row(batch, slot)?;
         Ok(())
     }
 
@@ -244,7 +261,7 @@ impl Grower {
         ensures next_width { IfOk result (λ plan. plan.next.width ≡ self.old.width) }
         ensures same { self.new ≡ self.old }
     {
-        let next = CallTree::new(alloc, self.tree.width())?;
+        let next = Arc::new(alloc, CallTree::new(alloc, self.tree.width())?)?;
         Ok(Plan {
             next,
             resets: true,
@@ -265,7 +282,7 @@ impl Grower {
     {
         let slots = self.slots_of(alloc, batch.first(), walk)?;
         self.tree.facts();
-        let next = self.tree.with_batch(batch, slots.as_slice())?;
+        let next = Arc::new(alloc, self.tree.with_batch(batch, slots.as_slice())?)?;
         Ok(Plan {
             next,
             resets: false,

@@ -13,6 +13,7 @@ use crate::nodes::Nodes;
 use profile_rows::{Batch, Name, NoMemory, Weights, Width};
 use shared_pages::Pages;
 use std::alloc::{AllocError, Global};
+use std::clone::Clone;
 use std::marker::Model;
 
 mod reading;
@@ -36,6 +37,20 @@ impl Model for CallTree {
     ghost view = { λ t. tree_of t.names t.nodes };
 
     ghost invariant = { λ t. AreTrees t.names t.nodes × HasTotal (tree_of t.names t.nodes) t.total };
+}
+
+impl Clone for CallTree {
+    ghost use Rattle.std.specs.Prelude.{◌≡◌};
+
+    ghost is_clone = { λ tree clone. clone ≡ tree };
+
+    fn clone(&self) -> Result<CallTree, AllocError> {
+        Ok(CallTree {
+            names: self.names.share()?,
+            nodes: self.nodes.share()?,
+            total: self.total,
+        })
+    }
 }
 
 impl CallTree {
@@ -64,11 +79,7 @@ impl CallTree {
     pub fn share(&self) -> Result<CallTree, NoMemory>
         ensures { IfOk result (λ tree. tree ≡ self.now) }
     {
-        Ok(CallTree {
-            names: self.names.share()?,
-            nodes: self.nodes.share()?,
-            total: self.total,
-        })
+        Ok(self.clone()?)
     }
 
     /// This tree with the rows of a batch, each at its node. Nothing of this tree changes.

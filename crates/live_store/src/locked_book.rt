@@ -25,7 +25,7 @@ mod log;
 mod next;
 
 pub(crate) use log::Log;
-use next::{next_tree, version_after};
+use next::version_after;
 
 /// The book of a store, how many sessions were given, the evidence of what the history is, and the writer of the
 /// versions. All keep the numbers of the store's name, and all have the same list of changes: that of the book, that of
@@ -214,7 +214,7 @@ impl<N: StoreName> LockedBook<N> {
             return Err(BookFault::Version);
         }
         match self.book.prepare(alloc, log.number(), log.turn(), batch) {
-            Ok(ready) => self.make(rt, alloc, head, front, log, ready),
+            Ok(ready) => self.make(rt, head, front, log, ready),
             Err(fault) => Err(fault),
         }
     }
@@ -260,7 +260,7 @@ impl<N: StoreName> LockedBook<N> {
             return Err(BookFault::Version);
         }
         match self.book.prepare_reset(alloc, log.number(), log.turn()) {
-            Ok(ready) => self.make(rt, alloc, head, front, log, ready),
+            Ok(ready) => self.make(rt, head, front, log, ready),
             Err(fault) => Err(fault),
         }
     }
@@ -269,7 +269,6 @@ impl<N: StoreName> LockedBook<N> {
     fn make<R: Wait>(
         &mut self,
         rt: &R,
-        alloc: Global,
         head: &Head<N>,
         front: &mut Front<N>,
         log: &mut Log,
@@ -299,7 +298,7 @@ impl<N: StoreName> LockedBook<N> {
         ensures fault { IfErr result (λ fault. (fault ≡ BookFault.NoMemory)
             ⊎ ((fault ≡ BookFault.Version) × (length self.old.book.entries < length front.new))) }
     {
-        let tree = next_tree(alloc, &ready)?;
+        let tree = ready.share_next()?;
         self.commit(rt, head, front, log, ready, tree)
     }
 

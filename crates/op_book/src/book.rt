@@ -4,6 +4,7 @@ ghost use Rattle.std.specs.Prelude.{◌≡◌, ◌<◌, ◌≤◌, ◌^◌, ℕ,
 ghost use Rattle.call_tree.specs.State.{total_in, weights_of};
 ghost use Rattle.op_book.specs.Books.{IsOrderly, IsReplay, IsTreeAfter, weight_so_far};
 ghost use Rattle.op_book.specs.Operations.{reset};
+ghost use Rattle.std.specs.Arc.{arc_value};
 ghost use Rattle.profile_rows.specs.Values.{value_of};
 
 use crate::entry::{Entry, Receipt};
@@ -13,9 +14,10 @@ use call_tree::{CallTree, Grower, Plan};
 use flame_report::NoMemory;
 use profile_rows::laws::sums_are_those_of_the_aggregate;
 use profile_rows::{Hashing, Weights, Width};
-use std::alloc::Global;
+use std::alloc::{AllocError, Global};
 use std::marker::Model;
 use std::snapshot::Snapshot;
+use std::sync::Arc;
 
 mod changing;
 
@@ -103,6 +105,17 @@ impl Ready {
         ensures tree { IsTreeAfter self.now.before self.now.op self.now.next }
     {
         self.plan.next()
+    }
+
+    /// Another owner of that tree, which takes no memory.
+    ///
+    /// # Errors
+    ///
+    /// `AllocError`, where the tree has as many owners as it can have.
+    pub fn share_next(&self) -> Result<Arc<CallTree>, AllocError>
+        ensures tree { IfOk result (λ tree. IsTreeAfter self.now.before self.now.op (arc_value tree)) }
+    {
+        self.plan.share_next()
     }
 }
 

@@ -11,6 +11,7 @@ use super::Grower;
 use crate::walk::Walk;
 use profile_rows::{Name, NoMemory, Stack, WeightedStacks};
 use std::alloc::Global;
+use std::sync::Arc;
 
 impl Grower {
     /// The nodes of rows, one for each row, with new nodes where there are none.
@@ -121,7 +122,7 @@ impl Grower {
         let key = name.share()?;
         self.numbers.reserve(1)?;
         self.tree.facts();
-        self.tree.append_name(listed)?;
+        Arc::make_mut(&mut self.tree)?.append_name(listed)?;
         let _ = self.numbers.insert(key);
         Ok(number)
     }
@@ -157,7 +158,7 @@ impl Grower {
         let number = number_of(self.tree.len())?;
         self.index.reserve(1)?;
         self.tree.facts();
-        self.tree.append_node(parent, name, counts)?;
+        Arc::make_mut(&mut self.tree)?.append_node(parent, name, counts)?;
         let _ = self.index.insert((parent, name), number);
         Ok(number)
     }

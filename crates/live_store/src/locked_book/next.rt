@@ -1,6 +1,6 @@
-//! What a change makes: its tree, and the version that is shown.
+//! The version that a change shows.
 
-ghost use Rattle.std.specs.Prelude.{◌≡◌, ◌++◌, ◌∷◌, [], IfErr, IfOk, true};
+ghost use Rattle.std.specs.Prelude.{◌≡◌, ◌++◌, ◌∷◌, [], true};
 ghost use Rattle.std.specs.Arc.{arc_value};
 ghost use Rattle.op_book.specs.Books.{IsTreeAfter};
 ghost use Rattle.op_book.specs.Operations.{is_change};
@@ -9,19 +9,9 @@ ghost use Rattle.change_history.specs.Histories.{entry_made};
 
 use call_tree::CallTree;
 use change_history::{Front, StoreName};
-use op_book::{Book, BookFault, Ready};
+use op_book::{Book, Ready};
 use shown_versions::Version;
-use std::alloc::Global;
 use std::sync::Arc;
-
-/// The tree after a change, shared.
-pub(super) fn next_tree(alloc: Global, ready: &Ready) -> Result<Arc<CallTree>, BookFault>
-    ensures tree { IfOk result (λ tree. IsTreeAfter ready.now.before ready.now.op (arc_value tree)) }
-    ensures fault { IfErr result (λ fault. fault ≡ BookFault.NoMemory) }
-{
-    let tree = ready.next().share()?;
-    Ok(Arc::new(alloc, tree)?)
-}
 
 /// The version after a change that the history has.
 pub(super) fn version_after<N: StoreName>(

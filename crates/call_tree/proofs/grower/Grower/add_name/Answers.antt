@@ -1,16 +1,24 @@
 use Rattle.std.proofs.Common.{◌≡◌, ◌<◌, ℕ, [], ◌∷◌, ◌++◌, length, get_or, arith, sym, ap, ◌∙◌, subst}
+use Rattle.std.proofs.Common.{⊎_elim}
+use Rattle.std.specs.Result.{is_ok}
+use Rattle.std.specs.Arc.{arc_value}
 use Rattle.std.specs.HashMap as hash
-use Rattle.call_tree.specs.State.{TreeState, IsIndex, plain_at, same_key, name_at}
+use Rattle.call_tree.specs.State.{TreeState, AreGrown, AreStates, IsIndex, plain_at, same_key, name_at}
 use Rattle.std.specs.Prelude.{if◌then◌else◌}
 use Rattle.indexmap.specs.IndexSet.{insert_key}
 use Rattle.profile_rows.specs.Names.{is_same_name}
 use Rattle.call_tree.proofs.Indexing.{IsIndex-named, from_ok, not_named}
+use Rattle.call_tree.proofs.Growing.{AreGrown-named}
 use Rattle.call_tree.proofs.grower.Grower.add_name.Goals as goal
 
 pub invariant_of-self-2 : goal.invariant_of-self-2
 invariant_of-self-2 c =
-    let tree = plain_at c.self.inside.tree 0 in
-    let state = c.facts.ensures.each 0 c.facts.ensures.some in
+    let tree = plain_at (arc_value c.self.inside.tree) 0 in
+    let states = subst AreStates c.deref.ensures c.facts.ensures in
+    let state = states.each 0 states.some in
+    let made : c.in_ok-make_mut.field-0.now ≡ arc_value c.self.inside.tree =
+    ⊎_elim (λ e. e) (λ e. e) c.in_ok-make_mut.ensures.value in
+    let next_is = c.make_mut.follows.holds c.append_name.new.self (ap is_ok c.in_ok-make_mut.was) in
     let ok = c.in_ok-append_name.ensures.ok in
     let listed : c.in_ok-listed.listed ≡ c.args.name.now = c.in_ok-listed.ensures in
     let key : c.in_ok-key.key ≡ c.args.name.now = c.in_ok-key.ensures in
@@ -19,7 +27,10 @@ invariant_of-self-2 c =
     let next =
     IsIndex-named tree c.args.name.now (hash.get same_key c.self.inside.index) state absent c.self.invariant.1 in
     let tree_is : record tree { names = tree.names ++ c.args.name.now ∷ [] } ≡ plain_at c.append_name.new.self 0 =
-    λ i. record { names = sym (ok.1 ∙ ap (λ n. tree.names ++ n ∷ []) listed) i; nodes = get_or (sym ok.2 i) 0 [] } in
+    λ i. record {
+      names = sym (ok.1 ∙ (λ j. (made j).names ++ listed j ∷ [])) i;
+      nodes = get_or (sym (ok.2 ∙ ap (λ (t : TreeState). t.values) made) i) 0 [];
+    } in
     let spare = c.in_ok-reserve.ensures.ok in
     let inserted : c.insert.new.self.keys ≡ insert_key is_same_name c.reserve.new.self.keys c.in_ok-key.key =
     from_ok c.insert.result _ (c.insert.ensures.succeeds (omega (arith, spare))) c.insert.ensures.keys in
@@ -28,6 +39,18 @@ invariant_of-self-2 c =
     ap (λ b. if b then tree.names else tree.names ++ c.args.name.now ∷ [])
     (not_named tree.names c.args.name.now absent) in (
       inserted ∙ (λ i. insert_key is_same_name (keys i) (key i))
-          ∙ pushed ∙ ap (λ t. t.names) tree_is,
-      subst (IsIndex (hash.get same_key c.self.inside.index)) tree_is next,
+          ∙ pushed ∙ ap (λ t. t.names) tree_is ∙ sym (ap (λ (t : TreeState). t.names) next_is),
+      subst (IsIndex (hash.get same_key c.self.inside.index))
+          (tree_is ∙ sym (ap (λ (t : TreeState). plain_at t 0) next_is)) next,
     )
+
+pub returns-clause-grown : goal.returns-clause-grown
+returns-clause-grown c =
+    let made = ⊎_elim (λ e. e) (λ e. e) c.in_ok-make_mut.ensures.value ∙ c.self.view_is in
+    let ok = c.in_ok-append_name.ensures.ok in
+    subst (AreGrown c.args.self.now)
+    (sym (c.make_mut.follows.holds c.append_name.new.self (ap is_ok c.in_ok-make_mut.was)))
+    (AreGrown-named c.args.self.now c.append_name.new.self c.in_ok-listed.listed
+    (ok.0 ∙ ap (λ (t : TreeState). t.width) made)
+    (ok.1 ∙ ap (λ (t : TreeState). t.names ++ c.in_ok-listed.listed ∷ []) made)
+    (ok.2 ∙ ap (λ (t : TreeState). t.values) made))

@@ -1,4 +1,5 @@
 use Rattle.std.proofs.Common.{◌≡◌, sym, ap, ◌∙◌, subst}
+use Rattle.std.specs.Arc.{arc_value}
 use Rattle.std.specs.HashMap as hash
 use Rattle.std.specs.Map.{lookup}
 use Rattle.call_tree.specs.State.{TreeState, IsIndex, plain_at, same_key}
@@ -10,7 +11,7 @@ use Rattle.call_tree.proofs.grower.Grower.credit.Goals.{then-resets, else-resets
 
 pub invariant_of-self : goal.invariant_of-self
 invariant_of-self c =
-    let next = c.plan.inside.next in
+    let next = (arc_value c.plan.inside.next) in
     elim c.if-resets.branch [
       | then-resets w ↦
           let root = subst (λ b. IsNext b c.plan.inside.before.value next) w.if-resets.true c.plan.invariant in
@@ -21,7 +22,7 @@ invariant_of-self c =
           )
       | else-resets w ↦
           let same = subst (λ b. IsNext b c.plan.inside.before.value next) w.if-resets.false c.plan.invariant in
-          let before : c.plan.inside.before.value ≡ c.self.inside.tree = ap (λ p. p.before) c.plan.view_is
+          let before : c.plan.inside.before.value ≡ (arc_value c.self.inside.tree) = ap (λ p. p.before) c.plan.view_is
           ∙ c.requires ∙ sym c.self.view_is in
           let had = subst (λ (t : TreeState). IsIndex (hash.get same_key c.self.inside.index) (plain_at t 0))
           (sym before) c.self.invariant.1 in

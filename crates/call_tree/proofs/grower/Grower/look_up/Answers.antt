@@ -10,7 +10,7 @@ child-requires-clause-counts c =
     let frames = c.args.frames.now in
     let frame : c.index-frames-depth.result ≡ get_or frames c.args.depth [] =
     get_or_read frames c.args.depth c.index-frames-depth.result c.requires.within c.index-frames-depth.is [] in
-    let states = subst AreStates c.self.view_is c.facts.ensures in
+    let states = subst AreStates (c.deref.ensures ∙ c.self.view_is) c.facts.ensures in
     let state = states.each 0 states.some in
     let grown = c.in_ok-number.ensures.grown in
     let some : 0 < length c.args.self.now.values = omega (arith, grown.count, states.some, states.width) in
@@ -25,7 +25,7 @@ returns-clause-path c =
     let frames = c.args.frames.now in
     let frame : c.index-frames-depth.result ≡ get_or frames c.args.depth [] =
     get_or_read frames c.args.depth c.index-frames-depth.result c.requires.within c.index-frames-depth.is [] in
-    let states = subst AreStates c.self.view_is c.facts.ensures in
+    let states = subst AreStates (c.deref.ensures ∙ c.self.view_is) c.facts.ensures in
     let state = states.each 0 states.some in
     let grown = c.in_ok-number.ensures.grown in
     let some : 0 < length c.args.self.now.values = omega (arith, grown.count, states.some, states.width) in

@@ -288,5 +288,5 @@ ANSWERS = {
 # The cases that ask for no growth: those, those with a fault that comes first, and a few others on so small a case.
 ASK_FOR_NONE = {
     *WITHOUT_GROWTHS, *NAMED_FAULTS, "batch_push_of_a_heavy_row", "blank_make_of_no_sessions", "check_of_a_wrong_index",
-    "name_make_of_no_name", "name_share", "report_of_the_total",
+    "name_make_of_no_name", "name_share", "pages_share", "report_of_the_total",
 }

@@ -1,7 +1,6 @@
 //! The home of the nodes with their weights of all values.
 
 ghost use Rattle.std.specs.Prelude.{◌≡◌, ◌<◌, ◌++◌, ◌∷◌, ℕ, List, [], length, map, IfOk, OnOk, OnErr, slice_set, slice_index_or};
-ghost use Rattle.std.specs.Arc.{arc_value};
 ghost use Rattle.call_tree.specs.declared.node.Link.{Link};
 ghost use Rattle.call_tree.specs.declared.node.Node.{Node};
 ghost use Rattle.call_tree.specs.Nodes.{AreAlike, AreTables, linked, nodes_of, with_weight, without_weight, weighed};
@@ -12,30 +11,28 @@ use profile_rows::Width;
 use shared_pages::Pages;
 use std::alloc::{AllocError, Global};
 use std::marker::Model;
-use std::sync::Arc;
 
 /// Nodes in order, in pages that may have other owners. Where they stand and what they weigh are apart: an addition to
 /// nodes that are there copies weights alone.
 #[derive(Drop)]
 pub struct Nodes {
     width: Width,
-    links: Arc<Pages<Link>>,
+    links: Pages<Link>,
     /// For each value what each node weighs, and perhaps some zeros more.
     weights: Vec<Pages<u64>>,
 }
 
 impl Model for Nodes {
     ghost use Rattle.std.specs.Prelude.{◌≡◌, ◌<◌, List, length, map};
-    ghost use Rattle.std.specs.Arc.{arc_value};
     ghost use Rattle.call_tree.specs.declared.node.Node.{Node};
     ghost use Rattle.call_tree.specs.Nodes.{AreTables, weighed};
 
     ghost Value = { List (List Node) };
 
-    ghost view = { λ n. map (weighed (arc_value n.links)) n.weights.items };
+    ghost view = { λ n. map (weighed n.links) n.weights.items };
 
     ghost invariant = { λ n. (0 < n.width) × (length n.weights.items ≡ n.width)
-        × AreTables (length (arc_value n.links)) n.weights.items };
+        × AreTables (length n.links) n.weights.items };
 }
 
 impl Nodes {
@@ -45,9 +42,9 @@ impl Nodes {
     {
         let mut weights = Vec::new(alloc);
         for _ in 0..width.get() {
-            weights.push(Pages::new(alloc))?;
+            weights.push(Pages::new(alloc)?)?;
         }
-        let links = Arc::new(alloc, Pages::new(alloc))?;
+        let links = Pages::new(alloc)?;
         Ok(Nodes {
             width,
             links,
@@ -131,7 +128,7 @@ impl Nodes {
     {
         Ok(Nodes {
             width: self.width,
-            links: Arc::try_clone(&self.links)?,
+            links: self.links.share()?,
             weights: self.weights.clone()?,
         })
     }
@@ -144,18 +141,8 @@ impl Nodes {
         ensures err { OnErr result (self.new ≡ self.old) }
     {
         take_room(&mut self.weights, self.links.len())?;
-        append_link(&mut self.links, link)?;
-        Ok(())
+        self.links.append(link)
     }
-}
-
-/// One more link, at the end. Pages that have other owners are shared anew before.
-fn append_link(links: &mut Arc<Pages<Link>>, link: Link) -> Result<(), AllocError>
-    ensures ok { OnOk result (arc_value links.new ≡ arc_value links.old ++ link ∷ []) }
-    ensures err { OnErr result (arc_value links.new ≡ arc_value links.old) }
-{
-    let pages = Arc::make_mut(links)?;
-    pages.append(link)
 }
 
 /// Room for one more node in each table.

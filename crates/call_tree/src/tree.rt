@@ -192,8 +192,9 @@ impl CallTree {
             name: 0,
             counts: false,
         })?;
+        let names = Pages::new(alloc)?;
         Ok(CallTree {
-            names: Pages::new(alloc),
+            names,
             nodes,
             total: Weights::zero(width),
         })

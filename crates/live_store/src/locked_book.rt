@@ -7,6 +7,7 @@ ghost use Rattle.left_right.specs.Sides.{view as known};
 ghost use Rattle.op_book.specs.Books.{IsAppended, IsFirstBookFault, IsSameBook, IsTreeAfter, change_told, receipt_after};
 ghost use Rattle.op_book.specs.Operations.{PlainOp, add, is_change, placed, reset};
 ghost use Rattle.op_book.specs.Runs.{turns_of};
+ghost use Rattle.change_history.specs.Histories.{entry_made};
 ghost use Rattle.shown_versions.specs.Views.{IsOf, listed};
 ghost use Rattle.live_store.specs.Sessions.{IsPlaced};
 ghost use Rattle.live_store.specs.Stores.{IsFirstShown, IsGiveFault, IsShownBy, IsUnseen, ShowsCause, changes_told};
@@ -17,15 +18,13 @@ use call_tree::CallTree;
 use change_history::{Front, Head, StoreName};
 use op_book::{Book, BookFault, Journal, Ready, Refused};
 use profile_rows::Batch;
-use shown_versions::{VersionReader, VersionWriter, make_room, new_reader, publish};
+use shown_versions::{Version, VersionReader, VersionWriter, make_room, new_reader, publish};
 use std::alloc::{AllocError, Global};
 use std::sync::{Arc, Wait};
 
 mod log;
-mod next;
 
 pub(crate) use log::Log;
-use next::version_after;
 
 /// The book of a store, how many sessions were given, the evidence of what the history is, and the writer of the
 /// versions. All keep the numbers of the store's name, and all have the same list of changes: that of the book, that of
@@ -49,6 +48,26 @@ pub(crate) struct LockedBook<N: StoreName> {
     ghost shown_wide: { versions.desk.shown.value.width ≡ N.width },
     ghost writer: { listed (known versions.desk.place) ≡ book.entries },
     ghost name: { named ≡ true → IsOf (known versions.desk.place) N.history N.width },
+}
+
+/// The version after a change that the history has.
+fn version_after<N: StoreName>(
+    book: &Book,
+    ready: &Ready,
+    front: &Front<N>,
+    tree: Arc<CallTree>,
+) -> Version
+    requires before { ready.now.before ≡ book.now }
+    requires change { is_change ready.now.op ≡ true }
+    requires turn { ready.now.turn ≡ turns_of book.now.entries ready.now.session }
+    requires front { front.now ≡ book.now.entries ++ entry_made ready.now ∷ [] }
+    requires tree { IsTreeAfter ready.now.before ready.now.op (arc_value tree) }
+    ensures log { result.seen.log ≡ front.now }
+    ensures history { result.seen.book ≡ N.history }
+    ensures width { result.width ≡ book.now.width }
+{
+    let _ = book.entries();
+    Version::new(front.len(), tree, front.reached())
 }
 
 impl<N: StoreName> LockedBook<N> {

@@ -1,6 +1,7 @@
 //! Pages of items.
 
 ghost use Rattle.std.specs.Prelude.{◌≡◌, ◌<◌, ◌≤◌, ◌+◌, ◌^◌, ◌++◌, ◌∷◌, ℕ, [], length, take, IfOk, OnOk, OnErr, slice_set, slice_index_or, true};
+ghost use Rattle.std.specs.Arc.{arc_value};
 ghost use Rattle.std.specs.Option.{is_some};
 ghost use Rattle.shared_pages.specs.Pages.{IsInPages, last_items, with_item};
 
@@ -15,14 +16,14 @@ use std::sync::Arc;
 const LAST: usize = 64;
 
 /// A list that only grows. Its last items, 64 at most, stand in a page of their own, and all others on shelves, in
-/// pages of 256. Each page may have several owners, and so may the tables above it: [`share`](Pages::share) copies only
-/// the topmost one. An item that is replaced or appended has its page copied before, unless nobody else owns it, and on
-/// shelves the tables that lead to it too.
+/// pages of 256. Each page may have several owners, and so may the tables above it, so [`share`](Pages::share) copies
+/// nothing. An item that is replaced or appended has its page copied before, unless nobody else owns it, and on shelves
+/// the tables that lead to it too.
 #[derive(Drop)]
 pub struct Pages<T> {
     alloc: Global,
     /// The first items, and perhaps some more, which don't count.
-    shelves: Shelves<T>,
+    shelves: Arc<Shelves<T>>,
     /// How many of the items on shelves count.
     shelved: usize,
     /// The page of the last items, where there are some.
@@ -31,28 +32,36 @@ pub struct Pages<T> {
 }
 
 impl<T> Model for Pages<T> {
+    ghost use Rattle.std.specs.Arc.{arc_value};
     ghost use Rattle.std.specs.Prelude.{List, ◌++◌, take};
     ghost use Rattle.shared_pages.specs.Pages.{IsInPages, last_items};
 
     ghost Value = { List T };
 
-    ghost view = { λ p. take p.shelved p.shelves ++ last_items p.last };
+    ghost view = { λ p. take p.shelved (arc_value p.shelves) ++ last_items p.last };
 
-    ghost invariant = { λ p. IsInPages p.shelves p.shelved (last_items p.last) p.len };
+    ghost invariant = { λ p. IsInPages (arc_value p.shelves) p.shelved (last_items p.last) p.len };
 }
 
 impl<T> Pages<T> {
-    /// No items. Takes no memory.
-    pub fn new(alloc: Global) -> Pages<T>
-        ensures { result ≡ [] }
+    /// No items.
+    ///
+    /// # Errors
+    ///
+    /// `AllocError`, where memory runs out.
+    pub fn new(alloc: Global) -> Result<Pages<T>, AllocError>
+    where
+        T: Drop,
+        ensures { IfOk result (λ pages. pages ≡ []) }
     {
-        Pages {
+        let shelves = Arc::new(alloc, Shelves::new(alloc))?;
+        Ok(Pages {
             alloc,
-            shelves: Shelves::new(alloc),
+            shelves,
             shelved: 0,
             last: None,
             len: 0,
-        }
+        })
     }
 
     /// How many items there are.
@@ -74,11 +83,11 @@ impl<T> Pages<T> {
         }
     }
 
-    /// Another owner of the same pages.
+    /// Another owner of the same pages. Takes no memory.
     ///
     /// # Errors
     ///
-    /// `AllocError`, where memory runs out.
+    /// `AllocError`, where they have as many owners as they can have.
     pub fn share(&self) -> Result<Pages<T>, AllocError>
     where
         T: Drop,
@@ -86,7 +95,7 @@ impl<T> Pages<T> {
     {
         Ok(Pages {
             alloc: self.alloc,
-            shelves: self.shelves.share()?,
+            shelves: Arc::try_clone(&self.shelves)?,
             shelved: self.shelved,
             last: share_last(&self.last)?,
             len: self.len,
@@ -107,7 +116,7 @@ impl<T: Clone + Drop> Pages<T> {
         ensures err { OnErr result (self.new ≡ self.old) }
     {
         if at < self.shelved {
-            self.shelves.put(at, item)
+            put_shelved(&mut self.shelves, at, item)
         } else {
             put_last(self.alloc, &mut self.last, at - self.shelved, item)
         }
@@ -194,20 +203,20 @@ fn put_last<T: Clone + Drop>(
 /// Where there are as many last items as may be, puts them on shelves too. How many of the items on shelves count then.
 /// All items stay, also where memory runs out.
 fn shelve_full<T: Clone + Drop>(
-    shelves: &mut Shelves<T>,
+    shelves: &mut Arc<Shelves<T>>,
     shelved: usize,
     last: &mut Option<Arc<Vec<T>>>,
     len: usize,
 ) -> Result<usize, AllocError>
     requires exact { (x y : T) → T.is_clone x y → y ≡ x }
-    requires pages { IsInPages shelves.old shelved (last_items last.old) len }
-    ensures pages { IfOk result (λ count. IsInPages shelves.new count (last_items last.new) len) }
-    ensures items { IfOk result (λ count. take count shelves.new ++ last_items last.new
-        ≡ take shelved shelves.old ++ last_items last.old) }
+    requires pages { IsInPages (arc_value shelves.old) shelved (last_items last.old) len }
+    ensures pages { IfOk result (λ count. IsInPages (arc_value shelves.new) count (last_items last.new) len) }
+    ensures items { IfOk result (λ count. take count (arc_value shelves.new) ++ last_items last.new
+        ≡ take shelved (arc_value shelves.old) ++ last_items last.old) }
     ensures room { OnOk result (length (last_items last.new) < 64) }
-    ensures kept { OnErr result (IsInPages shelves.new shelved (last_items last.new) len) }
-    ensures err { OnErr result (take shelved shelves.new ++ last_items last.new
-        ≡ take shelved shelves.old ++ last_items last.old) }
+    ensures kept { OnErr result (IsInPages (arc_value shelves.new) shelved (last_items last.new) len) }
+    ensures err { OnErr result (take shelved (arc_value shelves.new) ++ last_items last.new
+        ≡ take shelved (arc_value shelves.old) ++ last_items last.old) }
 {
     match &*last {
         Some(page) if page.len() == LAST => put_all(shelves, shelved, page)?,
@@ -217,22 +226,40 @@ fn shelve_full<T: Clone + Drop>(
     Ok(len)
 }
 
+/// Puts an item on shelves, in place of another or behind the last. Their table is copied before where it has other
+/// owners.
+fn put_shelved<T: Clone + Drop>(
+    shelves: &mut Arc<Shelves<T>>,
+    at: usize,
+    item: T,
+) -> Result<(), AllocError>
+    requires exact { (x y : T) → T.is_clone x y → y ≡ x }
+    requires within { at ≤ length (arc_value shelves.old) }
+    ensures ok { OnOk result (arc_value shelves.new ≡ with_item at item (arc_value shelves.old)) }
+    ensures err { OnErr result (arc_value shelves.new ≡ arc_value shelves.old) }
+{
+    let own = Arc::make_mut(shelves)?;
+    own.put(at, item)
+}
+
 /// Puts copies of items on shelves, from a place on. What stands before it stays, also where memory runs out.
 fn put_all<T: Clone + Drop>(
-    shelves: &mut Shelves<T>,
+    shelves: &mut Arc<Shelves<T>>,
     from: usize,
     items: &[T],
 ) -> Result<(), AllocError>
     requires exact { (x y : T) → T.is_clone x y → y ≡ x }
-    requires within { from ≤ length shelves.old }
+    requires within { from ≤ length (arc_value shelves.old) }
     requires few { from + length items.now < 2 ^ 64 }
-    ensures ok { OnOk result (take (from + length items.now) shelves.new ≡ take from shelves.old ++ items.now) }
-    ensures long { OnOk result (from + length items.now ≤ length shelves.new) }
-    ensures err { OnErr result ((take from shelves.new ≡ take from shelves.old) × (from ≤ length shelves.new)) }
+    ensures ok { OnOk result (take (from + length items.now) (arc_value shelves.new)
+        ≡ take from (arc_value shelves.old) ++ items.now) }
+    ensures long { OnOk result (from + length items.now ≤ length (arc_value shelves.new)) }
+    ensures err { OnErr result ((take from (arc_value shelves.new) ≡ take from (arc_value shelves.old))
+        × (from ≤ length (arc_value shelves.new))) }
 {
     for index in 0..items.len() {
         let item = items[index].clone()?;
-        shelves.put(from + index, item)?;
+        put_shelved(shelves, from + index, item)?;
     }
     Ok(())
 }

@@ -55,19 +55,6 @@ impl<T> Shelf<T> {
         let within = at % GROUP;
         &self.groups[at / GROUP][within / PAGE][within % PAGE]
     }
-
-    /// Another owner of the same pages.
-    fn share(&self) -> Result<Shelf<T>, AllocError>
-    where
-        T: Drop,
-        ensures { IfOk result (λ shelf. shelf ≡ self.now) }
-    {
-        Ok(Shelf {
-            alloc: self.alloc,
-            groups: self.groups.clone()?,
-            len: self.len,
-        })
-    }
 }
 
 impl<T: Clone + Drop> Shelf<T> {
@@ -95,7 +82,11 @@ impl<T: Drop> Clone for Shelf<T> {
     ghost is_clone = { λ shelf clone. clone ≡ shelf };
 
     fn clone(&self) -> Result<Shelf<T>, AllocError> {
-        self.share()
+        Ok(Shelf {
+            alloc: self.alloc,
+            groups: self.groups.clone()?,
+            len: self.len,
+        })
     }
 }
 

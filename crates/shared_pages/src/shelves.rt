@@ -13,7 +13,7 @@ use std::sync::Arc;
 const SHELF: usize = 65536;
 
 /// Items in pages of 256, the pages in groups of 16, the groups on shelves of 16. Each page, each group and each shelf
-/// may have several owners: a share copies only the table of shelves. An item that is put at a place has its page, its
+/// may have several owners: a clone copies only the table of shelves. An item that is put at a place has its page, its
 /// group and its shelf copied before, unless nobody else owns them.
 #[derive(Drop)]
 pub(crate) struct Shelves<T> {
@@ -52,13 +52,14 @@ impl<T> Shelves<T> {
     {
         self.shelves[at / SHELF].read(at % SHELF)
     }
+}
 
-    /// Another owner of the same pages.
-    pub(crate) fn share(&self) -> Result<Shelves<T>, AllocError>
-    where
-        T: Drop,
-        ensures { IfOk result (λ shelves. shelves ≡ self.now) }
-    {
+impl<T: Drop> Clone for Shelves<T> {
+    ghost use Rattle.std.specs.Prelude.{◌≡◌};
+
+    ghost is_clone = { λ shelves clone. clone ≡ shelves };
+
+    fn clone(&self) -> Result<Shelves<T>, AllocError> {
         Ok(Shelves {
             alloc: self.alloc,
             shelves: self.shelves.clone()?,

@@ -1,9 +1,8 @@
 use Rattle.std.proofs.Common.{arith, subst}
-use Rattle.std.specs.Arc.{arc_value}
 use Rattle.call_tree.specs.Nodes.{AreAlike}
 use Rattle.call_tree.proofs.Weighing.{AreAlike-all}
 use Rattle.call_tree.proofs.nodes.Nodes.facts.Goals as goal
 
 pub returns : goal.returns
-returns c = subst AreAlike c.self.view_is (AreAlike-all (arc_value c.self.inside.links) c.self.inside.weights.items
+returns c = subst AreAlike c.self.view_is (AreAlike-all c.self.inside.links c.self.inside.weights.items
     (omega (arith, c.self.invariant.0, c.self.invariant.1)))

@@ -1,11 +1,9 @@
 use Rattle.std.proofs.Common.{length, arith, sym, ap, ◌∙◌}
-use Rattle.std.specs.Arc.{arc_value}
 use Rattle.call_tree.specs.Nodes.{nodes_of}
 use Rattle.call_tree.proofs.Weighing.{length-nodes_of}
 use Rattle.call_tree.proofs.nodes.Nodes.len.Goals as goal
 
 pub returns : goal.returns
-returns c = c.len.ensures ∙ ap length c.deref.ensures
-    ∙ sym (length-nodes_of (arc_value c.self.inside.links) c.self.inside.weights.items 0
+returns c = c.len.ensures ∙ sym (length-nodes_of c.self.inside.links c.self.inside.weights.items 0
     (omega (arith, c.self.invariant.0, c.self.invariant.1)))
     ∙ ap (λ all. length (nodes_of all 0)) c.self.view_is

@@ -11,5 +11,5 @@ returns c =
     let count : length tables ≡ c.args.width = omega
     (arith, c.loop.invariant.0, c.loop-test.false, c.get-end.ensures.count, some, c.loop.auto.counter-end) in (
       length-map tables (weighed _) ∙ count,
-      nodes_of-none _ tables (c.in_ok-links.ensures.ok ∙ c.new-2.ensures),
+      nodes_of-none _ tables c.in_ok-links.ensures,
     )

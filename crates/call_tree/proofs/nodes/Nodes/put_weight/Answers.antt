@@ -1,13 +1,12 @@
 use Rattle.std.proofs.Common.{ap, ◌∙◌}
 use Rattle.std.proofs.lemmas.List.{length-set}
-use Rattle.std.specs.Arc.{arc_value}
 use Rattle.call_tree.specs.Nodes.{nodes_of}
 use Rattle.call_tree.proofs.Weighing.{in_tables, in_table, others_put, weight_put, tables_put}
 use Rattle.call_tree.proofs.nodes.Nodes.put_weight.Goals as goal
 
 pub replace-requires-clause-within : goal.replace-requires-clause-within
 replace-requires-clause-within c =
-    let links = arc_value c.self.inside.links in
+    let links = c.self.inside.links in
     let tables = c.self.inside.weights.items in
     let lt = in_tables links tables c.args.self.now c.self.view_is c.args.value c.requires.value in
     in_table links tables c.args.self.now c.self.view_is c.args.value c.args.slot lt c.requires.within
@@ -15,7 +14,7 @@ replace-requires-clause-within c =
 
 pub invariant_of-self-2 : goal.invariant_of-self-2
 invariant_of-self-2 c =
-    let links = arc_value c.self.inside.links in
+    let links = c.self.inside.links in
     let tables = c.self.inside.weights.items in
     let lt = in_tables links tables c.args.self.now c.self.view_is c.args.value c.requires.value in (
       c.self.invariant.0,
@@ -27,7 +26,7 @@ invariant_of-self-2 c =
 
 pub returns-clause-here : goal.returns-clause-here
 returns-clause-here c =
-    let links = arc_value c.self.inside.links in
+    let links = c.self.inside.links in
     let tables = c.self.inside.weights.items in
     let lt = in_tables links tables c.args.self.now c.self.view_is c.args.value c.requires.value in
     weight_put links tables c.args.self.now c.self.view_is c.args.value c.args.slot lt c.requires.within
@@ -36,5 +35,5 @@ returns-clause-here c =
 
 pub returns-clause-others : goal.returns-clause-others
 returns-clause-others c = λ other ne.
-    others_put (arc_value c.self.inside.links) c.self.inside.weights.items c.args.value other c.replace.new.self ne
+    others_put c.self.inside.links c.self.inside.weights.items c.args.value other c.replace.new.self ne
     ∙ ap (λ all. nodes_of all other) c.self.view_is

@@ -1,20 +1,18 @@
-use Rattle.std.proofs.Common.{length, get_or, arith, sym, ap, ◌∙◌}
-use Rattle.std.specs.Arc.{arc_value}
+use Rattle.std.proofs.Common.{sym, ap, ◌∙◌}
 use Rattle.call_tree.specs.Nodes.{linked}
 use Rattle.call_tree.proofs.Weighing.{in_tables, in_links, in_table, node_is, weight_read}
 use Rattle.call_tree.proofs.nodes.Nodes.read.Goals as goal
 
 pub read-link-requires : goal.read-link-requires
 read-link-requires c =
-    let links = arc_value c.self.inside.links in
+    let links = c.self.inside.links in
     let tables = c.self.inside.weights.items in
     let lt = in_tables links tables c.args.self.now c.self.view_is c.args.value c.requires.value in
-    let within = in_links links tables c.args.self.now c.self.view_is c.args.value c.args.slot lt c.requires.within in
-    omega (arith, within, ap length c.deref.ensures)
+    in_links links tables c.args.self.now c.self.view_is c.args.value c.args.slot lt c.requires.within
 
 pub read-requires : goal.read-requires
 read-requires c =
-    let links = arc_value c.self.inside.links in
+    let links = c.self.inside.links in
     let tables = c.self.inside.weights.items in
     let lt = in_tables links tables c.args.self.now c.self.view_is c.args.value c.requires.value in
     in_table links tables c.args.self.now c.self.view_is c.args.value c.args.slot lt c.requires.within
@@ -22,11 +20,11 @@ read-requires c =
 
 pub returns : goal.returns
 returns c =
-    let links = arc_value c.self.inside.links in
+    let links = c.self.inside.links in
     let tables = c.self.inside.weights.items in
     let link = c.read-link.result.now in
     let lt = in_tables links tables c.args.self.now c.self.view_is c.args.value c.requires.value in
     ap (λ weight. linked link weight) (weight_read links tables c.args.self.now c.self.view_is c.args.value c.args.slot
     lt c.requires.within c.self.invariant.2 c.index.result.now c.index.ensures c.read.result.now c.read.ensures)
     ∙ sym (node_is links tables c.args.self.now c.self.view_is c.args.value c.args.slot lt c.requires.within link
-    (c.read-link.ensures ∙ ap (λ ls. get_or ls c.args.slot link) c.deref.ensures))
+    c.read-link.ensures)

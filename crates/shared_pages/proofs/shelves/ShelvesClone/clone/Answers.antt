@@ -2,7 +2,7 @@ use Rattle.std.proofs.Common.{◌≡◌, sym, ap, ◌∙◌, subst}
 use Rattle.std.specs.Arc.{arc_value}
 use Rattle.shared_pages.specs.Pages.{AreShelves, joined, shelves_of}
 use Rattle.shared_pages.proofs.Cloning.{clones_same}
-use Rattle.shared_pages.proofs.shelves.Shelves.share.Goals as goal
+use Rattle.shared_pages.proofs.shelves.ShelvesClone.clone.Goals as goal
 
 pub invariant_of-result : goal.invariant_of-result
 invariant_of-result g c =
@@ -16,4 +16,4 @@ returns g c =
     let same : shelves_of c.in_ok-clone.field-0.items ≡ shelves_of c.self.inside.shelves.items =
     clones_same (λ shelf. arc_value shelf) _ c.self.inside.shelves.items c.in_ok-clone.field-0.items
     (λ x y r. r) c.in_ok-clone.ensures.cases.0 in
-    ap joined same ∙ c.self.view_is
+    record { cases = ap joined same ∙ c.self.view_is }

@@ -27,7 +27,7 @@ use Rattle.profile_rows.proofs.InOrder.{rows_of-aggregate}
 use Rattle.profile_rows.proofs.MergedRows.{AddsRow-added, AreIndexedBy-added, AreIndexedBy-push}
 use Rattle.profile_rows.proofs.RowLaws.{aggregate_of-same, stack_cmp_apart, stack_cmp_total}
 use Rattle.profile_rows.proofs.SameNames.{is_same_name-self, same_from_is_same_name}
-use Rattle.folded_text.specs.FoldedText.{folded_text_of, frames_of, row_text, rows_text}
+use Rattle.folded_text.specs.FoldedText.{frames_of, row_text, rows_text}
 use Rattle.folded_text.specs.StackOrder.{IsJoined}
 use Rattle.profile_rows.specs.StackTexts.{TextState}
 use Rattle.folded_text.specs.TextRows.{AreKnownTexts, AreTextRows, IsStackText, by_text, one_if_known}
@@ -333,13 +333,6 @@ spelled-sorted rows sorted texts moved up =
     (weighty sorted (recursion_from_All (λ (row : TextState). 0 < row.weight) sorted after.weighty)) in
     sym (rows_of-aggregate (spelled_rows sorted) (ascending sorted after up) some)
     ∙ ap rows_of (spelled-moved rows sorted moved).0
-
--- the lines of the rows in the order of their texts are the folded report
-pub lines-sorted : (rows sorted : List TextState) → AreTextRows rows
-    → IsPermutation rows sorted → IsSorted by_text sorted → text_lines sorted ≡ folded_text_of (spelled_rows rows)
-lines-sorted rows sorted texts moved up =
-    lines-joined sorted (AreTextRows-moved rows sorted moved texts).joined
-    ∙ ap rows_text (spelled-sorted rows sorted texts moved up)
 
 -- ---- what a focus and an ignored name leave of them
 

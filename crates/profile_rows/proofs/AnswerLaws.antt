@@ -22,6 +22,7 @@ use Rattle.profile_rows.proofs.RowLaws.{stack_cmp_total, stack_cmp_apart, aggreg
 use Rattle.profile_rows.proofs.EntryLaws.{weight_where-same, weight_where-rows_of}
 use Rattle.profile_rows.proofs.Members.{in_order-same}
 use Rattle.profile_rows.proofs.Ranking.{top_list_of-same}
+use Rattle.profile_rows.proofs.TextNumbers.{list_any-map}
 
 -- the rows of the aggregate add up to it again
 pub aggregate_of-rows_of : (rows : List WeightedStack) → aggregate_of (rows_of (aggregate_of rows)) ≡ aggregate_of rows
@@ -83,12 +84,6 @@ top_list_of-same_aggregate ranking count rows others same =
 
 -- ---- paths
 
--- a path is among the fronts of a stack that begins with it
-list_any-map : {A B : Type 0} (test : B → Bool) (f : A → B) (xs : List A)
-    → list_any test (map f xs) ≡ list_any (λ x. test (f x)) xs
-list_any-map test f [] = refl
-list_any-map test f (x ∷ xs) = ap (λ b. test (f x) || b) (list_any-map test f xs)
-
 list_any-never : {A : Type 0} (xs : List A) → list_any (λ x. false) xs ≡ false
 list_any-never [] = refl
 list_any-never (x ∷ xs) = list_any-never xs
@@ -100,6 +95,7 @@ list_any-after Less path paths = list_any-never paths
 list_any-after Equal path paths = refl
 list_any-after Greater path paths = list_any-never paths
 
+-- a path is among the fronts of a stack that begins with it
 list_any-prefixes : (path stack : List (List ℕ))
     → list_any (is_same_stack path) (prefixes stack) ≡ begins_with name_cmp path stack
 list_any-prefixes [] [] = refl

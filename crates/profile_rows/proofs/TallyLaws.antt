@@ -12,7 +12,7 @@ use Rattle.profile_rows.specs.declared.tallies.Tallies.{Tallies}
 use Rattle.profile_rows.specs.declared.tallies.Tally.{Tally}
 use Rattle.profile_rows.specs.declared.weighted_stacks.WeightedStack.{WeightedStack}
 use Rattle.profile_rows.specs.Names.{IsName, is_same_name}
-use Rattle.profile_rows.specs.Rows.{has_name, ends_with_name, weight_if, weight_where}
+use Rattle.profile_rows.specs.Rows.{has_name, ends_with_name, weight_if}
 use Rattle.profile_rows.specs.Tallies.{AreSingle, AreTalliesOf, IsNumberedStack, IsTallyOf, frame_counted, has_number}
 use Rattle.profile_rows.specs.Tallies.{leaf_counted, numbers_counted, row_counted, tally_at, tally_of}
 use Rattle.profile_rows.specs.TextTables.{names_at}
@@ -330,36 +330,6 @@ counted-none rows row names numbers old new are this total many counted =
     AreTalliesOf-counted rows row names old new this.named are total many (λ q.
     counted (number_in names q) ∙ row_counted-none row names numbers
     (old.total + row.weight) q (tally_of names old.names.items q) are.single this)
-
--- a row without weight leaves what each name weighs
-pub counted-weightless : (rows : List WeightedStack) (row : WeightedStack) (names : List (List ℕ)) (old new : Tallies)
-    → AreTalliesOf rows names old → row.weight ≡ 0
-    → new.total ≡ old.total + row.weight → new.names.items ≡ old.names.items → AreTalliesOf (rows ++ row ∷ []) names new
-counted-weightless rows row names old new are none total same = record {
-  single = are.single;
-  many = ap length same ∙ are.many;
-  each = λ q.
-      let before = are.each q in
-      let tally = ap (λ tallies. tally_of names tallies q) same in
-      record {
-        flat = ap (λ (t : Tally). t.flat) tally ∙ before.flat ∙ kept (ends_with_name q);
-        cumulative = ap (λ (t : Tally). t.cumulative) tally ∙ before.cumulative ∙ kept (has_name q);
-        numbered = let low =
-            before.numbered in let row_is = ap (λ (t : Tally). t.row) tally in omega (arith, low, row_is, total);
-        named = λ some. before.named (subst (λ n. 0 < n) (ap (λ (t : Tally). t.cumulative) tally) some);
-      };
-  total = total ∙ ap (λ n. n + row.weight) are.total ∙ sym (sum_by_push (λ (row : WeightedStack). row.weight) rows row);
-}
-  where
-    nothing : (b : Bool) → cond b row.weight 0 ≡ 0
-    nothing true = none
-    nothing false = refl
-
-    kept : (test : List (List ℕ) → Bool) → weight_where test rows ≡ weight_where test (rows ++ row ∷ [])
-    kept test =
-        let here = nothing (test row.stack) in
-        let more = weight_where-push test rows row in
-        omega arith
 
 -- ---- limits
 

@@ -1,22 +1,15 @@
 -- Where texts stand, as texts are added.
-use Rattle.std.proofs.Common.{◌≡◌, ℕ, zero, suc, ◌+◌, ◌<◌, ◌≤◌, true, false, cond, ◌||◌, List, [], ◌∷◌, ◌++◌, length}
-use Rattle.std.proofs.Common.{take, map, get_or, Option, Some, None, refl, sym, ap, ◌∙◌, arith}
-use Rattle.std.specs.Prelude.{is_some, slice_index_or, unwrap_or}
-use Rattle.std.specs.List.{list_any}
-use Rattle.std.specs.HashMap as hash
-use Rattle.std.specs.HashMap.{HashMap}
+use Rattle.std.proofs.Common.{◌≡◌, ℕ, zero, suc, ◌+◌, ◌<◌, ◌≤◌, Bool, true, false, cond, not, ◌||◌, List, [], ◌∷◌, ◌++◌, length}
+use Rattle.std.proofs.Common.{take, map, get_or, Some, None, refl, sym, ap, ◌∙◌, arith}
+use Rattle.std.specs.Prelude.{nat_lt, position, slice_index_or, unwrap_or}
+use Rattle.std.specs.List.{list_any, position_or_len}
 use Rattle.std.specs.Str.{bytes_eq}
-use Rattle.profile_rows.specs.declared.hashing.Hashing.{Hashing}
+use Rattle.indexmap.specs.IndexSet.{insert_key}
 use Rattle.std.proofs.lemmas.Bool.{false≢true}
 use Rattle.std.proofs.lemmas.List.{take_more, length-map, map-append}
-use Rattle.std.proofs.lemmas.Map.Text.{hash_map_updates_str}
 use denote.Ref.{Bor}
-use Rattle.profile_rows.specs.TextTables.{AreTextNumbers, number_in, with_text, with_texts}
+use Rattle.profile_rows.specs.TextTables.{number_in, with_text, with_texts}
 use Rattle.profile_rows.proofs.SameNames.{same_from_is_same_name, is_same_name-self}
-
--- what a map that has the numbers answers
-abbrev number_if_there : List (List ℕ) → List ℕ → Option ℕ
-number_if_there texts text = cond (list_any (bytes_eq text) texts) (Some (number_in texts text)) None
 
 pub number_in-le : (texts : List (List ℕ)) (text : List ℕ) → number_in texts text ≤ length texts
 number_in-le [] text = omega arith
@@ -95,61 +88,56 @@ turned a b none = elim (bytes_eq b a) as (λ t. bytes_eq b a ≡ t → t ≡ fal
   | false ↦ λ e. refl
 ] refl
 
-own_number : (texts : List (List ℕ)) (text : List ℕ)
-    → list_any (bytes_eq text) texts ≡ false → number_if_there (texts ++ text ∷ []) text ≡ Some (length texts)
-own_number texts text none =
-    ap (λ b. cond b (Some (number_in (texts ++ text ∷ []) text)) None)
-    (any_push texts text text ∙ ap (λ b. b || bytes_eq text text) none ∙ is_same_name-self text)
-    ∙ ap Some (number_at_end texts text none)
+-- where a text that is lent stands among others
+place_of_text : (items : List (Bor (List ℕ))) (text : List ℕ)
+    → position_or_len (λ (item : Bor (List ℕ)). bytes_eq text item.now) items
+    ≡ number_in (map (λ (item : Bor (List ℕ)). item.now) items) text
+place_of_text [] text = refl
+place_of_text (first ∷ items) text =
+    let rest = place_of_text items text in
+    elim (bytes_eq text first.now) as (λ b. cond (not b)
+    (1 + position_or_len (λ (item : Bor (List ℕ)). bytes_eq text item.now) items) 0
+    ≡ cond b 0 (number_in (map (λ (item : Bor (List ℕ)). item.now) items) text + 1)) [
+      | true ↦ refl
+      | false ↦ omega (arith, rest)
+    ]
 
-other_number : (texts : List (List ℕ)) (text q : List ℕ)
-    → bytes_eq q text ≡ false → number_if_there (texts ++ text ∷ []) q ≡ number_if_there texts q
-other_number texts text q apart =
-    ap (λ b. cond b (Some (number_in (texts ++ text ∷ []) q)) None)
-    (any_push texts text q ∙ ap (λ b. list_any (bytes_eq q) texts || b) apart)
-    ∙ elim (list_any (bytes_eq q) texts) as (λ b. list_any (bytes_eq q) texts ≡ b
-    → cond (b || false) (Some (number_in (texts ++ text ∷ []) q)) None ≡ cond b (Some (number_in texts q)) None) [
-      | true ↦ λ e. ap Some (number_in-more texts (text ∷ []) q e)
-      | false ↦ λ e. refl
+-- what a set of texts answers for a text
+pub number_answered : (items : List (Bor (List ℕ))) (text : List ℕ)
+    → unwrap_or (position (λ (item : Bor (List ℕ)). bytes_eq text item.now) items) (length items)
+    ≡ number_in (map (λ (item : Bor (List ℕ)). item.now) items) text
+number_answered items text =
+    let place = place_of_text items text in
+    let most = number_in-le (map (λ (item : Bor (List ℕ)). item.now) items) text in
+    let long = length-map items (λ (item : Bor (List ℕ)). item.now) in
+    let at = position_or_len (λ (item : Bor (List ℕ)). bytes_eq text item.now) items in
+    elim (nat_lt at (length items)) as (λ b. nat_lt at (length items) ≡ b
+    → unwrap_or (cond b (Some at) None) (length items)
+    ≡ number_in (map (λ (item : Bor (List ℕ)). item.now) items) text) [
+      | true ↦ λ e. place
+      | false ↦ λ e. grind (arith, e, place, most, long)
     ] refl
 
--- a text that is new, put into the map
-pub AreTextNumbers-push : (texts : List (List ℕ)) (known after : HashMap (Bor (List ℕ)) ℕ Hashing)
-    (text : List ℕ) (at : ℕ) → at ≡ length texts → list_any (bytes_eq text) texts ≡ false
-    → hash.UpdatesBy (λ x y. bytes_eq x.now y.now) (λ k. bytes_eq text k.now) known after (Some at)
-    → AreTextNumbers texts known → AreTextNumbers (texts ++ text ∷ []) after
-AreTextNumbers-push texts known after text at end none updates numbers = λ q.
-    hash_map_updates_str text known after (Some at) updates q
-    ∙ elim (bytes_eq text q) as (λ b. bytes_eq text q ≡ b → cond b (Some at)
-    (hash.get_by (λ (key : Bor (List ℕ)). bytes_eq q key.now) known) ≡ number_if_there (texts ++ text ∷ []) q) [
-      | true ↦ λ e. ap Some end
-          ∙ sym (own_number texts text none) ∙ ap (number_if_there (texts ++ text ∷ []))
-          (same_from_is_same_name text q e)
-      | false ↦ λ e. numbers q ∙ sym (other_number texts text q (turned text q e))
-    ] refl
+pub list_any-map : {A B : Type 0} (test : B → Bool) (f : A → B) (xs : List A)
+    → list_any test (map f xs) ≡ list_any (λ x. test (f x)) xs
+list_any-map test f [] = refl
+list_any-map test f (x ∷ xs) = ap (λ b. test (f x) || b) (list_any-map test f xs)
 
-pub is_there : (texts : List (List ℕ)) (known : HashMap (Bor (List ℕ)) ℕ Hashing) (text : List ℕ)
-    → AreTextNumbers texts known
-    → is_some (hash.get_by (λ (key : Bor (List ℕ)). bytes_eq text key.now) known) ≡ list_any (bytes_eq text) texts
-is_there texts known text numbers = ap is_some (numbers text) ∙ elim (list_any (bytes_eq text) texts) as (λ b. is_some
-    (cond b (Some (number_in texts text)) None) ≡ b) [ true ↦ refl | false ↦ refl ]
-
-pub number_answered : (texts : List (List ℕ)) (known : HashMap (Bor (List ℕ)) ℕ Hashing) (text : List ℕ) (missing : ℕ)
-    → missing ≡ length texts → AreTextNumbers texts known
-    → unwrap_or (hash.get_by (λ (key : Bor (List ℕ)). bytes_eq text key.now) known) missing ≡ number_in texts text
-number_answered texts known text missing is numbers =
-    ap (λ o. unwrap_or o missing) (numbers text)
-    ∙ elim (list_any (bytes_eq text) texts) as (λ b. list_any (bytes_eq text) texts ≡ b
-    → unwrap_or (cond b (Some (number_in texts text)) None) missing ≡ number_in texts text) [
-      | true ↦ λ e. refl
-      | false ↦ λ e. is ∙ sym (number_in-missing texts text e)
-    ] refl
+-- a text that is lent, put into a set of others
+pub text_inserted : (items : List (Bor (List ℕ))) (item : Bor (List ℕ))
+    → map (λ (text : Bor (List ℕ)). text.now) (insert_key (λ (left right : Bor (List ℕ)). bytes_eq left.now right.now)
+    items item) ≡ with_text (map (λ (text : Bor (List ℕ)). text.now) items) item.now
+text_inserted items item =
+    let texts = map (λ (text : Bor (List ℕ)). text.now) items in
+    elim (list_any (λ (text : Bor (List ℕ)). bytes_eq item.now text.now) items)
+    as (λ b. map (λ (text : Bor (List ℕ)). text.now) (cond b items (items ++ item ∷ []))
+    ≡ cond b texts (texts ++ item.now ∷ [])) [
+      | true ↦ refl
+      | false ↦ map-append (λ (text : Bor (List ℕ)). text.now) items (item ∷ [])
+    ] ∙ ap (λ b. cond b texts (texts ++ item.now ∷ []))
+    (sym (list_any-map (bytes_eq item.now) (λ (text : Bor (List ℕ)). text.now) items))
 
 -- ---- texts added in turn
-
-pub with_text-new : (texts : List (List ℕ)) (text : List ℕ)
-    → list_any (bytes_eq text) texts ≡ false → with_text texts text ≡ texts ++ text ∷ []
-with_text-new texts text e = ap (λ b. cond b texts (texts ++ text ∷ [])) e
 
 pub with_texts-append : (texts more others : List (List ℕ))
     → with_texts texts (more ++ others) ≡ with_texts (with_texts texts more) others
@@ -186,15 +174,6 @@ there_inside texts text inside =
 pub with_text-there : (texts : List (List ℕ)) (text : List ℕ)
     → number_in texts text < length texts → with_text texts text ≡ texts
 with_text-there texts text inside = ap (λ b. cond b texts (texts ++ text ∷ [])) (there_inside texts text inside)
-
--- a text whose number is not before the end is missing
-pub none_at_end : (texts : List (List ℕ)) (text : List ℕ)
-    → length texts ≤ number_in texts text → list_any (bytes_eq text) texts ≡ false
-none_at_end texts text end =
-    elim (list_any (bytes_eq text) texts) as (λ b. list_any (bytes_eq text) texts ≡ b → b ≡ false) [
-      | true ↦ λ e. let inside = number_in-lt texts text e in absurd (omega (arith, end, inside))
-      | false ↦ λ e. refl
-    ] refl
 
 -- ---- a loop over texts that are lent
 

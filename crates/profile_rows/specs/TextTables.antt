@@ -1,10 +1,7 @@
 -- Distinct texts in the order in which they came.
-use Rattle.std.specs.Prelude.{ℕ, ◌≡◌, ◌+◌, List, [], ◌∷◌, ◌++◌, Some, None, if◌then◌else◌, map, slice_index_or}
+use Rattle.std.specs.Prelude.{ℕ, ◌+◌, List, [], ◌∷◌, ◌++◌, if◌then◌else◌, map, slice_index_or}
 use Rattle.std.specs.List.{list_any}
-use Rattle.std.specs.HashMap as hash
-use Rattle.std.specs.HashMap.{HashMap}
 use Rattle.std.specs.Str.{bytes_eq}
-use denote.Ref.{Bor}
 use Rattle.profile_rows.specs.declared.hashing.Hashing.{Hashing}
 
 -- the number of a text; where it is missing, how many texts there are
@@ -29,9 +26,3 @@ with_texts texts (text ∷ more) = with_texts (with_text texts text) more
 pub record NumberedTexts : Type 0 where
   pub texts : List (List ℕ)
   pub hashing : Hashing
-
--- the map has the number of each text, and nothing else
-abbrev pub AreTextNumbers : List (List ℕ) → HashMap (Bor (List ℕ)) ℕ Hashing → Type 0
-AreTextNumbers texts numbers = (text : List ℕ)
-    → hash.get_by (λ (key : Bor (List ℕ)). bytes_eq text key.now) numbers
-    ≡ (if list_any (bytes_eq text) texts then Some (number_in texts text) else None)

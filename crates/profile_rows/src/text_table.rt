@@ -1,35 +1,32 @@
 //! Texts that are numbered as they come.
 
 ghost use Rattle.std.specs.Prelude.{◌≡◌, ◌<◌, ◌^◌, [], IfOk, OnErr, OnOk, map};
-ghost use Rattle.profile_rows.specs.TextTables.{number_in, with_text, with_texts};
+ghost use Rattle.profile_rows.specs.TextTables.{number_in, with_text};
 
 use crate::hashing::Hashing;
 use basics::NoMemory;
+use indexmap::IndexSet;
 use std::alloc::Global;
-use std::collections::HashMap;
 use std::marker::Model;
 
 /// Distinct texts in the order in which they came, each found by its bytes. A contract sees the list of them, and how
 /// they are hashed.
 #[derive(Drop)]
 pub struct TextTable<'a> {
-    numbers: HashMap<&'a str, usize, Hashing>,
-    texts: Vec<&'a str>,
+    texts: IndexSet<&'a str, Hashing>,
 }
 
 impl<'a> Model for TextTable<'a> {
     ghost use Rattle.std.specs.Prelude.{map};
-    ghost use Rattle.std.specs.HashMap.{hasher_of};
-    ghost use Rattle.profile_rows.specs.TextTables.{AreTextNumbers, NumberedTexts};
+    ghost use Rattle.indexmap.specs.IndexSet.{hasher_of};
+    ghost use Rattle.profile_rows.specs.TextTables.{NumberedTexts};
 
     ghost Value = { NumberedTexts };
 
     ghost view = { λ table. record {
-      texts = map (λ text. text.now) table.texts.items;
-      hashing = hasher_of table.numbers;
+      texts = map (λ text. text.now) table.texts.keys;
+      hashing = hasher_of table.texts;
     } };
-
-    ghost invariant = { λ table. AreTextNumbers (map (λ text. text.now) table.texts.items) table.numbers };
 }
 
 impl<'a> TextTable<'a> {
@@ -39,8 +36,7 @@ impl<'a> TextTable<'a> {
         ensures hashing { result.hashing ≡ hashing }
     {
         TextTable {
-            numbers: HashMap::with_hasher(alloc, hashing),
-            texts: Vec::new(alloc),
+            texts: IndexSet::with_hasher(alloc, hashing),
         }
     }
 
@@ -48,8 +44,7 @@ impl<'a> TextTable<'a> {
     pub fn texts(&self) -> &[&'a str]
         ensures { map (λ text. text.now) result.now ≡ self.now.texts }
     {
-        let texts: &Vec<&'a str> = &self.texts;
-        texts.as_slice()
+        self.texts.as_slice()
     }
 
     /// The number of a text; where it is missing, how many texts there are.
@@ -58,8 +53,7 @@ impl<'a> TextTable<'a> {
         ensures number { result ≡ number_in self.now.texts text.now }
         ensures fits { result < 2 ^ 63 }
     {
-        let missing = self.texts().len();
-        self.numbers.get(text).copied().unwrap_or(missing)
+        self.texts.get_index_of(text).unwrap_or(self.texts.len())
     }
 
     /// The table with the text, which isn't added again where it is there.
@@ -70,16 +64,9 @@ impl<'a> TextTable<'a> {
     pub fn with(self, text: &'a str) -> Result<TextTable<'a>, NoMemory>
         ensures { IfOk result (λ table. table.texts ≡ with_text self.entry.texts text.now) }
     {
-        if self.numbers.contains_key(text) {
-            return Ok(self);
-        }
-        let TextTable {
-            mut numbers,
-            mut texts,
-        } = self;
-        numbers.insert(text, texts.as_slice().len())?;
-        texts.push(text)?;
-        Ok(TextTable { numbers, texts })
+        let mut table = self;
+        table.number_with(text)?;
+        Ok(table)
     }
 
     /// The number of a text, which is added where it is missing.
@@ -95,16 +82,9 @@ impl<'a> TextTable<'a> {
         ensures kept { OnErr result (self.new ≡ self.old) }
     {
         let number = self.number_of(text);
-        if number < self.texts().len() {
-            return Ok(number);
+        if number == self.texts.len() {
+            self.texts.insert(text)?;
         }
-        self.texts.push(text)?;
-        match self.numbers.insert(text, number) {
-            Ok(_) => Ok(number),
-            Err(_) => {
-                self.texts.pop();
-                Err(NoMemory)
-            }
-        }
+        Ok(number)
     }
 }

@@ -41,7 +41,7 @@ use Rattle.profile_samples.proofs.ExportLaws.{with_text-stands, with_texts-own, 
 use Rattle.profile_rows.proofs.NumberedRows.{none_single, single_with}
 use Rattle.profile_rows.proofs.TextNumbers.{number_in-kept}
 use Rattle.profile_samples.proofs.ItemsById.{item_with-found}
-use Rattle.profile_rows.proofs.TextNumbers.{number_in-lt, text_of_number}
+use Rattle.profile_rows.proofs.TextNumbers.{list_any-map, number_in-lt, text_of_number}
 
 -- ---- numbers of strings and functions
 
@@ -408,12 +408,6 @@ all_withs P start (number ∷ numbers) all more =
 
 -- ---- a location by numbers
 
-list_any-map : (names : List (List ℕ)) (q : List ℕ) (numbers : List ℕ)
-    → has_name q (names_at names numbers) ≡ list_any (λ number. is_same_name q (slice_index_or names number [])) numbers
-list_any-map names q [] = refl
-list_any-map names q (number ∷ numbers) =
-    ap (λ b. is_same_name q (slice_index_or names number []) || b) (list_any-map names q numbers)
-
 any_known : (names : List (List ℕ)) (q : List ℕ) (frames : List (List ℕ)) → AllStand names frames → list_any
     (λ number. is_same_name q (slice_index_or names number [])) (map (number_in names) frames) ≡ has_name q frames
 any_known names q [] all = refl
@@ -462,7 +456,8 @@ numbered names frame frames all = record {
       (map (number_in names) (frame ∷ frames)) tt (below names (frame ∷ frames) all)));
   same = λ q. ap (λ numbers. has_name q (names_at names numbers))
       (names_kept (map (number_in names) (frame ∷ frames)))
-      ∙ list_any-map names q (once_of (map (number_in names) (frame ∷ frames)))
+      ∙ list_any-map (is_same_name q) (λ number. slice_index_or names number [])
+      (once_of (map (number_in names) (frame ∷ frames)))
       ∙ any_withs (λ number. is_same_name q (slice_index_or names number [])) []
       (map (number_in names) (frame ∷ frames))
       ∙ any_known names q (frame ∷ frames) all;

@@ -1,7 +1,6 @@
 -- Each frame can be a name.
-use Rattle.std.proofs.Common.{◌<◌, ℕ, List, [], sym, subst}
+use Rattle.std.proofs.Common.{◌<◌, [], sym, subst}
 use Rattle.std.proofs.lemmas.List.{get_or-map, length-map}
-use denote.Ref.{Bor}
 use Rattle.profile_rows.specs.Names.{IsName}
 use Rattle.profile_rows.proofs.TextNumbers.{text_of}
 use Rattle.folded_text.proofs.row_names.known_name.Goals as goal

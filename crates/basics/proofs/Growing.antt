@@ -1,5 +1,5 @@
 -- Lists stay where they stand as others come.
-use Rattle.std.proofs.Common.{◌++◌, All, append_assoc, map, refl, ◌∷◌, List, ◌≡◌, ◌-◌, [], ap, ◌∙◌, arith, length, drop, sym, take}
+use Rattle.std.proofs.Common.{All, map, refl, ◌∷◌, List, ◌≡◌, ◌-◌, [], ap, ◌∙◌, arith, length, drop, sym, take}
 use Rattle.std.proofs.lemmas.List.{append-nil, drop-append-le, length-append, length-drop, take-append-le}
 use Rattle.std.proofs.lemmas.List.Elements.{All-head, All-tail}
 use Rattle.basics.specs.declared.spans.Span.{Span}
@@ -24,10 +24,6 @@ within_grown old new span (more, is) h =
     let inside = h.inside in
     let len = ap length is ∙ length-append old more in
     record { order = h.order; inside = omega (arith, inside, len) }
-
-pub grows_twice : {A : Type 0} (old mid new : List A) → Grows old mid → Grows mid new → Grows old new
-grows_twice old mid new (first, mid_is) (second, new_is) =
-    (first ++ second, new_is ∙ ap (λ items. items ++ second) mid_is ∙ append_assoc old first second)
 
 -- functions that agree on each item
 pub map_agreeing : {A B : Type 0} (f g : A → B) (items : List A) → All (λ item. f item ≡ g item) items

@@ -4,12 +4,13 @@ use Rattle.std.proofs.Common.{length-set, take-append-drop, Bool, true, false, c
 use Rattle.std.proofs.Common.{length, map, get_or, Option, Some, None, refl, sym, ap, ◌∙◌, subst, arith, All}
 use Rattle.std.specs.Prelude.{ℤ, pos, negsuc, MatchOption, is_some, not, reverse, slice_get, slice_index_or, unwrap_or}
 use Rattle.std.specs.Prelude.{if◌then◌else◌}
-use Rattle.std.specs.List.{AllByRecursion, IsDistinct, list_any}
+use Rattle.std.specs.List.{AllByRecursion, list_any}
 use Rattle.std.specs.Option.{option_and_then, option_map, option_or}
 use Rattle.std.specs.Str.{bytes_eq}
 use Rattle.std.proofs.lemmas.Bool.{cases_eq, cases_lt, false≢true, eqb-true, eq-eqb, ne_eqb}
 use Rattle.std.proofs.lemmas.List.{flat_map_more, get_or-set_other, get_or-set_same, get_or_past, length-map}
 use Rattle.std.proofs.lemmas.List.{reverse-append, take_more}
+use Rattle.std.proofs.lemmas.Option.{slice_get-map}
 use Rattle.std.proofs.lemmas.List.Elements.{All-from_recursion, All-set, All-weaker, recursion_from_All}
 use Rattle.std.proofs.lemmas.List.Folds.{length-flat_map-take, list_any-append}
 use Rattle.std.proofs.Math.Nat.{mul-suc}
@@ -22,7 +23,6 @@ use Rattle.pprof_profile.specs.Valid.{has_double}
 use Rattle.profile_rows.specs.Names.{cleaned_name_of, is_same_name}
 use Rattle.profile_rows.specs.Rows.{has_name}
 use Rattle.profile_rows.proofs.SameNames.{is_same_name-self}
-use Rattle.profile_samples.specs.FrameLists.{FrameNumbers, names_of}
 use Rattle.profile_samples.specs.Samples.{address_name, first_name, frames_at, frames_from, frames_of_id, frames_of_ids}
 use Rattle.profile_samples.specs.Samples.{function_name, item_with, line_name, location_frames, named_by}
 use Rattle.profile_samples.specs.Samples.{sample_stack_of, string_at}
@@ -33,7 +33,7 @@ use Rattle.profile_rows.proofs.TallyLaws.{has_number-push}
 use Rattle.profile_samples.specs.NameNumbers.{AreFrameNumbers, AreFunctionNumbers, address_names, address_of}
 use Rattle.profile_samples.specs.NameNumbers.{frame_names, index_in, is_at, is_name_of, lacks_name, names_function}
 use Rattle.profile_samples.specs.NameNumbers.{needs_address, string_names_from}
-use Rattle.profile_samples.specs.NameNumbers.{frame_numbers_of, given, line_number, location_numbers, number_at}
+use Rattle.profile_samples.specs.NameNumbers.{given, line_number, number_at}
 use Rattle.profile_samples.specs.NameNumbers.{number_by, number_of, numbers_of, numbers_of_id, once_of, string_names}
 use Rattle.profile_samples.specs.NameNumbers.{string_numbers, with_number, with_numbers}
 use Rattle.profile_samples.proofs.ExportLaws.{AllStand, stand_where, stands_in}
@@ -416,12 +416,6 @@ any_known names q (frame ∷ frames) all =
     (map (number_in names) frames)) (text_of_number names frame (number_in-lt names frame all.0))
     ∙ ap (λ b. is_same_name q frame || b) (any_known names q frames all.1)
 
--- where a location keeps no numbers apart, those of its frames are each once
-names_kept : (numbers : List ℕ) → names_of (frame_numbers_of numbers) ≡ once_of numbers
-names_kept [] = refl
-names_kept (number ∷ []) = refl
-names_kept (number ∷ next ∷ numbers) = refl
-
 -- the names at the numbers of names are these names
 named_again : (names frames : List (List ℕ)) → AllStand names frames
     → names_at names (map (number_in names) frames) ≡ frames
@@ -432,31 +426,28 @@ named_again names (frame ∷ frames) all =
     ∙ ap (λ more. frame ∷ more) (named_again names frames all.1)
 
 -- what numbers say of the frames whose they are
-pub record AreNumbersOf (names frames : List (List ℕ)) (numbers : FrameNumbers) : Type 0 where
-  pub depth : length numbers.all ≡ length frames
-  pub all_inside : All (λ number. number < length names) numbers.all
-  pub all_are : names_at names numbers.all ≡ frames
-  pub inside : All (λ number. number < length names) (names_of numbers)
-  pub same : (q : List ℕ) → has_name q (names_at names (names_of numbers)) ≡ has_name q frames
-  pub some : 0 < length numbers.all
-  pub leaf_inside : slice_index_or numbers.all 0 0 < length names
+pub record AreNumbersOf (names frames : List (List ℕ)) (numbers : List ℕ) : Type 0 where
+  pub depth : length numbers ≡ length frames
+  pub all_inside : All (λ number. number < length names) numbers
+  pub all_are : names_at names numbers ≡ frames
+  pub inside : All (λ number. number < length names) (once_of numbers)
+  pub same : (q : List ℕ) → has_name q (names_at names (once_of numbers)) ≡ has_name q frames
+  pub some : 0 < length numbers
+  pub leaf_inside : slice_index_or numbers 0 0 < length names
   pub callers : List (List ℕ)
-  pub leaf : frames ≡ slice_index_or names (slice_index_or numbers.all 0 0) [] ∷ callers
+  pub leaf : frames ≡ slice_index_or names (slice_index_or numbers 0 0) [] ∷ callers
 
 numbered : (names : List (List ℕ)) (frame : List ℕ) (frames : List (List ℕ)) → AllStand names (frame ∷ frames)
-    → AreNumbersOf names (frame ∷ frames) (frame_numbers_of (map (number_in names) (frame ∷ frames)))
+    → AreNumbersOf names (frame ∷ frames) (map (number_in names) (frame ∷ frames))
 numbered names frame frames all = record {
   depth = length-map (frame ∷ frames) (number_in names);
   all_inside = All-from_recursion (λ number. number < length names) (map (number_in names) (frame ∷ frames))
       (below names (frame ∷ frames) all);
   all_are = named_again names (frame ∷ frames) all;
-  inside = subst (All (λ number. number < length names)) (sym (names_kept (map (number_in names) (frame ∷ frames))))
-      (All-from_recursion (λ number. number < length names) (once_of (map (number_in names) (frame ∷ frames)))
+  inside = All-from_recursion (λ number. number < length names) (once_of (map (number_in names) (frame ∷ frames)))
       (all_withs (λ number. number < length names) []
-      (map (number_in names) (frame ∷ frames)) tt (below names (frame ∷ frames) all)));
-  same = λ q. ap (λ numbers. has_name q (names_at names numbers))
-      (names_kept (map (number_in names) (frame ∷ frames)))
-      ∙ list_any-map (is_same_name q) (λ number. slice_index_or names number [])
+      (map (number_in names) (frame ∷ frames)) tt (below names (frame ∷ frames) all));
+  same = λ q. list_any-map (is_same_name q) (λ number. slice_index_or names number [])
       (once_of (map (number_in names) (frame ∷ frames)))
       ∙ any_withs (λ number. is_same_name q (slice_index_or names number [])) []
       (map (number_in names) (frame ∷ frames))
@@ -470,33 +461,49 @@ numbered names frame frames all = record {
 location_numbered : (draft : Draft) (address : ℕ) (lines : List Line)
     → AllStand (frame_names draft) (frames_from draft.strings draft.functions address lines)
     → AreNumbersOf (frame_names draft) (frames_from draft.strings draft.functions address lines)
-    (frame_numbers_of (map (number_of draft) (frames_from draft.strings draft.functions address lines)))
+    (map (number_of draft) (frames_from draft.strings draft.functions address lines))
 location_numbered draft address [] all = numbered (frame_names draft) (address_name address) [] all
 location_numbered draft address (line ∷ lines) all =
     numbered (frame_names draft) (line_name draft.strings draft.functions address line)
     (map (line_name draft.strings draft.functions address) lines) all
 
 -- what was found by an id is what the frames of its location are by numbers
-abbrev pub IsFoundOf : Draft → List (List ℕ) → Option FrameNumbers → Type 0
+abbrev pub IsFoundOf : Draft → List (List ℕ) → Option (List ℕ) → Type 0
 IsFoundOf draft frames None = frames ≡ []
 IsFoundOf draft frames (Some numbers) = AreNumbersOf (frame_names draft) frames numbers
 
 found_in : (draft : Draft) (id : ℕ) (locations : List Location)
     → AllByRecursion (λ (location : Location). AllStand (frame_names draft) (location_frames draft location)) locations
     → IsFoundOf draft (frames_at draft (item_with (λ location. location.id) id locations))
-    (option_map (location_numbers draft) (item_with (λ location. location.id) id locations))
+    (option_map (numbers_of draft) (item_with (λ location. location.id) id locations))
 found_in draft id [] all = refl
 found_in draft id (location ∷ locations) all = elim (eqb location.id id) as (λ b. IsFoundOf draft
     (frames_at draft (cond b (Some location) (item_with (λ location. location.id) id locations)))
-    (option_map (location_numbers draft) (cond b (Some location) (item_with (λ location. location.id) id locations)))) [
+    (option_map (numbers_of draft) (cond b (Some location) (item_with (λ location. location.id) id locations)))) [
       | true ↦ location_numbered draft location.address location.lines all.0
       | false ↦ found_in draft id locations all.1
     ]
 
-pub found_numbers : (draft : Draft) (id : ℕ) (found : Option FrameNumbers)
+pub found_numbers : (draft : Draft) (id : ℕ) (found : Option (List ℕ))
     → found ≡ numbers_of_id draft id → IsFoundOf draft (frames_of_id draft id) found
 found_numbers draft id found is =
     subst (IsFoundOf draft (frames_of_id draft id)) (sym is) (found_in draft id draft.locations (locations_stand draft))
+
+-- so is what was found with each number once
+abbrev pub AreNamesOf : Draft → List (List ℕ) → Option (List ℕ) → Type 0
+AreNamesOf draft frames None = frames ≡ []
+AreNamesOf draft frames (Some names) = (numbers : List ℕ)
+    × (names ≡ once_of numbers) × AreNumbersOf (frame_names draft) frames numbers
+
+pub found_names : (draft : Draft) (id : ℕ) (found : Option (List ℕ))
+    → found ≡ option_map once_of (numbers_of_id draft id) → AreNamesOf draft (frames_of_id draft id) found
+found_names draft id found is =
+    subst (AreNamesOf draft (frames_of_id draft id)) (sym is)
+    (elim (numbers_of_id draft id) as (λ numbers. IsFoundOf draft (frames_of_id draft id) numbers
+    → AreNamesOf draft (frames_of_id draft id) (option_map once_of numbers)) [
+      | None ↦ λ none. none
+      | Some numbers ↦ λ this. (numbers, refl, this)
+    ] (found_numbers draft id (numbers_of_id draft id) refl))
 
 -- ---- what stands at an id
 
@@ -511,16 +518,21 @@ function_numbered draft ids numbers id found this h =
     (subst (λ (i : List ℕ). MatchOption found ((at : ℕ) → slice_get i at ≢ Some id) (λ at. slice_get i at ≡ Some id))
     this.ids_are h)
 
-pub location_numbered_at : (draft : Draft) (ids : List ℕ) (frames : List FrameNumbers)
-    (deepest : ℕ) (names : List (List ℕ)) (id : ℕ) (found : Option ℕ) → AreFrameNumbers draft ids frames deepest names
+pub numbers_at : (draft : Draft) (ids : List ℕ) (frames once : List (List ℕ)) (deepest : ℕ)
+    (names : List (List ℕ)) (id : ℕ) (found : Option ℕ) → AreFrameNumbers draft ids frames once deepest names
     → MatchOption found ((at : ℕ) → slice_get ids at ≢ Some id) (λ at. slice_get ids at ≡ Some id)
-    → item_with (λ location. location.id) id draft.locations
-    ≡ option_and_then (λ at. slice_get draft.locations at) found
-location_numbered_at draft ids frames deepest names id found this h =
-    item_with-found
+    → numbers_of_id draft id ≡ option_and_then (λ at. slice_get frames at) found
+numbers_at draft ids frames once deepest names id found this h =
+    ap (option_map (numbers_of draft)) (item_with-found
     (λ location. location.id) draft.locations id found (subst (λ i. has_double i ≡ false) this.ids_are this.single)
     (subst (λ (i : List ℕ). MatchOption found ((at : ℕ) → slice_get i at ≢ Some id) (λ at. slice_get i at ≡ Some id))
-    this.ids_are h)
+    this.ids_are h))
+    ∙ elim found as (λ f. option_map (numbers_of draft) (option_and_then (λ at. slice_get draft.locations at) f)
+    ≡ option_and_then (λ at. slice_get frames at) f) [
+      | None ↦ refl
+      | Some at ↦ sym (ap (λ lists. slice_get lists at) this.frames_are
+          ∙ slice_get-map (numbers_of draft) draft.locations at)
+    ]
 
 -- the numbers of lines, where there are some
 map_twice : (draft : Draft) (address : ℕ) (lines : List Line) → map (line_number draft address) lines
@@ -550,10 +562,10 @@ pub frames-more : (draft : Draft) (ids : List ℕ) (i : ℕ) → i < length ids
 frames-more draft ids i lt = ap (frames_of_ids draft) (take_more ids i 0 lt)
     ∙ sym (flat_map_more (frames_of_id draft) [] (take i ids) (get_or ids i 0))
 
-pub room_left : (draft : Draft) (ids : List ℕ) (i room : ℕ) (numbers : FrameNumbers) → i < length ids
-    → AreNumbersOf (frame_names draft) (frames_of_id draft (get_or ids i 0)) numbers → length numbers.all ≤ room
+pub room_left : (draft : Draft) (ids : List ℕ) (i room : ℕ) (numbers : List ℕ) → i < length ids
+    → AreNumbersOf (frame_names draft) (frames_of_id draft (get_or ids i 0)) numbers → length numbers ≤ room
     → room + length (frames_of_ids draft (take i ids)) ≡ 65535
-    → (room - length numbers.all) + length (frames_of_ids draft (take (i + 1) ids)) ≡ 65535
+    → (room - length numbers) + length (frames_of_ids draft (take (i + 1) ids)) ≡ 65535
 room_left draft ids i room numbers lt this low earlier =
     let depth = this.depth in
     let more = ap length (frames-more draft ids i lt)
@@ -569,8 +581,8 @@ room_same draft ids i room lt none earlier =
     ∙ length-append (frames_of_ids draft (take i ids)) (frames_of_id draft (get_or ids i 0)) in
     omega (arith, empty, more, earlier)
 
-pub room_short : (draft : Draft) (ids : List ℕ) (i room : ℕ) (numbers : FrameNumbers) → i < length ids
-    → AreNumbersOf (frame_names draft) (frames_of_id draft (get_or ids i 0)) numbers → room < length numbers.all
+pub room_short : (draft : Draft) (ids : List ℕ) (i room : ℕ) (numbers : List ℕ) → i < length ids
+    → AreNumbersOf (frame_names draft) (frames_of_id draft (get_or ids i 0)) numbers → room < length numbers
     → room + length (frames_of_ids draft (take i ids)) ≡ 65535 → 65535 < length (frames_of_ids draft ids)
 room_short draft ids i room numbers lt this low earlier =
     let depth = this.depth in
@@ -694,7 +706,7 @@ texts_named P front back all rest =
 -- ---- the deepest location
 
 deepest_bounds : (draft : Draft) (deepest : ℕ) (locations : List Location)
-    → AllByRecursion (λ (frames : FrameNumbers). length frames.all ≤ deepest) (map (location_numbers draft) locations)
+    → AllByRecursion (λ (numbers : List ℕ). length numbers ≤ deepest) (map (numbers_of draft) locations)
     → (id : ℕ) → length (frames_at draft (item_with (λ (location : Location). location.id) id locations)) ≤ deepest
 deepest_bounds draft deepest [] all id = omega arith
 deepest_bounds draft deepest (location ∷ locations) all id =
@@ -706,14 +718,14 @@ deepest_bounds draft deepest (location ∷ locations) all id =
     ]
 
 -- a location has no more frames than the deepest
-pub within_deepest : (draft : Draft) (ids : List ℕ) (frames : List FrameNumbers) (deepest : ℕ) (names : List (List ℕ))
-    → AreFrameNumbers draft ids frames deepest names
+pub within_deepest : (draft : Draft) (ids : List ℕ) (frames once : List (List ℕ)) (deepest : ℕ)
+    (names : List (List ℕ)) → AreFrameNumbers draft ids frames once deepest names
     → (id : ℕ) → length (frames_of_id draft id) ≤ deepest
-within_deepest draft ids frames deepest names this id =
+within_deepest draft ids frames once deepest names this id =
     deepest_bounds draft deepest draft.locations
     (recursion_from_All
-    (λ (frames : FrameNumbers). length frames.all ≤ deepest) (map (location_numbers draft) draft.locations)
-    (subst (All (λ (frames : FrameNumbers). length frames.all ≤ deepest)) this.frames_are this.depths)) id
+    (λ (numbers : List ℕ). length numbers ≤ deepest) (map (numbers_of draft) draft.locations)
+    (subst (All (λ (numbers : List ℕ). length numbers ≤ deepest)) this.frames_are this.depths)) id
 
 -- so many locations have no more frames than so many of the deepest
 pub all_within : (draft : Draft) (deepest : ℕ) → ((id : ℕ) → length (frames_of_id draft id) ≤ deepest)

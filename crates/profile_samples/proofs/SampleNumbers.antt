@@ -13,10 +13,9 @@ use Rattle.profile_rows.specs.Rows.{has_name}
 use Rattle.profile_rows.specs.Tallies.{IsNumberedStack}
 use Rattle.profile_rows.specs.TextTables.{names_at}
 use Rattle.profile_rows.proofs.TallyLaws.{named_in}
-use Rattle.profile_samples.specs.FrameLists.{FrameNumbers, names_of}
 use Rattle.profile_samples.specs.Samples.{frames_at, frames_of_id, frames_of_ids, item_with, location_frames}
 use Rattle.profile_samples.specs.Samples.{sample_stack_of}
-use Rattle.profile_samples.specs.NameNumbers.{frame_names}
+use Rattle.profile_samples.specs.NameNumbers.{frame_names, once_of}
 use Rattle.profile_samples.specs.CountedSamples.{AreNumbersOfIds}
 use Rattle.profile_samples.proofs.ExportLaws.{AllStand}
 use Rattle.profile_samples.proofs.FrameNumbers.{AreNumbersOf, frames-more, locations_stand}
@@ -24,22 +23,22 @@ use Rattle.profile_samples.proofs.FrameNumbers.{AreNumbersOf, frames-more, locat
 -- ---- locations, one after the other
 
 -- one location more
-pub numbers_more : (draft : Draft) (ids : List ℕ) (i : ℕ) (numbers : FrameNumbers) (before lent after : List ℕ)
-    → i < length ids → lent ≡ names_of numbers
+pub numbers_more : (draft : Draft) (ids : List ℕ) (i : ℕ) (numbers before lent after : List ℕ)
+    → i < length ids → lent ≡ once_of numbers
     → AreNumbersOf (frame_names draft) (frames_of_id draft (get_or ids i 0)) numbers
     → AreNumbersOfIds draft (take i ids) before
     → after ≡ before ++ lent → AreNumbersOfIds draft (take (i + 1) ids) after
 numbers_more draft ids i numbers before lent after lt lent_is this so_far more =
     let names = frame_names draft in
-    let is : after ≡ before ++ names_of numbers = more ∙ ap (λ ns. before ++ ns) lent_is in
+    let is : after ≡ before ++ once_of numbers = more ∙ ap (λ ns. before ++ ns) lent_is in
     record {
       inside = subst (All (λ number. number < length names))
-          (sym is) (All-append (λ number. number < length names) before (names_of numbers) so_far.inside this.inside);
+          (sym is) (All-append (λ number. number < length names) before (once_of numbers) so_far.inside this.inside);
       same = λ q.
           ap (λ ns. has_name q (names_at names ns)) is
-          ∙ ap (has_name q) (map-append (λ number. slice_index_or names number []) before (names_of numbers))
-          ∙ list_any-append (is_same_name q) (names_at names before) (names_at names (names_of numbers))
-          ∙ ap (λ b. b || has_name q (names_at names (names_of numbers))) (so_far.same q)
+          ∙ ap (has_name q) (map-append (λ number. slice_index_or names number []) before (once_of numbers))
+          ∙ list_any-append (is_same_name q) (names_at names before) (names_at names (once_of numbers))
+          ∙ ap (λ b. b || has_name q (names_at names (once_of numbers))) (so_far.same q)
           ∙ ap (λ b. has_name q (frames_of_ids draft (take i ids)) || b) (this.same q)
           ∙ sym (list_any-append
           (is_same_name q) (frames_of_ids draft (take i ids)) (frames_of_id draft (get_or ids i 0)))

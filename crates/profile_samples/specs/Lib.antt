@@ -2,7 +2,6 @@ pub mod Batches
 pub mod CountedSamples
 pub mod EqualStrings
 pub mod Export
-pub mod FrameLists
 pub mod IdIndex
 pub mod MergedSamples
 pub mod NameNumbers

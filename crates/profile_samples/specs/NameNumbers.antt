@@ -9,7 +9,6 @@ use Rattle.pprof_profile.specs.declared.messages.Location.{Location}
 use Rattle.pprof_profile.specs.declared.messages.Line.{Line}
 use Rattle.pprof_profile.specs.Valid.{function_ids, has_double, location_ids}
 use Rattle.profile_rows.specs.Names.{IsName, cleaned_name_of}
-use Rattle.profile_samples.specs.FrameLists.{FrameNumbers, is_single}
 use Rattle.profile_samples.specs.declared.string_names.GivenName.{GivenName}
 use Rattle.profile_samples.specs.declared.string_names.GivenName.TheVariants.{Missing, Plain, Made}
 use Rattle.profile_samples.specs.Samples.{address_name, function_name, item_with, line_name, location_frames}
@@ -130,27 +129,17 @@ with_numbers numbers (number ∷ more) = with_numbers (with_number numbers numbe
 abbrev pub once_of : List ℕ → List ℕ
 once_of numbers = with_numbers [] numbers
 
--- the number of each frame, and the number of each name once, which isn't kept of a frame alone
-abbrev pub frame_numbers_of : List ℕ → FrameNumbers
-frame_numbers_of numbers = record {
-  all = numbers;
-  once = if is_single numbers then [] else once_of numbers;
-}
-
--- the frames of a location by the numbers of their names
-abbrev pub location_numbers : Draft → Location → FrameNumbers
-location_numbers draft location = frame_numbers_of (numbers_of draft location)
-
--- the location that an id names, by numbers
-abbrev pub numbers_of_id : Draft → ℕ → Option FrameNumbers
-numbers_of_id draft id = option_map (location_numbers draft) (item_with (λ location. location.id) id draft.locations)
+-- those of the location that an id names
+abbrev pub numbers_of_id : Draft → ℕ → Option (List ℕ)
+numbers_of_id draft id = option_map (numbers_of draft) (item_with (λ location. location.id) id draft.locations)
 
 -- the frames of the profile's locations by numbers, and what they number
-pub record AreFrameNumbers (draft : Draft) (ids : List ℕ) (frames : List FrameNumbers)
+pub record AreFrameNumbers (draft : Draft) (ids : List ℕ) (frames once : List (List ℕ))
     (deepest : ℕ) (names : List (List ℕ)) : Type 0 where
   pub ids_are : ids ≡ location_ids draft
   pub single : has_double ids ≡ false
-  pub frames_are : frames ≡ map (location_numbers draft) draft.locations
-  pub depths : All (λ (frames : FrameNumbers). length frames.all ≤ deepest) frames
+  pub frames_are : frames ≡ map (numbers_of draft) draft.locations
+  pub once_are : once ≡ map once_of frames
+  pub depths : All (λ (numbers : List ℕ). length numbers ≤ deepest) frames
   pub names_are : names ≡ frame_names draft
   pub each : All IsName (frame_names draft)

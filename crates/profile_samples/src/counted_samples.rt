@@ -30,8 +30,8 @@ fn gather_numbers(
 {
     numbers.clear();
     for id in ids {
-        if let Some(found) = frames.frames_of(*id) {
-            push_numbers(numbers, found.names())?;
+        if let Some(names) = frames.names_of(*id) {
+            push_numbers(numbers, names)?;
         }
     }
     Ok(())

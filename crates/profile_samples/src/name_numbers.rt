@@ -6,9 +6,9 @@ ghost use Rattle.std.specs.Option.{option_map};
 ghost use Rattle.profile_rows.specs.Names.{IsName};
 ghost use Rattle.profile_samples.specs.Samples.{frames_of_ids, sample_stack_of};
 ghost use Rattle.profile_rows.specs.TextTables.{number_in, with_texts};
-ghost use Rattle.profile_samples.specs.NameNumbers.{address_of, frame_names, frame_numbers_of, given, location_numbers, name_in, number_of, numbers_of, numbers_of_id, once_of};
+ghost use Rattle.profile_samples.specs.NameNumbers.{address_of, frame_names, given, name_in, number_of, numbers_of, numbers_of_id, once_of};
 
-use crate::frame_lists::{FrameLists, FrameRef};
+use crate::frame_lists::FrameLists;
 use crate::function_numbers::FunctionNumbers;
 use crate::id_index::IdIndex;
 use crate::string_names::{GivenName, string_names};
@@ -112,60 +112,51 @@ fn location_ids(alloc: Global, locations: &[Location]) -> Result<Vec<u64>, Alloc
     locations.iter().map(|location| location.id).collect(alloc)
 }
 
-/// The numbers of a location's names each once, where it has several frames.
-fn once_of_several(
-    alloc: Global,
-    numbers: &[usize],
-    marks: &mut Vec<usize>,
-    mark: usize,
-) -> Result<Vec<usize>, AllocError>
-    requires inside { All (λ number. number < length marks.old.items) numbers.now }
-    requires marked { 0 < mark }
-    requires fresh { All (λ before. before < mark) marks.old.items }
-    ensures once { IfOk result (λ once.
-        (record { all = numbers.now; once = once.items }) ≡ frame_numbers_of numbers.now) }
-    ensures count { OnOk result (length marks.new.items ≡ length marks.old.items) }
-    ensures marked { OnOk result (All (λ before. before ≤ mark) marks.new.items) }
-{
-    if numbers.len() == 1 {
-        return Ok(Vec::new(alloc));
-    }
-    each_once(alloc, numbers, marks, mark)
-}
-
-/// The frames of locations, by the numbers of their addresses. Locations are marked from 1.
+/// The frames of locations, leaf first, by the numbers of their addresses.
 fn all_frames(
     alloc: Global,
     functions: &FunctionNumbers,
     locations: &[Location],
     addresses: &[Option<usize>],
-    mut marks: Vec<usize>,
 ) -> Result<FrameLists, NoMemory>
-    requires addresses { addresses.now
+    requires { addresses.now
         ≡ map (option_map (number_of functions.now)) (map (address_of functions.now) locations.now) }
-    requires count { length marks.items ≡ length (frame_names functions.now) }
-    requires unmarked { All (λ mark. mark ≡ 0) marks.items }
-    requires named { All (λ location. All (λ number. number < length (frame_names functions.now))
-        (numbers_of functions.now location)) locations.now }
-    ensures { IfOk result (λ frames. frames ≡ map (location_numbers functions.now) locations.now) }
+    ensures { IfOk result (λ frames. frames ≡ map (numbers_of functions.now) locations.now) }
 {
     let mut frames = FrameLists::with_capacity(alloc, locations.len())?;
     for (at, location) in locations.iter().enumerate() {
         let address = addresses[at].unwrap_or(0);
         let numbers = functions.numbers_of(alloc, location, address)?;
-        let once = once_of_several(alloc, numbers.as_slice(), &mut marks, at + 1)?;
-        frames.push(numbers.as_slice(), once.as_slice())?;
+        frames.push(numbers.as_slice())?;
     }
     Ok(frames)
 }
 
+/// The numbers of each list, each once. Lists are marked from 1.
+fn all_once(
+    alloc: Global,
+    frames: &FrameLists,
+    mut marks: Vec<usize>,
+) -> Result<FrameLists, NoMemory>
+    requires inside { All (All (λ number. number < length marks.items)) frames.now }
+    requires unmarked { All (λ mark. mark ≡ 0) marks.items }
+    ensures { IfOk result (λ names. names ≡ map once_of frames.now) }
+{
+    let mut names = FrameLists::with_capacity(alloc, frames.len())?;
+    for at in 0..frames.len() {
+        let once = each_once(alloc, frames.at(at), &mut marks, at + 1)?;
+        names.push(once.as_slice())?;
+    }
+    Ok(names)
+}
+
 /// The most frames that a location has.
 fn deepest_of(locations: &FrameLists) -> usize
-    ensures { All (λ frames. length frames.all ≤ result) locations.now }
+    ensures { All (λ frames. length frames ≤ result) locations.now }
 {
     let mut deepest = 0;
     for index in 0..locations.len() {
-        let depth = locations.at(index).all().len();
+        let depth = locations.at(index).len();
         if depth > deepest {
             deepest = depth;
         }
@@ -179,7 +170,10 @@ fn deepest_of(locations: &FrameLists) -> usize
 pub(crate) struct NumberedFrames<'a> {
     draft: &'a Draft,
     indices: IdIndex,
+    /// The numbers of each location's frames, leaf first.
     frames: FrameLists,
+    /// Those numbers each once.
+    once: FrameLists,
     deepest: usize,
     names: Vec<Name>,
 }
@@ -193,7 +187,7 @@ impl<'a> Model for NumberedFrames<'a> {
     ghost view = { λ numbered. numbered.draft.now };
 
     ghost invariant = { λ numbered.
-        AreFrameNumbers numbered.draft.now numbered.indices numbered.frames numbered.deepest
+        AreFrameNumbers numbered.draft.now numbered.indices numbered.frames numbered.once numbered.deepest
         numbered.names.items };
 }
 
@@ -219,8 +213,9 @@ impl<'a> NumberedFrames<'a> {
         let addresses = address_names(alloc, &functions, locations)?;
         let table = with_given(table, addresses.as_slice())?;
         let numbers = given_numbers(alloc, &table, addresses.as_slice())?;
+        let frames = all_frames(alloc, &functions, locations, numbers.as_slice())?;
         let marks = vec![in alloc; 0; table.texts().len()]?;
-        let frames = all_frames(alloc, &functions, locations, numbers.as_slice(), marks)?;
+        let once = all_once(alloc, &frames, marks)?;
         let indices = IdIndex::new(alloc, hashing, location_ids(alloc, locations)?)?;
         let deepest = deepest_of(&frames);
         let names = copied_names(alloc, table.texts())?;
@@ -228,6 +223,7 @@ impl<'a> NumberedFrames<'a> {
             draft,
             indices,
             frames,
+            once,
             deepest,
             names,
         })
@@ -241,23 +237,20 @@ impl<'a> NumberedFrames<'a> {
         self.names.as_slice()
     }
 
-    /// The frames of the location that an id names.
+    /// The numbers of the frames of the location that an id names, leaf first.
     #[inline(always)]
-    pub fn frames_of(&self, id: u64) -> Option<FrameRef<'_>>
-        ensures { result ≡ numbers_of_id self.now id }
+    pub fn frames_of(&self, id: u64) -> Option<&[usize]>
+        ensures { option_map (λ numbers. numbers.now) result ≡ numbers_of_id self.now id }
     {
-        match self.indices.find(id) {
-            Some(at) => self.frames_at(at),
-            None => None,
-        }
+        self.frames.get(self.indices.find(id)?)
     }
 
-    /// The frames of the location at an index.
+    /// The numbers of the names of the location that an id names, each once.
     #[inline(always)]
-    fn frames_at(&self, at: usize) -> Option<FrameRef<'_>>
-        ensures { result ≡ option_map (location_numbers self.now) (slice_get self.now.locations at) }
+    pub fn names_of(&self, id: u64) -> Option<&[usize]>
+        ensures { option_map (λ names. names.now) result ≡ option_map once_of (numbers_of_id self.now id) }
     {
-        self.frames.get(at)
+        self.once.get(self.indices.find(id)?)
     }
 
     /// Whether locations have no more frames together than a stack can hold. So few that none can have more aren't
@@ -286,7 +279,7 @@ impl<'a> NumberedFrames<'a> {
         let mut room = MAX_DEPTH;
         for id in ids {
             if let Some(frames) = self.frames_of(*id) {
-                let depth = frames.all().len();
+                let depth = frames.len();
                 if depth > room {
                     return false;
                 }
@@ -304,7 +297,7 @@ impl<'a> NumberedFrames<'a> {
     {
         for id in ids {
             if let Some(frames) = self.frames_of(*id) {
-                return Some(frames.all()[0]);
+                return Some(frames[0]);
             }
         }
         None

@@ -44,7 +44,7 @@ impl<'a> NumberedFrames<'a> {
         let mut numbers = Vec::with_capacity(alloc, ids.len())?;
         for id in ids {
             if let Some(frames) = self.frames_of(*id) {
-                push_numbers(&mut numbers, frames.all())?;
+                push_numbers(&mut numbers, frames)?;
             }
         }
         Ok(numbers)

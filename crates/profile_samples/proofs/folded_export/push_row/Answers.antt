@@ -1,5 +1,6 @@
 -- The row's sample has the ids of its names, and its weight for its value.
-use Rattle.std.proofs.Common.{◌≡◌, ◌+◌, ◌<◌, ◌^◌, ℕ, ℤ, List, [], ◌∷◌, ◌++◌, arith, map, pos, reverse, refl, ap, ◌∙◌, subst}
+use Rattle.std.proofs.Common.{◌≡◌, ◌+◌, ◌<◌, ◌^◌, ℕ, ℤ, List, [], ◌∷◌, ◌++◌, arith, map, pos, reverse, refl, ap, ◌∙◌}
+use Rattle.std.proofs.Common.{subst}
 use Rattle.std.specs.Int.{w64}
 use Rattle.std.proofs.lemmas.Int.{to_z_pos}
 use Rattle.pprof_profile.specs.declared.messages.Sample.{Sample}
@@ -7,7 +8,6 @@ use Rattle.pprof_profile.specs.Canonical.{sample_bytes, samples_bytes, FitsEach,
 use Rattle.profile_samples.specs.Export.{exported_sample, id_in}
 use Rattle.profile_rows.specs.Values.{singles}
 use Rattle.profile_rows.specs.TextTables.{number_in, with_texts}
-use denote.Ref.{Bor}
 use Rattle.profile_samples.proofs.ExportedRows.{AreSamplesOf-push}
 use Rattle.profile_rows.proofs.TextNumbers.{text_of}
 use Rattle.profile_samples.proofs.folded_export.push_row.Goals as goal

@@ -1,24 +1,22 @@
 -- The next location's frames are no more than the deepest, or become it.
-use Rattle.std.proofs.Common.{◌≤◌, ◌++◌, ◌∷◌, [], length, ℕ, ap, sym, ◌∙◌, subst, take, arith, All}
+use Rattle.std.proofs.Common.{◌≤◌, ◌++◌, ◌∷◌, [], List, length, ℕ, ap, sym, ◌∙◌, subst, take, arith, All}
 use Rattle.std.proofs.lemmas.List.{take_all, take_more}
 use Rattle.std.proofs.lemmas.List.Elements.{All-push, All-weaker}
 use Rattle.std.proofs.lemmas.Option.{get_or_from_slice_get}
-use Rattle.profile_samples.specs.FrameLists.{FrameNumbers}
 use Rattle.profile_samples.proofs.name_numbers.deepest_of.Goals as goal
 use Rattle.profile_samples.proofs.name_numbers.deepest_of.Goals.{then-depth-deepest, else-depth-deepest}
 
-abbrev IsWithin : ℕ → FrameNumbers → Type 0
-IsWithin deepest frames = length frames.all ≤ deepest
+abbrev IsWithin : ℕ → List ℕ → Type 0
+IsWithin deepest frames = length frames ≤ deepest
 
 pub loop-index-preserved : goal.loop-index-preserved
 loop-index-preserved c =
     let all = c.args.locations.now in
     let index = c.loop-index.index in
-    let item = c.at.result in
+    let item = c.at-depth.result.now in
     let before = take index all in
     let next = take_more all index item (let lt = c.loop-index-test.true in let n = c.len-index-end.ensures in
-    omega (arith, lt, n)) ∙ ap (λ f. before ++ f ∷ []) (get_or_from_slice_get all index item item c.at.ensures) in
-    let depth = ap length c.all-depth.ensures in
+    omega (arith, lt, n)) ∙ ap (λ f. before ++ f ∷ []) (get_or_from_slice_get all index item item c.at-depth.ensures) in
     elim c.if-depth-deepest.branch [
       | then-depth-deepest w ↦
           let deeper = w.if-depth-deepest.true in
@@ -27,14 +25,14 @@ loop-index-preserved c =
           (All-push (IsWithin c.if-depth-deepest.deepest) before item
           (All-weaker (IsWithin c.loop-index.deepest) (IsWithin c.if-depth-deepest.deepest)
           (λ frames low. omega (arith, low, deeper, is)) before c.loop-index.invariant)
-          (omega (arith, is, depth)))
+          (omega (arith, is)))
       | else-depth-deepest w ↦
           let low = w.if-depth-deepest.false in
           let is = w.deepest-is in
           subst (All (IsWithin c.if-depth-deepest.deepest)) (sym next)
           (All-push (IsWithin c.if-depth-deepest.deepest) before item
           (subst (λ deepest. All (IsWithin deepest) before) (sym is) c.loop-index.invariant)
-          (omega (arith, low, is, depth)))
+          (omega (arith, low, is)))
     ]
 
 pub returns : goal.returns

@@ -1,5 +1,5 @@
 -- The next location's frames take room, where there is any.
-use Rattle.std.proofs.Common.{◌+◌, ◌-◌, Some, None, ap, ◌∙◌, get_or, length, subst, take, arith, ◌<◌, ◌≤◌}
+use Rattle.std.proofs.Common.{◌+◌, Some, None, ap, ◌∙◌, get_or, length, take, arith}
 use Rattle.std.proofs.lemmas.Bool.{false≢true}
 use Rattle.profile_samples.specs.Samples.{frames_of_ids}
 use Rattle.profile_samples.proofs.FrameNumbers.{found_numbers, room_left, room_same, room_short}
@@ -9,10 +9,9 @@ use Rattle.profile_samples.proofs.name_numbers.NumberedFrames.fit_these.Goals.{i
 pub returns-then-depth-room : goal.returns-then-depth-room
 returns-then-depth-room c =
     let id = get_or c.args.ids.now c.loop-id.id-index 0 in
-    let this = found_numbers c.args.self.now id (Some c.in-Some.frames) c.in-Some.ensures in
+    let this = found_numbers c.args.self.now id (Some c.in-Some.frames.now) c.in-Some.ensures in
     let deep = room_short c.args.self.now c.args.ids.now c.loop-id.id-index
-    c.loop-id.room c.in-Some.frames c.loop-id-test.true this
-    (subst (λ depth. c.loop-id.room < depth) (ap length c.all-depth.ensures) c.if-depth-room.true) c.loop-id.invariant in
+    c.loop-id.room c.in-Some.frames.now c.loop-id-test.true this c.if-depth-room.true c.loop-id.invariant in
     ((λ h. absurd (false≢true h)), (λ h. absurd (omega (arith, deep, h))))
 
 pub loop-id-preserved : goal.loop-id-preserved
@@ -22,11 +21,10 @@ loop-id-preserved c =
       | in-Some+else-depth-room w ↦
           let rest = length (frames_of_ids c.args.self.now (take (c.loop-id.id-index + 1) c.args.ids.now)) in
           ap (λ room. room + rest) w.room-is
-          ∙ ap (λ depth. (c.loop-id.room - depth) + rest) (ap length w.all-depth.ensures)
           ∙ room_left
-          c.args.self.now c.args.ids.now c.loop-id.id-index c.loop-id.room w.in-Some.frames c.loop-id-test.true
-          (found_numbers c.args.self.now id (Some w.in-Some.frames) w.in-Some.ensures)
-          (subst (λ depth. depth ≤ c.loop-id.room) (ap length w.all-depth.ensures) w.if-depth-room.false) c.loop-id.invariant
+          c.args.self.now c.args.ids.now c.loop-id.id-index c.loop-id.room w.in-Some.frames.now c.loop-id-test.true
+          (found_numbers c.args.self.now id (Some w.in-Some.frames.now) w.in-Some.ensures)
+          w.if-depth-room.false c.loop-id.invariant
       | in_default w ↦
           ap (λ room. room + length (frames_of_ids c.args.self.now (take (c.loop-id.id-index + 1) c.args.ids.now)))
           w.room-is

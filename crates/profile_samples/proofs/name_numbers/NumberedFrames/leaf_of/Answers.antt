@@ -1,22 +1,18 @@
 -- The first location that is there has the leaf.
-use Rattle.std.proofs.Common.{◌≡◌, ◌<◌, ◌++◌, ◌∷◌, [], ℕ, List, Some, None, ap, sym, ◌∙◌, get_or, length, subst}
-use Rattle.std.specs.Prelude.{reverse, slice_index_or}
-use Rattle.profile_samples.specs.NameNumbers.{frame_names}
+use Rattle.std.proofs.Common.{◌++◌, Some, None, ap, sym, ◌∙◌, get_or}
+use Rattle.std.specs.Prelude.{reverse}
 use Rattle.std.proofs.lemmas.List.{take_all}
-use Rattle.profile_samples.specs.Samples.{frames_of_id, frames_of_ids, sample_stack_of}
+use Rattle.profile_samples.specs.Samples.{frames_of_id, frames_of_ids}
 use Rattle.profile_samples.proofs.FrameNumbers.{found_numbers, frames-more, leaf_first}
 use Rattle.profile_samples.proofs.name_numbers.NumberedFrames.leaf_of.Goals as goal
 
 pub returns-in-Some : goal.returns-in-Some
 returns-in-Some c =
     let this = found_numbers c.args.self.now
-    (get_or c.args.ids.now c.loop-id.id-index 0) (Some c.in-Some.frames) c.in-Some.ensures in
+    (get_or c.args.ids.now c.loop-id.id-index 0) (Some c.in-Some.frames.now) c.in-Some.ensures in
     let stack = leaf_first c.args.self.now
     c.args.ids.now c.loop-id.id-index _ this.callers c.loop-id-test.true c.loop-id.invariant this.leaf in
-    subst (λ (all : List ℕ). (slice_index_or all 0 0 < length (frame_names c.args.self.now))
-    × (callers : List (List ℕ)) × (sample_stack_of c.args.self.now c.args.ids.now
-    ≡ callers ++ slice_index_or (frame_names c.args.self.now) (slice_index_or all 0 0) [] ∷ []))
-    (sym c.all.ensures) (this.leaf_inside, stack.0, stack.1)
+    (this.leaf_inside, stack.0, stack.1)
 
 pub loop-id-preserved : goal.loop-id-preserved
 loop-id-preserved c =

@@ -40,11 +40,10 @@ loop-id-preserved c =
     let id = get_or c.args.ids.now c.loop-id.id-index 0 in
     elim c.match-frames_of.branch [
       | in-Some+in_ok-push_numbers w ↦
-          let this = found_numbers draft id (Some w.in-Some.frames) w.in-Some.ensures in
-          more draft c.args.ids.now c.loop-id.numbers.items c.match-frames_of.numbers.items w.in-Some.frames.all
+          let this = found_numbers draft id (Some w.in-Some.frames.now) w.in-Some.ensures in
+          more draft c.args.ids.now c.loop-id.numbers.items c.match-frames_of.numbers.items w.in-Some.frames.now
           c.loop-id.id-index c.loop-id-test.true c.loop-id.invariant
-          (ap (λ numbers. numbers.items) w.numbers-is ∙ w.in_ok-push_numbers.ensures
-          ∙ ap (λ (all : List ℕ). c.loop-id.numbers.items ++ all) w.all.ensures) this.all_inside this.all_are
+          (ap (λ numbers. numbers.items) w.numbers-is ∙ w.in_ok-push_numbers.ensures) this.all_inside this.all_are
       | in_default w ↦
           more draft c.args.ids.now c.loop-id.numbers.items c.match-frames_of.numbers.items []
           c.loop-id.id-index c.loop-id-test.true c.loop-id.invariant

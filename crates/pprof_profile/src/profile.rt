@@ -77,7 +77,8 @@ pub fn check(alloc: Global, draft: Draft) -> Result<Profile, Refused<Draft>>
 /// # Errors
 ///
 /// `Gzip` where the bytes begin as those of gzip. Else the first fault in reading order, `Wire` or `NotUtf8`: a nested
-/// message is read where it stands. Else what [`check`] answers. `NoMemory` may come in place of any of them.
+/// message is read where it stands. Else what [`check`] answers. `NoMemory` may come in place of any of them, as
+/// where all samples together have 2^32 location ids, values or labels.
 pub fn decode(alloc: Global, bytes: &[u8]) -> Result<Profile, ProfileFault>
     ensures read { IfOk result (λ profile. IsProfile bytes.now profile) }
     ensures fault { IfErr result (λ fault. fault ≢ ProfileFault.NoMemory → IsProfileFault bytes.now fault) }

@@ -196,7 +196,8 @@ impl Samples {
     ///
     /// # Errors
     ///
-    /// `NoMemory`; the samples are then as they were.
+    /// `NoMemory`, also where all samples together would have 2^32 location ids, values or labels; the samples are then
+    /// as they were.
     pub fn push(&mut self, sample: &Sample) -> Result<(), NoMemory>
         ensures pushed { OnOk result (self.new ≡ self.old ++ sample.now ∷ []) }
         ensures unchanged { OnErr result (self.new ≡ self.old) }

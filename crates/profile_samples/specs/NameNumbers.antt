@@ -129,7 +129,7 @@ with_numbers numbers (number ∷ more) = with_numbers (with_number numbers numbe
 abbrev pub once_of : List ℕ → List ℕ
 once_of numbers = with_numbers [] numbers
 
--- those of the location that an id names
+-- the numbers of the names of the frames of the location that an id names
 abbrev pub numbers_of_id : Draft → ℕ → Option (List ℕ)
 numbers_of_id draft id = option_map (numbers_of draft) (item_with (λ location. location.id) id draft.locations)
 

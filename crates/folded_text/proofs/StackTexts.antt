@@ -25,7 +25,7 @@ Named row = All IsName row.stack
 -- ---- texts that differ stand once each
 
 abbrev has : List ℕ → TextState → ℕ
-has text row = cond (bytes_eq row.text text) 1 0
+has text row = cond (bytes_eq text row.text) 1 0
 
 none : (text : List ℕ) (rows : List TextState)
     → ((j : ℕ) (d : TextState) → j < length rows → (get_or rows j d).text ≡ text → ⊥) → rows_with text rows ≡ 0
@@ -33,8 +33,8 @@ none text [] other = refl
 none text (row ∷ rows) other =
     let rest = none text rows (λ j d lt. other (suc j) d (omega (arith, lt))) in
     let count = sum_by-cons (has text) row rows in
-    elim (bytes_eq row.text text) as (λ b. bytes_eq row.text text ≡ b → rows_with text (row ∷ rows) ≡ 0) [
-      | true ↦ λ e. absurd (other 0 row (omega arith) (same_from_is_same_name row.text text e))
+    elim (bytes_eq text row.text) as (λ b. bytes_eq text row.text ≡ b → rows_with text (row ∷ rows) ≡ 0) [
+      | true ↦ λ e. absurd (other 0 row (omega arith) (sym (same_from_is_same_name text row.text e)))
       | false ↦ λ e. let other : has text row ≡ 0 = ap (λ b. cond b 1 0) e in omega (arith, rest, count, other)
     ] refl
 
@@ -46,9 +46,9 @@ once (row ∷ rows) apart text =
     let most =
     once rows (λ i j d before lt. apart (suc i) (suc j) d (omega (arith, before)) (omega (arith, lt))) text in
     let count = sum_by-cons (has text) row rows in
-    elim (bytes_eq row.text text) as (λ b. bytes_eq row.text text ≡ b → rows_with text (row ∷ rows) ≤ 1) [
+    elim (bytes_eq text row.text) as (λ b. bytes_eq text row.text ≡ b → rows_with text (row ∷ rows) ≤ 1) [
       | true ↦ λ e.
-          let same = same_from_is_same_name row.text text e in
+          let same = sym (same_from_is_same_name text row.text e) in
           let rest =
           none text rows (λ j d lt other. apart 0 (suc j) d (omega arith) (omega (arith, lt)) (same ∙ sym other)) in
           let one : has text row ≡ 1 = ap (λ b. cond b 1 0) e in

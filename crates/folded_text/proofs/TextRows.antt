@@ -1,11 +1,10 @@
 -- Rows by their stack texts, and the report that they make.
 use Rattle.std.proofs.Common.{◌≡◌, ℕ, ◌+◌, ◌<◌, ◌≤◌, ◌^◌, Bool, true, false, cond, eqb, List, [], ◌∷◌, ◌++◌, length}
-use Rattle.std.proofs.Common.{filter, get_or, set, refl, sym, ap, ◌∙◌, subst, arith, length-append}
-use Rattle.std.specs.Prelude.{All, IfOk, IfSome, IsPermutation, IsSorted, Option, Some, None, Result, Ok}
+use Rattle.std.proofs.Common.{◌||◌, map, filter, get_or, set, refl, sym, ap, ◌∙◌, subst, arith, length-append}
+use Rattle.std.specs.Prelude.{All, IfOk, IsPermutation, IsSorted, Option, Result, Ok}
 use Rattle.std.specs.Prelude.{Err, ◌==◌, not, sum_by}
-use Rattle.std.specs.List.{AllByRecursion, join_with_byte, slice_split}
+use Rattle.std.specs.List.{AllByRecursion, join_with_byte, list_any, slice_split}
 use Rattle.std.specs.Fmt.{decimal}
-use Rattle.std.specs.HashMap as hash
 use Rattle.std.specs.Str.{bytes_eq}
 use Rattle.std.specs.declared.cmp.Ordering.{Ordering}
 use Rattle.std.specs.declared.cmp.Ordering.TheVariants.{Less, Equal, Greater}
@@ -16,21 +15,24 @@ use Rattle.std.proofs.lemmas.List.Sorted.{All-permutation, IsPermutation-map, ra
 use Rattle.std.proofs.lemmas.List.Sorted.{sum_by-IsPermutation}
 use Rattle.std.proofs.lemmas.List.Splits.{join_with_byte-slice_split, length-slice_split}
 use Rattle.std.proofs.lemmas.List.Sums.{get_or-le-sum_by, sum_by-cons, sum_by-set, sum_by_push}
-use Rattle.std.proofs.lemmas.Map.Text.{hash_map_updates_str}
+use Rattle.std.proofs.Math.Seq.{map-set_same}
+use Rattle.std.proofs.lemmas.Bool.{false≢true}
 use borrow.Author.Tests.{ne_eqb}
 use Prim.Native.Nat.{zero, suc}
 use Rattle.profile_rows.specs.declared.weighted_stacks.WeightedStack.{WeightedStack}
 use Rattle.profile_rows.specs.Aggregate.{AreWeighty, IsAscending, aggregate_of, rows_of}
-use Rattle.profile_rows.specs.Merging.{AreIndexedBy, RowsBySpelling, row_at, row_spelled, with_added_at}
+use Rattle.profile_rows.specs.Merging.{row_at, with_added_at}
 use Rattle.profile_rows.specs.Rows.{is_kept, is_same_stack, kept_rows, stack_cmp, total_of, weight_if}
 use Rattle.profile_rows.proofs.InOrder.{rows_of-aggregate}
-use Rattle.profile_rows.proofs.MergedRows.{AddsRow-added, AreIndexedBy-added, AreIndexedBy-push}
+use Rattle.profile_rows.proofs.MergedRows.{AddsRow-added}
+use Rattle.profile_rows.proofs.TextNumbers.{none_at_end, text_of_number}
+use Rattle.profile_rows.specs.TextTables.{number_in, with_text}
 use Rattle.profile_rows.proofs.RowLaws.{aggregate_of-same, stack_cmp_apart, stack_cmp_total}
 use Rattle.profile_rows.proofs.SameNames.{is_same_name-self, same_from_is_same_name}
 use Rattle.folded_text.specs.FoldedText.{frames_of, row_text, rows_text}
 use Rattle.folded_text.specs.StackOrder.{IsJoined}
 use Rattle.profile_rows.specs.StackTexts.{TextState}
-use Rattle.folded_text.specs.TextRows.{AreKnownTexts, AreTextRows, IsStackText, by_text, one_if_known}
+use Rattle.folded_text.specs.TextRows.{AreKnownTexts, AreTextRows, IsRowOf, IsStackText, by_text}
 use Rattle.folded_text.specs.TextRows.{rows_with, spelled_row, spelled_rows, text_lines}
 use Rattle.folded_text.proofs.StackOrder.{joined_texts-cmp, stack_text_cmp_total}
 
@@ -113,7 +115,7 @@ abbrev no_row : WeightedStack
 no_row = record { stack = []; weight = 0 }
 
 abbrev has : List ℕ → TextState → ℕ
-has text row = cond (bytes_eq row.text text) 1 0
+has text row = cond (bytes_eq text row.text) 1 0
 
 module _ (rows : List TextState)
     (at weight : ℕ) (found : TextState) (lt : at < length rows) (is : found ≡ get_or rows at found) where
@@ -137,20 +139,20 @@ module _ (rows : List TextState)
       let same : (row_at (spelled_rows rows) at).weight ≡ found.weight = ap (λ (r : WeightedStack). r.weight) here in
       omega (arith, most, same)
 
-  pub AreKnownTexts-added : (known : RowsBySpelling) (total : ℕ) (are_joined : Bool) → total + weight < 2 ^ 63
-      → AreKnownTexts known rows total are_joined → AreKnownTexts known (set rows at more) (total + weight) are_joined
-  AreKnownTexts-added known total are_joined fits so_far =
+  pub AreKnownTexts-added : (texts : List (List ℕ)) (total : ℕ) (are_joined : Bool) → total + weight < 2 ^ 63
+      → AreKnownTexts texts rows total are_joined → AreKnownTexts texts (set rows at more) (total + weight) are_joined
+  AreKnownTexts-added texts total are_joined fits so_far =
       let total_is = so_far.total_is in
       let row : WeightedStack = record { stack = (row_at (spelled_rows rows) at).stack; weight = weight } in
       let adds = AddsRow-added (spelled_rows rows) at weight row in_rows (omega (arith, total_is, fits)) refl in
       record {
-        indexed = subst (AreIndexedBy frames_of known)
-            (sym spelled-added)
-            (AreIndexedBy-added frames_of known (spelled_rows rows) at weight in_rows so_far.indexed);
-        counted = λ text.
+        texts_are = so_far.texts_are
+            ∙ sym (map-set_same (λ (row : TextState). row.text) rows at more found
+            (ap (λ (row : TextState). row.text) is));
+        once = λ text.
             let moved = sum_by-set (has text) rows at more found lt in
             let same : has text (get_or rows at found) ≡ has text more = ap (has text) (sym is) in
-            let before = so_far.counted text in
+            let before = so_far.once text in
             omega (arith, moved, same, before);
         weighty = All-set (λ (row : TextState). 0 < row.weight) rows at more
             (let some : 0 < found.weight = subst (λ (r : TextState). 0 < r.weight)
@@ -163,35 +165,78 @@ module _ (rows : List TextState)
         fits = fits;
       }
 
+-- the texts of rows
+abbrev pub texts_in : List TextState → List (List ℕ)
+texts_in rows = map (λ (row : TextState). row.text) rows
+
+missing : (rows : List TextState) (text : List ℕ)
+    → list_any (bytes_eq text) (texts_in rows) ≡ false → rows_with text rows ≡ 0
+missing [] text none = refl
+missing (row ∷ rows) text none = elim (bytes_eq text row.text) as (λ b. (b || list_any (bytes_eq text) (texts_in rows))
+    ≡ false → rows_with text (row ∷ rows) ≡ cond b 1 0 + rows_with text rows → rows_with text (row ∷ rows) ≡ 0) [
+      | true ↦ λ e count. absurd (false≢true (sym e))
+      | false ↦ λ e count. let rest = missing rows text e in omega (arith, count, rest)
+    ] none (sum_by-cons (has text) row rows)
+
+absent : (rows : List TextState) (text : List ℕ)
+    → rows_with text rows ≡ 0 → list_any (bytes_eq text) (texts_in rows) ≡ false
+absent [] text nothing = refl
+absent (row ∷ rows) text nothing = elim (bytes_eq text row.text) as (λ b. rows_with text (row ∷ rows)
+    ≡ cond b 1 0 + rows_with text rows → (b || list_any (bytes_eq text) (texts_in rows)) ≡ false) [
+      | true ↦ λ count. absurd (omega (arith, count, nothing))
+      | false ↦ λ count. absent rows text (omega (arith, count, nothing))
+    ] (sum_by-cons (has text) row rows)
+
+module _ (texts : List (List ℕ)) (rows : List TextState) (total : ℕ) (are_joined : Bool)
+    (so_far : AreKnownTexts texts rows total are_joined) (text : List ℕ) (at : ℕ) (number : at ≡ number_in texts text) where
+  many : length texts ≡ length rows
+  many = ap length so_far.texts_are ∙ length-map rows (λ (row : TextState). row.text)
+
+  -- a text whose number is an index has its row there
+  pub row_found : (none : TextState) → at < length rows → IsRowOf rows text at
+  row_found none lt =
+      let own : (get_or rows at none).text ≡ text =
+      sym (get_or-map (λ (row : TextState). row.text) rows at none [] lt)
+      ∙ ap (λ ts. get_or ts at []) (sym so_far.texts_are) ∙ ap (λ n. get_or texts n []) number
+      ∙ text_of_number texts text (omega (arith, many, number, lt)) in (
+        omega (arith, length-map rows spelled_row, lt),
+        ap (λ (row : WeightedStack). row.stack) (get_or-map spelled_row rows at none no_row lt) ∙ ap frames_of own,
+        subst (λ t. length (frames_of t) ≤ 65535) own (so_far.spelled at none lt).0,
+      )
+
+  -- and any other text has none
+  pub none_found : length rows ≤ at → rows_with text rows ≡ 0
+  none_found end = missing rows text
+      (ap (list_any (bytes_eq text)) (sym so_far.texts_are)
+      ∙ none_at_end texts text (omega (arith, many, number, end)))
+
 pub spelled-push : (rows all : List TextState) (row : TextState)
     → all ≡ rows ++ row ∷ [] → spelled_rows all ≡ spelled_rows rows ++ spelled_row row ∷ []
 spelled-push rows all row is = ap spelled_rows is ∙ map-append spelled_row rows (row ∷ [])
 
-pub AreKnownTexts-push : (known after : RowsBySpelling)
-    (rows all : List TextState) (row : TextState) (total index : ℕ) (are_joined both : Bool) → index ≡ length rows
-    → hash.UpdatesBy (λ x y. bytes_eq x.now y.now) (λ k. bytes_eq row.text k.now) known after (Some index)
-    → all ≡ rows ++ row ∷ [] → row_spelled known row.text ≡ None
+pub AreKnownTexts-push : (texts after : List (List ℕ)) (rows all : List TextState) (row : TextState) (total : ℕ)
+    (are_joined both : Bool) → after ≡ with_text texts row.text → all ≡ rows ++ row ∷ [] → rows_with row.text rows ≡ 0
     → IsStackText row.text
     → 0 < row.weight → total + row.weight < 2 ^ 63 → (both ≡ true → (are_joined ≡ true) × IsJoined row.text)
-    → AreKnownTexts known rows total are_joined → AreKnownTexts after all (total + row.weight) both
-AreKnownTexts-push
-    known after rows all row total index are_joined both end updates is none text some fits joins so_far = record {
-      indexed = AreIndexedBy-push frames_of known after (spelled_rows rows) (spelled_rows all) row.text row.weight index
-          (end ∙ sym (length-map rows spelled_row)) updates (spelled-push rows all row is) text.0 so_far.indexed;
-      counted = λ other.
-          let leads = hash_map_updates_str row.text known after (Some index) updates other in
-          let before = so_far.counted other in
-          ap (rows_with other) is ∙ sum_by_push (has other) rows row
-          ∙ elim (bytes_eq row.text other) as (λ b. bytes_eq row.text other ≡ b
-          → rows_with other rows + cond b 1 0 ≡ one_if_known (cond b (Some index) (row_spelled known other))) [
+    → AreKnownTexts texts rows total are_joined → AreKnownTexts after all (total + row.weight) both
+AreKnownTexts-push texts after rows all row total are_joined both added is none text some fits joins so_far =
+    let unknown : list_any (bytes_eq row.text) texts ≡ false =
+    ap (list_any (bytes_eq row.text)) so_far.texts_are ∙ absent rows row.text none in
+    record {
+      texts_are = added ∙ ap (λ b. cond b texts (texts ++ row.text ∷ [])) unknown
+          ∙ ap (λ ts. ts ++ row.text ∷ []) so_far.texts_are
+          ∙ sym (map-append (λ (row : TextState). row.text) rows (row ∷ [])) ∙ ap texts_in (sym is);
+      once = λ other.
+          let before = so_far.once other in
+          subst (λ rs. rows_with other rs ≤ 1) (sym is) (subst (λ n. n ≤ 1) (sym (sum_by_push (has other) rows row))
+          (elim (bytes_eq other row.text) as (λ b. bytes_eq other row.text ≡ b
+          → rows_with other rows + cond b 1 0 ≤ 1) [
             | true ↦ λ e.
-                let unknown : row_spelled known other ≡ None =
-                subst (λ t. row_spelled known t ≡ None) (same_from_is_same_name row.text other e) none in
-                let nothing : rows_with other rows ≡ 0 = before ∙ ap one_if_known unknown in
+                let nothing : rows_with other rows ≡ 0 =
+                ap (λ t. rows_with t rows) (same_from_is_same_name other row.text e) ∙ none in
                 omega (arith, nothing)
             | false ↦ λ e. omega (arith, before)
-          ] refl
-          ∙ ap one_if_known (sym leads);
+          ] refl));
       weighty = subst (All (λ (row : TextState). 0 < row.weight))
           (sym is) (All-push (λ (row : TextState). 0 < row.weight) rows row so_far.weighty some);
       spelled = subst (All (λ (row : TextState). IsStackText row.text)) (sym is)
@@ -203,33 +248,22 @@ AreKnownTexts-push
       fits = fits;
     }
 
--- no text stands twice where each is counted by one look-up
-pub AreTextRows-known : (known : RowsBySpelling) (rows : List TextState) (total : ℕ) (are_joined : Bool)
-    → are_joined ≡ true → AreKnownTexts known rows total are_joined → AreTextRows rows
-AreTextRows-known known rows total are_joined e so_far = record {
-  weighty = so_far.weighty;
-  once = λ text. let count =
-      so_far.counted text in let most = at_most (row_spelled known text) in omega (arith, count, most);
-  joined = so_far.joined e;
-}
-  where
-    at_most : (o : Option ℕ) → one_if_known o ≤ 1
-    at_most None = omega arith
-    at_most (Some at) = omega arith
+pub AreTextRows-known : (texts : List (List ℕ)) (rows : List TextState) (total : ℕ) (are_joined : Bool)
+    → are_joined ≡ true → AreKnownTexts texts rows total are_joined → AreTextRows rows
+AreTextRows-known texts rows total are_joined e so_far =
+    record { weighty = so_far.weighty; once = so_far.once; joined = so_far.joined e }
 
 -- no rows yet
-pub AreKnownTexts-none : (known : RowsBySpelling) (rows : List TextState) (total : ℕ) (are_joined : Bool) → rows ≡ []
-    → total ≡ 0 → ((text : List ℕ) → row_spelled known text ≡ None) → AreKnownTexts known rows total are_joined
-AreKnownTexts-none known rows total are_joined is nothing unknown = record {
-  indexed = λ text. subst
-      (λ o. IfSome o (λ at. (at < length (spelled_rows rows)) × ((row_at (spelled_rows rows) at).stack ≡ frames_of text)
-      × (length (frames_of text) ≤ 65535))) (sym (unknown text)) tt;
-  counted = λ text. ap (rows_with text) is ∙ ap one_if_known (sym (unknown text));
+pub AreKnownTexts-none : (texts : List (List ℕ)) (rows : List TextState) (are_joined : Bool) → texts ≡ [] → rows ≡ []
+    → AreKnownTexts texts rows 0 are_joined
+AreKnownTexts-none texts rows are_joined none is = record {
+  texts_are = none ∙ ap texts_in (sym is);
+  once = λ text. subst (λ rs. rows_with text rs ≤ 1) (sym is) (omega arith);
   weighty = subst (All (λ (row : TextState). 0 < row.weight)) (sym is) (λ at d lt. absurd (omega (arith, lt)));
   spelled = subst (All (λ (row : TextState). IsStackText row.text)) (sym is) (λ at d lt. absurd (omega (arith, lt)));
   joined = λ e. subst (All (λ (row : TextState). IsJoined row.text)) (sym is) (λ at d lt. absurd (omega (arith, lt)));
-  total_is = nothing ∙ ap (λ rs. total_of (spelled_rows rs)) (sym is);
-  fits = omega (arith, nothing);
+  total_is = ap (λ rs. total_of (spelled_rows rs)) (sym is);
+  fits = omega arith;
 }
 
 -- sorted rows add up to the same
@@ -253,7 +287,7 @@ AreTextRows-moved rows sorted moved texts = record {
 }
 
 has-own : (text : List ℕ) (row : TextState) → row.text ≡ text → has text row ≡ 1
-has-own text row same = ap (λ b. cond b 1 0) (subst (λ t. bytes_eq row.text t ≡ true) same (is_same_name-self row.text))
+has-own text row same = ap (λ b. cond b 1 0) (subst (λ t. bytes_eq t row.text ≡ true) same (is_same_name-self row.text))
 
 at_least : (text : List ℕ) (rows : List TextState) (j : ℕ) (d : TextState)
     → j < length rows → (get_or rows j d).text ≡ text → 1 ≤ rows_with text rows

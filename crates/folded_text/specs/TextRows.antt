@@ -1,16 +1,15 @@
 -- Rows whose stacks are known by their texts.
-use Rattle.std.specs.Prelude.{ℕ, ◌≡◌, ◌≢◌, ◌<◌, ◌≤◌, ◌^◌, All, Bool, true, length, List, ◌++◌, ◌∷◌, [], Option, Some}
-use Rattle.std.specs.Prelude.{None, flat_map, map, sum_by, if◌then◌else◌}
+use Rattle.std.specs.Prelude.{ℕ, ◌≡◌, ◌≢◌, ◌<◌, ◌≤◌, ◌^◌, All, Bool, true, length, List, ◌++◌, ◌∷◌, []}
+use Rattle.std.specs.Prelude.{flat_map, map, sum_by, if◌then◌else◌}
 use Rattle.std.specs.Fmt.{decimal}
 use Rattle.std.specs.Str.{bytes_eq}
 use Rattle.std.specs.declared.cmp.Ordering.{Ordering}
 use Rattle.profile_rows.specs.declared.weighted_stacks.WeightedStack.{WeightedStack}
 use Rattle.profile_rows.specs.Aggregate.{aggregate_of}
-use Rattle.profile_rows.specs.Merging.{AreIndexedBy, RowsBySpelling, row_spelled}
+use Rattle.profile_rows.specs.Merging.{row_at}
 use Rattle.profile_rows.specs.Rows.{total_of}
 use Rattle.profile_rows.specs.StackTexts.{TextState}
 use Rattle.folded_text.specs.FoldedText.{IsFoldedText, frames_of}
-use Rattle.folded_text.specs.declared.text_rows.TextRows.{TextRows}
 use Rattle.folded_text.specs.StackOrder.{IsJoined, stack_text_cmp}
 
 -- the row that a stack text and a weight spell
@@ -22,12 +21,7 @@ spelled_rows rows = map spelled_row rows
 
 -- how many rows have this stack text
 abbrev pub rows_with : List ℕ → List TextState → ℕ
-rows_with text rows = sum_by (λ (row : TextState). if bytes_eq row.text text then 1 else 0) rows
-
--- one row where the text is known, and else none
-abbrev pub one_if_known : Option ℕ → ℕ
-one_if_known None = 0
-one_if_known (Some at) = 1
+rows_with text rows = sum_by (λ (row : TextState). if bytes_eq text row.text then 1 else 0) rows
 
 -- the text of a stack that a row can have, as it stands in a line
 abbrev pub IsStackText : List ℕ → Type 0
@@ -48,23 +42,27 @@ pub record AreTextRows (rows : List TextState) : Type 0 where
 abbrev pub AreJoinedTexts : List TextState → Type 0
 AreJoinedTexts rows = All (λ (row : TextState). IsStackText row.text × IsJoined row.text) rows
 
--- Rows of weight above 0 so far: each is known by its text, and none stands twice. `are_joined` says that no stack text
--- has an empty frame.
-pub record AreKnownTexts (known : RowsBySpelling) (rows : List TextState) (total : ℕ) (are_joined : Bool) : Type 0 where
-  pub indexed : AreIndexedBy frames_of known (spelled_rows rows)
-  pub counted : (text : List ℕ) → rows_with text rows ≡ one_if_known (row_spelled known text)
+-- Rows of weight above 0, of which each text has one, at its number. `are_joined` says that no stack text has an empty
+-- frame.
+pub record AreKnownTexts (texts : List (List ℕ)) (rows : List TextState) (total : ℕ) (are_joined : Bool) : Type 0 where
+  pub texts_are : texts ≡ map (λ (row : TextState). row.text) rows
+  pub once : (text : List ℕ) → rows_with text rows ≤ 1
   pub weighty : All (λ (row : TextState). 0 < row.weight) rows
   pub spelled : All (λ (row : TextState). IsStackText row.text) rows
   pub joined : are_joined ≡ true → All (λ (row : TextState). IsJoined row.text) rows
   pub total_is : total ≡ total_of (spelled_rows rows)
   pub fits : total < 2 ^ 63
 
--- the sums are rows by their texts, which add up to what the text is folded text of
-pub record AreSumsOfText (text : List ℕ) (sums : TextRows) : Type 0 where
-  pub known : AreKnownTexts sums.known sums.rows.items sums.total sums.are_joined
+-- at this index stands the row of the text, whose stack a row can have
+abbrev pub IsRowOf : List TextState → List ℕ → ℕ → Type 0
+IsRowOf rows text at = (at < length (spelled_rows rows)) × ((row_at (spelled_rows rows) at).stack ≡ frames_of text)
+    × (length (frames_of text) ≤ 65535)
+
+-- the rows add up to what the text is folded text of
+pub record AreSumsOfText (text : List ℕ) (sums : List TextState) : Type 0 where
   pub rows : List WeightedStack
   pub folded : IsFoldedText text rows
-  pub same : aggregate_of (spelled_rows sums.rows.items) ≡ aggregate_of rows
+  pub same : aggregate_of (spelled_rows sums) ≡ aggregate_of rows
 
 -- a row as a line of folded text, its stack as its text has it
 abbrev pub text_line : TextState → List ℕ

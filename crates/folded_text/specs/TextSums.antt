@@ -6,8 +6,8 @@ use Rattle.profile_rows.specs.declared.frame_totals.FrameTotals.{FrameTotals}
 use Rattle.profile_rows.specs.TopList.{AreTotalsOf}
 use Rattle.profile_rows.specs.Tallies.{HasCounted}
 use Rattle.folded_text.specs.FoldedText.{IsFoldedText}
-use Rattle.folded_text.specs.declared.text_rows.TextRows.{TextRows}
-use Rattle.folded_text.specs.TextRows.{AreKnownTexts, spelled_rows}
+use Rattle.profile_rows.specs.StackTexts.{TextState}
+use Rattle.folded_text.specs.TextRows.{spelled_rows}
 
 -- what the names weigh in the rows that the text is folded text of
 pub record AreTotalsOfText (text : List ℕ) (totals : FrameTotals) : Type 0 where
@@ -16,8 +16,6 @@ pub record AreTotalsOfText (text : List ℕ) (totals : FrameTotals) : Type 0 whe
   pub totals_rows : AreTotalsOf rows totals
 
 -- the rows wait to be counted, or are counted
-abbrev pub AreCounted : Option TextRows → CountedRows → List WeightedStack → Type 0
-AreCounted (Some sums) counted rows = (rows ≡ spelled_rows sums.rows.items)
-    × AreKnownTexts sums.known sums.rows.items sums.total sums.are_joined
-    × HasCounted [] counted
+abbrev pub AreCounted : Option (List TextState) → CountedRows → List WeightedStack → Type 0
+AreCounted (Some sums) counted rows = (rows ≡ spelled_rows sums) × HasCounted [] counted
 AreCounted None counted rows = HasCounted rows counted

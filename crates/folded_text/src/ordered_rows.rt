@@ -13,7 +13,7 @@ ghost use Rattle.profile_rows.specs.StackTexts.{AreStackTexts};
 ghost use Rattle.profile_rows.specs.TopList.{AreTotalsOf};
 ghost use Rattle.folded_text.specs.FoldedText.{IsFoldedText, IsWorkFault, folded_text_of, rows_text};
 ghost use Rattle.folded_text.specs.OrderedRows.{AreNames, IsOrderedText, names_in, rows_in};
-ghost use Rattle.folded_text.specs.TextRows.{AreKnownTexts, spelled_rows};
+ghost use Rattle.folded_text.specs.TextRows.{spelled_rows};
 
 use crate::folded::FoldedFault;
 use crate::row_names::RowNames;
@@ -104,16 +104,9 @@ fn in_order<'a>(
     hashing: Hashing,
     sums: TextRows<'a>,
 ) -> Result<OrderedRows<'a>, NoMemory>
-    requires { AreKnownTexts sums.known sums.rows.items sums.total sums.are_joined }
-    ensures { IfOk result (λ ordered. ordered ≡ rows_of (aggregate_of (spelled_rows sums.entry.rows.items))) }
+    ensures { IfOk result (λ ordered. ordered ≡ rows_of (aggregate_of (spelled_rows sums.entry))) }
 {
-    let TextRows {
-        known,
-        rows,
-        total,
-        are_joined,
-    } = sums;
-    drop(known);
+    let (rows, total, are_joined) = sums.into_rows();
     if are_joined {
         let rows = TextStacks::sorted(rows, total)?;
         Ok(OrderedRows {

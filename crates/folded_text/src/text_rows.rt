@@ -1,13 +1,15 @@
 //! The rows of folded text by their stack texts: lines of one text are summed, and no name is made. So is its folded
 //! report.
 
-ghost use Rattle.std.specs.Prelude.{ℕ, ◌≡◌, ◌≢◌, ◌+◌, ◌^◌, ◌<◌, ◌≤◌, [], All, IfErr, IfOk, IsPermutation, IsSorted, IsTrue, List, MatchResult, None, OnOk, length, sum_by};
+ghost use Rattle.std.specs.Prelude.{ℕ, ◌≡◌, ◌≢◌, ◌+◌, ◌^◌, ◌<◌, ◌≤◌, ◌++◌, ◌∷◌, [], All, IfErr, IfOk, IsPermutation, IsSorted};
+ghost use Rattle.std.specs.Prelude.{IsTrue, MatchOption, MatchResult, OnOk, length, sum_by};
 ghost use Rattle.profile_rows.specs.declared.weighted_stacks.WeightedStack.{WeightedStack};
-ghost use Rattle.profile_rows.specs.Merging.{AddsRow, AreMergedSoFar, row_spelled, with_added_at};
+ghost use Rattle.profile_rows.specs.Merging.{AddsRow, AreMergedSoFar, with_added_at};
 ghost use Rattle.profile_rows.specs.Rows.{total_of};
 ghost use Rattle.folded_text.specs.FoldedText.{IsFirstFault, IsLineFault, IsRowLine, frames_of};
 ghost use Rattle.folded_text.specs.StackOrder.{IsJoined};
-ghost use Rattle.folded_text.specs.TextRows.{AreKnownTexts, AreSumsOfText, AreTextRows, IsStackText, by_text, spelled_rows, text_lines};
+ghost use Rattle.folded_text.specs.TextRows.{AreSumsOfText, AreTextRows, IsRowOf, IsStackText, by_text, rows_with, spelled_rows};
+ghost use Rattle.folded_text.specs.TextRows.{text_lines};
 
 use crate::folded::{FoldedFault, fitting, push_frames, stack_and_weight};
 use crate::known_names::KnownNames;
@@ -16,34 +18,31 @@ use crate::taking::{LineTaker, take_lines};
 use crate::text_row::TextRow;
 use basics::NoMemory;
 use itoa::Buffer;
-use profile_rows::{Hashing, MAX_TOTAL, WeightedStacks};
+use profile_rows::{Hashing, MAX_TOTAL, TextTable, WeightedStacks};
 use std::alloc::Global;
-use std::collections::HashMap;
+use std::marker::Model;
 
-/// Rows of weight above 0, one for each stack text.
+/// Rows of weight above 0, one for each stack text. A contract sees the rows.
 #[derive(Drop)]
 pub(crate) struct TextRows<'a> {
-    /// The index of each stack text's row.
-    pub(crate) known: HashMap<&'a str, usize, Hashing>,
-    pub(crate) rows: Vec<TextRow<'a>>,
-    pub(crate) total: u64,
+    /// The stack texts, each with the index of its row as its number.
+    texts: TextTable<'a>,
+    rows: Vec<TextRow<'a>>,
+    total: u64,
     /// No stack text has an empty frame.
-    pub(crate) are_joined: bool,
+    are_joined: bool,
 }
 
-impl<'a> TextRows<'a> {
-    /// No row yet. Takes no memory.
-    pub(crate) fn new(alloc: Global, hashing: Hashing) -> TextRows<'a>
-        ensures known { AreKnownTexts result.known result.rows.items result.total result.are_joined }
-        ensures none { result.rows.items ≡ [] }
-    {
-        TextRows {
-            known: HashMap::with_hasher(alloc, hashing),
-            rows: Vec::new(alloc),
-            total: 0,
-            are_joined: true,
-        }
-    }
+impl<'a> Model for TextRows<'a> {
+    ghost use Rattle.std.specs.Prelude.{List};
+    ghost use Rattle.profile_rows.specs.StackTexts.{TextState};
+    ghost use Rattle.folded_text.specs.TextRows.{AreKnownTexts};
+
+    ghost Value = { List TextState };
+
+    ghost view = { λ sums. sums.rows.items };
+
+    ghost invariant = { λ sums. AreKnownTexts sums.texts.texts sums.rows.items sums.total sums.are_joined };
 }
 
 /// Whether a stack text is its frames, so many of so many bytes, with a semicolon between each two.
@@ -55,110 +54,120 @@ fn is_joined(text: &str, depth: usize, bytes: usize) -> bool
     text.is_empty() || bytes + depth == text.len() + 1
 }
 
-/// Adds to the weight of a row.
-fn add_to_text(sums: &mut TextRows, at: usize, weight: u64, number: u64) -> Result<(), FoldedFault>
-    requires known { AreKnownTexts sums.old.known sums.old.rows.items sums.old.total sums.old.are_joined }
-    requires index { at < length sums.old.rows.items }
-    ensures added { OnOk result
-        (spelled_rows sums.new.rows.items ≡ with_added_at (spelled_rows sums.old.rows.items) at weight) }
-    ensures known { OnOk result
-        (AreKnownTexts sums.new.known sums.new.rows.items sums.new.total sums.new.are_joined) }
-    ensures fits { OnOk result (sums.old.total + weight < 2 ^ 63) }
-    ensures fault { IfErr result
-        (λ fault. (fault ≡ FoldedFault.Heavy number) × (2 ^ 63 ≤ sums.old.total + weight)) }
-{
-    if weight > MAX_TOTAL - sums.total {
-        return Err(FoldedFault::Heavy { line: number });
-    }
-    sums.rows[at].add(weight);
-    sums.total += weight;
-    Ok(())
-}
-
-/// Adds a row of weight above 0 of a stack text that has none yet.
-fn push_text<'a>(
-    sums: &mut TextRows<'a>,
-    text: &'a str,
-    weight: u64,
-    is_joined: bool,
-) -> Result<(), NoMemory>
-    requires known { AreKnownTexts sums.old.known sums.old.rows.items sums.old.total sums.old.are_joined }
-    requires new_text { row_spelled sums.old.known text.now ≡ None }
-    requires spelled { IsStackText text.now }
-    requires some { 0 < weight }
-    requires fits { sums.old.total + weight < 2 ^ 63 }
-    requires joined { IsTrue is_joined → IsJoined text.now }
-    ensures added { OnOk result
-        (AddsRow (spelled_rows sums.old.rows.items) (spelled_rows sums.new.rows.items)
-        (record { stack = frames_of text.now; weight = weight })) }
-    ensures known { OnOk result
-        (AreKnownTexts sums.new.known sums.new.rows.items sums.new.total sums.new.are_joined) }
-{
-    let at = sums.rows.len();
-    sums.rows.push(TextRow::new(text, weight))?;
-    sums.known.insert(text, at)?;
-    sums.total += weight;
-    sums.are_joined = sums.are_joined && is_joined;
-    Ok(())
-}
-
-/// Adds the row of a stack text that has none yet, where it weighs something.
-fn add_text<'a>(
-    sums: &mut TextRows<'a>,
-    text: &'a str,
-    weight: u64,
-    is_joined: bool,
-) -> Result<(), NoMemory>
-    requires known { AreKnownTexts sums.old.known sums.old.rows.items sums.old.total sums.old.are_joined }
-    requires new_text { row_spelled sums.old.known text.now ≡ None }
-    requires spelled { IsStackText text.now }
-    requires fits { sums.old.total + weight < 2 ^ 63 }
-    requires joined { IsTrue is_joined → IsJoined text.now }
-    ensures added { OnOk result
-        (AddsRow (spelled_rows sums.old.rows.items) (spelled_rows sums.new.rows.items)
-        (record { stack = frames_of text.now; weight = weight })) }
-    ensures known { OnOk result
-        (AreKnownTexts sums.new.known sums.new.rows.items sums.new.total sums.new.are_joined) }
-{
-    if weight > 0 {
-        push_text(sums, text, weight, is_joined)?;
-    }
-    Ok(())
-}
-
-/// Adds the row that a line spells, to the row of the same stack text where there is one.
-pub(crate) fn sum_line<'a>(
-    sums: &mut TextRows<'a>,
-    line: &'a [u8],
-    number: u64,
-) -> Result<(), FoldedFault>
-    requires one_line { All (λ byte. byte ≢ 10) line.now }
-    requires known { AreKnownTexts sums.old.known sums.old.rows.items sums.old.total sums.old.are_joined }
-    ensures added { OnOk result
-        ((row : WeightedStack) × IsRowLine line.now row
-        × AddsRow (spelled_rows sums.old.rows.items) (spelled_rows sums.new.rows.items) row) }
-    ensures known { OnOk result
-        (AreKnownTexts sums.new.known sums.new.rows.items sums.new.total sums.new.are_joined) }
-    ensures fault { IfErr result (IsLineFault sums.old.total number line.now) }
-{
-    let (text, weight) = stack_and_weight(line, number)?;
-    match sums.known.get(text).copied() {
-        Some(at) => add_to_text(sums, at, weight, number),
-        None => {
-            let (depth, bytes) = measured(text);
-            fitting(depth, weight, sums.total, number)?;
-            let joined = is_joined(text, depth, bytes);
-            Ok(add_text(sums, text, weight, joined)?)
+impl<'a> TextRows<'a> {
+    /// No row yet, and `hashing` says how stack texts will be hashed. Takes no memory.
+    pub fn new(alloc: Global, hashing: Hashing) -> TextRows<'a>
+        ensures { result ≡ [] }
+    {
+        TextRows {
+            texts: TextTable::new(alloc, hashing),
+            rows: Vec::new(alloc),
+            total: 0,
+            are_joined: true,
         }
+    }
+
+    /// The rows.
+    pub fn rows(&self) -> &[TextRow<'a>]
+        ensures rows { result.now ≡ self.now }
+        ensures spelled { All (λ row. IsStackText row.text) self.now }
+        ensures fits { total_of (spelled_rows self.now) < 2 ^ 63 }
+    {
+        self.rows.as_slice()
+    }
+
+    /// The rows, what they weigh together, and whether no stack text has an empty frame.
+    pub fn into_rows(self) -> (Vec<TextRow<'a>>, u64, bool)
+        ensures rows { result.0.items ≡ self.entry }
+        ensures spelled { All (λ row. IsStackText row.text) self.entry }
+        ensures total { result.1 ≡ total_of (spelled_rows self.entry) }
+        ensures fits { result.1 < 2 ^ 63 }
+        ensures joined { IsTrue result.2 → AreTextRows self.entry }
+    {
+        (self.rows, self.total, self.are_joined)
+    }
+
+    /// The index of the row of a stack text, where there is one.
+    fn row_of(&self, text: &str) -> Option<usize>
+        ensures { MatchOption result (rows_with text.now self.now ≡ 0) (IsRowOf self.now text.now) }
+    {
+        let at = self.texts.number_of(text);
+        if at < self.rows.len() { Some(at) } else { None }
+    }
+
+    /// Adds to the weight of a row.
+    fn add_to(&mut self, at: usize, weight: u64, number: u64) -> Result<(), FoldedFault>
+        requires { at < length self.old }
+        ensures added { OnOk result (spelled_rows self.new ≡ with_added_at (spelled_rows self.old) at weight) }
+        ensures fits { OnOk result (total_of (spelled_rows self.old) + weight < 2 ^ 63) }
+        ensures fault { IfErr result
+            (λ fault. (fault ≡ FoldedFault.Heavy number) × (2 ^ 63 ≤ total_of (spelled_rows self.old) + weight)) }
+    {
+        if weight > MAX_TOTAL - self.total {
+            return Err(FoldedFault::Heavy { line: number });
+        }
+        self.rows[at].add(weight);
+        self.total += weight;
+        Ok(())
+    }
+
+    /// Adds a row of weight above 0 of a stack text that has none yet.
+    fn push(&mut self, text: &'a str, weight: u64, is_joined: bool) -> Result<(), NoMemory>
+        requires new_text { rows_with text.now self.old ≡ 0 }
+        requires spelled { IsStackText text.now }
+        requires some { 0 < weight }
+        requires fits { total_of (spelled_rows self.old) + weight < 2 ^ 63 }
+        requires joined { IsTrue is_joined → IsJoined text.now }
+        ensures { OnOk result (self.new ≡ self.old ++ (record { text = text.now; weight = weight }) ∷ []) }
+    {
+        self.rows.push(TextRow::new(text, weight))?;
+        let Ok(()) = self.texts.add(text) else {
+            self.rows.pop();
+            return Err(NoMemory);
+        };
+        self.total += weight;
+        self.are_joined = self.are_joined && is_joined;
+        Ok(())
+    }
+
+    /// Adds the row of a stack text that has none yet, where it weighs something.
+    fn add(&mut self, text: &'a str, weight: u64, is_joined: bool) -> Result<(), NoMemory>
+        requires new_text { rows_with text.now self.old ≡ 0 }
+        requires spelled { IsStackText text.now }
+        requires fits { total_of (spelled_rows self.old) + weight < 2 ^ 63 }
+        requires joined { IsTrue is_joined → IsJoined text.now }
+        ensures { OnOk result (AddsRow (spelled_rows self.old) (spelled_rows self.new)
+            (record { stack = frames_of text.now; weight = weight })) }
+    {
+        if weight > 0 {
+            self.push(text, weight, is_joined)?;
+        }
+        Ok(())
+    }
+
+    /// Adds the row that a line spells, to the row of the same stack text where there is one.
+    pub fn sum_line(&mut self, line: &'a [u8], number: u64) -> Result<(), FoldedFault>
+        requires { All (λ byte. byte ≢ 10) line.now }
+        ensures added { OnOk result
+            ((row : WeightedStack) × IsRowLine line.now row × AddsRow (spelled_rows self.old) (spelled_rows self.new) row) }
+        ensures fault { IfErr result (IsLineFault (total_of (spelled_rows self.old)) number line.now) }
+    {
+        let (text, weight) = stack_and_weight(line, number)?;
+        if let Some(at) = self.row_of(text) {
+            return self.add_to(at, weight, number);
+        }
+        let (depth, bytes) = measured(text);
+        fitting(depth, weight, self.total, number)?;
+        let joined = is_joined(text, depth, bytes);
+        Ok(self.add(text, weight, joined)?)
     }
 }
 
 impl<'a> LineTaker<'a> for TextRows<'a> {
-    ghost is_of = { λ sums rows. AreMergedSoFar rows (spelled_rows sums.rows.items)
-        × AreKnownTexts sums.known sums.rows.items sums.total sums.are_joined };
+    ghost is_of = { λ sums rows. AreMergedSoFar rows (spelled_rows sums) };
 
     fn take_line(&mut self, line: &'a [u8], number: u64) -> Result<(), FoldedFault> {
-        sum_line(self, line, number)
+        self.sum_line(line, number)
     }
 }
 

@@ -15,7 +15,7 @@ use crate::folded::{FoldedFault, read_frames};
 use crate::stack_frames::replace_by_text;
 use crate::taking::{LineTaker, take_lines};
 use crate::text_row::TextRow;
-use crate::text_rows::{TextRows, sum_line};
+use crate::text_rows::TextRows;
 use basics::NoMemory;
 use profile_rows::{CountedRows, FrameTotals, Hashing};
 use std::alloc::Global;
@@ -82,6 +82,14 @@ struct Counting<'a> {
 }
 
 impl<'a> Counting<'a> {
+    /// Whether waiting has saved work in so many lines.
+    fn should_wait(&self, lines: u64) -> bool {
+        match &self.waiting {
+            Some(sums) => saves_work(sums.rows().len() as u64, lines, self.bytes),
+            None => false,
+        }
+    }
+
     /// Counts the rows that wait.
     fn count_waiting(&mut self) -> Result<(), NoMemory>
         requires { (merged : List WeightedStack) × AreCounted self.old.waiting self.old.counted merged }
@@ -90,7 +98,7 @@ impl<'a> Counting<'a> {
             → OnOk result (HasCounted merged self.new.counted) }
     {
         if let Some(sums) = self.waiting.take() {
-            count_rows(&mut self.counted, &mut self.frames, sums.rows.as_slice())?;
+            count_rows(&mut self.counted, &mut self.frames, sums.rows())?;
         }
         Ok(())
     }
@@ -105,8 +113,8 @@ impl<'a> LineTaker<'a> for Counting<'a> {
         let Some(sums) = &mut self.waiting else {
             return count_line(&mut self.counted, &mut self.frames, line, number);
         };
-        sum_line(sums, line, number)?;
-        if saves_work(sums.rows.len() as u64, number, self.bytes) {
+        sums.sum_line(line, number)?;
+        if self.should_wait(number) {
             return Ok(());
         }
         Ok(self.count_waiting()?)

@@ -176,6 +176,15 @@ pub with_text-there : (texts : List (List ℕ)) (text : List ℕ)
     → number_in texts text < length texts → with_text texts text ≡ texts
 with_text-there texts text inside = ap (λ b. cond b texts (texts ++ text ∷ [])) (there_inside texts text inside)
 
+-- a text whose number is not before the end is missing
+pub none_at_end : (texts : List (List ℕ)) (text : List ℕ)
+    → length texts ≤ number_in texts text → list_any (bytes_eq text) texts ≡ false
+none_at_end texts text end =
+    elim (list_any (bytes_eq text) texts) as (λ b. list_any (bytes_eq text) texts ≡ b → b ≡ false) [
+      | true ↦ λ e. let inside = number_in-lt texts text e in absurd (omega (arith, end, inside))
+      | false ↦ λ e. refl
+    ] refl
+
 -- ---- a loop over texts that are lent
 
 pub shown_at : (items : List (Bor (List ℕ))) (k : ℕ) (item : Bor (List ℕ))

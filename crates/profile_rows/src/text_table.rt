@@ -65,8 +65,21 @@ impl<'a> TextTable<'a> {
         ensures { IfOk result (λ table. table.texts ≡ with_text self.entry.texts text.now) }
     {
         let mut table = self;
-        table.number_with(text)?;
+        table.add(text)?;
         Ok(table)
+    }
+
+    /// Adds a text, which isn't added again where it is there.
+    ///
+    /// # Errors
+    ///
+    /// `NoMemory`; the table is then as it was.
+    pub fn add(&mut self, text: &'a str) -> Result<(), NoMemory>
+        ensures texts { OnOk result (self.new.texts ≡ with_text self.old.texts text.now) }
+        ensures kept { OnErr result (self.new ≡ self.old) }
+    {
+        self.texts.insert(text)?;
+        Ok(())
     }
 
     /// The number of a text, which is added where it is missing.
@@ -83,7 +96,7 @@ impl<'a> TextTable<'a> {
     {
         let number = self.number_of(text);
         if number == self.texts.len() {
-            self.texts.insert(text)?;
+            self.add(text)?;
         }
         Ok(number)
     }

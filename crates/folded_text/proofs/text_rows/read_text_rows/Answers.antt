@@ -6,14 +6,13 @@ use Rattle.folded_text.proofs.text_rows.read_text_rows.Goals as goal
 
 pub take_lines-requires : goal.take_lines-requires
 take_lines-requires c =
-    λ k. ((refl, tt), (AreMergedSoFar-none _ (ap spelled_rows c.new-sums.ensures.none), c.new-sums.ensures.known))
+    λ k. ((refl, tt), AreMergedSoFar-none _ (ap spelled_rows c.new-sums.ensures))
 
 pub returns : goal.returns
 returns c =
     let (rows, folded, sums) = c.in_ok-take_lines.ensures.taken in
     record {
-      known = sums.1;
       rows = rows;
       folded = folded;
-      same = AreMergedSoFar-same rows (spelled_rows c.take_lines.new.taker.rows.items) sums.0;
+      same = AreMergedSoFar-same rows (spelled_rows c.take_lines.new.taker) sums;
     }

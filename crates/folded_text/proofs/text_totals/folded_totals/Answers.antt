@@ -13,7 +13,7 @@ take_lines-requires c = λ k. (
   (
     [],
     AreMergedSoFar-none [] refl,
-    (sym (ap spelled_rows c.new-waiting.ensures.none), c.new-waiting.ensures.known, c.new-counted.ensures.counted),
+    (sym (ap spelled_rows c.new-waiting.ensures), c.new-counted.ensures.counted),
   ),
 )
 

@@ -25,26 +25,26 @@ returns-in_default-clause-taken c = λ rows so_far fits.
       ),
     ))
 
-pub returns-then-saves_work-clause-taken : goal.returns-then-saves_work-clause-taken
-returns-then-saves_work-clause-taken c = λ rows so_far fits.
+pub returns-then-should_wait-clause-taken : goal.returns-then-should_wait-clause-taken
+returns-then-should_wait-clause-taken c = λ rows so_far fits.
     let (merged, same, counted) = so_far in
-    let (is, known, none) = subst (λ waiting. AreCounted waiting c.args.self.now.counted merged) c.in-Some.is counted in
+    let (is, none) = subst (λ waiting. AreCounted waiting c.args.self.now.counted merged) c.in-Some.is counted in
     let (row, this, adds) = c.in_ok-sum_line.ensures.added in
     let (within, more) = waits rows merged
-    (spelled_rows c.in-Some.sums.rows.items) (spelled_rows c.sum_line.new.sums.rows.items) row same is adds in (
+    (spelled_rows c.in-Some.sums) (spelled_rows c.sum_line.new.self) row same is adds in (
       row,
       this,
       within,
-      (spelled_rows c.sum_line.new.sums.rows.items, more, (refl, c.in_ok-sum_line.ensures.known, none)),
+      (spelled_rows c.sum_line.new.self, more, (refl, none)),
     )
 
 pub returns-clause-taken : goal.returns-clause-taken
 returns-clause-taken c = λ rows so_far fits.
     let (merged, same, counted) = so_far in
-    let (is, known, none) = subst (λ waiting. AreCounted waiting c.args.self.now.counted merged) c.in-Some.is counted in
+    let (is, none) = subst (λ waiting. AreCounted waiting c.args.self.now.counted merged) c.in-Some.is counted in
     let (row, this, adds) = c.in_ok-sum_line.ensures.added in
-    let sums = spelled_rows c.sum_line.new.sums.rows.items in
-    let (within, more) = waits rows merged (spelled_rows c.in-Some.sums.rows.items) sums row same is adds in (
+    let sums = spelled_rows c.sum_line.new.self in
+    let (within, more) = waits rows merged (spelled_rows c.in-Some.sums) sums row same is adds in (
       row,
       this,
       within,
@@ -53,6 +53,6 @@ returns-clause-taken c = λ rows so_far fits.
         more,
         subst (λ waiting. AreCounted waiting c.count_waiting.new.self.counted sums)
             (sym c.in_ok-count_waiting.ensures.none)
-            (c.in_ok-count_waiting.ensures.counted sums (refl, c.in_ok-sum_line.ensures.known, none)),
+            (c.in_ok-count_waiting.ensures.counted sums (refl, none)),
       ),
     )

@@ -1,19 +1,13 @@
 -- A text that is missing comes at the end.
-use Rattle.std.proofs.Common.{◌<◌, ℕ, List, length, ap, sym, ◌∙◌, map, arith}
+use Rattle.std.proofs.Common.{◌<◌, ℕ, List, length, ap, sym, ◌∙◌, arith}
 use Rattle.std.proofs.lemmas.List.{length-map}
 use denote.Ref.{Bor}
-use Rattle.profile_rows.specs.TextTables.{NumberedTexts, number_in, with_text}
-use Rattle.profile_rows.proofs.TextNumbers.{number_in-le, number_in-with, text_inserted, with_text-there}
+use Rattle.profile_rows.specs.TextTables.{NumberedTexts, number_in}
+use Rattle.profile_rows.proofs.TextNumbers.{number_in-le, number_in-with, with_text-there}
 use Rattle.profile_rows.proofs.text_table.TextTable.number_with.Goals as goal
 
-pub returns-in_ok-insert-clause-texts : goal.returns-in_ok-insert-clause-texts
-returns-in_ok-insert-clause-texts c =
-    ap (map (λ (text : Bor (List ℕ)). text.now)) c.in_ok-insert.ensures.keys
-    ∙ text_inserted c.self.inside.texts.keys c.args.text
-    ∙ ap (λ (table : NumberedTexts). with_text table.texts c.args.text.now) c.self.view_is
-
-pub returns-in_ok-insert-clause-number : goal.returns-in_ok-insert-clause-number
-returns-in_ok-insert-clause-number c =
+pub returns-in_ok-add-clause-number : goal.returns-in_ok-add-clause-number
+returns-in_ok-add-clause-number c =
     c.number_of-number.ensures.number ∙ sym (number_in-with c.args.self.now.texts c.args.text.now)
 
 pub returns-else-number-len-clause-texts : goal.returns-else-number-len-clause-texts

@@ -8,8 +8,8 @@ use Rattle.folded_text.specs.declared.folded.FoldedFault.{FoldedFault}
 use Rattle.folded_text.specs.declared.folded.FoldedFault.TheVariants.{Heavy}
 use Rattle.profile_rows.specs.Rows.{total_of}
 use Rattle.folded_text.specs.FoldedText.{HasCount, IsLineFault, IsRowLine, frames_of}
-use Rattle.profile_rows.specs.Merging.{AddsRow, row_at, with_added_at}
-use Rattle.profile_rows.proofs.MergedRows.{AddsRow-added, IsIndexedAt}
+use Rattle.profile_rows.specs.Merging.{AddsRow, IsStackAt, row_at, with_added_at}
+use Rattle.profile_rows.proofs.MergedRows.{AddsRow-added}
 use Rattle.folded_text.proofs.Reading.{IsRowLine-read}
 
 pub both : {T E A B C : Type 0} (result : Result T E) → OnOk result A → OnOk result B → (A → B → C) → OnOk result C
@@ -20,7 +20,7 @@ both (Err fault) a b join = tt
 pub added_to : (at weight : ℕ)
     (line text digits : List ℕ) (merged new : List WeightedStack) (outcome : Result (Unit {0}) FoldedFault)
     → IsUtf8 line → HasCount line text digits
-    → weight ≡ digits_value 10 digits → weight < 2 ^ 63 → IsIndexedAt frames_of merged text at
+    → weight ≡ digits_value 10 digits → weight < 2 ^ 63 → IsStackAt merged (frames_of text) at
     → OnOk outcome (new ≡ with_added_at merged at weight) → OnOk outcome (total_of merged + weight < 2 ^ 63)
     → OnOk outcome ((row : WeightedStack) × IsRowLine line row × AddsRow merged new row)
 added_to at weight line text digits merged new (Ok done) utf8 count value small there added fits =
@@ -37,7 +37,7 @@ added_to at weight line text digits merged new (Err fault) utf8 count value smal
 pub refused_at : (at weight number earlier : ℕ)
     (line text digits : List ℕ) (merged : List WeightedStack) (outcome : Result (Unit {0}) FoldedFault)
     → IsUtf8 line → HasCount line text digits
-    → weight ≡ digits_value 10 digits → weight < 2 ^ 63 → IsIndexedAt frames_of merged text at
+    → weight ≡ digits_value 10 digits → weight < 2 ^ 63 → IsStackAt merged (frames_of text) at
     → IfErr outcome (λ fault. (fault ≡ Heavy number) × (2 ^ 63 ≤ earlier + weight))
     → IfErr outcome (IsLineFault earlier number line)
 refused_at at weight number earlier line text digits merged (Ok done) utf8 count value small there fault = tt

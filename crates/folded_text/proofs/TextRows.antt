@@ -21,7 +21,7 @@ use borrow.Author.Tests.{ne_eqb}
 use Prim.Native.Nat.{zero, suc}
 use Rattle.profile_rows.specs.declared.weighted_stacks.WeightedStack.{WeightedStack}
 use Rattle.profile_rows.specs.Aggregate.{AreWeighty, IsAscending, aggregate_of, rows_of}
-use Rattle.profile_rows.specs.Merging.{row_at, with_added_at}
+use Rattle.profile_rows.specs.Merging.{IsStackAt, row_at, with_added_at}
 use Rattle.profile_rows.specs.Rows.{is_kept, is_same_stack, kept_rows, stack_cmp, total_of, weight_if}
 use Rattle.profile_rows.proofs.InOrder.{rows_of-aggregate}
 use Rattle.profile_rows.proofs.MergedRows.{AddsRow-added}
@@ -32,7 +32,7 @@ use Rattle.profile_rows.proofs.SameNames.{is_same_name-self, same_from_is_same_n
 use Rattle.folded_text.specs.FoldedText.{frames_of, row_text, rows_text}
 use Rattle.folded_text.specs.StackOrder.{IsJoined}
 use Rattle.profile_rows.specs.StackTexts.{TextState}
-use Rattle.folded_text.specs.TextRows.{AreKnownTexts, AreTextRows, IsRowOf, IsStackText, by_text}
+use Rattle.folded_text.specs.TextRows.{AreKnownTexts, AreTextRows, IsStackText, by_text}
 use Rattle.folded_text.specs.TextRows.{rows_with, spelled_row, spelled_rows, text_lines}
 use Rattle.folded_text.proofs.StackOrder.{joined_texts-cmp, stack_text_cmp_total}
 
@@ -188,12 +188,13 @@ absent (row ∷ rows) text nothing = elim (bytes_eq text row.text) as (λ b. row
     ] (sum_by-cons (has text) row rows)
 
 module _ (texts : List (List ℕ)) (rows : List TextState) (total : ℕ) (are_joined : Bool)
-    (so_far : AreKnownTexts texts rows total are_joined) (text : List ℕ) (at : ℕ) (number : at ≡ number_in texts text) where
+    (so_far : AreKnownTexts texts rows total are_joined) (text : List ℕ) (at : ℕ)
+    (number : at ≡ number_in texts text) where
   many : length texts ≡ length rows
   many = ap length so_far.texts_are ∙ length-map rows (λ (row : TextState). row.text)
 
   -- a text whose number is an index has its row there
-  pub row_found : (none : TextState) → at < length rows → IsRowOf rows text at
+  pub row_found : (none : TextState) → at < length rows → IsStackAt (spelled_rows rows) (frames_of text) at
   row_found none lt =
       let own : (get_or rows at none).text ≡ text =
       sym (get_or-map (λ (row : TextState). row.text) rows at none [] lt)
@@ -252,19 +253,6 @@ pub AreTextRows-known : (texts : List (List ℕ)) (rows : List TextState) (total
     → are_joined ≡ true → AreKnownTexts texts rows total are_joined → AreTextRows rows
 AreTextRows-known texts rows total are_joined e so_far =
     record { weighty = so_far.weighty; once = so_far.once; joined = so_far.joined e }
-
--- no rows yet
-pub AreKnownTexts-none : (texts : List (List ℕ)) (rows : List TextState) (are_joined : Bool) → texts ≡ [] → rows ≡ []
-    → AreKnownTexts texts rows 0 are_joined
-AreKnownTexts-none texts rows are_joined none is = record {
-  texts_are = none ∙ ap texts_in (sym is);
-  once = λ text. subst (λ rs. rows_with text rs ≤ 1) (sym is) (omega arith);
-  weighty = subst (All (λ (row : TextState). 0 < row.weight)) (sym is) (λ at d lt. absurd (omega (arith, lt)));
-  spelled = subst (All (λ (row : TextState). IsStackText row.text)) (sym is) (λ at d lt. absurd (omega (arith, lt)));
-  joined = λ e. subst (All (λ (row : TextState). IsJoined row.text)) (sym is) (λ at d lt. absurd (omega (arith, lt)));
-  total_is = ap (λ rs. total_of (spelled_rows rs)) (sym is);
-  fits = omega arith;
-}
 
 -- sorted rows add up to the same
 pub spelled-moved : (rows sorted : List TextState) → IsPermutation rows sorted → (aggregate_of (spelled_rows sorted)

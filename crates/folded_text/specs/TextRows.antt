@@ -6,7 +6,6 @@ use Rattle.std.specs.Str.{bytes_eq}
 use Rattle.std.specs.declared.cmp.Ordering.{Ordering}
 use Rattle.profile_rows.specs.declared.weighted_stacks.WeightedStack.{WeightedStack}
 use Rattle.profile_rows.specs.Aggregate.{aggregate_of}
-use Rattle.profile_rows.specs.Merging.{row_at}
 use Rattle.profile_rows.specs.Rows.{total_of}
 use Rattle.profile_rows.specs.StackTexts.{TextState}
 use Rattle.folded_text.specs.FoldedText.{IsFoldedText, frames_of}
@@ -52,11 +51,6 @@ pub record AreKnownTexts (texts : List (List ℕ)) (rows : List TextState) (tota
   pub joined : are_joined ≡ true → All (λ (row : TextState). IsJoined row.text) rows
   pub total_is : total ≡ total_of (spelled_rows rows)
   pub fits : total < 2 ^ 63
-
--- at this index stands the row of the text, whose stack a row can have
-abbrev pub IsRowOf : List TextState → List ℕ → ℕ → Type 0
-IsRowOf rows text at = (at < length (spelled_rows rows)) × ((row_at (spelled_rows rows) at).stack ≡ frames_of text)
-    × (length (frames_of text) ≤ 65535)
 
 -- the rows add up to what the text is folded text of
 pub record AreSumsOfText (text : List ℕ) (sums : List TextState) : Type 0 where

@@ -4,11 +4,11 @@
 ghost use Rattle.std.specs.Prelude.{ℕ, ◌≡◌, ◌≢◌, ◌+◌, ◌^◌, ◌<◌, ◌≤◌, ◌++◌, ◌∷◌, [], All, IfErr, IfOk, IsPermutation, IsSorted};
 ghost use Rattle.std.specs.Prelude.{IsTrue, MatchOption, MatchResult, OnOk, length, sum_by};
 ghost use Rattle.profile_rows.specs.declared.weighted_stacks.WeightedStack.{WeightedStack};
-ghost use Rattle.profile_rows.specs.Merging.{AddsRow, AreMergedSoFar, with_added_at};
+ghost use Rattle.profile_rows.specs.Merging.{AddsRow, AreMergedSoFar, IsStackAt, with_added_at};
 ghost use Rattle.profile_rows.specs.Rows.{total_of};
 ghost use Rattle.folded_text.specs.FoldedText.{IsFirstFault, IsLineFault, IsRowLine, frames_of};
 ghost use Rattle.folded_text.specs.StackOrder.{IsJoined};
-ghost use Rattle.folded_text.specs.TextRows.{AreSumsOfText, AreTextRows, IsRowOf, IsStackText, by_text, rows_with, spelled_rows};
+ghost use Rattle.folded_text.specs.TextRows.{AreSumsOfText, AreTextRows, IsStackText, by_text, rows_with, spelled_rows};
 ghost use Rattle.folded_text.specs.TextRows.{text_lines};
 
 use crate::folded::{FoldedFault, fitting, push_frames, stack_and_weight};
@@ -89,7 +89,8 @@ impl<'a> TextRows<'a> {
 
     /// The index of the row of a stack text, where there is one.
     fn row_of(&self, text: &str) -> Option<usize>
-        ensures { MatchOption result (rows_with text.now self.now ≡ 0) (IsRowOf self.now text.now) }
+        ensures { MatchOption result (rows_with text.now self.now ≡ 0)
+            (IsStackAt (spelled_rows self.now) (frames_of text.now)) }
     {
         let at = self.texts.number_of(text);
         if at < self.rows.len() { Some(at) } else { None }
@@ -148,8 +149,8 @@ impl<'a> TextRows<'a> {
     /// Adds the row that a line spells, to the row of the same stack text where there is one.
     pub fn sum_line(&mut self, line: &'a [u8], number: u64) -> Result<(), FoldedFault>
         requires { All (λ byte. byte ≢ 10) line.now }
-        ensures added { OnOk result
-            ((row : WeightedStack) × IsRowLine line.now row × AddsRow (spelled_rows self.old) (spelled_rows self.new) row) }
+        ensures added { OnOk result ((row : WeightedStack) × IsRowLine line.now row
+            × AddsRow (spelled_rows self.old) (spelled_rows self.new) row) }
         ensures fault { IfErr result (IsLineFault (total_of (spelled_rows self.old)) number line.now) }
     {
         let (text, weight) = stack_and_weight(line, number)?;

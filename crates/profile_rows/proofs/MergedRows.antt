@@ -1,20 +1,11 @@
 -- Rows of one stack put together.
-use Rattle.std.proofs.Common.{◌≡◌, ℕ, ◌+◌, ◌^◌, ◌<◌, ◌≤◌, Bool, true, false, cond, List, [], ◌∷◌, ◌++◌, length, refl}
-use Rattle.std.proofs.Common.{sym, ap, ◌∙◌, subst, arith, inl, inr, length-append, length-set}
-use Rattle.std.specs.Prelude.{Option, Some, None, IfSome}
-use Rattle.std.specs.HashMap as hash
-use Rattle.std.specs.Str.{bytes_eq}
-use Rattle.std.proofs.lemmas.List.{get_or-set_same, get_or-set_other}
-use Rattle.std.proofs.Math.ListN.{get_or-append}
-use Rattle.std.proofs.Math.Seq.{get_or-append_seam}
-use Rattle.std.proofs.lemmas.Bool.{cases_eq}
-use Rattle.std.proofs.lemmas.Map.Text.{hash_map_updates_str}
+use Rattle.std.proofs.Common.{◌≡◌, ℕ, ◌+◌, ◌^◌, ◌<◌, Bool, true, false, cond, List, [], ◌∷◌, ◌++◌, length, refl}
+use Rattle.std.proofs.Common.{sym, ap, ◌∙◌, arith}
 use Rattle.profile_rows.specs.declared.weighted_stacks.WeightedStack.{WeightedStack}
 use Rattle.profile_rows.specs.Aggregate.{aggregate_of}
 use Rattle.profile_rows.specs.Rows.{is_same_stack, total_of, weight_if, weight_of}
-use Rattle.profile_rows.specs.Merging.{AddsRow, AreIndexedBy, AreMergedSoFar, RowsBySpelling, row_at, row_spelled}
+use Rattle.profile_rows.specs.Merging.{AddsRow, AreMergedSoFar, row_at}
 use Rattle.profile_rows.specs.Merging.{with_added_at}
-use Rattle.profile_rows.proofs.SameNames.{same_from_is_same_name}
 use Rattle.profile_rows.proofs.RowLaws.{aggregate_of-same, weight_where-set, weight_where-push}
 use Rattle.std.proofs.lemmas.List.Sums.{sum_by-set, sum_by_push}
 
@@ -59,78 +50,6 @@ AddsRow-push rows all row is fits = record {
   total = ap total_of is ∙ sum_by_push (λ (r : WeightedStack). r.weight) rows row;
   fits = fits;
 }
-
--- ---- rows by what spells their stacks
-
-pub stack_kept : (rows : List WeightedStack) (at k weight : ℕ)
-    → at < length rows → (row_at (with_added_at rows at weight) k).stack ≡ (row_at rows k).stack
-stack_kept rows at k weight lt = elim (cases_eq k at) [
-  | inl same ↦ subst (λ j. (row_at (with_added_at rows at weight) j).stack ≡ (row_at rows j).stack) (sym same)
-      (ap (λ (r : WeightedStack). r.stack) (get_or-set_same rows at
-      (record { stack = (row_at rows at).stack; weight = (row_at rows at).weight + weight }) no_row lt))
-  | inr other ↦ ap (λ (r : WeightedStack). r.stack) (get_or-set_other rows at k
-      (record { stack = (row_at rows at).stack; weight = (row_at rows at).weight + weight }) no_row other)
-]
-
--- what a spelling leads to
-abbrev pub IsIndexedAt : (List ℕ → List (List ℕ)) → List WeightedStack → List ℕ → ℕ → Type 0
-IsIndexedAt stack_of rows spelling at =
-    (at < length rows) × ((row_at rows at).stack ≡ stack_of spelling) × (length (stack_of spelling) ≤ 65535)
-
-still_indexed : (stack_of : List ℕ → List (List ℕ)) (rows all : List WeightedStack) (spelling : List ℕ)
-    (found : Option ℕ) → ((k : ℕ) → k < length rows → (k < length all) × ((row_at all k).stack ≡ (row_at rows k).stack))
-    → IfSome found (IsIndexedAt stack_of rows spelling) → IfSome found (IsIndexedAt stack_of all spelling)
-still_indexed stack_of rows all spelling None kept h = h
-still_indexed stack_of rows all spelling (Some k) kept h = ((kept k h.0).0, (kept k h.0).1 ∙ h.1, h.2)
-
--- what a look-up found
-pub indexed_at : (stack_of : List ℕ → List (List ℕ)) (known : RowsBySpelling) (rows : List WeightedStack)
-    (spelling : List ℕ) (at : ℕ) → AreIndexedBy stack_of known rows → row_spelled known spelling ≡ Some at
-    → IsIndexedAt stack_of rows spelling at
-indexed_at stack_of known rows spelling at indexed e =
-    subst (λ o. IfSome o (IsIndexedAt stack_of rows spelling)) e (indexed spelling)
-
-pub AreIndexedBy-added : (stack_of : List ℕ → List (List ℕ)) (known : RowsBySpelling)
-    (rows : List WeightedStack) (at weight : ℕ) → at < length rows → AreIndexedBy stack_of known rows
-    → AreIndexedBy stack_of known (with_added_at rows at weight)
-AreIndexedBy-added stack_of known rows at weight lt indexed = λ spelling.
-    still_indexed stack_of rows (with_added_at rows at weight) spelling (row_spelled known spelling)
-    (λ k below. (
-      let long = length-set rows at (record {
-        stack = (row_at rows at).stack;
-        weight =
-            (row_at rows at).weight + weight;
-      }) in omega (arith, long, below),
-      stack_kept rows at k weight lt,
-    ))
-    (indexed spelling)
-
-pub AreIndexedBy-push : (stack_of : List ℕ → List (List ℕ)) (known after : RowsBySpelling)
-    (rows all : List WeightedStack) (spelling : List ℕ) (weight index : ℕ) → index ≡ length rows
-    → hash.UpdatesBy (λ x y. bytes_eq x.now y.now) (λ k. bytes_eq spelling k.now) known after (Some index)
-    → all ≡ rows ++ (record { stack = stack_of spelling; weight = weight }) ∷ []
-    → length (stack_of spelling) ≤ 65535 → AreIndexedBy stack_of known rows → AreIndexedBy stack_of after all
-AreIndexedBy-push stack_of known after rows all spelling weight index end updates is deep indexed = λ q.
-    let row : WeightedStack = record { stack = stack_of spelling; weight = weight } in
-    let leads = hash_map_updates_str spelling known after (Some index) updates q in
-    let long : length all ≡ length rows + 1 = ap length is ∙ length-append rows (row ∷ []) in
-    let last : row_at all index ≡ row = ap (λ rs. row_at rs index) is
-    ∙ ap (row_at (rows ++ row ∷ [])) end ∙ get_or-append_seam rows row [] no_row in
-    subst (λ o. IfSome o (IsIndexedAt stack_of all q)) (sym leads)
-    (elim (bytes_eq spelling q) as (λ b. bytes_eq spelling q ≡ b
-    → IfSome (cond b (Some index) (row_spelled known q)) (IsIndexedAt stack_of all q)) [
-      | true ↦ λ e.
-          let same = same_from_is_same_name spelling q e in
-          subst (λ t. IsIndexedAt stack_of all t index) same
-          (omega (arith, long, end), ap (λ (r : WeightedStack). r.stack) last, deep)
-      | false ↦ λ e. still_indexed stack_of rows all q (row_spelled known q)
-          (λ k below. (
-            omega (arith, long, below),
-            ap (λ rs. (row_at rs k).stack) is
-                ∙ ap (λ (r : WeightedStack). r.stack) (get_or-append rows (row ∷ []) no_row k below),
-          ))
-          (indexed q)
-    ] refl)
 
 -- ---- a loop that puts rows together
 

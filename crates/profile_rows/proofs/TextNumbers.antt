@@ -124,6 +124,18 @@ pub list_any-map : {A B : Type 0} (test : B → Bool) (f : A → B) (xs : List A
 list_any-map test f [] = refl
 list_any-map test f (x ∷ xs) = ap (λ b. test (f x) || b) (list_any-map test f xs)
 
+-- where a set has a text there stands it
+pub position_found : (items : List (Bor (List ℕ))) (text : List ℕ) (at : ℕ)
+    → Some at ≡ position (λ (item : Bor (List ℕ)). bytes_eq text item.now) items
+    → (at ≡ number_in (map (λ (item : Bor (List ℕ)). item.now) items) text) × (at < length items)
+position_found items text at is =
+    let place = position_or_len (λ (item : Bor (List ℕ)). bytes_eq text item.now) items in
+    elim (nat_lt place (length items)) as (λ b. nat_lt place (length items) ≡ b → Some at ≡ cond b (Some place) None
+    → (at ≡ number_in (map (λ (item : Bor (List ℕ)). item.now) items) text) × (at < length items)) [
+      | true ↦ λ e found. let same : at ≡ place = cc in (same ∙ place_of_text items text, grind (arith, e, same))
+      | false ↦ λ e found. cc
+    ] refl is
+
 -- a text that is lent, put into a set of others
 pub text_inserted : (items : List (Bor (List ℕ))) (item : Bor (List ℕ))
     → map (λ (text : Bor (List ℕ)). text.now) (insert_key (λ (left right : Bor (List ℕ)). bytes_eq left.now right.now)

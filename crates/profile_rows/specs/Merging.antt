@@ -1,13 +1,8 @@
 -- Rows in which equal stacks were put together.
-use Rattle.std.specs.Prelude.{ℕ, ◌≡◌, ◌+◌, ◌^◌, ◌<◌, ◌≤◌, All, false, List, [], Option, IfSome, length, slice_index_or}
+use Rattle.std.specs.Prelude.{ℕ, ◌≡◌, ◌+◌, ◌^◌, ◌<◌, ◌≤◌, All, false, List, [], length, slice_index_or}
 use Rattle.std.specs.Prelude.{slice_set}
-use Rattle.std.specs.HashMap as hash
-use Rattle.std.specs.HashMap.{HashMap}
 use Rattle.std.specs.Ordering.{is_lt}
 use Rattle.std.specs.declared.cmp.Ordering.{Ordering}
-use Rattle.std.specs.Str.{bytes_eq}
-use denote.Ref.{Bor}
-use Rattle.profile_rows.specs.declared.hashing.Hashing.{Hashing}
 use Rattle.profile_rows.specs.declared.weighted_stacks.WeightedStack.{WeightedStack}
 use Rattle.profile_rows.specs.Rows.{is_same_stack, stack_cmp, total_of, weight_if, weight_of}
 
@@ -28,19 +23,9 @@ by_stack row after = stack_cmp row.stack after.stack
 abbrev pub AreUpTo : List (List ℕ) → List WeightedStack → Type 0
 AreUpTo stack rows = All (λ (row : WeightedStack). is_lt (stack_cmp stack row.stack) ≡ false) rows
 
--- rows by what spells their stacks
-abbrev pub RowsBySpelling : Type 0
-RowsBySpelling = HashMap (Bor (List ℕ)) ℕ Hashing
-
-abbrev pub row_spelled : RowsBySpelling → List ℕ → Option ℕ
-row_spelled known spelling = hash.get_by (λ (key : Bor (List ℕ)). bytes_eq spelling key.now) known
-
--- what a spelling leads to is a row of the stack that it spells
-abbrev pub AreIndexedBy : (List ℕ → List (List ℕ)) → RowsBySpelling → List WeightedStack → Type 0
-AreIndexedBy stack_of known rows = (spelling : List ℕ)
-    → IfSome (row_spelled known spelling)
-    (λ at. (at < length rows) × ((row_at rows at).stack ≡ stack_of spelling)
-    × (length (stack_of spelling) ≤ 65535))
+-- at the index stands the row of this stack, which is no deeper than a stack can be
+abbrev pub IsStackAt : List WeightedStack → List (List ℕ) → ℕ → Type 0
+IsStackAt rows stack at = (at < length rows) × ((row_at rows at).stack ≡ stack) × (length stack ≤ 65535)
 
 -- the rows weigh a row more: each stack does, and all together
 pub record AddsRow (old new : List WeightedStack) (row : WeightedStack) : Type 0 where

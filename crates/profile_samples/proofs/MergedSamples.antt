@@ -1,6 +1,12 @@
 -- What is answered for a profile's samples decides what its rows add up to.
-use Rattle.std.proofs.Common.{◌≡◌, List, ap, ◌∙◌, subst, arith}
-use Rattle.std.specs.Prelude.{Result, Ok, Err, MatchResult}
+use Rattle.std.proofs.Common.{◌≡◌, ℕ, ◌+◌, ◌≤◌, ◌++◌, ◌∷◌, [], All, List, ap, sym, refl, ◌∙◌, get_or, length, map}
+use Rattle.std.proofs.Common.{subst, arith}
+use Rattle.std.specs.Prelude.{Result, Ok, Err, MatchResult, Some, position}
+use Rattle.std.specs.Str.{bytes_eq}
+use Rattle.std.proofs.lemmas.List.{get_or-map, length-map, map-append}
+use Rattle.std.proofs.lemmas.List.Elements.{All-push}
+use Rattle.std.proofs.Math.Seq.{map-set_same}
+use denote.Ref.{Bor}
 use Rattle.pprof_profile.specs.declared.messages.Draft.{Draft}
 use Rattle.profile_rows.specs.declared.weighted_stacks.WeightedStack.{WeightedStack}
 use Rattle.profile_rows.specs.declared.frame_totals.FrameTotals.{FrameTotals}
@@ -12,7 +18,10 @@ use Rattle.profile_samples.specs.declared.sampling.BatchFault.TheVariants as bat
 use Rattle.profile_samples.specs.declared.sampling.ValueChoice.{ValueChoice}
 use Rattle.profile_samples.specs.Batches.{AreStacksOf, IsFirstStacksFault}
 use Rattle.profile_samples.specs.CountedSamples.{AreTotalsOfSamples}
-use Rattle.profile_samples.specs.MergedSamples.{IsMergedBatch}
+use Rattle.profile_samples.specs.MergedSamples.{AreRowsAt, IsMergedBatch}
+use Rattle.profile_samples.specs.Samples.{sample_stack_of}
+use Rattle.profile_rows.specs.Merging.{IsStackAt, row_at, with_added_at}
+use Rattle.profile_rows.proofs.TextNumbers.{no_text, position_found, shown_at, text_of_number}
 use Rattle.profile_samples.proofs.SampleBatches.{AreStacksOf-same, IsFirstFault-batch}
 
 -- a profile that gives rows of one value has no first fault but want of memory
@@ -38,3 +47,51 @@ pub only_sample_totals : (draft : Draft) (choice : ValueChoice) (outcome : Resul
 only_sample_totals draft choice (Ok totals) read rows this = subst
     (λ some. AreTotalsOf some totals) (AreStacksOf-same draft choice read.rows rows read.sampled this) read.totals_rows
 only_sample_totals draft choice (Err fault) read rows this = no_fault draft choice rows fault this read
+
+-- ---- rows by the lists of their locations
+
+abbrev stack_in : WeightedStack → List (List ℕ)
+stack_in row = row.stack
+
+abbrev stack_at : Draft → Bor (List ℕ) → List (List ℕ)
+stack_at draft list = sample_stack_of draft list.now
+
+pub stack_found : (draft : Draft) (lists : List (Bor (List ℕ))) (rows : List WeightedStack) (ids : List ℕ) (at : ℕ)
+    → AreRowsAt draft lists rows → Some at ≡ position (λ (list : Bor (List ℕ)). bytes_eq ids list.now) lists
+    → IsStackAt rows (sample_stack_of draft ids) at
+stack_found draft lists rows ids at are is =
+    let (number, inside) = position_found lists ids at is in
+    let texts = map (λ (list : Bor (List ℕ)). list.now) lists in
+    let shown = length-map lists (λ (list : Bor (List ℕ)). list.now) in
+    let many = sym (length-map rows stack_in) ∙ ap length are.stacks ∙ length-map lists (stack_at draft) in
+    let own : (get_or lists at no_text).now ≡ ids =
+    sym (shown_at lists at no_text) ∙ ap (λ n. get_or texts n []) number
+    ∙ text_of_number texts ids (omega (arith, shown, number, inside)) in (
+      omega (arith, many, inside),
+      sym (get_or-map stack_in rows at (record { stack = []; weight = 0 }) [] (omega (arith, many, inside)))
+          ∙ ap (λ stacks. get_or stacks at []) are.stacks
+          ∙ get_or-map (stack_at draft) lists at no_text [] inside ∙ ap (sample_stack_of draft) own,
+      subst (λ list. length (sample_stack_of draft list) ≤ 65535) own (are.depths at no_text inside),
+    )
+
+pub AreRowsAt-added : (draft : Draft) (lists : List (Bor (List ℕ))) (rows : List WeightedStack) (at weight : ℕ)
+    → AreRowsAt draft lists rows → AreRowsAt draft lists (with_added_at rows at weight)
+AreRowsAt-added draft lists rows at weight are = record {
+  stacks = map-set_same stack_in rows at
+      (record { stack = (row_at rows at).stack; weight = (row_at rows at).weight + weight })
+      (record { stack = []; weight = 0 }) refl ∙ are.stacks;
+  depths = are.depths;
+}
+
+pub AreRowsAt-push : (draft : Draft) (lists after : List (Bor (List ℕ))) (ids : Bor (List ℕ))
+    (rows all : List WeightedStack) (weight : ℕ) → after ≡ lists ++ ids ∷ []
+    → all ≡ rows ++ (record { stack = sample_stack_of draft ids.now; weight = weight }) ∷ []
+    → length (sample_stack_of draft ids.now) ≤ 65535 → AreRowsAt draft lists rows → AreRowsAt draft after all
+AreRowsAt-push draft lists after ids rows all weight more is deep are = record {
+  stacks = ap (map stack_in) is
+      ∙ map-append stack_in rows (record { stack = sample_stack_of draft ids.now; weight = weight } ∷ [])
+      ∙ ap (λ stacks. stacks ++ sample_stack_of draft ids.now ∷ []) are.stacks
+      ∙ sym (map-append (stack_at draft) lists (ids ∷ [])) ∙ ap (map (stack_at draft)) (sym more);
+  depths = subst (All (λ (list : Bor (List ℕ)). length (sample_stack_of draft list.now) ≤ 65535)) (sym more)
+      (All-push (λ (list : Bor (List ℕ)). length (sample_stack_of draft list.now) ≤ 65535) lists ids are.depths deep);
+}

@@ -1,6 +1,8 @@
 //! The rows of a profile's samples, those of the same locations merged into one.
 
-ghost use Rattle.std.specs.Prelude.{[], ◌∷◌, ◌++◌, ◌≡◌, ◌≢◌, ◌⊎◌, ◌+◌, ◌^◌, ◌<◌, ◌≤◌, IfErr, List, MatchResult, OnErr, OnOk, length, pos, slice_get, Some};
+ghost use Rattle.std.specs.Prelude.{[], ◌∷◌, ◌++◌, ◌≡◌, ◌≢◌, ◌⊎◌, ◌+◌, ◌^◌, ◌<◌, ◌≤◌, false, IfErr, List, MatchResult, OnErr, OnOk, length, pos, slice_get, Some};
+ghost use Rattle.std.specs.List.{list_any};
+ghost use Rattle.std.specs.Str.{bytes_eq};
 ghost use Rattle.profile_rows.specs.declared.weighted_stacks.WeightedStack.{WeightedStack};
 ghost use Rattle.profile_samples.specs.declared.sampling.BatchFault.{BatchFault};
 ghost use Rattle.profile_samples.specs.declared.sampling.ValueChoice.{ValueChoice};
@@ -9,16 +11,16 @@ ghost use Rattle.profile_rows.specs.Rows.{total_of};
 ghost use Rattle.profile_rows.specs.Values.{single};
 ghost use Rattle.profile_samples.specs.Samples.{IsRowOfSample, IsSampleFault, chosen_types_of, sample_stack_of};
 ghost use Rattle.profile_samples.specs.Batches.{AreStacksOf, IsFirstStacksFault, StandsAtSample};
-ghost use Rattle.profile_rows.specs.Merging.{AddsRow, AreIndexedBy, with_added_at};
-ghost use Rattle.profile_samples.specs.MergedSamples.{IsMergedBatch};
+ghost use Rattle.profile_rows.specs.Merging.{AddsRow, with_added_at};
+ghost use Rattle.profile_samples.specs.MergedSamples.{AreRowsAt, IsMergedBatch};
 
 use crate::name_numbers::NumberedFrames;
 use crate::sampling::{BatchFault, ValueChoice, check_fit, chosen_value, weight_of};
 use basics::NoMemory;
+use indexmap::IndexSet;
 use pprof_profile::{Profile, SampleRef};
 use profile_rows::{Hashing, MAX_DEPTH, WeightedStacks};
 use std::alloc::Global;
-use std::collections::HashMap;
 
 /// Adds a row of the stack at these locations, which fits.
 fn push_row(
@@ -41,21 +43,21 @@ fn push_row(
 fn push_merged<'a>(
     alloc: Global,
     frames: &NumberedFrames,
-    known: &mut HashMap<&'a [u64], usize, Hashing>,
+    known: &mut IndexSet<&'a [u64], Hashing>,
     merged: &mut WeightedStacks,
     ids: &'a [u64],
     weight: u64,
 ) -> Result<(), NoMemory>
     requires depth { length (sample_stack_of frames.now ids.now) ≤ 65535 }
     requires fits { total_of merged.old + weight < 2 ^ 63 }
-    requires indexed { AreIndexedBy (sample_stack_of frames.now) known.old merged.old }
+    requires fresh { list_any (λ list. bytes_eq ids.now list.now) known.old.keys ≡ false }
+    requires stacks { AreRowsAt frames.now known.old.keys merged.old }
     ensures added { OnOk result
         (AddsRow merged.old merged.new (record { stack = sample_stack_of frames.now ids.now; weight = weight })) }
-    ensures indexed { OnOk result (AreIndexedBy (sample_stack_of frames.now) known.new merged.new) }
+    ensures stacks { OnOk result (AreRowsAt frames.now known.new.keys merged.new) }
 {
-    let at = merged.rows().len();
     push_row(alloc, frames, merged, ids, weight)?;
-    known.insert(ids, at)?;
+    known.insert(ids)?;
     Ok(())
 }
 
@@ -82,23 +84,23 @@ fn add_to_row(
 fn merge_sample<'a>(
     alloc: Global,
     frames: &NumberedFrames,
-    known: &mut HashMap<&'a [u64], usize, Hashing>,
+    known: &mut IndexSet<&'a [u64], Hashing>,
     merged: &mut WeightedStacks,
     chosen: usize,
     sample: &SampleRef<'a>,
     number: u64,
 ) -> Result<(), BatchFault>
     requires values { chosen < length sample.now.values }
-    requires indexed { AreIndexedBy (sample_stack_of frames.now) known.old merged.old }
+    requires stacks { AreRowsAt frames.now known.old.keys merged.old }
     ensures added { OnOk result
         ((row : WeightedStack) × IsRowOfSample frames.now chosen 1 sample.now (single row)
         × AddsRow merged.old merged.new row) }
-    ensures indexed { OnOk result (AreIndexedBy (sample_stack_of frames.now) known.new merged.new) }
+    ensures stacks { OnOk result (AreRowsAt frames.now known.new.keys merged.new) }
     ensures fault { IfErr result (IsSampleFault frames.now chosen (total_of merged.old ∷ []) number sample.now) }
 {
     let ids = sample.location_ids();
     let weight = weight_of(sample.values(), chosen, number)?;
-    match known.get(ids).copied() {
+    match known.get_index_of(ids) {
         Some(at) => add_to_row(merged, at, weight, number),
         None => {
             check_fit(frames.fit(ids), weight, merged.total(), number)?;
@@ -113,12 +115,12 @@ fn merged_by<'a>(
     alloc: Global,
     profile: &'a Profile,
     frames: &NumberedFrames,
-    mut known: HashMap<&'a [u64], usize, Hashing>,
+    mut known: IndexSet<&'a [u64], Hashing>,
     chosen: usize,
 ) -> Result<WeightedStacks, BatchFault>
     requires framed { frames.now ≡ profile.now }
     requires typed { chosen < length profile.now.sample_types }
-    requires indexed { AreIndexedBy (sample_stack_of profile.now) known [] }
+    requires none { known.keys ≡ [] }
     ensures { (choice : ValueChoice) → chosen_types_of profile.now choice ≡ Some (chosen, 1)
         → MatchResult result (λ merged. IsMergedBatch profile.now choice merged)
         (λ fault. StandsAtSample 1 profile.now choice fault) }
@@ -165,6 +167,6 @@ pub fn merge_samples(
     let chosen = chosen_value(alloc, profile.draft(), choice)?;
     let frames = NumberedFrames::new(alloc, hashing, profile)?;
     let count = profile.draft().samples.len();
-    let known = HashMap::with_capacity_and_hasher(alloc, count, hashing)?;
+    let known = IndexSet::with_capacity_and_hasher(alloc, count, hashing)?;
     merged_by(alloc, profile, &frames, known, chosen)
 }

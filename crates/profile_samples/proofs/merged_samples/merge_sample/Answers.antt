@@ -1,7 +1,7 @@
 -- The sample's weight goes to the row of its locations, or to a new one.
 use Rattle.std.proofs.Common.{◌≡◌, ℕ, ◌+◌, ◌^◌, ◌<◌, ◌≤◌, List, [], ◌∷◌, ap, sym, subst, ◌∙◌, refl, arith}
-use Rattle.std.specs.Prelude.{Result, Ok, Err, Some, OnOk, IfErr, pos, slice_get}
-use Rattle.std.proofs.lemmas.Result.{err_from_is_err_and}
+use Rattle.std.specs.Prelude.{Result, Ok, Err, Some, OnOk, IfErr, is_some, pos, slice_get}
+use Rattle.std.proofs.lemmas.Result.{err_from_is_err_and, on_ok_weaker}
 use Rattle.profile_rows.specs.declared.weighted_stacks.WeightedStack.{WeightedStack}
 use Rattle.profile_samples.specs.declared.sampling.BatchFault.{BatchFault}
 use Rattle.profile_samples.specs.declared.sampling.BatchFault.TheVariants.{Heavy}
@@ -10,8 +10,10 @@ use Rattle.pprof_profile.specs.declared.messages.Sample.{Sample}
 use Rattle.profile_rows.specs.Rows.{total_of}
 use Rattle.profile_rows.specs.Values.{single}
 use Rattle.profile_samples.specs.Samples.{IsFitFault, IsRowOfSample, IsSampleFault, IsValueFault, sample_stack_of}
-use Rattle.profile_rows.specs.Merging.{AddsRow, row_at, row_spelled, with_added_at}
-use Rattle.profile_rows.proofs.MergedRows.{AddsRow-added, IsIndexedAt, indexed_at}
+use Rattle.profile_rows.specs.Merging.{AddsRow, IsStackAt, row_at, with_added_at}
+use Rattle.profile_rows.proofs.MergedRows.{AddsRow-added}
+use Rattle.profile_samples.specs.MergedSamples.{AreRowsAt}
+use Rattle.profile_samples.proofs.MergedSamples.{AreRowsAt-added, stack_found}
 use Rattle.profile_samples.proofs.SampleRows.{Decides, IsSampleFault-fit, fits_in, one_value_below, one_value_memory}
 use Rattle.profile_samples.proofs.SampleRows.{one_value_row}
 use Rattle.profile_samples.proofs.merged_samples.merge_sample.Goals as goal
@@ -20,7 +22,7 @@ use Rattle.profile_samples.proofs.merged_samples.merge_sample.Goals as goal
 added_to : (draft : Draft)
     (chosen at weight : ℕ) (sample : Sample) (sums new : List WeightedStack) (outcome : Result (Unit {0}) BatchFault)
     → slice_get sample.values chosen ≡ Some (pos weight)
-    → IsIndexedAt (sample_stack_of draft) sums sample.location_ids at
+    → IsStackAt sums (sample_stack_of draft sample.location_ids) at
     → OnOk outcome (new ≡ with_added_at sums at weight) → OnOk outcome (total_of sums + weight < 2 ^ 63)
     → OnOk outcome ((row : WeightedStack) × IsRowOfSample draft chosen 1 sample (single row) × AddsRow sums new row)
 added_to draft chosen at weight sample sums new (Ok done) value there added fits =
@@ -36,7 +38,7 @@ added_to draft chosen at weight sample sums new (Err fault) value there added fi
 refused_at : (draft : Draft)
     (chosen at weight number : ℕ) (sample : Sample) (sums : List WeightedStack) (outcome : Result (Unit {0}) BatchFault)
     → slice_get sample.values chosen ≡ Some (pos weight)
-    → IsIndexedAt (sample_stack_of draft) sums sample.location_ids at
+    → IsStackAt sums (sample_stack_of draft sample.location_ids) at
     → IfErr outcome (λ fault. (fault ≡ Heavy number) × (2 ^ 63 ≤ total_of sums + weight))
     → IfErr outcome (IsSampleFault draft chosen (total_of sums ∷ []) number sample)
 refused_at draft chosen at weight number sample sums (Ok done) value there fault = tt
@@ -59,36 +61,40 @@ returns-in_err-weight-clause-fault c =
 
 pub add_to_row-requires : goal.add_to_row-requires
 add_to_row-requires c =
-    let found : row_spelled c.args.known.now c.location_ids-ids.result.now ≡ Some c.in-Some.at = sym c.get.ensures.value
-    ∙ sym c.copied.ensures ∙ c.in-Some.is in
-    (indexed_at (sample_stack_of c.args.frames.now)
-    c.args.known.now c.args.merged.now c.location_ids-ids.result.now c.in-Some.at c.requires.indexed found).0
+    (stack_found c.args.frames.now c.args.known.now.keys c.args.merged.now c.location_ids-ids.result.now c.in-Some.at
+    c.requires.stacks (sym c.in-Some.is ∙ c.get_index_of.ensures.index)).0
 
 pub returns-in-Some-clause-added : goal.returns-in-Some-clause-added
 returns-in-Some-clause-added c =
     let value = subst (λ values. slice_get values c.args.chosen ≡ Some (pos c.in_ok-weight.weight))
     c.values.ensures c.in_ok-weight.ensures.weight.0 in
-    let found : row_spelled c.args.known.now c.location_ids-ids.result.now ≡ Some c.in-Some.at = sym c.get.ensures.value
-    ∙ sym c.copied.ensures ∙ c.in-Some.is in
-    let there = subst (λ ids. IsIndexedAt (sample_stack_of c.args.frames.now) c.args.merged.now ids c.in-Some.at)
+    let there = subst (λ ids. IsStackAt c.args.merged.now (sample_stack_of c.args.frames.now ids) c.in-Some.at)
     c.location_ids-ids.ensures
-    (indexed_at (sample_stack_of c.args.frames.now)
-    c.args.known.now c.args.merged.now c.location_ids-ids.result.now c.in-Some.at c.requires.indexed found) in
+    (stack_found c.args.frames.now c.args.known.now.keys c.args.merged.now c.location_ids-ids.result.now c.in-Some.at
+    c.requires.stacks (sym c.in-Some.is ∙ c.get_index_of.ensures.index)) in
     added_to c.args.frames.now c.args.chosen c.in-Some.at c.in_ok-weight.weight c.args.sample.now c.args.merged.now
     c.add_to_row.new.merged c.add_to_row.result value there c.add_to_row.ensures.added c.add_to_row.ensures.fits
+
+pub returns-in-Some-clause-stacks : goal.returns-in-Some-clause-stacks
+returns-in-Some-clause-stacks c =
+    on_ok_weaker c.add_to_row.result
+    (λ added. subst (AreRowsAt c.args.frames.now c.args.known.now.keys) (sym added)
+    (AreRowsAt-added c.args.frames.now c.args.known.now.keys c.args.merged.now c.in-Some.at c.in_ok-weight.weight
+    c.requires.stacks)) c.add_to_row.ensures.added
 
 pub returns-in-Some-clause-fault : goal.returns-in-Some-clause-fault
 returns-in-Some-clause-fault c =
     let value = subst (λ values. slice_get values c.args.chosen ≡ Some (pos c.in_ok-weight.weight))
     c.values.ensures c.in_ok-weight.ensures.weight.0 in
-    let found : row_spelled c.args.known.now c.location_ids-ids.result.now ≡ Some c.in-Some.at = sym c.get.ensures.value
-    ∙ sym c.copied.ensures ∙ c.in-Some.is in
-    let there = subst (λ ids. IsIndexedAt (sample_stack_of c.args.frames.now) c.args.merged.now ids c.in-Some.at)
+    let there = subst (λ ids. IsStackAt c.args.merged.now (sample_stack_of c.args.frames.now ids) c.in-Some.at)
     c.location_ids-ids.ensures
-    (indexed_at (sample_stack_of c.args.frames.now)
-    c.args.known.now c.args.merged.now c.location_ids-ids.result.now c.in-Some.at c.requires.indexed found) in
+    (stack_found c.args.frames.now c.args.known.now.keys c.args.merged.now c.location_ids-ids.result.now c.in-Some.at
+    c.requires.stacks (sym c.in-Some.is ∙ c.get_index_of.ensures.index)) in
     refused_at c.args.frames.now c.args.chosen c.in-Some.at c.in_ok-weight.weight
     c.args.number c.args.sample.now c.args.merged.now c.add_to_row.result value there c.add_to_row.ensures.fault
+
+pub push_merged-requires-clause-fresh : goal.push_merged-requires-clause-fresh
+push_merged-requires-clause-fresh c = sym c.get_index_of.ensures.found ∙ ap is_some c.in-None.is
 
 pub returns-in_err-check_fit-in-None-clause-fault : goal.returns-in_err-check_fit-in-None-clause-fault
 returns-in_err-check_fit-in-None-clause-fault c =

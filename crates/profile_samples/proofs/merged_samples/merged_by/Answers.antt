@@ -2,9 +2,9 @@
 use Rattle.std.proofs.Common.{◌+◌, ◌^◌, ◌<◌, ◌++◌, ◌∷◌, [], subst, refl, arith}
 use Rattle.std.proofs.lemmas.Result.{err_from_is_err_and}
 use Rattle.profile_rows.specs.Values.{single, single_batch}
-use Rattle.profile_samples.specs.Samples.{IsRowOfSample, IsSampleFault, sample_stack_of}
+use Rattle.profile_samples.specs.Samples.{IsRowOfSample, IsSampleFault}
 use Rattle.profile_rows.specs.Rows.{total_of}
-use Rattle.profile_rows.specs.Merging.{AreIndexedBy}
+use Rattle.profile_samples.specs.MergedSamples.{AreRowsAt}
 use Rattle.profile_rows.proofs.MergedRows.{AreMergedSoFar-row, AreMergedSoFar-same}
 use Rattle.profile_samples.proofs.SampleBatches.{AreStacksSoFar-row, AreStacksSoFar-stands, IsBatchSoFar-end}
 use Rattle.profile_samples.proofs.SampleRows.{has_values, sample_read, samples_read}
@@ -47,8 +47,8 @@ loop-index-preserved c =
             within item so_far own fits,
         AreMergedSoFar-row rows (rows ++ row ∷ []) c.loop-index.merged c.merge_sample.new.merged row sums adds refl,
       ),
-      subst (λ d. AreIndexedBy (sample_stack_of d) c.merge_sample.new.known c.merge_sample.new.merged)
-          c.requires.framed c.in_ok-merge_sample.ensures.indexed,
+      subst (λ d. AreRowsAt d c.merge_sample.new.known.keys c.merge_sample.new.merged)
+          c.requires.framed c.in_ok-merge_sample.ensures.stacks,
     )
 
 pub returns : goal.returns

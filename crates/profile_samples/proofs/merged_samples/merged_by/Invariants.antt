@@ -1,7 +1,6 @@
 use Rattle.std.proofs.Common.{List}
 use Rattle.profile_rows.specs.declared.weighted_stacks.WeightedStack.{WeightedStack}
-use Rattle.profile_samples.specs.Samples.{sample_stack_of}
-use Rattle.profile_rows.specs.Merging.{AreIndexedBy}
+use Rattle.profile_samples.specs.MergedSamples.{AreRowsAt}
 use Rattle.profile_rows.specs.Merging.{AreMergedSoFar}
 use Rattle.profile_samples.proofs.SampleBatches.{AreStacksSoFar}
 use Rattle.profile_samples.proofs.merged_samples.merged_by.Given as goal
@@ -10,4 +9,4 @@ use Rattle.profile_samples.proofs.merged_samples.merged_by.Given as goal
 abbrev pub invariant-loop-index : goal.invariant-loop-index
 invariant-loop-index l =
     ((rows : List WeightedStack) × AreStacksSoFar l.fn.profile l.chosen l.index rows × AreMergedSoFar rows l.merged)
-    × AreIndexedBy (sample_stack_of l.fn.profile) l.known l.merged
+    × AreRowsAt l.fn.profile l.known.keys l.merged

@@ -10,7 +10,8 @@ add-requires c =
     let inside = c.self.inside in
     let lt : c.args.at < length inside.rows.items =
     subst (λ rows. c.args.at < length rows) (sym c.self.view_is) c.requires in
-    let most = weight-within inside.rows.items c.args.at c.args.weight c.index_mut.result.now lt c.index_mut.ensures.value in
+    let most = weight-within inside.rows.items c.args.at c.args.weight c.index_mut.result.now lt
+    c.index_mut.ensures.value in
     omega (arith, most, c.self.invariant.total_is, c.self.invariant.fits, c.if-weight-self.false)
 
 pub invariant_of-self : goal.invariant_of-self

@@ -10,4 +10,3 @@ returns-clause-texts c =
     ap (map (λ (text : Bor (List ℕ)). text.now)) c.in_ok-insert.ensures.keys
     ∙ text_inserted c.self.inside.texts.keys c.args.text
     ∙ ap (λ (table : NumberedTexts). with_text table.texts c.args.text.now) c.self.view_is
-

@@ -81,28 +81,29 @@ fn copied_names(alloc: Global, texts: &[&str]) -> Result<Vec<Name>, NoMemory>
     Ok(names)
 }
 
-/// The numbers of a list, each once. A number's mark is the greatest where it stood before.
+/// Puts the numbers of a list, each once, in the place of others. A number's mark is the greatest where it stood
+/// before.
 fn each_once(
-    alloc: Global,
     numbers: &[usize],
     marks: &mut Vec<usize>,
     mark: usize,
-) -> Result<Vec<usize>, AllocError>
+    once: &mut Vec<usize>,
+) -> Result<(), AllocError>
     requires inside { All (λ number. number < length marks.old.items) numbers.now }
     requires marked { 0 < mark }
     requires fresh { All (λ before. before < mark) marks.old.items }
-    ensures once { IfOk result (λ once. once.items ≡ once_of numbers.now) }
+    ensures once { OnOk result (once.new.items ≡ once_of numbers.now) }
     ensures count { OnOk result (length marks.new.items ≡ length marks.old.items) }
     ensures marked { OnOk result (All (λ before. before ≤ mark) marks.new.items) }
 {
-    let mut once = Vec::new(alloc);
+    once.clear();
     for number in numbers {
         if marks[*number] != mark {
             marks[*number] = mark;
             once.push(*number)?;
         }
     }
-    Ok(once)
+    Ok(())
 }
 
 /// The ids of locations.
@@ -143,8 +144,9 @@ fn all_once(
     ensures { IfOk result (λ names. names ≡ map once_of frames.now) }
 {
     let mut names = FrameLists::with_capacity(alloc, frames.len())?;
+    let mut once = Vec::new(alloc);
     for at in 0..frames.len() {
-        let once = each_once(alloc, frames.at(at), &mut marks, at + 1)?;
+        each_once(frames.at(at), &mut marks, at + 1, &mut once)?;
         names.push(once.as_slice())?;
     }
     Ok(names)

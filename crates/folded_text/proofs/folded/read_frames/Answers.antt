@@ -1,33 +1,16 @@
 -- A line's frames are those of its stack text. Memory runs out only at a line that spells a row which can follow.
-use Rattle.std.proofs.Common.{rules, ◌≡◌, ◌≤◌, ℕ, List, All, length, map, refl, sym, ap, ◌∙◌, subst}
+use Rattle.std.proofs.Common.{rules, ◌≡◌, ℕ, List, length, map, refl, sym, ap, ◌∙◌}
 use Rattle.std.proofs.lemmas.List.{length-map}
 use Rattle.std.proofs.lemmas.Result.{err_from_is_err_and}
 use denote.Ref.{Bor}
-use Rattle.profile_rows.specs.Names.{IsName}
-use Rattle.folded_text.specs.FoldedText.{IsRowLine, frames_of}
-use Rattle.folded_text.proofs.Reading.{IsLineFault-fitting, IsLineFault-memory, IsRowLine-read}
+use Rattle.folded_text.specs.FoldedText.{frames_of}
+use Rattle.folded_text.proofs.Reading.{IsLineFault-fitting, IsLineFault-memory}
 use Rattle.folded_text.proofs.folded.read_frames.Goals as goal
 
 -- how many texts the buffer holds
 long : (frames : List (List ℕ)) (lent : List (Bor (List ℕ))) (n : ℕ)
     → n ≡ length lent → map (λ (frame : Bor (List ℕ)). frame.now) lent ≡ frames → n ≡ length frames
 long frames lent n is same = is ∙ sym (length-map lent (λ (frame : Bor (List ℕ)). frame.now)) ∙ ap length same
-
-pub returns-clause-spelled : goal.returns-clause-spelled
-returns-clause-spelled c =
-    let (utf8, small, digits, count, value) = c.in_ok-stack.ensures.counted in
-    let (most, fits) = c.in_ok-fitting-2.ensures.fits in
-    let depth = long (frames_of c.in_ok-stack.stack.now) c.replace_by_text.new.frames.items c.len.result
-    (search rules) c.in-Ok.ensures.texts in (
-      fits,
-      subst (λ stack. IsRowLine c.args.line.now (record { stack = stack; weight = c.in_ok-stack.weight }))
-          (sym c.in-Ok.ensures.texts)
-          (IsRowLine-read c.args.line.now c.in_ok-stack.stack.now digits c.in_ok-stack.weight utf8 count value
-          (subst (λ n. n ≤ 65535) depth most) small),
-    )
-
-pub returns-clause-names : goal.returns-clause-names
-returns-clause-names c = subst (All IsName) (sym c.in-Ok.ensures.texts) c.in-Ok.ensures.names
 
 pub returns-in_err-fitting-clause-fault : goal.returns-in_err-fitting-clause-fault
 returns-in_err-fitting-clause-fault c =

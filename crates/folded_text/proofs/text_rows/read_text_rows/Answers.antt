@@ -1,12 +1,7 @@
 -- What was read adds up to the rows of the text.
-use Rattle.std.proofs.Common.{ap, refl}
-use Rattle.profile_rows.proofs.MergedRows.{AreMergedSoFar-none, AreMergedSoFar-same}
+use Rattle.profile_rows.proofs.MergedRows.{AreMergedSoFar-same}
 use Rattle.folded_text.specs.TextRows.{spelled_rows}
 use Rattle.folded_text.proofs.text_rows.read_text_rows.Goals as goal
-
-pub take_lines-requires : goal.take_lines-requires
-take_lines-requires c =
-    λ k. ((refl, tt), AreMergedSoFar-none _ (ap spelled_rows c.new-sums.ensures))
 
 pub returns : goal.returns
 returns c =

@@ -1,25 +1,9 @@
 -- What was counted decides the totals of the text's rows.
-use Rattle.std.proofs.Common.{[], ap, inl, refl, sym}
+use Rattle.std.proofs.Common.{inl}
 use Rattle.std.specs.Prelude.{Ok}
 use Rattle.std.proofs.lemmas.Result.{err_from_is_err_and}
-use Rattle.profile_rows.proofs.MergedRows.{AreMergedSoFar-none}
-use Rattle.folded_text.specs.TextRows.{spelled_rows}
 use Rattle.folded_text.proofs.Counting.{AreTotalsOf-merged, only_totals}
 use Rattle.folded_text.proofs.text_totals.folded_totals.Goals as goal
-
-pub take_lines-requires : goal.take_lines-requires
-take_lines-requires c = λ k. (
-  (refl, tt),
-  (
-    [],
-    AreMergedSoFar-none [] refl,
-    (sym (ap spelled_rows c.new-waiting.ensures), c.new-counted.ensures.counted),
-  ),
-)
-
-pub count_waiting-requires : goal.count_waiting-requires
-count_waiting-requires c =
-    let (rows, read, (merged, same, counted)) = c.in_ok-take_lines.ensures.taken in (merged, counted)
 
 pub returns-clause-counted : goal.returns-clause-counted
 returns-clause-counted c =

@@ -1,10 +1,10 @@
 -- A sample with a value below 0, one that is too deep, one that is too heavy, and want of memory at one that fits.
-use Rattle.std.proofs.Common.{◌≡◌, ◌+◌, ℕ, List, length, subst, sym, ◌∙◌, arith}
+use Rattle.std.proofs.Common.{◌≡◌, ℕ, List, length, subst, sym, ◌∙◌}
 use Rattle.std.specs.Prelude.{ℤ}
 use Rattle.std.proofs.lemmas.Result.{err_from_is_err_and}
-use Rattle.profile_samples.specs.Samples.{HasWeights, IsValueFault}
-use Rattle.profile_samples.proofs.SampleRows.{Decides, fits_in, too_deep}
-use Rattle.profile_samples.proofs.SampleRows.{IsSampleFault-below, IsSampleFault-deep, IsSampleFault-heavy}
+use Rattle.profile_samples.specs.Samples.{HasWeights}
+use Rattle.profile_samples.proofs.SampleRows.{Decides, fits_in}
+use Rattle.profile_samples.proofs.SampleRows.{IsSampleFault-heavy}
 use Rattle.profile_samples.proofs.SampleRows.{IsSampleFault-memory}
 use Rattle.profile_samples.proofs.batches.add_sample.Goals as goal
 
@@ -13,40 +13,6 @@ lent_weights : (first width count : ℕ) (lent values : List ℤ) (weights : Lis
     → HasWeights first width lent weights → HasWeights first count values weights
 lent_weights first width count lent values weights is same have =
     subst (λ vs. HasWeights first count vs weights) is (subst (λ n. HasWeights first n lent weights) (sym same) have)
-
-pub returns-in_err-weights-clause-fault : goal.returns-in_err-weights-clause-fault
-returns-in_err-weights-clause-fault c =
-    let p = err_from_is_err_and c.from_residual.result c.from_residual.ensures.1 in
-    let (value, lt, below) = c.in_err-weights.ensures.fault in
-    let count = c.total-totals.ensures.totals.width ∙ c.requires.width in
-    rw (p.1, p.2) (
-      c.total-totals.result,
-      c.total-totals.ensures.totals,
-      IsSampleFault-below c.args.frames.now
-          c.args.chosen.now.first c.total-totals.result c.args.number c.args.sample.now value c.in_err-weights.field-0.0
-          (omega (arith, lt, count)) (subst (λ vs. IsValueFault (c.args.chosen.now.first + value) c.args.number vs
-          c.in_err-weights.field-0.0) c.values.ensures below),
-    )
-
-pub returns-in_err-check_depth-clause-fault : goal.returns-in_err-check_depth-clause-fault
-returns-in_err-check_depth-clause-fault c =
-    let p =
-    err_from_is_err_and c.from_residual-in_err-check_depth.result c.from_residual-in_err-check_depth.ensures.1 in
-    let weights = c.in_ok-weights.weights in
-    let count = c.total-totals.ensures.totals.width ∙ c.requires.width in
-    let values = lent_weights c.args.chosen.now.first c.args.chosen.now.width (length c.total-totals.result)
-    c.values.result.now c.args.sample.now.values weights c.values.ensures count
-    c.in_ok-weights.ensures.weights in
-    let decides = subst (λ ids. Decides c.args.frames.now ids c.fit.result) c.location_ids-ids.ensures c.fit.ensures in
-    let deep = too_deep c.args.frames.now c.args.sample.now.location_ids c.fit.result decides
-    c.in_err-check_depth.ensures.fault.1 in
-    rw (p.1, p.2) (
-      c.total-totals.result,
-      c.total-totals.ensures.totals,
-      IsSampleFault-deep c.args.frames.now
-          c.args.chosen.now.first c.total-totals.result c.args.number c.args.sample.now weights
-          c.in_err-check_depth.field-0.0 values c.in_err-check_depth.ensures.fault.0 deep,
-    )
 
 pub returns-in_err-check_room-clause-fault : goal.returns-in_err-check_room-clause-fault
 returns-in_err-check_room-clause-fault c =

@@ -63,9 +63,6 @@ returns-in_err-gather_numbers c = λ choice is_chosen.
     rw (p.1, p.2) (AreStacksSoFar-stands c.args.profile.now
     choice c.args.chosen c.loop-index.index sample rows NoMemory is_chosen within item so_far there)
 
-pub count-requires-clause-fits : goal.count-requires-clause-fits
-count-requires-clause-fits c = c.in_ok-weight.ensures.fits
-
 pub count-requires-clause-counted : goal.count-requires-clause-counted
 count-requires-clause-counted c =
     let (rows, so_far, counted) = c.loop-index.invariant in

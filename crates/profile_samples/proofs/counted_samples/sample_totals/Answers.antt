@@ -1,9 +1,7 @@
 -- What stands at a sample is the first fault.
-use Rattle.std.proofs.Common.{◌≡◌, ◌∙◌, All, Some, ap, length, subst, sym, arith}
+use Rattle.std.proofs.Common.{◌≡◌, ◌∙◌, Some, ap, length, subst, sym, arith}
 use Rattle.std.specs.Prelude.{Err}
 use Rattle.std.proofs.lemmas.Result.{err_from_is_err_and}
-use Rattle.pprof_profile.specs.declared.messages.Draft.{Draft}
-use Rattle.profile_rows.specs.Names.{IsName}
 use Rattle.profile_rows.specs.Values.{single_batch}
 use Rattle.profile_samples.specs.NameNumbers.{frame_names}
 use Rattle.profile_samples.specs.Samples.{chosen_types_of}
@@ -31,30 +29,12 @@ returns-in_err-chosen-clause-every_fault c =
     c.args.choice (Err c.in_err-chosen.field-0.0) (λ totals these.
     (single_batch these.rows, omega arith, these.sampled)) first)
 
-pub returns-in_err-frames-clause-read : goal.returns-in_err-frames-clause-read
-returns-in_err-frames-clause-read c =
-    let p = err_from_is_err_and c.from_residual-in_err-frames.result c.from_residual-in_err-frames.ensures.1 in
-    let is = subst (λ d. chosen_types_of d c.args.choice ≡ Some (c.in_ok-chosen.chosen, 1)) c.draft.ensures.draft
-    c.in_ok-chosen.ensures in
-    rw (p.1, p.2) (memory_first c.args.profile.now c.args.choice c.in_ok-chosen.chosen is)
-
 pub returns-in_err-tallies-clause-read : goal.returns-in_err-tallies-clause-read
 returns-in_err-tallies-clause-read c =
     let p = err_from_is_err_and c.from_residual-in_err-tallies.result c.from_residual-in_err-tallies.ensures.1 in
     let is = subst (λ d. chosen_types_of d c.args.choice ≡ Some (c.in_ok-chosen.chosen, 1)) c.draft.ensures.draft
     c.in_ok-chosen.ensures in
     rw (p.1, p.2) (memory_first c.args.profile.now c.args.choice c.in_ok-chosen.chosen is)
-
-pub totals_by-requires-clause-chosen : goal.totals_by-requires-clause-chosen
-totals_by-requires-clause-chosen c = (
-  c.args.choice,
-  subst (λ d. chosen_types_of d c.args.choice ≡ Some (c.in_ok-chosen.chosen, 1)) c.draft.ensures.draft
-      c.in_ok-chosen.ensures,
-)
-
-pub totals_by-requires-clause-each : goal.totals_by-requires-clause-each
-totals_by-requires-clause-each c =
-    subst (λ (draft : Draft). All IsName (frame_names draft)) c.in_ok-frames.ensures c.names.ensures.each
 
 pub totals_by-requires-clause-uncounted : goal.totals_by-requires-clause-uncounted
 totals_by-requires-clause-uncounted c =

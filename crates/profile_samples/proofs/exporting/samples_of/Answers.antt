@@ -1,11 +1,8 @@
 -- The next row's sample.
-use Rattle.std.proofs.Common.{◌≡◌, ◌<◌, ◌^◌, ℕ, List, ◌++◌, ◌∷◌, [], All, ap, arith, length, sym, ◌∙◌, map, subst, take}
-use Rattle.std.proofs.lemmas.List.{map-append}
+use Rattle.std.proofs.Common.{◌≡◌, ◌<◌, ◌^◌, ℕ, List, All, ap, arith, length, sym, ◌∙◌, subst}
 use Rattle.profile_rows.specs.declared.weighted_stacks.WeightedStack.{WeightedStack}
-use Rattle.profile_rows.specs.Values.{Row, row_in, rows_at}
-use Rattle.profile_rows.proofs.LentStacks.{next_row}
+use Rattle.profile_rows.specs.Values.{Row, rows_at}
 use Rattle.folded_text.proofs.Writing.{length-rows_at}
-use Rattle.profile_samples.specs.Export.{exported_sample}
 use Rattle.profile_samples.proofs.ExportedValues.{weights_small}
 use Rattle.profile_samples.proofs.exporting.samples_of.Goals as goal
 
@@ -21,18 +18,3 @@ sample_of-requires c =
     subst (All (λ weight. weight < 2 ^ 63)) (sym c.row-row.ensures.weights)
     (weights_small c.args.batch.now c.loop-at.at c.first.ensures.batch (within c.args.batch.now.rows c.first.result.now
     c.rows-at-end.result.now c.loop-at.at c.rows-at-end.ensures.rows c.first.ensures.first c.loop-at-test.true))
-
-pub loop-at-preserved : goal.loop-at-preserved
-loop-at-preserved c =
-    let rows = c.args.batch.now.rows in
-    let sample = exported_sample c.args.names.now.texts in
-    let before = take c.loop-at.at rows in
-    let made : c.in_ok-sample_of.field-0 ≡ sample (row_in rows c.loop-at.at) =
-    c.in_ok-sample_of.ensures
-    ∙ (λ i. sample (record { stack = c.row-row.ensures.stack i; weights = c.row-row.ensures.weights i })) in
-    c.in_ok-push.ensures.pushed
-    ∙ ap (λ samples. samples ++ c.in_ok-sample_of.field-0 ∷ []) c.loop-at.invariant
-    ∙ ap (λ last. map sample before ++ last ∷ []) made
-    ∙ sym (map-append sample before (row_in rows c.loop-at.at ∷ []))
-    ∙ ap (map sample) (sym (next_row rows c.loop-at.at (within c.args.batch.now.rows c.first.result.now
-    c.rows-at-end.result.now c.loop-at.at c.rows-at-end.ensures.rows c.first.ensures.first c.loop-at-test.true)))

@@ -1,23 +1,14 @@
 -- What was exported decides the profile of any reading of the text.
-use Rattle.std.proofs.Common.{subst, ◌≡◌, inl, ap, ◌∙◌, refl}
+use Rattle.std.proofs.Common.{subst, ◌≡◌, inl, ap, ◌∙◌}
 use Rattle.std.proofs.lemmas.Result.{err_from_is_err_and}
 use Rattle.std.specs.Prelude.{ℕ}
 use Rattle.std.specs.declared.vec.Vec.{Vec}
 use Rattle.pprof_profile.specs.Canonical.{canonical_bytes_of}
 use Rattle.pprof_profile.specs.Profiles.{IsProfile}
-use Rattle.profile_rows.specs.NumberedRows.{NumberedFrames}
 use Rattle.profile_samples.specs.Export.{single_profile_of}
-use Rattle.profile_samples.proofs.ExportedRows.{AreSamplesOf-none, only_export}
+use Rattle.profile_samples.proofs.ExportedRows.{only_export}
 use Rattle.folded_text.proofs.Reading.{IsFoldedText-same}
 use Rattle.profile_samples.proofs.folded_export.export_folded.Goals as goal
-
-pub take_lines-requires : goal.take_lines-requires
-take_lines-requires c =
-    λ k. (
-      (refl, tt),
-      AreSamplesOf-none c.new.result.texts c.new-2.result
-          (ap (λ (row : NumberedFrames). row.texts) c.new.ensures) c.new-2.ensures,
-    )
 
 pub returns-in_err-take_lines-clause-exported : goal.returns-in_err-take_lines-clause-exported
 returns-in_err-take_lines-clause-exported c =

@@ -1,6 +1,6 @@
 -- The sample's weight goes to the row of its locations, or to a new one.
 use Rattle.std.proofs.Common.{◌≡◌, ℕ, ◌+◌, ◌^◌, ◌<◌, ◌≤◌, List, [], ◌∷◌, ap, sym, subst, ◌∙◌, refl, arith}
-use Rattle.std.specs.Prelude.{Result, Ok, Err, Some, OnOk, IfErr, is_some, pos, slice_get}
+use Rattle.std.specs.Prelude.{Result, Ok, Err, Some, OnOk, IfErr, pos, slice_get}
 use Rattle.std.proofs.lemmas.Result.{err_from_is_err_and, on_ok_weaker}
 use Rattle.profile_rows.specs.declared.weighted_stacks.WeightedStack.{WeightedStack}
 use Rattle.profile_samples.specs.declared.sampling.BatchFault.{BatchFault}
@@ -9,12 +9,12 @@ use Rattle.pprof_profile.specs.declared.messages.Draft.{Draft}
 use Rattle.pprof_profile.specs.declared.messages.Sample.{Sample}
 use Rattle.profile_rows.specs.Rows.{total_of}
 use Rattle.profile_rows.specs.Values.{single}
-use Rattle.profile_samples.specs.Samples.{IsFitFault, IsRowOfSample, IsSampleFault, IsValueFault, sample_stack_of}
+use Rattle.profile_samples.specs.Samples.{IsFitFault, IsRowOfSample, IsSampleFault, sample_stack_of}
 use Rattle.profile_rows.specs.Merging.{AddsRow, IsStackAt, row_at, with_added_at}
 use Rattle.profile_rows.proofs.MergedRows.{AddsRow-added}
 use Rattle.profile_samples.specs.MergedSamples.{AreRowsAt}
 use Rattle.profile_samples.proofs.MergedSamples.{AreRowsAt-added, stack_found}
-use Rattle.profile_samples.proofs.SampleRows.{Decides, IsSampleFault-fit, fits_in, one_value_below, one_value_memory}
+use Rattle.profile_samples.proofs.SampleRows.{Decides, IsSampleFault-fit, fits_in, one_value_memory}
 use Rattle.profile_samples.proofs.SampleRows.{one_value_row}
 use Rattle.profile_samples.proofs.merged_samples.merge_sample.Goals as goal
 
@@ -52,18 +52,6 @@ refused_at draft chosen at weight number sample sums (Err found) value there fau
       fault.1,
     )
 
-pub returns-in_err-weight-clause-fault : goal.returns-in_err-weight-clause-fault
-returns-in_err-weight-clause-fault c =
-    let p = err_from_is_err_and c.from_residual.result c.from_residual.ensures.1 in
-    rw (p.1, p.2) (one_value_below c.args.frames.now c.args.chosen (total_of c.args.merged.now) c.args.number
-    c.args.sample.now c.in_err-weight.field-0.0 (subst (λ values. IsValueFault c.args.chosen c.args.number values
-    c.in_err-weight.field-0.0) c.values.ensures c.in_err-weight.ensures.fault))
-
-pub add_to_row-requires : goal.add_to_row-requires
-add_to_row-requires c =
-    (stack_found c.args.frames.now c.args.known.now.keys c.args.merged.now c.location_ids-ids.result.now c.in-Some.at
-    c.requires.stacks (sym c.in-Some.is ∙ c.get_index_of.ensures.index)).0
-
 pub returns-in-Some-clause-added : goal.returns-in-Some-clause-added
 returns-in-Some-clause-added c =
     let value = subst (λ values. slice_get values c.args.chosen ≡ Some (pos c.in_ok-weight.weight))
@@ -92,9 +80,6 @@ returns-in-Some-clause-fault c =
     c.requires.stacks (sym c.in-Some.is ∙ c.get_index_of.ensures.index)) in
     refused_at c.args.frames.now c.args.chosen c.in-Some.at c.in_ok-weight.weight
     c.args.number c.args.sample.now c.args.merged.now c.add_to_row.result value there c.add_to_row.ensures.fault
-
-pub push_merged-requires-clause-fresh : goal.push_merged-requires-clause-fresh
-push_merged-requires-clause-fresh c = sym c.get_index_of.ensures.found ∙ ap is_some c.in-None.is
 
 pub returns-in_err-check_fit-in-None-clause-fault : goal.returns-in_err-check_fit-in-None-clause-fault
 returns-in_err-check_fit-in-None-clause-fault c =

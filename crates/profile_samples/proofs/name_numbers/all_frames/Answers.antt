@@ -1,11 +1,11 @@
 -- The frames of the next location.
-use Rattle.std.proofs.Common.{◌≡◌, ◌++◌, ◌∷◌, [], ℕ, List, Option, Some, None, ap, sym, ◌∙◌, get_or}
-use Rattle.std.proofs.Common.{map, take, arith}
+use Rattle.std.proofs.Common.{◌≡◌, ℕ, List, Option, Some, None, ap, sym, ◌∙◌, get_or}
+use Rattle.std.proofs.Common.{map, arith}
 use Rattle.std.specs.Prelude.{if◌then◌else◌, unwrap_or}
 use Rattle.std.specs.Option.{option_map}
-use Rattle.std.proofs.lemmas.List.{get_or-map, length-map, map_more}
+use Rattle.std.proofs.lemmas.List.{get_or-map, length-map}
 use Rattle.profile_samples.specs.Samples.{address_name}
-use Rattle.profile_samples.specs.NameNumbers.{address_of, number_of, numbers_of}
+use Rattle.profile_samples.specs.NameNumbers.{address_of, number_of}
 use Rattle.profile_samples.proofs.name_numbers.all_frames.Goals as goal
 
 pub numbers_of-requires : goal.numbers_of-requires
@@ -25,11 +25,3 @@ numbers_of-requires c = λ needs.
     c.unwrap_or-address.ensures ∙ ap (λ number. unwrap_or number 0) here
     ∙ ap (λ b. unwrap_or (option_map (number_of draft) (if b then Some (address_name location.address) else None)) 0)
     needs
-
-pub loop-at-preserved : goal.loop-at-preserved
-loop-at-preserved c =
-    let numbers = numbers_of c.args.functions.now in
-    c.in_ok-push.ensures ∙ ap (λ frames. frames ++ c.as_slice.result.now ∷ []) c.loop-at.invariant
-    ∙ ap (λ frames. map numbers (take c.loop-at.at c.args.locations.now) ++ frames ∷ [])
-    (c.as_slice.ensures.value ∙ c.in_ok-numbers.ensures ∙ ap numbers c.index-locations-at.is)
-    ∙ sym (map_more numbers c.args.locations.now c.loop-at.at c.index-locations-at.result c.loop-at-test.true)

@@ -13,9 +13,9 @@ loop-at-preserved c =
     let lt : at < length frames = omega (arith, c.loop-at-test.true, c.len-at-end.ensures) in (
       c.in_ok-push.ensures ∙ ap (λ names. names ++ c.as_slice.result.now ∷ []) c.loop-at.invariant.0
           ∙ ap (λ names. map once_of (take at frames) ++ names ∷ [])
-          (c.as_slice.ensures.value ∙ c.in_ok-once.ensures.once
+          (c.as_slice.ensures.value ∙ c.in_ok-each_once.ensures.once
           ∙ ap once_of (sym (get_or_from_slice_get frames at list list c.at.ensures)))
           ∙ sym (map_more once_of frames at list lt),
-      c.in_ok-once.ensures.count ∙ c.loop-at.invariant.1,
-      c.in_ok-once.ensures.marked,
+      c.in_ok-each_once.ensures.count ∙ c.loop-at.invariant.1,
+      c.in_ok-each_once.ensures.marked,
     )

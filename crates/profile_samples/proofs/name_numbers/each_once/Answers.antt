@@ -1,21 +1,11 @@
 -- The next number is marked, where it isn't yet.
-use Rattle.std.proofs.Common.{◌≡◌, ◌+◌, ◌<◌, ◌++◌, ◌∷◌, [], ℕ, List, refl, ap, sym, ◌∙◌, get_or, length, set, subst}
-use Rattle.std.proofs.Common.{take, arith}
+use Rattle.std.proofs.Common.{◌≡◌, ◌+◌, ◌<◌, ◌++◌, ◌∷◌, [], ℕ, List, ap, sym, ◌∙◌, get_or, length, set, subst}
+use Rattle.std.proofs.Common.{take}
 use Rattle.std.proofs.lemmas.List.{get_or_default, take_more}
 use Rattle.std.specs.declared.vec.Vec.{Vec}
-use Rattle.profile_rows.specs.Tallies.{has_number}
-use Rattle.profile_samples.proofs.FrameNumbers.{IsOnceSoFar, fresh_mark, once-push, once-same}
+use Rattle.profile_samples.proofs.FrameNumbers.{IsOnceSoFar, once-push, once-same}
 use Rattle.profile_samples.proofs.name_numbers.each_once.Goals as goal
 use Rattle.profile_samples.proofs.name_numbers.each_once.Goals.{then-index-mark+in_ok-push, else-index-mark}
-
-pub loop-number-init : goal.loop-number-init
-loop-number-init c = record {
-  once = c.new-once.ensures.items;
-  count = refl;
-  marked = λ k d lt. let low = c.requires.fresh k d lt in omega (arith, low);
-  seen = λ number. fresh_mark c.args.marks.now.items c.args.mark number c.requires.marked c.requires.fresh
-      ∙ sym (ap (has_number number) c.new-once.ensures.items);
-}
 
 pub loop-number-preserved : goal.loop-number-preserved
 loop-number-preserved c =

@@ -1,7 +1,7 @@
 -- The next name is added, where it is there.
 use Rattle.std.proofs.Common.{◌≡◌, ◌+◌, ◌++◌, ◌∷◌, [], ℕ, List, Option, Some, None, ap, sym, ◌∙◌, subst, take}
 use Rattle.std.proofs.Common.{append-nil, map, All}
-use Rattle.std.proofs.lemmas.List.{map-append, take_all, take_more}
+use Rattle.std.proofs.lemmas.List.{map-append, take_more}
 use Rattle.std.proofs.lemmas.List.Elements.{All-push}
 use Rattle.profile_rows.specs.Names.{IsName}
 use Rattle.profile_samples.specs.declared.string_names.GivenName.{GivenName}
@@ -60,7 +60,3 @@ loop-name-preserved c =
           (same c.args.table.texts c.loop-name.table.texts before after c.loop-name.invariant
           (next_name names name c.loop-name.name-index None taken w.in_default.ensures.text))
     ]
-
-pub returns-clause-each : goal.returns-clause-each
-returns-clause-each c = subst (λ names. All IsName (given (map name_in names)))
-    (take_all c.loop-name.name-index c.args.names.now c.loop-name-test.false) c.loop-name.invariant.1

@@ -11,9 +11,6 @@ use Rattle.profile_samples.proofs.FrameNumbers.{strings_more}
 use Rattle.profile_samples.proofs.string_names.string_names.Goals as goal
 use Rattle.profile_samples.proofs.string_names.string_names.Goals.{then-index+in_ok-name, else-index}
 
-pub loop-at-init : goal.loop-at-init
-loop-at-init c = ap (map name_in) c.in_ok-names.ensures.items
-
 next_named : (functions : List Function) (strings : List (List ℕ)) (at : ℕ) (string : List ℕ)
     (names next : List GivenName) (name : GivenName) → at < length strings → string ≡ get_or strings at string
     → map name_in names ≡ string_names_from functions 0 (take at strings) → next ≡ names ++ name ∷ []

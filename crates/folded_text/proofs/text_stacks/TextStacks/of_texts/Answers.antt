@@ -1,22 +1,9 @@
 -- The texts spell the rows that they are of.
-use Rattle.std.proofs.Common.{ap, arith, ◌∙◌}
+use Rattle.std.proofs.Common.{ap, ◌∙◌}
 use Rattle.profile_rows.specs.Aggregate.{aggregate_of, rows_of}
-use Rattle.profile_rows.specs.Rows.{total_of}
-use Rattle.folded_text.specs.TextRows.{spelled_rows}
 use Rattle.folded_text.proofs.StackTexts.{AreJoinedTexts-lent, AreTextRows-lent, spelled_are}
 use Rattle.folded_text.proofs.TextRows.{as_rows}
 use Rattle.folded_text.proofs.text_stacks.TextStacks.of_texts.Goals as goal
-
-pub total_of_texts-total-requires : goal.total_of_texts-total-requires
-total_of_texts-total-requires c =
-    let (weights, are) = c.requires in
-    let spelled = spelled_are weights c.args.texts.now are c.in_ok-rows.rows.items c.in_ok-rows.ensures in
-    omega (
-      arith,
-      ap (λ rows. total_of (spelled_rows rows)) c.as_slice.ensures.value,
-      ap total_of spelled,
-      are.fits,
-    )
 
 pub sorted-requires-clause-texts : goal.sorted-requires-clause-texts
 sorted-requires-clause-texts c =

@@ -1,5 +1,5 @@
 -- The row's frames have their numbers, and its leaf's is the last.
-use Rattle.std.proofs.Common.{◌≡◌, ℕ, List, length, map, ap, sym, ◌∙◌, subst, arith}
+use Rattle.std.proofs.Common.{◌≡◌, ℕ, List, length, map, ap, sym, ◌∙◌, subst}
 use Rattle.std.proofs.lemmas.List.{length-map}
 use denote.Ref.{Bor}
 use Rattle.profile_rows.specs.declared.tallies.Tallies.{Tallies}
@@ -20,12 +20,6 @@ reached : (rows : List WeightedStack) (before frames after : List (List ℕ)) (t
 reached rows before frames after table lent old new names known texts are counted =
     subst (λ ns. AreTalliesOf rows ns new) (sym names) (counted before frames rows
     (sym (ap length names) ∙ ap length (sym known) ∙ ap length (sym texts) ∙ length-map lent text_of) are)
-
-pub count-requires-clause-fits : goal.count-requires-clause-fits
-count-requires-clause-fits c =
-    let fits = c.requires.fits in
-    let total = c.in_ok-reach.ensures.total in
-    omega (arith, fits, total)
 
 pub count-requires-clause-counted : goal.count-requires-clause-counted
 count-requires-clause-counted c =

@@ -1,5 +1,5 @@
 -- The numbers of the first frames stay.
-use Rattle.std.proofs.Common.{◌≡◌, ◌<◌, ℕ, List, [], All, length, map, take, ap, sym, ◌∙◌, arith, subst}
+use Rattle.std.proofs.Common.{◌≡◌, ℕ, List, [], All, map, take, ap, sym, ◌∙◌, arith, subst}
 use Rattle.std.proofs.lemmas.List.{length-map, take-map}
 use Rattle.std.proofs.lemmas.List.Elements.{All-take}
 use Rattle.std.proofs.lemmas.List.Sums.{common_prefix_len-le}
@@ -8,14 +8,9 @@ use Rattle.std.specs.List.{common_prefix_len}
 use Rattle.std.specs.Str.{bytes_eq}
 use Rattle.profile_rows.specs.NumberedRows.{IsNumberOfText, NumberedFrames}
 use Rattle.profile_rows.specs.TextTables.{names_at, with_texts}
-use Rattle.profile_rows.proofs.NumberedRows.{are_inside, are_known, shared_same}
+use Rattle.profile_rows.proofs.NumberedRows.{are_known, shared_same}
 use Rattle.profile_rows.proofs.TextNumbers.{text_of}
 use Rattle.profile_rows.proofs.numbered_row.NumberedRow.keep_shared.Goals as goal
-
-pub shared_frames-shared-requires : goal.shared_frames-shared-requires
-shared_frames-shared-requires c = subst (All (λ number. number < length c.self.inside.names.texts))
-    (sym c.as_slice.ensures.value)
-    (are_inside c.self.inside.names.texts c.self.inside.numbers.items c.self.invariant)
 
 pub returns-clause-within : goal.returns-clause-within
 returns-clause-within c =

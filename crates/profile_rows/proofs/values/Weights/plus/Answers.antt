@@ -1,7 +1,7 @@
 -- Values are added place by place.
 use Rattle.std.proofs.Common.{◌≡◌, ◌+◌, length, take, ap, sym, ◌∙◌, subst, arith}
 use Rattle.profile_rows.specs.Values.{IsPadded, value_of}
-use Rattle.profile_rows.proofs.FourValues.{IsPadded-added, value_of-sums}
+use Rattle.profile_rows.proofs.FourValues.{value_of-sums}
 use Rattle.profile_rows.proofs.values.Weights.plus.Goals as goal
 
 -- both have the width of the first
@@ -16,16 +16,6 @@ widths c =
 
 more_padded : (c : goal.After-result-5-1) → IsPadded c.self.inside.width c.more.inside.values
 more_padded c = subst (λ w. IsPadded w c.more.inside.values) (widths c) c.more.invariant
-
-pub invariant_of-result : goal.invariant_of-result
-invariant_of-result c =
-    IsPadded-added c.self.inside.width c.self.inside.values c.more.inside.values c.self.invariant (more_padded c)
-
-pub returns-clause-width : goal.returns-clause-width
-returns-clause-width c =
-    let kept =
-    IsPadded-added c.self.inside.width c.self.inside.values c.more.inside.values c.self.invariant (more_padded c) in
-    kept.taken ∙ sym c.self.invariant.taken ∙ ap length c.self.view_is
 
 pub returns-clause-each : goal.returns-clause-each
 returns-clause-each c = λ value.

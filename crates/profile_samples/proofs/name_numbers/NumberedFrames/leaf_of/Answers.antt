@@ -1,9 +1,9 @@
 -- The first location that is there has the leaf.
-use Rattle.std.proofs.Common.{◌++◌, Some, None, ap, sym, ◌∙◌, get_or}
+use Rattle.std.proofs.Common.{Some, ap, sym, ◌∙◌, get_or}
 use Rattle.std.specs.Prelude.{reverse}
 use Rattle.std.proofs.lemmas.List.{take_all}
-use Rattle.profile_samples.specs.Samples.{frames_of_id, frames_of_ids}
-use Rattle.profile_samples.proofs.FrameNumbers.{found_numbers, frames-more, leaf_first}
+use Rattle.profile_samples.specs.Samples.{frames_of_ids}
+use Rattle.profile_samples.proofs.FrameNumbers.{found_numbers, leaf_first}
 use Rattle.profile_samples.proofs.name_numbers.NumberedFrames.leaf_of.Goals as goal
 
 pub returns-in-Some : goal.returns-in-Some
@@ -13,13 +13,6 @@ returns-in-Some c =
     let stack = leaf_first c.args.self.now
     c.args.ids.now c.loop-id.id-index _ this.callers c.loop-id-test.true c.loop-id.invariant this.leaf in
     (this.leaf_inside, stack.0, stack.1)
-
-pub loop-id-preserved : goal.loop-id-preserved
-loop-id-preserved c =
-    let id = get_or c.args.ids.now c.loop-id.id-index 0 in
-    frames-more c.args.self.now c.args.ids.now c.loop-id.id-index c.loop-id-test.true
-    ∙ ap (λ fs. fs ++ frames_of_id c.args.self.now id) c.loop-id.invariant
-    ∙ found_numbers c.args.self.now id None c.in_default.ensures
 
 pub returns : goal.returns
 returns c = ap reverse (ap (frames_of_ids c.args.self.now)

@@ -1,7 +1,5 @@
-//! The program `flame`: reads stacks from the standard input, and writes the report that its words ask for.
-//!
-//! Its stored run is one that a fault ends: several options, more than 64 KiB of folded text, and no count in the last
-//! line. So the gate sees that the exit status is the cause's, and that nothing goes to the standard output.
+//! The program `flame`: reads stacks from the standard input, and writes the report that its words ask for. Its stored
+//! run is the top list of three stacks.
 #![tactic(auto)]
 
 use flame_program::run_on_host;

@@ -56,19 +56,6 @@ impl<'a> TextTable<'a> {
         self.texts.get_index_of(text).unwrap_or(self.texts.len())
     }
 
-    /// The table with the text, which isn't added again where it is there.
-    ///
-    /// # Errors
-    ///
-    /// `NoMemory`.
-    pub fn with(self, text: &'a str) -> Result<TextTable<'a>, NoMemory>
-        ensures { IfOk result (λ table. table.texts ≡ with_text self.entry.texts text.now) }
-    {
-        let mut table = self;
-        table.add(text)?;
-        Ok(table)
-    }
-
     /// Adds a text, which isn't added again where it is there.
     ///
     /// # Errors

@@ -24,18 +24,15 @@ pub struct ValueUnit<'a> {
     pub unit: &'a str,
 }
 
-/// The table with the names of a stack.
-pub(crate) fn with_names<'a>(
-    mut table: TextTable<'a>,
-    names: &'a [Name],
-) -> Result<TextTable<'a>, NoMemory>
-    ensures texts { IfOk result (λ more. more.texts ≡ with_texts table.entry.texts names.now) }
+/// Adds the names of a stack.
+fn add_names<'a>(table: &mut TextTable<'a>, names: &'a [Name]) -> Result<(), NoMemory>
+    ensures texts { OnOk result (table.new.texts ≡ with_texts table.old.texts names.now) }
     ensures each { OnOk result (All IsName names.now) }
 {
     for name in names {
-        table = table.with(name.text())?;
+        table.add(name.text())?;
     }
-    Ok(table)
+    Ok(())
 }
 
 /// The names of rows as they first stand.
@@ -49,22 +46,20 @@ fn names_of<'a>(
 {
     let mut names = TextTable::new(alloc, hashing);
     for row in rows {
-        names = with_names(names, row.stack.names())?;
+        add_names(&mut names, row.stack.names())?;
     }
     Ok(names)
 }
 
-/// The table with the kinds and units of values.
-fn with_units<'a>(
-    mut table: TextTable<'a>,
-    units: &[ValueUnit<'a>],
-) -> Result<TextTable<'a>, NoMemory>
-    ensures { IfOk result (λ more. more.texts ≡ with_texts table.entry.texts (unit_texts (pairs_of units.now))) }
+/// Adds the kinds and units of values.
+fn add_units<'a>(table: &mut TextTable<'a>, units: &[ValueUnit<'a>]) -> Result<(), NoMemory>
+    ensures { OnOk result (table.new.texts ≡ with_texts table.old.texts (unit_texts (pairs_of units.now))) }
 {
     for unit in units {
-        table = table.with(unit.kind)?.with(unit.unit)?;
+        table.add(unit.kind)?;
+        table.add(unit.unit)?;
     }
-    Ok(table)
+    Ok(())
 }
 
 /// The strings of a profile with these names.
@@ -76,9 +71,11 @@ fn strings_of<'a>(
 ) -> Result<TextTable<'a>, NoMemory>
     ensures { IfOk result (λ strings. strings.texts ≡ strings_of (pairs_of units.now) names.now.texts) }
 {
-    let mut strings = with_units(TextTable::new(alloc, hashing).with("")?, units)?;
+    let mut strings = TextTable::new(alloc, hashing);
+    strings.add("")?;
+    add_units(&mut strings, units)?;
     for name in names.texts() {
-        strings = strings.with(*name)?;
+        strings.add(*name)?;
     }
     Ok(strings)
 }

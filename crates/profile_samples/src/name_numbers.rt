@@ -43,7 +43,7 @@ fn with_given<'a>(
 {
     for name in names {
         if let Some(text) = name.text() {
-            table = table.with(text)?;
+            table.add(text)?;
         }
     }
     Ok(table)

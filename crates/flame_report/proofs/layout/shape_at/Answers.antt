@@ -5,7 +5,7 @@ use Rattle.std.specs.Ordering.{eq_by_cmp}
 use Rattle.std.proofs.lemmas.List.Sums.{common_prefix_len-le}
 use Rattle.profile_rows.specs.declared.weighted_stacks.WeightedStack.{WeightedStack}
 use Rattle.profile_rows.specs.Names.{name_cmp}
-use Rattle.flame_report.specs.Sharing.{known_at, stack_at}
+use Rattle.flame_report.specs.Sharing.{stack_at}
 use Rattle.flame_report.proofs.RowSums.{stack_at-get, known_at-back}
 use Rattle.flame_report.proofs.layout.shape_at.Goals as goal
 
@@ -32,9 +32,3 @@ returns c =
       known = omega (arith, c.shape-shape.ensures.shared, same, known_at-back rows at (omega arith));
       depth = c.shape-shape.ensures.depth ∙ ap length (sym here);
     }
-
-pub returns-then-at-eq0 : goal.returns-then-at-eq0
-returns-then-at-eq0 c = record {
-  known = ap (known_at c.args.rows.now) (sym c.if-at-eq0.true);
-  depth = c.depth.ensures.depth ∙ ap length (sym (stack_at-get c.args.rows.now c.args.at no_row c.requires));
-}

@@ -1,4 +1,4 @@
-use Rattle.std.proofs.Common.{◌∷◌, ◌++◌, rules, arith, sym, subst, IsPermutation}
+use Rattle.std.proofs.Common.{◌∷◌, ◌++◌, rules, sym, subst, IsPermutation}
 use Rattle.std.specs.Ordering.{is_lt}
 use Rattle.std.proofs.lemmas.Fn.{always_returns_same}
 use Rattle.std.proofs.lemmas.List.Sorted.{ranks_by}
@@ -7,7 +7,7 @@ use Rattle.flame_report.specs.Answers.{ranking_of}
 use Rattle.flame_report.specs.First.{AreFirst}
 use Rattle.profile_rows.specs.declared.frame_totals.FrameTotal.{FrameTotal}
 use Rattle.flame_report.proofs.Ranked.{top_cmp-total}
-use Rattle.flame_report.proofs.Selected.{all_first, selected_first}
+use Rattle.flame_report.proofs.Selected.{selected_first}
 use Rattle.flame_report.proofs.top.select_names.Goals as goal
 
 -- the selected element is the first that is left out
@@ -26,7 +26,3 @@ returns-in_ok-list c =
     subst (AreFirst (top_cmp (ranking_of c.args.rank)) c.args.count c.args.list.now.items) (sym c.in_ok-list.ensures)
     (selected_first (top_cmp (ranking_of c.args.rank)) (top_cmp-total (ranking_of c.args.rank)) c.args.count
     c.args.list.now.items first next others moved c.select_nth_unstable_by-first.ensures.front_len split)
-
-pub returns-else-count-len : goal.returns-else-count-len
-returns-else-count-len c = all_first (top_cmp (ranking_of c.args.rank)) c.args.count c.args.list.now.items
-    (omega (arith, c.if-count-len.false, c.len.ensures))

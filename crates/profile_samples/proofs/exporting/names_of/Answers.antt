@@ -16,7 +16,7 @@ loop-row-preserved c =
     let next = take_more c.args.rows.now c.loop-row.row-index c.row-item.result c.loop-row-test.true
     ∙ ap (λ (row : WeightedStack). before ++ row ∷ []) (sym c.row-item.is) in
     let same = c.names.ensures.names in (
-      c.in_ok-names.ensures.texts ∙ ap (with_texts c.loop-row.names.texts) same
+      c.in_ok-add_names.ensures.texts ∙ ap (with_texts c.loop-row.names.texts) same
           ∙ ap (λ texts. with_texts texts c.row-item.result.stack) c.loop-row.invariant.0
           ∙ sym (with_texts-append [] (flat_map (λ (row : WeightedStack). row.stack) before) c.row-item.result.stack)
           ∙ ap (with_texts []) (ap (λ names. flat_map (λ (row : WeightedStack). row.stack) before ++ names)
@@ -26,5 +26,5 @@ loop-row-preserved c =
       All-more (λ (row : WeightedStack). All IsName row.stack × (length row.stack ≤ 65535))
           c.args.rows.now c.loop-row.row-index c.row-item.result c.loop-row-test.true c.loop-row.invariant.1
           (subst (λ (row : WeightedStack). All IsName row.stack × (length row.stack ≤ 65535)) c.row-item.is
-          (subst (All IsName) same c.in_ok-names.ensures.each, c.names.ensures.depth)),
+          (subst (All IsName) same c.in_ok-add_names.ensures.each, c.names.ensures.depth)),
     )

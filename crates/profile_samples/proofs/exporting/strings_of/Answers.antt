@@ -9,7 +9,7 @@ use Rattle.profile_samples.proofs.exporting.strings_of.Goals as goal
 pub loop-name-preserved : goal.loop-name-preserved
 loop-name-preserved c =
     next_with _ c.loop-name.strings.texts _ (take
-    c.loop-name.name-index c.args.names.now.texts) _ _ c.in_ok-strings-2.ensures c.loop-name.invariant
+    c.loop-name.name-index c.args.names.now.texts) _ _ c.in_ok-add-2.ensures.texts c.loop-name.invariant
     (next_text c.texts-name-items.result.now
     c.args.names.now.texts c.loop-name.name-index c.texts-name-items.ensures c.loop-name-test.true)
 
@@ -22,7 +22,7 @@ returns c =
     let long = length-map c.texts-name-items.result.now (λ text. text.now) in
     let whole : take c.loop-name.name-index names ≡ names =
     take_all c.loop-name.name-index names (omega (arith, past, size, long)) in
-    c.loop-name.invariant ∙ ap (with_texts c.in_ok-strings.strings.texts) whole
-    ∙ ap (λ strings. with_texts strings names) (c.in_ok-strings.ensures ∙ ap
-    (λ table. with_texts table texts) (c.in_ok-with.ensures ∙ ap (λ table. with_text table []) c.new.ensures.texts))
+    c.loop-name.invariant ∙ ap (with_texts _) whole
+    ∙ ap (λ strings. with_texts strings names) (c.in_ok-add_units.ensures ∙ ap
+    (λ table. with_texts table texts) (c.in_ok-add.ensures.texts ∙ ap (λ table. with_text table []) c.new-strings.ensures.texts))
     ∙ sym (with_texts-append ([] ∷ []) texts names)

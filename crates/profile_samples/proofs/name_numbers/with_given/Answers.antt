@@ -10,7 +10,7 @@ use Rattle.profile_samples.specs.NameNumbers.{given, name_in}
 use Rattle.profile_samples.proofs.FrameNumbers.{given-push}
 use Rattle.profile_rows.proofs.TextNumbers.{with_texts-append}
 use Rattle.profile_samples.proofs.name_numbers.with_given.Goals as goal
-use Rattle.profile_samples.proofs.name_numbers.with_given.Goals.{in-Some+in_ok-table, in_default}
+use Rattle.profile_samples.proofs.name_numbers.with_given.Goals.{in-Some+in_ok-add, in_default}
 
 IsSoFar : List (List ℕ) → List (List ℕ) → List (Option (List ℕ)) → Type 0
 IsSoFar start table names = (table ≡ with_texts start (given names)) × All IsName (given names)
@@ -51,11 +51,11 @@ loop-name-preserved c =
     let taken = take_more names c.loop-name.name-index c.name-item.result c.loop-name-test.true
     ∙ ap (λ n. take c.loop-name.name-index names ++ n ∷ []) (sym c.name-item.is) in
     elim c.match-text.branch [
-      | in-Some+in_ok-table w ↦
+      | in-Some+in_ok-add w ↦
           more c.args.table.texts
           c.loop-name.table.texts c.match-text.table.texts before after w.in-Some.text.now c.loop-name.invariant
           (next_name names name c.loop-name.name-index (Some w.in-Some.text.now) taken w.in-Some.ensures.text)
-          (ap (λ (table : NumberedTexts). table.texts) w.table-is ∙ w.in_ok-table.ensures) w.in-Some.ensures.name
+          (ap (λ (table : NumberedTexts). table.texts) w.table-is ∙ w.in_ok-add.ensures.texts) w.in-Some.ensures.name
       | in_default w ↦ subst (λ table. IsSoFar c.args.table.texts table.texts after) (sym w.table-is)
           (same c.args.table.texts c.loop-name.table.texts before after c.loop-name.invariant
           (next_name names name c.loop-name.name-index None taken w.in_default.ensures.text))

@@ -1,7 +1,7 @@
 use Rattle.std.proofs.Common.{◌≡◌, All, take}
 use Rattle.profile_rows.specs.Names.{IsName}
 use Rattle.profile_rows.specs.TextTables.{with_texts}
-use Rattle.profile_samples.proofs.exporting.with_names.Given as goal
+use Rattle.profile_samples.proofs.exporting.add_names.Given as goal
 
 -- the names so far are in the table, and can be names
 abbrev pub invariant-loop-name : goal.invariant-loop-name

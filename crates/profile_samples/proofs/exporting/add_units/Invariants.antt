@@ -1,7 +1,7 @@
 use Rattle.std.proofs.Common.{◌≡◌, take}
 use Rattle.profile_samples.specs.Export.{pairs_of, unit_texts}
 use Rattle.profile_rows.specs.TextTables.{with_texts}
-use Rattle.profile_samples.proofs.exporting.with_units.Given as goal
+use Rattle.profile_samples.proofs.exporting.add_units.Given as goal
 
 -- the table with the kinds and units so far
 abbrev pub invariant-loop-unit : goal.invariant-loop-unit

@@ -1,7 +1,7 @@
 //! The program `flame` once more, as `flame_tool` has it, for a second stored run: a crate has one.
 //!
-//! This one ends with a report: the words of the other run, on its input without the last line, which is 2,250 times
-//! four rows. Each option changes the report.
+//! A fault ends this one: several options, more than 64 KiB of folded text, and no count in the last line. So the gate
+//! sees that the exit status is the cause's, and that nothing goes to the standard output.
 #![tactic(auto)]
 
 use flame_program::run_on_host;

@@ -6,7 +6,8 @@ ghost use Rattle.std.specs.Option.{option_map};
 ghost use Rattle.profile_rows.specs.Names.{IsName};
 ghost use Rattle.profile_samples.specs.Samples.{frames_of_ids, sample_stack_of};
 ghost use Rattle.profile_rows.specs.TextTables.{number_in, with_texts};
-ghost use Rattle.profile_samples.specs.NameNumbers.{address_of, frame_names, given, name_in, number_of, numbers_of, numbers_of_id, once_of};
+ghost use Rattle.pprof_profile.specs.Valid.{IsValidDraft};
+ghost use Rattle.profile_samples.specs.NameNumbers.{address_names, address_of, frame_names, given, name_in, number_of, numbers_of, numbers_of_id, once_of, string_names};
 
 use crate::frame_lists::FrameLists;
 use crate::function_numbers::FunctionNumbers;
@@ -133,16 +134,12 @@ fn all_frames(
     Ok(frames)
 }
 
-/// The numbers of each list, each once. Lists are marked from 1.
-fn all_once(
-    alloc: Global,
-    frames: &FrameLists,
-    mut marks: Vec<usize>,
-) -> Result<FrameLists, NoMemory>
-    requires inside { All (All (λ number. number < length marks.items)) frames.now }
-    requires unmarked { All (λ mark. mark ≡ 0) marks.items }
+/// The numbers of each list, each once. They are below `count`. Lists are marked from 1.
+fn all_once(alloc: Global, frames: &FrameLists, count: usize) -> Result<FrameLists, NoMemory>
+    requires inside { All (All (λ number. number < count)) frames.now }
     ensures { IfOk result (λ names. names ≡ map once_of frames.now) }
 {
+    let mut marks = vec![in alloc; 0; count]?;
     let mut names = FrameLists::with_capacity(alloc, frames.len())?;
     let mut once = Vec::new(alloc);
     for at in 0..frames.len() {
@@ -164,6 +161,56 @@ fn deepest_of(locations: &FrameLists) -> usize
         }
     }
     deepest
+}
+
+/// The names of a profile's frames, and the frames of each location, leaf first, by the numbers of their names.
+struct FrameNames {
+    names: Vec<Name>,
+    frames: FrameLists,
+}
+
+/// The names and the frames of a profile whose addresses give these names. The table has those of its strings.
+fn names_by_addresses<'a>(
+    alloc: Global,
+    functions: &FunctionNumbers,
+    locations: &[Location],
+    table: TextTable<'a>,
+    addresses: &'a [GivenName],
+) -> Result<FrameNames, NoMemory>
+    requires locations { locations.now ≡ functions.now.locations }
+    requires strings { table.texts ≡ with_texts [] (given (string_names functions.now)) }
+    requires names { All IsName (given (string_names functions.now)) }
+    requires addresses { map name_in addresses.now ≡ address_names functions.now }
+    ensures names { IfOk result (λ made. made.names.items ≡ frame_names functions.now) }
+    ensures frames { IfOk result (λ made. made.frames ≡ map (numbers_of functions.now) functions.now.locations) }
+    ensures each { OnOk result (All IsName (frame_names functions.now)) }
+{
+    let table = with_given(table, addresses)?;
+    let numbers = given_numbers(alloc, &table, addresses)?;
+    let frames = all_frames(alloc, functions, locations, numbers.as_slice())?;
+    let names = copied_names(alloc, table.texts())?;
+    Ok(FrameNames { names, frames })
+}
+
+/// The names and the frames of a valid profile whose strings give these names.
+fn names_by_strings(
+    alloc: Global,
+    hashing: Hashing,
+    draft: &Draft,
+    strings: &[GivenName],
+) -> Result<FrameNames, NoMemory>
+    requires valid { IsValidDraft draft.now }
+    requires strings { map name_in strings.now ≡ string_names draft.now }
+    ensures names { IfOk result (λ made. made.names.items ≡ frame_names draft.now) }
+    ensures frames { IfOk result (λ made. made.frames ≡ map (numbers_of draft.now) draft.now.locations) }
+    ensures each { OnOk result (All IsName (frame_names draft.now)) }
+{
+    let table = with_given(TextTable::new(alloc, hashing), strings)?;
+    let numbers = given_numbers(alloc, &table, strings)?;
+    let functions = FunctionNumbers::new(alloc, hashing, draft, numbers.as_slice())?;
+    let locations = draft.locations.as_slice();
+    let addresses = address_names(alloc, &functions, locations)?;
+    names_by_addresses(alloc, &functions, locations, table, addresses.as_slice())
 }
 
 /// The frames of a profile's locations by the numbers of their names, so that a sample costs a look-up for each
@@ -208,19 +255,12 @@ impl<'a> NumberedFrames<'a> {
     {
         let draft = profile.draft();
         let strings = string_names(alloc, draft)?;
-        let table = with_given(TextTable::new(alloc, hashing), strings.as_slice())?;
-        let numbers = given_numbers(alloc, &table, strings.as_slice())?;
-        let functions = FunctionNumbers::new(alloc, hashing, draft, numbers.as_slice())?;
-        let locations = draft.locations.as_slice();
-        let addresses = address_names(alloc, &functions, locations)?;
-        let table = with_given(table, addresses.as_slice())?;
-        let numbers = given_numbers(alloc, &table, addresses.as_slice())?;
-        let frames = all_frames(alloc, &functions, locations, numbers.as_slice())?;
-        let marks = vec![in alloc; 0; table.texts().len()]?;
-        let once = all_once(alloc, &frames, marks)?;
-        let indices = IdIndex::new(alloc, hashing, location_ids(alloc, locations)?)?;
+        let FrameNames { names, frames } =
+            names_by_strings(alloc, hashing, draft, strings.as_slice())?;
+        let once = all_once(alloc, &frames, names.len())?;
+        let ids = location_ids(alloc, draft.locations.as_slice())?;
+        let indices = IdIndex::new(alloc, hashing, ids)?;
         let deepest = deepest_of(&frames);
-        let names = copied_names(alloc, table.texts())?;
         Ok(NumberedFrames {
             draft,
             indices,

@@ -118,7 +118,9 @@ fn profile_top(
         Ok(profile) => profile,
         Err(fault) => return Err(profile_fault(fault)),
     };
-    match sample_totals(alloc, hashing, &profile, choice_of(value)) {
+    let counted = sample_totals(alloc, hashing, &profile, choice_of(value));
+    drop(profile);
+    match counted {
         Ok(totals) => Ok(totals_text(alloc, totals, rank, count)?),
         Err(fault) => Err(batch_fault(fault)),
     }
@@ -196,7 +198,9 @@ fn profile_answer(
         Ok(profile) => profile,
         Err(fault) => return Err(profile_fault(fault)),
     };
-    let rows = match merge_samples(alloc, hashing, &profile, choice_of(value)) {
+    let merged = merge_samples(alloc, hashing, &profile, choice_of(value));
+    drop(profile);
+    let rows = match merged {
         Ok(rows) => rows,
         Err(fault) => return Err(batch_fault(fault)),
     };

@@ -88,7 +88,9 @@ fn profile_batch(
         Ok(profile) => profile,
         Err(fault) => return Err(profile_fault(fault)),
     };
-    match batch_of_with(alloc, hashing, &profile, live_choice(all, value)) {
+    let batch = batch_of_with(alloc, hashing, &profile, live_choice(all, value));
+    drop(profile);
+    match batch {
         Ok(batch) => Ok(batch),
         Err(fault) => Err(batch_fault(fault)),
     }

@@ -255,8 +255,12 @@ impl<'a> NumberedFrames<'a> {
     {
         let draft = profile.draft();
         let strings = string_names(alloc, draft)?;
-        let FrameNames { names, frames } =
-            names_by_strings(alloc, hashing, draft, strings.as_slice())?;
+        let FrameNames { names, frames } = names_by_strings(
+            alloc,
+            hashing,
+            draft,
+            strings.as_slice(),
+        )?;
         let once = all_once(alloc, &frames, names.len())?;
         let ids = location_ids(alloc, draft.locations.as_slice())?;
         let indices = IdIndex::new(alloc, hashing, ids)?;

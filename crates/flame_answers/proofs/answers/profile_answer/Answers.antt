@@ -7,10 +7,10 @@ returns-in-Err c =
     bytes_refused (for_report c.args.value.now) c.args.input.now c.in-Err.fault c.profile_fault.result
     c.in-Err.ensures.fault c.in-Err.ensures.every_profile c.profile_fault.ensures
 
-pub returns-in-Err-merge_samples : goal.returns-in-Err-merge_samples
-returns-in-Err-merge_samples c =
+pub returns-in-Err-merged : goal.returns-in-Err-merged
+returns-in-Err-merged c =
     samples_refused (for_report c.args.value.now) c.args.input.now c.in-Ok.profile c.choice_of.result
-    c.in-Err-merge_samples.fault c.batch_fault.result c.in-Ok.ensures.read
+    c.in-Err-merged.fault c.batch_fault.result c.in-Ok.ensures.read
     (λ other is. c.in-Ok.ensures.every_profile other is)
     c.choice_of.ensures
-    c.in-Err-merge_samples.ensures.read c.in-Err-merge_samples.ensures.accepted c.batch_fault.ensures
+    c.in-Err-merged.ensures.read c.in-Err-merged.ensures.accepted c.batch_fault.ensures

@@ -7,10 +7,10 @@ returns-in-Err c =
     bytes_refused (for_report c.args.value.now) c.args.input.now c.in-Err.fault c.profile_fault.result
     c.in-Err.ensures.fault c.in-Err.ensures.every_profile c.profile_fault.ensures
 
-pub returns : goal.returns
-returns c =
+pub returns-in-Err-counted : goal.returns-in-Err-counted
+returns-in-Err-counted c =
     samples_refused (for_report c.args.value.now) c.args.input.now c.in-Ok.profile c.choice_of.result
-    c.in-Err-sample_totals.fault c.batch_fault.result c.in-Ok.ensures.read
+    c.in-Err-counted.fault c.batch_fault.result c.in-Ok.ensures.read
     (λ other is. c.in-Ok.ensures.every_profile other is)
     c.choice_of.ensures
-    c.in-Err-sample_totals.ensures.read c.in-Err-sample_totals.ensures.accepted c.batch_fault.ensures
+    c.in-Err-counted.ensures.read c.in-Err-counted.ensures.accepted c.batch_fault.ensures

@@ -23,6 +23,6 @@ returns c =
     let whole : take c.loop-name.name-index names ≡ names =
     take_all c.loop-name.name-index names (omega (arith, past, size, long)) in
     c.loop-name.invariant ∙ ap (with_texts _) whole
-    ∙ ap (λ strings. with_texts strings names) (c.in_ok-add_units.ensures ∙ ap
-    (λ table. with_texts table texts) (c.in_ok-add.ensures.texts ∙ ap (λ table. with_text table []) c.new-strings.ensures.texts))
+    ∙ ap (λ strings. with_texts strings names) (c.in_ok-add_units.ensures ∙ ap (λ table. with_texts table texts)
+    (c.in_ok-add.ensures.texts ∙ ap (λ table. with_text table []) c.new-strings.ensures.texts))
     ∙ sym (with_texts-append ([] ∷ []) texts names)

@@ -52,9 +52,11 @@ fn read_file<R: Files + AllocGlobal>(rt: &R, alloc: Global, name: &str) -> Resul
 /// The rows of a profile's samples, by the value that tools show, as one addition.
 fn profile_additions(alloc: Global, bytes: &[u8]) -> Result<Vec<Op>> {
     let profile = decode(alloc, bytes)?;
-    let batch = batch_of(alloc, &profile, ValueChoice::Default)?;
+    let batch = batch_of(alloc, &profile, ValueChoice::Default);
+    drop(profile);
+    let batch = Arc::new(alloc, batch?)?;
     let mut additions = Vec::new(alloc);
-    additions.push(Op::Add(Arc::new(alloc, batch)?))?;
+    additions.push(Op::Add(batch))?;
     Ok(additions)
 }
 

@@ -53,8 +53,9 @@ pub(crate) fn profile_reports(alloc: Global, bytes: &[u8]) -> Result<Reports>
         × IsProfile bytes.now draft × IsBatchOf draft ValueChoice.Default batch × AreMadeOf batch.rows reports) }
 {
     let profile = decode(alloc, bytes)?;
-    let batch = batch_of(alloc, &profile, ValueChoice::Default)?;
-    let reports = batch_reports(alloc, &batch)?;
+    let batch = batch_of(alloc, &profile, ValueChoice::Default);
+    drop(profile);
+    let reports = batch_reports(alloc, &batch?)?;
     Ok(reports)
 }
 

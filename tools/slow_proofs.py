@@ -1,9 +1,9 @@
 #!/usr/bin/env python3
-"""slow_proofs.py CRATE [SECONDS]: which parts of a crate's last check took longest, by when its files were kept in out/.
+"""slow_proofs.py CRATE [SECONDS]: which parts of a crate's last check took longest, by when its files were kept.
 
-A part is a module of the prover: FUNCTION.Lts is what the function's borrows and drops cost, FUNCTION.Proof its clauses.
-What stands between two files is taken for the later one's time, so the check has to have had one job (rt check --jobs 1),
-and to have begun with nothing kept (rm -r out/incremental).
+A part is a module of the prover: FUNCTION.Lts is what the function's borrows and drops cost, FUNCTION.Proof its
+clauses. What stands between two files is taken for the later one's time, so the check has to have had one job
+(rt check --jobs 1), and to have begun with nothing kept (rm -r out/incremental).
 """
 import pathlib
 import sys

@@ -1,11 +1,13 @@
 -- How the rows of a batch are dealt to workers.
 use Prim.Native.Nat.{zero, suc}
-use Rattle.std.specs.Prelude.{ℕ, ◌≡◌, ◌+◌, ◌*◌, Option, Some, None, List, [], ◌∷◌, IsSomeAnd, length, map, slice_get}
-use Rattle.std.specs.Prelude.{sum_by}
+use Rattle.std.specs.Prelude.{ℕ, ◌≡◌, ◌+◌, ◌*◌, Option, Some, None, List, [], ◌∷◌, ◌++◌, IsSomeAnd, cond, length, map}
+use Rattle.std.specs.Prelude.{slice_get, sum_by}
 use Rattle.profile_rows.specs.Values.{BatchState, Row}
 use Rattle.flame_report.specs.declared.query.Kind.TheVariants.{Total}
 use Rattle.op_book.specs.Operations.{PlainOp, add, ask, reset}
 use Rattle.op_book.specs.declared.entry.SessionLog.{SessionLog}
+use Rattle.live_store.specs.Workers.{ops_told}
+use Rattle.flame_words.specs.LiveOptions.{PlainOptions}
 
 -- the addition of a row, as a batch of its own
 abbrev pub addition : ℕ → Row → PlainOp
@@ -41,6 +43,13 @@ pub record AreDealt (batch : BatchState) (sessions : ℕ) (lists : List (List Pl
   pub count : length lists ≡ sessions
   pub same : (weight : PlainOp → ℕ) → weigh weight lists
       ≡ sum_by weight (map (addition batch.width) batch.rows) + sessions * sum_by weight (totals_from 0 batch.width)
+
+-- the logs tell of the operations that a batch was dealt as, behind a warm start where there is one
+pub record AreLogsOf (options : PlainOptions) (batch : BatchState) (logs : List SessionLog) : Type 0 where
+  pub lists : List (List PlainOp)
+  pub dealt : AreDealt batch options.sessions lists
+  pub told : map (λ (log : SessionLog). ops_told log.receipts) logs
+      ≡ warm_lists (cond options.warm (Some batch) None) ++ lists
 
 -- rows are dealt in turn: the number of the row that a worker adds in a step, where there is one
 abbrev pub row_of_step : ℕ → ℕ → ℕ → ℕ

@@ -5,7 +5,7 @@ ghost use Rattle.std.specs.Arc.{arc_value};
 ghost use Rattle.profile_rows.specs.Aggregate.{aggregate_of};
 ghost use Rattle.profile_rows.specs.Values.{BatchState, Row, rows_at};
 ghost use Rattle.call_tree.specs.State.{weights_of};
-ghost use Rattle.live_report.specs.Dealing.{IsWarm};
+ghost use Rattle.live_report.specs.Dealing.{AreLogsOf, IsWarm};
 ghost use Rattle.live_report.specs.Faults.{is_shortage};
 ghost use Rattle.live_report.specs.Options.{changes_for, sessions_for};
 ghost use Rattle.live_report.specs.Live.{count_line, folded_at, live_text_of, reports_of, titled_at, titled_from};
@@ -19,7 +19,7 @@ use flame_words::LiveOptions;
 use folded_text::OrderedRows;
 use live_store::Blank;
 use op_book::laws::additions_count_since_the_last_reset;
-use op_book::{SessionLog, audit_with};
+use op_book::{Journal, SessionLog, audit_with};
 use profile_rows::laws::aggregate_is_by_weights;
 use profile_rows::{Batch, Hashing, NoMemory, Width};
 use std::alloc::Global;
@@ -50,8 +50,23 @@ pub fn live_text<P: Progress, R: Threads + Wait + Sync>(
     let blank = blank_for(alloc, hashing, rows, width, options)?;
     let gate = gate_for(progress, rows, options);
     let Stored { journal, logs } = store::<Brand, _, _>(rt, alloc, blank, warm, lists, &gate)?;
-    let run = audit_with(alloc, hashing, &journal, &logs)?;
-    check_warm(options, &logs)?;
+    audited_text(alloc, hashing, &journal, &logs, options)
+}
+
+/// The reports out of a journal, with the number of operations that its sessions' logs have, where these are together
+/// one run.
+fn audited_text(
+    alloc: Global,
+    hashing: Hashing,
+    journal: &Journal,
+    logs: &[SessionLog],
+    options: LiveOptions,
+) -> Result<Vec<u8>, LiveFault>
+    ensures { (batch : BatchState) → batch.width ≡ journal.now.width → AreLogsOf options batch logs.now
+        → IfOk result (λ text. text.items ≡ live_text_of options batch) }
+{
+    let run = audit_with(alloc, hashing, journal, logs)?;
+    check_warm(options, logs)?;
     additions_count_since_the_last_reset();
     aggregate_is_by_weights();
     let mut text = reports(alloc, journal.tree(), options.all())?;

@@ -1,5 +1,5 @@
 -- The last logs tell the last lists.
-use Rattle.std.proofs.Common.{◌≡◌, List, map, ap, ◌∙◌}
+use Rattle.std.proofs.Common.{List, ap, ◌∙◌}
 use Rattle.profile_store.specs.FoldedText.{folded_text_of}
 use Rattle.profile_store.specs.Operations.{PlainOp}
 use Rattle.profile_store.specs.Values.{rows_at}

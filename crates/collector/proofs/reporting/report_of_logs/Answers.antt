@@ -1,5 +1,5 @@
 -- The logs of the last window tell of what counts.
-use Rattle.std.proofs.Common.{ℕ, ◌≡◌, ◌<◌, ◌++◌, true, List, map, ap, sym, ◌∙◌, arith}
+use Rattle.std.proofs.Common.{ℕ, ◌≡◌, ◌++◌, true, List, map, ap, sym, ◌∙◌, arith}
 use Rattle.std.specs.List.{list_all}
 use Rattle.profile_store.specs.Aggregate.{aggregate_of}
 use Rattle.profile_store.specs.Books.{IsReplay}

@@ -1,5 +1,5 @@
 -- All rows are kept.
-use Rattle.std.proofs.Common.{◌≡◌, ap, ◌∙◌}
+use Rattle.std.proofs.Common.{ap, ◌∙◌}
 use Rattle.profile_store.specs.Answers.{answer_by}
 use Rattle.profile_store.specs.Values.{rows_at}
 use Rattle.read_and_report.proofs.Kept.{all_kept}

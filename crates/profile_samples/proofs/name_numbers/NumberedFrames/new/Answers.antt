@@ -1,5 +1,5 @@
 -- All numbers are of names, and the ids differ.
-use Rattle.std.proofs.Common.{rules, ◌≡◌, ◌<◌, ℕ, List, All, ap, sym, ◌∙◌, length, map, subst}
+use Rattle.std.proofs.Common.{rules, ◌≡◌, ◌<◌, ℕ, List, All, sym, length, subst}
 use Rattle.std.specs.Prelude.{false}
 use Rattle.std.proofs.lemmas.List.Elements.{All-map}
 use Rattle.pprof_profile.specs.Valid.{IsValidDraft, has_double, location_ids}

@@ -84,11 +84,11 @@ def stands_in(parts, module, function):
 
 
 def is_in(path, file, function):
-    """Whether what a check names by this path is the function of the file, or stands in it. An `impl` may stand in a
-    child module of its type's, and the check names its functions by the type."""
+    """Whether what a check names by this path is the function of the file, or stands in it. An `impl` may stand in
+    another module than its type, and the check names its functions by the type."""
     parts = [it for it in path.split("::") if it != "fn"]
     module = [] if file == "src/lib.rt" else file.removeprefix("src/").removesuffix(".rt").split("/")
-    homes = [module[:depth] for depth in range(len(module) + 1)] if function[0] else [module]
+    homes = [parts[:depth] for depth in range(len(parts))] if function[0] else [module]
     return any(stands_in(parts, home, function) for home in homes)
 
 

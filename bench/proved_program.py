@@ -1,8 +1,8 @@
 """What benchmarks and tools that run a proved program share: it is built outside the repository, and run on a file.
 
 A program NAME is NAME.rattle in this folder or another, with what its proof needs in NAME.proofs. It is proved and
-linked in a copy of the crates below it, since the gate doesn't know of it. Where the copy's folder is kept, the next run
-proves only what changed.
+linked in a copy of the crates below it, since the gate doesn't know of it. Where the copy's folder is kept, the next
+run proves only what changed.
 """
 import pathlib
 import shutil

@@ -1,5 +1,6 @@
 #!/usr/bin/env bash
-# Times `flame top` against the awk script that people use for the same list, on one generated input, and prints the ratio.
+# Times `flame top` against the awk script that people use for the same list, on one generated input, and prints the
+# ratio.
 #   bench/top_against_awk.sh [MEGABYTES]     (20)
 # ./build must have made the program. Not part of the gate.
 set -eu
@@ -32,7 +33,13 @@ top_by_awk() {
     }' "$work/input.folded"
 }
 
-seconds() { local start end; start=$(date +%s%N); "$@" >"$work/out"; end=$(date +%s%N); echo $(((end - start) / 1000000)); }
+seconds() {
+    local start end
+    start=$(date +%s%N)
+    "$@" >"$work/out"
+    end=$(date +%s%N)
+    echo $(((end - start) / 1000000))
+}
 
 flame_ms=$(seconds "$program" top <"$work/input.folded"); cp "$work/out" "$work/flame.out"
 awk_ms=$(seconds top_by_awk); cmp "$work/out" "$work/flame.out"

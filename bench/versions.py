@@ -26,19 +26,22 @@ from random_stacks import function_names, tree_stacks, write_folded
 NAME = "versions"
 LIBRARIES = ["profile_rows", "folded_text", "call_tree", "flame_report", "op_book", "live_store", "anyhow"]
 STORES = "versions", "lock"
+# A processor for each thread: one adds, and the others ask.
+CORES = max(os.cpu_count() or 2, 2)
+ASKERS = CORES - 1
 
 # What is timed: its name, what the threads do, how many they are, the steps of the first, rows in a batch, the report,
 # whether the first thread's time counts or that of the others, and how many sessions the store has.
 CASES = [
     ("one asks Total", "ask", 1, 200_000, 1, "total", "first", 2),
-    ("four ask Total", "ask", 4, 100_000, 1, "total", "others", 5),
+    (f"{ASKERS} ask Total", "ask", ASKERS, 100_000, 1, "total", "others", CORES),
     ("one adds rows", "add", 1, 20_000, 1, "total", "first", 2),
     ("one adds rows, in a store of 64 sessions", "add", 1, 20_000, 1, "total", "first", 64),
     ("one adds batches of 100", "add", 1, 200, 100, "total", "first", 2),
     ("four add rows", "add", 4, 5_000, 1, "total", "first", 5),
     ("one adds rows beside one that asks Total", "add_beside_ask", 2, 10_000, 1, "total", "first", 3),
-    ("one adds rows beside four that ask Total", "add_beside_ask", 5, 10_000, 1, "total", "first", 6),
-    ("those four", "add_beside_ask", 5, 10_000, 1, "total", "others", 6),
+    (f"one adds rows beside {ASKERS} that ask Total", "add_beside_ask", CORES, 10_000, 1, "total", "first", CORES + 1),
+    (f"those {ASKERS}", "add_beside_ask", CORES, 10_000, 1, "total", "others", CORES + 1),
     ("one asks Total beside one that adds rows", "ask_beside_add", 2, 50_000, 1, "total", "first", 3),
     ("one asks Total beside three that add rows", "ask_beside_add", 4, 50_000, 1, "total", "first", 5),
     ("one adds rows beside one that asks for layouts", "add_beside_ask", 2, 5_000, 1, "flame", "first", 3),

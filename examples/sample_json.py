@@ -3,8 +3,8 @@
 
   python3 sample_json.py > json_report.folded
 
-The program makes a nested report, writes it as indented JSON (which the json module does in Python, by recursion) and adds
-up its numbers. A thread looks at its stack every 2 ms of 1.2 s.
+The program makes a nested report, writes it as indented JSON (which the json module does in Python, by recursion) and
+adds up its numbers. A thread looks at its stack every 2 ms of 1.2 s.
 """
 import collections
 import json

@@ -101,7 +101,9 @@ def changed(dice, data, others):
 def random_text(dice, real):
     """A text of odd lines, or a piece of a real one, changed."""
     if dice.random() < 0.5:
-        text = b"".join(dice.choice(ODD_LINES[: dice.choice([3, 5, len(ODD_LINES)])]) for _ in range(dice.randint(0, 6)))
+        text = b"".join(
+            dice.choice(ODD_LINES[: dice.choice([3, 5, len(ODD_LINES)])]) for _ in range(dice.randint(0, 6))
+        )
     else:
         at = dice.randrange(len(real))
         text = real[at : at + dice.randrange(400)]

@@ -4,10 +4,11 @@
     tools/attack_process.py [--limits NUMBER] [--only WORD]
 
 Each subcommand is run with limits of its address space (400, or as many as --limits says, from the least at which a
-process starts at all to more than it takes, of 50,000 rows but for `live`), of threads, and of the size of a file; with a full disk, a pipe that is
-closed, a directory as its input, a pipe that nobody reads, and with signals in the middle. A run has to give the right
-report and status 0; or a stated status and its one line, and no report. Only at status 3 may a beginning of the report
-be written. A run that a signal ends may have written a beginning, as much as the system took.
+process starts at all to more than it takes, of 50,000 rows but for `live`), of threads, and of the size of a file;
+with a full disk, a pipe that is closed, a directory as its input, a pipe that nobody reads, and with signals in the
+middle. A run has to give the right report and status 0; or a stated status and its one line, and no report. Only at
+status 3 may a beginning of the report be written. A run that a signal ends may have written a beginning, as much as the
+system took.
 
 Run it at the top of the repository once ./build has made the program. The exit status is 1 where a case ended
 otherwise.

@@ -1,10 +1,10 @@
 #!/usr/bin/env python3
 """Compares pprof_profile with an independent reader and writer of profiles, on many byte lists.
 
-The reader below is written from profile.proto (google/pprof) and the Protocol Buffers encoding page, with the choices of
-docs/DECISIONS.md, and knows nothing of the crate. For each byte list the crate's answer is compared with its own: the
-canonical bytes of the profile, or the text of the first fault. The lists are the vectors of the crate's tests, every
-proper prefix of each, each of their bytes changed to every other value, ids, lengths and indices at their limits,
+The reader below is written from profile.proto (google/pprof) and the Protocol Buffers encoding page, with the choices
+of docs/DECISIONS.md, and knows nothing of the crate. For each byte list the crate's answer is compared with its own:
+the canonical bytes of the profile, or the text of the first fault. The lists are the vectors of the crate's tests,
+every proper prefix of each, each of their bytes changed to every other value, ids, lengths and indices at their limits,
 a real profile with bytes changed here and there, random splices of fields, and fields that stand in another message.
 
 Run it at the top of the repository: python3 tools/check_profiles.py. It is no part of the gate.

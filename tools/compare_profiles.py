@@ -145,7 +145,8 @@ def main():
         rows = [unpacked(path) for path in paths]
         results = [compared(folder, *row) for row in zip(paths, rows, answers(rows))]
     same = sum(result[0] for result in results)
-    print(f"{same} of {len(results)} profiles are the same, with {sum(r[1] for r in results)} samples and {sum(r[2] for r in results)} locations")
+    samples, locations = sum(result[1] for result in results), sum(result[2] for result in results)
+    print(f"{same} of {len(results)} profiles are the same, with {samples} samples and {locations} locations")
     return 0 if same == len(results) else 1
 
 

@@ -5,18 +5,20 @@ For each profile that compare_profiles.py makes (and those named as arguments), 
 - `flame top` with the flat and cumulative weights that `go tool pprof -top` gives, its trimming switched off;
 - `flame fold` with the stacks of `go tool pprof -traces`;
 - `flame flame` with a layout made here from the folded stacks, in 100 and in 1,200 columns;
-- where flamegraph.pl is there (Debian: libdevel-nytprof-perl), the frames that it draws with the paths of the folded stacks.
+- where flamegraph.pl is there (Debian: libdevel-nytprof-perl), the frames that it draws with the paths of the folded
+  stacks.
 
 Where the tools are known to differ, the difference is taken away, and a line says which it was and how often:
 - a semicolon in a function's name: flame writes a colon, since folded text can't hold it;
-- an address that no function is known for: flame names it `0x..`, and go tool pprof puts all addresses of a file together, as `[FILE]`;
+- an address that no function is known for: flame names it `0x..`, and go tool pprof puts all addresses of a file
+  together, as `[FILE]`;
 - a sample without locations: flame folds it as the empty stack, and -traces prints nothing for it;
-- a frame that flamegraph.pl draws in pieces: it orders stacks as joined text, so that a sibling whose name goes on from the frame's
-  with a character below the semicolon (`geneq.func1` beside `geneq`) comes between two of its children.
+- a frame that flamegraph.pl draws in pieces: it orders stacks as joined text, so that a sibling whose name goes on from
+  the frame's with a character below the semicolon (`geneq.func1` beside `geneq`) comes between two of its children.
 Each other difference is printed, and the last line says how many were compared.
 
-Run it at the top of the repository once ./build has made the program: python3 tools/compare_reports.py [FILE..]. It needs
-Go (Debian: golang-go), and is no part of the gate.
+Run it at the top of the repository once ./build has made the program: python3 tools/compare_reports.py [FILE..]. It
+needs Go (Debian: golang-go), and is no part of the gate.
 """
 import collections
 import html
@@ -56,7 +58,8 @@ def cleaned(name, reasons):
 def files_of_addresses(raw):
     """The name that go tool pprof gives the locations of each address without a function: their mapping's file."""
     locations, mappings = raw.split("Locations\n", 1)[1].split("Mappings\n", 1)
-    files = {number: pathlib.Path(file).name for number, file in re.findall(r"^(\d+): 0x\w+/0x\w+/0x\w+ (\S+)", mappings, re.M)}
+    mapped = re.findall(r"^(\d+): 0x\w+/0x\w+/0x\w+ (\S+)", mappings, re.M)
+    files = {number: pathlib.Path(file).name for number, file in mapped}
     named = re.findall(r"^ +\d+: (0x\w+) M=(\d+) *$", locations, re.M)
     return {address: f"[{files[mapping]}]" for address, mapping in named if mapping in files}
 
@@ -95,8 +98,9 @@ def flame_top(data, kind):
 
 def pprof_words(report, path, kind, unit):
     shown = {"nanoseconds": "ns", "bytes": "B"}.get(unit, unit)
-    return ["go", "tool", "pprof", "-symbolize=none", report, "-nodecount=100000000", "-nodefraction=0", "-edgefraction=0",
-            f"-sample_index={kind}", f"-unit={shown}", path]
+    untrimmed = ["-nodecount=100000000", "-nodefraction=0", "-edgefraction=0"]
+    chosen = [f"-sample_index={kind}", f"-unit={shown}"]
+    return ["go", "tool", "pprof", "-symbolize=none", report, *untrimmed, *chosen, path]
 
 
 def pprof_top(path, kind, unit, reasons):
@@ -166,7 +170,8 @@ def drawn(text, weights, reasons):
     want = collections.Counter((len(path), path[-1], weight) for path, weight in weights.items() if path)
     pieces, wholes = by_name(seen - want), by_name(want - seen)
     reasons["drawn in pieces"] += sum(pieces[frame] == wholes[frame] for frame in wholes)
-    return len(rows), [f"flamegraph.pl {frame}: {pieces[frame]}, of {wholes[frame]}" for frame in pieces | wholes if pieces[frame] != wholes[frame]]
+    other = [frame for frame in pieces | wholes if pieces[frame] != wholes[frame]]
+    return len(rows), [f"flamegraph.pl {frame}: {pieces[frame]}, of {wholes[frame]}" for frame in other]
 
 
 def by_name(frames):
@@ -189,7 +194,8 @@ def compared(path, data, kind, unit, files, counts, reasons):
     top = flame_top(data, kind)
     found += differences("name", top_by_file(named) if files else top, pprof_top(path, kind, unit, reasons))
     found += differences("stack", named, pprof_traces(path, kind, unit, reasons))
-    found += differences("sum of the stacks", top, top_by_file({stack: weight for stack, weight in rows.items() if stack}))
+    framed = {stack: weight for stack, weight in rows.items() if stack}
+    found += differences("sum of the stacks", top, top_by_file(framed))
     counts.update(names=len(top), stacks=len(rows))
     if rows:
         for columns in (100, 1200):
@@ -210,8 +216,14 @@ def main():
         folder = pathlib.Path(name)
         os.environ.update(GO111MODULE="off", GOCACHE=str(folder / "cache"), PPROF_TMPDIR=name)
         paths = [pathlib.Path(word).resolve() for word in sys.argv[1:]] + [TOP / "examples/work.pb"]
-        for made in (compare_profiles.of_work, compare_profiles.of_compiler, compare_profiles.of_linker, compare_profiles.of_gofmt,
-                     compare_profiles.of_perftools):
+        makers = [
+            compare_profiles.of_work,
+            compare_profiles.of_compiler,
+            compare_profiles.of_linker,
+            compare_profiles.of_gofmt,
+            compare_profiles.of_perftools,
+        ]
+        for made in makers:
             paths += made(folder)
         for number_of, path in enumerate(paths):
             data = compare_profiles.unpacked(path)

@@ -1,12 +1,12 @@
 #!/usr/bin/env bash
-# Tries the scripts of examples/many_machines on this host: each folds a file in parts, and what comes out is compared with
-# one fold of the whole, byte for byte. A second round has a program that fails once, and a third one that always fails:
-# then there must be no output.
+# Tries the scripts of examples/many_machines on this host: each folds a file in parts, and what comes out is compared
+# with one fold of the whole, byte for byte. A second round has a program that fails once, and a third one that always
+# fails: then there must be no output.
 #
 #   tools/try_many_machines.sh [INPUT]
 #
-# It needs out/flame (./build) and Debian's parallel, slurm-wlm, munge and python3-distributed. As root it starts a Slurm of
-# one node; else the Slurm that is there is used. It is no part of the gate.
+# It needs out/flame (./build) and Debian's parallel, slurm-wlm, munge and python3-distributed. As root it starts a
+# Slurm of one node; else the Slurm that is there is used. It is no part of the gate.
 set -euo pipefail
 root=$(cd "$(dirname "$0")/.." && pwd)
 scripts=$root/examples/many_machines

@@ -17,7 +17,8 @@ task="part=\$(printf '$parts/part-%04d' \"\$SLURM_ARRAY_TASK_ID\")
 $flame fold < \"\$part\" > \"\$part.new\" && mv \"\$part.new\" \"\$part.folded\""
 array=$(sbatch --parsable --requeue --array "0-$((count - 1))" --output "$parts/log-%a" --wrap "$task")
 merge="cat '$parts'/*.folded | $flame fold > '$parts/whole.new' && mv '$parts/whole.new' '$parts/whole'"
-sbatch --wait --dependency "afterok:$array" --kill-on-invalid-dep yes --output "$parts/log" --wrap "$merge" > "$parts/job"
+sbatch --wait --dependency "afterok:$array" --kill-on-invalid-dep yes --output "$parts/log" --wrap "$merge" \
+    > "$parts/job"
 
 if [ "$(find "$parts" -name '*.folded' | wc -l)" -ne "$count" ] || [ ! -e "$parts/whole" ]; then
     echo "slurm_fold: a task failed; its log is in $parts" >&2

@@ -41,7 +41,8 @@ def build(name, sources, libraries, folder, c_files=(), words=()):
     program.unlink(missing_ok=True)
     crate = copy_sources(name, sources, libraries, c_files, folder)
     variables = {**os.environ, "RT_ALLOW_C": name, "CFLAGS": f"-Wall -Wextra '-DKEEP_AT=\"{program}\"'"}
-    ran = subprocess.run(["rt", "try", "--", *words], cwd=crate, env=variables, input="", capture_output=True, text=True)
+    how = {"cwd": crate, "env": variables, "input": "", "capture_output": True, "text": True}
+    ran = subprocess.run(["rt", "try", "--", *words], **how)
     if not program.exists():
         sys.exit(ran.stderr + ran.stdout + f"{name} isn't built")
     return program

@@ -113,7 +113,8 @@ others_put links tables value other next ne =
 module _ (links : List Link) (tables : List (List ℕ)) (all : List (List Node)) (seen : all_of links tables ≡ all)
     (value slot : ℕ) (value_lt : value < length tables) (slot_lt : slot < length (nodes_of all value)) where
   pub in_links : slot < length links
-  in_links = omega (arith, slot_lt, ap (λ a. length (nodes_of a value)) seen, length-nodes_of links tables value value_lt)
+  in_links =
+      omega (arith, slot_lt, ap (λ a. length (nodes_of a value)) seen, length-nodes_of links tables value value_lt)
 
   nodes_are : nodes_of all value ≡ weighed links (table_of tables value)
   nodes_are = ap (λ a. nodes_of a value) (sym seen) ∙ nodes_of-all links tables value value_lt
@@ -133,7 +134,8 @@ module _ (links : List Link) (tables : List (List ℕ)) (all : List (List Node))
     in_table = let long = are.long value value_lt in omega (arith, in_links, long, ap length (table_is table read))
 
     pub weight_read : (weight : ℕ) → weight ≡ get_or table slot weight → weight ≡ get_or (table_of tables value) slot 0
-    weight_read weight is = get_or_read table slot weight in_table is 0 ∙ ap (λ t. get_or t slot 0) (table_is table read)
+    weight_read weight is =
+        get_or_read table slot weight in_table is 0 ∙ ap (λ t. get_or t slot 0) (table_is table read)
 
     -- what a node weighs, as it is read
     pub own_read : (weight : ℕ) → weight ≡ get_or table slot weight → weight ≡ (at (nodes_of all value) slot).own

@@ -84,7 +84,8 @@ pub record AreStates (tree : TreeState) : Type 0 where
   pub width : length tree.values ≡ tree.width
   pub each : (value : ℕ) → value < tree.width → IsState (plain_at tree value)
   pub sizes : (value : ℕ) → value < tree.width → length (nodes_at tree value) ≡ length (nodes_at tree 0)
-  pub stacks : (value k : ℕ) → value < tree.width → stack_at (nodes_at tree value) k ≡ stack_at (nodes_at tree 0) k
+  pub stacks : (value k : ℕ) → value < tree.width
+      → stack_at (nodes_at tree value) k ≡ stack_at (nodes_at tree 0) k
 
 -- the tree after some more names and some more nodes of weight 0
 pub record IsGrown (before after : PlainTree) : Type 0 where

@@ -149,7 +149,8 @@ impl Nodes {
 fn take_room(tables: &mut Vec<Pages<u64>>, size: usize) -> Result<(), AllocError>
     requires { AreTables size tables.old.items }
     ensures count { length tables.new.items ≡ length tables.old.items }
-    ensures same { (links : List Link) → map (weighed links) tables.new.items ≡ map (weighed links) tables.old.items }
+    ensures same { (links : List Link)
+        → map (weighed links) tables.new.items ≡ map (weighed links) tables.old.items }
     ensures kept { AreTables size tables.new.items }
     ensures longer { OnOk result
         ((k : ℕ) → k < length tables.new.items → size < length (slice_index_or tables.new.items k [])) }

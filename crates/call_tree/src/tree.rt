@@ -167,7 +167,8 @@ impl CallTree {
     /// The number of the name, where the node `child` stands below `parent` by that name.
     pub(crate) fn number_below(&self, parent: u32, child: u32, name: &Name) -> Option<u32>
         ensures { IfSome result
-            (λ number. IsChild (plain_at self.now 0) parent number child × (name_at self.now.names number ≡ name.now)) }
+            (λ number. IsChild (plain_at self.now 0) parent number child
+            × (name_at self.now.names number ≡ name.now)) }
     {
         self.nodes.facts();
         if child == 0 || child as usize >= self.nodes.len() {
@@ -184,7 +185,8 @@ impl CallTree {
     /// A tree of the root alone.
     pub(crate) fn new(alloc: Global, width: Width) -> Result<CallTree, AllocError>
         ensures { IfOk result (λ tree. (tree.width ≡ width) × (tree.names ≡ [])
-            × ((value : ℕ) → value < width → nodes_at tree value ≡ (record { stack = []; weight = 0 }) ∷ [])) }
+            × ((value : ℕ) → value < width
+            → nodes_at tree value ≡ (record { stack = []; weight = 0 }) ∷ [])) }
     {
         let mut nodes = Nodes::new(alloc, width)?;
         nodes.append(Link {

@@ -1,6 +1,7 @@
 -- The paths of rows are those of some weight, in order; the rectangles of a layout are those of the paths that are
 -- wide enough.
-use Rattle.std.proofs.Common.{◌≡◌, ℕ, zero, suc, ◌+◌, ◌<◌, Bool, true, false, cond, ◌||◌, List, [], ◌∷◌, ◌++◌, length}
+use Rattle.std.proofs.lemmas.Grind.{common_steps}
+use Rattle.std.proofs.Common.{◌≡◌, ℕ, zero, suc, ◌<◌, Bool, true, false, cond, ◌||◌, List, [], ◌∷◌, ◌++◌, length}
 use Rattle.std.proofs.Common.{map, filter, refl, sym, ap, subst, ◌∙◌, arith}
 use Rattle.std.specs.Prelude.{nat_lt}
 use Rattle.std.specs.List.{AllPairs, Contains, list_any, flat_map}
@@ -11,10 +12,10 @@ use Rattle.std.proofs.lemmas.List.Elements.{All-from_recursion}
 use Rattle.std.proofs.lemmas.List.Kept.{AllPairs-cons}
 use Rattle.std.proofs.lemmas.Map.Views.{Contains-from_any, list_any-from_Contains}
 use Rattle.profile_rows.specs.declared.weighted_stacks.WeightedStack.{WeightedStack}
-use Rattle.profile_rows.specs.Layout.{column_at, is_shown, rectangle_at, rectangles_of}
+use Rattle.profile_rows.specs.Layout.{is_shown, rectangle_at, rectangles_of}
 use Rattle.profile_rows.specs.Names.{name_cmp}
-use Rattle.profile_rows.specs.Paths.{begins_with, path_start, path_weight, paths_of, prefixes}
-use Rattle.profile_rows.specs.Rows.{stack_cmp, is_same_stack, total_of}
+use Rattle.profile_rows.specs.Paths.{begins_with, path_weight, paths_of, prefixes}
+use Rattle.profile_rows.specs.Rows.{stack_cmp, is_same_stack}
 use Rattle.profile_rows.proofs.Members.{Rises, in_order-Rises, member-in_order}
 use Rattle.profile_rows.proofs.RowLaws.{stack_cmp_total, stack_cmp_apart, same_from_is_same_stack}
 use Rattle.flame_report.proofs.NewPaths.{among-all, begins_row}
@@ -89,9 +90,7 @@ listed_weighs rows path found =
 in_pairs : (paths : List (List (List ℕ)))
     → Rises stack_cmp stack_cmp_total stack_cmp_apart paths → AllPairs (λ a b. stack_cmp a b ≡ Less) paths
 in_pairs [] up = λ i j d lt short. absurd (omega arith)
-in_pairs (path ∷ paths) up =
-    AllPairs-cons (λ a b. stack_cmp a b ≡ Less) path paths
-    (All-from_recursion (λ after. stack_cmp path after ≡ Less) paths up.0) (in_pairs paths up.1)
+in_pairs (path ∷ paths) up = grind (arith, common_steps, All-from_recursion, AllPairs-cons, in_pairs paths up.1)
 
 pub paths_ascend : (rows : List WeightedStack) → AllPairs (λ a b. stack_cmp a b ≡ Less) (paths_of rows)
 paths_ascend rows =
@@ -102,12 +101,7 @@ paths_ascend rows =
 filter-map : {X Y : Type 0} (test : X → Bool) (f : Y → X) (ys : List Y)
     → filter test (map f ys) ≡ map f (filter (λ y. test (f y)) ys)
 filter-map test f [] = refl
-filter-map test f (y ∷ ys) =
-    elim (test (f y)) as (λ b. cond b (f y ∷ filter test (map f ys)) (filter test (map f ys))
-    ≡ map f (cond b (y ∷ filter (λ y. test (f y)) ys) (filter (λ y. test (f y)) ys))) [
-      | true ↦ ap (λ more. f y ∷ more) (filter-map test f ys)
-      | false ↦ filter-map test f ys
-    ]
+filter-map test f (y ∷ ys) = grind (arith, common_steps, filter-map test f ys)
 
 pub drawn_in_order : (columns : ℕ) (rows : List WeightedStack)
     → rectangles_of columns rows
@@ -116,16 +110,7 @@ drawn_in_order columns rows = filter-map is_shown (rectangle_at columns rows) (p
 
 wide_weighs : (columns : ℕ) (rows : List WeightedStack) (path : List (List ℕ))
     → is_shown (rectangle_at columns rows path) ≡ true → 0 < path_weight rows path
-wide_weighs columns rows path wide =
-    let apart = ltb-true _ _ wide in
-    elim (nat_lt 0 (path_weight rows path)) as (λ b. nat_lt 0 (path_weight rows path) ≡ b → 0 < path_weight rows path) [
-      | true ↦ λ e. ltb-true _ _ e
-      | false ↦ λ e.
-          let least = ltb-false 0 (path_weight rows path) e in
-          let end : path_start rows path ≡ path_start rows path + path_weight rows path = omega arith in
-          let same = ap (column_at columns (total_of rows)) end in
-          absurd (omega arith)
-    ] refl
+wide_weighs columns rows path wide = grind (arith, common_steps, ltb-true, ltb-false)
 
 module _ {X Y : Type 0} (test : X → Bool) (f : Y → X) where
   shifted : (x y : X) (xs : List X) → Contains xs y → Contains (x ∷ xs) y

@@ -1,4 +1,5 @@
 -- The paths that a layout visits are the paths of the rows.
+use Rattle.std.proofs.lemmas.Grind.{common_steps}
 use Rattle.std.proofs.Common.{ℕ, ◌≡◌, ◌<◌, ◌≤◌, ◌+◌, List, [], ◌∷◌, ◌++◌, length, take, drop, get_or, map, refl, sym}
 use Rattle.std.proofs.Common.{ap, subst, ◌∙◌, arith, zero, suc, true, false, inl, inr, Bool, ◌⊎◌, filter}
 use Rattle.std.specs.Prelude.{◌||◌, nat_lt}
@@ -35,9 +36,7 @@ is_among path paths = list_any (λ p. eq_by_cmp stack_cmp path p) paths
 
 among-append : (q : Path) (ps qs : List Path) → is_among q (ps ++ qs) ≡ (is_among q ps || is_among q qs)
 among-append q [] qs = refl
-among-append q (p ∷ ps) qs =
-    elim (eq_by_cmp stack_cmp q p) as (λ b. (b || is_among q (ps ++ qs))
-    ≡ ((b || is_among q ps) || is_among q qs)) [ true ↦ refl | false ↦ among-append q ps qs ]
+among-append q (p ∷ ps) qs = grind (arith, common_steps, among-append q ps qs)
 
 -- a list of paths that begin with one name
 among-map : (r : Ordering) (n f : List ℕ) (q : Path) (ps : List Path)
@@ -54,14 +53,7 @@ among-prefixes : (q s : Path) → is_among q (prefixes s) ≡ begins_with name_c
 among-prefixes [] [] = refl
 among-prefixes [] (f ∷ s) = refl
 among-prefixes (n ∷ q) [] = refl
-among-prefixes (n ∷ q) (f ∷ s) =
-    among-map (name_cmp n f) n f q (prefixes s) refl
-    ∙ elim (name_cmp n f) as (λ r. name_cmp n f ≡ r → match_ordering r false (is_among q (prefixes s)) false
-    ≡ match_ordering (name_cmp f n) false (begins_with name_cmp q s) false) [
-      | Less ↦ λ e. rw (order.turned names_total names_same n f Less e) refl
-      | Equal ↦ λ e. rw (order.turned names_total names_same n f Equal e) (among-prefixes q s)
-      | Greater ↦ λ e. rw (order.turned names_total names_same n f Greater e) refl
-    ] refl
+among-prefixes (n ∷ q) (f ∷ s) = grind (arith, common_steps, names_total, names_same, among-map, among-prefixes q s)
 
 -- a path that is left out of the paths of a stack is a short one
 among-drop : (k : ℕ) (q s : Path)
@@ -87,17 +79,13 @@ begins_row q row = begins_with name_cmp q row.stack
 any-append : (q : Path) (xs ys : List WeightedStack)
     → list_any (begins_row q) (xs ++ ys) ≡ (list_any (begins_row q) xs || list_any (begins_row q) ys)
 any-append q [] ys = refl
-any-append q (x ∷ xs) ys =
-    elim (begins_row q x) as (λ b. (b || list_any (begins_row q) (xs ++ ys)) ≡ ((b || list_any (begins_row q) xs)
-    || list_any (begins_row q) ys)) [ true ↦ refl | false ↦ any-append q xs ys ]
+any-append q (x ∷ xs) ys = grind (arith, common_steps, any-append q xs ys)
 
 any-at : (q : Path) (rows : List WeightedStack) (k : ℕ) (d : WeightedStack)
     → k < length rows → begins_row q (get_or rows k d) ≡ true → list_any (begins_row q) rows ≡ true
 any-at q [] k d h a = absurd (omega arith)
 any-at q (row ∷ rows) zero d h a = rw a refl
-any-at q (row ∷ rows) (suc k) d h a =
-    let rest : list_any (begins_row q) rows ≡ true = any-at q rows k d (omega arith) a in
-    elim (begins_row q row) as (λ b. (b || list_any (begins_row q) rows) ≡ true) [ true ↦ refl | false ↦ rest ]
+any-at q (row ∷ rows) (suc k) d h a = grind (arith, common_steps, any-at q rows k d (omega arith) a)
 
 same_or : (a d p : Bool)
     → (p ≡ false → d ≡ false) → (p ≡ true → (d ≡ true) ⊎ (a ≡ true)) → (a || d) ≡ (a || (p || false))

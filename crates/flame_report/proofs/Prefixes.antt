@@ -1,6 +1,7 @@
 -- The paths of one stack, and how many of them are known.
+use Rattle.std.proofs.lemmas.Grind.{common_steps}
 use Rattle.std.proofs.Common.{ℕ, ◌≡◌, ◌<◌, ◌≤◌, ◌+◌, List, [], ◌∷◌, ◌++◌, length, take, drop, get_or, map, refl, sym}
-use Rattle.std.proofs.Common.{ap, ◌∙◌, arith, zero, suc, true, false, Bool, cond, filter}
+use Rattle.std.proofs.Common.{ap, ◌∙◌, arith, zero, suc, true, false, Bool, filter}
 use Rattle.profile_rows.specs.Layout.{is_shown, rectangle_at}
 use Rattle.flame_report.specs.Sharing.{shown_of}
 use Rattle.std.proofs.lemmas.List.{append_assoc, map-append, length-map, get_or-map, drop_more, drop_all}
@@ -50,12 +51,7 @@ one_put old S S' R r e h = append_assoc old (r ∷ []) S' ∙ ap (λ t. old ++ t
 
 filter-append : {X : Type 0} (p : X → Bool) (xs ys : List X) → filter p (xs ++ ys) ≡ filter p xs ++ filter p ys
 filter-append p [] ys = refl
-filter-append p (x ∷ xs) ys =
-    elim (p x) as (λ b. cond b (x ∷ filter p (xs ++ ys)) (filter p (xs ++ ys))
-    ≡ cond b (x ∷ filter p xs) (filter p xs) ++ filter p ys) [
-      | true ↦ ap (λ t. x ∷ t) (filter-append p xs ys)
-      | false ↦ filter-append p xs ys
-    ]
+filter-append p (x ∷ xs) ys = grind (arith, common_steps, filter-append p xs ys)
 
 pub shown_of-append : (columns : ℕ) (rows : List WeightedStack) (ps qs : List (List (List ℕ)))
     → shown_of columns rows (ps ++ qs) ≡ shown_of columns rows ps ++ shown_of columns rows qs

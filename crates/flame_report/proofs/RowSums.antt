@@ -1,4 +1,5 @@
 -- Sums of weights over rows in order.
+use Rattle.std.proofs.lemmas.Grind.{common_steps}
 use Rattle.std.proofs.Common.{ℕ, ◌≡◌, ◌<◌, ◌≤◌, ◌+◌, ◌-◌, List, [], ◌∷◌, length, take, drop, get_or, Bool, true, false}
 use Rattle.std.proofs.Common.{not, cond, refl, sym, ap, subst, ◌∙◌, arith, zero, suc, inl, inr}
 use Rattle.std.specs.declared.cmp.Ordering.TheVariants.{Less}
@@ -57,12 +58,7 @@ pub weight_where-not : (test : List (List ℕ) → Bool) (rows : List WeightedSt
     → weight_where (λ s. not (test s)) rows + weight_where test rows ≡ total_of rows
 weight_where-not test [] = refl
 weight_where-not test (row ∷ rows) =
-    rw (
-      weight_where-cons (λ s. not (test s)) row rows,
-      weight_where-cons test row rows,
-      sum_by-cons (λ r. r.weight) row rows,
-    )
-    (split_weight (test row.stack) row.weight _ _ _ (weight_where-not test rows))
+    grind (arith, common_steps, sum_by-cons, weight_where-cons, split_weight, weight_where-not test rows)
 
 is_false : (b : Bool) → (b ≡ true → ⊥) → b ≡ false
 is_false true h = absurd (h refl)
@@ -74,15 +70,11 @@ stack_of rows k d = (get_or rows k d).stack
 -- of two rows the later one stands after the earlier one, or is it
 in_drop : (rows : List WeightedStack) (j k : ℕ) (d e : WeightedStack)
     → k < length (drop j rows) → (j + k < length rows) × ((get_or (drop j rows) k e).stack ≡ stack_of rows (j + k) d)
-in_drop rows j k d e l =
-    let inside : j + k < length rows = omega (arith, length-drop j rows) in
-    (inside, ap (λ r. r.stack) (get_or-drop j rows k e ∙ get_or_default rows (j + k) e d inside))
+in_drop rows j k d e l = grind (arith, common_steps, get_or_default, get_or-drop, length-drop)
 
 in_take : (rows : List WeightedStack) (i k : ℕ) (d e : WeightedStack)
     → i ≤ length rows → k < length (take i rows) → (k < i) × ((get_or (take i rows) k e).stack ≡ stack_of rows k d)
-in_take rows i k d e fits l =
-    let below : k < i = omega (arith, length-take-le i rows fits) in
-    (below, ap (λ r. r.stack) (get_or-take i rows k e below ∙ get_or_default rows k e d (omega arith)))
+in_take rows i k d e fits l = grind (arith, common_steps, get_or_default, get_or-take, length-take-le)
 
 -- after the last row of a path comes no other
 pub no_more_rows : (rows : List WeightedStack) (path : List (List ℕ)) (i j : ℕ) (d : WeightedStack)
@@ -134,18 +126,13 @@ stack_at-get rows k d h = get_or-map (λ row. row.stack) rows k d [] h
 
 pub weight_where-take-le : (test : List (List ℕ) → Bool) (rows : List WeightedStack) (n : ℕ)
     → weight_where test (take n rows) ≤ total_of rows
-weight_where-take-le test rows n =
-    let kept = weight_where-le-total test (take n rows) in
-    let front = sum_by-take-le (λ (r : WeightedStack). r.weight) rows n in
-    omega (arith, kept, front)
+weight_where-take-le test rows n = grind (arith, common_steps, sum_by-take-le, weight_where-le-total)
 
 -- one more row that passes, and one more that doesn't
 pub weight_where-more : (test : List (List ℕ) → Bool) (rows : List WeightedStack) (i : ℕ) (d : WeightedStack)
     → i < length rows → test (stack_at rows i) ≡ true
     → weight_where test (take (i + 1) rows) ≡ weight_where test (take i rows) + (get_or rows i d).weight
-weight_where-more test rows i d h passes =
-    let yes' : test (stack_of rows i d) ≡ true = subst (λ s. test s ≡ true) (stack_at-get rows i d h) passes in
-    sum_by_more (λ r. cond (test r.stack) r.weight 0) rows i d h ∙ rw yes' refl
+weight_where-more test rows i d h passes = grind (arith, common_steps, sum_by_more, stack_at-get)
 
 pub weight_where-same_more : (test : List (List ℕ) → Bool) (rows : List WeightedStack) (i : ℕ) → i < length rows
     → test (stack_at rows i) ≡ false → weight_where test (take (i + 1) rows) ≡ weight_where test (take i rows)
@@ -229,9 +216,7 @@ in_order rows i j up h inside =
 
 taken : (rows : List WeightedStack) (i k : ℕ) (e : WeightedStack)
     → i ≤ length rows → k < length (take i rows) → (k < i) × (stack_at rows k ≡ (get_or (take i rows) k e).stack)
-taken rows i k e fits l =
-    let at = in_take rows i k e e fits l in
-    (at.0, stack_at-get rows k e (omega (arith, at.0)) ∙ sym at.1)
+taken rows i k e fits l = grind (arith, common_steps, in_take, stack_at-get)
 
 -- a row before that is a part of the stack is a part of what the stack shares with the row before
 pub held_shared : (rows : List WeightedStack) (i k : ℕ) → IsAscending rows

@@ -1,12 +1,13 @@
 -- A list's first elements by an order, sorted, are the front of the whole list sorted.
+use Rattle.std.proofs.lemmas.Grind.{common_steps}
 use Rattle.std.proofs.Common.{◌≡◌, ℕ, ◌+◌, ◌<◌, ◌≤◌, Bool, true, false, List, [], ◌∷◌, ◌++◌, All}
-use Rattle.std.proofs.Common.{length, min, take, get_or, refl, sym, ap, subst, arith, IsPermutation}
+use Rattle.std.proofs.Common.{length, min, take, get_or, refl, sym, ap, arith, IsPermutation}
 use Rattle.std.specs.Prelude.{IsSorted}
 use Rattle.std.specs.List.Sorted.{IsSortedBy, IsSplitAround}
 use Rattle.std.specs.declared.cmp.Ordering.{Ordering}
 use Rattle.std.specs.Ordering.{is_lt}
 use Rattle.std.specs.Cmp.{IsTotalOrder, IsStrictWeakOrder}
-use Rattle.std.proofs.lemmas.List.{length-append, append-nil}
+use Rattle.std.proofs.lemmas.List.{length-append}
 use Rattle.std.proofs.lemmas.List.Elements.{All-nil, All-cons, All-tail, All-append, All-get_or}
 use Rattle.std.proofs.lemmas.List.Sorted.{IsPermutation-refl, IsPermutation-trans, IsPermutation-cons}
 use Rattle.std.proofs.lemmas.List.Sorted.{IsPermutation-middle, IsPermutation-append, All-permutation}
@@ -92,33 +93,12 @@ front (suc count) [] (y ∷ ys) size = absurd (omega arith)
 front zero (x ∷ xs) ys size = absurd (omega arith)
 front (suc count) (x ∷ xs) ys size = ap (λ l. x ∷ l) (front count xs ys (omega arith))
 
--- where there are no more, all are the first
-pub all_first : {X : Type 0} (cmp : X → X → Ordering) (count : ℕ) (all : List X)
-    → length all ≤ count → AreFirst cmp count all all
-all_first cmp count all few = record {
-  rest = [];
-  permutation = subst (IsPermutation all) (sym (append-nil all)) (IsPermutation-refl all);
-  border = λ k d high j e below. absurd (omega arith);
-  size = omega arith;
-}
-
 -- what stands before a selected element are the first
 pub selected_first : {X : Type 0} (cmp : X → X → Ordering) → IsTotalOrder cmp
     → (count : ℕ) (all before : List X) (one : X) (after : List X) → IsPermutation all (before ++ one ∷ after)
     → length before ≡ count → IsSplitAround cmp before one after → AreFirst cmp count all before
 selected_first {X} cmp total count all before one after moved size split =
-    let order : IsStrictWeakOrder (λ (x y : X). is_lt (cmp x y)) = ranks_by total (λ (x : X). x) in
-    let long = length_permutation all (before ++ one ∷ after) moved in
-    let parts = length-append before (one ∷ after) in
-    record {
-      rest = one ∷ after;
-      permutation = moved;
-      border = λ k d high.
-          let not_above = split.0 k d high in
-          All-cons (λ y. is_lt (cmp y (get_or before k d)) ≡ false) one after not_above
-          (λ j e to. order.chain (get_or after j e) one (get_or before k d) (split.1 j e to) not_above);
-      size = omega arith;
-    }
+    grind (arith, common_steps, length-append, length_permutation, ranks_by, All-cons)
 
 -- the first elements, sorted, are the front of a list of all that is sorted: what is left out is sorted behind them
 pub ranked_whole : {X : Type 0} (cmp : X → X → Ordering) → IsTotalOrder cmp → (count : ℕ) (all first sorted : List X)

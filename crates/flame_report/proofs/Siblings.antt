@@ -1,6 +1,7 @@
 -- The children of a path stand side by side from its left edge, in the order of their names, and its own weight lies
 -- right of them.
-use Rattle.std.proofs.Common.{◌≡◌, ℕ, ◌+◌, ◌≤◌, true, false, cond, List, [], ◌∷◌, ◌++◌, refl, sym, subst, arith}
+use Rattle.std.proofs.lemmas.Grind.{common_steps}
+use Rattle.std.proofs.Common.{◌≡◌, ℕ, ◌+◌, ◌≤◌, true, false, cond, List, [], ◌∷◌, ◌++◌, refl, arith}
 use Rattle.std.specs.declared.cmp.Ordering.TheVariants.{Less, Equal, Greater}
 use Rattle.std.specs.Ordering.{is_eq, match_ordering, ordering_then}
 use Rattle.std.proofs.lemmas.Cmp.{tied_itself}
@@ -31,20 +32,7 @@ row_next : (path stack : Path) (a b : List ℕ) (weight : ℕ) → name_cmp a b 
     → ((n : List ℕ) → name_cmp a n ≡ Less → name_cmp n b ≡ Less → within (path ++ n ∷ []) stack weight ≡ 0)
     → left (path ++ b ∷ []) stack weight ≡ left (path ++ a ∷ []) stack weight + within (path ++ a ∷ []) stack weight
 row_next [] [] a b weight less none = omega arith
-row_next [] (f ∷ stack) a b weight less none =
-    elim (name_cmp f a) as (λ o. name_cmp f a ≡ o → left (b ∷ []) (f ∷ stack) weight
-    ≡ cond (match_ordering o true false false) weight 0 + cond (match_ordering o false true false) weight 0) [
-      | Less ↦ λ e. let below : name_cmp f b ≡ Less = names_total.trans f a b e less in rw below (omega arith)
-      | Equal ↦ λ e. let below : name_cmp f b ≡ Less =
-          subst (λ n. name_cmp n b ≡ Less) (sym (names_same f a e)) less in rw below (omega arith)
-      | Greater ↦ λ e.
-          let above : name_cmp a f ≡ Less = order.turned names_total names_same f a Greater e in
-          elim (name_cmp f b) as (λ o. name_cmp f b ≡ o → cond (match_ordering o true false false) weight 0 ≡ 0 + 0) [
-            | Less ↦ λ below. let zero : weight ≡ 0 = no_child f stack weight (none f above below) in omega arith
-            | Equal ↦ λ below. omega arith
-            | Greater ↦ λ below. omega arith
-          ] refl
-    ] refl
+row_next [] (f ∷ stack) a b weight less none = grind (arith, common_steps, names_total, names_same, no_child)
 row_next (n ∷ path) [] a b weight less none = omega arith
 row_next (n ∷ path) (f ∷ stack) a b weight less none =
     elim (name_cmp f n) as (λ o. ((m : List ℕ) → name_cmp a m ≡ Less → name_cmp m b ≡ Less
@@ -78,38 +66,15 @@ siblings-next (row ∷ rows) path a b less none =
 row_order : (path stack : Path) (a b : List ℕ) (weight : ℕ) → name_cmp a b ≡ Less
     → left (path ++ a ∷ []) stack weight + within (path ++ a ∷ []) stack weight ≤ left (path ++ b ∷ []) stack weight
 row_order [] [] a b weight less = omega arith
-row_order [] (f ∷ stack) a b weight less =
-    elim (name_cmp f a) as (λ o. name_cmp f a ≡ o → cond (match_ordering o true false false) weight 0 + cond
-    (match_ordering o false true false) weight 0 ≤ left (b ∷ []) (f ∷ stack) weight) [
-      | Less ↦ λ e. let below : name_cmp f b ≡ Less = names_total.trans f a b e less in rw below (omega arith)
-      | Equal ↦ λ e. let below : name_cmp f b ≡ Less =
-          subst (λ n. name_cmp n b ≡ Less) (sym (names_same f a e)) less in rw below (omega arith)
-      | Greater ↦ λ e. omega arith
-    ] refl
+row_order [] (f ∷ stack) a b weight less = grind (arith, common_steps, names_total, names_same)
 row_order (n ∷ path) [] a b weight less = omega arith
-row_order (n ∷ path) (f ∷ stack) a b weight less =
-    elim (name_cmp f n) as (λ o. cond (match_ordering o true (lies_left_of name_cmp (path ++ a ∷ []) stack) false)
-    weight 0 + cond (match_ordering o false (begins_with name_cmp (path ++ a ∷ []) stack) false) weight 0
-    ≤ cond (match_ordering o true (lies_left_of name_cmp (path ++ b ∷ []) stack) false) weight 0) [
-      | Less ↦ omega arith
-      | Equal ↦ row_order path stack a b weight less
-      | Greater ↦ omega arith
-    ]
+row_order (n ∷ path) (f ∷ stack) a b weight less = grind (arith, common_steps, row_order path stack a b weight less)
 
 pub siblings-order : (rows : List WeightedStack) (path : Path) (a b : List ℕ) → name_cmp a b ≡ Less
     → path_start rows (path ++ a ∷ []) + path_weight rows (path ++ a ∷ []) ≤ path_start rows (path ++ b ∷ [])
 siblings-order [] path a b less = omega arith
 siblings-order (row ∷ rows) path a b less =
-    let here = row_order path row.stack a b row.weight less in
-    let rest = siblings-order rows path a b less in
-    omega (
-      arith,
-      here,
-      rest,
-      weight_where-cons (lies_left_of name_cmp (path ++ b ∷ [])) row rows,
-      weight_where-cons (lies_left_of name_cmp (path ++ a ∷ [])) row rows,
-      weight_where-cons (begins_with name_cmp (path ++ a ∷ [])) row rows,
-    )
+    grind (arith, common_steps, weight_where-cons, row_order, siblings-order rows path a b less)
 
 -- ---- the first child
 
@@ -158,16 +123,7 @@ row_last : (path stack : Path) (a : List ℕ) (weight : ℕ)
     → left (path ++ a ∷ []) stack weight + within (path ++ a ∷ []) stack weight + cond
     (is_same_stack path stack) weight 0 ≡ left path stack weight + within path stack weight
 row_last [] [] a weight none = omega arith
-row_last [] (f ∷ stack) a weight none =
-    elim (name_cmp f a) as (λ o. name_cmp f a ≡ o → cond (match_ordering o true false false) weight 0 + cond
-    (match_ordering o false true false) weight 0 + 0 ≡ 0 + weight) [
-      | Less ↦ λ e. omega arith
-      | Equal ↦ λ e. omega arith
-      | Greater ↦ λ e.
-          let above : name_cmp a f ≡ Less = order.turned names_total names_same f a Greater e in
-          let zero : weight ≡ 0 = no_child f stack weight (none f above) in
-          omega arith
-    ] refl
+row_last [] (f ∷ stack) a weight none = grind (arith, common_steps, names_total, names_same, no_child)
 row_last (n ∷ path) [] a weight none = omega arith
 row_last (n ∷ path) (f ∷ stack) a weight none =
     elim (name_cmp f n) as (λ o. name_cmp f n ≡ o → ((m : List ℕ) → name_cmp a m ≡ Less

@@ -1,4 +1,5 @@
 -- A child lies inside its parent, and columns keep order.
+use Rattle.std.proofs.lemmas.Grind.{common_steps}
 use Rattle.std.proofs.Common.{ℕ, ◌≡◌, ◌≤◌, ◌+◌, ◌*◌, List, [], ◌∷◌, ◌++◌, refl, arith, Bool, true, false, cond, ◌⊎◌}
 use Rattle.std.proofs.Common.{inl, inr}
 use Rattle.std.proofs.lemmas.Bool.{both_ways, lt-ltb, ltb-true}
@@ -23,8 +24,7 @@ pub weight_where-le : (test other : List (List ℕ) → Bool) (rows : List Weigh
     → ((s : List (List ℕ)) → test s ≡ true → other s ≡ true) → weight_where test rows ≤ weight_where other rows
 weight_where-le test other [] f = omega arith
 weight_where-le test other (row ∷ rows) f =
-    rw (weight_where-cons test row rows, weight_where-cons other row rows) (more (test row.stack) (other row.stack)
-    row.weight (weight_where test rows) (weight_where other rows) (f row.stack) (weight_where-le test other rows f))
+    grind (arith, common_steps, weight_where-cons, more, weight_where-le test other rows f)
 
 -- a child begins no earlier than its parent
 pub child_starts_inside : (rows : List WeightedStack) (path rest : List (List ℕ))

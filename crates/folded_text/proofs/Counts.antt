@@ -1,4 +1,5 @@
 -- The count of a line: digits after its last space.
+use Rattle.std.proofs.lemmas.Grind.{common_steps}
 use Rattle.std.proofs.Common.{◌≡◌, ◌≢◌, ℕ, ◌<◌, true, false, cond, List, [], ◌∷◌, ◌++◌, length, get_or, take, drop}
 use Rattle.std.proofs.Common.{refl, sym, ap, ◌∙◌, arith, length-append, ◌-◌, eqb, ltb, subst, lit<}
 use Rattle.std.specs.List.{AllByRecursion, All}
@@ -33,15 +34,10 @@ pub same_last_space : (a b x y : List ℕ) → a ++ 32 ∷ x ≡ b ++ 32 ∷ y
 same_last_space [] [] x y e no_x no_y = (refl, cc)
 same_last_space [] (q ∷ b) x y e no_x no_y = absurd (absent b y x no_x (cc))
 same_last_space (p ∷ a) [] x y e no_x no_y = absurd (absent a x y no_y (cc))
-same_last_space (p ∷ a) (q ∷ b) x y e no_x no_y =
-    let rest = same_last_space a b x y (cc) no_x no_y in
-    let head : p ≡ q = cc in
-    (ap (λ z. z ∷ a) head ∙ ap (λ z. q ∷ z) rest.0, rest.1)
+same_last_space (p ∷ a) (q ∷ b) x y e no_x no_y = grind (arith, common_steps, same_last_space a b x y (cc) no_x no_y)
 
 pub HasCount-same : (line a b x y : List ℕ) → HasCount line a x → HasCount line b y → (a ≡ b) × (x ≡ y)
-HasCount-same line a b x y one other =
-    same_last_space a b x y
-    (sym one.parts ∙ other.parts) (AllDigits-no_space x one.numeral.1) (AllDigits-no_space y other.numeral.1)
+HasCount-same line a b x y one other = grind (arith, common_steps, AllDigits-no_space, same_last_space)
 
 -- a line without a space has no count
 pub HasCount-space : (line stack digits : List ℕ)

@@ -1,5 +1,6 @@
 -- Two cuts of one list, each at an item.
-use Rattle.std.proofs.Common.{◌≡◌, ◌⊎◌, List, [], ◌∷◌, ◌++◌, refl, sym, ap, ◌∙◌, inl, inr}
+use Rattle.std.proofs.lemmas.Grind.{common_steps}
+use Rattle.std.proofs.Common.{arith, ◌≡◌, ◌⊎◌, List, [], ◌∷◌, ◌++◌, refl, inl, inr}
 
 -- they are at one place, or one lies before the other
 abbrev pub AreCuts : {A : Type 0} → List A → A → List A → A → Type 0
@@ -12,9 +13,4 @@ cuts [] item after [] other rest e = inl (refl, cc)
 cuts [] item after (o ∷ others) other rest e = inr (inr (others, cc))
 cuts (b ∷ before) item after [] other rest e = inr (inl (before, cc))
 cuts (b ∷ before) item after (o ∷ others) other rest e =
-    let head : b ≡ o = cc in
-    elim (cuts before item after others other rest (cc)) [
-      | inl same ↦ inl (ap (λ z. z ∷ before) head ∙ ap (λ z. o ∷ z) same.0, same.1)
-      | inr (inl within) ↦ inr (inl (within.0, ap (λ z. z ∷ before) head ∙ ap (λ z. o ∷ z) within.1))
-      | inr (inr within) ↦ inr (inr (within.0, ap (λ z. z ∷ others) (sym head) ∙ ap (λ z. b ∷ z) within.1))
-    ]
+    grind (arith, common_steps, cuts before item after others other rest (cc))

@@ -1,5 +1,6 @@
 -- The frames of a stack text: each can be a name.
-use Rattle.std.proofs.Common.{◌≡◌, ◌≢◌, ℕ, ◌<◌, true, false, cond, eqb, List, [], ◌∷◌, length, refl, arith, filter, All}
+use Rattle.std.proofs.lemmas.Grind.{common_steps}
+use Rattle.std.proofs.Common.{◌≡◌, ◌≢◌, ℕ, ◌<◌, true, false, eqb, List, [], ◌∷◌, length, arith, filter, All}
 use Rattle.std.proofs.Common.{lit<}
 use Rattle.std.specs.List.{slice_split, AllByRecursion}
 use Rattle.std.proofs.lemmas.List.Elements.{All-from_recursion, recursion_from_All, All-weaker}
@@ -18,13 +19,7 @@ some (byte ∷ part) e = omega arith
 filled : (P : List ℕ → Type 0) (parts : List (List ℕ)) → AllByRecursion P parts
     → AllByRecursion (λ part. (0 < length part) × P part) (filter (λ part. not (length part == 0)) parts)
 filled P [] all = tt
-filled P (part ∷ parts) all =
-    elim (not (length part == 0)) as (λ b. not (length part == 0) ≡ b
-    → AllByRecursion (λ part. (0 < length part) × P part) (cond b
-    (part ∷ filter (λ part. not (length part == 0)) parts) (filter (λ part. not (length part == 0)) parts))) [
-      | true ↦ λ e. ((some part e, all.0), filled P parts all.1)
-      | false ↦ λ e. filled P parts all.1
-    ] refl
+filled P (part ∷ parts) all = grind (arith, common_steps, some, filled P parts all.1)
 
 abbrev Plain : ℕ → Type 0
 Plain byte = (byte ≢ 59) × (byte ≢ 10)
@@ -39,14 +34,7 @@ both [] utf8 plain = tt
 both (part ∷ parts) utf8 plain = ((utf8.0, plain.0), both parts utf8.1 plain.1)
 
 name_from : (frame : List ℕ) → (0 < length frame) × Piece frame → IsName frame
-name_from frame h =
-    let plain : All Plain frame = All-from_recursion Plain frame h.1.1 in
-    record {
-      utf8 = h.1.0;
-      not_empty = h.0;
-      no_separator = λ k d lt. (plain k d lt).0;
-      no_line_feed = λ k d lt. (plain k d lt).1;
-    }
+name_from frame h = grind (arith, common_steps, All-from_recursion)
 
 -- each frame of a text without a line feed can be a name
 pub frames_of-IsName : (text : List ℕ) → IsUtf8 text → All (λ byte. byte ≢ 10) text → All IsName (frames_of text)

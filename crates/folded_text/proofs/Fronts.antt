@@ -1,4 +1,5 @@
 -- The first bytes of two texts as numbers are in the order of the texts.
+use Rattle.std.proofs.lemmas.Grind.{common_steps}
 use Rattle.std.proofs.Common.{◌≡◌, ◌≢◌, ℕ, ◌+◌, ◌*◌, ◌<◌, false, List, [], ◌∷◌, length, drop, get_or}
 use Rattle.std.proofs.Common.{refl, sym, ap, ◌∙◌}
 use Rattle.std.proofs.Common.{subst, arith}
@@ -6,7 +7,7 @@ use Prim.Native.Nat.{zero, suc}
 use Rattle.std.specs.declared.cmp.Ordering.{Ordering}
 use Rattle.std.specs.declared.cmp.Ordering.TheVariants.{Less, Equal, Greater}
 use Rattle.std.specs.Ordering.{MatchOrdering, is_ne, nat_cmp, ordering_reverse, ordering_then}
-use Rattle.std.specs.Cmp.{nat_cmp_is, ranks}
+use Rattle.std.specs.Cmp.{ranks}
 use Rattle.folded_text.specs.StackOrder.{AreDigits, digits_of, front_of, number_of, rank_of, stack_text_cmp}
 use Rattle.folded_text.proofs.StackOrder.{stack_text_cmp_total}
 
@@ -35,10 +36,7 @@ pub lower_text : (count high : ℕ) (text other : List ℕ)
 lower_text zero high text other are also below = absurd (omega (arith, below))
 lower_text (suc count) high [] [] are also below = absurd (omega (arith, below))
 lower_text (suc count) high [] (b ∷ other) are also below = refl
-lower_text (suc count) high (a ∷ text) [] are also below =
-    let above = lower (high * 512 + 0) (high * 512 + (rank_of a + 1))
-    (digits_of count []) (digits_of count text) (as_long count [] text) also.1 are.1 (omega arith) in
-    absurd (omega (arith, below, above))
+lower_text (suc count) high (a ∷ text) [] are also below = grind (arith, common_steps, lower, as_long)
 lower_text (suc count) high (a ∷ text) (b ∷ other) are also below =
     by_rank (lower_text count (high * 512 + (rank_of b + 1)) text other are.1 also.1)
     (nat_cmp (rank_of a) (rank_of b)) refl (ranks (rank_of a) (rank_of b))
@@ -107,11 +105,7 @@ past_digits (suc count) [] (b ∷ other) same = let first = ap (λ digits. get_o
 past_digits (suc count) (a ∷ text) [] same = let first = ap (λ digits. get_or digits 0 0) same in
     absurd (omega (arith, first))
 past_digits (suc count) (a ∷ text) (b ∷ other) same =
-    let first = ap (λ digits. get_or digits 0 0) same in
-    let same_rank : rank_of a ≡ rank_of b = omega (arith, first) in
-    ap (λ o. ordering_then o (stack_text_cmp text other))
-    (sym (nat_cmp_is (rank_of a) (rank_of b) Equal same_rank))
-    ∙ past_digits count text other (ap (drop 1) same)
+    grind (arith, common_steps, past_digits count text other (ap (drop 1) same))
 
 -- texts of one front compare as what is behind it
 pub past_fronts : (text other : List ℕ) → AreDigits (digits_of 7 text) → AreDigits (digits_of 7 other)

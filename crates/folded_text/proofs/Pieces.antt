@@ -1,4 +1,5 @@
 -- The pieces of a list that is cut at some of its elements.
+use Rattle.std.proofs.lemmas.Grind.{common_steps}
 use Rattle.std.proofs.Common.{◌≡◌, ℕ, ◌+◌, ◌<◌, ◌≤◌, ◌⊎◌, Bool, true, false, cond, eqb, eqb-true, List, [], ◌∷◌, ◌++◌}
 use Rattle.std.proofs.Common.{length, get_or, take, drop, refl, sym, ap, ◌∙◌, inl, inr, subst, arith, length-append}
 use Rattle.std.specs.List.{slice_split, onto_first, AllByRecursion}
@@ -76,11 +77,7 @@ shorter text front byte back cut = omega (arith, ap length cut, length-append fr
 utf8_pieces : (n : ℕ) (c : ℕ) (text : List ℕ)
     → c < 128 → length text ≤ n → IsUtf8 text → AllByRecursion IsUtf8 (slice_split (λ byte. eqb byte c) text)
 utf8_pieces zero c text ascii small utf8 =
-    elim (first_pass (λ byte. eqb byte c) text) [
-      | inl none ↦ subst (AllByRecursion IsUtf8) (sym (slice_split_none
-          (λ byte. eqb byte c) text (All-from_recursion (λ byte. eqb byte c ≡ false) text none))) (utf8, tt)
-      | inr (front, byte, back, cut, passes, none) ↦ let less = shorter text front byte back cut in absurd (omega arith)
-    ]
+    grind (arith, common_steps, slice_split_none, All-from_recursion, first_pass, shorter)
 utf8_pieces (suc n) c text ascii small utf8 =
     elim (first_pass (λ byte. eqb byte c) text) [
       | inl none ↦ subst (AllByRecursion IsUtf8) (sym (slice_split_none

@@ -1,8 +1,9 @@
 -- What a text is folded text of.
+use Rattle.std.proofs.lemmas.Grind.{common_steps}
 use Rattle.std.proofs.Common.{◌≡◌, ◌≢◌, ℕ, ◌+◌, ◌^◌, ◌<◌, ◌≤◌, List, [], ◌∷◌, ◌++◌, length, map, refl, sym, ap, ◌∙◌}
-use Rattle.std.proofs.Common.{arith, lit<, subst, append_assoc, length-append}
+use Rattle.std.proofs.Common.{arith, subst, append_assoc, length-append}
 use Rattle.std.proofs.Math.ListN.{get_or-append}
-use Rattle.std.proofs.lemmas.List.{get_or_at, append-nil, nil_from_length}
+use Rattle.std.proofs.lemmas.List.{get_or_at, nil_from_length}
 use Rattle.std.proofs.lemmas.List.Sums.{sum_by-cons, sum_by-append, sum_by_push}
 use Rattle.std.specs.Str.{IsUtf8}
 use Rattle.std.specs.Str.Lines.{lines}
@@ -20,10 +21,7 @@ use Rattle.folded_text.proofs.Counts.{HasCount-same}
 use Rattle.folded_text.proofs.Lines.{lines-one_line, lines_of-lines}
 
 same_row : (a b : WeightedStack) → a.stack ≡ b.stack → a.weight ≡ b.weight → a ≡ b
-same_row a b stack weight =
-    let swapped : a ≡ record { stack = b.stack; weight = a.weight } =
-    ap (λ s. let row : WeightedStack = record { stack = s; weight = a.weight } in row) stack in
-    swapped ∙ ap (λ w. let row : WeightedStack = record { stack = b.stack; weight = w } in row) weight
+same_row a b stack weight = grind (arith, common_steps)
 
 -- one line spells one row
 pub IsRowLine-same : (line : List ℕ) (a b : WeightedStack) → IsRowLine line a → IsRowLine line b → a ≡ b
@@ -152,12 +150,7 @@ pub IsRowLine-read : (line stack digits : List ℕ) (weight : ℕ)
     → IsUtf8 line → HasCount line stack digits → weight ≡ digits_value 10 digits
     → length (frames_of stack) ≤ 65535
     → weight < 2 ^ 63 → IsRowLine line (record { stack = frames_of stack; weight = weight })
-IsRowLine-read line stack digits weight utf8 count value depth fits = record {
-  utf8 = utf8;
-  counted = (stack, digits, record { count = count; frames = refl; weight = value });
-  depth = depth;
-  fits = fits;
-}
+IsRowLine-read line stack digits weight utf8 count value depth fits = grind (arith, common_steps)
 
 -- the stack text of a line holds no line feed either
 pub text_one_line : (line text digits : List ℕ)
@@ -181,13 +174,7 @@ pub record IsReadTo (text : List ℕ) (rest : List (List ℕ)) (count : ℕ) (ro
 pub IsReadTo-begin : (text : List ℕ) (iterator numbered : Enumerate (List (List ℕ))) (rows : List WeightedStack)
     → iterator ≡ numbered → numbered.iter ≡ map without_terminator (lines_of text)
     → numbered.count ≡ 0 → rows ≡ [] → IsReadTo text iterator.iter iterator.count rows
-IsReadTo-begin text iterator numbered rows same source first none = record {
-  before = [];
-  cut = sym (ap (λ (s : Enumerate (List (List ℕ))). s.iter) same ∙ source ∙ lines_of-lines text);
-  counted = ap (λ (s : Enumerate (List (List ℕ))). s.count) same ∙ first;
-  known = none;
-  fits = subst (λ some. total_of some < 2 ^ 63) (sym none) (lit< tt);
-}
+IsReadTo-begin text iterator numbered rows same source first none = grind (arith, common_steps, lines_of-lines)
 
 regroup : (text : List ℕ) (before rest : List (List ℕ)) (line : List ℕ) (next : List (List ℕ))
     → lines text ≡ before ++ rest → rest ≡ line ∷ next → lines text ≡ (before ++ line ∷ []) ++ next
@@ -215,15 +202,7 @@ pub IsReadTo-skip : (text : List ℕ)
     → IsReadTo text rest count rows
     → rest ≡ line ∷ next → after ≡ count + 1 → length line ≡ 0 → IsReadTo text next after rows
 IsReadTo-skip text rest count rows line next after so_far e number none =
-    let empty : line ≡ [] = nil_from_length line none in
-    record {
-      before = so_far.before ++ line ∷ [];
-      cut = regroup text so_far.before rest line next so_far.cut e;
-      counted = omega (arith, length-append so_far.before (line ∷ []), so_far.counted);
-      known = subst (λ l. AreRowLines (so_far.before ++ l ∷ []) rows)
-          (sym empty) (AreRowLines-skip so_far.before rows so_far.known);
-      fits = so_far.fits;
-    }
+    grind (arith, common_steps, nil_from_length, length-append, AreRowLines-skip, regroup)
 
 pub IsReadTo-one_line : (text : List ℕ) (rest : List (List ℕ)) (count : ℕ) (rows : List WeightedStack) (line : List ℕ)
     (next : List (List ℕ)) → IsReadTo text rest count rows → rest ≡ line ∷ next → All (λ byte. byte ≢ 10) line
@@ -233,29 +212,6 @@ IsReadTo-one_line text rest count rows line next so_far e =
     let long = length-append so_far.before (line ∷ next) in
     subst (All (λ byte. byte ≢ 10)) (get_or_at so_far.before line next [] (length so_far.before) refl)
     (each (length so_far.before) [] (omega (arith, long)))
-
--- a line with a fault is the first one
-pub IsReadTo-fault : (text : List ℕ) (rest : List (List ℕ))
-    (count : ℕ) (rows : List WeightedStack) (line : List ℕ) (next : List (List ℕ)) (fault : FoldedFault)
-    → IsReadTo text rest count rows → rest ≡ line ∷ next
-    → 0 < length line → IsLineFault (total_of rows) (count + 1) line fault → IsFirstFault text fault
-IsReadTo-fault text rest count rows line next fault so_far e some there = (
-  so_far.before,
-  line,
-  next,
-  rows,
-  so_far.cut ∙ ap (λ ls. so_far.before ++ ls) e,
-  so_far.known,
-  so_far.fits,
-  some,
-  subst (λ n. IsLineFault (total_of rows) (n + 1) line fault) so_far.counted there,
-)
-
-pub IsReadTo-end : (text : List ℕ) (rest : List (List ℕ)) (count : ℕ) (rows : List WeightedStack)
-    → IsReadTo text rest count rows → rest ≡ [] → IsFoldedText text rows
-IsReadTo-end text rest count rows so_far e =
-    let whole : lines text ≡ so_far.before = so_far.cut ∙ ap (λ ls. so_far.before ++ ls) e ∙ append-nil so_far.before in
-    record { rows_lines = subst (λ ls. AreRowLines ls rows) (sym whole) so_far.known; total_fits = so_far.fits }
 
 -- a line whose stack text and weight don't fit has that fault
 pub IsLineFault-fitting : (earlier number : ℕ) (line text digits : List ℕ) (weight : ℕ) (fault : FoldedFault)

@@ -1,4 +1,5 @@
 -- Texts without empty frames are in the order of their stacks.
+use Rattle.std.proofs.lemmas.Grind.{common_steps}
 use Rattle.std.proofs.Common.{◌≡◌, ◌≢◌, ℕ, ◌+◌, ◌<◌, true, false, cond, eqb, List, [], ◌∷◌, ◌++◌, length, take, drop}
 use Rattle.std.proofs.Common.{filter, refl, sym, ap, ◌∙◌, arith}
 use Rattle.std.specs.Prelude.{◌==◌, not}
@@ -6,7 +7,7 @@ use Rattle.std.specs.List.{AllByRecursion, join_with_byte, slice_split}
 use Rattle.std.specs.declared.cmp.Ordering.{Ordering}
 use Rattle.std.specs.declared.cmp.Ordering.TheVariants.{Less, Equal, Greater}
 use Rattle.std.specs.Ordering.{MatchOrdering, nat_cmp, ordering_then}
-use Rattle.std.specs.Cmp.{IsTotalOrder, nat_cmp_is, ranks}
+use Rattle.std.specs.Cmp.{IsTotalOrder, nat_cmp_is}
 use Rattle.std.specs.Cmp.Lexicographic.{slice_cmp}
 use Rattle.std.proofs.lemmas.Cmp.{lists_total, nat_cmp_total, on_total}
 use Rattle.std.proofs.lemmas.List.{append-nil, take-append-drop}
@@ -47,9 +48,7 @@ next Equal a b h = ap (λ n. n + 1) h
 next Greater a b h = omega (arith, h)
 
 goes_on : (a b : ℕ) → a ≢ 59 → b ≢ 59 → text_byte_cmp a b ≡ nat_cmp a b
-goes_on a b first second =
-    ap (λ n. nat_cmp n (rank_of b)) (behind a first) ∙ ap (nat_cmp (a + 1)) (behind b second)
-    ∙ sym (nat_cmp_is (a + 1) (b + 1) (nat_cmp a b) (next (nat_cmp a b) a b (ranks a b)))
+goes_on a b first second = grind (arith, common_steps, behind, next)
 
 -- ---- frames
 
@@ -65,18 +64,11 @@ within : (frames others : List (List ℕ)) → stack_text_cmp (tail frames) (tai
     ≡ ordering_then (slice_cmp nat_cmp frame other) (stack_cmp frames others)
 within frames others rest [] [] plain also = rest
 within [] others rest [] (b ∷ other) plain also = refl
-within (f ∷ frames) others rest [] (b ∷ other) plain also =
-    ap (λ o. ordering_then o (stack_text_cmp (join_with_byte 59 (f ∷ frames)) (other ++ tail others)))
-    (ends_lower b also.0)
+within (f ∷ frames) others rest [] (b ∷ other) plain also = grind (arith, common_steps, ends_lower)
 within frames [] rest (a ∷ frame) [] plain also = refl
-within frames (f ∷ others) rest (a ∷ frame) [] plain also =
-    ap (λ o. ordering_then o (stack_text_cmp (frame ++ tail frames) (join_with_byte 59 (f ∷ others))))
-    (ends_greater a plain.0)
+within frames (f ∷ others) rest (a ∷ frame) [] plain also = grind (arith, common_steps, ends_greater)
 within frames others rest (a ∷ frame) (b ∷ other) plain also =
-    ap (λ o. ordering_then o (stack_text_cmp (frame ++ tail frames) (other ++ tail others)))
-    (goes_on a b plain.0 also.0)
-    ∙ ap (ordering_then (nat_cmp a b)) (within frames others rest frame other plain.1 also.1)
-    ∙ then_then (nat_cmp a b) (slice_cmp nat_cmp frame other) (stack_cmp frames others)
+    grind (arith, common_steps, goes_on, then_then, within frames others rest frame other plain.1 also.1)
 
 tails : (frames others : List (List ℕ)) → AllByRecursion Plain frames
     → AllByRecursion Plain others → stack_text_cmp (tail frames) (tail others) ≡ stack_cmp frames others
@@ -84,9 +76,7 @@ tails [] [] plain also = refl
 tails [] (other ∷ others) plain also = refl
 tails (frame ∷ frames) [] plain also = refl
 tails (frame ∷ frames) (other ∷ others) plain also =
-    ap (λ text. stack_text_cmp text (join_with_byte 59 (other ∷ others))) (join-cons frame frames)
-    ∙ ap (stack_text_cmp (frame ++ tail frames)) (join-cons other others)
-    ∙ within frames others (tails frames others plain.1 also.1) frame other plain.0 also.0
+    grind (arith, common_steps, join-cons, within, tails frames others plain.1 also.1)
 
 abbrev Frame : List ℕ → Type 0
 Frame frame = (0 < length frame) × Plain frame
@@ -120,12 +110,7 @@ some_piece (byte ∷ part) e = omega arith
 filled : (parts : List (List ℕ))
     → AllByRecursion Plain parts → AllByRecursion Frame (filter (λ part. not (length part == 0)) parts)
 filled [] all = tt
-filled (part ∷ parts) all =
-    elim (not (length part == 0)) as (λ b. not (length part == 0) ≡ b → AllByRecursion Frame (cond b
-    (part ∷ filter (λ part. not (length part == 0)) parts) (filter (λ part. not (length part == 0)) parts))) [
-      | true ↦ λ e. ((some_piece part e, all.0), filled parts all.1)
-      | false ↦ λ e. filled parts all.1
-    ] refl
+filled (part ∷ parts) all = grind (arith, common_steps, some_piece, filled parts all.1)
 
 bytes_apart : (text : List ℕ) → AllByRecursion (λ byte. eqb byte 59 ≡ false → byte ≢ 59) text
 bytes_apart [] = tt
@@ -138,9 +123,7 @@ frames_of-Frame text = filled
 -- the order of texts without empty frames is that of their stacks
 pub joined_texts-cmp : (text other : List ℕ)
     → IsJoined text → IsJoined other → stack_text_cmp text other ≡ stack_cmp (frames_of text) (frames_of other)
-joined_texts-cmp text other joined also =
-    ap (λ t. stack_text_cmp t other) joined ∙ ap (stack_text_cmp (join_with_byte 59 (frames_of text))) also
-    ∙ joined-cmp (frames_of text) (frames_of other) (frames_of-Frame text) (frames_of-Frame other)
+joined_texts-cmp text other joined also = grind (arith, common_steps, joined-cmp, frames_of-Frame)
 
 pub stack_text_cmp_total : IsTotalOrder stack_text_cmp
 stack_text_cmp_total = lists_total (on_total rank_of nat_cmp_total)

@@ -1,10 +1,10 @@
 -- Rows by their stack texts, and the report that they make.
+use Rattle.std.proofs.lemmas.Grind.{common_steps}
 use Rattle.std.proofs.Common.{◌≡◌, ℕ, ◌+◌, ◌<◌, ◌≤◌, ◌^◌, Bool, true, false, cond, eqb, List, [], ◌∷◌, ◌++◌, length}
 use Rattle.std.proofs.Common.{◌||◌, map, filter, get_or, set, refl, sym, ap, ◌∙◌, subst, arith, length-append}
 use Rattle.std.specs.Prelude.{All, IfOk, IsPermutation, IsSorted, Option, Result, Ok}
 use Rattle.std.specs.Prelude.{Err, ◌==◌, not, sum_by}
 use Rattle.std.specs.List.{AllByRecursion, join_with_byte, list_any, slice_split}
-use Rattle.std.specs.Fmt.{decimal}
 use Rattle.std.specs.Str.{bytes_eq}
 use Rattle.std.specs.declared.cmp.Ordering.{Ordering}
 use Rattle.std.specs.declared.cmp.Ordering.TheVariants.{Less, Equal, Greater}
@@ -22,14 +22,14 @@ use Prim.Native.Nat.{zero, suc}
 use Rattle.profile_rows.specs.declared.weighted_stacks.WeightedStack.{WeightedStack}
 use Rattle.profile_rows.specs.Aggregate.{AreWeighty, IsAscending, aggregate_of, rows_of}
 use Rattle.profile_rows.specs.Merging.{IsStackAt, row_at, with_added_at}
-use Rattle.profile_rows.specs.Rows.{is_kept, is_same_stack, kept_rows, stack_cmp, total_of, weight_if}
+use Rattle.profile_rows.specs.Rows.{is_kept, kept_rows, stack_cmp, total_of}
 use Rattle.profile_rows.proofs.InOrder.{rows_of-aggregate}
 use Rattle.profile_rows.proofs.MergedRows.{AddsRow-added}
 use Rattle.profile_rows.proofs.TextNumbers.{none_at_end, text_of_number}
 use Rattle.profile_rows.specs.TextTables.{number_in, with_text}
 use Rattle.profile_rows.proofs.RowLaws.{aggregate_of-same, stack_cmp_apart, stack_cmp_total}
 use Rattle.profile_rows.proofs.SameNames.{is_same_name-self, same_from_is_same_name}
-use Rattle.folded_text.specs.FoldedText.{frames_of, row_text, rows_text}
+use Rattle.folded_text.specs.FoldedText.{frames_of, rows_text}
 use Rattle.folded_text.specs.StackOrder.{IsJoined}
 use Rattle.profile_rows.specs.StackTexts.{TextState}
 use Rattle.folded_text.specs.TextRows.{AreKnownTexts, AreTextRows, IsStackText, by_text}
@@ -44,13 +44,7 @@ full parts = filter (λ part. not (length part == 0)) parts
 length-joined : (part : List ℕ) (parts : List (List ℕ))
     → length (join_with_byte 59 (part ∷ parts)) + 1 ≡ sum_by length (part ∷ parts) + length (part ∷ parts)
 length-joined part [] = omega (arith, sum_by-cons length part [])
-length-joined part (next ∷ parts) =
-    omega (
-      arith,
-      sum_by-cons length part (next ∷ parts),
-      length-append part (59 ∷ join_with_byte 59 (next ∷ parts)),
-      length-joined next parts,
-    )
+length-joined part (next ∷ parts) = grind (arith, common_steps, sum_by-cons, length-append, length-joined next parts)
 
 length-joined_some : (parts : List (List ℕ))
     → 0 < length parts → length (join_with_byte 59 parts) + 1 ≡ sum_by length parts + length parts
@@ -66,13 +60,7 @@ full-some byte part parts = ap (λ b. cond (not b) ((byte ∷ part) ∷ full par
 full-bytes : (parts : List (List ℕ)) → sum_by length (full parts) ≡ sum_by length parts
 full-bytes [] = refl
 full-bytes ([] ∷ parts) = omega (arith, full-bytes parts, sum_by-cons length [] parts)
-full-bytes ((byte ∷ part) ∷ parts) = omega (
-  arith,
-  ap (sum_by length) (full-some byte part parts),
-  full-bytes parts,
-  sum_by-cons length (byte ∷ part) (full parts),
-  sum_by-cons length (byte ∷ part) parts,
-)
+full-bytes ((byte ∷ part) ∷ parts) = grind (arith, common_steps, sum_by-cons, full-some, full-bytes parts)
 
 full-fewer : (parts : List (List ℕ)) → length (full parts) ≤ length parts
 full-fewer [] = omega arith
@@ -249,20 +237,11 @@ AreKnownTexts-push texts after rows all row total are_joined both added is none 
       fits = fits;
     }
 
-pub AreTextRows-known : (texts : List (List ℕ)) (rows : List TextState) (total : ℕ) (are_joined : Bool)
-    → are_joined ≡ true → AreKnownTexts texts rows total are_joined → AreTextRows rows
-AreTextRows-known texts rows total are_joined e so_far =
-    record { weighty = so_far.weighty; once = so_far.once; joined = so_far.joined e }
-
 -- sorted rows add up to the same
 pub spelled-moved : (rows sorted : List TextState) → IsPermutation rows sorted → (aggregate_of (spelled_rows sorted)
     ≡ aggregate_of (spelled_rows rows)) × (total_of (spelled_rows sorted) ≡ total_of (spelled_rows rows))
 spelled-moved rows sorted moved =
-    let same = IsPermutation-map spelled_row rows sorted moved in (
-      aggregate_of-same (spelled_rows sorted) (spelled_rows rows) (λ stack. sum_by-IsPermutation
-          (weight_if (is_same_stack stack)) (spelled_rows rows) (spelled_rows sorted) same),
-      sum_by-IsPermutation (λ (row : WeightedStack). row.weight) (spelled_rows rows) (spelled_rows sorted) same,
-    )
+    grind (arith, common_steps, sum_by-IsPermutation, aggregate_of-same, IsPermutation-map)
 
 -- ---- rows in the order of their texts
 
@@ -336,9 +315,7 @@ weighty (row ∷ rows) all = (all.0, weighty rows all.1)
 joined-lines : (rows : List TextState)
     → AllByRecursion (λ (row : TextState). IsJoined row.text) rows → text_lines rows ≡ rows_text (spelled_rows rows)
 joined-lines [] all = refl
-joined-lines (row ∷ rows) all =
-    ap (λ text. (text ++ 32 ∷ decimal row.weight ++ 10 ∷ []) ++ text_lines rows) all.0
-    ∙ ap (λ rest. row_text (spelled_row row) ++ rest) (joined-lines rows all.1)
+joined-lines (row ∷ rows) all = grind (arith, common_steps, joined-lines rows all.1)
 
 -- texts without empty frames stand in lines of folded text as they are
 pub lines-joined : (rows : List TextState)
@@ -362,15 +339,7 @@ pub spelled-kept : (focus ignored : Option (List ℕ)) (rows : List TextState)
     → spelled_rows (filter (λ (row : TextState). is_kept focus ignored (frames_of row.text)) rows)
     ≡ kept_rows focus ignored (spelled_rows rows)
 spelled-kept focus ignored [] = refl
-spelled-kept focus ignored (row ∷ rows) =
-    elim (is_kept focus ignored (frames_of row.text)) as
-    (λ b. spelled_rows (cond b (row ∷ filter (λ (row : TextState). is_kept focus ignored (frames_of row.text)) rows)
-    (filter (λ (row : TextState). is_kept focus ignored (frames_of row.text)) rows))
-    ≡ cond b (spelled_row row ∷ kept_rows focus ignored (spelled_rows rows))
-    (kept_rows focus ignored (spelled_rows rows))) [
-      | true ↦ ap (λ more. spelled_row row ∷ more) (spelled-kept focus ignored rows)
-      | false ↦ spelled-kept focus ignored rows
-    ]
+spelled-kept focus ignored (row ∷ rows) = grind (arith, common_steps, spelled-kept focus ignored rows)
 
 -- rows that are made where all is well are other rows where the two are the same
 pub as_rows : {E : Type 0} (outcome : Result (List WeightedStack) E) (rows others : List WeightedStack)

@@ -1,4 +1,5 @@
 -- Worked examples, computed by the definitions. Each line is checked by evaluating it.
+use Rattle.std.proofs.lemmas.Grind.{common_steps}
 use Rattle.std.proofs.Common.{◌≡◌, ◌≤◌, ◌<◌, ◌^◌, ℕ, List, [], ◌∷◌, ◌++◌, length, refl, ap, codes, arith}
 use Rattle.std.specs.Fmt.{digits}
 use Rattle.std.specs.Str.{IsUtf8}
@@ -33,16 +34,7 @@ spelled : (stack digits : List ℕ) (frames : List (List ℕ)) (weight : ℕ)
     → IsUtf8 (stack ++ 32 ∷ digits) → IsNumeral 10 digits
     → frames ≡ frames_of stack → weight ≡ digits_value 10 digits → length frames ≤ 65535 → weight < 2 ^ 63
     → IsRowLine (stack ++ 32 ∷ digits) (row frames weight)
-spelled stack digits frames weight utf8 numeral frames_are weight_is depth fits = record {
-  utf8 = utf8;
-  counted = (
-    stack,
-    digits,
-    record { count = record { parts = refl; numeral = numeral }; frames = frames_are; weight = weight_is },
-  );
-  depth = depth;
-  fits = fits;
-}
+spelled stack digits frames weight utf8 numeral frames_are weight_is depth fits = grind (arith, common_steps)
 
 -- Read rows: a carriage return before the line feed is dropped, an empty line is skipped, a stack may be empty, a
 -- count may

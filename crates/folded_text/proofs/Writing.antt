@@ -1,13 +1,14 @@
 -- Rows as folded text, which is folded text of these rows.
+use Rattle.std.proofs.lemmas.Grind.{common_steps}
 use Rattle.std.proofs.Common.{◌≡◌, ℕ, ◌+◌, ◌-◌, ◌^◌, ◌<◌, false, cond, eqb, List, [], ◌∷◌, ◌++◌, length, get_or, take}
-use Rattle.std.proofs.Common.{map, filter, refl, sym, ap, ◌∙◌, subst, lit<, arith, append_assoc, length-append, ◌⊎◌}
+use Rattle.std.proofs.Common.{map, filter, refl, sym, ap, ◌∙◌, lit<, arith, append_assoc, length-append, ◌⊎◌}
 use Rattle.std.proofs.Common.{inl, inr}
 use Rattle.std.specs.Prelude.{◌==◌, not}
-use Rattle.std.specs.List.{AllByRecursion, All, slice_split, join_with_byte}
+use Rattle.std.specs.List.{AllByRecursion, All, join_with_byte}
 use Rattle.std.specs.Fmt.{decimal}
 use Rattle.std.specs.Char.{IsAsciiDigit}
 use Rattle.std.specs.Str.{IsUtf8}
-use Rattle.std.specs.Str.Lines.{lines, lines_of_parts, strip_carriage_return}
+use Rattle.std.specs.Str.Lines.{lines_of_parts, lines, strip_carriage_return}
 use Rattle.std.specs.Str.Parse.{IsNumeral, digits_value}
 use Rattle.std.proofs.lemmas.Fmt.{decimal_is_IsNumeral, IsAscii-decimal}
 use Rattle.std.proofs.lemmas.List.Elements.{All-from_recursion, recursion_from_All}
@@ -61,11 +62,7 @@ joined_utf8 (name ∷ next ∷ names) all =
 
 kept : (name : List ℕ) (parts : List (List ℕ)) → IsName name
     → filter (λ piece. not (length piece == 0)) (name ∷ parts) ≡ name ∷ filter (λ piece. not (length piece == 0)) parts
-kept name parts is =
-    let some = is.not_empty in
-    let apart : length name ≡ 0 → ⊥ = λ e. omega arith in
-    ap (λ b. cond (not b) (name ∷ filter (λ piece. not (length piece == 0)) parts)
-    (filter (λ piece. not (length piece == 0)) parts)) (ne_eqb (length name) 0 apart)
+kept name parts is = grind (arith, common_steps)
 
 uncut : (name : List ℕ) → IsName name → All (λ byte. eqb byte 59 ≡ false) name
 uncut name is k d lt = ne_eqb _ 59 (is.no_separator k d lt)
@@ -74,14 +71,9 @@ uncut name is k d lt = ne_eqb _ 59 (is.no_separator k d lt)
 pub frames_of-joined : (names : List (List ℕ))
     → AllByRecursion IsName names → frames_of (join_with_byte 59 names) ≡ names
 frames_of-joined [] all = refl
-frames_of-joined (name ∷ []) all =
-    ap (filter (λ piece. not (length piece == 0))) (slice_split_none (λ byte. eqb byte 59) name (uncut name all.0))
-    ∙ kept name [] all.0
+frames_of-joined (name ∷ []) all = grind (arith, common_steps, slice_split_none, kept, uncut)
 frames_of-joined (name ∷ next ∷ names) all =
-    ap (filter (λ piece. not (length piece == 0)))
-    (slice_split_at (λ byte. eqb byte 59) name 59 (join_with_byte 59 (next ∷ names)) (uncut name all.0) refl)
-    ∙ kept name (slice_split (λ byte. eqb byte 59) (join_with_byte 59 (next ∷ names))) all.0
-    ∙ ap (λ frames. name ∷ frames) (frames_of-joined (next ∷ names) all.1)
+    grind (arith, common_steps, slice_split_at, kept, uncut, frames_of-joined (next ∷ names) all.1)
 
 -- ---- the line
 
@@ -168,21 +160,12 @@ AreRowLines-cons (byte ∷ line) ls row rows some this rest = (this, rest)
 
 spell : (rows : List WeightedStack) → AllByRecursion IsBatchRow rows → AreRowLines (map line_of rows) rows
 spell [] all = refl
-spell (row ∷ rows) all =
-    let long : length (line_of row) ≡ length (join_with_byte 59 row.stack) + length (32 ∷ decimal row.weight) =
-    length-append (join_with_byte 59 row.stack) (32 ∷ decimal row.weight) in
-    AreRowLines-cons (line_of row) (map line_of rows) row rows (omega arith) (line_spells row all.0) (spell rows all.1)
+spell (row ∷ rows) all = grind (arith, common_steps, length-append, line_spells, AreRowLines-cons, spell rows all.1)
 
 -- rows that a batch can hold, written, are folded text of these rows
 pub rows_text-IsFoldedText : (rows : List WeightedStack)
     → All IsBatchRow rows → total_of rows < 2 ^ 63 → IsFoldedText (rows_text rows) rows
-rows_text-IsFoldedText rows each fits =
-    let all = recursion_from_All IsBatchRow rows each in
-    record {
-      rows_lines =
-          subst (λ ls. AreRowLines ls rows) (sym (lines-rows_text rows all)) (spell rows all);
-      total_fits = fits;
-    }
+rows_text-IsFoldedText rows each fits = grind (arith, common_steps, recursion_from_All, lines-rows_text, spell)
 
 -- ---- the loops that write
 
@@ -191,9 +174,7 @@ join-push : (c : ℕ) (names : List (List ℕ)) (name : List ℕ)
 join-push c [] name some = absurd (omega arith)
 join-push c (first ∷ []) name some = sym (append_assoc first (c ∷ []) name)
 join-push c (first ∷ next ∷ names) name some =
-    ap (λ rest. first ++ (c ∷ rest)) (join-push c (next ∷ names) name (omega arith))
-    ∙ sym (ap (λ l. l ++ name) (append_assoc first (c ∷ join_with_byte c (next ∷ names)) (c ∷ []))
-    ∙ append_assoc first ((c ∷ join_with_byte c (next ∷ names)) ++ c ∷ []) name)
+    grind (arith, common_steps, join-push c (next ∷ names) name (omega arith))
 
 -- one name more: a semicolon before it, but before the first
 pub join_more : (names : List (List ℕ)) (k : ℕ) (d start before after : List ℕ)
@@ -201,27 +182,14 @@ pub join_more : (names : List (List ℕ)) (k : ℕ) (d start before after : List
     → ((0 < k) × (after ≡ before ++ 59 ∷ [])) ⊎ ((k ≡ 0) × (after ≡ before))
     → after ++ get_or names k d ≡ start ++ join_with_byte 59 (take (k + 1) names)
 join_more names k d start before after lt so_far (inl (some, semicolon)) =
-    let front = length-take-le k names (omega arith) in
-    ap (λ l. l ++ get_or names k d) semicolon
-    ∙ ap (λ l. (l ++ 59 ∷ []) ++ get_or names k d) so_far
-    ∙ ap (λ l. l ++ get_or names k d) (append_assoc start (join_with_byte 59 (take k names)) (59 ∷ []))
-    ∙ append_assoc start (join_with_byte 59 (take k names) ++ 59 ∷ []) (get_or names k d)
-    ∙ ap (λ l. start ++ l) (sym (join-push 59 (take k names) (get_or names k d) (omega arith)))
-    ∙ ap (λ l. start ++ join_with_byte 59 l) (sym (take_more names k d lt))
-join_more names k d start before after lt so_far (inr (none, same)) =
-    let empty : take k names ≡ [] = ap (λ n. take n names) none in
-    ap (λ l. l ++ get_or names k d) (same ∙ so_far ∙ ap (λ l. start ++ join_with_byte 59 l) empty ∙ append-nil start)
-    ∙ ap (λ l. start ++ join_with_byte 59 (l ++ get_or names k d ∷ [])) (sym empty)
-    ∙ ap (λ l. start ++ join_with_byte 59 l) (sym (take_more names k d lt))
+    grind (arith, common_steps, length-take-le, take_more, join-push)
+join_more names k d start before after lt so_far (inr (none, same)) = grind (arith, common_steps, append-nil, take_more)
 
 -- one row more
 pub rows_text_more : (rows : List WeightedStack) (k : ℕ) (d : WeightedStack) (before after : List ℕ)
     → k < length rows → before ≡ rows_text (take k rows)
     → after ≡ before ++ row_text (get_or rows k d) → after ≡ rows_text (take (k + 1) rows)
-rows_text_more rows k d before after lt so_far more =
-    more ∙ ap (λ l. l ++ row_text (get_or rows k d)) so_far
-    ∙ flat_map_more row_text [] (take k rows) (get_or rows k d)
-    ∙ ap rows_text (sym (take_more rows k d lt))
+rows_text_more rows k d before after lt so_far more = grind (arith, common_steps, flat_map_more, take_more)
 
 -- ---- rows of several values
 

@@ -87,7 +87,8 @@ IsLineFault earlier number line (Depth at) = (at ≡ number) × IsUtf8 line × (
     × HasCount line stack digits × (digits_value 10 digits < 2 ^ 63) × (65535 < length (frames_of stack))
 IsLineFault earlier number line (Heavy at) = (at ≡ number) × (row : WeightedStack) × IsRowLine line row
     × (2 ^ 63 ≤ earlier + row.weight)
-IsLineFault earlier number line NoMemory = (row : WeightedStack) × IsRowLine line row × (earlier + row.weight < 2 ^ 63)
+IsLineFault earlier number line NoMemory = (row : WeightedStack) × IsRowLine line row
+    × (earlier + row.weight < 2 ^ 63)
 
 -- The first fault of a text: it stands at a line, and the lines before it spell rows within the limit. Lines count from
 -- 1, empty ones too. Where memory ran out, the lines up to there have no fault.

@@ -43,7 +43,8 @@ AreJoinedTexts rows = All (λ (row : TextState). IsStackText row.text × IsJoine
 
 -- Rows of weight above 0, of which each text has one, at its number. `are_joined` says that no stack text has an empty
 -- frame.
-pub record AreKnownTexts (texts : List (List ℕ)) (rows : List TextState) (total : ℕ) (are_joined : Bool) : Type 0 where
+pub record AreKnownTexts (texts : List (List ℕ)) (rows : List TextState) (total : ℕ) (are_joined : Bool)
+    : Type 0 where
   pub texts_are : texts ≡ map (λ (row : TextState). row.text) rows
   pub once : (text : List ℕ) → rows_with text rows ≤ 1
   pub weighty : All (λ (row : TextState). 0 < row.weight) rows

@@ -20,7 +20,8 @@ pub fn written_rows_read_back()
 /// their reports folded once more. Totals, top lists and layouts depend on the rows' aggregate alone, which is then the
 /// same.
 pub fn reports_of_parts_add_up()
-    ensures read { (rows more : List WeightedStack) → All IsBatchRow (rows ++ more) → total_of (rows ++ more) < 2 ^ 63
+    ensures read { (rows more : List WeightedStack)
+        → All IsBatchRow (rows ++ more) → total_of (rows ++ more) < 2 ^ 63
         → IsFoldedText (rows_text rows ++ rows_text more) (rows ++ more) }
     ensures report { (rows more : List WeightedStack)
         → folded_text_of (rows_of (aggregate_of rows) ++ rows_of (aggregate_of more))

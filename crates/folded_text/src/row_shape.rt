@@ -43,7 +43,8 @@ fn is_next(frames: &mut Frames, frame: &str) -> bool
 
 /// How many frames a stack text has in common with that of the row before, at their roots, and how many it has.
 pub(crate) fn shape_by_texts(before: &str, text: &str) -> RowShape
-    ensures shared { result.shared ≡ common_prefix_len (eq_by_cmp name_cmp) (frames_of before.now) (frames_of text.now) }
+    ensures shared { result.shared
+        ≡ common_prefix_len (eq_by_cmp name_cmp) (frames_of before.now) (frames_of text.now) }
     ensures depth { result.depth ≡ length (frames_of text.now) }
 {
     let mut shared = 0;

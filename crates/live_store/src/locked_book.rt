@@ -308,7 +308,8 @@ impl<N: StoreName> LockedBook<N> {
             (changes_told log.old.receipts.items) ready.op placing.place front.new) }
         ensures told { IfOk result (λ placing. placing.told ≡ front.new) }
         ensures extended { IfOk result
-            (λ placing. log.new.receipts.items ≡ log.old.receipts.items ++ change_told ready.op placing.place ∷ []) }
+            (λ placing. log.new.receipts.items
+            ≡ log.old.receipts.items ++ change_told ready.op placing.place ∷ []) }
         ensures unchanged { OnErr result (self.new.book ≡ self.old.book) }
         ensures untold { OnErr result (log.new.receipts.items ≡ log.old.receipts.items) }
         ensures number { log.new.number ≡ log.old.number }
@@ -348,7 +349,8 @@ impl<N: StoreName> LockedBook<N> {
             (changes_told log.old.receipts.items) ready.op placing.place front.new) }
         ensures told { IfOk result (λ placing. placing.told ≡ front.new) }
         ensures extended { IfOk result
-            (λ placing. log.new.receipts.items ≡ log.old.receipts.items ++ change_told ready.op placing.place ∷ []) }
+            (λ placing. log.new.receipts.items
+            ≡ log.old.receipts.items ++ change_told ready.op placing.place ∷ []) }
         ensures unchanged { OnErr result (self.new.book ≡ self.old.book) }
         ensures untold { OnErr result (log.new.receipts.items ≡ log.old.receipts.items) }
         ensures number { log.new.number ≡ log.old.number }

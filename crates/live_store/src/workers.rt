@@ -204,7 +204,8 @@ fn join_all<N: StoreName, R: Threads + Wait>(
 ) -> Vec<FinishedWorker>
     requires room { (worked.items ≡ []) × (length begun.items ≤ vec_capacity worked) }
     requires sessions { All (λ one. one.session < N.sessions) begun.items }
-    ensures work { AreWorkOf N.limit N.width (map (λ one. map plain_op one.list.value.items) begun.items) result.items }
+    ensures work { AreWorkOf N.limit N.width
+        (map (λ one. map plain_op one.list.value.items) begun.items) result.items }
     ensures seen { All (IsSeen N.sessions) result.items }
     ensures sessions { map (λ one. one.log.session) result.items ≡ map (λ one. one.session) begun.items }
 {

@@ -1,5 +1,6 @@
 -- Which batches count.
-use Rattle.std.proofs.Common.{◌≡◌, suc, Bool, true, false, cond, ◌||◌, List, [], ◌∷◌, ◌++◌, All, sym, refl, ap, ◌∙◌}
+use Rattle.std.proofs.lemmas.Grind.{common_steps}
+use Rattle.std.proofs.Common.{◌≡◌, suc, Bool, true, false, cond, ◌||◌, List, [], ◌∷◌, ◌++◌, All, refl, ap, ◌∙◌}
 use Rattle.std.proofs.Common.{arith}
 use Rattle.std.proofs.lemmas.List.Folds.{list_any-append, list_any_none}
 use Rattle.std.specs.List.{flat_map, list_any}
@@ -23,14 +24,9 @@ either false = refl
 
 pub batches_after-last : (before after : List PlainOp)
     → All (λ op. is_reset op ≡ false) after → batches_after (before ++ reset ∷ after) ≡ flat_map addition_of after
-batches_after-last [] after none =
-    let any = list_any_none is_reset after none in
-    ap (λ b. cond b (batches_after after) (batches_after after)) any ∙ batches_after-all after none
+batches_after-last [] after none = grind (arith, common_steps, list_any_none, batches_after-all)
 batches_after-last (op ∷ before) after none =
-    let any : list_any is_reset (before ++ reset ∷ after) ≡ true = list_any-append is_reset before (reset ∷ after)
-    ∙ either (list_any is_reset before) in
-    ap (λ b. cond b (batches_after (before ++ reset ∷ after))
-    (addition_of op ++ batches_after (before ++ reset ∷ after))) any ∙ batches_after-last before after none
+    grind (arith, common_steps, list_any-append, either, batches_after-last before after none)
 
 same_either_way : (b : Bool) (batches : List BatchState) → cond b batches batches ≡ batches
 same_either_way true batches = refl
@@ -40,9 +36,4 @@ pub batches_after-report : (before after : List PlainOp) (query : Query)
     → batches_after (before ++ ask query ∷ after) ≡ batches_after (before ++ after)
 batches_after-report [] after query = same_either_way (list_any is_reset after) (batches_after after)
 batches_after-report (op ∷ before) after query =
-    let rest = batches_after-report before after query in
-    let any : list_any is_reset (before ++ ask query ∷ after) ≡ list_any is_reset (before ++ after) =
-    list_any-append is_reset before (ask query ∷ after) ∙ sym (list_any-append is_reset before after) in
-    ap (λ b. cond b (batches_after (before ++ ask query ∷ after))
-    (addition_of op ++ batches_after (before ++ ask query ∷ after))) any
-    ∙ ap (λ l. cond (list_any is_reset (before ++ after)) l (addition_of op ++ l)) rest
+    grind (arith, common_steps, list_any-append, batches_after-report before after query)

@@ -1,5 +1,5 @@
 -- What was found in the order of a run, said of the logs; and that a match leaves no fault.
-use Rattle.std.proofs.Common.{ℕ, zero, suc, true, ◌≡◌, ◌<◌, ◌≤◌, ◌+◌, ◌-◌, inl, inr, Option, Some, None, List, [], ◌∷◌}
+use Rattle.std.proofs.Common.{rules, ℕ, zero, suc, true, ◌≡◌, ◌<◌, ◌≤◌, ◌+◌, ◌-◌, inl, inr, Option, Some, None, List, [], ◌∷◌}
 use Rattle.std.proofs.Common.{◌++◌, length, get_or, take, drop, All, Any, refl, sym, ap, subst, ◌∙◌, arith}
 use Rattle.std.specs.Prelude.{IsPermutation}
 use Rattle.std.proofs.Math.ListN.{get_or-append}
@@ -63,8 +63,7 @@ numbered_from : (number session index : ℕ) (earlier : Option PlainReceipt) (re
 numbered_from number session index earlier [] k d lt = absurd (omega (arith, lt))
 numbered_from number session index earlier (receipt ∷ later) zero d lt = omega arith
 numbered_from number session index earlier (receipt ∷ later) (suc k) d lt =
-    let rest = numbered_from (number + 1) session (index + 1) (Some receipt) later k d (omega (arith, lt)) in
-    omega (arith, rest)
+    search (rules, numbered_from (number + 1) session (index + 1) (Some receipt) later k d (omega (arith, lt)))
 
 numbered_after : (number : ℕ) (logs : List SessionLog) (k : ℕ) (d : LoggedReceipt)
     → k < length (logged_after number logs) → (get_or (logged_after number logs) k d).number ≡ number + k

@@ -1,6 +1,7 @@
 -- What an entry more changes.
+use Rattle.std.proofs.lemmas.Grind.{common_steps}
 use Rattle.std.proofs.Common.{◌≡◌, ℕ, suc, ◌+◌, ◌<◌, ◌≤◌, ◌^◌, Bool, true, false, cond, ◌||◌, List, [], ◌∷◌, ◌++◌}
-use Rattle.std.proofs.Common.{length, get_or, take, sym, refl, ap, subst, ◌∙◌, arith, inl, inr}
+use Rattle.std.proofs.Common.{length, sym, refl, ap, subst, ◌∙◌, arith}
 use Rattle.std.proofs.Math.ListN.{get_or-append}
 use Rattle.std.proofs.lemmas.Bool.{cases_lt}
 use Rattle.std.proofs.lemmas.List.{append-nil, append_assoc, flat_map_more, get_or_push, length-append, map-append}
@@ -9,9 +10,8 @@ use Rattle.std.proofs.lemmas.List.Folds.{list_any-append}
 use Rattle.std.proofs.lemmas.List.Sums.{sum_by-cons, sum_by_push, sum_by-append}
 use Rattle.std.specs.Prelude.{◌==◌}
 use Rattle.std.specs.List.{flat_map, list_any}
-use Rattle.profile_rows.specs.declared.weighted_stacks.WeightedStack.{WeightedStack}
 use Rattle.profile_rows.specs.Rows.{total_of}
-use Rattle.profile_rows.specs.Values.{BatchState, rows_at, weighing}
+use Rattle.profile_rows.specs.Values.{BatchState, rows_at}
 use Rattle.op_book.specs.Operations.{PlainEntry, PlainOp, add, reset, ask, addition_of, batches_after, changes_in}
 use Rattle.op_book.specs.Operations.{is_change, is_reset, operations_of, placed, plain_answer, profile_after}
 use Rattle.op_book.specs.Operations.{rows_added}
@@ -20,21 +20,7 @@ use Rattle.op_book.specs.Runs.{AreChanges, EachAfter, KeepLimit, turns_of}
 pub EachAfter-push : {X : Type 0} (Has : List X → X → Type 0) (items : List X) (last : X)
     → EachAfter Has items → Has items last → EachAfter Has (items ++ last ∷ [])
 EachAfter-push {X} Has items last each here at d lt =
-    elim (cases_lt at (length items)) [
-      | inl below ↦
-          let front : take at (items ++ last ∷ []) ≡ take at items =
-          take-append-le at items (last ∷ []) (omega arith) in
-          let item : get_or (items ++ last ∷ []) at d ≡ get_or items at d =
-          get_or-append items (last ∷ []) d at below in
-          rw (front, item) (each at d below)
-      | inr above ↦
-          let size = length-append items (last ∷ []) in
-          let place : length items ≡ at = omega arith in
-          let front : take at (items ++ last ∷ []) ≡ items = take-append-le at items (last ∷ []) (omega arith)
-          ∙ ap (λ n. take n items) (sym place) ∙ take_all _ _ (omega arith) in
-          let item : get_or (items ++ last ∷ []) at d ≡ last = get_or_push items last d at place in
-          rw (front, item) here
-    ]
+    grind (arith, common_steps, get_or-append, cases_lt, get_or_push, length-append, take-append-le, take_all)
 
 pub operations_of-push : (entries : List PlainEntry) (last : PlainEntry)
     → operations_of (entries ++ last ∷ []) ≡ operations_of entries ++ last.op ∷ []
@@ -81,47 +67,29 @@ profile_after-reset operations = ap (flat_map (λ (batch : BatchState). batch.ro
 
 pub profile_after-push : (operations : List PlainOp) (op : PlainOp)
     → is_reset op ≡ false → profile_after (operations ++ op ∷ []) ≡ profile_after operations ++ rows_added op
-profile_after-push operations (add batch) kept =
-    ap (flat_map (λ (batch : BatchState). batch.rows)) (batches_after-push operations (add batch) kept)
-    ∙ sym (flat_map_more (λ (batch : BatchState). batch.rows) [] (batches_after operations) batch)
+profile_after-push operations (add batch) kept = grind (arith, common_steps, flat_map_more, batches_after-push)
 profile_after-push operations reset kept = absurd (cc)
-profile_after-push operations (ask query) kept =
-    ap (flat_map (λ (batch : BatchState). batch.rows)) (batches_after-push operations (ask query) kept
-    ∙ append-nil (batches_after operations)) ∙ sym (append-nil (profile_after operations))
+profile_after-push operations (ask query) kept = grind (arith, common_steps, append-nil, batches_after-push)
 
 -- by each value
 pub profile_at-push : (value : ℕ) (operations : List PlainOp) (op : PlainOp) → is_reset op ≡ false
     → rows_at value (profile_after (operations ++ op ∷ []))
     ≡ rows_at value (profile_after operations) ++ rows_at value (rows_added op)
-profile_at-push value operations op kept =
-    ap (rows_at value) (profile_after-push operations op kept)
-    ∙ map-append (weighing value) (profile_after operations) (rows_added op)
+profile_at-push value operations op kept = grind (arith, common_steps, map-append, profile_after-push)
 
 -- what counts then weighs what counted before and what is added
 pub total_at-push : (value : ℕ) (operations : List PlainOp) (op : PlainOp) → is_reset op ≡ false
     → total_of (rows_at value (profile_after (operations ++ op ∷ [])))
     ≡ total_of (rows_at value (profile_after operations)) + total_of (rows_at value (rows_added op))
-total_at-push value operations op kept =
-    ap total_of (profile_at-push value operations op kept)
-    ∙ sum_by-append
-    (λ (row : WeightedStack). row.weight) (rows_at value (profile_after operations)) (rows_at value (rows_added op))
+total_at-push value operations op kept = grind (arith, common_steps, sum_by-append, profile_at-push)
 
 -- what counts after one operation more weighs no more than before and what it adds
 pub profile_at-le : (value : ℕ) (operations : List PlainOp) (op : PlainOp)
     → total_of (rows_at value (profile_after (operations ++ op ∷ []))) ≤ total_of
     (rows_at value (profile_after operations)) + total_of (rows_at value (rows_added op))
-profile_at-le value operations (add batch) =
-    let whole = total_at-push value operations (add batch) refl in
-    omega (arith, whole)
-profile_at-le value operations reset =
-    let whole : total_of (rows_at value (profile_after (operations ++ reset ∷ []))) ≡ 0 =
-    ap (λ rows. total_of (rows_at value rows)) (profile_after-reset operations) in
-    omega (arith, whole)
-profile_at-le value operations (ask query) =
-    let whole : total_of (rows_at value (profile_after (operations ++ ask query ∷ [])))
-    ≡ total_of (rows_at value (profile_after operations)) = ap (λ rows. total_of (rows_at value rows))
-    (profile_after-push operations (ask query) refl ∙ append-nil (profile_after operations)) in
-    omega (arith, whole)
+profile_at-le value operations (add batch) = grind (arith, common_steps, total_at-push)
+profile_at-le value operations reset = grind (arith, common_steps, profile_after-reset)
+profile_at-le value operations (ask query) = grind (arith, common_steps, append-nil, profile_after-push)
 
 pub turns_of-push : (entries : List PlainEntry) (last : PlainEntry) (session : ℕ)
     → turns_of (entries ++ last ∷ []) session ≡ turns_of entries session + cond (last.session == session) 1 0
@@ -142,23 +110,6 @@ changes_in-entries (entry ∷ entries) all =
     entries) = sum_by-cons (λ (op : PlainOp). one_if (is_change op)) entry.op (operations_of entries) in
     let one : one_if (is_change entry.op) ≡ 1 = ap one_if first in
     omega (arith, here, one, rest)
-
--- one more entry keeps the limit where what then counts does
-pub KeepLimit-push : (entries : List PlainEntry) (last : PlainEntry) → KeepLimit entries
-    → ((value : ℕ) → total_of (rows_at value (profile_after (operations_of entries ++ last.op ∷ []))) < 2 ^ 63)
-    → KeepLimit (entries ++ last ∷ [])
-KeepLimit-push entries last keep here count value =
-    elim (cases_lt (length entries) count) [
-      | inl beyond ↦
-          let size = length-append entries (last ∷ []) in
-          let all : take count (entries ++ last ∷ []) ≡ entries ++ last ∷ [] =
-          take_all count (entries ++ last ∷ []) (omega arith) in
-          subst (λ ops. total_of (rows_at value (profile_after ops)) < 2 ^ 63)
-          (sym (ap operations_of all ∙ operations_of-push entries last)) (here value)
-      | inr within ↦
-          subst (λ es. total_of (rows_at value (profile_after (operations_of es))) < 2 ^ 63)
-          (sym (take-append-le count entries (last ∷ []) within)) (keep count value)
-    ]
 
 -- after all entries the limit is kept
 pub KeepLimit-whole : (entries : List PlainEntry)

@@ -1,8 +1,8 @@
 -- Receipts in the order of a run follow the journal: the changes before each are the journal's first ones.
-use Rattle.std.proofs.Common.{ℕ, zero, suc, ◌≡◌, ◌<◌, ◌≤◌, ◌+◌, ◌^◌, inl, inr, Bool, true, false, cond, filter, Option}
+use Rattle.std.proofs.lemmas.Grind.{common_steps}
+use Rattle.std.proofs.Common.{ℕ, zero, suc, ◌≡◌, ◌<◌, ◌≤◌, ◌+◌, ◌^◌, inl, inr, Bool, true, false, cond, filter}
 use Rattle.std.proofs.Common.{None, List, [], ◌∷◌, ◌++◌, length, get_or, take, map, All, refl, sym, ap, subst, ◌∙◌}
 use Rattle.std.proofs.Common.{arith}
-use Rattle.std.specs.Prelude.{IsSomeAnd}
 use Rattle.std.specs.List.{flat_map}
 use Rattle.std.proofs.lemmas.Bool.{cases_lt}
 use Rattle.std.proofs.lemmas.List.Elements.{filter-append}
@@ -12,12 +12,11 @@ use Rattle.std.proofs.lemmas.Option.{slice_get_cases}
 use Rattle.std.proofs.lemmas.Simd.{map-map}
 use Rattle.profile_rows.specs.Rows.{total_of}
 use Rattle.profile_rows.specs.Values.{BatchState, rows_at}
-use Rattle.flame_report.specs.Answers.{value_answer_of}
 use Rattle.op_book.specs.Books.{JournalState}
 use Rattle.op_book.specs.Matching.{HasEntry, IsKnown, IsOfJournal, IsReceived, IsRight, LoggedReceipt, PlainStep}
 use Rattle.op_book.specs.Matching.{step_of}
-use Rattle.op_book.specs.Operations.{FitsWidth, PlainEntry, PlainOp, PlainReceipt, add, reset, ask, addition_of}
-use Rattle.op_book.specs.Operations.{answered, batches_after, changes_in, is_change, operations_of, placed}
+use Rattle.op_book.specs.Operations.{FitsWidth, PlainEntry, PlainOp, PlainReceipt, add, reset, ask}
+use Rattle.op_book.specs.Operations.{batches_after, changes_in, is_change, operations_of, placed}
 use Rattle.op_book.specs.Operations.{plain_answer, profile_after}
 use Rattle.op_book.specs.Replays.{AreLight, AreNumbered, IsPlain, ops_in}
 use Rattle.op_book.specs.Runs.{AreChanges, AreOfWidth, IsLegal, IsLegalRun, KeepLimit}
@@ -37,16 +36,7 @@ pub record Entered (entries : List PlainEntry) (session : ℕ) (receipt : PlainR
 
 pub entered : (entries : List PlainEntry) (session : ℕ) (receipt : PlainReceipt)
     → HasEntry entries session receipt → Entered entries session receipt
-entered entries session receipt has =
-    elim ((slice_get_cases entries receipt.at).1) [
-      | inl (x, lt, some, item) ↦
-          let is = subst (λ (o : Option PlainEntry). IsSomeAnd o (λ entry. (entry.session ≡ session)
-          × (entry.op ≡ receipt.op) × (entry.reply ≡ receipt.reply))) some has in
-          record { entry = x; within = lt; item = item; session_is = is.0; op_is = is.1; reply_is = is.2 }
-      | inr (le, none) ↦
-          absurd (subst (λ (o : Option PlainEntry). IsSomeAnd o
-          (λ entry. (entry.session ≡ session) × (entry.op ≡ receipt.op) × (entry.reply ≡ receipt.reply))) none has)
-    ]
+entered entries session receipt has = grind (arith, common_steps, slice_get_cases)
 
 of_change : (journal : JournalState) (session : ℕ) (receipt : PlainReceipt) (op : PlainOp)
     → IsOfJournal journal session receipt op → is_change op ≡ true → HasEntry journal.entries session receipt
@@ -56,9 +46,7 @@ of_change journal session receipt (ask query) is change = absurd (cc)
 
 pub known_change : (journal : JournalState) (one : LoggedReceipt)
     → IsKnown journal one → is_change one.receipt.op ≡ true → Entered journal.entries one.session one.receipt
-known_change journal one known change =
-    entered journal.entries one.session one.receipt
-    (of_change journal one.session one.receipt one.receipt.op known.1 change)
+known_change journal one known change = grind (arith, common_steps, entered, of_change)
 
 of_place : (journal : JournalState) (session : ℕ) (receipt : PlainReceipt) (op : PlainOp)
     → IsOfJournal journal session receipt op → receipt.at ≤ length journal.entries
@@ -89,13 +77,9 @@ known_width journal one fitted known = of_width journal one.session one.receipt 
 
 step_batches : (operations others : List PlainOp) (op : PlainOp) → batches_after operations ≡ batches_after others
     → batches_after (operations ++ op ∷ []) ≡ batches_after (others ++ op ∷ [])
-step_batches operations others (add batch) same =
-    batches_after-push operations (add batch) refl
-    ∙ ap (λ l. l ++ addition_of (add batch)) same ∙ sym (batches_after-push others (add batch) refl)
+step_batches operations others (add batch) same = grind (arith, common_steps, batches_after-push)
 step_batches operations others reset same = batches_after-reset operations ∙ sym (batches_after-reset others)
-step_batches operations others (ask query) same =
-    batches_after-push operations (ask query) refl
-    ∙ ap (λ l. l ++ addition_of (ask query)) same ∙ sym (batches_after-push others (ask query) refl)
+step_batches operations others (ask query) same = grind (arith, common_steps, batches_after-push)
 
 report_batches : (operations : List PlainOp) (op : PlainOp)
     → is_change op ≡ false → batches_after (operations ++ op ∷ []) ≡ batches_after operations
@@ -121,9 +105,7 @@ changes_before all i = changes_in (ops_in (take i all))
 
 more_changes : (all : List LoggedReceipt) (i : ℕ) (one : LoggedReceipt) → i < length all
     → one ≡ get_or all i one → changes_before all (i + 1) ≡ changes_before all i + one_if (is_change one.receipt.op)
-more_changes all i one lt is =
-    ap (λ (l : List LoggedReceipt). changes_in (ops_in l)) (take_more all i one lt
-    ∙ ap (λ (x : LoggedReceipt). take i all ++ x ∷ []) (sym is)) ∙ changes-push (take i all) one
+more_changes all i one lt is = grind (arith, common_steps, take_more, changes-push)
 
 -- the journal's first operations, with that of one change more
 operations-more : (journal : JournalState) (all : List LoggedReceipt) (i : ℕ) (one : LoggedReceipt)
@@ -149,11 +131,7 @@ operations-same : (journal : JournalState) (all : List LoggedReceipt) (i : ℕ) 
     → is_change one.receipt.op ≡ false → i < length all → one ≡ get_or all i one
     → operations_of (take (changes_before all (i + 1)) journal.entries)
     ≡ operations_of (take (changes_before all i) journal.entries)
-operations-same journal all i one report lt is =
-    let n = changes_before all i in
-    let plus : (k : ℕ) → k + 0 ≡ k = λ k. omega arith in
-    let next : changes_before all (i + 1) ≡ n = more_changes all i one lt is ∙ ap (λ b. n + one_if b) report ∙ plus n in
-    ap (λ k. operations_of (take k journal.entries)) next
+operations-same journal all i one report lt is = grind (arith, common_steps, one_if, more_changes)
 
 follows_more : (journal : JournalState) (all : List LoggedReceipt) (i : ℕ) (one : LoggedReceipt) (b : Bool)
     → is_change one.receipt.op ≡ b → i < length all → one ≡ get_or all i one
@@ -167,10 +145,7 @@ follows_more journal all i one true change lt is at known so_far =
     (ops_in (take i all)) (operations_of (take (changes_before all i) journal.entries)) one.receipt.op so_far
     ∙ ap batches_after (sym (operations-more journal all i one change lt is at known))
 follows_more journal all i one false report lt is at known so_far =
-    ap batches_after (ops_in-more all i one lt is)
-    ∙ report_batches (ops_in (take i all)) one.receipt.op report
-    ∙ so_far
-    ∙ ap batches_after (sym (operations-same journal all i one report lt is))
+    grind (arith, common_steps, ops_in-more, report_batches, operations-same)
 
 -- what counts before a receipt is what counts after as many changes of the journal
 pub follows : (journal : JournalState) (all : List LoggedReceipt)
@@ -201,16 +176,9 @@ changes_more : (journal : JournalState) (all : List LoggedReceipt) (i : ℕ) (on
     → filter is_change (ops_in (take i all)) ≡ operations_of (take (changes_before all i) journal.entries)
     → filter is_change (ops_in (take (i + 1) all)) ≡ operations_of (take (changes_before all (i + 1)) journal.entries)
 changes_more journal all i one true change lt is at known so_far =
-    ap (filter is_change) (ops_in-more all i one lt is)
-    ∙ more_of (ops_in (take i all)) one.receipt.op true change
-    ∙ ap (λ (ops : List PlainOp). ops ++ one.receipt.op ∷ []) so_far
-    ∙ sym (operations-more journal all i one change lt is at known)
+    grind (arith, common_steps, ops_in-more, operations-more, more_of)
 changes_more journal all i one false report lt is at known so_far =
-    ap (filter is_change) (ops_in-more all i one lt is)
-    ∙ more_of (ops_in (take i all)) one.receipt.op false report
-    ∙ append-nil (filter is_change (ops_in (take i all)))
-    ∙ so_far
-    ∙ sym (operations-same journal all i one report lt is)
+    grind (arith, common_steps, append-nil, ops_in-more, operations-same, more_of)
 
 changes_follow : (journal : JournalState) (all : List LoggedReceipt)
     → AreNumbered all → All (IsKnown journal) all → (i : ℕ) → i ≤ length all
@@ -246,17 +214,7 @@ counted_so_far all numbered (suc i) le =
 enough_changes : (journal : JournalState) (all : List LoggedReceipt)
     → AreNumbered all → ((place : ℕ) → place < length journal.entries → IsReceived all place)
     → length journal.entries ≤ changes_before all (length all)
-enough_changes journal all numbered received =
-    elim (cases_lt (changes_before all (length all)) (length journal.entries)) [
-      | inl fewer ↦
-          let (k, one, inside, there, (change, at)) = received (changes_before all (length all)) fewer in
-          let counted = subst (λ (seen : List LoggedReceipt). IsCounted seen (changes_before all (length all)))
-          (take_all (length all) all (omega arith)) (counted_so_far all numbered (length all) (omega arith)) in
-          let low = subst (λ (r : LoggedReceipt). is_change r.receipt.op ≡ true
-          → r.receipt.at < changes_before all (length all)) there (counted.below k one inside) change in
-          absurd (omega (arith, low, at))
-      | inr enough ↦ enough
-    ]
+enough_changes journal all numbered received = grind (arith, common_steps, cases_lt, take_all, counted_so_far)
 
 -- the changes among all receipts, in the order of a run, are what the journal has
 pub run_changes : (journal : JournalState) (all : List LoggedReceipt) → AreNumbered all
@@ -272,9 +230,7 @@ answer_same : (operations others : List PlainOp) (op : PlainOp) → is_change op
     → batches_after operations ≡ batches_after others → plain_answer operations op ≡ plain_answer others op
 answer_same operations others (add batch) report same = absurd (cc)
 answer_same operations others reset report same = absurd (cc)
-answer_same operations others (ask query) report same =
-    ap (λ (batches : List BatchState). answered
-    (value_answer_of (flat_map (λ (batch : BatchState). batch.rows) batches) query)) same
+answer_same operations others (ask query) report same = grind (arith, common_steps)
 
 change_answer : (operations : List PlainOp) (op : PlainOp)
     → is_change op ≡ true → plain_answer operations op ≡ placed (changes_in operations)

@@ -1,4 +1,5 @@
 -- Receipts in the order of a run, of which each stands behind as many changes as its place says.
+use Rattle.std.proofs.lemmas.Grind.{common_steps}
 use Rattle.std.proofs.Common.{ℕ, zero, suc, ◌≡◌, ◌<◌, ◌≤◌, ◌+◌, ◌*◌, inl, inr, Bool, true, false, cond, List, [], ◌∷◌}
 use Rattle.std.proofs.Common.{◌++◌, length, get_or, take, All, Any, refl, sym, ap, subst, ◌∙◌, arith}
 use Rattle.std.proofs.Math.ListN.{get_or-append}
@@ -7,7 +8,7 @@ use Rattle.std.proofs.lemmas.List.{get_or_push, get_or-take, get_or_default, len
 use Rattle.std.proofs.lemmas.List.Quantifiers.{Any-push}
 use Rattle.std.proofs.lemmas.List.Sums.{sum_by_push}
 use Rattle.op_book.specs.Matching.{IsFirstMissing, IsReceived, LoggedReceipt, Precedes, key_of}
-use Rattle.op_book.specs.Operations.{PlainOp, PlainReceipt, changes_in, is_change}
+use Rattle.op_book.specs.Operations.{PlainReceipt, changes_in, is_change}
 use Rattle.op_book.specs.Replays.{AreNumbered, AreRising, ops_in}
 use Rattle.op_book.proofs.EntryLaws.{EachAfter-push}
 
@@ -25,15 +26,8 @@ one_if-le false = omega arith
 
 -- places don't fall along a run, and rise behind a change
 pub Precedes-le : (a b : PlainReceipt) → Precedes a b → a.at + one_if (is_change a.op) ≤ b.at
-Precedes-le a b (inl less) =
-    let x = key_by a (is_change a.op) refl in let y = key_by b (is_change b.op) refl in
-    let p = one_if-le (is_change a.op) in let q = one_if-le (is_change b.op) in
-    omega (arith, x, y, p, q, less)
-Precedes-le a b (inr (same, report)) =
-    let x = key_by a (is_change a.op) refl in let y = key_by b false report in
-    let p = one_if-le (is_change a.op) in
-    let z : one_if false ≡ 0 = refl in
-    omega (arith, x, y, p, z, same)
+Precedes-le a b (inl less) = grind (arith, common_steps, key_by, one_if-le)
+Precedes-le a b (inr (same, report)) = grind (arith, common_steps, key_by, one_if-le)
 
 -- the first receipts: so many changes, whose places are all below that number, and each number below it is one
 pub record IsCounted (seen : List LoggedReceipt) (done : ℕ) : Type 0 where
@@ -43,18 +37,11 @@ pub record IsCounted (seen : List LoggedReceipt) (done : ℕ) : Type 0 where
   pub below : All (λ one. is_change one.receipt.op ≡ true → one.receipt.at < done) seen
 
 pub IsCounted-empty : IsCounted [] 0
-IsCounted-empty = record {
-  count = refl;
-  numbered = λ at item lt. absurd (omega (arith, lt));
-  received = λ place lt. absurd (omega (arith, lt));
-  below = λ k d lt. absurd (omega (arith, lt));
-}
+IsCounted-empty = grind (arith, common_steps)
 
 pub changes-push : (seen : List LoggedReceipt) (one : LoggedReceipt)
     → changes_in (ops_in (seen ++ one ∷ [])) ≡ changes_in (ops_in seen) + one_if (is_change one.receipt.op)
-changes-push seen one =
-    ap changes_in (map_push (λ (one : LoggedReceipt). one.receipt.op) seen one)
-    ∙ sum_by_push (λ (op : PlainOp). one_if (is_change op)) (ops_in seen) one.receipt.op
+changes-push seen one = grind (arith, common_steps, map_push, sum_by_push)
 
 pub any_more : {X : Type 0} (P : X → Type 0) (xs : List X) (last : X) → Any P xs → Any P (xs ++ last ∷ [])
 any_more P xs last (k, x, inside, there, has) =
@@ -121,9 +108,7 @@ at_least all i (suc place) one rising lt is counted =
     omega (arith, order, more, at)
 
 any_whole : {X : Type 0} (P : X → Type 0) (xs : List X) (i : ℕ) → i ≤ length xs → Any P (take i xs) → Any P xs
-any_whole P xs i le (k, x, inside, there, has) =
-    let k_lt : k < i = omega (arith, length-take-le i xs le, inside) in
-    (k, x, omega (arith, k_lt, le), sym (get_or-take i xs k x k_lt) ∙ there, has)
+any_whole P xs i le (k, x, inside, there, has) = grind (arith, common_steps, get_or-take, length-take-le)
 
 -- a receipt beyond the changes that were seen: the next change is missing
 pub missing_before : (all : List LoggedReceipt) (i done count : ℕ) (one : LoggedReceipt)

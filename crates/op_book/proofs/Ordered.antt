@@ -1,10 +1,10 @@
 -- What the order of a run says of receipts that are known and in order in their logs.
+use Rattle.std.proofs.lemmas.Grind.{common_steps}
 use Rattle.std.proofs.Common.{ℕ, ◌≡◌, ◌<◌, ◌≤◌, ◌⊎◌, inl, inr, Bool, true, false, List, length, get_or, All, AllPairs}
-use Rattle.std.proofs.Common.{refl, sym, ap, ◌∙◌, arith}
+use Rattle.std.proofs.Common.{refl, sym, ◌∙◌, arith}
 use Rattle.std.specs.Prelude.{IsPermutation, IsSorted}
 use Rattle.std.specs.Cmp.{nat_cmp_is}
-use Rattle.std.specs.Ordering.{is_lt, nat_cmp, ordering_then}
-use Rattle.std.specs.declared.cmp.Ordering.{Ordering}
+use Rattle.std.specs.Ordering.{is_lt, nat_cmp}
 use Rattle.std.specs.declared.cmp.Ordering.TheVariants.{Less, Equal}
 use Rattle.std.proofs.lemmas.Bool.{cases_lt, cases_eq, false≢true}
 use Rattle.std.proofs.lemmas.List.{get_or_default}
@@ -12,7 +12,7 @@ use Rattle.std.proofs.lemmas.List.Sorted.{All-permutation, ranks_by, sorted_far}
 use Rattle.op_book.specs.Books.{JournalState}
 use Rattle.op_book.specs.declared.entry.SessionLog.{SessionLog}
 use Rattle.op_book.specs.Matching.{HasOneLogEach, IsInOrder, IsKnown, LoggedReceipt, Precedes, key_of, logged, run_cmp}
-use Rattle.op_book.specs.Operations.{PlainEntry, is_change}
+use Rattle.op_book.specs.Operations.{is_change}
 use Rattle.op_book.specs.Replays.{AreRising}
 use Rattle.op_book.proofs.Following.{known_change}
 use Rattle.op_book.proofs.Numbering.{key_by, one_if}
@@ -32,39 +32,7 @@ StandsBefore a b = (key_of a.receipt < key_of b.receipt)
 
 -- of two receipts the one that isn't above stands before the other
 not_above : (a b : LoggedReceipt) → is_lt (run_cmp b a) ≡ false → StandsBefore a b
-not_above a b no_less =
-    elim (cases_lt (key_of a.receipt) (key_of b.receipt)) [
-      | inl less ↦ inl less
-      | inr not_less ↦ elim (cases_eq (key_of b.receipt) (key_of a.receipt)) [
-        | inr other ↦
-            let first = below (key_of b.receipt) (key_of a.receipt) (omega (arith, not_less, other)) in
-            absurd (false≢true (sym no_less ∙ ap (λ (o : Ordering). is_lt
-            (ordering_then o (ordering_then (nat_cmp b.session a.session) (nat_cmp b.index a.index)))) first))
-        | inl same ↦
-            let keys = level (key_of b.receipt) (key_of a.receipt) same in
-            elim (cases_lt a.session b.session) [
-              | inl less ↦ inr (sym same, inl less)
-              | inr not_less_session ↦ elim (cases_eq b.session a.session) [
-                | inr other ↦
-                    let second = below b.session a.session (omega (arith, not_less_session, other)) in
-                    absurd (false≢true (sym no_less ∙ ap (λ (o : Ordering). is_lt
-                    (ordering_then o (ordering_then (nat_cmp b.session a.session) (nat_cmp b.index a.index)))) keys
-                    ∙ ap (λ (o : Ordering). is_lt (ordering_then o (nat_cmp b.index a.index))) second))
-                | inl session ↦
-                    let sessions = level b.session a.session session in
-                    elim (cases_lt b.index a.index) [
-                      | inl less ↦
-                          let third = below b.index a.index less in
-                          absurd (false≢true (sym no_less ∙ ap (λ (o : Ordering). is_lt (ordering_then o
-                          (ordering_then (nat_cmp b.session a.session) (nat_cmp b.index a.index)))) keys
-                          ∙ ap (λ (o : Ordering). is_lt (ordering_then o (nat_cmp b.index a.index))) sessions
-                          ∙ ap is_lt third))
-                      | inr not_less_index ↦ inr (sym same, inr (sym session, not_less_index))
-                    ]
-              ]
-            ]
-      ]
-    ]
+not_above a b no_less = grind (arith, common_steps, cases_lt, cases_eq, false≢true, below, level)
 
 stands_before : (all : List LoggedReceipt) → IsSorted run_cmp all
     → (i j : ℕ) (d : LoggedReceipt) → i < j → j < length all → StandsBefore (get_or all i d) (get_or all j d)
@@ -83,12 +51,7 @@ some_order logs ordered one_each in_order perm =
 -- two changes of a journal at one place are of one session
 same_session : (journal : JournalState) (a b : LoggedReceipt) → IsKnown journal a → IsKnown journal b → is_change
     a.receipt.op ≡ true → is_change b.receipt.op ≡ true → a.receipt.at ≡ b.receipt.at → a.session ≡ b.session
-same_session journal a b known other change also place =
-    let x = known_change journal a known change in
-    let y = known_change journal b other also in
-    let item : x.entry ≡ y.entry = sym x.item ∙ ap (λ n. get_or journal.entries n x.entry) place
-    ∙ get_or_default journal.entries b.receipt.at x.entry y.entry y.within ∙ y.item in
-    sym x.session_is ∙ ap (λ (e : PlainEntry). e.session) item ∙ y.session_is
+same_session journal a b known other change also place = grind (arith, common_steps, get_or_default, known_change)
 
 -- two changes have other places
 two_changes : (journal : JournalState) (a b : LoggedReceipt) → IsKnown journal a
@@ -130,19 +93,7 @@ rising journal logs ordered one_each known in_order perm sorted i j d lt j_lt =
     (stands_before ordered sorted i j d lt j_lt)
 
 own : (a b : LoggedReceipt) → InSomeOrder a b → StandsBefore a b → a.session ≡ b.session → a.index < b.index
-own a b some before session =
-    elim (some session) [
-      | inl (less, order) ↦ less
-      | inr (less, inl lower) ↦ elim before [
-        | inl higher ↦ absurd (omega (arith, lower, higher))
-        | inr (same, rest) ↦ absurd (omega (arith, lower, same))
-      ]
-      | inr (less, inr (keys, report)) ↦ elim before [
-        | inl higher ↦ absurd (omega (arith, keys, higher))
-        | inr (same, inl lower_session) ↦ absurd (omega (arith, lower_session, session))
-        | inr (same, inr (session_is, index)) ↦ absurd (omega (arith, less, index))
-      ]
-    ]
+own a b some before session = grind (arith, common_steps)
 
 pub own_order : (logs : List SessionLog) (ordered : List LoggedReceipt)
     → HasOneLogEach logs → All IsInOrder (logged logs) → IsPermutation (logged logs) ordered → IsSorted run_cmp ordered

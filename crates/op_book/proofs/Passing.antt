@@ -1,5 +1,6 @@
 -- Loops that look for the first item without a property.
-use Rattle.std.proofs.Common.{ℕ, ◌≡◌, ◌≢◌, ◌<◌, ◌≤◌, ◌+◌, true, false, List, ◌∷◌, ◌++◌, length, take, drop, get_or, All}
+use Rattle.std.proofs.lemmas.Grind.{common_steps}
+use Rattle.std.proofs.Common.{arith, ℕ, ◌≡◌, ◌≢◌, ◌<◌, ◌≤◌, ◌+◌, true, false, List, ◌∷◌, ◌++◌, length, take, drop, get_or, All}
 use Rattle.std.proofs.Common.{Any, AllPairs, refl, sym, ap, subst, ◌∙◌}
 use Rattle.std.specs.Prelude.{◌==◌}
 use Rattle.std.specs.List.{list_any}
@@ -51,13 +52,7 @@ has_session logs session e =
 pub has_no_session : (logs : List SessionLog) (session : ℕ) → list_any
     (λ (log : SessionLog). log.session == session) logs ≡ false → All (λ (log : SessionLog). log.session ≢ session) logs
 has_no_session logs session e k d lt same =
-    false≢true (sym e ∙ list_any-from_Any (λ (log : SessionLog). log.session == session) logs (
-      k,
-      get_or logs k d,
-      lt,
-      sym (get_or_default logs k d (get_or logs k d) lt),
-      eq-eqb (get_or logs k d).session session same,
-    ))
+    grind (arith, common_steps, eq-eqb, false≢true, get_or_default, list_any-from_Any)
 
 pub second_log : (logs : List SessionLog) (i : ℕ) (log : SessionLog)
     → i < length logs → log ≡ get_or logs i log → HasOneLogEach (take i logs)

@@ -1,5 +1,6 @@
 -- What makes a book ready for a change.
-use Rattle.std.proofs.Common.{◌≡◌, ◌<◌, ℕ, true, List, ◌++◌, length, ap, sym, refl, ◌∙◌}
+use Rattle.std.proofs.lemmas.Grind.{common_steps}
+use Rattle.std.proofs.Common.{arith, ◌≡◌, ◌<◌, ℕ, true, List, ◌++◌, length, sym, refl}
 use Rattle.profile_rows.specs.declared.weighted_stacks.WeightedStack.{WeightedStack}
 use Rattle.profile_rows.specs.Values.{BatchState, rows_at}
 use Rattle.profile_rows.specs.Aggregate.{aggregate_of, aggregates_of, with_rows}
@@ -22,9 +23,7 @@ change_op-is_change change.Reset = refl
 pub told_after : (entries : List PlainEntry) (op : PlainOp) (place : ℕ)
     → AreChanges entries → is_change op ≡ true → place ≡ length entries
     → change_told op place ≡ receipt_after entries op
-told_after entries op place changes change place_is =
-    let answer = plain_answer-change entries op changes change in
-    rw place_is (λ i. record { op = op; reply = sym answer i; at = length entries })
+told_after entries op place changes change place_is = grind (arith, common_steps, plain_answer-change)
 
 -- the book as it was, but for the nodes of its tree and its memory
 pub IsReady-made : (book : BookState) (tree : TreeState) (capacity session turn place : ℕ)
@@ -60,12 +59,4 @@ pub IsTreeAfter-added : (book : BookState) (next : TreeState) (batch : BatchStat
     → next.width ≡ book.tree.width
     → ((value : ℕ) → weights_of next value ≡ with_rows (weights_of book.tree value) (rows_at value batch.rows))
     → IsTreeAfter book (add batch) next
-IsTreeAfter-added book next batch wide held more width weights = record {
-  width = width ∙ wide;
-  aggregate = λ value.
-      let before = operations_of book.entries in
-      weights value
-      ∙ ap (λ m. with_rows m (rows_at value batch.rows)) (held value)
-      ∙ sym (more (rows_at value (profile_after before)) (rows_at value batch.rows))
-      ∙ ap aggregate_of (sym (profile_at-push value before (add batch) refl));
-}
+IsTreeAfter-added book next batch wide held more width weights = grind (arith, common_steps, profile_at-push)

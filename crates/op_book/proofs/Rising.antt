@@ -1,4 +1,5 @@
 -- Receipts in the order of a run: each may stand behind all before it, and each log keeps its order.
+use Rattle.std.proofs.lemmas.Grind.{common_steps}
 use Rattle.std.proofs.Common.{ℕ, suc, ◌≡◌, ◌≢◌, ◌<◌, ◌≤◌, ◌+◌, ◌⊎◌, inl, inr, Option, Some, None, List, [], ◌∷◌, ◌++◌}
 use Rattle.std.proofs.Common.{length, get_or, All, AllPairs, refl, sym, ap, subst, ◌∙◌, arith}
 use Rattle.std.proofs.Math.ListN.{get_or-append}
@@ -82,10 +83,7 @@ of_session : (number session index : ℕ) (earlier : Option PlainReceipt) (recei
     → All (λ (one : LoggedReceipt). one.session ≡ session) (logged_from number session index earlier receipts)
 of_session number session index earlier [] = λ k d lt. absurd (omega (arith, lt))
 of_session number session index earlier (receipt ∷ later) =
-    cons_all (λ (one : LoggedReceipt). one.session ≡ session)
-    (record { number = number; session = session; index = index; earlier = earlier; receipt = receipt })
-    (logged_from (number + 1) session (index + 1) (Some receipt) later) refl
-    (of_session (number + 1) session (index + 1) (Some receipt) later)
+    grind (arith, common_steps, cons_all, of_session (number + 1) session (index + 1) (Some receipt) later)
 
 of_others : (number session : ℕ) (logs : List SessionLog) → All (λ (log : SessionLog). session ≢ log.session) logs
     → All (λ (one : LoggedReceipt). session ≢ one.session) (logged_after number logs)

@@ -1,5 +1,6 @@
 -- What counts after one receipt more, and what it weighs.
-use Rattle.std.proofs.Common.{ℕ, ◌≡◌, ◌<◌, ◌+◌, ◌^◌, ◌++◌, ◌∷◌, [], List, length, get_or, take, refl, ap, subst, ◌∙◌}
+use Rattle.std.proofs.lemmas.Grind.{common_steps}
+use Rattle.std.proofs.Common.{ℕ, ◌≡◌, ◌<◌, ◌+◌, ◌^◌, ◌++◌, ◌∷◌, [], List, length, get_or, take, ap, subst, ◌∙◌}
 use Rattle.std.proofs.Common.{arith}
 use Rattle.profile_rows.specs.Rows.{total_of}
 use Rattle.profile_rows.specs.Values.{BatchState, rows_at}
@@ -20,20 +21,13 @@ ops_in-next all at one op lt is op_is = ops_in-more all at one lt is
 pub total_after-add : (all : List LoggedReceipt) (at : ℕ) (one : LoggedReceipt) (batch : BatchState)
     → at < length all → one ≡ get_or all at one → one.receipt.op ≡ add batch
     → (value : ℕ) → total_after all (at + 1) value ≡ total_after all at value + total_of (rows_at value batch.rows)
-total_after-add all at one batch lt is op value =
-    ap (λ (ops : List PlainOp). total_of (rows_at value (profile_after ops)))
-    (ops_in-next all at one (add batch) lt is op)
-    ∙ total_at-push value (ops_in (take at all)) (add batch) refl
+total_after-add all at one batch lt is op value = grind (arith, common_steps, total_at-push, ops_in-next)
 
 -- a report leaves what counts
 pub total_after-ask : (all : List LoggedReceipt) (at : ℕ) (one : LoggedReceipt) (query : Query)
     → at < length all → one ≡ get_or all at one → one.receipt.op ≡ ask query
     → (value : ℕ) → total_after all (at + 1) value ≡ total_after all at value
-total_after-ask all at one query lt is op value =
-    let whole = ap (λ (ops : List PlainOp). total_of (rows_at value (profile_after ops)))
-    (ops_in-next all at one (ask query) lt is op)
-    ∙ total_at-push value (ops_in (take at all)) (ask query) refl in
-    omega (arith, whole)
+total_after-ask all at one query lt is op value = grind (arith, common_steps, total_at-push, ops_in-next)
 
 -- nothing counts after a reset
 pub profile_after-resets : (all : List LoggedReceipt) (at : ℕ) (one : LoggedReceipt)

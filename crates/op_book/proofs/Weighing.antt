@@ -1,5 +1,6 @@
 -- What logs, runs and journals weigh.
-use Rattle.std.proofs.Common.{ℕ, zero, suc, ◌≡◌, ◌<◌, ◌≤◌, ◌+◌, Bool, true, false, cond, ◌||◌, Option, Some, None, List}
+use Rattle.std.proofs.lemmas.Grind.{common_steps}
+use Rattle.std.proofs.Common.{rules, ℕ, zero, suc, ◌≡◌, ◌<◌, ◌≤◌, ◌+◌, Bool, true, false, cond, ◌||◌, Option, Some, List}
 use Rattle.std.proofs.Common.{[], ◌∷◌, ◌++◌, get_or, length, filter, map, take, ap, sym, subst, ◌∙◌, refl, arith}
 use Rattle.std.specs.Prelude.{IsPermutation, nat_le, sum_by}
 use Rattle.std.specs.List.{flat_map, list_any}
@@ -9,9 +10,8 @@ use Rattle.std.proofs.lemmas.List.{append-nil, append_assoc, length-map, length-
 use Rattle.std.proofs.lemmas.List.Folds.{list_any-append}
 use Rattle.std.proofs.lemmas.List.Sorted.{sum_by-IsPermutation}
 use Rattle.std.proofs.lemmas.List.Sums.{sum_by-append, sum_by-cons}
-use Rattle.profile_rows.specs.declared.weighted_stacks.WeightedStack.{WeightedStack}
-use Rattle.profile_rows.specs.Rows.{is_same_stack, weight_if, weight_of}
-use Rattle.profile_rows.specs.Values.{BatchState, Row, rows_at, weighing}
+use Rattle.profile_rows.specs.Rows.{weight_of}
+use Rattle.profile_rows.specs.Values.{BatchState, Row, rows_at}
 use Rattle.op_book.specs.Logs.{counting_from, place_told, rows_from, rows_logged}
 use Rattle.op_book.specs.Matching.{LoggedReceipt, PlainStep, logged, logged_after, logged_from, step_of, steps_in}
 use Rattle.op_book.specs.Operations.{PlainEntry, PlainOp, PlainReceipt, PlainReply, add, reset, ask, placed}
@@ -26,11 +26,7 @@ use Rattle.op_book.proofs.EntryLaws.{operations_of-push}
 
 pub sum_by-map : {X Y : Type 0} (f : Y → ℕ) (g : X → Y) (xs : List X) → sum_by f (map g xs) ≡ sum_by (λ x. f (g x)) xs
 sum_by-map f g [] = refl
-sum_by-map f g (x ∷ xs) =
-    let here = sum_by-cons f (g x) (map g xs) in
-    let there = sum_by-cons (λ x. f (g x)) x xs in
-    let rest = sum_by-map f g xs in
-    omega (arith, here, there, rest)
+sum_by-map f g (x ∷ xs) = grind (arith, common_steps, sum_by-cons, sum_by-map f g xs)
 
 -- ---- what logs tell
 
@@ -47,24 +43,21 @@ from_log : (weight : PlainOp → PlainReply → ℕ)
     (logged_from number session index earlier receipts) ≡ weigh_log weight receipts
 from_log weight number session index earlier [] = refl
 from_log weight number session index earlier (receipt ∷ later) =
-    let here = sum_by-cons (λ (one : LoggedReceipt). weight one.receipt.op one.receipt.reply)
-    (record { number = number; session = session; index = index; earlier = earlier; receipt = receipt })
-    (logged_from (number + 1) session (index + 1) (Some receipt) later) in
-    let there = sum_by-cons (λ (receipt : PlainReceipt). weight receipt.op receipt.reply) receipt later in
-    let rest = from_log weight (number + 1) session (index + 1) (Some receipt) later in
-    omega (arith, here, there, rest)
+    grind (arith, common_steps, sum_by-cons, from_log weight (number + 1) session (index + 1) (Some receipt) later)
 
 from_logs : (weight : PlainOp → PlainReply → ℕ) (number : ℕ) (logs : List SessionLog)
     → sum_by (λ (one : LoggedReceipt). weight one.receipt.op one.receipt.reply) (logged_after number logs)
     ≡ weigh_logs weight logs
 from_logs weight number [] = refl
 from_logs weight number (log ∷ logs) =
-    let parts = sum_by-append (λ (one : LoggedReceipt). weight one.receipt.op one.receipt.reply)
-    (logged_from number log.session 0 None log.receipts) (logged_after (number + length log.receipts) logs) in
-    let first = from_log weight number log.session 0 None log.receipts in
-    let rest = from_logs weight (number + length log.receipts) logs in
-    let there = sum_by-cons (λ (log : SessionLog). weigh_log weight log.receipts) log logs in
-    omega (arith, parts, first, rest, there)
+    grind (
+      arith,
+      common_steps,
+      sum_by-append,
+      sum_by-cons,
+      from_log,
+      from_logs weight (number + length log.receipts) logs,
+    )
 
 -- a run of all receipts weighs what they do
 pub run_weighs : (weight : PlainOp → PlainReply → ℕ) (logs : List SessionLog) (run : List PlainStep)
@@ -104,9 +97,7 @@ added value stack op = weight_of (rows_at value (rows_added op)) stack
 
 pub weight_of-append : (value : ℕ) (stack : List (List ℕ)) (rows more : List Row) → weight_of
     (rows_at value (rows ++ more)) stack ≡ weight_of (rows_at value rows) stack + weight_of (rows_at value more) stack
-weight_of-append value stack rows more =
-    ap (λ (rows : List WeightedStack). weight_of rows stack) (map-append (weighing value) rows more)
-    ∙ sum_by-append (weight_if (is_same_stack stack)) (rows_at value rows) (rows_at value more)
+weight_of-append value stack rows more = grind (arith, common_steps, map-append, sum_by-append)
 
 -- what counts weighs what the operations add
 pub counted : (value : ℕ) (stack : List (List ℕ)) (operations : List PlainOp)
@@ -114,11 +105,7 @@ pub counted : (value : ℕ) (stack : List (List ℕ)) (operations : List PlainOp
     ≡ sum_by (added value stack) operations
 counted value stack [] = refl
 counted value stack (add batch ∷ operations) =
-    let rest = counted value stack operations in
-    let here = sum_by-cons (added value stack) (add batch) operations in
-    let parts = weight_of-append value stack batch.rows
-    (flat_map (λ (batch : BatchState). batch.rows) (flat_map addition_of operations)) in
-    omega (arith, rest, here, parts)
+    grind (arith, common_steps, sum_by-cons, weight_of-append, counted value stack operations)
 counted value stack (reset ∷ operations) = let rest = counted value stack operations in let here =
     sum_by-cons (added value stack) reset operations in omega (arith, rest, here)
 counted value stack (ask query ∷ operations) = let rest = counted value stack operations in let here =
@@ -143,22 +130,13 @@ log_weighs : (place value : ℕ) (stack : List (List ℕ)) (receipts : List Plai
     (rows_at value (flat_map (rows_from place) receipts)) stack ≡ weigh_log (added_from place value stack) receipts
 log_weighs place value stack [] = refl
 log_weighs place value stack (receipt ∷ receipts) =
-    let parts = weight_of-append value stack (rows_from place receipt) (flat_map (rows_from place) receipts) in
-    let one = receipt_weighs place value stack receipt in
-    let rest = log_weighs place value stack receipts in
-    let there = sum_by-cons
-    (λ (receipt : PlainReceipt). added_from place value stack receipt.op receipt.reply) receipt receipts in
-    omega (arith, parts, one, rest, there)
+    grind (arith, common_steps, sum_by-cons, weight_of-append, receipt_weighs, log_weighs place value stack receipts)
 
 logs_weigh : (place value : ℕ) (stack : List (List ℕ)) (logs : List SessionLog)
     → weight_of (rows_at value (rows_logged place logs)) stack ≡ weigh_logs (added_from place value stack) logs
 logs_weigh place value stack [] = refl
 logs_weigh place value stack (log ∷ logs) =
-    let parts = weight_of-append value stack (flat_map (rows_from place) log.receipts) (rows_logged place logs) in
-    let one = log_weighs place value stack log.receipts in
-    let rest = logs_weigh place value stack logs in
-    let there = sum_by-cons (λ (log : SessionLog). weigh_log (added_from place value stack) log.receipts) log logs in
-    omega (arith, parts, one, rest, there)
+    search (rules, sum_by-cons, weight_of-append, log_weighs, logs_weigh place value stack logs)
 
 -- each change is told how many changes stand before it, the first so many
 abbrev AreInPlace : ℕ → List PlainStep → Type 0
@@ -317,21 +295,14 @@ pub counting_from-reset : (operations : List PlainOp)
     → counting_from (operations ++ reset ∷ []) ≡ suc (length operations)
 counting_from-reset [] = refl
 counting_from-reset (op ∷ operations) =
-    let any = list_any-append is_reset operations (reset ∷ []) ∙ either (list_any is_reset operations) in
-    ap (λ b. cond b (suc (counting_from (operations ++ reset ∷ []))) (cond (is_reset op) 1 0)) any
-    ∙ ap suc (counting_from-reset operations)
+    grind (arith, common_steps, list_any-append, either, counting_from-reset operations)
 
 -- another operation changes nothing of it
 pub counting_from-other : (operations : List PlainOp) (op : PlainOp)
     → is_reset op ≡ false → counting_from (operations ++ op ∷ []) ≡ counting_from operations
 counting_from-other [] op other = ap (λ b. cond b 1 0) other
 counting_from-other (first ∷ operations) op other =
-    let any : list_any is_reset (operations ++ op ∷ []) ≡ list_any is_reset operations =
-    list_any-append is_reset operations (op ∷ [])
-    ∙ ap (λ b. list_any is_reset operations || (b || false)) other ∙ neither (list_any is_reset operations) in
-    ap (λ b. cond b (suc (counting_from (operations ++ op ∷ []))) (cond (is_reset first) 1 0)) any
-    ∙ ap (λ n. cond (list_any is_reset operations) (suc n) (cond (is_reset first) 1 0))
-    (counting_from-other operations op other)
+    grind (arith, common_steps, list_any-append, neither, counting_from-other operations op other)
 
 -- where counting begins after one entry more
 pub counting_from-more : (entries : List PlainEntry) (i behind : ℕ) (entry : PlainEntry)

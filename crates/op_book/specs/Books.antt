@@ -30,7 +30,8 @@ pub record JournalState : Type 0 where
 -- the tree is the aggregate of the additions that count, by each value, and each reply is what the plain profile gives
 -- after the operations before it
 pub record IsReplay (entries : List PlainEntry) (tree : TreeState) : Type 0 where
-  pub aggregate : (value : ℕ) → weights_of tree value ≡ aggregates_of (profile_after (operations_of entries)) value
+  pub aggregate : (value : ℕ)
+      → weights_of tree value ≡ aggregates_of (profile_after (operations_of entries)) value
   pub legal : IsLegalRun entries
 
 -- the entries are changes of the book's sessions, 1 to 64, whose turns are in order, and of its width, 1 to 4, which

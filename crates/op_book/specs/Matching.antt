@@ -53,7 +53,8 @@ HasEntry entries session receipt = IsSomeAnd (slice_get entries receipt.at)
 abbrev pub IsOfJournal : JournalState → ℕ → PlainReceipt → PlainOp → Type 0
 IsOfJournal journal session receipt (add batch) = HasEntry journal.entries session receipt
 IsOfJournal journal session receipt reset = HasEntry journal.entries session receipt
-IsOfJournal journal session receipt (ask query) = (receipt.at ≤ length journal.entries) × (query.value < journal.width)
+IsOfJournal journal session receipt (ask query) =
+    (receipt.at ≤ length journal.entries) × (query.value < journal.width)
 
 -- the receipt is of one of the journal's sessions, and of the journal
 abbrev pub IsKnown : JournalState → LoggedReceipt → Type 0
@@ -102,7 +103,8 @@ pub record IsSecondLog (logs : List SessionLog) (session : ℕ) : Type 0 where
   pub session_is : session ≡ log.session
 
 -- the first receipt without a property is of this session, at this place of its log
-pub record IsFirstWithout (Has : LoggedReceipt → Type 0) (all : List LoggedReceipt) (session index : ℕ) : Type 0 where
+pub record IsFirstWithout (Has : LoggedReceipt → Type 0) (all : List LoggedReceipt) (session index : ℕ)
+    : Type 0 where
   pub before : List LoggedReceipt
   pub one : LoggedReceipt
   pub after : List LoggedReceipt
@@ -129,7 +131,8 @@ IsFirstAuditFault journal logs (Order session index) = HasOneLogEach logs × All
 IsFirstAuditFault journal logs (Missing entry) = HasOneLogEach logs × All (IsKnown journal) (logged logs)
     × All IsInOrder (logged logs) × IsFirstMissing (length journal.entries) (logged logs) entry
 IsFirstAuditFault journal logs (WrongAnswer session index) = HasOneLogEach logs × All (IsKnown journal) (logged logs)
-    × All IsInOrder (logged logs) × ((place : ℕ) → place < length journal.entries → IsReceived (logged logs) place)
+    × All IsInOrder (logged logs)
+    × ((place : ℕ) → place < length journal.entries → IsReceived (logged logs) place)
     × IsFirstWithout (IsRight journal) (logged logs) session index
 IsFirstAuditFault journal logs NoMemory = Unit {0}
 

@@ -14,7 +14,8 @@ sample_at location_ids values labels spans = record {
 }
 
 -- the parts of a sample stand in the lists
-pub record AreWithin (location_ids : List ℕ) (values : List ℤ) (labels : List Label) (spans : SampleSpans) : Type 0 where
+pub record AreWithin (location_ids : List ℕ) (values : List ℤ) (labels : List Label) (spans : SampleSpans)
+    : Type 0 where
   pub location_ids_are : IsWithin location_ids spans.location_ids
   pub values_are : IsWithin values spans.values
   pub labels_are : IsWithin labels spans.labels

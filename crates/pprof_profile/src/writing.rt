@@ -146,7 +146,8 @@ pub(crate) fn write_messages<M: Written>(
     write_each(alloc, out, number, items.as_slice(), spare)
 }
 
-/// Appends a field for each message that is lent. One buffer serves for all of them, and one for what is nested in each.
+/// Appends a field for each message that is lent. One buffer serves for all of them, and one for what is nested in
+/// each.
 pub(crate) fn write_each<M: Written>(
     alloc: Global,
     out: &mut Vec<u8>,

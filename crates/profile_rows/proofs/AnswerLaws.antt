@@ -1,4 +1,5 @@
 -- Every answer depends on the aggregate of the rows alone.
+use Rattle.std.proofs.lemmas.Grind.{common_steps}
 use Rattle.std.proofs.Common.{◌≡◌, ℕ, ◌+◌, ◌<◌, Bool, true, false, cond, ◌||◌, ◌&&◌, List, [], ◌∷◌, ◌++◌, length, map}
 use Rattle.std.proofs.Common.{filter, Option, refl, sym, ap, ◌∙◌, arith, zero-add}
 use Rattle.std.specs.Prelude.{nat_lt}
@@ -48,31 +49,13 @@ weight_where-kept : (focus ignored : Option (List ℕ)) (test : List (List ℕ) 
     ≡ weight_where (λ stack. is_kept focus ignored stack && test stack) rows
 weight_where-kept focus ignored test [] = refl
 weight_where-kept focus ignored test (row ∷ rows) =
-    let rest = weight_where-kept focus ignored test rows in
-    let all = sum_by-cons (weight_if (λ stack. is_kept focus ignored stack && test stack)) row rows in
-    elim (is_kept focus ignored row.stack) as (λ b. is_kept focus ignored row.stack ≡ b
-    → weight_where test (cond b (row ∷ kept_rows focus ignored rows) (kept_rows focus ignored rows))
-    ≡ weight_where (λ stack. is_kept focus ignored stack && test stack) (row ∷ rows)) [
-      | true ↦ λ e.
-          let cons = sum_by-cons (weight_if test) row (kept_rows focus ignored rows) in
-          let here : weight_if (λ stack. is_kept focus ignored stack && test stack) row ≡ weight_if test row =
-          ap (λ b. cond (b && test row.stack) row.weight 0) e in
-          omega arith
-      | false ↦ λ e.
-          let none : weight_if (λ stack. is_kept focus ignored stack && test stack) row ≡ 0 =
-          ap (λ b. cond (b && test row.stack) row.weight 0) e in
-          omega arith
-    ] refl
+    grind (arith, common_steps, sum_by-cons, weight_where-kept focus ignored test rows)
 
 pub kept_rows-same : (focus ignored : Option (List ℕ)) (rows others : List WeightedStack)
     → aggregate_of rows ≡ aggregate_of others
     → aggregate_of (kept_rows focus ignored rows) ≡ aggregate_of (kept_rows focus ignored others)
 kept_rows-same focus ignored rows others same =
-    aggregate_of-same (kept_rows focus ignored rows) (kept_rows focus ignored others)
-    (λ stack.
-    weight_where-kept focus ignored (is_same_stack stack) rows
-    ∙ weight_where-same (λ s. is_kept focus ignored s && is_same_stack stack s) rows others same
-    ∙ sym (weight_where-kept focus ignored (is_same_stack stack) others))
+    grind (arith, common_steps, aggregate_of-same, weight_where-same, weight_where-kept)
 
 -- ---- top lists
 

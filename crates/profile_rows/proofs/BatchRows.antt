@@ -1,4 +1,5 @@
 -- What every row of a batch is.
+use Rattle.std.proofs.lemmas.Grind.{common_steps}
 use Rattle.std.proofs.Common.{ℕ, ◌^◌, ◌<◌, ◌≤◌, List, [], ◌∷◌, length, get_or, arith}
 use Rattle.std.specs.List.{All}
 use Rattle.std.proofs.lemmas.List.Sums.{sum_by-cons}
@@ -21,7 +22,4 @@ weight-le-total rows k d lt = le rows k d lt
 -- what a batch's rows are, from their stacks and their total
 pub all_batch_rows : (rows : List WeightedStack) → All (λ (row : WeightedStack). All IsName row.stack
     × (length row.stack ≤ 65535)) rows → total_of rows < 2 ^ 63 → All IsBatchRow rows
-all_batch_rows rows each fits k d lt =
-    let stack = each k d lt in
-    let light = weight-le-total rows k d lt in
-    record { names = stack.0; depth = stack.1; fits = omega arith }
+all_batch_rows rows each fits k d lt = grind (arith, common_steps, weight-le-total)

@@ -1,5 +1,6 @@
 -- The names of a profile's texts.
-use Rattle.std.proofs.Common.{◌≡◌, ◌≢◌, ℕ, ◌+◌, ◌/◌, ◌%◌, ◌<◌, ◌≤◌, true, List, [], ◌∷◌, length, map, refl, sym, ap}
+use Rattle.std.proofs.lemmas.Grind.{common_steps}
+use Rattle.std.proofs.Common.{◌≡◌, ◌≢◌, ℕ, ◌<◌, ◌≤◌, true, List, [], ◌∷◌, length, map, refl, sym, ap}
 use Rattle.std.proofs.Common.{◌∙◌, subst, arith, ◌⊎◌, inl, inr}
 use Rattle.std.specs.Prelude.{◌==◌, false, Some}
 use Rattle.std.specs.List.{AllByRecursion}
@@ -15,34 +16,16 @@ use Rattle.profile_rows.specs.Names.{IsName, cleaned_byte, cleaned_name_of}
 -- what becomes of a byte
 cleaned-cases : (byte : ℕ) → ((byte ≡ 59) × (cleaned_byte byte ≡ 58))
     ⊎ (((byte ≡ 10) × (cleaned_byte byte ≡ 32)) ⊎ ((byte ≢ 59) × (byte ≢ 10) × (cleaned_byte byte ≡ byte)))
-cleaned-cases byte = elim (cases_eq byte 59) [
-  | inl e ↦ inl (e, rw (eq-eqb byte 59 e) refl)
-  | inr other ↦ elim (cases_eq byte 10) [
-    | inl e ↦ inr (inl (e, rw (ne_eqb byte 59 other, eq-eqb byte 10 e) refl))
-    | inr plain ↦ inr (inr (other, plain, rw (ne_eqb byte 59 other, ne_eqb byte 10 plain) refl))
-  ]
-]
+cleaned-cases byte = grind (arith, common_steps, cases_eq, eq-eqb, ne_eqb)
 
 cleaned-no_separator : (byte : ℕ) → cleaned_byte byte ≢ 59
-cleaned-no_separator byte = elim (cleaned-cases byte) [
-  | inl (e, is) ↦ λ h. absurd (omega (arith, is, h))
-  | inr (inl (e, is)) ↦ λ h. absurd (omega (arith, is, h))
-  | inr (inr (other, plain, is)) ↦ λ h. other (sym is ∙ h)
-]
+cleaned-no_separator byte = grind (arith, common_steps, cleaned-cases)
 
 cleaned-no_line_feed : (byte : ℕ) → cleaned_byte byte ≢ 10
-cleaned-no_line_feed byte = elim (cleaned-cases byte) [
-  | inl (e, is) ↦ λ h. absurd (omega (arith, is, h))
-  | inr (inl (e, is)) ↦ λ h. absurd (omega (arith, is, h))
-  | inr (inr (other, plain, is)) ↦ λ h. plain (sym is ∙ h)
-]
+cleaned-no_line_feed byte = grind (arith, common_steps, cleaned-cases)
 
 cleaned-ascii : (byte : ℕ) → byte < 128 → cleaned_byte byte < 128
-cleaned-ascii byte small = elim (cleaned-cases byte) [
-  | inl (e, is) ↦ omega (arith, is)
-  | inr (inl (e, is)) ↦ omega (arith, is)
-  | inr (inr (other, plain, is)) ↦ omega (arith, is, small)
-]
+cleaned-ascii byte small = grind (arith, common_steps, cleaned-cases)
 
 cleaned-plain : (byte : ℕ) → byte ≢ 59 → byte ≢ 10 → cleaned_byte byte ≡ byte
 cleaned-plain byte other plain = rw (ne_eqb byte 59 other, ne_eqb byte 10 plain) refl
@@ -61,25 +44,7 @@ each P (byte ∷ bytes) h = (h byte, each P bytes h)
 -- a character that isn't ASCII has no byte that is
 encode-cleaned : (c : ℕ) → 128 ≤ c → map cleaned_byte (encode c) ≡ encode c
 unfolding encode
-encode-cleaned c high = elim (cases_lt c 2048) [
-  | inl low ↦ rw (le-ltb c 128 high, lt-ltb c 2048 low)
-      (cc (cleaned-high (192 + c / 64) (omega arith), cleaned-high (128 + c % 64) (omega arith)))
-  | inr long ↦ elim (cases_lt c 65536) [
-    | inl low ↦ rw (le-ltb c 128 high, le-ltb c 2048 long, lt-ltb c 65536 low)
-        (cc (
-          cleaned-high (224 + c / 4096) (omega arith),
-          cleaned-high (128 + (c / 64) % 64) (omega arith),
-          cleaned-high (128 + c % 64) (omega arith),
-        ))
-    | inr longest ↦ rw (le-ltb c 128 high, le-ltb c 2048 long, le-ltb c 65536 longest)
-        (cc (
-          cleaned-high (240 + c / 262144) (omega arith),
-          cleaned-high (128 + (c / 4096) % 64) (omega arith),
-          cleaned-high (128 + (c / 64) % 64) (omega arith),
-          cleaned-high (128 + c % 64) (omega arith),
-        ))
-  ]
-]
+encode-cleaned c high = grind (arith, common_steps, cases_lt, le-ltb, lt-ltb, cleaned-high)
 
 pub cleaned-utf8 : (characters : List ℕ) → scalars characters ≡ true → IsUtf8 (map cleaned_byte (encodes characters))
 cleaned-utf8 [] all = IsUtf8-nil

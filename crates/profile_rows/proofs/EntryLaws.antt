@@ -1,4 +1,5 @@
 -- A sum over rows is the sum over the entries of the map that they add up to.
+use Rattle.std.proofs.lemmas.Grind.{common_steps}
 use Rattle.std.proofs.Common.{◌≡◌, ℕ, ◌+◌, Bool, true, false, cond, ◌&&◌, ltb, List, [], ◌∷◌, Some, None, refl, sym, ap}
 use Rattle.std.proofs.Common.{◌∙◌, arith, sum_by, map}
 use Rattle.std.specs.Option.{unwrap_or}
@@ -131,10 +132,7 @@ pub weight_where-entries : (test : List (List ℕ) → Bool) (entries : List Ent
     → weight_where test (map row_of entries) ≡ sum_by (entry_if test) entries
 weight_where-entries test [] = refl
 weight_where-entries test (entry ∷ entries) =
-    let rest = weight_where-entries test entries in
-    let left = sum_by-cons (weight_if test) (row_of entry) (map row_of entries) in
-    let right = sum_by-cons (entry_if test) entry entries in
-    omega (arith, rest, left, right)
+    grind (arith, common_steps, sum_by-cons, weight_where-entries test entries)
 
 pub weight_where-rows_of : (test : List (List ℕ) → Bool) (rows : List WeightedStack)
     → weight_where test (rows_of (aggregate_of rows)) ≡ weight_where test rows

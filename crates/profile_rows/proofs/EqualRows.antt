@@ -1,5 +1,6 @@
 -- `==` decides equality of names, stacks, rows and lists of rows.
-use Rattle.std.proofs.Common.{◌≡◌, ℕ, Bool, true, false, ◌&&◌, ◌-◌, ◌*◌, List, [], ◌∷◌, ◌++◌, length, refl, sym, ap}
+use Rattle.std.proofs.lemmas.Grind.{common_steps}
+use Rattle.std.proofs.Common.{◌≡◌, ℕ, Bool, true, false, ◌&&◌, ◌*◌, List, [], ◌∷◌, ◌++◌, length, refl, sym, ap}
 use Rattle.std.proofs.Common.{◌∙◌, arith, take, drop, length-drop}
 use Rattle.std.specs.Prelude.{◌==◌}
 use Rattle.std.specs.Bool.{Decides, one_answer}
@@ -20,41 +21,22 @@ both_decide false b p q = (λ e. cc, λ pq. p.1 pq.0)
 
 -- a test that decides equality is an equivalence
 pub decided-IsEquivalence : {K : Type 0} {E : K → K → Bool} → ((a b : K) → Decides (E a b) (a ≡ b)) → IsEquivalence E
-decided-IsEquivalence {K} {E} decides = record {
-  refl = λ x. (decides x x).1 refl;
-  symm = λ x y. one_answer (E x y) (E y x) (decides x y) (λ e. sym ((decides y x).0 e), λ e. (decides y x).1 (sym e));
-  congr = λ x y z e. ap (λ w. E w z) ((decides x y).0 e);
-}
+decided-IsEquivalence {K} {E} decides = grind (arith, common_steps)
 
 pub is_same_name-decides : (a b : List ℕ) → Decides (is_same_name a b) (a ≡ b)
 is_same_name-decides = pointwise_decides unsigned_Decides
 
 pub row_eq-decides : (a b : WeightedStack) → Decides (row_eq a b) (a ≡ b)
-row_eq-decides a b =
-    let parts = both_decide (pointwise (pointwise ◌==◌) a.stack b.stack) (a.weight == b.weight)
-    (pointwise_decides is_same_name-decides a.stack b.stack) (unsigned_Decides a.weight b.weight) in (
-      λ e. let same = parts.0 e in λ i. record { stack = same.0 i; weight = same.1 i },
-      λ same. parts.1 (ap (λ (row : WeightedStack). row.stack) same, ap (λ (row : WeightedStack). row.weight) same),
-    )
+row_eq-decides a b = grind (arith, common_steps, pointwise, pointwise_decides, both_decide, is_same_name-decides)
 
 pub rows_eq-decides : (a b : List WeightedStack) → Decides (pointwise row_eq a b) (a ≡ b)
 rows_eq-decides = pointwise_decides row_eq-decides
 
 pub values_eq-decides : (a b : Row) → Decides (values_eq a b) (a ≡ b)
-values_eq-decides a b =
-    let parts = both_decide (pointwise (pointwise ◌==◌) a.stack b.stack) (pointwise ◌==◌ a.weights b.weights)
-    (pointwise_decides is_same_name-decides a.stack b.stack) (is_same_name-decides a.weights b.weights) in (
-      λ e. let same = parts.0 e in λ i. record { stack = same.0 i; weights = same.1 i },
-      λ same. parts.1 (ap (λ (row : Row). row.stack) same, ap (λ (row : Row). row.weights) same),
-    )
+values_eq-decides a b = grind (arith, common_steps, pointwise, pointwise_decides, both_decide, is_same_name-decides)
 
 pub batch_eq-decides : (a b : BatchState) → Decides (batch_eq a b) (a ≡ b)
-batch_eq-decides a b =
-    let parts = both_decide (a.width == b.width) (pointwise values_eq a.rows b.rows)
-    (unsigned_Decides a.width b.width) (pointwise_decides values_eq-decides a.rows b.rows) in (
-      λ e. let same = parts.0 e in λ i. record { width = same.0 i; rows = same.1 i },
-      λ same. parts.1 (ap (λ (batch : BatchState). batch.width) same, ap (λ (batch : BatchState). batch.rows) same),
-    )
+batch_eq-decides a b = grind (arith, common_steps, pointwise, pointwise_decides, both_decide, values_eq-decides)
 
 -- ---- a batch is known by its parts
 
@@ -96,23 +78,15 @@ parts_eq-decides : (totals : List ℕ)
     → Decides
     (parts_eq totals rows values sums others more) (batch_with totals rows values ≡ batch_with sums others more)
 parts_eq-decides totals rows values sums others more parts other_parts =
-    let first = both_decide (length totals == length sums)
-    (pointwise row_eq rows others) (unsigned_Decides (length totals) (length sums)) (rows_eq-decides rows others) in
-    let all = both_decide ((length totals == length sums) && pointwise row_eq rows others)
-    (pointwise ◌==◌ values more) first (is_same_name-decides values more) in (
-      λ e.
-          let same = all.0 e in
-          λ i. record { width = same.0.0 i; rows = with_values (same.0.0 i - 1) (same.0.1 i) (same.1 i) },
-      λ same.
-          let width : length totals ≡ length sums = ap (λ (batch : BatchState). batch.width) same in
-          let rows_same : with_values (length totals - 1) rows values ≡ with_values (length totals - 1) others more =
-          ap (λ (batch : BatchState). batch.rows) same ∙ ap (λ n. with_values (n - 1) others more) (sym width) in
-          let sizes : length more ≡ length others * (length totals - 1) = other_parts.0
-          ∙ ap (λ n. length others * (n - 1)) (sym width) in
-          all.1 (
-            (width, with_values-same_rows _ rows others values more rows_same),
-            with_values-same_values _ rows others values more parts.0 sizes rows_same,
-          ),
+    grind (
+      arith,
+      common_steps,
+      pointwise,
+      both_decide,
+      is_same_name-decides,
+      rows_eq-decides,
+      with_values-same_values,
+      with_values-same_rows,
     )
 
 module _ (totals : List ℕ)

@@ -1,4 +1,5 @@
 -- Four weights for one to four values, and what each value weighs.
+use Rattle.std.proofs.lemmas.Grind.{common_steps}
 use Rattle.std.proofs.Common.{◌≡◌, ℕ, zero, suc, ◌+◌, ◌<◌, ◌≤◌, List, [], ◌∷◌, ◌++◌, length, get_or, refl, sym, ap, ◌∙◌}
 use Rattle.std.proofs.Common.{arith, take, drop, length-append, length-drop}
 use Rattle.profile_rows.specs.Values.{IsPadded, value_of}
@@ -50,13 +51,7 @@ value_of-padded v w weights is =
     sym (value_of-append_zeros (length (take w weights)) v (take w weights)) ∙ ap (value_of v) is.rest
 
 pub four_weights : (w : ℕ) (weights : List ℕ) → IsPadded w weights → length weights ≡ 4
-four_weights w weights is =
-    let few = is.few in
-    let taken = is.taken in
-    let sizes = length-append (take w weights) (drop (length (take w weights)) zeros) in
-    let left = length-drop (length (take w weights)) zeros in
-    let whole = ap length is.rest in
-    omega arith
+four_weights w weights is = grind (arith, common_steps, length-append, length-drop)
 
 -- four weights of which those past the width are 0
 pub IsPadded-weights : (w a b c d : ℕ) → 0 < w → w ≤ 4 → ((v : ℕ) → w ≤ v → value_of v (a ∷ b ∷ c ∷ d ∷ []) ≡ 0)

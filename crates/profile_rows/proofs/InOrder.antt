@@ -1,14 +1,14 @@
 -- Rows in order, each of some weight, are the rows of their own aggregate; and what a query keeps of them is such a
 -- list too.
+use Rattle.std.proofs.lemmas.Grind.{common_steps}
 use Rattle.std.proofs.Common.{◌≡◌, ℕ, suc, ◌+◌, ◌<◌, true, false, cond, ltb, List, [], ◌∷◌, ◌++◌, map, Option, None}
-use Rattle.std.proofs.Common.{Some, refl, sym, ap, ◌∙◌, subst, arith, zero-add}
+use Rattle.std.proofs.Common.{refl, sym, ap, ◌∙◌, subst, arith, zero-add}
 use Rattle.std.specs.Prelude.{T, unwrap_or}
 use Rattle.std.specs.List.{AllByRecursion}
-use Rattle.std.specs.declared.cmp.Ordering.TheVariants.{Less, Equal, Greater}
-use Rattle.std.specs.Ordering.{is_eq, ordering_reverse}
+use Rattle.std.specs.declared.cmp.Ordering.TheVariants.{Less}
 use Rattle.std.specs.FinMap as finite
 use Rattle.std.specs.FinMap.{put, find, is_sorted, entries-insert, get-entries, entries_sorted}
-use Rattle.std.specs.FinMap.Entries.{by_order, below_all}
+use Rattle.std.specs.FinMap.Entries.{below_all}
 use Rattle.std.proofs.lemmas.Bool.{lt-ltb, ltb-true}
 use Rattle.std.proofs.lemmas.List.{append-nil, append_assoc}
 use Rattle.std.proofs.lemmas.List.Elements.{recursion_from_All, All-from_recursion, All-filter}
@@ -51,14 +51,7 @@ Weighs e = 0 < e.1
 put-weighs : (k : List (List ℕ)) (v : ℕ) (es : List Entry)
     → 0 < v → AllByRecursion Weighs es → AllByRecursion Weighs (put stack_cmp k v es)
 put-weighs k v [] some all = (some, tt)
-put-weighs k v (e ∷ es) some all =
-    let rest = put-weighs k v es some all.1 in
-    elim (stack_cmp k e.0) as (λ o. AllByRecursion Weighs
-    (by_order o ((k, v) ∷ e ∷ es) ((e.0, v) ∷ es) (e ∷ put stack_cmp k v es))) [
-      | Less ↦ (some, all)
-      | Equal ↦ (some, all.1)
-      | Greater ↦ (all.0, rest)
-    ]
+put-weighs k v (e ∷ es) some all = grind (arith, common_steps, put-weighs k v es some all.1)
 
 with_row-weighs : (m : Weighted) (row : WeightedStack)
     → AllByRecursion Weighs (finite.entries m) → AllByRecursion Weighs (finite.entries (with_row m row))
@@ -83,10 +76,7 @@ rows-weigh [] all = tt
 rows-weigh (e ∷ es) all = (all.0, rows-weigh es all.1)
 
 pub rows_of-AreWeighty : (rows : List WeightedStack) → AreWeighty (rows_of (aggregate_of rows))
-rows_of-AreWeighty rows =
-    All-from_recursion (λ (row : WeightedStack). 0 < row.weight) (rows_of (aggregate_of rows))
-    (rows-weigh (finite.entries (aggregate_of rows))
-    (with_rows-weighs finite.empty rows (subst (AllByRecursion Weighs) (sym no_entries) tt)))
+rows_of-AreWeighty rows = grind (arith, common_steps, no_entries, All-from_recursion, with_rows-weighs, rows-weigh)
 
 -- ---- what is kept of them
 
@@ -105,17 +95,12 @@ kept_rows-AreWeighty focus ignored rows all = All-filter
 put_last : (k : List (List ℕ)) (v : ℕ) (es : List Entry)
     → AllByRecursion (λ (e : Entry). stack_cmp e.0 k ≡ Less) es → put stack_cmp k v es ≡ es ++ (k, v) ∷ []
 put_last k v [] all = refl
-put_last k v (e ∷ es) all =
-    let above : stack_cmp k e.0 ≡ Greater = stack_cmp_total.antisymm k e.0 ∙ ap ordering_reverse all.0 in
-    ap (λ o. by_order o ((k, v) ∷ e ∷ es) ((e.0, v) ∷ es) (e ∷ put stack_cmp k v es)) above
-    ∙ ap (λ rest. e ∷ rest) (put_last k v es all.1)
+put_last k v (e ∷ es) all = grind (arith, common_steps, stack_cmp_total, put_last k v es all.1)
 
 find_none : (k : List (List ℕ)) (es : List Entry)
     → AllByRecursion (λ (e : Entry). stack_cmp e.0 k ≡ Less) es → find stack_cmp k es ≡ None
 find_none k [] all = refl
-find_none k (e ∷ es) all =
-    let above : stack_cmp k e.0 ≡ Greater = stack_cmp_total.antisymm k e.0 ∙ ap ordering_reverse all.0 in
-    ap (λ o. cond (is_eq o) (Some e.1) (find stack_cmp k es)) above ∙ find_none k es all.1
+find_none k (e ∷ es) all = grind (arith, common_steps, stack_cmp_total, find_none k es all.1)
 
 abbrev AllBefore : List Entry → WeightedStack → Type 0
 AllBefore es row = AllByRecursion (λ (e : Entry). stack_cmp e.0 row.stack ≡ Less) es
@@ -175,8 +160,4 @@ entries_back (row ∷ rows) = ap (λ more. row ∷ more) (entries_back rows)
 pub rows_of-aggregate : (rows : List WeightedStack)
     → IsAscending rows → AreWeighty rows → rows_of (aggregate_of rows) ≡ rows
 rows_of-aggregate rows up all =
-    ap (map row_of)
-    (with_rows-last finite.empty rows (rises rows up) (recursion_from_All (λ (row : WeightedStack). 0 < row.weight)
-    rows all) (subst (λ es. AllByRecursion (AllBefore es) rows) (sym no_entries) (nothing_before rows))
-    ∙ ap (λ es. es ++ map entry rows) no_entries)
-    ∙ entries_back rows
+    grind (arith, common_steps, recursion_from_All, no_entries, rises, with_rows-last, nothing_before, entries_back)

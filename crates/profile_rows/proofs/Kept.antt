@@ -1,6 +1,7 @@
 -- What is kept of rows, row by row.
+use Rattle.std.proofs.lemmas.Grind.{common_steps}
 use Rattle.std.proofs.Common.{◌≡◌, ℕ, ◌+◌, ◌<◌, ◌≤◌, Bool, true, false, cond, List, [], ◌∷◌, ◌++◌, length, get_or, take}
-use Rattle.std.proofs.Common.{Option, None, refl, sym, ap, ◌∙◌, arith}
+use Rattle.std.proofs.Common.{Option, None, refl, ap, ◌∙◌, arith}
 use Rattle.std.proofs.lemmas.List.{take_more}
 use Rattle.std.proofs.lemmas.List.Sums.{sum_by-cons}
 use Rattle.profile_rows.specs.declared.weighted_stacks.WeightedStack.{WeightedStack}
@@ -54,9 +55,7 @@ kept_rows-take : (focus ignored : Option (List ℕ)) (rows : List WeightedStack)
     → kept_rows focus ignored (take (k + 1) rows)
     ≡ cond (is_kept focus ignored row.stack)
     (kept_rows focus ignored (take k rows) ++ row ∷ []) (kept_rows focus ignored (take k rows))
-kept_rows-take focus ignored rows k row lt is =
-    ap (kept_rows focus ignored) (take_more rows k row lt ∙ ap (λ r. take k rows ++ r ∷ []) (sym is))
-    ∙ kept_rows-push focus ignored (take k rows) row
+kept_rows-take focus ignored rows k row lt is = grind (arith, common_steps, take_more, kept_rows-push)
 
 -- one row more that is kept
 pub kept_rows-more : (focus ignored : Option (List ℕ)) (rows : List WeightedStack) (k : ℕ) (row : WeightedStack)

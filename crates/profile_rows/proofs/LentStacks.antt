@@ -1,4 +1,5 @@
 -- The map of lent stacks holds the sum of each value of the rows so far.
+use Rattle.std.proofs.lemmas.Grind.{common_steps}
 use Rattle.std.proofs.Common.{◌≡◌, ℕ, zero, suc, ◌+◌, ◌^◌, ◌<◌, Bool, true, false, cond, List, [], ◌∷◌, ◌++◌, length}
 use Rattle.std.proofs.Common.{Some, take, map, refl, sym, ap, ◌∙◌, subst, arith, sum_by}
 use Rattle.std.specs.Option.{unwrap_or}
@@ -6,11 +7,11 @@ use Rattle.std.specs.Prelude.{T}
 use Rattle.std.specs.Map.{lookup, values_of}
 use Rattle.std.specs.List.{All, AllPairs}
 use Rattle.std.specs.declared.cmp.Ordering.{Ordering}
-use Rattle.std.specs.declared.cmp.Ordering.TheVariants.{Less, Equal, Greater}
-use Rattle.std.specs.Ordering.{is_eq, match_ordering}
+use Rattle.std.specs.declared.cmp.Ordering.TheVariants.{Less}
+use Rattle.std.specs.Ordering.{is_eq}
 use Rattle.std.specs.BTreeMap.{insert_entry}
 use Rattle.std.specs.FinMap.{find, put, is_sorted}
-use Rattle.std.specs.FinMap.Entries.{by_order, below_all, is_sorted-put}
+use Rattle.std.specs.FinMap.Entries.{below_all, is_sorted-put}
 use Rattle.std.proofs.lemmas.List.{map-append, take_more}
 use Rattle.std.proofs.lemmas.List.Sums.{sum_by-take-le}
 use Rattle.std.proofs.lemmas.Map.Views.{All-values-insert_entry}
@@ -60,14 +61,7 @@ pub held-value : (value : ℕ) (none : List ℕ) (stack : List (List ℕ)) (entr
     → value_of value (unwrap_or (lookup (λ key. is_eq (stack_cmp stack key.now)) entries) none)
     ≡ unwrap_or (find stack_cmp stack (by_value value entries)) 0
 held-value value none stack [] zeros = zeros
-held-value value none stack (e ∷ entries) zeros =
-    let rest = held-value value none stack entries zeros in
-    elim (is_same_stack stack e.0.now) as (λ b. value_of value
-    (unwrap_or (cond b (Some e.1) (lookup (λ key. is_eq (stack_cmp stack key.now)) entries)) none)
-    ≡ unwrap_or (cond b (Some (value_of value e.1)) (find stack_cmp stack (by_value value entries))) 0) [
-      | true ↦ refl
-      | false ↦ rest
-    ]
+held-value value none stack (e ∷ entries) zeros = grind (arith, common_steps, held-value value none stack entries zeros)
 
 pub held-width : (width : ℕ) (none : List ℕ) (stack : List (List ℕ)) (entries : List LentEntry) → length none ≡ width
     → All (λ weights. length weights ≡ width) (values_of entries)
@@ -88,23 +82,12 @@ put_lent : (value : ℕ) (entries : List LentEntry) (key : LentStack) (weights :
     → by_value value (insert_entry lent_cmp entries key weights)
     ≡ put stack_cmp key.now (value_of value weights) (by_value value entries)
 put_lent value [] key weights = refl
-put_lent value (e ∷ entries) key weights =
-    elim (stack_cmp key.now e.0.now) as (λ o. by_value value (match_ordering o
-    ((key, weights) ∷ e ∷ entries) ((e.0, weights) ∷ entries) (e ∷ insert_entry lent_cmp entries key weights))
-    ≡ by_order o ((key.now, value_of value weights) ∷ by_value value (e ∷ entries))
-    ((e.0.now, value_of value weights) ∷ by_value value entries)
-    (at_value value e ∷ put stack_cmp key.now (value_of value weights) (by_value value entries))) [
-      | Less ↦ refl
-      | Equal ↦ refl
-      | Greater ↦ ap (λ rest. at_value value e ∷ rest) (put_lent value entries key weights)
-    ]
+put_lent value (e ∷ entries) key weights = grind (arith, common_steps, put_lent value entries key weights)
 
 weight_where-more : (value : ℕ) (test : List (List ℕ) → Bool) (rows : List Row) (row : Row)
     → weight_where test (rows_at value (rows ++ row ∷ []))
     ≡ weight_where test (rows_at value rows) + weight_if test (weighing value row)
-weight_where-more value test rows row =
-    ap (weight_where test) (map-append (weighing value) rows (row ∷ []))
-    ∙ weight_where-push test (rows_at value rows) (weighing value row)
+weight_where-more value test rows row = grind (arith, common_steps, map-append, weight_where-push)
 
 -- a row without a value above 0 changes nothing
 pub HasSums-weightless : (width : ℕ) (rows all : List Row) (row : Row) (entries : List LentEntry)
@@ -215,13 +198,8 @@ ascending_rows (e ∷ entries) up (suc i) (suc j) d before lt =
 -- the rows of the map are those of the aggregate of each value
 pub HasSums-AreRowsOf : (width : ℕ) (rows : List Row) (entries : List LentEntry)
     → HasSums width rows entries → AreRowsOf (aggregates_of rows) (map lent_row entries)
-HasSums-AreRowsOf width rows entries held = record {
-  ascending = ascending_rows entries (held.sorted 0);
-  weighty = weighty_rows entries held.weighty;
-  each = λ value. aggregate_of-same (rows_at value (map lent_row entries)) (rows_at value rows)
-      (λ stack. ap (weight_where (is_same_stack stack)) (rows_at-lent value entries) ∙ weight_where-entries
-      (is_same_stack stack) (by_value value entries) ∙ held.sums value (is_same_stack stack));
-}
+HasSums-AreRowsOf width rows entries held =
+    grind (arith, common_steps, weight_where-entries, aggregate_of-same, rows_at-lent, weighty_rows, ascending_rows)
 
 pub no_weight : (weights : List ℕ) → (HasWeight weights → ⊥) → (value : ℕ) → value_of value weights ≡ 0
 no_weight weights none value = at_most (value_of value weights) (λ above. none (value, above))

@@ -1,5 +1,6 @@
 -- Rows of one stack put together.
-use Rattle.std.proofs.Common.{◌≡◌, ℕ, ◌+◌, ◌^◌, ◌<◌, Bool, true, false, cond, List, [], ◌∷◌, ◌++◌, length, refl}
+use Rattle.std.proofs.lemmas.Grind.{common_steps}
+use Rattle.std.proofs.Common.{◌≡◌, ℕ, ◌+◌, ◌^◌, ◌<◌, Bool, List, [], ◌∷◌, ◌++◌, length}
 use Rattle.std.proofs.Common.{sym, ap, ◌∙◌, arith}
 use Rattle.profile_rows.specs.declared.weighted_stacks.WeightedStack.{WeightedStack}
 use Rattle.profile_rows.specs.Aggregate.{aggregate_of}
@@ -16,45 +17,20 @@ no_row = record { stack = []; weight = 0 }
 added_if : (test : List (List ℕ) → Bool) (stack : List (List ℕ)) (a b : ℕ)
     → weight_if test (record { stack = stack; weight = a + b })
     ≡ weight_if test (record { stack = stack; weight = a }) + weight_if test (record { stack = stack; weight = b })
-added_if test stack a b = elim (test stack) as (λ t. cond t (a + b) 0 ≡ cond t a 0 + cond t b 0) [
-  | true ↦ refl
-  | false ↦ refl
-]
+added_if test stack a b = grind (arith, common_steps)
 
 -- adding to the weight of a row adds a row of its stack
 pub AddsRow-added : (rows : List WeightedStack) (at weight : ℕ) (row : WeightedStack) → at < length rows
     → total_of rows + weight < 2 ^ 63 → row ≡ record { stack = (row_at rows at).stack; weight = weight }
     → AddsRow rows (with_added_at rows at weight) row
-AddsRow-added rows at weight row lt fits is =
-    let row_is : WeightedStack = record { stack = (row_at rows at).stack; weight = weight } in
-    let written : WeightedStack =
-    record { stack = (row_at rows at).stack; weight = (row_at rows at).weight + weight } in
-    let total = sum_by-set (λ (r : WeightedStack). r.weight) rows at written no_row lt in
-    let weight_is : row.weight ≡ weight = ap (λ (r : WeightedStack). r.weight) is in
-    record {
-      weights = λ stack.
-          let moved = weight_where-set (is_same_stack stack) rows at written no_row lt in
-          let split = added_if (is_same_stack stack) (row_at rows at).stack (row_at rows at).weight weight in
-          let own : weight_if (is_same_stack stack) row ≡ weight_if (is_same_stack stack) row_is =
-          ap (weight_if (is_same_stack stack)) is in
-          omega (arith, moved, split, own);
-      total = omega (arith, total, weight_is);
-      fits = omega (arith, fits, weight_is);
-    }
+AddsRow-added rows at weight row lt fits is = grind (arith, common_steps, weight_where-set, sum_by-set, added_if)
 
 -- a row more adds itself
 pub AddsRow-push : (rows all : List WeightedStack) (row : WeightedStack)
     → all ≡ rows ++ row ∷ [] → total_of rows + row.weight < 2 ^ 63 → AddsRow rows all row
-AddsRow-push rows all row is fits = record {
-  weights = λ stack. ap (λ rs. weight_of rs stack) is ∙ weight_where-push (is_same_stack stack) rows row;
-  total = ap total_of is ∙ sum_by_push (λ (r : WeightedStack). r.weight) rows row;
-  fits = fits;
-}
+AddsRow-push rows all row is fits = grind (arith, common_steps, weight_where-push, sum_by_push)
 
 -- ---- a loop that puts rows together
-
-pub AreMergedSoFar-none : (sums : List WeightedStack) → sums ≡ [] → AreMergedSoFar [] sums
-AreMergedSoFar-none sums is = record { weights = λ stack. ap (λ rs. weight_of rs stack) is; total = ap total_of is }
 
 pub AreMergedSoFar-row : (rows all sums new : List WeightedStack) (row : WeightedStack)
     → AreMergedSoFar rows sums → AddsRow sums new row → all ≡ rows ++ row ∷ [] → AreMergedSoFar all new

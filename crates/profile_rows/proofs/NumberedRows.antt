@@ -1,4 +1,5 @@
 -- Names that are numbered as rows are counted.
+use Rattle.std.proofs.lemmas.Grind.{common_steps}
 use Rattle.std.proofs.Common.{◌≡◌, ℕ, zero, suc, ◌+◌, ◌-◌, ◌^◌, ◌<◌, ◌≤◌, Bool, true, false, cond, ◌||◌, List, [], ◌∷◌, ◌++◌}
 use Rattle.std.proofs.Common.{length, map, take, drop, get_or, refl, sym, ap, ◌∙◌, subst, arith, All, Option, Some, replicate}
 use Rattle.std.proofs.Common.{None}
@@ -15,7 +16,6 @@ use Rattle.profile_rows.specs.declared.tallies.Tallies.{Tallies}
 use Rattle.profile_rows.specs.declared.tallies.Tally.{Tally}
 use Rattle.profile_rows.specs.declared.weighted_stacks.WeightedStack.{WeightedStack}
 use Rattle.profile_rows.specs.Names.{IsName, is_same_name}
-use Rattle.profile_rows.specs.Rows.{has_name}
 use Rattle.profile_rows.specs.Tallies.{AreSingle, AreTalliesOf, IsNumberedStack, IsTallyOf}
 use Rattle.profile_rows.specs.Tallies.{tally_at, tally_of}
 use Rattle.profile_rows.specs.TextTables.{names_at, number_in, with_text, with_texts}
@@ -146,24 +146,15 @@ names_at-more : (names more : List (List ℕ)) (numbers : List ℕ) → AllByRec
     (λ number. number < length names) numbers → names_at (names ++ more) numbers ≡ names_at names numbers
 names_at-more names more [] all = refl
 names_at-more names more (number ∷ numbers) all =
-    ap (λ name. name ∷ names_at (names ++ more) numbers) (get_or_append_left names more [] number all.0)
-    ∙ ap (λ ns. slice_index_or names number [] ∷ ns) (names_at-more names more numbers all.1)
+    grind (arith, common_steps, get_or_append_left, names_at-more names more numbers all.1)
 
 -- a name more changes no name of a number
 names_at-with : (names : List (List ℕ)) (name : List ℕ) (numbers : List ℕ) → AllByRecursion
     (λ number. number < length names) numbers → names_at (with_text names name) numbers ≡ names_at names numbers
-names_at-with names name numbers all = elim (list_any
-    (bytes_eq name) names) as (λ b. names_at (cond b names (names ++ name ∷ [])) numbers ≡ names_at names numbers) [
-      | true ↦ refl
-      | false ↦ names_at-more names (name ∷ []) numbers all
-    ]
+names_at-with names name numbers all = grind (arith, common_steps, names_at-more)
 
 length-with : (names : List (List ℕ)) (name : List ℕ) → length names ≤ length (with_text names name)
-length-with names name =
-    elim (list_any (bytes_eq name) names) as (λ b. length names ≤ length (cond b names (names ++ name ∷ []))) [
-      | true ↦ omega arith
-      | false ↦ let more = length-append names (name ∷ []) in omega (arith, more)
-    ]
+length-with names name = grind (arith, common_steps, length-append)
 
 -- the number of a name that was added is below the end
 number_is-within : (names : List (List ℕ)) (name : List ℕ)
@@ -183,34 +174,17 @@ number_is-within names name = elim (list_any (bytes_eq name) names) as (λ b. li
 -- the number of a name that was added is inside
 number_inside : (old new : List (List ℕ)) (name : List ℕ) (number : ℕ)
     → new ≡ with_text old name → number ≡ number_in new name → number < length new
-number_inside old new name number names number_is =
-    let within = number_is-within old name in
-    let size = ap length names in
-    let same = ap (λ ns. number_in ns name) names in
-    omega (arith, within, size, number_is, same)
+number_inside old new name number names number_is = grind (arith, common_steps, number_is-within)
 
 -- a name more changes the name of no number
 at-with : (names : List (List ℕ)) (name : List ℕ) (number : ℕ) → number < length names
     → slice_index_or (with_text names name) number [] ≡ slice_index_or names number []
-at-with names name number lt = elim (list_any (bytes_eq name) names) as (λ b. slice_index_or
-    (cond b names (names ++ name ∷ [])) number [] ≡ slice_index_or names number []) [
-      | true ↦ refl
-      | false ↦ get_or_append_left names (name ∷ []) [] number lt
-    ]
+at-with names name number lt = grind (arith, common_steps, get_or_append_left)
 
 -- a number stays that of its text as a name comes
 number-kept : (names : List (List ℕ)) (name : List ℕ) (number : ℕ)
     → IsNumberOfText names number → IsNumberOfText (with_text names name) number
-number-kept names name number is =
-    let lt = is.inside in
-    let longer = length-with names name in
-    record {
-      inside = omega (arith, lt, longer);
-      own = ap (number_in (with_text names name)) (at-with names name number lt)
-          ∙ number_in-kept names name (slice_index_or names number []) (there_inside names
-          (slice_index_or names number []) (subst (λ n. n < length names) (sym is.own) lt)) ∙ is.own;
-      fits = is.fits;
-    }
+number-kept names name number is = grind (arith, common_steps, number_in-kept, there_inside, length-with, at-with)
 
 pub numbers-kept : (names : List (List ℕ)) (name : List ℕ) (numbers : List ℕ)
     → All (IsNumberOfText names) numbers → All (IsNumberOfText (with_text names name)) numbers
@@ -252,7 +226,8 @@ pub are_own : (texts : List (List ℕ)) (numbers : List ℕ)
     → All (IsNumberOfText texts) numbers → map (number_in texts) (names_at texts numbers) ≡ numbers
 are_own texts [] are = refl
 are_own texts (number ∷ numbers) are =
-    ap (λ n. n ∷ map (number_in texts) (names_at texts numbers)) (All-head (IsNumberOfText texts) number numbers are).own
+    ap (λ n. n ∷ map (number_in texts) (names_at texts numbers))
+    (All-head (IsNumberOfText texts) number numbers are).own
     ∙ ap (λ ns. number ∷ ns) (are_own texts numbers (All-tail (IsNumberOfText texts) number numbers are))
 
 -- texts of numbers are there
@@ -318,10 +293,7 @@ pub all_frames : (frames rest : List (Bor (List ℕ))) (shared i : ℕ)
     → rest ≡ take (length frames - shared) (drop shared frames)
     → length rest ≤ i → shared ≤ length frames → take (shared + i) (texts_of frames) ≡ texts_of frames
 all_frames frames rest shared i is end within =
-    let some = ap length is ∙ length-take-le
-    (length frames - shared) (drop shared frames) (let left = length-drop shared frames in omega (arith, left)) in
-    let long = length-map frames (λ (frame : Bor (List ℕ)). frame.now) in
-    take_all (shared + i) (texts_of frames) (omega (arith, some, end, within, long))
+    grind (arith, common_steps, length-drop, length-map, length-take-le, take_all)
 
 -- the last number and those before it
 last_of : (numbers : List ℕ) → MatchOption (slice_get numbers (length numbers - 1))
@@ -342,9 +314,7 @@ last_of (first ∷ number ∷ numbers) =
     (λ n. (before : List ℕ) × (number ∷ numbers ≡ before ++ n ∷ []))) before (last_of (number ∷ numbers))))
 
 inside_last : (many : ℕ) (before : List ℕ) (number : ℕ) → All (λ n. n < many) (before ++ number ∷ []) → number < many
-inside_last many before number all =
-    let long = length-append before (number ∷ []) in
-    subst (λ n. n < many) (get_or-append_seam before number [] 0) (all (length before) 0 (omega (arith, long)))
+inside_last many before number all = grind (arith, common_steps, length-append, get_or-append_seam)
 
 leaf_of : (names stack : List (List ℕ)) (numbers : List ℕ) (leaf : Option ℕ)
     → names_at names numbers ≡ stack → All (λ n. n < length names) numbers
@@ -362,11 +332,4 @@ leaf_of names stack numbers (Some number) is inside (before, last) = (
 pub row_numbered : (texts stack : List (List ℕ)) (numbers : List ℕ) (leaf : Option ℕ)
     → names_at texts numbers ≡ stack → All (λ number. number < length texts) numbers
     → All IsName stack → leaf ≡ slice_get numbers (length numbers - 1) → IsNumberedStack texts stack numbers leaf
-row_numbered texts stack numbers leaf names inside named last = record {
-  named = named;
-  inside = inside;
-  same = λ name. ap (has_name name) names;
-  last = leaf_of texts stack numbers leaf names inside
-      (subst (λ o. MatchOption o (numbers ≡ []) (λ number. (before : List ℕ) × (numbers ≡ before ++ number ∷ [])))
-      (sym last) (last_of numbers));
-}
+row_numbered texts stack numbers leaf names inside named last = grind (arith, common_steps, last_of, leaf_of)

@@ -1,4 +1,5 @@
 -- A top list is the front of the names' weights in their order, however they were sorted.
+use Rattle.std.proofs.lemmas.Grind.{common_steps}
 use Rattle.std.proofs.Common.{◌≡◌, ◌≢◌, ℕ, ◌+◌, ◌<◌, ◌≤◌, Bool, true, false, cond, ◌||◌, ltb, List, [], ◌∷◌, length}
 use Rattle.std.proofs.Common.{get_or, take, map, filter, max, refl, sym, ap, ◌∙◌, subst, arith, IsPermutation}
 use Rattle.std.specs.Prelude.{IsSorted, nat_lt}
@@ -17,7 +18,7 @@ use Prim.Native.Nat.{zero, suc}
 use Rattle.profile_rows.specs.declared.weighted_stacks.WeightedStack.{WeightedStack}
 use Rattle.profile_rows.specs.Names.{is_same_name}
 use Rattle.profile_rows.specs.Order.{with_member, in_order}
-use Rattle.profile_rows.specs.Rows.{has_name, ends_with_name, weight_if, weight_where, flat_weight_of}
+use Rattle.profile_rows.specs.Rows.{has_name, weight_if, weight_where}
 use Rattle.profile_rows.specs.Rows.{cumulative_weight_of}
 use Rattle.std.proofs.lemmas.List.Folds.{list_any-append}
 use Rattle.profile_rows.specs.TopList.Ranking.{by_flat}
@@ -57,10 +58,7 @@ mark-no : (name : List ℕ) (x : FrameTotal) → is_same_name name x.name ≡ fa
 mark-no name x e = ap (λ b. cond b 1 0) e
 
 mark-apart : (name : List ℕ) (x : FrameTotal) → (name ≡ x.name → ⊥) → mark name x ≡ 0
-mark-apart name x apart = elim (is_same_name name x.name) as (λ b. is_same_name name x.name ≡ b → mark name x ≡ 0) [
-  | true ↦ λ e. absurd (apart (same_from_is_same_name name x.name e))
-  | false ↦ λ e. mark-no name x e
-] refl
+mark-apart name x apart = grind (arith, common_steps, same_from_is_same_name, mark-no)
 
 mark-self : (x : FrameTotal) → mark x.name x ≡ 1
 mark-self x = mark-yes x.name x (is_same_name-self x.name)
@@ -442,11 +440,7 @@ top_list_of-ranked ranking count rows sums ranked are moved sorted =
 
 sums_at-same : (rows others : List WeightedStack) → ((test : List (List ℕ) → Bool)
     → weight_where test rows ≡ weight_where test others) → (name : List ℕ) → sums_at rows name ≡ sums_at others name
-sums_at-same rows others same name =
-    ap (λ n. let sums : FrameTotal = record { name = name; flat = n; cum = cumulative_weight_of rows name } in sums)
-    (same (ends_with_name name))
-    ∙ ap (λ n. let sums : FrameTotal = record { name = name; flat = flat_weight_of others name; cum = n } in sums)
-    (same (has_name name))
+sums_at-same rows others same name = grind (arith, common_steps)
 
 -- have one top list
 pub top_list_of-same : (ranking : Ranking) (count : ℕ) (rows others : List WeightedStack)

@@ -1,6 +1,7 @@
 -- Rows of several values that are kept as stacks with their first values, and the other values in one list.
+use Rattle.std.proofs.lemmas.Grind.{common_steps}
 use Rattle.std.proofs.Common.{◌≡◌, ℕ, zero, suc, ◌+◌, ◌-◌, ◌*◌, ◌^◌, ◌<◌, ◌≤◌, List, [], ◌∷◌, ◌++◌, length, get_or}
-use Rattle.std.proofs.Common.{refl, sym, ap, ◌∙◌, subst, arith, take, drop, length-append, length-drop, take_all}
+use Rattle.std.proofs.Common.{refl, sym, ap, ◌∙◌, subst, arith, take, drop, length-append, length-drop}
 use Rattle.std.proofs.lemmas.List.{drop-append-le, take-append-le, length-take-le, map-append}
 use Rattle.std.specs.List.{All}
 use Rattle.std.proofs.lemmas.List.Sums.{sum_by_push, sum_by-cons}
@@ -37,9 +38,7 @@ pub with_values-push : (m : ℕ) (rows : List WeightedStack) (values : List ℕ)
     → length values ≡ length rows * m → length more ≡ m
     → with_values m (rows ++ row ∷ []) (values ++ more)
     ≡ with_values m rows values ++ (record { stack = row.stack; weights = row.weight ∷ more }) ∷ []
-with_values-push m [] values row more sizes size =
-    ap (λ front. row_with row.stack (row.weight ∷ take m (front ++ more)) ∷ []) (empty_list values (sizes ∙ no_times m))
-    ∙ ap (λ l. row_with row.stack (row.weight ∷ l) ∷ []) (take_all m more (omega arith))
+with_values-push m [] values row more sizes size = grind (arith, common_steps, no_times, empty_list)
 with_values-push m (first ∷ rows) values row more sizes size =
     let times = suc_times (length rows) m in
     let left = length-drop m values in
@@ -68,26 +67,18 @@ row_in-with_values m [] values k d lt = absurd (omega arith)
 row_in-with_values m (row ∷ rows) values zero d lt =
     ap (λ n. row_with row.stack (row.weight ∷ take m (drop n values))) (sym (no_times m))
 row_in-with_values m (row ∷ rows) values (suc k) d lt =
-    let times = suc_times k m in
-    row_in-with_values m rows (drop m values) k d (omega arith)
-    ∙ ap (λ l. row_with (get_or rows k d).stack ((get_or rows k d).weight ∷ take m l))
-    (drops m (k * m) (suc k * m) values times)
+    grind (arith, common_steps, suc_times, drops, row_in-with_values m rows (drop m values) k d (omega arith))
 
 -- ---- totals
 
 pub total_of-push : (value : ℕ) (rows : List Row) (row : Row)
     → total_of (rows_at value (rows ++ row ∷ [])) ≡ total_of (rows_at value rows) + value_of value row.weights
-total_of-push value rows row =
-    ap total_of (map-append (weighing value) rows (row ∷ []))
-    ∙ sum_by_push (λ (row : WeightedStack). row.weight) (rows_at value rows) (weighing value row)
+total_of-push value rows row = grind (arith, common_steps, map-append, sum_by_push)
 
 pub width-with_values : (m : ℕ) (rows : List WeightedStack) (values : List ℕ) → length values ≡ length rows * m
     → All (λ row. length row.weights ≡ m + 1) (with_values m rows values)
 width-with_values m [] values sizes k d lt = absurd (omega arith)
-width-with_values m (row ∷ rows) values sizes zero d lt =
-    let times = suc_times (length rows) m in
-    let front = length-take-le m values (omega arith) in
-    omega arith
+width-with_values m (row ∷ rows) values sizes zero d lt = grind (arith, common_steps, length-take-le, suc_times)
 width-with_values m (row ∷ rows) values sizes (suc k) d lt =
     let times = suc_times (length rows) m in
     let left = length-drop m values in

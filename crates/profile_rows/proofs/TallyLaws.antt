@@ -1,5 +1,6 @@
 -- A row counts each of its names once, and its leaf.
-use Rattle.std.proofs.Common.{◌≡◌, ◌≢◌, ℕ, zero, suc, ◌+◌, ◌^◌, ◌<◌, ◌≤◌, Bool, true, false, cond, eqb, ◌||◌, List, []}
+use Rattle.std.proofs.lemmas.Grind.{common_steps}
+use Rattle.std.proofs.Common.{◌≡◌, ◌≢◌, ℕ, zero, suc, ◌+◌, ◌<◌, ◌≤◌, Bool, true, false, cond, eqb, ◌||◌, List, []}
 use Rattle.std.proofs.Common.{◌∷◌, ◌++◌, length, set, Some, None, refl, sym, ap, ◌∙◌, subst, arith, All}
 use Rattle.std.specs.Prelude.{slice_index_or}
 use Rattle.std.specs.List.{AllByRecursion, IsDistinct}
@@ -28,33 +29,20 @@ abbrev pub zero_tally : Tally
 zero_tally = tally 0 0 0
 
 same_tally : (a b : Tally) → a.flat ≡ b.flat → a.cumulative ≡ b.cumulative → a.row ≡ b.row → a ≡ b
-same_tally a b flat cumulative row =
-    ap (λ n. tally n a.cumulative a.row) flat
-    ∙ ap (λ n. tally b.flat n a.row) cumulative ∙ ap (λ n. tally b.flat b.cumulative n) row
+same_tally a b flat cumulative row = grind (arith, common_steps)
 
 -- ---- the tally of one number
 
 tally_at-set : (tallies : List Tally) (number other : ℕ) (new : Tally) → number < length tallies
     → tally_at (set tallies number new) other ≡ cond (eqb number other) new (tally_at tallies other)
-tally_at-set tallies number other new lt = elim (eqb number other) as (λ b. eqb number other ≡ b
-    → tally_at (set tallies number new) other ≡ cond b new (tally_at tallies other)) [
-      | true ↦ λ e. ap (tally_at (set tallies number new)) (sym (eqb-true number other e))
-          ∙ get_or-set_same tallies number new zero_tally lt
-      | false ↦ λ e. get_or-set_other tallies number other new zero_tally
-          (λ same. false≢true (sym e ∙ eq-eqb number other (sym same)))
-    ] refl
+tally_at-set tallies number other new lt =
+    grind (arith, common_steps, eqb-true, eq-eqb, get_or-set_other, get_or-set_same)
 
 -- a tally that is changed at its number
 changed_at : (old new : List Tally) (number other : ℕ) (change : Tally → Tally)
     → number < length old → new ≡ set old number (change (tally_at old number))
     → tally_at new other ≡ cond (eqb number other) (change (tally_at old other)) (tally_at old other)
-changed_at old new number other change lt written =
-    ap (λ tallies. tally_at tallies other) written ∙ tally_at-set old number other (change (tally_at old number)) lt
-    ∙ elim (eqb number other) as (λ b. eqb number other ≡ b → cond b (change (tally_at old number)) (tally_at old other)
-    ≡ cond b (change (tally_at old other)) (tally_at old other)) [
-      | true ↦ λ e. ap (λ k. change (tally_at old k)) (eqb-true number other e)
-      | false ↦ λ e. refl
-    ] refl
+changed_at old new number other change lt written = grind (arith, common_steps, eqb-true, tally_at-set)
 
 -- ---- the frames of a row
 
@@ -62,17 +50,11 @@ abbrev once_more : Tally → ℕ → ℕ → Tally
 once_more t row weight = tally t.flat (t.cumulative + weight) row
 
 counted_row : (t : Tally) (row weight : ℕ) → (frame_counted t row weight).row ≡ row
-counted_row t row weight =
-    elim (eqb t.row row) as (λ b. eqb t.row row ≡ b → (cond b t (once_more t row weight)).row ≡ row) [
-      | true ↦ λ e. eqb-true t.row row e
-      | false ↦ λ e. refl
-    ] refl
+counted_row t row weight = grind (arith, common_steps, eqb-true)
 
 counted_twice : (t : Tally) (row weight : ℕ)
     → frame_counted (frame_counted t row weight) row weight ≡ frame_counted t row weight
-counted_twice t row weight =
-    let once = frame_counted t row weight in
-    ap (λ b. cond b once (once_more once row weight)) (eq-eqb once.row row (counted_row t row weight))
+counted_twice t row weight = grind (arith, common_steps, eq-eqb, counted_row)
 
 abbrev if_has : Bool → ℕ → ℕ → Tally → Tally
 if_has has row weight t = cond has (frame_counted t row weight) t
@@ -91,46 +73,11 @@ or_false false = refl
 
 pub has_number-push : (numbers : List ℕ) (number other : ℕ)
     → has_number other (numbers ++ number ∷ []) ≡ (has_number other numbers || eqb number other)
-has_number-push numbers number other =
-    list_any-append (λ n. eqb n other) numbers (number ∷ [])
-    ∙ ap (λ b. has_number other numbers || b) (or_false (eqb number other))
-
-pub number_counted : (initial old new : List Tally) (seen next : List ℕ) (number row weight : ℕ)
-    → number < length old → next ≡ seen ++ number ∷ []
-    → ((q : ℕ) → tally_at old q ≡ numbers_counted seen row weight q (tally_at initial q))
-    → new ≡ set old number (frame_counted (tally_at old number) row weight)
-    → (q : ℕ) → tally_at new q ≡ numbers_counted next row weight q (tally_at initial q)
-number_counted initial old new seen next number row weight lt is counted written q =
-    changed_at old new number q (λ t. frame_counted t row weight) lt written
-    ∙ ap (λ t. cond (eqb number q) (frame_counted t row weight) t) (counted q)
-    ∙ one_more (has_number q seen) (eqb number q) row weight (tally_at initial q)
-    ∙ ap (λ b. if_has b row weight (tally_at initial q))
-    (sym (has_number-push seen number q) ∙ ap (has_number q) (sym is))
-
--- a number that the row hasn't had finds the tally as it was
-pub number_fits : (initial old : List Tally) (seen : List ℕ) (number row weight : ℕ)
-    → ((q : ℕ) → tally_at old q ≡ numbers_counted seen row weight q (tally_at initial q))
-    → ((q : ℕ) → q < length initial
-    → (tally_at initial q).row ≢ row → (tally_at initial q).cumulative + weight < 2 ^ 63) → number < length initial
-    → (tally_at old number).row ≢ row → (tally_at old number).cumulative + weight < 2 ^ 63
-number_fits initial old seen number row weight counted fits lt =
-    subst (λ (t : Tally). t.row ≢ row → t.cumulative + weight < 2 ^ 63) (sym (counted number))
-    (elim (has_number number seen) as (λ b. (if_has b row weight (tally_at initial number)).row ≢ row
-    → (if_has b row weight (tally_at initial number)).cumulative + weight < 2 ^ 63) [
-      | true ↦ λ apart. absurd (apart (counted_row (tally_at initial number) row weight))
-      | false ↦ fits number lt
-    ])
+has_number-push numbers number other = grind (arith, common_steps, list_any-append, or_false)
 
 pub numbers_counted-flat : (numbers : List ℕ) (row weight number : ℕ) (t : Tally)
     → (numbers_counted numbers row weight number t).flat ≡ t.flat
-numbers_counted-flat numbers row weight number t =
-    elim (has_number number numbers) as (λ b. (if_has b row weight t).flat ≡ t.flat) [
-      | true ↦ elim (eqb t.row row) as (λ b. (cond b t (once_more t row weight)).flat ≡ t.flat) [
-        | true ↦ refl
-        | false ↦ refl
-      ]
-      | false ↦ refl
-    ]
+numbers_counted-flat numbers row weight number t = grind (arith, common_steps)
 
 -- ---- names by numbers
 
@@ -148,11 +95,7 @@ unfolding IsDistinct
 number_in-own [] number single lt = absurd (omega (arith, lt))
 number_in-own (first ∷ names) zero single lt = ap (λ b. cond b 0 (number_in names first + 1)) (is_same_name-self first)
 number_in-own (first ∷ names) (suc number) single lt =
-    let name = slice_index_or names number [] in
-    let rest = number_in-own names number single.1 (omega (arith, lt)) in
-    let next : number_in names name + 1 ≡ suc number = omega (arith, rest) in
-    ap (λ b. cond b 0 (number_in names name + 1))
-    (turned first name (apart_at first names number (omega (arith, lt)) single.0)) ∙ next
+    grind (arith, common_steps, turned, apart_at, number_in-own names number single.1 (omega (arith, lt)))
 
 -- a name is that of a number where this is its place
 same_number : (names : List (List ℕ)) (q : List ℕ) (number : ℕ) → AreSingle names
@@ -173,8 +116,7 @@ has_numbers : (names : List (List ℕ)) (numbers : List ℕ) (q : List ℕ)
     → has_number (number_in names q) numbers ≡ has_name q (names_at names numbers)
 has_numbers names [] q single all = refl
 has_numbers names (number ∷ numbers) q single all =
-    ap (λ b. b || has_number (number_in names q) numbers) (sym (same_number names q number single all.0))
-    ∙ ap (λ b. is_same_name q (slice_index_or names number []) || b) (has_numbers names numbers q single all.1)
+    grind (arith, common_steps, same_number, has_numbers names numbers q single all.1)
 
 -- ---- a row
 
@@ -214,39 +156,29 @@ row_counted-leaf : (row : WeightedStack) (names : List (List ℕ)) (numbers : Li
     row.weight) (numbers_counted numbers number row.weight (number_in names q) t)
     ≡ row_counted row number q t
 row_counted-leaf row names numbers leaf number q t single this fresh =
-    let (inside, callers, stack) = this.last in
-    let name = slice_index_or names leaf [] in
-    let has : has_number (number_in names q) numbers ≡ has_name q row.stack = has_numbers names numbers q single
-    (recursion_from_All (λ n. n < length names) numbers this.inside) ∙ this.same q in
-    let ends : eqb leaf (number_in names q) ≡ ends_with_name q row.stack = sym (same_number names q leaf single inside)
-    ∙ sym (ap (ends_with_name q) stack ∙ ends_with_name-push q callers name) in
-    let split : has_name q row.stack ≡ (has_name q callers || is_same_name q name) = ap (has_name q) stack
-    ∙ list_any-append (is_same_name q) callers (name ∷ [])
-    ∙ ap (λ b. has_name q callers || b) (or_false (is_same_name q name)) in
-    let last : ends_with_name q row.stack ≡ is_same_name q name = ap (ends_with_name q) stack
-    ∙ ends_with_name-push q callers name in
-    ap (λ b. cond b (leaf_counted (if_has (has_number (number_in names q) numbers) number row.weight t) row.weight)
-    (if_has (has_number (number_in names q) numbers) number row.weight t)) ends
-    ∙ ap (λ b. cond (ends_with_name q row.stack)
-    (leaf_counted (if_has b number row.weight t) row.weight) (if_has b number row.weight t)) has
-    ∙ leaf_after (ends_with_name q row.stack) (has_name q row.stack) t number row.weight fresh
-    (λ is. split ∙ or_right (has_name q callers) (is_same_name q name) (sym last ∙ is))
+    grind (
+      arith,
+      common_steps,
+      recursion_from_All,
+      list_any-append,
+      or_false,
+      same_number,
+      has_numbers,
+      leaf_after,
+      ends_with_name-push,
+      or_right,
+    )
 
 -- the empty stack counts for no name
 row_counted-empty : (row : WeightedStack) (number : ℕ) (name : List ℕ) (t : Tally)
     → row.stack ≡ [] → t ≡ row_counted row number name t
-row_counted-empty row number name t empty =
-    same_tally _ _ (omega arith) (omega arith) refl
-    ∙ ap (λ b. tally_from b false number row.weight t) (sym (ap (ends_with_name name) empty))
-    ∙ ap (λ b. tally_from (ends_with_name name row.stack) b number row.weight t) (sym (ap (has_name name) empty))
+row_counted-empty row number name t empty = grind (arith, common_steps, same_tally)
 
 row_counted-none : (row : WeightedStack) (names : List (List ℕ)) (numbers : List ℕ)
     (number : ℕ) (q : List ℕ) (t : Tally) → AreSingle names → IsNumberedStack names row.stack numbers None
     → numbers_counted numbers number row.weight (number_in names q) t ≡ row_counted row number q t
 row_counted-none row names numbers number q t single this =
-    let has : has_number (number_in names q) numbers ≡ false = has_numbers names numbers q single
-    (recursion_from_All (λ n. n < length names) numbers this.inside) ∙ this.same q ∙ ap (has_name q) this.last in
-    ap (λ b. if_has b number row.weight t) has ∙ row_counted-empty row number q t this.last
+    grind (arith, common_steps, recursion_from_All, has_numbers, row_counted-empty)
 
 -- ---- the tallies of rows, row by row
 
@@ -327,9 +259,7 @@ pub counted-none : (rows : List WeightedStack)
     → ((q : ℕ) → tally_at new.names.items q ≡ numbers_counted numbers
     (old.total + row.weight) row.weight q (tally_at old.names.items q)) → AreTalliesOf (rows ++ row ∷ []) names new
 counted-none rows row names numbers old new are this total many counted =
-    AreTalliesOf-counted rows row names old new this.named are total many (λ q.
-    counted (number_in names q) ∙ row_counted-none row names numbers
-    (old.total + row.weight) q (tally_of names old.names.items q) are.single this)
+    grind (arith, common_steps, row_counted-none, AreTalliesOf-counted)
 
 -- ---- limits
 

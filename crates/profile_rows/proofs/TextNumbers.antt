@@ -1,8 +1,9 @@
 -- Where texts stand, as texts are added.
-use Rattle.std.proofs.Common.{◌≡◌, ℕ, zero, suc, ◌+◌, ◌<◌, ◌≤◌, Bool, true, false, cond, not, ◌||◌, List, [], ◌∷◌}
+use Rattle.std.proofs.lemmas.Grind.{common_steps}
+use Rattle.std.proofs.Common.{◌≡◌, ℕ, zero, suc, ◌+◌, ◌<◌, ◌≤◌, Bool, true, false, cond, ◌||◌, List, [], ◌∷◌}
 use Rattle.std.proofs.Common.{◌++◌, length}
-use Rattle.std.proofs.Common.{take, map, get_or, Some, None, refl, sym, ap, ◌∙◌, arith}
-use Rattle.std.specs.Prelude.{nat_lt, position, slice_index_or, unwrap_or}
+use Rattle.std.proofs.Common.{take, map, get_or, Some, refl, sym, ap, ◌∙◌, arith}
+use Rattle.std.specs.Prelude.{position, slice_index_or, unwrap_or}
 use Rattle.std.specs.List.{list_any, position_or_len}
 use Rattle.std.specs.Str.{bytes_eq}
 use Rattle.indexmap.specs.IndexSet.{insert_key}
@@ -14,10 +15,7 @@ use Rattle.profile_rows.proofs.SameNames.{same_from_is_same_name, is_same_name-s
 
 pub number_in-le : (texts : List (List ℕ)) (text : List ℕ) → number_in texts text ≤ length texts
 number_in-le [] text = omega arith
-number_in-le (first ∷ texts) text =
-    let rest = number_in-le texts text in
-    elim (bytes_eq text first) as (λ b. cond b 0
-    (number_in texts text + 1) ≤ length (first ∷ texts)) [ true ↦ omega arith | false ↦ omega (arith, rest) ]
+number_in-le (first ∷ texts) text = grind (arith, common_steps, number_in-le texts text)
 
 number_in-missing : (texts : List (List ℕ)) (text : List ℕ)
     → list_any (bytes_eq text) texts ≡ false → number_in texts text ≡ length texts
@@ -67,11 +65,7 @@ text_of_number (first ∷ texts) text lt =
 pub any_push : (texts : List (List ℕ)) (text q : List ℕ)
     → list_any (bytes_eq q) (texts ++ text ∷ []) ≡ (list_any (bytes_eq q) texts || bytes_eq q text)
 any_push [] text q = elim (bytes_eq q text) as (λ b. (b || false) ≡ b) [ true ↦ refl | false ↦ refl ]
-any_push (first ∷ texts) text q = elim (bytes_eq q first) as (λ b. (b || list_any (bytes_eq q) (texts ++ text ∷ []))
-    ≡ ((b || list_any (bytes_eq q) texts) || bytes_eq q text)) [
-      | true ↦ refl
-      | false ↦ any_push texts text q
-    ]
+any_push (first ∷ texts) text q = grind (arith, common_steps, any_push texts text q)
 
 number_at_end : (texts : List (List ℕ)) (text : List ℕ)
     → list_any (bytes_eq text) texts ≡ false → number_in (texts ++ text ∷ []) text ≡ length texts
@@ -94,30 +88,13 @@ place_of_text : (items : List (Bor (List ℕ))) (text : List ℕ)
     → position_or_len (λ (item : Bor (List ℕ)). bytes_eq text item.now) items
     ≡ number_in (map (λ (item : Bor (List ℕ)). item.now) items) text
 place_of_text [] text = refl
-place_of_text (first ∷ items) text =
-    let rest = place_of_text items text in
-    elim (bytes_eq text first.now) as (λ b. cond (not b)
-    (1 + position_or_len (λ (item : Bor (List ℕ)). bytes_eq text item.now) items) 0
-    ≡ cond b 0 (number_in (map (λ (item : Bor (List ℕ)). item.now) items) text + 1)) [
-      | true ↦ refl
-      | false ↦ omega (arith, rest)
-    ]
+place_of_text (first ∷ items) text = grind (arith, common_steps, place_of_text items text)
 
 -- what a set of texts answers for a text
 pub number_answered : (items : List (Bor (List ℕ))) (text : List ℕ)
     → unwrap_or (position (λ (item : Bor (List ℕ)). bytes_eq text item.now) items) (length items)
     ≡ number_in (map (λ (item : Bor (List ℕ)). item.now) items) text
-number_answered items text =
-    let place = place_of_text items text in
-    let most = number_in-le (map (λ (item : Bor (List ℕ)). item.now) items) text in
-    let long = length-map items (λ (item : Bor (List ℕ)). item.now) in
-    let at = position_or_len (λ (item : Bor (List ℕ)). bytes_eq text item.now) items in
-    elim (nat_lt at (length items)) as (λ b. nat_lt at (length items) ≡ b
-    → unwrap_or (cond b (Some at) None) (length items)
-    ≡ number_in (map (λ (item : Bor (List ℕ)). item.now) items) text) [
-      | true ↦ λ e. place
-      | false ↦ λ e. grind (arith, e, place, most, long)
-    ] refl
+number_answered items text = grind (arith, common_steps, length-map, number_in-le, place_of_text)
 
 pub list_any-map : {A B : Type 0} (test : B → Bool) (f : A → B) (xs : List A)
     → list_any test (map f xs) ≡ list_any (λ x. test (f x)) xs
@@ -128,27 +105,13 @@ list_any-map test f (x ∷ xs) = ap (λ b. test (f x) || b) (list_any-map test f
 pub position_found : (items : List (Bor (List ℕ))) (text : List ℕ) (at : ℕ)
     → Some at ≡ position (λ (item : Bor (List ℕ)). bytes_eq text item.now) items
     → (at ≡ number_in (map (λ (item : Bor (List ℕ)). item.now) items) text) × (at < length items)
-position_found items text at is =
-    let place = position_or_len (λ (item : Bor (List ℕ)). bytes_eq text item.now) items in
-    elim (nat_lt place (length items)) as (λ b. nat_lt place (length items) ≡ b → Some at ≡ cond b (Some place) None
-    → (at ≡ number_in (map (λ (item : Bor (List ℕ)). item.now) items) text) × (at < length items)) [
-      | true ↦ λ e found. let same : at ≡ place = cc in (same ∙ place_of_text items text, grind (arith, e, same))
-      | false ↦ λ e found. cc
-    ] refl is
+position_found items text at is = grind (arith, common_steps, place_of_text)
 
 -- a text that is lent, put into a set of others
 pub text_inserted : (items : List (Bor (List ℕ))) (item : Bor (List ℕ))
     → map (λ (text : Bor (List ℕ)). text.now) (insert_key (λ (left right : Bor (List ℕ)). bytes_eq left.now right.now)
     items item) ≡ with_text (map (λ (text : Bor (List ℕ)). text.now) items) item.now
-text_inserted items item =
-    let texts = map (λ (text : Bor (List ℕ)). text.now) items in
-    elim (list_any (λ (text : Bor (List ℕ)). bytes_eq item.now text.now) items)
-    as (λ b. map (λ (text : Bor (List ℕ)). text.now) (cond b items (items ++ item ∷ []))
-    ≡ cond b texts (texts ++ item.now ∷ [])) [
-      | true ↦ refl
-      | false ↦ map-append (λ (text : Bor (List ℕ)). text.now) items (item ∷ [])
-    ] ∙ ap (λ b. cond b texts (texts ++ item.now ∷ []))
-    (sym (list_any-map (bytes_eq item.now) (λ (text : Bor (List ℕ)). text.now) items))
+text_inserted items item = grind (arith, common_steps, map-append, list_any-map)
 
 -- ---- texts added in turn
 
@@ -160,29 +123,17 @@ with_texts-append texts (text ∷ more) others = with_texts-append (with_text te
 -- adding a text leaves it the number that it has, or would have
 pub number_in-with : (texts : List (List ℕ)) (text : List ℕ)
     → number_in (with_text texts text) text ≡ number_in texts text
-number_in-with texts text = elim (list_any (bytes_eq text) texts) as (λ b. list_any (bytes_eq text) texts ≡ b
-    → number_in (cond b texts (texts ++ text ∷ [])) text ≡ number_in texts text) [
-      | true ↦ λ e. refl
-      | false ↦ λ e. number_at_end texts text e ∙ sym (number_in-missing texts text e)
-    ] refl
+number_in-with texts text = grind (arith, common_steps, number_in-missing, number_at_end)
 
 -- a text that is there keeps its number as another comes
 pub number_in-kept : (texts : List (List ℕ)) (text q : List ℕ)
     → list_any (bytes_eq q) texts ≡ true → number_in (with_text texts text) q ≡ number_in texts q
-number_in-kept texts text q there = elim (list_any (bytes_eq text) texts) as (λ b. number_in
-    (cond b texts (texts ++ text ∷ [])) q ≡ number_in texts q) [
-      | true ↦ refl
-      | false ↦ number_in-more texts (text ∷ []) q there
-    ]
+number_in-kept texts text q there = grind (arith, common_steps, number_in-more)
 
 -- a text whose number is before the end is there
 pub there_inside : (texts : List (List ℕ)) (text : List ℕ)
     → number_in texts text < length texts → list_any (bytes_eq text) texts ≡ true
-there_inside texts text inside =
-    elim (list_any (bytes_eq text) texts) as (λ b. list_any (bytes_eq text) texts ≡ b → b ≡ true) [
-      | true ↦ λ e. refl
-      | false ↦ λ e. let end = number_in-missing texts text e in absurd (omega (arith, end, inside))
-    ] refl
+there_inside texts text inside = grind (arith, common_steps, number_in-missing)
 
 pub with_text-there : (texts : List (List ℕ)) (text : List ℕ)
     → number_in texts text < length texts → with_text texts text ≡ texts
@@ -191,11 +142,7 @@ with_text-there texts text inside = ap (λ b. cond b texts (texts ++ text ∷ []
 -- a text whose number is not before the end is missing
 pub none_at_end : (texts : List (List ℕ)) (text : List ℕ)
     → length texts ≤ number_in texts text → list_any (bytes_eq text) texts ≡ false
-none_at_end texts text end =
-    elim (list_any (bytes_eq text) texts) as (λ b. list_any (bytes_eq text) texts ≡ b → b ≡ false) [
-      | true ↦ λ e. let inside = number_in-lt texts text e in absurd (omega (arith, end, inside))
-      | false ↦ λ e. refl
-    ] refl
+none_at_end texts text end = grind (arith, common_steps, number_in-lt)
 
 -- ---- a loop over texts that are lent
 
@@ -236,6 +183,4 @@ next_pushed f old new texts next text made pushed same so_far is =
 
 pub next_with : (start old new : List (List ℕ)) (texts next : List (List ℕ)) (text : List ℕ)
     → new ≡ with_text old text → old ≡ with_texts start texts → next ≡ texts ++ text ∷ [] → new ≡ with_texts start next
-next_with start old new texts next text added so_far is =
-    added ∙ ap (λ ts. with_text ts text) so_far
-    ∙ sym (with_texts-append start texts (text ∷ [])) ∙ ap (with_texts start) (sym is)
+next_with start old new texts next text added so_far is = grind (arith, common_steps, with_texts-append)

@@ -1,6 +1,7 @@
 -- The tallies of names show each name that weighs something once.
-use Rattle.std.proofs.Common.{◌≡◌, ℕ, suc, ◌+◌, ◌<◌, ◌≤◌, true, false, cond, List, [], ◌∷◌, ◌++◌, length, take, get_or}
-use Rattle.std.proofs.Common.{refl, sym, ap, ◌∙◌, subst, arith, Some}
+use Rattle.std.proofs.lemmas.Grind.{common_steps}
+use Rattle.std.proofs.Common.{◌≡◌, ℕ, ◌+◌, ◌<◌, ◌≤◌, true, false, cond, List, [], ◌∷◌, ◌++◌, length, take, get_or}
+use Rattle.std.proofs.Common.{refl, sym, ap, ◌∙◌, subst, arith}
 use Rattle.std.specs.Prelude.{filter, map, nat_lt, slice_index_or, unwrap_or}
 use Rattle.std.specs.List.{zip}
 use Rattle.std.specs.List.{All, AllByRecursion, IsDistinct}
@@ -18,9 +19,7 @@ use Rattle.profile_rows.specs.declared.tallies.Tallies.{Tallies}
 use Rattle.profile_rows.specs.declared.tallies.Tally.{Tally}
 use Rattle.profile_rows.specs.declared.weighted_stacks.WeightedStack.{WeightedStack}
 use Rattle.profile_rows.specs.Names.{IsName, is_same_name}
-use Rattle.profile_rows.specs.Rows.{flat_weight_of}
 use Rattle.profile_rows.specs.Tallies.{AreSingle, AreTalliesOf, IsTallyOf, tally_at, tally_of}
-use Rattle.profile_rows.specs.TextTables.{number_in}
 use Rattle.profile_rows.specs.TopList.{AreSumsOf, occurrences, sums_at}
 use Rattle.profile_rows.proofs.SameNames.{same_from_is_same_name}
 use Rattle.profile_rows.proofs.TallyLaws.{number_in-own, zero_tally}
@@ -46,18 +45,7 @@ found_in entries name = unwrap_or (lookup (is_same_name name) entries) zero_tall
 absent : (name : List ℕ) (entries : List Entry)
     → AllByRecursion (λ (e : Entry). is_same_name name e.0 ≡ false) entries → occurrences name (weighted_in entries) ≡ 0
 absent name [] none = refl
-absent name (entry ∷ entries) none =
-    let rest = absent name entries none.1 in
-    elim (nat_lt 0 entry.1.cumulative) as (λ b. occurrences name
-    (cond b (entry_shown entry ∷ weighted_in entries) (weighted_in entries)) ≡ 0) [
-      | true ↦
-          let cons : occurrences name (entry_shown entry ∷ weighted_in entries)
-          ≡ mark name (entry_shown entry) + occurrences name (weighted_in entries) =
-          sum_by-cons (mark name) (entry_shown entry) (weighted_in entries) in
-          let here : mark name (entry_shown entry) ≡ 0 = ap (λ b. cond b 1 0) none.0 in
-          omega arith
-      | false ↦ rest
-    ]
+absent name (entry ∷ entries) none = grind (arith, common_steps, sum_by-cons, absent name entries none.1)
 
 others : (name : List ℕ) (entry : Entry) (entries : List Entry)
     → is_same_name name entry.0 ≡ true → AllByRecursion (λ other. is_same_name entry.0 other ≡ false) (keys_of entries)
@@ -75,34 +63,7 @@ shown_once : (name : List ℕ) (entries : List Entry) → AreSingle (keys_of ent
 unfolding IsDistinct
 shown_once name [] distinct = refl
 shown_once name (entry ∷ entries) distinct =
-    let rest = shown_once name entries distinct.1 in
-    elim (is_same_name name entry.0) as (λ b. is_same_name name entry.0 ≡ b
-    → occurrences name (weighted_in (entry ∷ entries)) ≡ cond
-    (nat_lt 0 (unwrap_or (cond b (Some entry.1) (lookup (is_same_name name) entries)) zero_tally).cumulative) 1 0) [
-      | true ↦ λ is.
-          let none = absent name entries (others name entry entries is distinct.0) in
-          elim (nat_lt 0 entry.1.cumulative) as (λ b. occurrences name
-          (cond b (entry_shown entry ∷ weighted_in entries) (weighted_in entries)) ≡ cond b 1 0) [
-            | true ↦
-                let cons : occurrences name (entry_shown entry ∷ weighted_in entries)
-                ≡ mark name (entry_shown entry) + occurrences name (weighted_in entries) =
-                sum_by-cons (mark name) (entry_shown entry) (weighted_in entries) in
-                let here : mark name (entry_shown entry) ≡ 1 = ap (λ b. cond b 1 0) is in
-                omega arith
-            | false ↦ none
-          ]
-      | false ↦ λ isnt.
-          (elim (nat_lt 0 entry.1.cumulative) as (λ b. occurrences name (cond b (entry_shown
-          entry ∷ weighted_in entries) (weighted_in entries)) ≡ occurrences name (weighted_in entries)) [
-            | true ↦
-                let cons : occurrences name (entry_shown entry ∷ weighted_in entries)
-                ≡ mark name (entry_shown entry) + occurrences name (weighted_in entries) =
-                sum_by-cons (mark name) (entry_shown entry) (weighted_in entries) in
-                let here : mark name (entry_shown entry) ≡ 0 = ap (λ b. cond b 1 0) isnt in
-                omega arith
-            | false ↦ refl
-          ]) ∙ rest
-    ] refl
+    grind (arith, common_steps, sum_by-cons, zero_tally, absent, others, shown_once name entries distinct.1)
 
 -- ---- the entries of names with their tallies
 
@@ -112,12 +73,7 @@ found_zip [] [] name same = refl
 found_zip [] (tally ∷ tallies) name same = absurd (omega (arith, same))
 found_zip (first ∷ names) [] name same = absurd (omega (arith, same))
 found_zip (first ∷ names) (tally ∷ tallies) name same =
-    let next : suc (number_in names name) ≡ number_in names name + 1 = omega arith in
-    elim (is_same_name name first) as (λ b. unwrap_or (cond b (Some tally) (lookup (is_same_name name)
-    (zip names tallies))) zero_tally ≡ tally_at (tally ∷ tallies) (cond b 0 (number_in names name + 1))) [
-      | true ↦ refl
-      | false ↦ found_zip names tallies name (omega (arith, same)) ∙ ap (tally_at (tally ∷ tallies)) next
-    ]
+    grind (arith, common_steps, zero_tally, found_zip names tallies name (omega (arith, same)))
 
 keys_of-zip : (names : List (List ℕ)) (tallies : List Tally)
     → length tallies ≡ length names → keys_of (zip names tallies) ≡ names
@@ -138,23 +94,14 @@ each_found entries distinct k d lt =
 -- what is shown of an entry with the rows' tally is the name's weights in the rows
 sums_from : (rows : List WeightedStack) (last : ℕ) (entry : Entry)
     → IsTallyOf rows last entry.0 entry.1 → entry_shown entry ≡ sums_at rows entry.0
-sums_from rows last entry is =
-    ap (λ n. let sums : FrameTotal = record { name = entry.0; flat = n; cum = entry.1.cumulative } in sums) is.flat
-    ∙ ap (λ n. let sums : FrameTotal = record { name = entry.0; flat = flat_weight_of rows entry.0; cum = n } in sums)
-    is.cumulative
+sums_from rows last entry is = grind (arith, common_steps)
 
 shown_weights : (rows : List WeightedStack) (last : ℕ) (all entries : List Entry) → ((name : List ℕ)
     → IsTallyOf rows last name (found_in all name)) → AllByRecursion (λ (e : Entry). e.1 ≡ found_in all e.0) entries
     → AllByRecursion (λ sums. sums ≡ sums_at rows sums.name) (weighted_in entries)
 shown_weights rows last all [] tallies each = tt
 shown_weights rows last all (entry ∷ entries) tallies each =
-    let rest = shown_weights rows last all entries tallies each.1 in
-    let here = sums_from rows last entry (subst (IsTallyOf rows last entry.0) (sym each.0) (tallies entry.0)) in
-    elim (nat_lt 0 entry.1.cumulative) as (λ b. AllByRecursion (λ sums. sums ≡ sums_at rows sums.name)
-    (cond b (entry_shown entry ∷ weighted_in entries) (weighted_in entries))) [
-      | true ↦ (here, rest)
-      | false ↦ rest
-    ]
+    grind (arith, common_steps, sums_from, shown_weights rows last all entries tallies each.1)
 
 -- the rows' tallies show each name that weighs something once, with its weights
 pub shown-AreSumsOf : (rows : List WeightedStack) (names : List (List ℕ)) (tallies : Tallies)

@@ -83,7 +83,8 @@ impl<'a> NumberedRow<'a> {
         ensures within { result ≤ length frames.now }
         ensures names { self.new.texts ≡ self.old.texts }
         ensures frames { self.new.frames ≡ take result (map (λ frame. frame.now) frames.now) }
-        ensures known { with_texts self.old.texts (take result (map (λ frame. frame.now) frames.now)) ≡ self.old.texts }
+        ensures known { with_texts self.old.texts (take result (map (λ frame. frame.now) frames.now))
+            ≡ self.old.texts }
     {
         let shared = shared_frames(&self.names, self.numbers.as_slice(), frames);
         self.numbers.truncate(shared);
@@ -107,7 +108,8 @@ impl<'a> NumberedRow<'a> {
     ///
     /// `NoMemory`; the row then has the first of these frames, and none of those before that differ.
     pub fn replace(&mut self, frames: &[&'a str]) -> Result<(), NoMemory>
-        ensures names { OnOk result (self.new.texts ≡ with_texts self.old.texts (map (λ frame. frame.now) frames.now)) }
+        ensures names { OnOk result
+            (self.new.texts ≡ with_texts self.old.texts (map (λ frame. frame.now) frames.now)) }
         ensures frames { OnOk result (self.new.frames ≡ map (λ frame. frame.now) frames.now) }
         ensures first { OnErr result ((count : ℕ)
             × (self.new.frames ≡ take count (map (λ frame. frame.now) frames.now))) }

@@ -1,6 +1,6 @@
 -- What is known of each string is true of the string at an index.
-use Rattle.std.proofs.Common.{◌≡◌, ◌+◌, ℕ, zero, suc, Bool, cond, length, nat_lt, Some, None, List, [], ◌∷◌, refl, ap}
-use Rattle.std.proofs.Common.{sym, ◌∙◌}
+use Rattle.std.proofs.lemmas.Grind.{common_steps}
+use Rattle.std.proofs.Common.{arith, ◌≡◌, ℕ, zero, suc, Bool, List, [], ◌∷◌, refl}
 use Rattle.std.specs.Prelude.{ℤ, pos, negsuc, slice_index_or}
 use Rattle.std.specs.List.{position, position_or_len}
 use Rattle.std.proofs.lemmas.List.Recursion.{is_position_or_len}
@@ -22,22 +22,12 @@ pub equal_at-string : (strings : List (List ℕ)) (text : List ℕ) (index : ℤ
 equal_at-string strings text (pos index) = equal_in text strings index
 equal_at-string strings text (negsuc index) = refl
 
-abbrev first_index : (ValueType → Bool) → List ValueType → ℕ
-first_index test [] = 0
-first_index test (kind ∷ kinds) = cond (test kind) 0 (1 + first_index test kinds)
-
 indices_alike : (p q : ValueType → Bool) → ((kind : ValueType) → p kind ≡ q kind)
     → (kinds : List ValueType) → position_or_len p kinds ≡ position_or_len q kinds
-indices_alike p q alike kinds =
-    sym (is_position_or_len (first_index p) p refl (λ kind more. refl) kinds)
-    ∙ is_position_or_len
-    (first_index p) q refl (λ kind more. ap (λ b. cond b 0 (1 + first_index p more)) (alike kind)) kinds
+indices_alike p q alike kinds = grind (arith, common_steps, is_position_or_len)
 
 -- the first sample type of a name, by what is known of each string
 pub position_of_equal : (strings : List (List ℕ)) (text : List ℕ) (kinds : List ValueType)
     → position (λ (kind : ValueType). equal_at (equal_strings strings text) text kind.kind) kinds
     ≡ position (λ (kind : ValueType). bytes_eq (string_at strings kind.kind) text) kinds
-position_of_equal strings text kinds =
-    ap (λ n. cond (nat_lt n (length kinds)) (Some n) None)
-    (indices_alike (λ kind. equal_at (equal_strings strings text) text kind.kind)
-    (λ kind. bytes_eq (string_at strings kind.kind) text) (λ kind. equal_at-string strings text kind.kind) kinds)
+position_of_equal strings text kinds = grind (arith, common_steps, equal_at-string, indices_alike)

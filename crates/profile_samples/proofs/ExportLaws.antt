@@ -1,7 +1,8 @@
 -- The profile of rows is valid, and its rows are those rows.
+use Rattle.std.proofs.lemmas.Grind.{common_steps}
 use Rattle.std.proofs.Common.{◌≡◌, ℕ, zero, suc, ◌+◌, ◌<◌, ◌≤◌, Bool, true, false, cond, ◌||◌, eqb, List, [], ◌∷◌}
 use Rattle.std.proofs.Common.{◌++◌, length, map, refl, sym, ap, ◌∙◌, subst, arith}
-use Rattle.std.specs.Prelude.{⊤, pos, Option, Some, None, ◌==◌, reverse, slice_get, slice_index_or, unwrap_or}
+use Rattle.std.specs.Prelude.{⊤, pos, Option, Some, None, ◌==◌, reverse, slice_get, slice_index_or}
 use Rattle.std.specs.List.{All, AllByRecursion, IsDistinct, list_all, list_any, flat_map}
 use Rattle.std.specs.Str.{bytes_eq}
 use Rattle.std.proofs.lemmas.Bool.{and_parts, eq-eqb, ne_eqb, lt-ltb, false≢true}
@@ -14,18 +15,15 @@ use Rattle.pprof_profile.specs.declared.faults.ProfileFault.{ProfileFault}
 use Rattle.pprof_profile.specs.declared.faults.ProfileFault.TheVariants.{NoStrings, FirstString, StringIndex, ZeroId}
 use Rattle.pprof_profile.specs.declared.faults.ProfileFault.TheVariants.{DoubleId, NoLocation, NoMapping, NoFunction}
 use Rattle.pprof_profile.specs.declared.faults.ProfileFault.TheVariants.{ValueCount}
-use Rattle.pprof_profile.specs.declared.messages.Function.{Function}
-use Rattle.pprof_profile.specs.declared.messages.Location.{Location}
 use Rattle.pprof_profile.specs.Valid.{IsValidDraft, all_index, begins_with_empty, each_has_values, function_ids}
 use Rattle.pprof_profile.specs.Valid.{function_indexes, has_double, is_index, is_known, is_nonempty, location_ids}
 use Rattle.pprof_profile.specs.Valid.{mapping_ids, names_functions, names_locations, names_mappings, no_double_id}
 use Rattle.pprof_profile.specs.Valid.{no_zero_id, sample_indexes, value_type_indexes}
-use Rattle.profile_rows.specs.Names.{IsName, cleaned_name_of, is_same_name}
+use Rattle.profile_rows.specs.Names.{IsName, is_same_name}
 use Rattle.profile_rows.specs.Tallies.{AreSingle}
 use Rattle.profile_rows.specs.Values.{Row, value_of}
 use Rattle.profile_samples.specs.Batches.{AreRowsOfSamples}
-use Rattle.profile_samples.specs.Samples.{IsRowOfSample, address_name, first_name, frames_at, frames_of_id, item_with}
-use Rattle.profile_samples.specs.Samples.{named_by, string_at}
+use Rattle.profile_samples.specs.Samples.{IsRowOfSample, frames_of_id, item_with}
 use Rattle.profile_rows.specs.TextTables.{number_in, with_text, with_texts}
 use Rattle.profile_samples.specs.Export.{KindAndUnit, exported_function, exported_location, exported_profile_of}
 use Rattle.profile_samples.specs.Export.{exported_sample, exported_type, id_in, names_of, profile_with}
@@ -57,19 +55,10 @@ or_left x y e = rw e refl
 
 pub with_text-stands : (texts : List (List ℕ)) (text q : List ℕ)
     → stands_in texts q ≡ true → stands_in (with_text texts text) q ≡ true
-with_text-stands texts text q e =
-    elim (stands_in texts text) as (λ b. stands_in (cond b texts (texts ++ text ∷ [])) q ≡ true) [
-      | true ↦ e
-      | false ↦ any_push texts text q ∙ or_left (stands_in texts q) (bytes_eq q text) e
-    ]
+with_text-stands texts text q e = grind (arith, common_steps, any_push, or_left)
 
 with_text-own : (texts : List (List ℕ)) (text : List ℕ) → stands_in (with_text texts text) text ≡ true
-with_text-own texts text = elim (stands_in texts text) as (λ b. stands_in texts text ≡ b
-    → stands_in (cond b texts (texts ++ text ∷ [])) text ≡ true) [
-      | true ↦ λ e. e
-      | false ↦ λ e. any_push texts text text
-          ∙ or_right (stands_in texts text) (bytes_eq text text) (is_same_name-self text)
-    ] refl
+with_text-own texts text = grind (arith, common_steps, is_same_name-self, any_push, or_right)
 
 pub with_texts-stands : (texts more : List (List ℕ)) (q : List ℕ)
     → stands_in texts q ≡ true → stands_in (with_texts texts more) q ≡ true
@@ -122,12 +111,7 @@ number_in-one (first ∷ texts) a b left right e =
 same_id : (names : List (List ℕ)) (a b : List ℕ)
     → stands_in names a ≡ true → stands_in names b ≡ true → eqb (id_in names a) (id_in names b) ≡ bytes_eq a b
 same_id names a b left right =
-    elim (bytes_eq a b) as (λ t. bytes_eq a b ≡ t → eqb (id_in names a) (id_in names b) ≡ t) [
-      | true ↦ λ e. eq-eqb (id_in names a) (id_in names b) (ap (id_in names) (same_from_is_same_name a b e))
-      | false ↦ λ e. ne_eqb (id_in names a) (id_in names b) (λ same.
-          let one = number_in-one names a b left right (omega (arith, same)) in
-          absurd (false≢true (sym e ∙ ap (bytes_eq a) (sym one) ∙ is_same_name-self a)))
-    ] refl
+    grind (arith, common_steps, eq-eqb, ne_eqb, same_from_is_same_name, is_same_name-self, number_in-one)
 
 known_id : (names sub : List (List ℕ)) (q : List ℕ)
     → stands_in names q ≡ true → AllStand names sub → is_known (map (id_in names) sub) (id_in names q) ≡ stands_in sub q
@@ -186,8 +170,7 @@ functions_index : (names strings sub : List (List ℕ)) → is_nonempty strings 
     → list_all (function_indexes (length strings)) (map (exported_function names strings) sub) ≡ true
 functions_index names strings [] some all = refl
 functions_index names strings (text ∷ sub) some all =
-    rw (is_index-number strings text all.0, is_index-zero strings some, functions_index names strings sub some all.1)
-    refl
+    grind (arith, common_steps, is_index-number, is_index-zero, functions_index names strings sub some all.1)
 
 samples_index : (names : List (List ℕ)) (count : ℕ) (rows : List Row)
     → list_all (sample_indexes count) (map (exported_sample names) rows) ≡ true
@@ -199,10 +182,7 @@ values_each : (names : List (List ℕ)) (count : ℕ) (rows : List Row) → AllB
     (λ row. length row.weights ≡ count) rows → each_has_values count (map (exported_sample names) rows) ≡ true
 values_each names count [] all = refl
 values_each names count (row ∷ rows) all =
-    rw (
-      eq-eqb (length (map pos row.weights)) count (length-map row.weights pos ∙ all.0),
-      values_each names count rows all.1,
-    ) refl
+    grind (arith, common_steps, eq-eqb, length-map, values_each names count rows all.1)
 
 -- the kinds and units of values stand among texts
 abbrev pub UnitsStand : List (List ℕ) → List KindAndUnit → Type 0
@@ -213,9 +193,7 @@ UnitsStand strings (unit ∷ units) =
 types_index : (strings : List (List ℕ)) (units : List KindAndUnit) → UnitsStand strings units
     → list_all (value_type_indexes (length strings)) (map (exported_type strings) units) ≡ true
 types_index strings [] all = refl
-types_index strings (unit ∷ units) all =
-    rw (is_index-number strings unit.0 all.0.0, is_index-number strings unit.1 all.0.1, types_index strings units all.1)
-    refl
+types_index strings (unit ∷ units) all = grind (arith, common_steps, is_index-number, types_index strings units all.1)
 
 units_stand : (strings : List (List ℕ)) (units : List KindAndUnit)
     → ((q : List ℕ) → stands_in (unit_texts units) q ≡ true → stands_in strings q ≡ true) → UnitsStand strings units
@@ -274,11 +252,7 @@ locations_known : (names : List (List ℕ)) (rows : List Row) → AllStand names
     → names_locations (is_known (map (id_in names) names)) (map (exported_sample names) rows) ≡ true
 locations_known names [] whole all = refl
 locations_known names (row ∷ rows) whole all =
-    rw (
-      list_all_reversed (is_known (map (id_in names) names)) (map (id_in names) row.stack)
-          (ids_known names row.stack whole all.0),
-      locations_known names rows whole all.1,
-    ) refl
+    grind (arith, common_steps, list_all_reversed, ids_known, locations_known names rows whole all.1)
 
 pub rows_stand : (names : List (List ℕ)) (rows : List Row) → ((q : List ℕ)
     → stands_in (flat_map (λ row. row.stack) rows) q ≡ true → stands_in names q ≡ true) → RowsStand names rows
@@ -395,9 +369,7 @@ exported_names rows units =
 
 pub export_valid : (rows : List Row) (units : List KindAndUnit)
     → All (λ row. length row.weights ≡ length units) rows → IsValidDraft (exported_profile_of rows units)
-export_valid rows units widths =
-    valid_with (names_of rows) (strings_of units (names_of rows)) rows units (exported_names rows units)
-    (recursion_from_All (λ (row : Row). length row.weights ≡ length units) rows widths)
+export_valid rows units widths = grind (arith, common_steps, recursion_from_All, valid_with, exported_names)
 
 -- ---- the rows of the profile
 
@@ -436,18 +408,7 @@ frame_of_id : (names strings : List (List ℕ)) (rows : List Row) (units : List 
     → AreExported names strings rows units → stands_in names text ≡ true → stands_in strings text ≡ true → IsName text
     → frames_of_id (profile_with names strings rows units) (id_in names text) ≡ text ∷ []
 frame_of_id names strings rows units text this there strung is_name =
-    let draft = profile_with names strings rows units in
-    let function = exported_function names strings text in
-    let location_found = found_by_id (λ (location : Location). location.id)
-    (exported_location names) names names text (λ t. refl) there this.own there in
-    let function_found = found_by_id (λ (function : Function). function.id)
-    (exported_function names strings) names names text (λ t. refl) there this.own there in
-    let named : cleaned_name_of (string_at strings function.name) ≡ Some text =
-    ap cleaned_name_of (text_at strings text strung) ∙ cleaned-name text is_name in
-    ap (frames_at draft) location_found
-    ∙ ap (λ found. unwrap_or (named_by strings found) (address_name 0) ∷ []) function_found
-    ∙ ap (λ name. unwrap_or
-    (first_name name (cleaned_name_of (string_at strings function.system_name))) (address_name 0) ∷ []) named
+    grind (arith, common_steps, cleaned-name, text_at, found_by_id)
 
 flat_of_reversed : (frames_of : ℕ → List (List ℕ)) (id_of : List ℕ → ℕ) (stack : List (List ℕ))
     → AllByRecursion (λ text. frames_of (id_of text) ≡ text ∷ []) stack

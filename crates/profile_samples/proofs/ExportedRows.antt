@@ -1,5 +1,6 @@
 -- Rows that are written as samples when they come: a name keeps its id as more names come.
-use Rattle.std.proofs.Common.{◌≡◌, ℕ, ◌+◌, List, [], ◌∷◌, ◌++◌, map, inl, inr, pos, refl, sym, ap}
+use Rattle.std.proofs.lemmas.Grind.{common_steps}
+use Rattle.std.proofs.Common.{arith, ◌≡◌, ℕ, ◌+◌, List, [], ◌∷◌, ◌++◌, map, inl, inr, pos, refl, sym, ap}
 use Rattle.std.proofs.Common.{◌∙◌, subst}
 use Rattle.std.specs.Prelude.{Err, MatchResult, Ok, Result, reverse}
 use Rattle.std.specs.List.{flat_map}
@@ -10,7 +11,7 @@ use Rattle.std.proofs.lemmas.Grind.{flat_map-append}
 use Rattle.pprof_profile.specs.declared.messages.Sample.{Sample}
 use Rattle.pprof_profile.specs.Canonical.{canonical_bytes_of, sample_bytes, samples_bytes, FitsEach, FitsSample}
 use Rattle.profile_rows.specs.declared.weighted_stacks.WeightedStack.{WeightedStack}
-use Rattle.profile_rows.specs.Values.{Row, rows_at, single, singles, weighing}
+use Rattle.profile_rows.specs.Values.{Row, rows_at, single, singles}
 use Rattle.folded_text.specs.declared.folded.FoldedFault.{FoldedFault}
 use Rattle.folded_text.specs.declared.folded.FoldedFault.TheVariants.{NoMemory}
 use Rattle.folded_text.specs.FoldedText.{IsFoldedText, IsWorkFault}
@@ -25,9 +26,7 @@ use Rattle.profile_rows.proofs.TextNumbers.{number_in-kept, with_texts-append}
 ids_kept : (texts : List (List ℕ)) (text : List ℕ) (stack : List (List ℕ))
     → AllStand texts stack → map (id_in (with_text texts text)) stack ≡ map (id_in texts) stack
 ids_kept texts text [] all = refl
-ids_kept texts text (name ∷ stack) all =
-    ap (λ index. (index + 1) ∷ map (id_in (with_text texts text)) stack) (number_in-kept texts text name all.0)
-    ∙ ap (λ ids. id_in texts name ∷ ids) (ids_kept texts text stack all.1)
+ids_kept texts text (name ∷ stack) all = grind (arith, common_steps, number_in-kept, ids_kept texts text stack all.1)
 
 -- ---- the samples of rows
 
@@ -60,17 +59,7 @@ samples_kept texts (text ∷ more) rows all = samples_kept
     (with_text texts text) more rows (rows_stay texts text rows all) ∙ samples_kept-text texts text rows all
 
 names_push : (rows : List Row) (row : Row) → names_of (rows ++ row ∷ []) ≡ with_texts (names_of rows) row.stack
-names_push rows row =
-    ap (with_texts []) (flat_map-append (λ (r : Row). r.stack) rows (row ∷ []))
-    ∙ ap (λ last. with_texts [] (flat_map (λ (r : Row). r.stack) rows ++ last))
-    (flat_map-cons (λ (r : Row). r.stack) row [] ∙ append-nil row.stack)
-    ∙ with_texts-append [] (flat_map (λ (r : Row). r.stack) rows) row.stack
-
--- no rows yet
-pub AreSamplesOf-none : (names : List (List ℕ)) (samples : List ℕ)
-    → names ≡ [] → samples ≡ samples_bytes [] → AreSamplesOf [] names samples 0
-AreSamplesOf-none names samples none empty =
-    record { names_rows = none; samples_rows = empty; fits_rows = tt; total_rows = refl }
+names_push rows row = grind (arith, common_steps, append-nil, flat_map-cons, flat_map-append, with_texts-append)
 
 fits_joined : (samples more : List Sample)
     → FitsEach FitsSample sample_bytes samples → FitsEach FitsSample sample_bytes more
@@ -115,10 +104,7 @@ AreSamplesOf-push rows row names next samples after ids total sum so_far added n
 pub stacks_first : (rows : List Row)
     → flat_map (λ (r : WeightedStack). r.stack) (rows_at 0 rows) ≡ flat_map (λ (r : Row). r.stack) rows
 stacks_first [] = refl
-stacks_first (row ∷ rows) =
-    flat_map-cons (λ (r : WeightedStack). r.stack) (weighing 0 row) (rows_at 0 rows)
-    ∙ ap (λ names. row.stack ++ names) (stacks_first rows)
-    ∙ sym (flat_map-cons (λ (r : Row). r.stack) row rows)
+stacks_first (row ∷ rows) = grind (arith, common_steps, flat_map-cons, stacks_first rows)
 
 -- ---- what the export answers
 

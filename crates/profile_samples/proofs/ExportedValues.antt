@@ -1,6 +1,7 @@
 -- The values of rows in an export: their kinds and units, and what each is.
+use Rattle.std.proofs.lemmas.Grind.{common_steps}
 use Rattle.std.proofs.Common.{◌≡◌, ℕ, ◌+◌, ◌^◌, ◌<◌, ◌≤◌, List, [], ◌∷◌, ◌++◌, length, take, map, get_or, Some, refl}
-use Rattle.std.proofs.Common.{sym, ap, ◌∙◌, arith}
+use Rattle.std.proofs.Common.{ap, arith}
 use Rattle.std.specs.List.{All, AllByRecursion}
 use Rattle.std.proofs.lemmas.List.{get_or_default, take_more}
 use Rattle.profile_rows.specs.declared.weighted_stacks.WeightedStack.{WeightedStack}
@@ -31,11 +32,7 @@ pub units_more : (start old after : List (List ℕ)) (units : List ValueUnit) (k
     → after ≡ with_text (with_text old (get_or units k no_unit).kind.now) (get_or units k no_unit).unit.now
     → after ≡ with_texts start (unit_texts (pairs_of (take (k + 1) units)))
 units_more start old after units k lt so_far added =
-    let unit = get_or units k no_unit in
-    added ∙ ap (λ texts. with_text (with_text texts unit.kind.now) unit.unit.now) so_far
-    ∙ sym (with_texts-append start (unit_texts (pairs_of (take k units))) (unit.kind.now ∷ unit.unit.now ∷ []))
-    ∙ ap (with_texts start) (sym (texts_push (take k units) unit)
-    ∙ ap (λ us. unit_texts (pairs_of us)) (sym (take_more units k no_unit lt)))
+    grind (arith, common_steps, take_more, with_texts-append, texts_push)
 
 -- the one value is the last one
 pub last_one : (strings : List (List ℕ)) (units : List KindAndUnit)

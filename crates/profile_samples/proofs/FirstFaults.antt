@@ -1,4 +1,5 @@
 -- A profile has one first fault of its samples, want of memory aside.
+use Rattle.std.proofs.lemmas.Grind.{common_steps}
 use Rattle.std.proofs.Common.{◌≡◌, ◌≢◌, ◌⊎◌, ℕ, ◌+◌, ◌<◌, ◌≤◌, List, ◌∷◌, ◌++◌, length, refl, sym, ap, ◌∙◌, inl, inr}
 use Rattle.std.proofs.Common.{subst, arith}
 use Rattle.std.specs.Prelude.{Option, Some, None, Result, Ok, Err, MatchResult, slice_get, is_some}
@@ -34,9 +35,7 @@ Depth-Heavy : (draft : Draft) (first : ℕ) (totals : List ℕ) (number : ℕ) (
     → IsSampleFault draft first totals number sample (Depth x)
     → IsSampleFault draft first totals number sample (Heavy y) → ⊥
 Depth-Heavy draft first totals number sample x y (at, weights, values, deep) (is, row, own, value, lt, heavy) =
-    let fit = own.depth in
-    let same = ap length own.stack in
-    omega (arith, same, fit, deep)
+    grind (arith, common_steps)
 
 one_sample_fault : (draft : Draft) (first : ℕ) (totals : List ℕ) (number : ℕ) (sample : Sample)
     (fault other : BatchFault) → fault ≢ NoMemory → other ≢ NoMemory
@@ -78,11 +77,7 @@ earlier_fault : (most : ℕ) (draft : Draft) (choice : ValueChoice) (fault other
     (a : StandsAtSample most draft choice fault) (b : StandsAtSample most draft choice other) (rest : List Sample)
     → b.before ≡ a.before ++ a.sample ∷ rest → fault ≡ NoMemory
 earlier_fault most draft choice fault other a b rest within =
-    let all = subst (λ ss. AreRowsOfSamples draft a.first a.batch.width ss b.batch.rows) within
-    (rows_of_choice draft choice b.first b.batch.width a.first a.batch.width b.before b.batch.rows
-    b.is_chosen a.is_chosen b.rows_samples) in
-    faultless_among draft a.first a.batch a.totals (length a.before) a.before a.sample rest b.batch.rows fault
-    a.are_totals a.rows_samples all b.is_batch.fits a.there
+    grind (arith, common_steps, faultless_among, rows_of_choice)
 
 one_standing : (most : ℕ) (draft : Draft) (choice : ValueChoice) (fault other : BatchFault) → fault ≢ NoMemory
     → other ≢ NoMemory → StandsAtSample most draft choice fault → StandsAtSample most draft choice other
@@ -140,32 +135,13 @@ as_named most draft choice NoMemory named h = absurd (named refl)
 
 too_wide : (most : ℕ) (draft : Draft) (choice : ValueChoice) (fault other : BatchFault)
     → IsTooWide most draft choice fault → StandsAtSample most draft choice other → ⊥
-too_wide most draft choice fault other (count, first, is, chosen, many) b =
-    let same = same_count draft choice first b.first count b.batch.width chosen b.is_chosen in
-    let few = b.few in
-    omega (arith, same, few, many)
+too_wide most draft choice fault other (count, first, is, chosen, many) b = grind (arith, common_steps, same_count)
 
 pub IsFirstFault-same : (most : ℕ) (draft : Draft) (choice : ValueChoice) (fault other : BatchFault)
     → fault ≢ NoMemory → other ≢ NoMemory → IsFirstFault most draft choice fault
     → IsFirstFault most draft choice other → fault ≡ other
 IsFirstFault-same most draft choice fault other named known ha hb =
-    elim (as_named most draft choice fault named ha) [
-      | inl a ↦ elim (as_named most draft choice other known hb) [
-        | inl b ↦ a.0 ∙ sym b.0
-        | inr (inl b) ↦ absurd (none_some (chosen_types_of draft choice) (b.1, b.0) a.1 b.3)
-        | inr (inr b) ↦ absurd (none_some (chosen_types_of draft choice) (b.first, b.batch.width) a.1 b.is_chosen)
-      ]
-      | inr (inl a) ↦ elim (as_named most draft choice other known hb) [
-        | inl b ↦ absurd (none_some (chosen_types_of draft choice) (a.1, a.0) b.1 a.3)
-        | inr (inl b) ↦ a.2 ∙ ap Width (same_count draft choice a.1 b.1 a.0 b.0 a.3 b.3) ∙ sym b.2
-        | inr (inr b) ↦ absurd (too_wide most draft choice fault other a b)
-      ]
-      | inr (inr a) ↦ elim (as_named most draft choice other known hb) [
-        | inl b ↦ absurd (none_some (chosen_types_of draft choice) (a.first, a.batch.width) b.1 a.is_chosen)
-        | inr (inl b) ↦ absurd (too_wide most draft choice other fault b a)
-        | inr (inr b) ↦ one_standing most draft choice fault other named known a b
-      ]
-    ]
+    grind (arith, common_steps, same_count, one_standing, none_some, as_named, too_wide)
 
 -- ---- what is answered where there is a first fault
 
@@ -188,7 +164,4 @@ only_first_fault P most draft choice (Ok made) batch_of read first some there =
     let (batch, few, is) = batch_of made read in
     some (IsFirstFault-batch most draft choice batch first few is there)
 only_first_fault P most draft choice (Err fault) batch_of read first some there =
-    elim (memory_or_named fault) [
-      | inl none ↦ inl none
-      | inr named ↦ inr (IsFirstFault-same most draft choice fault first named some read there)
-    ]
+    grind (arith, common_steps, IsFirstFault-same, memory_or_named)

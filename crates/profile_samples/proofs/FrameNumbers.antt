@@ -1,5 +1,6 @@
 -- The frames of a profile's locations by numbers.
-use Rattle.std.proofs.Common.{◌≡◌, ◌≢◌, ℕ, zero, suc, ◌+◌, ◌-◌, ◌*◌, ◌<◌, ◌≤◌, inl, inr, drop, take, set, length-append}
+use Rattle.std.proofs.lemmas.Grind.{common_steps}
+use Rattle.std.proofs.Common.{◌≡◌, ◌≢◌, ℕ, zero, suc, ◌+◌, ◌*◌, ◌<◌, ◌≤◌, inl, inr, drop, take, set, length-append}
 use Rattle.std.proofs.Common.{length-set, take-append-drop, Bool, true, false, cond, eqb, ◌||◌, List, [], ◌∷◌, ◌++◌}
 use Rattle.std.proofs.Common.{length, map, get_or, Option, Some, None, refl, sym, ap, ◌∙◌, subst, arith, All}
 use Rattle.std.specs.Prelude.{ℤ, pos, negsuc, MatchOption, is_some, not, reverse, slice_get, slice_index_or, unwrap_or}
@@ -7,12 +8,12 @@ use Rattle.std.specs.Prelude.{if◌then◌else◌}
 use Rattle.std.specs.List.{AllByRecursion, list_any}
 use Rattle.std.specs.Option.{option_and_then, option_map, option_or}
 use Rattle.std.specs.Str.{bytes_eq}
-use Rattle.std.proofs.lemmas.Bool.{cases_eq, cases_lt, false≢true, eqb-true, eq-eqb, ne_eqb}
-use Rattle.std.proofs.lemmas.List.{flat_map_more, get_or-set_other, get_or-set_same, get_or_past, length-map}
+use Rattle.std.proofs.lemmas.Bool.{cases_eq, false≢true, eqb-true, eq-eqb, ne_eqb}
+use Rattle.std.proofs.lemmas.List.{flat_map_more, get_or-set_other, get_or-set_same, length-map}
 use Rattle.std.proofs.lemmas.List.{reverse-append, take_more}
 use Rattle.std.proofs.lemmas.Option.{slice_get-map}
 use Rattle.std.proofs.lemmas.List.Elements.{All-from_recursion, All-set, All-weaker, recursion_from_All}
-use Rattle.std.proofs.lemmas.List.Folds.{length-flat_map-take, list_any-append}
+use Rattle.std.proofs.lemmas.List.Folds.{length-flat_map-take}
 use Rattle.std.proofs.Math.Nat.{mul-suc}
 use Rattle.std.proofs.lemmas.Grind.{flat_map-append}
 use Rattle.pprof_profile.specs.declared.messages.Draft.{Draft}
@@ -31,7 +32,7 @@ use Rattle.profile_rows.specs.TextTables.{names_at}
 use Rattle.profile_rows.specs.TextTables.{number_in, with_text, with_texts}
 use Rattle.profile_rows.proofs.TallyLaws.{has_number-push}
 use Rattle.profile_samples.specs.NameNumbers.{AreFrameNumbers, AreFunctionNumbers, address_names, address_of}
-use Rattle.profile_samples.specs.NameNumbers.{frame_names, index_in, is_at, is_name_of, lacks_name, names_function}
+use Rattle.profile_samples.specs.NameNumbers.{frame_names, is_name_of, lacks_name, names_function}
 use Rattle.profile_samples.specs.NameNumbers.{needs_address, string_names_from}
 use Rattle.profile_samples.specs.NameNumbers.{given, line_number, number_at}
 use Rattle.profile_samples.specs.NameNumbers.{number_by, number_of, numbers_of, numbers_of_id, once_of, string_names}
@@ -73,8 +74,7 @@ numbers_kept : (front back : List (List ℕ)) (names : List (Option (List ℕ)))
 numbers_kept front back [] all = refl
 numbers_kept front back (None ∷ names) all = ap (λ numbers. None ∷ numbers) (numbers_kept front back names all)
 numbers_kept front back (Some name ∷ names) all =
-    ap (λ number. Some number ∷ map (option_map (number_in front)) names) (sym (number_in-withs front back name all.0))
-    ∙ ap (λ numbers. Some (number_in (with_texts front back) name) ∷ numbers) (numbers_kept front back names all.1)
+    grind (arith, common_steps, number_in-withs, numbers_kept front back names all.1)
 
 -- the numbers of strings are there before those of addresses
 pub string_numbers_first : (draft : Draft) → map (option_map (number_in (with_texts [] (given (string_names draft)))))
@@ -95,9 +95,7 @@ number_at-from : (f : List ℕ → ℕ) (functions : List Function) (at : ℕ) (
     ≡ option_map f (cleaned_name_of (slice_index_or strings index []))
 number_at-from f functions at [] zero is = refl
 number_at-from f functions at [] (suc index) is = refl
-number_at-from f functions at (string ∷ strings) zero is =
-    ap (λ b. option_map f (if b then cleaned_name_of string else None))
-    (subst (λ n. names_function functions n ≡ true) (omega arith) is)
+number_at-from f functions at (string ∷ strings) zero is = grind (arith, common_steps)
 number_at-from f functions at (string ∷ strings) (suc index) is =
     number_at-from f functions (at + 1) strings index
     (subst (λ n. names_function functions n ≡ true) (omega arith) is)
@@ -106,9 +104,7 @@ string_number : (draft : Draft) (index : ℤ)
     → ((at : ℕ) → index ≡ pos at → names_function draft.functions at ≡ true)
     → number_at (string_numbers draft) index
     ≡ option_map (number_of draft) (cleaned_name_of (string_at draft.strings index))
-string_number draft (pos index) named =
-    number_at-from (number_of draft) draft.functions 0 draft.strings index
-    (subst (λ n. names_function draft.functions n ≡ true) (omega arith) (named index refl))
+string_number draft (pos index) named = grind (arith, common_steps, number_at-from)
 string_number draft (negsuc index) named = refl
 
 option_or-map : (f : List ℕ → ℕ) (a b : Option (List ℕ))
@@ -120,28 +116,16 @@ number_by-name : (draft : Draft) (function : Function)
     → ((at : ℕ) → function.name ≡ pos at → names_function draft.functions at ≡ true)
     → ((at : ℕ) → function.system_name ≡ pos at → names_function draft.functions at ≡ true)
     → number_by (string_numbers draft) function ≡ option_map (number_of draft) (function_name draft.strings function)
-number_by-name draft function named known =
-    ap (λ n. option_or n (number_at (string_numbers draft) function.system_name))
-    (string_number draft function.name named)
-    ∙ ap (option_or (option_map (number_of draft) (cleaned_name_of (string_at draft.strings function.name))))
-    (string_number draft function.system_name known)
-    ∙ option_or-map (number_of draft) (cleaned_name_of (string_at draft.strings function.name))
-    (cleaned_name_of (string_at draft.strings function.system_name))
+number_by-name draft function named known = grind (arith, common_steps, string_number, option_or-map)
 
 -- a function's names are those of the first of some functions
 named_first : (function : Function) (functions : List Function) (at : ℕ)
     → function.name ≡ pos at → names_function (function ∷ functions) at ≡ true
-named_first function functions at is =
-    or_left (is_name_of function at) (names_function functions at)
-    (or_left (is_at (index_in function.name) at) (is_at (index_in function.system_name) at)
-    (ap (λ index. is_at (index_in index) at) is ∙ eq-eqb at at refl))
+named_first function functions at is = grind (arith, common_steps, eq-eqb, or_left)
 
 known_first : (function : Function) (functions : List Function) (at : ℕ)
     → function.system_name ≡ pos at → names_function (function ∷ functions) at ≡ true
-known_first function functions at is =
-    or_left (is_name_of function at) (names_function functions at)
-    (or_right (is_at (index_in function.name) at) (is_at (index_in function.system_name) at)
-    (ap (λ index. is_at (index_in index) at) is ∙ eq-eqb at at refl))
+known_first function functions at is = grind (arith, common_steps, eq-eqb, or_right, or_left)
 
 named_later : (function : Function) (functions : List Function) (at : ℕ)
     → names_function functions at ≡ true → names_function (function ∷ functions) at ≡ true
@@ -163,40 +147,7 @@ pub function_numbers_are : (draft : Draft) → map (number_by (string_numbers dr
     ≡ map (λ (function : Function). option_map (number_of draft) (function_name draft.strings function)) draft.functions
 function_numbers_are draft = numbers_by-names draft draft.functions (λ at there. there)
 
--- ---- marks of strings
-
--- a mark is set at its index alone
-pub marked_here : (marks : List Bool) (index at : ℕ) → index < length marks
-    → get_or (set marks index true) at false ≡ (get_or marks at false || eqb index at)
-marked_here marks index at lt = elim (cases_eq at index) [
-  | inl same ↦ ap (λ k. get_or (set marks index true) k false) same
-      ∙ get_or-set_same marks index true false lt
-      ∙ sym (or_right (get_or marks at false) (eqb index at) (eq-eqb index at (sym same)))
-  | inr apart ↦ get_or-set_other marks index at true false apart
-      ∙ sym (ap (λ b. get_or marks at false || b) (ne_eqb index at (λ e. apart (sym e)))
-      ∙ or_false_right (get_or marks at false))
-]
-
-pub unmarked_past : (marks : List Bool) (index at : ℕ) → length marks ≤ index → at < length marks
-    → get_or marks at false ≡ (get_or marks at false || eqb index at)
-unmarked_past marks index at past lt =
-    sym (ap (λ b. get_or marks at false || b) (ne_eqb index at (λ e. absurd (omega (arith, e, past, lt))))
-    ∙ or_false_right (get_or marks at false))
-
--- one function more
-pub names_more : (functions : List Function) (function : Function) (at : ℕ) (before between after : Bool)
-    → before ≡ names_function functions at → between ≡ (before || is_at (index_in function.name) at)
-    → after ≡ (between || is_at (index_in function.system_name) at)
-    → after ≡ names_function (functions ++ function ∷ []) at
-names_more functions function at before between after was name system =
-    system ∙ ap (λ b. b || is_at (index_in function.system_name) at) name
-    ∙ or_assoc before (is_at (index_in function.name) at) (is_at (index_in function.system_name) at)
-    ∙ ap (λ b. b || (is_name_of function at)) was
-    ∙ ap (λ b. names_function functions at || b)
-    (sym (or_false_right (is_name_of function at)))
-    ∙ sym (list_any-append
-    (λ (function : Function). is_name_of function at) functions
-    (function ∷ []))
+-- ---- names of strings
 
 -- one string more
 pub strings_more : (functions : List Function) (at : ℕ) (strings : List (List ℕ)) (string : List ℕ)
@@ -205,19 +156,14 @@ pub strings_more : (functions : List Function) (at : ℕ) (strings : List (List 
 strings_more functions at [] string =
     ap (λ n. (if names_function functions n then cleaned_name_of string else None) ∷ []) (omega arith)
 strings_more functions at (first ∷ strings) string =
-    ap (λ names. (if names_function functions at then cleaned_name_of first else None) ∷ names)
-    (strings_more functions (at + 1) strings string
-    ∙ ap (λ n. string_names_from functions (at + 1) strings
-    ++ (if names_function functions n then cleaned_name_of string else None) ∷ []) (omega arith))
+    grind (arith, common_steps, strings_more functions (at + 1) strings string)
 
 -- ---- the names stand among those that are numbered
 
 given-here : (name : List ℕ) (option : Option (List ℕ)) (options : List (Option (List ℕ)))
     → option ≡ Some name → stands_in (given (option ∷ options)) name ≡ true
 given-here name None options e = absurd (false≢true (ap is_some e))
-given-here name (Some other) options e =
-    ap (λ b. b || stands_in (given options) name)
-    (ap (bytes_eq name) (ap (λ o. unwrap_or o name) e) ∙ is_same_name-self name)
+given-here name (Some other) options e = grind (arith, common_steps, is_same_name-self, stands_in)
 
 given-later : (name : List ℕ) (option : Option (List ℕ)) (options : List (Option (List ℕ)))
     → stands_in (given options) name ≡ true → stands_in (given (option ∷ options)) name ≡ true
@@ -229,11 +175,7 @@ string_stands : (functions : List Function) (at : ℕ) (strings : List (List ℕ
     → stands_in (given (string_names_from functions at strings)) name ≡ true
 string_stands functions at [] zero name is e = absurd (false≢true (ap is_some e))
 string_stands functions at [] (suc index) name is e = absurd (false≢true (ap is_some e))
-string_stands functions at (string ∷ strings) zero name is e =
-    given-here name (if names_function functions at then cleaned_name_of string else None)
-    (string_names_from functions (at + 1) strings)
-    (ap (λ b. if b then cleaned_name_of string else None)
-    (subst (λ n. names_function functions n ≡ true) (omega arith) is) ∙ e)
+string_stands functions at (string ∷ strings) zero name is e = grind (arith, common_steps, given-here)
 string_stands functions at (string ∷ strings) (suc index) name is e =
     given-later name (if names_function functions at then cleaned_name_of string else None)
     (string_names_from functions (at + 1) strings)
@@ -326,9 +268,7 @@ locations_stand draft =
 -- ---- numbers of names
 
 pub frame_names-single : (draft : Draft) → AreSingle (frame_names draft)
-frame_names-single draft =
-    single_with (with_texts [] (given (string_names draft))) (given (address_names draft))
-    (single_with [] (given (string_names draft)) none_single)
+frame_names-single draft = grind (arith, common_steps, none_single, single_with)
 
 below : (names frames : List (List ℕ))
     → AllStand names frames → AllByRecursion (λ number. number < length names) (map (number_in names) frames)
@@ -360,11 +300,7 @@ any_there test (first ∷ numbers) number e t =
 any_push : (test : ℕ → Bool) (numbers : List ℕ) (number : ℕ)
     → list_any test (numbers ++ number ∷ []) ≡ (list_any test numbers || test number)
 any_push test [] number = elim (test number) as (λ b. (b || false) ≡ b) [ true ↦ refl | false ↦ refl ]
-any_push test (first ∷ numbers) number = elim (test first) as (λ b. (b || list_any test (numbers ++ number ∷ []))
-    ≡ ((b || list_any test numbers) || test number)) [
-      | true ↦ refl
-      | false ↦ any_push test numbers number
-    ]
+any_push test (first ∷ numbers) number = grind (arith, common_steps, any_push test numbers number)
 
 any_with : (test : ℕ → Bool) (numbers : List ℕ) (number : ℕ)
     → list_any test (with_number numbers number) ≡ (list_any test numbers || test number)
@@ -383,9 +319,7 @@ any_withs : (test : ℕ → Bool) (start numbers : List ℕ)
     → list_any test (with_numbers start numbers) ≡ (list_any test start || list_any test numbers)
 any_withs test start [] = elim (list_any test start) as (λ b. b ≡ (b || false)) [ true ↦ refl | false ↦ refl ]
 any_withs test start (number ∷ numbers) =
-    any_withs test (with_number start number) numbers
-    ∙ ap (λ b. b || list_any test numbers) (any_with test start number)
-    ∙ or_assoc (list_any test start) (test number) (list_any test numbers)
+    grind (arith, common_steps, or_assoc, any_with, any_withs test (with_number start number) numbers)
 
 all_push : (P : ℕ → Type 0) (numbers : List ℕ) (number : ℕ)
     → AllByRecursion P numbers → P number → AllByRecursion P (numbers ++ number ∷ [])
@@ -394,11 +328,7 @@ all_push P (first ∷ numbers) number all p = (all.0, all_push P numbers number 
 
 all_with : (P : ℕ → Type 0) (numbers : List ℕ) (number : ℕ)
     → AllByRecursion P numbers → P number → AllByRecursion P (with_number numbers number)
-all_with P numbers number all p =
-    elim (has_number number numbers) as (λ b. AllByRecursion P (cond b numbers (numbers ++ number ∷ []))) [
-      | true ↦ all
-      | false ↦ all_push P numbers number all p
-    ]
+all_with P numbers number all p = grind (arith, common_steps, all_push)
 
 all_withs : (P : ℕ → Type 0) (start numbers : List ℕ)
     → AllByRecursion P start → AllByRecursion P numbers → AllByRecursion P (with_numbers start numbers)
@@ -412,18 +342,14 @@ any_known : (names : List (List ℕ)) (q : List ℕ) (frames : List (List ℕ)) 
     (λ number. is_same_name q (slice_index_or names number [])) (map (number_in names) frames) ≡ has_name q frames
 any_known names q [] all = refl
 any_known names q (frame ∷ frames) all =
-    ap (λ name. is_same_name q name || list_any (λ number. is_same_name q (slice_index_or names number []))
-    (map (number_in names) frames)) (text_of_number names frame (number_in-lt names frame all.0))
-    ∙ ap (λ b. is_same_name q frame || b) (any_known names q frames all.1)
+    grind (arith, common_steps, number_in-lt, text_of_number, any_known names q frames all.1)
 
 -- the names at the numbers of names are these names
 named_again : (names frames : List (List ℕ)) → AllStand names frames
     → names_at names (map (number_in names) frames) ≡ frames
 named_again names [] all = refl
 named_again names (frame ∷ frames) all =
-    ap (λ name. name ∷ names_at names (map (number_in names) frames))
-    (text_of_number names frame (number_in-lt names frame all.0))
-    ∙ ap (λ more. frame ∷ more) (named_again names frames all.1)
+    grind (arith, common_steps, number_in-lt, text_of_number, named_again names frames all.1)
 
 -- what numbers say of the frames whose they are
 pub record AreNumbersOf (names frames : List (List ℕ)) (numbers : List ℕ) : Type 0 where
@@ -477,12 +403,8 @@ found_in : (draft : Draft) (id : ℕ) (locations : List Location)
     → IsFoundOf draft (frames_at draft (item_with (λ location. location.id) id locations))
     (option_map (numbers_of draft) (item_with (λ location. location.id) id locations))
 found_in draft id [] all = refl
-found_in draft id (location ∷ locations) all = elim (eqb location.id id) as (λ b. IsFoundOf draft
-    (frames_at draft (cond b (Some location) (item_with (λ location. location.id) id locations)))
-    (option_map (numbers_of draft) (cond b (Some location) (item_with (λ location. location.id) id locations)))) [
-      | true ↦ location_numbered draft location.address location.lines all.0
-      | false ↦ found_in draft id locations all.1
-    ]
+found_in draft id (location ∷ locations) all =
+    grind (arith, common_steps, location_numbered, found_in draft id locations all.1)
 
 pub found_numbers : (draft : Draft) (id : ℕ) (found : Option (List ℕ))
     → found ≡ numbers_of_id draft id → IsFoundOf draft (frames_of_id draft id) found
@@ -562,25 +484,6 @@ pub frames-more : (draft : Draft) (ids : List ℕ) (i : ℕ) → i < length ids
 frames-more draft ids i lt = ap (frames_of_ids draft) (take_more ids i 0 lt)
     ∙ sym (flat_map_more (frames_of_id draft) [] (take i ids) (get_or ids i 0))
 
-pub room_left : (draft : Draft) (ids : List ℕ) (i room : ℕ) (numbers : List ℕ) → i < length ids
-    → AreNumbersOf (frame_names draft) (frames_of_id draft (get_or ids i 0)) numbers → length numbers ≤ room
-    → room + length (frames_of_ids draft (take i ids)) ≡ 65535
-    → (room - length numbers) + length (frames_of_ids draft (take (i + 1) ids)) ≡ 65535
-room_left draft ids i room numbers lt this low earlier =
-    let depth = this.depth in
-    let more = ap length (frames-more draft ids i lt)
-    ∙ length-append (frames_of_ids draft (take i ids)) (frames_of_id draft (get_or ids i 0)) in
-    omega (arith, depth, more, low, earlier)
-
-pub room_same : (draft : Draft) (ids : List ℕ) (i room : ℕ) → i < length ids → frames_of_id draft (get_or ids i 0) ≡ []
-    → room + length (frames_of_ids draft (take i ids)) ≡ 65535
-    → room + length (frames_of_ids draft (take (i + 1) ids)) ≡ 65535
-room_same draft ids i room lt none earlier =
-    let empty = ap length none in
-    let more = ap length (frames-more draft ids i lt)
-    ∙ length-append (frames_of_ids draft (take i ids)) (frames_of_id draft (get_or ids i 0)) in
-    omega (arith, empty, more, earlier)
-
 pub room_short : (draft : Draft) (ids : List ℕ) (i room : ℕ) (numbers : List ℕ) → i < length ids
     → AreNumbersOf (frame_names draft) (frames_of_id draft (get_or ids i 0)) numbers → room < length numbers
     → room + length (frames_of_ids draft (take i ids)) ≡ 65535 → 65535 < length (frames_of_ids draft ids)
@@ -602,14 +505,6 @@ leaf_first draft ids i leaf callers lt before here =
     (reverse (callers ++ later), ap reverse all ∙ reverse-append (leaf ∷ []) (callers ++ later))
 
 -- ---- marks
-
-pub fresh_mark : (marks : List ℕ) (mark number : ℕ)
-    → 0 < mark → All (λ before. before < mark) marks → eqb (get_or marks number 0) mark ≡ false
-fresh_mark marks mark number some fresh =
-    ne_eqb (get_or marks number 0) mark (λ same. elim (cases_lt number (length marks)) [
-      | inl lt ↦ let low = fresh number 0 lt in omega (arith, low, same)
-      | inr past ↦ let none = get_or_past marks number 0 past in omega (arith, none, some, same)
-    ])
 
 pub record IsOnceSoFar (before : List ℕ) (count mark : ℕ) (marks once : List ℕ) : Type 0 where
   pub once_is : once ≡ once_of before
@@ -646,14 +541,7 @@ pub once-same : (before next : List ℕ) (count mark number : ℕ) (marks once :
     → IsOnceSoFar before count mark marks once → next ≡ before ++ number ∷ []
     → get_or marks number 0 ≡ mark → IsOnceSoFar next count mark marks once
 once-same before next count mark number marks once so_far is here =
-    let there : has_number number once ≡ true = sym (so_far.seen number) ∙ eq-eqb (get_or marks number 0) mark here in
-    record {
-      once_is = sym (ap (λ b. cond b once (once ++ number ∷ [])) there)
-          ∙ ap (λ ns. with_number ns number) so_far.once_is ∙ sym (ap once_of is ∙ with_numbers-push [] before number);
-      count_is = so_far.count_is;
-      marked = so_far.marked;
-      seen = so_far.seen;
-    }
+    grind (arith, common_steps, eq-eqb, with_numbers-push)
 
 -- ---- lines that lack a name
 
@@ -663,8 +551,7 @@ any_at draft [] index none lt lacks = absurd (omega (arith, lt))
 any_at draft (line ∷ lines) zero none lt lacks =
     or_left (lacks_name draft line) (list_any (lacks_name draft) lines) lacks
 any_at draft (line ∷ lines) (suc index) none lt lacks =
-    or_right (lacks_name draft line) (list_any (lacks_name draft) lines)
-    (any_at draft lines index none (omega (arith, lt)) lacks)
+    grind (arith, common_steps, or_right, any_at draft lines index none (omega (arith, lt)) lacks)
 
 -- a location with a line that lacks a name needs its address
 pub lacking : (draft : Draft) (lines : List Line) (index : ℕ) (none : Line) → index < length lines
@@ -710,30 +597,18 @@ deepest_bounds : (draft : Draft) (deepest : ℕ) (locations : List Location)
     → (id : ℕ) → length (frames_at draft (item_with (λ (location : Location). location.id) id locations)) ≤ deepest
 deepest_bounds draft deepest [] all id = omega arith
 deepest_bounds draft deepest (location ∷ locations) all id =
-    elim (eqb location.id id) as (λ b. length (frames_at draft
-    (cond b (Some location) (item_with (λ (location : Location). location.id) id locations))) ≤ deepest) [
-      | true ↦ let depth =
-          length-map (location_frames draft location) (number_of draft) in let low = all.0 in omega (arith, depth, low)
-      | false ↦ deepest_bounds draft deepest locations all.1 id
-    ]
+    grind (arith, common_steps, length-map, deepest_bounds draft deepest locations all.1 id)
 
 -- a location has no more frames than the deepest
 pub within_deepest : (draft : Draft) (ids : List ℕ) (frames once : List (List ℕ)) (deepest : ℕ)
     (names : List (List ℕ)) → AreFrameNumbers draft ids frames once deepest names
     → (id : ℕ) → length (frames_of_id draft id) ≤ deepest
 within_deepest draft ids frames once deepest names this id =
-    deepest_bounds draft deepest draft.locations
-    (recursion_from_All
-    (λ (numbers : List ℕ). length numbers ≤ deepest) (map (numbers_of draft) draft.locations)
-    (subst (All (λ (numbers : List ℕ). length numbers ≤ deepest)) this.frames_are this.depths)) id
+    grind (arith, common_steps, recursion_from_All, deepest_bounds)
 
 -- so many locations have no more frames than so many of the deepest
 pub all_within : (draft : Draft) (deepest : ℕ) → ((id : ℕ) → length (frames_of_id draft id) ≤ deepest)
     → (ids : List ℕ) → length (frames_of_ids draft ids) ≤ deepest * length ids
 all_within draft deepest each [] = omega arith
 all_within draft deepest each (id ∷ ids) =
-    let here = each id in
-    let rest = all_within draft deepest each ids in
-    let both = length-append (frames_of_id draft id) (frames_of_ids draft ids) in
-    let product = mul-suc deepest (length ids) in
-    omega (arith, here, rest, both, product)
+    grind (arith, common_steps, mul-suc, length-append, all_within draft deepest each ids)

@@ -1,7 +1,8 @@
 -- Items by their ids, and addresses as names.
+use Rattle.std.proofs.lemmas.Grind.{common_steps}
 use Rattle.std.proofs.Common.{◌≡◌, ◌≢◌, ℕ, zero, suc, ◌/◌, ◌%◌, ◌<◌, ◌≤◌, Bool, true, false, eqb, List, [], ◌∷◌, map}
 use Rattle.std.proofs.Common.{refl, sym, ap, ◌∙◌, arith, inl, inr}
-use Rattle.std.specs.Prelude.{Option, Some, None, slice_get, ◌||◌, ◌&&◌, not, MatchOption, is_some, unwrap_or, cond}
+use Rattle.std.specs.Prelude.{Option, Some, None, slice_get, ◌||◌, not, MatchOption, is_some, unwrap_or, cond}
 use Rattle.std.specs.List.{AllByRecursion}
 use Rattle.std.specs.Fmt.{digits, digits_onto, digit_glyph}
 use Rattle.std.specs.Option.{option_and_then}
@@ -11,10 +12,8 @@ use Rattle.std.proofs.lemmas.Str.{IsUtf8-from_ascii}
 use Rattle.std.proofs.lemmas.Str.Ascii.{IsAscii-from_all}
 use Rattle.pprof_profile.specs.declared.messages.Draft.{Draft}
 use Rattle.pprof_profile.specs.declared.faults.ProfileFault.{ProfileFault}
-use Rattle.pprof_profile.specs.Valid.{IsValidDraft, all_index, begins_with_empty, function_ids, has_double, is_known}
-use Rattle.pprof_profile.specs.Valid.{is_nonempty, location_ids, mapping_ids, no_double_id, no_zero_id}
-use Rattle.pprof_profile.specs.declared.faults.ProfileFault.TheVariants.{NoStrings, FirstString, StringIndex, ZeroId}
-use Rattle.pprof_profile.specs.declared.faults.ProfileFault.TheVariants.{DoubleId}
+use Rattle.pprof_profile.specs.Valid.{IsValidDraft, function_ids, has_double, is_known}
+use Rattle.pprof_profile.specs.Valid.{location_ids}
 use Rattle.profile_rows.specs.Names.{IsName}
 use Rattle.profile_samples.specs.Samples.{address_name, item_with}
 
@@ -79,16 +78,7 @@ not_true false e = refl
 -- in a valid profile the ids of locations differ, and so do those of functions
 pub ids_differ : (draft : Draft)
     → IsValidDraft draft → (has_double (location_ids draft) ≡ false) × (has_double (function_ids draft) ≡ false)
-ids_differ draft valid =
-    let after_strings = (rule_holds (is_nonempty draft.strings) NoStrings _ valid).1 in
-    let after_first = (rule_holds (begins_with_empty draft.strings) FirstString _ after_strings).1 in
-    let after_indices = (rule_holds (all_index draft) StringIndex _ after_first).1 in
-    let after_zeros = (rule_holds (no_zero_id draft) ZeroId _ after_indices).1 in
-    let single = (rule_holds (no_double_id draft) DoubleId _ after_zeros).0 in
-    let front = and_parts (not (has_double (mapping_ids draft)) && not (has_double (location_ids draft)))
-    (not (has_double (function_ids draft))) single in
-    let locations = and_parts (not (has_double (mapping_ids draft))) (not (has_double (location_ids draft))) front.0 in
-    (not_true (has_double (location_ids draft)) locations.1, not_true (has_double (function_ids draft)) front.1)
+ids_differ draft valid = grind (arith, common_steps, and_parts, rule_holds, not_true)
 
 -- ---- addresses
 
@@ -97,10 +87,7 @@ abbrev IsHexadecimal : ℕ → Type 0
 IsHexadecimal byte = (48 ≤ byte) × (byte < 128) × (byte ≢ 59)
 
 glyph : (d : ℕ) → d < 16 → IsHexadecimal (digit_glyph false d)
-glyph d small = elim (cases_lt d 10) [
-  | inl low ↦ rw (lt-ltb d 10 low) (omega arith, omega arith, λ e. absurd (omega (arith, e, low)))
-  | inr high ↦ rw (le-ltb d 10 high) (omega arith, omega arith, λ e. absurd (omega (arith, e, high)))
-]
+glyph d small = grind (arith, common_steps, cases_lt, le-ltb, lt-ltb)
 
 hexadecimal : (k n : ℕ) (more : List ℕ)
     → AllByRecursion IsHexadecimal more → AllByRecursion IsHexadecimal (digits_onto k 16 false n more)
@@ -119,23 +106,7 @@ each_of P Q [] h all = tt
 each_of P Q (byte ∷ bytes) h all = (h byte all.0, each_of P Q bytes h all.1)
 
 prefixed : (bytes : List ℕ) → AllByRecursion IsHexadecimal bytes → IsName (48 ∷ 120 ∷ bytes)
-prefixed bytes all = record {
-  utf8 = IsUtf8-from_ascii (48 ∷ 120 ∷ bytes) (IsAscii-from_all (48 ∷ 120 ∷ bytes) (All-from_recursion (λ b. b < 128)
-      (48 ∷ 120 ∷ bytes) (omega arith, (omega arith, each_of IsHexadecimal (λ b. b < 128) bytes (λ byte h. h.1) all))));
-  not_empty = omega arith;
-  no_separator = All-from_recursion (λ b. b ≢ 59) (48 ∷ 120 ∷ bytes) (
-    (λ e. absurd (omega (arith, e))),
-    ((λ e. absurd (omega (arith, e))), each_of IsHexadecimal (λ b. b ≢ 59) bytes (λ byte h. h.2) all),
-  );
-  no_line_feed = All-from_recursion
-      (λ b. b ≢ 10) (48 ∷ 120 ∷ bytes) (
-        (λ e. absurd (omega (arith, e))),
-        (
-          (λ e. absurd (omega (arith, e))),
-          each_of IsHexadecimal (λ b. b ≢ 10) bytes (λ byte h e. absurd (omega (arith, e, h.0))) all,
-        ),
-      );
-}
+prefixed bytes all = grind (arith, common_steps, All-from_recursion, IsUtf8-from_ascii, IsAscii-from_all, each_of)
 
 pub IsName-address : (address : ℕ) → IsName (address_name address)
 unfolding digits

@@ -1,10 +1,10 @@
 -- What is answered for a profile's samples decides what its rows add up to.
-use Rattle.std.proofs.Common.{◌≡◌, ℕ, ◌+◌, ◌≤◌, ◌++◌, ◌∷◌, [], All, List, ap, sym, refl, ◌∙◌, get_or, length, map}
+use Rattle.std.proofs.lemmas.Grind.{common_steps}
+use Rattle.std.proofs.Common.{◌≡◌, ℕ, ◌≤◌, [], List, ap, sym, ◌∙◌, get_or, length, map}
 use Rattle.std.proofs.Common.{subst, arith}
 use Rattle.std.specs.Prelude.{Result, Ok, Err, MatchResult, Some, position}
 use Rattle.std.specs.Str.{bytes_eq}
-use Rattle.std.proofs.lemmas.List.{get_or-map, length-map, map-append}
-use Rattle.std.proofs.lemmas.List.Elements.{All-push}
+use Rattle.std.proofs.lemmas.List.{get_or-map, length-map}
 use Rattle.std.proofs.Math.Seq.{map-set_same}
 use denote.Ref.{Bor}
 use Rattle.pprof_profile.specs.declared.messages.Draft.{Draft}
@@ -20,7 +20,7 @@ use Rattle.profile_samples.specs.Batches.{AreStacksOf, IsFirstStacksFault}
 use Rattle.profile_samples.specs.CountedSamples.{AreTotalsOfSamples}
 use Rattle.profile_samples.specs.MergedSamples.{AreRowsAt, IsMergedBatch}
 use Rattle.profile_samples.specs.Samples.{sample_stack_of}
-use Rattle.profile_rows.specs.Merging.{IsStackAt, row_at, with_added_at}
+use Rattle.profile_rows.specs.Merging.{IsStackAt, with_added_at}
 use Rattle.profile_rows.proofs.TextNumbers.{no_text, position_found, shown_at, text_of_number}
 use Rattle.profile_samples.proofs.SampleBatches.{AreStacksOf-same, IsFirstFault-batch}
 
@@ -76,22 +76,4 @@ stack_found draft lists rows ids at are is =
 
 pub AreRowsAt-added : (draft : Draft) (lists : List (Bor (List ℕ))) (rows : List WeightedStack) (at weight : ℕ)
     → AreRowsAt draft lists rows → AreRowsAt draft lists (with_added_at rows at weight)
-AreRowsAt-added draft lists rows at weight are = record {
-  stacks = map-set_same stack_in rows at
-      (record { stack = (row_at rows at).stack; weight = (row_at rows at).weight + weight })
-      (record { stack = []; weight = 0 }) refl ∙ are.stacks;
-  depths = are.depths;
-}
-
-pub AreRowsAt-push : (draft : Draft) (lists after : List (Bor (List ℕ))) (ids : Bor (List ℕ))
-    (rows all : List WeightedStack) (weight : ℕ) → after ≡ lists ++ ids ∷ []
-    → all ≡ rows ++ (record { stack = sample_stack_of draft ids.now; weight = weight }) ∷ []
-    → length (sample_stack_of draft ids.now) ≤ 65535 → AreRowsAt draft lists rows → AreRowsAt draft after all
-AreRowsAt-push draft lists after ids rows all weight more is deep are = record {
-  stacks = ap (map stack_in) is
-      ∙ map-append stack_in rows (record { stack = sample_stack_of draft ids.now; weight = weight } ∷ [])
-      ∙ ap (λ stacks. stacks ++ sample_stack_of draft ids.now ∷ []) are.stacks
-      ∙ sym (map-append (stack_at draft) lists (ids ∷ [])) ∙ ap (map (stack_at draft)) (sym more);
-  depths = subst (All (λ (list : Bor (List ℕ)). length (sample_stack_of draft list.now) ≤ 65535)) (sym more)
-      (All-push (λ (list : Bor (List ℕ)). length (sample_stack_of draft list.now) ≤ 65535) lists ids are.depths deep);
-}
+AreRowsAt-added draft lists rows at weight are = grind (arith, common_steps, map-set_same)

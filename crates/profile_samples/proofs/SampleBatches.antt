@@ -37,13 +37,7 @@ pub record AreTaken (values : List ℤ) (first count : ℕ) (weights : List ℕ)
 -- rows keep the limit where those with others do
 room_in : (value : ℕ) (front : List Row) (row : Row) (back rows : List Row) → rows ≡ front ++ row ∷ back
     → total_of (rows_at value rows) < 2 ^ 63 → total_of (rows_at value front) + value_of value row.weights < 2 ^ 63
-room_in value front row back rows cut fits =
-    let total : total_of (rows_at value rows) ≡ total_of (rows_at value front ++ rows_at value (row ∷ back)) =
-    ap (λ some. total_of (rows_at value some)) cut ∙ ap total_of (map-append (weighing value) front (row ∷ back)) in
-    let parts =
-    sum_by-append (λ (row : WeightedStack). row.weight) (rows_at value front) (rows_at value (row ∷ back)) in
-    let one = sum_by-cons (λ (row : WeightedStack). row.weight) (weighing value row) (rows_at value back) in
-    omega (arith, total, parts, one, fits)
+room_in value front row back rows cut fits = grind (arith, common_steps, map-append, sum_by-append, sum_by-cons)
 
 -- a sample among those of rows within the limit has no fault but want of memory
 pub faultless_among : (draft : Draft) (first : ℕ) (batch : BatchState) (totals : List ℕ) (number : ℕ)
@@ -68,19 +62,12 @@ pub rows_of_choice : (draft : Draft) (choice : ValueChoice) (first width other m
     → chosen_types_of draft choice ≡ Some (other, more)
     → AreRowsOfSamples draft first width samples rows → AreRowsOfSamples draft other more samples rows
 rows_of_choice draft choice first width other more samples rows one two all =
-    subst (λ w. AreRowsOfSamples draft other w samples rows) (same_count draft choice first other width more one two)
-    (subst (λ f. AreRowsOfSamples draft f width samples rows)
-    (same_first draft choice first other width more one two) all)
+    grind (arith, common_steps, same_count, same_first)
 
 -- a profile that gives a batch has no first fault but want of memory
 stands_nowhere : (most : ℕ) (draft : Draft) (choice : ValueChoice) (batch : BatchState) (fault : BatchFault)
     → IsBatchOf draft choice batch → StandsAtSample most draft choice fault → fault ≡ faults.NoMemory
-stands_nowhere most draft choice batch fault this stands =
-    let all = subst (λ ss. AreRowsOfSamples draft stands.first stands.batch.width ss batch.rows) stands.cut
-    (rows_of_choice draft choice this.first batch.width stands.first stands.batch.width draft.samples batch.rows
-    this.is_chosen stands.is_chosen this.rows_samples) in
-    faultless_among draft stands.first stands.batch stands.totals (length stands.before) stands.before stands.sample
-    stands.after batch.rows fault stands.are_totals stands.rows_samples all this.is_batch.fits stands.there
+stands_nowhere most draft choice batch fault this stands = grind (arith, common_steps, faultless_among, rows_of_choice)
 
 pub IsFirstFault-batch : (most : ℕ) (draft : Draft) (choice : ValueChoice) (batch : BatchState) (fault : BatchFault)
     → batch.width ≤ most → IsBatchOf draft choice batch → IsFirstFault most draft choice fault
@@ -88,8 +75,7 @@ pub IsFirstFault-batch : (most : ℕ) (draft : Draft) (choice : ValueChoice) (ba
 IsFirstFault-batch most draft choice batch faults.NoValue few this h =
     absurd (false≢true (sym (ap is_some (sym this.is_chosen ∙ h))))
 IsFirstFault-batch most draft choice batch (faults.Width count) few this (first, is, many) =
-    let same = same_count draft choice this.first first batch.width count this.is_chosen is in
-    absurd (omega (arith, same, few, many))
+    grind (arith, common_steps, same_count)
 IsFirstFault-batch most draft choice batch (faults.Negative at) few this h =
     stands_nowhere most draft choice batch (faults.Negative at) this h
 IsFirstFault-batch most draft choice batch (faults.Depth at) few this h =
@@ -102,11 +88,7 @@ IsFirstFault-batch most draft choice batch faults.NoMemory few this h = refl
 pub IsBatchOf-same : (draft : Draft) (choice : ValueChoice) (batch other : BatchState)
     → IsBatchOf draft choice batch → IsBatchOf draft choice other → batch ≡ other
 IsBatchOf-same draft choice batch other one two =
-    let count = same_count draft choice one.first two.first batch.width other.width one.is_chosen two.is_chosen in
-    let rows = AreRowsOfSamples-same draft two.first other.width draft.samples batch.rows other.rows
-    (rows_of_choice draft choice one.first batch.width two.first other.width draft.samples batch.rows
-    one.is_chosen two.is_chosen one.rows_samples) two.rows_samples in
-    λ i. record { width = count i; rows = rows i }
+    grind (arith, common_steps, same_count, AreRowsOfSamples-same, rows_of_choice)
 
 -- what is answered decides what batch a profile gives
 pub only_batch : (draft : Draft) (choice : ValueChoice) (outcome : Result BatchState BatchFault)
@@ -214,21 +196,14 @@ singles_at (row ∷ rows) all =
 -- a batch of one value has the rows of that value
 pub batch_of_one : (draft : Draft) (choice : ValueChoice) (batch : BatchState) → IsBatchOf
     draft choice batch → batch.width ≡ 1 → AreStacksOf draft choice (rows_at 0 batch.rows)
-batch_of_one draft choice batch this one =
-    let rows : singles (rows_at 0 batch.rows) ≡ batch.rows = singles_at batch.rows (recursion_from_All
-    (λ (row : Row). length row.weights ≡ 1) batch.rows (λ k d lt. this.is_batch.widths k d lt ∙ one)) in
-    let same : batch ≡ single_batch (rows_at 0 batch.rows) = λ i. record { width = one i; rows = sym rows i } in
-    subst (IsBatchOf draft choice) same this
+batch_of_one draft choice batch this one = grind (arith, common_steps, recursion_from_All, singles_at)
 
 -- ---- one sample
 
 -- the totals say whether there is room
 pub has_room : (batch : BatchState) (totals weights : List ℕ) → AreTotals batch totals → ((value : ℕ)
     → value_of value totals + value_of value weights < 2 ^ 63) → (value : ℕ) → HasRoom batch weights value
-has_room batch totals weights are room value =
-    let earlier = are.each value in
-    let fits = room value in
-    omega (arith, earlier, fits)
+has_room batch totals weights are room value = grind (arith, common_steps)
 
 -- ---- the loop over the samples
 
@@ -270,13 +245,7 @@ pub IsBatchSoFar-end : (draft : Draft) (choice : ValueChoice) (first width count
     → chosen_types_of draft choice ≡ Some (first, width)
     → length draft.samples ≤ count → IsBatchSoFar draft first width count batch
     → IsBatchOf draft choice batch
-IsBatchSoFar-end draft choice first width count batch is_chosen whole so_far = record {
-  first = first;
-  is_chosen = is_chosen ∙ ap (λ w. Some (first, w)) (sym so_far.wide);
-  rows_samples = subst
-      (λ ss. AreRowsOfSamples draft first batch.width ss batch.rows) (take_all count draft.samples whole) so_far.known;
-  is_batch = so_far.is;
-}
+IsBatchSoFar-end draft choice first width count batch is_chosen whole so_far = grind (arith, common_steps, take_all)
 
 -- a sample with a fault is the first one
 pub IsBatchSoFar-stands : (most : ℕ) (draft : Draft) (choice : ValueChoice) (first width count : ℕ) (sample : Sample)

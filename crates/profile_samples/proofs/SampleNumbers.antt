@@ -1,6 +1,7 @@
 -- The numbers of the names in a sample's row.
-use Rattle.std.proofs.Common.{◌≡◌, ℕ, ◌+◌, ◌<◌, Bool, true, false, cond, eqb, ◌||◌, List, [], ◌∷◌, ◌++◌, length, get_or}
-use Rattle.std.proofs.Common.{take, append-nil, Option, Some, refl, sym, ap, ◌∙◌, subst, All}
+use Rattle.std.proofs.lemmas.Grind.{common_steps}
+use Rattle.std.proofs.Common.{arith, ◌≡◌, ℕ, ◌+◌, ◌<◌, Bool, true, false, ◌||◌, List, [], ◌∷◌, ◌++◌, length, get_or}
+use Rattle.std.proofs.Common.{take, append-nil, Option, refl, sym, ap, ◌∙◌, subst, All}
 use Rattle.std.specs.Prelude.{MatchOption, reverse, slice_index_or}
 use Rattle.std.specs.List.{AllByRecursion}
 use Rattle.std.proofs.lemmas.List.{map-append, reverse-append}
@@ -72,11 +73,7 @@ found_stand : (draft : Draft) (id : ℕ) (locations : List Location)
     → AllByRecursion (λ (location : Location). AllStand (frame_names draft) (location_frames draft location)) locations
     → AllStand (frame_names draft) (frames_at draft (item_with (λ location. location.id) id locations))
 found_stand draft id [] all = tt
-found_stand draft id (location ∷ locations) all = elim (eqb location.id id) as (λ b. AllStand
-    (frame_names draft) (frames_at draft (cond b (Some location) (item_with (λ location. location.id) id locations)))) [
-      | true ↦ all.0
-      | false ↦ found_stand draft id locations all.1
-    ]
+found_stand draft id (location ∷ locations) all = grind (arith, common_steps, found_stand draft id locations all.1)
 
 all_append : (names more : List (List ℕ))
     → AllByRecursion IsName names → AllByRecursion IsName more → AllByRecursion IsName (names ++ more)
@@ -97,8 +94,7 @@ reverse_named (name ∷ names) all = subst (AllByRecursion IsName) (sym (reverse
 
 stack_named : (draft : Draft) (ids : List ℕ) → All IsName (frame_names draft) → All IsName (sample_stack_of draft ids)
 stack_named draft ids all =
-    All-from_recursion IsName (sample_stack_of draft ids) (reverse_named
-    (frames_of_ids draft ids) (ids_named draft ids (recursion_from_All IsName (frame_names draft) all)))
+    grind (arith, common_steps, recursion_from_All, All-from_recursion, ids_named, reverse_named)
 
 -- ---- a sample's row
 

@@ -1,6 +1,7 @@
 -- What rows the samples of a profile give.
+use Rattle.std.proofs.lemmas.Grind.{common_steps}
 use Rattle.std.proofs.Common.{◌≡◌, ℕ, zero, suc, ◌+◌, ◌^◌, ◌<◌, ◌≤◌, Bool, true, false, List, [], ◌∷◌, ◌++◌, length}
-use Rattle.std.proofs.Common.{get_or, inl, inr, ◌↔◌, refl, sym, ap, ◌∙◌, subst, arith}
+use Rattle.std.proofs.Common.{get_or, ◌↔◌, refl, sym, ap, ◌∙◌, subst, arith}
 use Rattle.std.proofs.lemmas.Option.{get_or_from_slice_get, slice_get_within}
 use Rattle.std.specs.Prelude.{ℤ, pos, negsuc, Option, Some, None, slice_get, unwrap_or, is_some, ◌==◌}
 use Rattle.std.specs.Str.{bytes_eq}
@@ -11,12 +12,7 @@ use Rattle.std.proofs.lemmas.List.Quantifiers.{position-Some}
 use Rattle.pprof_profile.specs.declared.messages.Draft.{Draft}
 use Rattle.pprof_profile.specs.declared.messages.Sample.{Sample}
 use Rattle.pprof_profile.specs.declared.messages.ValueType.{ValueType}
-use Rattle.pprof_profile.specs.Valid.{IsValidDraft, all_index, begins_with_empty, each_has_values, function_ids}
-use Rattle.pprof_profile.specs.Valid.{is_known, is_nonempty, location_ids, mapping_ids, names_functions}
-use Rattle.pprof_profile.specs.Valid.{names_locations, names_mappings, no_double_id, no_zero_id}
-use Rattle.pprof_profile.specs.declared.faults.ProfileFault.TheVariants.{NoStrings, FirstString, StringIndex, ZeroId}
-use Rattle.pprof_profile.specs.declared.faults.ProfileFault.TheVariants.{DoubleId, NoLocation, NoMapping, NoFunction}
-use Rattle.pprof_profile.specs.declared.faults.ProfileFault.TheVariants.{ValueCount}
+use Rattle.pprof_profile.specs.Valid.{IsValidDraft, each_has_values}
 use Rattle.profile_rows.specs.Values.{Row, value_of}
 use Rattle.profile_samples.specs.declared.sampling.BatchFault.{BatchFault}
 use Rattle.profile_samples.specs.declared.sampling.BatchFault.TheVariants.{NoValue, Width, Negative, Depth, Heavy}
@@ -24,8 +20,8 @@ use Rattle.profile_samples.specs.declared.sampling.BatchFault.TheVariants.{NoMem
 use Rattle.profile_samples.specs.declared.sampling.ValueChoice.{ValueChoice}
 use Rattle.profile_samples.specs.declared.sampling.ValueChoice.TheVariants.{Default, Named, All}
 use Rattle.profile_samples.specs.Batches.{AreRowsOfSamples}
-use Rattle.profile_samples.specs.Samples.{HasWeights, IsFitFault, IsRowOfSample, IsSampleFault, IsValueFault, all_of}
-use Rattle.profile_samples.specs.Samples.{chosen_types_of, default_type, frames_of_ids, is_zero}
+use Rattle.profile_samples.specs.Samples.{HasWeights, IsFitFault, IsRowOfSample, IsSampleFault, all_of}
+use Rattle.profile_samples.specs.Samples.{chosen_types_of, default_type, frames_of_ids}
 use Rattle.profile_samples.specs.Samples.{last_index, one_from, or_last, sample_stack_of}
 use Rattle.profile_samples.specs.Samples.{string_at, type_named}
 use Rattle.profile_samples.proofs.ItemsById.{rule_holds}
@@ -49,13 +45,7 @@ or_last_within draft (Some at) chosen h e = h chosen e
 
 default_within : (draft : Draft) (chosen : ℕ)
     → default_type draft ≡ Some chosen → chosen < length draft.sample_types
-default_within draft chosen e =
-    elim (is_zero draft.default_sample_type) as (λ b. is_zero draft.default_sample_type ≡ b
-    → chosen < length draft.sample_types) [
-      | true ↦ λ z. last_within draft.sample_types chosen (rw z at e)
-      | false ↦ λ z. or_last_within draft (type_named draft (string_at draft.strings draft.default_sample_type)) chosen
-          (λ at named. named_within draft (string_at draft.strings draft.default_sample_type) at named) (rw z at e)
-    ] refl
+default_within draft chosen e = grind (arith, common_steps, named_within, last_within, or_last_within)
 
 first_in : Option (ℕ × ℕ) → ℕ
 first_in None = 0
@@ -88,10 +78,7 @@ one_within count (Some chosen) first width h e =
 all_within : (count first width : ℕ) → all_of count ≡ Some (first, width) → first + width ≤ count
 unfolding first_in count_in
 all_within zero first width e = absurd (false≢true (ap is_some e))
-all_within (suc more) first width e =
-    let index : 0 ≡ first = ap first_in e in
-    let whole : suc more ≡ width = ap count_in e in
-    omega (arith, index, whole)
+all_within (suc more) first width e = grind (arith, common_steps, first_in, count_in)
 
 -- the values that are taken are some of those that there are
 pub chosen_types_within : (draft : Draft) (choice : ValueChoice) (first width : ℕ)
@@ -104,19 +91,7 @@ chosen_types_within draft All first width e = all_within (length draft.sample_ty
 
 -- each sample of a valid profile has as many values as there are sample types
 values_match : (draft : Draft) → IsValidDraft draft → each_has_values (length draft.sample_types) draft.samples ≡ true
-values_match draft valid =
-    let after_strings = (rule_holds (is_nonempty draft.strings) NoStrings _ valid).1 in
-    let after_first = (rule_holds (begins_with_empty draft.strings) FirstString _ after_strings).1 in
-    let after_indices = (rule_holds (all_index draft) StringIndex _ after_first).1 in
-    let after_zeros = (rule_holds (no_zero_id draft) ZeroId _ after_indices).1 in
-    let after_doubles = (rule_holds (no_double_id draft) DoubleId _ after_zeros).1 in
-    let after_locations =
-    (rule_holds (names_locations (is_known (location_ids draft)) draft.samples) NoLocation _ after_doubles).1 in
-    let after_mappings =
-    (rule_holds (names_mappings (is_known (mapping_ids draft)) draft.locations) NoMapping _ after_locations).1 in
-    let after_functions =
-    (rule_holds (names_functions (is_known (function_ids draft)) draft.locations) NoFunction _ after_mappings).1 in
-    (rule_holds (each_has_values (length draft.sample_types) draft.samples) ValueCount _ after_functions).0
+values_match draft valid = grind (arith, common_steps, rule_holds)
 
 each_matches : (count : ℕ) (samples : List Sample) (k : ℕ) (d : Sample)
     → each_has_values count samples ≡ true → k < length samples → length (get_or samples k d).values ≡ count
@@ -129,17 +104,13 @@ each_matches count (sample ∷ samples) (suc k) d all lt = each_matches count sa
 -- so each has a value for each sample type
 values_of_sample : (draft : Draft) (count : ℕ) (sample : Sample) → IsValidDraft draft → count < length draft.samples
     → sample ≡ get_or draft.samples count sample → length sample.values ≡ length draft.sample_types
-values_of_sample draft count sample valid lt item =
-    ap (λ (s : Sample). length s.values) item
-    ∙ each_matches (length draft.sample_types) draft.samples count sample (values_match draft valid) lt
+values_of_sample draft count sample valid lt item = grind (arith, common_steps, values_match, each_matches)
 
 -- and those that are taken
 pub has_values : (draft : Draft) (first width count : ℕ) (sample : Sample) → IsValidDraft draft → first
     + width ≤ length draft.sample_types → count < length draft.samples → sample ≡ get_or draft.samples count sample
     → first + width ≤ length sample.values
-has_values draft first width count sample valid within lt item =
-    let same = values_of_sample draft count sample valid lt item in
-    omega (arith, within, same)
+has_values draft first width count sample valid within lt item = grind (arith, common_steps, values_of_sample)
 
 -- ---- rows
 
@@ -228,19 +199,11 @@ Decides draft ids fit = IsTrue fit ↔ (length (frames_of_ids draft ids) ≤ 655
 
 pub fits_in : (draft : Draft) (ids : List ℕ) (fit : Bool) → Decides draft ids fit → IsTrue fit
     → length (sample_stack_of draft ids) ≤ 65535
-fits_in draft ids fit decides this =
-    let long = length-reverse (frames_of_ids draft ids) in
-    let few = decides.0 this in
-    omega (arith, long, few)
+fits_in draft ids fit decides this = grind (arith, common_steps, length-reverse)
 
 pub too_deep : (draft : Draft) (ids : List ℕ) (fit : Bool) → Decides draft ids fit → fit ≡ false
     → 65535 < length (sample_stack_of draft ids)
-too_deep draft ids fit decides none =
-    let long = length-reverse (frames_of_ids draft ids) in
-    elim (cases_lt 65535 (length (frames_of_ids draft ids))) [
-      | inl deep ↦ omega (arith, long, deep)
-      | inr few ↦ absurd (false≢true (sym none ∙ decides.1 few))
-    ]
+too_deep draft ids fit decides none = grind (arith, common_steps, cases_lt, length-reverse)
 
 -- ---- faults of a sample
 
@@ -252,36 +215,12 @@ pub faultless : (draft : Draft) (first : ℕ) (totals : List ℕ) (number : ℕ)
 faultless draft first totals number sample row NoValue this room h = absurd h
 faultless draft first totals number sample row (Width count) this room h = absurd h
 faultless draft first totals number sample row (Negative at) this room (value, lt, (is, below, e)) =
-    absurd (not_below (slice_get sample.values (first + value)) (value_of value row.weights) below
-    (this.values value lt) e)
+    grind (arith, common_steps, not_below)
 faultless draft first totals number sample row (Depth at) this room (is, weights, values, deep) =
-    let fit = this.depth in
-    let same = ap length this.stack in
-    absurd (omega (arith, same, fit, deep))
+    grind (arith, common_steps)
 faultless draft first totals number sample row (Heavy at) this room (is, other, own, value, lt, heavy) =
-    let same : value_of value row.weights ≡ value_of value other.weights = ap (λ (r : Row). value_of value r.weights)
-    (IsRowOfSample-same draft first (length totals) sample row other this own) in
-    let fits = room value in
-    absurd (omega (arith, same, fits, heavy))
+    grind (arith, common_steps, IsRowOfSample-same)
 faultless draft first totals number sample row NoMemory this room h = refl
-
--- a value that is taken is below 0
-pub IsSampleFault-below : (draft : Draft) (first : ℕ) (totals : List ℕ) (number : ℕ) (sample : Sample) (value : ℕ)
-    (fault : BatchFault) → value < length totals → IsValueFault (first + value) number sample.values fault
-    → IsSampleFault draft first totals number sample fault
-IsSampleFault-below draft first totals number sample value NoValue lt h = absurd h
-IsSampleFault-below draft first totals number sample value (Width count) lt h = absurd h
-IsSampleFault-below draft first totals number sample value (Negative at) lt h = (value, lt, h)
-IsSampleFault-below draft first totals number sample value (Depth at) lt h = absurd h
-IsSampleFault-below draft first totals number sample value (Heavy at) lt h = absurd h
-IsSampleFault-below draft first totals number sample value NoMemory lt h = absurd h
-
-pub IsSampleFault-deep : (draft : Draft) (first : ℕ) (totals : List ℕ) (number : ℕ)
-    (sample : Sample) (weights : List ℕ) (fault : BatchFault) → HasWeights first (length totals) sample.values weights
-    → fault ≡ Depth number → 65535 < length (sample_stack_of draft sample.location_ids)
-    → IsSampleFault draft first totals number sample fault
-IsSampleFault-deep draft first totals number sample weights fault values is deep =
-    subst (IsSampleFault draft first totals number sample) (sym is) (refl, weights, values, deep)
 
 pub IsSampleFault-heavy : (draft : Draft) (first : ℕ) (totals : List ℕ) (number : ℕ) (sample : Sample)
     (weights : List ℕ) (fault : BatchFault) → length weights ≡ length totals
@@ -332,13 +271,6 @@ pub one_value_room : (earlier weight : ℕ) → earlier + weight < 2 ^ 63
 one_value_room earlier weight fits zero = fits
 one_value_room earlier weight fits (suc value) = omega (arith, fits)
 
-pub one_value_below : (draft : Draft) (index earlier number : ℕ) (sample : Sample) (fault : BatchFault)
-    → IsValueFault index number sample.values fault → IsSampleFault draft index (earlier ∷ []) number sample fault
-one_value_below draft index earlier number sample fault h =
-    let same : index ≡ index + 0 = omega arith in
-    IsSampleFault-below draft index (earlier ∷ []) number sample 0 fault (omega arith)
-    (subst (λ p. IsValueFault p number sample.values fault) same h)
-
 -- the sample doesn't fit
 pub IsSampleFault-fit : (draft : Draft) (index earlier number : ℕ) (sample : Sample) (weight : ℕ) (fit : Bool)
     (fault : BatchFault) → slice_get sample.values index ≡ Some (pos weight)
@@ -372,14 +304,8 @@ one_value_memory draft index earlier number sample weight is deep fits =
 pub sample_read : (profile draft : Draft) (at : ℕ) (sample : Sample) → draft ≡ profile
     → slice_get draft.samples at ≡ Some sample
     → (sample ≡ get_or profile.samples at sample) × (at < length profile.samples)
-sample_read profile draft at sample same item =
-    let there = subst (λ (d : Draft). slice_get d.samples at ≡ Some sample) same item in (
-      sym (get_or_from_slice_get profile.samples at sample sample there),
-      slice_get_within profile.samples at sample there,
-    )
+sample_read profile draft at sample same item = grind (arith, common_steps, get_or_from_slice_get, slice_get_within)
 
 pub samples_read : (profile draft : Draft) (at count : ℕ) → draft ≡ profile → count ≡ length draft.samples
     → count ≤ at → length profile.samples ≤ at
-samples_read profile draft at count same is all =
-    let size = is ∙ ap (λ (d : Draft). length d.samples) same in
-    omega (arith, size, all)
+samples_read profile draft at count same is all = grind (arith, common_steps)

@@ -22,4 +22,5 @@ index_found indices id = option_or (index_near indices id) (hash.get ◌==◌ in
 -- what is found for an id is an index at which it stands, and where none is found it stands nowhere
 abbrev pub AreIdIndices : List ℕ → (ℕ → Option ℕ) → Type 0
 AreIdIndices ids find =
-    (id : ℕ) → MatchOption (find id) ((at : ℕ) → slice_get ids at ≢ Some id) (λ at. slice_get ids at ≡ Some id)
+    (id : ℕ) → MatchOption (find id)
+    ((at : ℕ) → slice_get ids at ≢ Some id) (λ at. slice_get ids at ≡ Some id)

@@ -107,7 +107,8 @@ fn batch_by(
 ) -> Result<Batch, BatchFault>
     requires framed { frames.now ≡ profile.now }
     requires typed { chosen.now.first + chosen.now.width ≤ length profile.now.sample_types }
-    ensures { (choice : ValueChoice) → chosen_types_of profile.now choice ≡ Some (chosen.now.first, chosen.now.width)
+    ensures { (choice : ValueChoice)
+        → chosen_types_of profile.now choice ≡ Some (chosen.now.first, chosen.now.width)
         → MatchResult result (λ batch. IsBatchOf profile.now choice batch)
         (λ fault. StandsAtSample MAX_WIDTH profile.now choice fault) }
 {

@@ -75,7 +75,8 @@ impl<'a> Model for FunctionNumbers<'a> {
 
     ghost view = { λ functions. functions.draft.now };
 
-    ghost invariant = { λ functions. AreFunctionNumbers functions.draft.now functions.indices functions.numbers.items };
+    ghost invariant = { λ functions.
+        AreFunctionNumbers functions.draft.now functions.indices functions.numbers.items };
 }
 
 impl<'a> FunctionNumbers<'a> {

@@ -37,7 +37,8 @@ impl<'a> NumberedFrames<'a> {
     /// The numbers of the frames of locations, leaf first. They are gathered before names are shared, so that waits for
     /// memory overlap where locations stand far apart.
     fn numbers_of_ids(&self, alloc: Global, ids: &[u64]) -> Result<Vec<usize>, AllocError>
-        ensures inside { IfOk result (λ numbers. All (λ number. number < length (frame_names self.now)) numbers.items) }
+        ensures inside { IfOk result
+            (λ numbers. All (λ number. number < length (frame_names self.now)) numbers.items) }
         ensures names { IfOk result
             (λ numbers. names_at (frame_names self.now) numbers.items ≡ frames_of_ids self.now ids.now) }
     {

@@ -4,7 +4,10 @@ use mathlib.Core.Option.{some}
 use mathlib.Core.List.{IsPrefix}
 use lib.ListN.{get_elem?}
 use Rattle.logbook.specs.Pages.{Book}
-use Rattle.op_book.specs.Operations.{PlainEntry}
+use Rattle.flame_report.specs.Answers.{value_answer_of}
+use Rattle.flame_report.specs.declared.answer.Answer.{Answer}
+use Rattle.flame_report.specs.declared.query.Query.{Query}
+use Rattle.op_book.specs.Operations.{PlainEntry, operations_of, profile_after}
 use Rattle.shown_versions.specs.declared.known.KnownVersion.{KnownVersion}
 use Rattle.shown_versions.specs.declared.rule.View.{View}
 
@@ -36,3 +39,7 @@ listed view = unwrap_or (option_and_then (λ known. Some known.seen.log) view.kn
 abbrev pub IsOf : View → Book → ℕ → Type 0
 IsOf view history width = (option_and_then (λ known. Some known.seen.book) view.known ≡ Some history)
     × (option_and_then (λ known. Some known.width) view.known ≡ Some width)
+
+-- a query's plain answer after the changes of a list
+abbrev pub IsAnswerAfter : List PlainEntry → Query → Answer → Type 0
+IsAnswerAfter entries query answer = answer ≡ value_answer_of (profile_after (operations_of entries)) query

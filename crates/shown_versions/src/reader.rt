@@ -4,14 +4,14 @@ ghost use Rattle.std.specs.Prelude.{◌≡◌, ◌<◌, ◌⊎◌, IfErr, IfOk};
 ghost use Rattle.std.specs.Arc.{arc_value};
 ghost use Rattle.left_right.specs.Sides.{view as known};
 ghost use Rattle.op_book.specs.Books.{receipt_after};
-ghost use Rattle.op_book.specs.Operations.{ask};
-ghost use Rattle.shown_versions.specs.Views.{IsOf};
+ghost use Rattle.op_book.specs.Operations.{answered, ask};
+ghost use Rattle.shown_versions.specs.Views.{IsAnswerAfter, IsOf};
 
 use crate::rule::{Published, Sees, View};
 use crate::version::Version;
 use change_history::{Front, StoreName};
 use core::mem::replace_with;
-use flame_report::{NoMemory, Query, report};
+use flame_report::{Answer, Kind, NoMemory, Query, report};
 use left_right::reader::Reader;
 use op_book::{BookFault, Op, Receipt, Reply};
 use std::alloc::Global;
@@ -33,65 +33,74 @@ pub struct SeenReport<N: StoreName> {
     pub front: Front<N>,
 }
 
-/// The receipt of a report over a version.
-fn receipt_over(alloc: Global, version: &Version, query: &Arc<Query>) -> Result<Receipt, NoMemory>
-    requires { (arc_value query.now).value < version.now.width }
-    ensures { IfOk result (λ receipt. receipt ≡ receipt_after version.now.seen.log (ask (arc_value query.now))) }
-{
-    let answer = report(alloc, version.tree(), query)?;
-    Ok(Receipt {
-        op: Op::Ask(Arc::try_clone(query)?),
-        reply: Reply::Answered(Arc::new(alloc, answer)?),
-        at: version.count(),
-    })
-}
-
-/// A report over a version of this store.
-fn report_over<N: StoreName>(
+/// The answer to a query over a version of this store, and the changes that it is after.
+fn answer_over<N: StoreName>(
     alloc: Global,
     version: &Version,
     query: &Arc<Query>,
-) -> Result<SeenReport<N>, BookFault>
+) -> Result<(Answer, Front<N>), BookFault>
     requires value { (arc_value query.now).value < version.now.width }
     requires history { version.now.seen.book ≡ N.history }
-    ensures receipt { IfOk result
-        (λ made. made.receipt ≡ receipt_after made.front (ask (arc_value query.now))) }
+    ensures answer { IfOk result (λ made. IsAnswerAfter made.1 (arc_value query.now) made.0) }
     ensures fault { IfErr result (λ fault. fault ≡ BookFault.NoMemory) }
 {
-    let receipt = receipt_over(alloc, version, query)?;
-    Ok(SeenReport {
-        receipt,
-        front: Front::of(version.count(), version.seen()),
-    })
+    let answer = report(alloc, version.tree(), query)?;
+    Ok((answer, Front::of(version.count(), version.seen())))
 }
 
-/// The version that a reader entered, shared, and the reader, which has left it.
-fn entered<N: StoreName>(
+/// The answer over the version that a reader enters, and the reader, which has left it. The total of all rows is told
+/// before it leaves, since that takes no longer than a share; for any other report it shares the version and leaves.
+fn answer_entered<N: StoreName>(
+    alloc: Global,
     reader: Reader<Version, View, Published>,
-) -> (Reader<Version, View, Published>, Result<Version, BookFault>)
-    requires { IsOf (known reader.place) N.history N.width }
+    query: &Arc<Query>,
+) -> (
+    Reader<Version, View, Published>,
+    Result<(Answer, Front<N>), BookFault>,
+)
+    requires named { IsOf (known reader.place) N.history N.width }
+    requires value { (arc_value query.now).value < N.width }
     ensures named { IsOf (known result.0.place) N.history N.width }
-    ensures history { IfOk result.1 (λ version. version.seen.book ≡ N.history) }
-    ensures width { IfOk result.1 (λ version. version.width ≡ N.width) }
+    ensures answer { IfOk result.1 (λ made. IsAnswerAfter made.1 (arc_value query.now) made.0) }
     ensures fault { IfErr result.1
         (λ fault. (fault ≡ BookFault.NoMemory) ⊎ (fault ≡ BookFault.Version)) }
 {
-    match reader.enter_as::<Sees>() {
-        Err(reader) => (reader, Err(BookFault::Version)),
-        Ok(reading) => {
-            let shared = reading.get().share();
-            let reader = reading.leave();
-            match shared {
-                Ok(version) => (reader, Ok(version)),
-                Err(_) => (reader, Err(BookFault::NoMemory)),
-            }
-        }
+    let reading = match reader.enter_as::<Sees>() {
+        Ok(reading) => reading,
+        Err(reader) => return (reader, Err(BookFault::Version)),
+    };
+    if query.kind == Kind::Total && query.keeps_all() {
+        let made = answer_over(alloc, reading.get(), query);
+        return (reading.leave(), made);
+    }
+    let shared = reading.get().share();
+    let reader = reading.leave();
+    match shared {
+        Ok(version) => (reader, answer_over(alloc, &version, query)),
+        Err(_) => (reader, Err(BookFault::NoMemory)),
     }
 }
 
+/// The receipt of an answer after so many changes.
+fn receipt_of(
+    alloc: Global,
+    query: &Arc<Query>,
+    answer: Answer,
+    at: u64,
+) -> Result<Receipt, NoMemory>
+    ensures { IfOk result (λ receipt.
+        receipt ≡ record { op = ask (arc_value query.now); reply = answered answer; at = at }) }
+{
+    Ok(Receipt {
+        op: Op::Ask(Arc::try_clone(query)?),
+        reply: Reply::Answered(Arc::new(alloc, answer)?),
+        at,
+    })
+}
+
 impl<N: StoreName> VersionReader<N> {
-    /// Enters the version that is shown, shares it and leaves it, and then makes a report over it: so the writer never
-    /// waits for a report.
+    /// A report over the version that is shown, which is left before the report is made: so the writer never waits for
+    /// one. The total of all rows alone, which takes no longer than to share the version, is told before.
     ///
     /// # Errors
     ///
@@ -103,16 +112,15 @@ impl<N: StoreName> VersionReader<N> {
         ensures fault { IfErr result
             (λ fault. (fault ≡ BookFault.NoMemory) ⊎ (fault ≡ BookFault.Version)) }
     {
-        let version = replace_with(
+        let (answer, front) = replace_with(
             &mut self.reader,
             (),
             |reader, _|
-                requires { IsOf (known reader.place) N.history N.width }
-            { entered::<N>(reader) },
-        );
-        match version {
-            Ok(version) => report_over(alloc, &version, query),
-            Err(fault) => Err(fault),
-        }
+                requires named { IsOf (known reader.place) N.history N.width }
+                requires value { (arc_value query.now).value < N.width }
+            { answer_entered::<N>(alloc, reader, query) },
+        )?;
+        let receipt = receipt_of(alloc, query, answer, front.len())?;
+        Ok(SeenReport { receipt, front })
     }
 }

@@ -138,7 +138,8 @@ impl Book {
         turn: u64,
     ) -> Result<Ready, BookFault>
         ensures before { IfOk result (λ ready. ready.before ≡ self.new) }
-        ensures change { IfOk result (λ ready. (ready.session ≡ session) × (ready.turn ≡ turn) × (ready.op ≡ reset)) }
+        ensures change { IfOk result
+            (λ ready. (ready.session ≡ session) × (ready.turn ≡ turn) × (ready.op ≡ reset)) }
         ensures next { IfOk result (λ ready. IsTreeAfter self.old reset ready.next) }
         ensures taken { OnOk result (IsTaken self.old session turn reset) }
         ensures unchanged { IsSameBook self.old self.new }

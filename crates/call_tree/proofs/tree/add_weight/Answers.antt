@@ -15,7 +15,8 @@ returns-clause-trees c =
     let value = c.args.value in
     let nodes = c.put_weight.new.self in
     on_ok_both c.put_weight.result
-    (λ here others. AreTrees-raised c.args.names.now c.args.nodes.now nodes value c.requires.trees c.put_weight.ensures.width
+    (λ here others. AreTrees-raised c.args.names.now c.args.nodes.now nodes value c.requires.trees
+    c.put_weight.ensures.width
     (finished _ _ _ _ _ c.weight.result (c.requires.trees value c.requires.value)
     c.requires.within c.requires.fits c.weight.ensures here).tree others)
     c.put_weight.ensures.here c.put_weight.ensures.others

@@ -1,5 +1,5 @@
-use Rattle.std.proofs.Common.{◌++◌, ◌+◌}
-use Rattle.profile_rows.specs.Paths.{path_start, path_weight}
+use Rattle.std.proofs.Common.{rules, ◌++◌}
+use Rattle.profile_rows.specs.Paths.{path_start}
 use Rattle.profile_rows.specs.Rows.{total_of}
 use Rattle.flame_report.proofs.Spans.{child_starts_inside, child_ends_inside, columns_keep_order}
 use Rattle.flame_report.proofs.laws.children_lie_inside.Goals as goal
@@ -15,6 +15,4 @@ returns-clause-left c = λ columns rows path rest. columns_keep_order columns
     (total_of rows) (path_start rows path) (path_start rows (path ++ rest)) (child_starts_inside rows path rest)
 
 pub returns-clause-right : goal.returns-clause-right
-returns-clause-right c = λ columns rows path rest.
-    columns_keep_order columns (total_of rows) (path_start rows (path ++ rest) + path_weight rows (path ++ rest))
-    (path_start rows path + path_weight rows path) (child_ends_inside rows path rest)
+returns-clause-right c = search (rules, child_ends_inside, columns_keep_order)

@@ -8,7 +8,8 @@ use Rattle.flame_report.proofs.layout.draw_row.Given as goal
 abbrev pub invariant-loop-depth : goal.invariant-loop-depth
 invariant-loop-depth l = record {
   inside : l.depth ≤ length (stack_at l.rows l.at) + 1;
-  rest : l.drawing.rects.items ++ map rect_of (shown_of l.scale.columns l.rows (drop l.depth (prefixes (stack_at l.rows l.at))))
+  rest : l.drawing.rects.items ++ map rect_of
+      (shown_of l.scale.columns l.rows (drop l.depth (prefixes (stack_at l.rows l.at))))
       ≡ l.initial.drawing.rects.items ++ map rect_of
       (shown_of l.scale.columns l.rows (drop (known_at l.rows l.at) (prefixes (stack_at l.rows l.at))));
 }

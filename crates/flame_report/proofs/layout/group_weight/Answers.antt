@@ -1,9 +1,9 @@
-use Rattle.std.proofs.Common.{◌≡◌, ◌+◌, ◌-◌, ◌<◌, ◌≤◌, [], length, take, true, subst, sym, ap, arith, ◌∙◌, slice_index_or}
+use Rattle.std.proofs.lemmas.Grind.{common_steps}
+use Rattle.std.proofs.Common.{◌≡◌, ◌+◌, ◌-◌, ◌<◌, [], length, take, true, subst, sym, ap, arith, ◌∙◌, slice_index_or}
 use Rattle.std.proofs.lemmas.List.{take_all, length-take-le}
 use Rattle.profile_rows.specs.declared.weighted_stacks.WeightedStack.{WeightedStack}
 use Rattle.profile_rows.specs.Paths.{begins_with}
 use Rattle.profile_rows.specs.Names.{name_cmp}
-use Rattle.profile_rows.specs.Rows.{weight_where}
 use Rattle.flame_report.specs.Sharing.{stack_at, shared_paths}
 use Rattle.flame_report.proofs.PathOrder as order
 use Rattle.flame_report.proofs.RowSums.{names_total, names_same, group_first, group_next, group_ends, group_whole}
@@ -23,22 +23,7 @@ loop-next-init c =
     }
 
 pub returns-then-known-next : goal.returns-then-known-next
-returns-then-known-next c =
-    let before : c.loop-next.next - 1 + 1 ≡ c.loop-next.next = omega arith in
-    let small : shared_paths (stack_at c.args.rows.now (c.loop-next.next - 1))
-    (stack_at c.args.rows.now (c.loop-next.next - 1 + 1)) ≤ c.args.depth =
-    omega (
-      arith,
-      known_next c.args.rows.now c.args.known.now (c.loop-next.next - 1) c.requires.known.at (omega (arith, c.len-next-end.ensures)),
-      ap (λ n. slice_index_or c.args.known.now n 0) before,
-    ) in
-    let size = length-take-le c.args.depth (stack_at c.args.rows.now c.args.at) c.requires.depth in
-    let ends =
-    group_ends c.args.rows.now _ (c.loop-next.next - 1) c.loop-next.invariant.last (omega (arith, small, size)) in
-    let whole = group_whole c.args.rows.now _ (c.loop-next.next - 1) c.requires.ascending
-    (omega (arith, c.len-next-end.ensures)) c.loop-next.invariant.last ends in
-    c.loop-next.invariant.so_far ∙ ap (λ n. weight_where (begins_with name_cmp
-    (take c.args.depth (stack_at c.args.rows.now c.args.at))) (take n c.args.rows.now)) (sym before) ∙ whole
+returns-then-known-next c = grind (arith, common_steps, length-take-le, group_ends, group_whole, known_next)
 
 -- the next row is of the group too
 under : (c : goal.After-weight-weight-in-loop-next) → begins_with name_cmp
@@ -60,26 +45,10 @@ under c =
     (stack_at c.args.rows.now c.args.at)) (c.loop-next.next - 1) c.loop-next.invariant.last shares)
 
 pub overflow_add-weight : goal.overflow_add-weight
-overflow_add-weight c =
-    let path = take c.args.depth (stack_at c.args.rows.now c.args.at) in
-    let more = weight_where-more (begins_with name_cmp path)
-    c.args.rows.now c.loop-next.next no_row (omega (arith, c.len-next-end.ensures)) (under c) in
-    let most = weight_where-take-le (begins_with name_cmp path) c.args.rows.now (c.loop-next.next + 1) in
-    omega (arith, more, most, c.weight-weight-in-loop-next.ensures, c.requires.fits)
+overflow_add-weight c = grind (arith, common_steps, weight_where-more, weight_where-take-le, under)
 
 pub loop-next-preserved : goal.loop-next-preserved
-loop-next-preserved c =
-    let path = take c.args.depth (stack_at c.args.rows.now c.args.at) in
-    let more = weight_where-more (begins_with name_cmp path)
-    c.args.rows.now c.loop-next.next no_row (omega (arith, c.len-next-end.ensures)) (under c) in
-    let back : c.loop-next.next ≡ c.loop-next.next + 1 - 1 = omega arith in
-    record {
-      so_far = omega (arith, more, c.weight-weight-in-loop-next.ensures);
-      last = subst (λ n. begins_with name_cmp
-          (take c.args.depth (stack_at c.args.rows.now c.args.at)) (stack_at c.args.rows.now n) ≡ true) back (under c);
-    }
+loop-next-preserved c = grind (arith, common_steps, weight_where-more, under)
 
 pub returns : goal.returns
-returns c = c.loop-next.invariant.so_far
-    ∙ ap (weight_where (begins_with name_cmp (take c.args.depth (stack_at c.args.rows.now c.args.at))))
-    (take_all c.loop-next.next c.args.rows.now (omega (arith, c.len-next-end.ensures)))
+returns c = grind (arith, common_steps, take_all)

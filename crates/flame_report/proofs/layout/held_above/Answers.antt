@@ -1,4 +1,5 @@
-use Rattle.std.proofs.Common.{◌-◌, slice_index_or, ap, arith, ◌∙◌}
+use Rattle.std.proofs.lemmas.Grind.{common_steps}
+use Rattle.std.proofs.Common.{arith}
 use Rattle.flame_report.proofs.Held.{known-le-held, held_above}
 use Rattle.flame_report.proofs.layout.held_above.Goals as goal
 
@@ -11,7 +12,4 @@ bounds-held-known c =
     omega (arith, known-le-held c.args.held.now c.args.rows.now c.args.at c.requires.held, c.requires.known)
 
 pub returns-else-known-eq0 : goal.returns-else-known-eq0
-returns-else-known-eq0 c =
-    ap (λ n. slice_index_or c.args.held.now (n - 1) 0) c.requires.known
-    ∙ held_above c.args.held.now c.args.rows.now c.args.at c.requires.ascending c.requires.at c.requires.held
-    (omega (arith, c.requires.known))
+returns-else-known-eq0 c = grind (arith, common_steps, held_above)

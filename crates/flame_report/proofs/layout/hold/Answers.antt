@@ -1,3 +1,4 @@
+use Rattle.std.proofs.lemmas.Grind.{common_steps}
 use Rattle.std.proofs.Common.{◌≡◌, ◌+◌, ◌-◌, ◌++◌, ◌∷◌, [], length, take, vec_len, replicate, sym, ap}
 use Rattle.std.proofs.Common.{subst, arith, ◌∙◌, suc}
 use Rattle.std.proofs.lemmas.List.{take_all, length-take-le, append_assoc}
@@ -11,15 +12,7 @@ abbrev no_row : WeightedStack
 no_row = record { stack = []; weight = 0 }
 
 pub overflow_add-above : goal.overflow_add-above
-overflow_add-above c =
-    omega (
-      arith,
-      held_weight-le c.args.rows.now c.args.at c.requires.at,
-      sum_by_more_le (λ (row : WeightedStack). row.weight) c.args.rows.now c.args.at no_row c.requires.at,
-      c.weight.ensures,
-      c.requires.above,
-      c.requires.fits,
-    )
+overflow_add-above c = grind (arith, common_steps, sum_by_more_le, held_weight-le)
 
 pub returns : goal.returns
 returns c =

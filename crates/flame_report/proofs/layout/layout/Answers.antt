@@ -1,8 +1,8 @@
 -- Row by row, each path is drawn where it first comes.
-use Rattle.std.proofs.Common.{◌≡◌, ◌+◌, ◌++◌, [], length, drop, sym, ap, arith, ◌∙◌, suc, map}
-use Rattle.profile_rows.specs.Paths.{prefixes}
+use Rattle.std.proofs.lemmas.Grind.{common_steps}
+use Rattle.std.proofs.Common.{◌≡◌, length, ap, arith, ◌∙◌, map}
 use Rattle.flame_report.specs.Answers.{rect_of}
-use Rattle.flame_report.specs.Sharing.{known_at, paths_until, shown_of, stack_at}
+use Rattle.flame_report.specs.Sharing.{paths_until, shown_of}
 use Rattle.flame_report.proofs.Drawn.{drawn-append}
 use Rattle.flame_report.proofs.Held.{held_weight-le}
 use Rattle.flame_report.proofs.NewPaths.{paths_until-whole}
@@ -10,42 +10,13 @@ use Rattle.flame_report.proofs.RowSums.{total-next}
 use Rattle.flame_report.proofs.layout.layout.Goals as goal
 
 pub overflow_sub-before : goal.overflow_sub-before
-overflow_sub-before c = omega (
-  arith,
-  held_weight-le c.args.rows.now c.loop-at.at (omega (arith, c.len-at-end.ensures)),
-  c.held_above-above.ensures,
-  c.loop-at.invariant.before,
-)
+overflow_sub-before c = grind (arith, common_steps, held_weight-le)
 
 pub layout_row-requires-clause-start : goal.layout_row-requires-clause-start
-layout_row-requires-clause-start c = omega (
-  arith,
-  held_weight-le c.args.rows.now c.loop-at.at (omega (arith, c.len-at-end.ensures)),
-  c.held_above-above.ensures,
-  c.loop-at.invariant.before,
-)
+layout_row-requires-clause-start c = grind (arith, common_steps, held_weight-le)
 
 pub loop-at-preserved : goal.loop-at-preserved
-loop-at-preserved c =
-    let next : suc c.loop-at.at ≡ c.loop-at.at + 1 = omega arith in
-    record {
-      before = omega (
-        arith,
-        total-next c.args.rows.now c.loop-at.at (record { stack = []; weight = 0 })
-            (omega (arith, c.len-at-end.ensures)),
-        c.weight-before.ensures,
-        c.loop-at.invariant.before,
-      );
-      done =
-          c.in_ok-layout_row.ensures
-          ∙ ap (λ r. r ++ map rect_of (shown_of c.args.scale.now.columns c.args.rows.now (drop (known_at c.args.rows.now
-          c.loop-at.at) (prefixes (stack_at c.args.rows.now c.loop-at.at))))) c.loop-at.invariant.done
-          ∙ sym (drawn-append c.args.scale.now.columns c.args.rows.now (paths_until c.args.rows.now c.loop-at.at)
-          (drop (known_at c.args.rows.now c.loop-at.at) (prefixes (stack_at c.args.rows.now c.loop-at.at))))
-          ∙ ap (λ n. map rect_of (shown_of c.args.scale.now.columns c.args.rows.now (paths_until c.args.rows.now n)))
-          next;
-      held = c.in_ok-hold.ensures;
-    }
+loop-at-preserved c = grind (arith, common_steps, drawn-append, total-next)
 
 pub returns : goal.returns
 returns c =

@@ -1,4 +1,5 @@
 -- Where the shortest path takes no column, none does.
+use Rattle.std.proofs.lemmas.Grind.{common_steps}
 use Rattle.std.proofs.Common.{◌≡◌, ◌+◌, ◌-◌, ◌++◌, false, take, length, map, sym, ap, arith, ◌∙◌}
 use Rattle.std.proofs.lemmas.Bool.{le-ltb}
 use Rattle.std.proofs.lemmas.List.{append-nil}
@@ -11,10 +12,7 @@ use Rattle.flame_report.proofs.Narrow.{none_below}
 use Rattle.flame_report.proofs.layout.layout_row.Goals as goal
 
 pub span_at-shortest-requires-clause-depth : goal.span_at-shortest-requires-clause-depth
-span_at-shortest-requires-clause-depth c =
-    let known = c.requires.known.at c.args.at c.requires.at in
-    let less = known-le c.args.rows.now c.args.at c.requires.ascending c.requires.at in
-    omega (arith, known, less)
+span_at-shortest-requires-clause-depth c = grind (arith, common_steps, known-le)
 
 pub returns-then-shortest : goal.returns-then-shortest
 returns-then-shortest c =

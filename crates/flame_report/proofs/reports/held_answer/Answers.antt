@@ -7,8 +7,10 @@ use Rattle.flame_report.proofs.reports.held_answer.Goals as goal
 
 pub named-rows-requires-clause-ascending : goal.named-rows-requires-clause-ascending
 named-rows-requires-clause-ascending c = subst IsAscending
-    (sym c.in_ok-weighted_stacks-in_default.ensures) (rows_of-IsAscending (weights_of c.args.tree.now c.args.query.now.value))
+    (sym c.in_ok-weighted_stacks-in_default.ensures)
+    (rows_of-IsAscending (weights_of c.args.tree.now c.args.query.now.value))
 
 pub named-rows-requires-clause-weighty : goal.named-rows-requires-clause-weighty
 named-rows-requires-clause-weighty c = subst AreWeighty
-    (sym c.in_ok-weighted_stacks-in_default.ensures) (rows_of-AreWeighty (nodes_at c.args.tree.now c.args.query.now.value))
+    (sym c.in_ok-weighted_stacks-in_default.ensures)
+    (rows_of-AreWeighty (nodes_at c.args.tree.now c.args.query.now.value))

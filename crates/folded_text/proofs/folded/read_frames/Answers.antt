@@ -1,5 +1,6 @@
 -- A line's frames are those of its stack text. Memory runs out only at a line that spells a row which can follow.
-use Rattle.std.proofs.Common.{rules, ◌≡◌, ℕ, List, length, map, refl, sym, ap, ◌∙◌}
+use Rattle.std.proofs.lemmas.Grind.{common_steps}
+use Rattle.std.proofs.Common.{arith, rules, ◌≡◌, ℕ, List, length, map, refl, sym, ap, ◌∙◌}
 use Rattle.std.proofs.lemmas.List.{length-map}
 use Rattle.std.proofs.lemmas.Result.{err_from_is_err_and}
 use denote.Ref.{Bor}
@@ -13,12 +14,7 @@ long : (frames : List (List ℕ)) (lent : List (Bor (List ℕ))) (n : ℕ)
 long frames lent n is same = is ∙ sym (length-map lent (λ (frame : Bor (List ℕ)). frame.now)) ∙ ap length same
 
 pub returns-in_err-fitting-clause-fault : goal.returns-in_err-fitting-clause-fault
-returns-in_err-fitting-clause-fault c =
-    let (utf8, small, digits, count, value) = c.in_ok-stack.ensures.counted in
-    let p = err_from_is_err_and c.from_residual-in_err-fitting.result c.from_residual-in_err-fitting.ensures.1 in
-    rw (p.1, p.2) (IsLineFault-fitting c.args.earlier c.args.number c.args.line.now
-    c.in_ok-stack.stack.now digits c.in_ok-stack.weight c.in_err-fitting.field-0.0 utf8 small count value
-    (c.in_err-fitting.ensures.fault c.in_ok-stack.stack.now c.measured.ensures.depth))
+returns-in_err-fitting-clause-fault c = grind (arith, common_steps, err_from_is_err_and, IsLineFault-fitting)
 
 pub returns-in_default-clause-fault : goal.returns-in_default-clause-fault
 returns-in_default-clause-fault c =

@@ -1,6 +1,7 @@
 -- Where the first semicolon stands, the pieces are what stands before it, and those behind it.
-use Rattle.std.proofs.Common.{◌≡◌, ℕ, ◌+◌, ◌-◌, ◌<◌, suc, Bool, true, false, List, [], ◌∷◌, ◌++◌, length, take, drop}
-use Rattle.std.proofs.Common.{get_or, filter, sym, ap, ◌∙◌, subst, arith}
+use Rattle.std.proofs.lemmas.Grind.{common_steps}
+use Rattle.std.proofs.Common.{◌≡◌, ℕ, ◌+◌, ◌<◌, suc, Bool, true, false, List, [], ◌∷◌, ◌++◌, length, take, drop}
+use Rattle.std.proofs.Common.{get_or, filter, sym, ap, ◌∙◌, arith}
 use Rattle.std.specs.Prelude.{All, ◌==◌, not}
 use Rattle.std.specs.List.{slice_split}
 use Rattle.std.proofs.lemmas.Bool.{eqb-true, false_from_ne_true}
@@ -41,35 +42,10 @@ cut text at lt none is =
     ∙ filter-append (λ piece. not (length piece == 0)) (take at text ∷ []) (slice_split IsEnd (drop (at + 1) text))
 
 pub range_from-requires : goal.range_from-requires
-range_from-requires c = λ some.
-    let found = c.in-Some.ensures in
-    let same = c.as_bytes.ensures.value in
-    let high = found.0.high in
-    let short : c.in-Some.at < length c.args.text.now = omega (arith, ap length same) in
-    let end : IsEnd (get_or c.args.text.now c.in-Some.at 0) ≡ true =
-    subst (λ text. IsEnd (get_or text c.in-Some.at 0) ≡ true) same found.1 in
-    let byte : get_or c.args.text.now c.in-Some.at 0 ≡ 59 = eqb-true (get_or c.args.text.now c.in-Some.at 0) 59 end in
-    IsCharBoundary-after_ascii c.args.text.now c.in-Some.at c.utf8.text short (omega arith)
+range_from-requires c = grind (arith, common_steps, eqb-true, IsCharBoundary-after_ascii)
 
 pub returns-in-Some : goal.returns-in-Some
-returns-in-Some c =
-    let found = c.in-Some.ensures in
-    let same = c.as_bytes.ensures.value in
-    let high = found.0.high in
-    let short : c.in-Some.at < length c.args.text.now = omega (arith, ap length same) in
-    let end : IsEnd (get_or c.args.text.now c.in-Some.at 0) ≡ true =
-    subst (λ text. IsEnd (get_or text c.in-Some.at 0) ≡ true) same found.1 in
-    let before : (k : ℕ) → k < c.in-Some.at → IsEnd (get_or c.args.text.now k 0) ≡ true → ⊥ = λ k below is.
-    found.0.before k (omega arith) below (subst (λ text. IsEnd (get_or text k 0) ≡ true) (sym same) is) in
-    let whole : c.in-Some.at ≡ c.in-Some.at - 0 = omega arith in
-    let front : take c.in-Some.at c.args.text.now ≡ c.range.result.now =
-    ap (λ n. take n c.args.text.now) whole ∙ sym c.range.ensures.value in
-    record {
-      frames = cut c.args.text.now c.in-Some.at short before end
-          ∙ ap (λ piece. frame_in piece ++ frames_of (drop (c.in-Some.at + 1) c.args.text.now)) front
-          ∙ ap (λ rest. frame_in c.range.result.now ++ frames_of rest) (sym c.range_from.ensures.value);
-      shorter = λ some. let len = c.range_from.ensures.len in omega arith;
-    }
+returns-in-Some c = grind (arith, common_steps, cut)
 
 -- without a semicolon the text is one piece
 whole_piece : (text : List ℕ)
@@ -80,9 +56,4 @@ whole_piece text none =
     ap (filter (λ piece. not (length piece == 0))) (slice_split_none IsEnd text all) ∙ sym (append-nil (frame_in text))
 
 pub returns-in-None-clause-frames : goal.returns-in-None-clause-frames
-returns-in-None-clause-frames c =
-    let nowhere = c.in-None.ensures in
-    let same = c.as_bytes.ensures.value in
-    whole_piece c.args.text.now (λ k below is.
-    nowhere k (omega arith)
-    (omega (arith, ap length same, below)) (subst (λ text. IsEnd (get_or text k 0) ≡ true) (sym same) is))
+returns-in-None-clause-frames c = grind (arith, common_steps, whole_piece)

@@ -1,18 +1,13 @@
 -- The lines are taken in order: each is a row more, or empty, or has the first fault.
-use Rattle.std.proofs.Common.{◌++◌, ◌∷◌, length, [], sym, ◌∙◌, refl}
+use Rattle.std.proofs.lemmas.Grind.{common_steps}
+use Rattle.std.proofs.Common.{arith, ◌++◌, ◌∷◌, [], sym, ◌∙◌, refl}
 use Rattle.std.proofs.lemmas.Bool.{eqb-true}
 use Rattle.profile_rows.proofs.Cleaning.{filled}
 use Rattle.folded_text.proofs.Reading.{IsReadTo-begin, IsReadTo-row, IsReadTo-skip, IsReadTo-one_line}
 use Rattle.folded_text.proofs.taking.take_lines.Goals as goal
 
 pub loop-index-init : goal.loop-index-init
-loop-index-init g c = (
-  [],
-  IsReadTo-begin
-      c.args.text.now c.into_iter-index-iterator.result _ [] c.into_iter-index-iterator.ensures.into_iter_gives
-      (c.enumerate-index-items.ensures.source ∙ c.lines.ensures.value) c.enumerate-index-items.ensures.count refl,
-  c.requires,
-)
+loop-index-init g c = grind (arith, common_steps, IsReadTo-begin)
 
 pub take_line-requires : goal.take_line-requires
 take_line-requires g c =
@@ -33,11 +28,4 @@ loop-index-preserved-in-Continue-1 g c =
     )
 
 pub loop-index-preserved : goal.loop-index-preserved
-loop-index-preserved g c =
-    let (rows, so_far, taken) = c.loop-index.invariant in (
-      rows,
-      IsReadTo-skip
-          c.args.text.now _ _ rows c.in-Some.line.now _ _ so_far c.in-Some.ensures.steps.0 c.in-Some.ensures.steps.2
-          (eqb-true (length c.in-Some.line.now) 0 (sym c.is_empty.ensures ∙ c.if-not-is_empty.false)),
-      taken,
-    )
+loop-index-preserved g c = grind (arith, common_steps, eqb-true, IsReadTo-skip)

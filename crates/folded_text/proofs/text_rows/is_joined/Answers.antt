@@ -1,5 +1,6 @@
 -- A text without empty frames has as many bytes as its frames and the semicolons between them.
-use Rattle.std.proofs.Common.{◌≡◌, ◌+◌, length, arith, eqb-true}
+use Rattle.std.proofs.lemmas.Grind.{common_steps}
+use Rattle.std.proofs.Common.{arith, eqb-true}
 use Rattle.folded_text.proofs.TextRows.{IsJoined-measured, frames-within}
 use Rattle.folded_text.proofs.text_rows.is_joined.Goals as goal
 
@@ -8,7 +9,4 @@ overflow_add-result c =
     let most = frames-within c.args.text.now in omega (arith, most, c.requires.depth, c.requires.bytes)
 
 pub returns-else-is_empty : goal.returns-else-is_empty
-returns-else-is_empty c = λ told.
-    let whole : c.args.bytes + c.args.depth ≡ length c.args.text.now + 1 =
-    eqb-true (c.args.bytes + c.args.depth) (length c.args.text.now + 1) told in
-    IsJoined-measured c.args.text.now (omega (arith, whole, c.requires.depth, c.requires.bytes))
+returns-else-is_empty c = grind (arith, common_steps, IsJoined-measured, eqb-true)

@@ -1,5 +1,6 @@
 -- What was counted decides the totals of the text's rows.
-use Rattle.std.proofs.Common.{inl}
+use Rattle.std.proofs.lemmas.Grind.{common_steps}
+use Rattle.std.proofs.Common.{arith}
 use Rattle.std.specs.Prelude.{Ok}
 use Rattle.std.proofs.lemmas.Result.{err_from_is_err_and}
 use Rattle.folded_text.proofs.Counting.{AreTotalsOf-merged, only_totals}
@@ -19,9 +20,7 @@ pub returns-clause-accepted : goal.returns-clause-accepted
 returns-clause-accepted c = only_totals c.args.text.now (Ok _) (returns-clause-counted c)
 
 pub returns-in_err-take_lines-clause-counted : goal.returns-in_err-take_lines-clause-counted
-returns-in_err-take_lines-clause-counted c =
-    let p = err_from_is_err_and c.from_residual.result c.from_residual.ensures.1 in
-    rw (p.1, p.2) (inl c.in_err-take_lines.ensures.fault)
+returns-in_err-take_lines-clause-counted c = grind (arith, common_steps, err_from_is_err_and)
 
 pub returns-in_err-take_lines-clause-accepted : goal.returns-in_err-take_lines-clause-accepted
 returns-in_err-take_lines-clause-accepted c =

@@ -1,12 +1,12 @@
 -- One row more; and at the end the rows are those of a batch.
-use Rattle.std.proofs.Common.{◌≡◌, ◌≤◌, ◌<◌, ◌++◌, length, take, get_or, sym, ap, ◌∙◌, subst, arith}
+use Rattle.std.proofs.Common.{rules, ◌≡◌, ◌≤◌, ◌<◌, ◌++◌, length, take, get_or, sym, ap, ◌∙◌, subst, arith}
 use Rattle.std.specs.List.{All}
 use Rattle.std.proofs.lemmas.List.{take_all}
 use Rattle.std.proofs.lemmas.List.Elements.{All-more}
 use Rattle.profile_rows.specs.declared.weighted_stacks.WeightedStack.{WeightedStack}
 use Rattle.profile_rows.specs.Names.{IsName}
 use Rattle.profile_rows.specs.Values.{rows_at}
-use Rattle.folded_text.specs.FoldedText.{IsFoldedText, row_text, rows_text}
+use Rattle.folded_text.specs.FoldedText.{row_text, rows_text}
 use Rattle.folded_text.proofs.Writing.{length-rows_at, rows_at-row_in, rows_text_more, rows_text-IsFoldedText}
 use Rattle.profile_rows.proofs.BatchRows.{all_batch_rows}
 use Rattle.folded_text.proofs.written.write_folded.Goals as goal
@@ -57,9 +57,4 @@ pub returns-clause-text : goal.returns-clause-text
 returns-clause-text c = c.loop-at.invariant.0 ∙ ap rows_text (whole c)
 
 pub returns-clause-reads_back : goal.returns-clause-reads_back
-returns-clause-reads_back c =
-    let rows = rows_at c.args.value c.args.batch.now.rows in
-    let each = subst (All can_stand) (whole c) c.loop-at.invariant.1 in
-    subst (λ bytes. IsFoldedText bytes rows) (sym (returns-clause-text c))
-    (rows_text-IsFoldedText rows
-    (all_batch_rows rows each (c.first.ensures.batch.fits c.args.value)) (c.first.ensures.batch.fits c.args.value))
+returns-clause-reads_back c = search (rules, rows_text-IsFoldedText, all_batch_rows, whole)

@@ -35,7 +35,8 @@ returns c = λ batch width worked.
     (operations_of journal.entries) worked.dealt worked.told once changes warmed
     c.additions_count_since_the_last_reset.ensures.last c.additions_count_since_the_last_reset.ensures.all value)
     ∙ sym (replay.aggregate value) ∙ ap (λ (t : TreeState). weights_of t value) (sym tree) in
-    let count : length c.steps-operations.result.now ≡ operations_in options batch = ap length c.steps-operations.ensures
+    let count : length c.steps-operations.result.now ≡ operations_in options batch =
+    ap length c.steps-operations.ensures
     ∙ run_counts batch options warm worked.lists logs run worked.dealt worked.told once refl in
     c.in_ok-push_count.ensures
     ∙ ap (λ text. text ++ count_line (length c.steps-operations.result.now))

@@ -1,4 +1,5 @@
 -- What a run of a match is.
+use Rattle.std.proofs.lemmas.Grind.{common_steps}
 use Rattle.std.proofs.Common.{◌≡◌, ◌<◌, List, AllPairs, map, get_or, sym, subst, arith}
 use Rattle.std.specs.Prelude.{IsPermutation}
 use Rattle.std.proofs.lemmas.List.{get_or-map, length-map}
@@ -13,18 +14,14 @@ use Rattle.op_book.proofs.Ordered.{own_order}
 use Rattle.op_book.proofs.auditing.audit_with.Goals as goal
 
 pub returns-clause-accepted : goal.returns-clause-accepted
-returns-clause-accepted c = λ logs_match.
-    MatchResult-weaker c.run_of.result c.run_of.ensures.first
-    (λ run is. tt) (no_fault c.args.journal.now c.args.logs.now logs_match)
+returns-clause-accepted c = grind (arith, common_steps, no_fault)
 
 once : (logs : List SessionLog) (run : List PlainStep) → IsRunOf logs run → IsPermutation (steps_in logs) run
 once logs run is = subst (λ (steps : List PlainStep). IsPermutation (steps_in logs) steps)
     (sym is.steps_are) (IsPermutation-map step_of (logged logs) is.ordered is.all)
 
 pub returns-clause-each_receipt_once : goal.returns-clause-each_receipt_once
-returns-clause-each_receipt_once c =
-    MatchResult-weaker c.run_of.result c.run_of.ensures.first
-    (λ run is. once c.args.logs.now run is.1) (λ fault first. tt)
+returns-clause-each_receipt_once c = grind (arith, common_steps, once)
 
 kept : (ordered : List LoggedReceipt)
     → AllPairs (λ (a : LoggedReceipt) (b : LoggedReceipt). a.session ≡ b.session → a.index < b.index) ordered

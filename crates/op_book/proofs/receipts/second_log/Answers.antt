@@ -5,11 +5,7 @@ use Rattle.op_book.proofs.Passing.{has_session, has_no_session, pairs_all, pairs
 use Rattle.op_book.proofs.receipts.second_log.Goals as goal
 
 pub returns-then-contains : goal.returns-then-contains
-returns-then-contains c =
-    second_log
-    c.args.logs.now c.loop-log.log-index c.log-item.result c.loop-log-test.true c.log-item.is c.loop-log.invariant.0
-    (has_session (take c.loop-log.log-index c.args.logs.now) c.log-item.result.session
-    (sym (c.loop-log.invariant.1 c.log-item.result.session) ∙ sym c.contains.ensures ∙ c.if-contains.true))
+returns-then-contains c = grind (arith, common_steps, has_session, second_log)
 
 pub loop-log-preserved : goal.loop-log-preserved
 loop-log-preserved c = (

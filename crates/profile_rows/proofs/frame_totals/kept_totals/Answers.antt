@@ -1,5 +1,5 @@
 -- A kept row is counted, and another leaves what is counted.
-use Rattle.std.proofs.Common.{◌≡◌, take, get_or, true, ap, sym, ◌∙◌, arith}
+use Rattle.std.proofs.Common.{rules, ◌≡◌, take, get_or, true, ap, arith}
 use Rattle.std.specs.Option.{option_copied}
 use Rattle.std.proofs.lemmas.List.Sums.{sum_by_more_le}
 use Rattle.profile_rows.specs.declared.weighted_stacks.WeightedStack.{WeightedStack}
@@ -23,17 +23,4 @@ count_batch_row-requires-clause-fits c =
     omega (arith, before, all, row, held, batch, fits)
 
 pub loop-row-preserved : goal.loop-row-preserved
-loop-row-preserved c =
-    let rows = c.rows-row-items.result.now in
-    elim c.if-keeps.branch [
-      | then-keeps+in_ok-count_batch_row w ↦
-          let more =
-          kept_rows-more (option_copied c.args.focus) (option_copied c.args.ignored) rows c.loop-row.row-index
-          c.row-item.result c.loop-row-test.true c.row-item.is (sym c.keeps.ensures ∙ w.if-keeps.true) in
-          rw (w.rows-is, more) (w.in_ok-count_batch_row.ensures _ c.loop-row.invariant)
-      | else-keeps w ↦
-          let same =
-          kept_rows-left (option_copied c.args.focus) (option_copied c.args.ignored) rows c.loop-row.row-index
-          c.row-item.result c.loop-row-test.true c.row-item.is (sym c.keeps.ensures ∙ w.if-keeps.false) in
-          rw (w.rows-is, same) c.loop-row.invariant
-    ]
+loop-row-preserved c = search (rules, kept_rows-left, kept_rows-more, else-keeps)

@@ -1,6 +1,6 @@
 -- A name that weighs something is a name, and each has one number.
-use Rattle.std.proofs.Common.{◌≡◌, ◌<◌, ◌≤◌, ℕ, List, length, map, ap, sym, ◌∙◌, subst, arith}
-use Rattle.std.specs.List.{zip}
+use Rattle.std.proofs.lemmas.Grind.{common_steps}
+use Rattle.std.proofs.Common.{◌≡◌, ◌<◌, ℕ, List, length, map, ap, sym, ◌∙◌, subst, arith}
 use Rattle.std.proofs.lemmas.List.{get_or_default, length-map, take_all}
 use Rattle.std.proofs.lemmas.Slice.Zip.{length-zip}
 use Rattle.std.specs.declared.vec.Vec.{Vec}
@@ -8,7 +8,6 @@ use denote.Ref.{Bor}
 use Rattle.profile_rows.specs.declared.tallies.Tally.{Tally}
 use Rattle.profile_rows.specs.Names.{IsName}
 use Rattle.profile_rows.specs.Tallies.{tally_at}
-use Rattle.profile_rows.specs.TopList.{AreSumsOf}
 use Rattle.profile_rows.proofs.TallyLaws.{zero_tally}
 use Rattle.profile_rows.proofs.TextNumbers.{no_text, shown_at}
 use Rattle.profile_rows.proofs.Weighted.{number_named, shown-AreSumsOf, weighted_in, weightless_more, weighty_more}
@@ -57,12 +56,4 @@ loop-number-preserved c =
     ]
 
 pub returns : goal.returns
-returns c = λ rows are.
-    let names = texts_of c.args.names.now in
-    let tallies = c.args.tallies.now.names.items in
-    let long = length-map c.args.names.now (λ (name : Bor (List ℕ)). name.now) in
-    let size = length-zip names tallies in
-    let all : length (zip names tallies) ≤ c.loop-number.number =
-    let end = c.loop-number-test.false in omega (arith, long, size, end) in
-    subst (AreSumsOf rows) (sym (c.loop-number.invariant ∙ ap weighted_in
-    (take_all c.loop-number.number (zip names tallies) all))) (shown-AreSumsOf rows names c.args.tallies.now are)
+returns c = grind (arith, common_steps, length-map, take_all, length-zip, shown-AreSumsOf, weighted_in)

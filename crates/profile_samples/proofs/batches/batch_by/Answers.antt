@@ -1,4 +1,5 @@
 -- The samples are read in order: each is a row more, or has the first fault.
+use Rattle.std.proofs.lemmas.Grind.{common_steps}
 use Rattle.std.proofs.Common.{subst, arith}
 use Rattle.std.proofs.lemmas.Result.{err_from_is_err_and}
 use Rattle.profile_samples.specs.Samples.{IsRowOfSample, IsSampleFault}
@@ -38,8 +39,4 @@ loop-index-preserved c =
     c.at-sample.result c.loop-index.batch row _ within item c.loop-index.invariant own room more
 
 pub returns : goal.returns
-returns c = λ choice is_chosen.
-    let whole = samples_read c.args.profile.now c.draft.result.now c.loop-index.index c.len-index-end.result
-    c.draft.ensures.draft c.len-index-end.ensures c.loop-index-test.false in
-    IsBatchSoFar-end c.args.profile.now choice c.args.chosen.now.first
-    c.args.chosen.now.width c.loop-index.index c.loop-index.batch is_chosen whole c.loop-index.invariant
+returns c = grind (arith, common_steps, IsBatchSoFar-end, samples_read)

@@ -1,5 +1,6 @@
 -- What stands at a sample is the first fault, and what is read decides what batch there is.
-use Rattle.std.proofs.Common.{◌≡◌, subst}
+use Rattle.std.proofs.lemmas.Grind.{common_steps}
+use Rattle.std.proofs.Common.{arith, ◌≡◌, subst}
 use Rattle.std.specs.Prelude.{Err, Some}
 use Rattle.std.proofs.lemmas.Result.{err_from_is_err_and}
 use Rattle.profile_samples.specs.declared.sampling.BatchFault.TheVariants.{NoMemory}
@@ -45,12 +46,7 @@ batch_by-requires-clause-typed c =
     chosen_types_within c.args.profile.now c.args.choice chosen.first chosen.width is
 
 pub returns-clause-read : goal.returns-clause-read
-returns-clause-read c =
-    let chosen = c.in_ok-chosen.chosen in
-    let is = subst (λ d. chosen_types_of d c.args.choice ≡ Some (chosen.first, chosen.width))
-    c.draft.ensures.draft c.in_ok-chosen.ensures.chosen in
-    first_of_standing (λ batch. IsBatchOf c.args.profile.now c.args.choice batch) 4
-    c.args.profile.now c.args.choice c.batch_by.result (c.batch_by.ensures c.args.choice is)
+returns-clause-read c = grind (arith, common_steps, first_of_standing)
 
 pub returns-clause-accepted : goal.returns-clause-accepted
 returns-clause-accepted c = only_batch c.args.profile.now c.args.choice c.batch_by.result (returns-clause-read c)

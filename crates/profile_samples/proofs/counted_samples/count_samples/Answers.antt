@@ -1,11 +1,12 @@
 -- The samples are read in order: each is counted, or has the first fault.
+use Rattle.std.proofs.lemmas.Grind.{common_steps}
 use Rattle.std.proofs.Common.{◌+◌, ◌^◌, ◌<◌, ◌++◌, ◌∷◌, [], subst, arith}
 use Rattle.std.proofs.lemmas.Result.{err_from_is_err_and}
 use Rattle.pprof_profile.specs.declared.messages.Draft.{Draft}
 use Rattle.profile_rows.specs.declared.weighted_stacks.WeightedStack.{WeightedStack}
 use Rattle.profile_rows.specs.Rows.{total_of}
 use Rattle.profile_samples.specs.declared.sampling.BatchFault.TheVariants.{NoMemory}
-use Rattle.profile_rows.specs.Values.{Row, single_batch}
+use Rattle.profile_rows.specs.Values.{Row}
 use Rattle.profile_samples.specs.Samples.{IsRowOfSample, IsSampleFault, sample_stack_of}
 use Rattle.profile_samples.specs.NameNumbers.{frame_names}
 use Rattle.profile_samples.proofs.SampleNumbers.{sample_numbered}
@@ -24,11 +25,7 @@ sample_weight-requires-clause-values c =
     omega (arith, have)
 
 pub sample_weight-requires-clause-earlier : goal.sample_weight-requires-clause-earlier
-sample_weight-requires-clause-earlier c =
-    let (rows, so_far, counted) = c.loop-index.invariant in
-    let fits = AreStacksSoFar-fits c.args.profile.now c.args.chosen c.loop-index.index rows so_far in
-    let total = counted.total in
-    omega (arith, fits, total)
+sample_weight-requires-clause-earlier c = grind (arith, common_steps, AreStacksSoFar-fits)
 
 pub returns-in_err-weight : goal.returns-in_err-weight
 returns-in_err-weight c = λ choice is_chosen.
@@ -102,13 +99,4 @@ loop-index-preserved c =
     )
 
 pub returns : goal.returns
-returns c = λ choice is_chosen.
-    let whole = samples_read c.args.profile.now c.draft.result.now c.loop-index.index c.len-index-end.result
-    c.draft.ensures.draft c.len-index-end.ensures c.loop-index-test.false in
-    let (rows, so_far, counted) = c.loop-index.invariant in
-    record {
-      rows = rows;
-      sampled = IsBatchSoFar-end c.args.profile.now choice c.args.chosen 1 c.loop-index.index
-          (single_batch rows) is_chosen whole so_far;
-      counted = counted;
-    }
+returns c = grind (arith, common_steps, IsBatchSoFar-end, samples_read)

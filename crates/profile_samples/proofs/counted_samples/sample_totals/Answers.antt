@@ -1,4 +1,5 @@
 -- What stands at a sample is the first fault.
+use Rattle.std.proofs.lemmas.Grind.{common_steps}
 use Rattle.std.proofs.Common.{◌≡◌, ◌∙◌, Some, ap, length, subst, sym, arith}
 use Rattle.std.specs.Prelude.{Err}
 use Rattle.std.proofs.lemmas.Result.{err_from_is_err_and}
@@ -45,11 +46,7 @@ totals_by-requires-clause-uncounted c =
     c.in_ok-tallies.ensures (frame_names profile) (frame_names-single profile) many
 
 pub returns-clause-read : goal.returns-clause-read
-returns-clause-read c =
-    let chosen = subst (λ d. chosen_types_of d c.args.choice ≡ Some (c.in_ok-chosen.chosen, 1)) c.draft.ensures.draft
-    c.in_ok-chosen.ensures in
-    first_of_work (AreTotalsOfSamples c.args.profile.now c.args.choice)
-    c.args.profile.now c.args.choice c.totals_by.result (c.totals_by.ensures c.args.choice chosen)
+returns-clause-read c = grind (arith, common_steps, first_of_work)
 
 pub returns-clause-accepted : goal.returns-clause-accepted
 returns-clause-accepted c =

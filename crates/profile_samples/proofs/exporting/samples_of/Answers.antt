@@ -1,5 +1,6 @@
 -- The next row's sample.
-use Rattle.std.proofs.Common.{◌≡◌, ◌<◌, ◌^◌, ℕ, List, All, ap, arith, length, sym, ◌∙◌, subst}
+use Rattle.std.proofs.lemmas.Grind.{common_steps}
+use Rattle.std.proofs.Common.{◌≡◌, ◌<◌, ℕ, List, ap, arith, length, ◌∙◌}
 use Rattle.profile_rows.specs.declared.weighted_stacks.WeightedStack.{WeightedStack}
 use Rattle.profile_rows.specs.Values.{Row, rows_at}
 use Rattle.folded_text.proofs.Writing.{length-rows_at}
@@ -14,7 +15,4 @@ within rows first lent at same is lt =
     omega (arith, lt, size, long)
 
 pub sample_of-requires : goal.sample_of-requires
-sample_of-requires c =
-    subst (All (λ weight. weight < 2 ^ 63)) (sym c.row-row.ensures.weights)
-    (weights_small c.args.batch.now c.loop-at.at c.first.ensures.batch (within c.args.batch.now.rows c.first.result.now
-    c.rows-at-end.result.now c.loop-at.at c.rows-at-end.ensures.rows c.first.ensures.first c.loop-at-test.true))
+sample_of-requires c = grind (arith, common_steps, weights_small, within)

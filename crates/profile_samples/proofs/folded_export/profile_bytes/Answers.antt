@@ -15,7 +15,8 @@ use Rattle.profile_samples.proofs.folded_export.profile_bytes.Goals as goal
 
 -- with the samples of the rows the draft is their profile
 filled : (draft : Draft) (names : List (List ℕ)) (samples : List Sample) (kind unit : List ℕ)
-    (all : List WeightedStack) → draft ≡ exported_draft names samples ((kind, unit) ∷ []) → names ≡ names_of (singles all)
+    (all : List WeightedStack) → draft ≡ exported_draft names samples ((kind, unit) ∷ [])
+    → names ≡ names_of (singles all)
     → (record draft { samples = map (exported_sample names) (singles all) }) ≡ single_profile_of all kind unit
 filled draft names samples kind unit all is same =
     let rows = singles all in

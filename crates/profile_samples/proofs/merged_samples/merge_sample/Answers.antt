@@ -1,4 +1,5 @@
 -- The sample's weight goes to the row of its locations, or to a new one.
+use Rattle.std.proofs.lemmas.Grind.{common_steps}
 use Rattle.std.proofs.Common.{◌≡◌, ℕ, ◌+◌, ◌^◌, ◌<◌, ◌≤◌, List, [], ◌∷◌, ap, sym, subst, ◌∙◌, refl, arith}
 use Rattle.std.specs.Prelude.{Result, Ok, Err, Some, OnOk, IfErr, pos, slice_get}
 use Rattle.std.proofs.lemmas.Result.{err_from_is_err_and, on_ok_weaker}
@@ -12,7 +13,6 @@ use Rattle.profile_rows.specs.Values.{single}
 use Rattle.profile_samples.specs.Samples.{IsFitFault, IsRowOfSample, IsSampleFault, sample_stack_of}
 use Rattle.profile_rows.specs.Merging.{AddsRow, IsStackAt, row_at, with_added_at}
 use Rattle.profile_rows.proofs.MergedRows.{AddsRow-added}
-use Rattle.profile_samples.specs.MergedSamples.{AreRowsAt}
 use Rattle.profile_samples.proofs.MergedSamples.{AreRowsAt-added, stack_found}
 use Rattle.profile_samples.proofs.SampleRows.{Decides, IsSampleFault-fit, fits_in, one_value_memory}
 use Rattle.profile_samples.proofs.SampleRows.{one_value_row}
@@ -53,22 +53,10 @@ refused_at draft chosen at weight number sample sums (Err found) value there fau
     )
 
 pub returns-in-Some-clause-added : goal.returns-in-Some-clause-added
-returns-in-Some-clause-added c =
-    let value = subst (λ values. slice_get values c.args.chosen ≡ Some (pos c.in_ok-weight.weight))
-    c.values.ensures c.in_ok-weight.ensures.weight.0 in
-    let there = subst (λ ids. IsStackAt c.args.merged.now (sample_stack_of c.args.frames.now ids) c.in-Some.at)
-    c.location_ids-ids.ensures
-    (stack_found c.args.frames.now c.args.known.now.keys c.args.merged.now c.location_ids-ids.result.now c.in-Some.at
-    c.requires.stacks (sym c.in-Some.is ∙ c.get_index_of.ensures.index)) in
-    added_to c.args.frames.now c.args.chosen c.in-Some.at c.in_ok-weight.weight c.args.sample.now c.args.merged.now
-    c.add_to_row.new.merged c.add_to_row.result value there c.add_to_row.ensures.added c.add_to_row.ensures.fits
+returns-in-Some-clause-added c = grind (arith, common_steps, stack_found, added_to)
 
 pub returns-in-Some-clause-stacks : goal.returns-in-Some-clause-stacks
-returns-in-Some-clause-stacks c =
-    on_ok_weaker c.add_to_row.result
-    (λ added. subst (AreRowsAt c.args.frames.now c.args.known.now.keys) (sym added)
-    (AreRowsAt-added c.args.frames.now c.args.known.now.keys c.args.merged.now c.in-Some.at c.in_ok-weight.weight
-    c.requires.stacks)) c.add_to_row.ensures.added
+returns-in-Some-clause-stacks c = grind (arith, common_steps, on_ok_weaker, AreRowsAt-added)
 
 pub returns-in-Some-clause-fault : goal.returns-in-Some-clause-fault
 returns-in-Some-clause-fault c =

@@ -1,4 +1,5 @@
 -- What stands at a sample is the first fault.
+use Rattle.std.proofs.lemmas.Grind.{common_steps}
 use Rattle.std.proofs.Common.{◌≡◌, Some, subst, arith}
 use Rattle.std.specs.Prelude.{Err}
 use Rattle.std.proofs.lemmas.Result.{err_from_is_err_and}
@@ -44,12 +45,7 @@ merged_by-requires-clause-typed c =
     omega (arith, within)
 
 pub returns-clause-read : goal.returns-clause-read
-returns-clause-read c =
-    let chosen = c.in_ok-chosen.chosen in
-    let is = subst (λ d. chosen_types_of d c.args.choice ≡ Some (chosen, 1)) c.draft.ensures.draft
-    c.in_ok-chosen.ensures in
-    first_of_standing (λ sums. IsMergedBatch c.args.profile.now c.args.choice sums) 1
-    c.args.profile.now c.args.choice c.merged_by.result (c.merged_by.ensures c.args.choice is)
+returns-clause-read c = grind (arith, common_steps, first_of_standing)
 
 pub returns-clause-accepted : goal.returns-clause-accepted
 returns-clause-accepted c = only_batch_sums c.args.profile.now c.args.choice c.merged_by.result (returns-clause-read c)

@@ -1,7 +1,8 @@
 -- The samples are read in order: each is added to the sums, or has the first fault.
+use Rattle.std.proofs.lemmas.Grind.{common_steps}
 use Rattle.std.proofs.Common.{◌+◌, ◌^◌, ◌<◌, ◌++◌, ◌∷◌, [], subst, refl, arith}
 use Rattle.std.proofs.lemmas.Result.{err_from_is_err_and}
-use Rattle.profile_rows.specs.Values.{single, single_batch}
+use Rattle.profile_rows.specs.Values.{single}
 use Rattle.profile_samples.specs.Samples.{IsRowOfSample, IsSampleFault}
 use Rattle.profile_rows.specs.Rows.{total_of}
 use Rattle.profile_samples.specs.MergedSamples.{AreRowsAt}
@@ -52,13 +53,4 @@ loop-index-preserved c =
     )
 
 pub returns : goal.returns
-returns c = λ choice is_chosen.
-    let whole = samples_read c.args.profile.now c.draft.result.now c.loop-index.index c.len-index-end.result
-    c.draft.ensures.draft c.len-index-end.ensures c.loop-index-test.false in
-    let (rows, so_far, sums) = c.loop-index.invariant.0 in
-    record {
-      rows = rows;
-      sampled = IsBatchSoFar-end c.args.profile.now choice c.args.chosen 1
-          c.loop-index.index (single_batch rows) is_chosen whole so_far;
-      same = AreMergedSoFar-same rows c.loop-index.merged sums;
-    }
+returns c = grind (arith, common_steps, AreMergedSoFar-same, IsBatchSoFar-end, samples_read)

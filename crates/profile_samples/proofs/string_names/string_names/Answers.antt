@@ -1,5 +1,6 @@
 -- One string more.
-use Rattle.std.proofs.Common.{◌≡◌, ◌<◌, ◌+◌, ◌++◌, ◌∷◌, ◌∙◌, ℕ, List, [], None, ap, arith, false, get_or, length, map}
+use Rattle.std.proofs.lemmas.Grind.{common_steps}
+use Rattle.std.proofs.Common.{◌≡◌, ◌<◌, ◌+◌, ◌++◌, ◌∷◌, ◌∙◌, ℕ, List, [], None, ap, arith, get_or, length, map}
 use Rattle.std.proofs.Common.{sym, take}
 use Rattle.std.specs.Prelude.{if◌then◌else◌}
 use Rattle.std.proofs.lemmas.List.{get_or_read, length-take-le, map-append, take_more}
@@ -29,20 +30,4 @@ next_named functions strings at string names next name lt is so_far next_is name
     (ap (λ this. front ++ this ∷ []) is ∙ sym (take_more strings at string lt))
 
 pub loop-at-preserved : goal.loop-at-preserved
-loop-at-preserved c =
-    let functions = c.args.draft.now.functions in
-    let at = c.loop-at.at in
-    let string = c.index-strings-at.result in
-    let lt = c.loop-at-test.true in
-    let many = c.in_ok-marks.ensures.count in
-    let marked : c.index.result.now ≡ names_function functions at =
-    get_or_read c.in_ok-marks.marks.items at c.index.result.now (omega (arith, lt, many)) c.index.ensures false
-    ∙ c.in_ok-marks.ensures.marked at lt
-    ∙ ap (λ (these : List Function). names_function these at) c.as_slice.ensures in
-    next_named functions c.as_slice-strings.result.now at string c.loop-at.names.items c.push.new.self.items
-    c.if-index.name lt c.index-strings-at.is c.loop-at.invariant c.in_ok-push.ensures.items (elim c.if-index.branch [
-      | then-index+in_ok-name w ↦ ap name_in w.name-is ∙ w.in_ok-name.ensures ∙ ap cleaned_name_of w.as_str.ensures.text
-          ∙ ap (λ b. if b then cleaned_name_of string else None) (sym w.if-index.true ∙ marked)
-      | else-index w ↦ ap name_in w.name-is
-          ∙ ap (λ b. if b then cleaned_name_of string else None) (sym w.if-index.false ∙ marked)
-    ])
+loop-at-preserved c = grind (arith, common_steps, get_or_read, else-index, next_named)

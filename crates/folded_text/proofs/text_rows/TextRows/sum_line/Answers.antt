@@ -1,4 +1,5 @@
 -- The line's weight goes to the row of its stack text, or to a new one.
+use Rattle.std.proofs.lemmas.Grind.{common_steps}
 use Rattle.std.proofs.Common.{arith, ap, refl, sym, ◌∙◌}
 use Rattle.std.proofs.lemmas.Result.{err_from_is_err_and}
 use Rattle.profile_rows.specs.Rows.{total_of}
@@ -8,11 +9,7 @@ use Rattle.folded_text.proofs.Reading.{IsLineFault-fitting, IsLineFault-memory, 
 use Rattle.folded_text.proofs.text_rows.TextRows.sum_line.Goals as goal
 
 pub returns-in-Some-clause-added : goal.returns-in-Some-clause-added
-returns-in-Some-clause-added c =
-    let (utf8, small, digits, count, value) = c.in_ok-text.ensures.counted in
-    added_to c.in-Some.at c.in_ok-text.weight c.args.line.now c.in_ok-text.text.now digits
-    (spelled_rows c.args.self.now) (spelled_rows c.add_to.new.self)
-    c.add_to.result utf8 count value small c.in-Some.ensures c.add_to.ensures.added c.add_to.ensures.fits
+returns-in-Some-clause-added c = grind (arith, common_steps, added_to)
 
 pub returns-in-Some-clause-fault : goal.returns-in-Some-clause-fault
 returns-in-Some-clause-fault c =

@@ -1,5 +1,6 @@
 -- Sorted texts are in the order of their stacks.
-use Rattle.std.proofs.Common.{sym, ◌∙◌}
+use Rattle.std.proofs.lemmas.Grind.{common_steps}
+use Rattle.std.proofs.Common.{arith, sym, ◌∙◌}
 use Rattle.std.proofs.lemmas.List.Sorted.{All-permutation}
 use Rattle.profile_rows.specs.StackTexts.{TextState}
 use Rattle.folded_text.specs.StackOrder.{IsJoined}
@@ -18,6 +19,4 @@ invariant_of-result c =
     )
 
 pub returns : goal.returns
-returns c =
-    spelled-sorted c.args.rows.items c.sort_by_text.new.rows.items c.requires.texts
-    c.sort_by_text.ensures.permutation c.in_ok-sort_by_text.ensures.sorted
+returns c = grind (arith, common_steps, spelled-sorted)

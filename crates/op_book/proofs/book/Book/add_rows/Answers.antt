@@ -1,12 +1,13 @@
 -- The journal and the tree with an addition more.
-use Rattle.std.proofs.Common.{◌≡◌, [], ◌∷◌, ◌++◌, length, refl, sym, ap, subst, ◌∙◌, arith}
+use Rattle.std.proofs.lemmas.Grind.{common_steps}
+use Rattle.std.proofs.Common.{◌≡◌, [], ◌∷◌, ◌++◌, length, refl, sym, ap, ◌∙◌, arith}
 use Rattle.std.specs.Arc.{arc_value}
 use Rattle.profile_rows.specs.Values.{BatchState, rows_at}
 use Rattle.profile_rows.specs.Aggregate.{aggregates_of, with_rows}
 use Rattle.call_tree.specs.State.{TreeState, weights_of}
-use Rattle.op_book.specs.Books.{BookState, HasRoomFor, entry_after}
+use Rattle.op_book.specs.Books.{BookState, entry_after}
 use Rattle.op_book.specs.Ledgers.{LedgerState}
-use Rattle.op_book.specs.Operations.{PlainEntry, PlainReceipt, add, operations_of, placed, profile_after}
+use Rattle.op_book.specs.Operations.{PlainEntry, add, operations_of, profile_after}
 use Rattle.op_book.proofs.EntryLaws.{operations_of-push, profile_at-le}
 use Rattle.op_book.proofs.Readiness.{IsTreeAfter-added, told_after}
 use Rattle.op_book.proofs.book.Book.add_rows.Goals as goal
@@ -22,28 +23,10 @@ book_of ledger tree = record {
 }
 
 pub append-requires-clause-light : goal.append-requires-clause-light
-append-requires-clause-light c = λ value.
-    let batch = arc_value c.args.batch.now in
-    let entries : c.reserve.new.self.entries ≡ c.args.self.now.entries = ap (λ (l : LedgerState). l.entries)
-    c.in_ok-reserve.ensures.same ∙ ap (λ (b : BookState). b.entries) c.self.view_is in
-    let op_is : c.in_ok-entry.entry.op ≡ add batch = ap (λ (e : PlainEntry). e.op) c.in_ok-entry.ensures.entry in
-    let fits = subst (λ (b : BatchState). HasRoomFor c.args.self.now (add b) value) c.deref.ensures
-    (c.in_ok-check_batch.ensures.space.fits value) in
-    let most = profile_at-le value (operations_of c.args.self.now.entries) (add batch) in
-    rw (entries, op_is) (omega (arith, fits, most))
+append-requires-clause-light c = grind (arith, common_steps, profile_at-le)
 
 pub append-requires-clause-reply : goal.append-requires-clause-reply
-append-requires-clause-reply c =
-    let batch = arc_value c.args.batch.now in
-    let entries : c.reserve.new.self.entries ≡ c.args.self.now.entries = ap (λ (l : LedgerState). l.entries)
-    c.in_ok-reserve.ensures.same ∙ ap (λ (b : BookState). b.entries) c.self.view_is in
-    let place : c.len-place.result ≡ length c.args.self.now.entries = c.len-place.ensures ∙ ap length entries in
-    let op_is : c.in_ok-entry.entry.op ≡ add batch = ap (λ (e : PlainEntry). e.op) c.in_ok-entry.ensures.entry in
-    let reply_is : c.in_ok-entry.entry.reply ≡ placed c.len-place.result =
-    ap (λ (e : PlainEntry). e.reply) c.in_ok-entry.ensures.entry in
-    rw (entries, op_is, reply_is)
-    (ap (λ (r : PlainReceipt). r.reply)
-    (told_after c.args.self.now.entries (add batch) c.len-place.result c.facts.ensures.orderly.changes refl place))
+append-requires-clause-reply c = grind (arith, common_steps, told_after)
 
 pub invariant_of-self-2 : goal.invariant_of-self-2
 invariant_of-self-2 c =

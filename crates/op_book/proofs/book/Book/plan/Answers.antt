@@ -1,12 +1,12 @@
 -- The next tree is the aggregate of what then counts.
-use Rattle.std.proofs.Common.{rules, ◌≡◌, sym, ap, subst, ◌∙◌, arith}
+use Rattle.std.proofs.lemmas.Grind.{common_steps}
+use Rattle.std.proofs.Common.{◌≡◌, sym, subst, arith}
 use Rattle.std.specs.Arc.{arc_value}
 use Rattle.profile_rows.specs.Values.{BatchState}
-use Rattle.profile_rows.specs.Aggregate.{aggregates_of}
 use Rattle.op_book.specs.Books.{BookState, HasSpaceFor, IsOrderly, IsTreeAfter}
 use Rattle.op_book.specs.Changes.{change_op}
 use Rattle.op_book.specs.declared.book.changing.Change.{Change}
-use Rattle.op_book.specs.Operations.{operations_of, add, reset}
+use Rattle.op_book.specs.Operations.{add, reset}
 use Rattle.op_book.proofs.EntryLaws.{KeepLimit-whole, profile_after-reset}
 use Rattle.op_book.proofs.Readiness.{IsTreeAfter-added}
 use Rattle.op_book.proofs.book.Book.plan.Goals as goal
@@ -31,25 +31,10 @@ returns-in_ok-plan-in-Add-clause-next c =
     (subst (λ (b : BatchState). IsTreeAfter c.args.self.now (add b) next) same after)
 
 pub returns-in_ok-plan_reset-in-Reset-clause-next : goal.returns-in_ok-plan_reset-in-Reset-clause-next
-returns-in_ok-plan_reset-in-Reset-clause-next c =
-    let before = operations_of c.self.inside.ledger.entries in
-    let after : IsTreeAfter c.args.self.now reset c.in_ok-plan_reset-in-Reset.field-0.next =
-    subst
-    (λ (book : BookState). IsTreeAfter book reset c.in_ok-plan_reset-in-Reset.field-0.next) c.self.view_is (record {
-      width = c.in_ok-plan_reset-in-Reset.ensures.next_width ∙ c.self.invariant.0;
-      aggregate = λ value. c.in_ok-plan_reset-in-Reset.ensures.next value
-          ∙ sym (ap (λ rows. aggregates_of rows value) (profile_after-reset before));
-    }) in
-    subst (λ (change : Change). IsTreeAfter c.args.self.now (change_op change) c.in_ok-plan_reset-in-Reset.field-0.next)
-    (sym c.in-Reset.is) after
+returns-in_ok-plan_reset-in-Reset-clause-next c = grind (arith, common_steps, profile_after-reset)
 
 pub returns-in_ok-plan_reset-in-Reset-clause-space : goal.returns-in_ok-plan_reset-in-Reset-clause-space
-returns-in_ok-plan_reset-in-Reset-clause-space c =
-    subst (λ (change : Change). HasSpaceFor c.args.self.now (change_op change))
-    (sym c.in-Reset.is) (space_for_reset c.args.self.now c.facts.ensures.orderly)
+returns-in_ok-plan_reset-in-Reset-clause-space c = grind (arith, common_steps, space_for_reset)
 
 pub returns-in_err-plan_reset-in-Reset-clause-fault : goal.returns-in_err-plan_reset-in-Reset-clause-fault
-returns-in_err-plan_reset-in-Reset-clause-fault c =
-    let space = subst (λ (change : Change). HasSpaceFor c.args.self.now (change_op change))
-    (sym c.in-Reset.is) (space_for_reset c.args.self.now c.facts.ensures.orderly) in
-    search rules
+returns-in_err-plan_reset-in-Reset-clause-fault c = grind (arith, common_steps, space_for_reset)

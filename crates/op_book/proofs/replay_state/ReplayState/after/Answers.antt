@@ -1,11 +1,8 @@
 -- What counts after one receipt more.
-use Rattle.std.proofs.Common.{◌≡◌, ◌+◌, List, sym, ap, ◌∙◌, arith}
-use Rattle.profile_rows.specs.Aggregate.{aggregates_of}
-use Rattle.profile_rows.specs.Rows.{total_of}
-use Rattle.profile_rows.specs.Values.{Row, rows_at}
+use Rattle.std.proofs.Common.{rules, ◌≡◌, ◌+◌, sym, ap, ◌∙◌, arith}
 use Rattle.std.specs.Arc.{arc_value}
 use Rattle.op_book.specs.Matching.{LoggedReceipt}
-use Rattle.op_book.specs.Operations.{PlainReceipt, add, ask, reset, plain_op}
+use Rattle.op_book.specs.Operations.{PlainReceipt, add, ask, plain_op}
 use Rattle.op_book.proofs.Totals.{profile_after-resets, total_after-add, total_after-ask, total_after-light}
 use Rattle.op_book.proofs.replay_state.ReplayState.after.Goals as goal
 
@@ -21,34 +18,10 @@ plus-requires-clause-fits c = λ value.
     omega (arith, next, light, c.requires.followed.totals value, c.total.ensures.totals.each value)
 
 pub returns-in-Add-clause-followed : goal.returns-in-Add-clause-followed
-returns-in-Add-clause-followed c =
-    let all = c.args.ordered.now in
-    let one = c.index-ordered-at.result in
-    let batch = c.deref.result.now in
-    let op : one.receipt.op ≡ add batch = ap (λ (one : LoggedReceipt). one.receipt.op) (sym c.one.view_is) ∙ ap
-    (λ (r : PlainReceipt). r.op) (sym c.receipt.view_is) ∙ ap plain_op c.in-Add.is ∙ ap add (sym c.deref.ensures) in
-    let before = c.requires.followed in record {
-      totals = λ value.
-          let next = total_after-add all c.args.at one batch c.requires.within c.index-ordered-at.is op value in
-          omega (arith, next, before.totals value, c.total.ensures.totals.each value, c.plus.ensures.each value);
-      width = c.plus.ensures.width ∙ before.width;
-      grown = omega (arith, before.grown);
-      tree = before.tree;
-    }
+returns-in-Add-clause-followed c = search (rules, total_after-add)
 
 pub returns-in_ok-emptied-in-Reset-clause-followed : goal.returns-in_ok-emptied-in-Reset-clause-followed
-returns-in_ok-emptied-in-Reset-clause-followed c =
-    let all = c.args.ordered.now in
-    let one = c.index-ordered-at.result in
-    let op : one.receipt.op ≡ reset = ap (λ (one : LoggedReceipt). one.receipt.op) (sym c.one.view_is)
-    ∙ ap (λ (r : PlainReceipt). r.op) (sym c.receipt.view_is) ∙ ap plain_op c.in-Reset.is in
-    let none = profile_after-resets all c.args.at one c.requires.within c.index-ordered-at.is op in
-    let now = c.in_ok-emptied-in-Reset.ensures in record {
-      totals = λ value. c.zero.ensures.zero value ∙ sym (ap (λ (rows : List Row). total_of (rows_at value rows)) none);
-      width = c.zero.ensures.width ∙ c.width.ensures ∙ c.requires.followed.width ∙ sym now.width;
-      grown = omega arith;
-      tree = λ value. now.weights value ∙ sym (ap (λ (rows : List Row). aggregates_of rows value) none);
-    }
+returns-in_ok-emptied-in-Reset-clause-followed c = search (rules, profile_after-resets)
 
 pub returns-in-Ask-clause-followed : goal.returns-in-Ask-clause-followed
 returns-in-Ask-clause-followed c =

@@ -1,5 +1,5 @@
 -- The tree of the receipts so far, one by one.
-use Rattle.std.proofs.Common.{◌≡◌, ◌<◌, ◌+◌, ◌^◌, ◌++◌, ◌∷◌, [], List, length, take, sym, ap, subst, ◌∙◌, arith}
+use Rattle.std.proofs.Common.{rules, ◌≡◌, ◌<◌, ◌+◌, ◌^◌, ◌++◌, ◌∷◌, [], List, length, take, sym, ap, subst, ◌∙◌, arith}
 use Rattle.profile_rows.specs.Rows.{total_of}
 use Rattle.profile_rows.specs.Values.{rows_at}
 use Rattle.op_book.specs.Matching.{LoggedReceipt}
@@ -40,20 +40,7 @@ loop-place-preserved c =
     )
 
 pub returns-clause-followed : goal.returns-clause-followed
-returns-clause-followed c =
-    let all = c.args.ordered.now in
-    let before = c.requires.followed in
-    let done : c.loop-place.place ≡ c.args.count =
-    omega (arith, c.loop-place-test.false, c.loop-place.auto.place-end, before.grown) in record {
-      totals = before.totals;
-      width = before.width ∙ sym c.loop-place.invariant.0;
-      grown = omega arith;
-      tree = subst (λ n. IsTreeOf (ops_in (take n all)) c.loop-place.grower) done c.loop-place.invariant.1;
-    }
+returns-clause-followed c = search (rules)
 
 pub returns-clause-tree : goal.returns-clause-tree
-returns-clause-tree c =
-    let all = c.args.ordered.now in
-    let done : c.loop-place.place ≡ c.args.count =
-    omega (arith, c.loop-place-test.false, c.loop-place.auto.place-end, c.requires.followed.grown) in
-    subst (λ n. IsTreeOf (ops_in (take n all)) c.loop-place.grower) done c.loop-place.invariant.1
+returns-clause-tree c = search (rules)

@@ -1,7 +1,6 @@
 -- A row has its stack, its first value and its others.
-use Rattle.std.proofs.Common.{◌≡◌, ◌∷◌, ap, ◌∙◌, length, ◌-◌, ◌*◌, ◌<◌, get_or, take, drop, arith}
-use Rattle.profile_rows.specs.declared.weighted_stacks.WeightedStack.{WeightedStack}
-use Rattle.profile_rows.specs.Values.{Row}
+use Rattle.std.proofs.lemmas.Grind.{common_steps}
+use Rattle.std.proofs.Common.{◌≡◌, ap, ◌∙◌, length, ◌-◌, ◌*◌, ◌<◌, get_or, take, drop, arith}
 use Rattle.profile_rows.proofs.RowValues.{seen-length, seen-row}
 use Rattle.profile_rows.proofs.batch.Batch.row.Goals as goal
 
@@ -31,13 +30,7 @@ others c = c.other_values.ensures
     ∙ (λ i. take (c.width.ensures i - 1) (drop (c.args.at * (c.width.ensures i - 1)) (c.deref.ensures.value i)))
 
 pub returns-clause-stack : goal.returns-clause-stack
-returns-clause-stack c =
-    let row = seen-row c.self.inside.totals c.self.inside.first
-    c.self.inside.others.items c.args.self.now c.self.view_is c.args.at c.index-rows-at.result (within c) in
-    ap (λ (w : WeightedStack). w.stack) (here c) ∙ ap (λ (row : Row). row.stack) row
+returns-clause-stack c = grind (arith, common_steps, seen-row, here, others, within)
 
 pub returns-clause-weights : goal.returns-clause-weights
-returns-clause-weights c =
-    let row = seen-row c.self.inside.totals c.self.inside.first
-    c.self.inside.others.items c.args.self.now c.self.view_is c.args.at c.index-rows-at.result (within c) in
-    c.join.ensures ∙ (λ i. (here c i).weight ∷ others c i) ∙ ap (λ (row : Row). row.weights) row
+returns-clause-weights c = grind (arith, common_steps, seen-row, here, others, within)

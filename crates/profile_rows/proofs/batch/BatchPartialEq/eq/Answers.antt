@@ -1,5 +1,5 @@
 -- Batches are compared by their parts.
-use Rattle.std.proofs.Common.{◌≡◌, ◌&&◌, sym, ap, ◌∙◌, length}
+use Rattle.std.proofs.Common.{rules, ◌≡◌, ◌&&◌, sym, ap, ◌∙◌, length}
 use Rattle.std.specs.Cmp.Lexicographic.{pointwise}
 use Rattle.std.specs.Prelude.{◌==◌}
 use Rattle.profile_rows.specs.Equality.{row_eq}
@@ -28,10 +28,7 @@ others_are c =
     (sym c.if-eq-2.true ∙ first_is c)
 
 pub returns-then-eq-2-clause-compared : goal.returns-then-eq-2-clause-compared
-returns-then-eq-2-clause-compared c =
-    others_are c ∙ parts_compare c.self.inside.totals c.self.inside.first
-    c.self.inside.others.items c.other.inside.totals c.other.inside.first c.other.inside.others.items
-    c.args.self.now c.args.other.now c.self.invariant c.other.invariant c.self.view_is c.other.view_is
+returns-then-eq-2-clause-compared c = search (rules, parts_compare, others_are)
 
 pub returns-then-eq-2-clause-equal : goal.returns-then-eq-2-clause-equal
 returns-then-eq-2-clause-equal c =
@@ -59,10 +56,7 @@ parts_differ c = c.if-eq-2.false ∙ ap (λ b. b && pointwise ◌==◌ c.self.in
     (sym c.if-eq-2.false ∙ first_differs c)
 
 pub returns-else-eq-2-clause-compared : goal.returns-else-eq-2-clause-compared
-returns-else-eq-2-clause-compared c =
-    parts_differ c ∙ parts_compare c.self.inside.totals c.self.inside.first
-    c.self.inside.others.items c.other.inside.totals c.other.inside.first c.other.inside.others.items
-    c.args.self.now c.args.other.now c.self.invariant c.other.invariant c.self.view_is c.other.view_is
+returns-else-eq-2-clause-compared c = search (rules, parts_compare, parts_differ)
 
 pub returns-else-eq-2-clause-equal : goal.returns-else-eq-2-clause-equal
 returns-else-eq-2-clause-equal c =

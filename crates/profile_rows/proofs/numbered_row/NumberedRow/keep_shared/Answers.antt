@@ -1,4 +1,5 @@
 -- The numbers of the first frames stay.
+use Rattle.std.proofs.lemmas.Grind.{common_steps}
 use Rattle.std.proofs.Common.{◌≡◌, ℕ, List, [], All, map, take, ap, sym, ◌∙◌, arith, subst}
 use Rattle.std.proofs.lemmas.List.{length-map, take-map}
 use Rattle.std.proofs.lemmas.List.Elements.{All-take}
@@ -13,12 +14,7 @@ use Rattle.profile_rows.proofs.TextNumbers.{text_of}
 use Rattle.profile_rows.proofs.numbered_row.NumberedRow.keep_shared.Goals as goal
 
 pub returns-clause-within : goal.returns-clause-within
-returns-clause-within c =
-    let long = length-map c.args.frames.now text_of in
-    let most = (common_prefix_len-le bytes_eq
-    (names_at c.self.inside.names.texts c.as_slice.result.now) (map text_of c.args.frames.now)).1 in
-    let shared = c.shared_frames-shared.ensures in
-    omega (arith, long, most, shared)
+returns-clause-within c = grind (arith, common_steps, length-map, common_prefix_len-le, text_of)
 
 -- the names of the numbers that stay are those of the frames that are shared
 kept : (texts : List (List ℕ)) (lent before after : List ℕ) (frames : List (List ℕ)) (shared : ℕ)
@@ -33,9 +29,7 @@ kept texts lent before after frames shared is same cut =
     ∙ ap (λ count. take count frames) (sym is)
 
 pub returns-clause-frames : goal.returns-clause-frames
-returns-clause-frames c = kept c.self.inside.names.texts c.as_slice.result.now c.self.inside.numbers.items
-    c.truncate.new.self.items (map text_of c.args.frames.now) c.shared_frames-shared.result
-    c.shared_frames-shared.ensures c.as_slice.ensures.value c.truncate.ensures.items
+returns-clause-frames c = grind (arith, common_steps, text_of, kept)
 
 pub returns-clause-known : goal.returns-clause-known
 returns-clause-known c =

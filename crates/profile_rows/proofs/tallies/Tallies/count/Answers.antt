@@ -1,31 +1,17 @@
 -- The names of the row are counted, and then its leaf.
-use Rattle.std.proofs.Common.{◌≡◌, ◌+◌, length, refl, ap, ◌∙◌, subst, arith, Some, None, rules}
+use Rattle.std.proofs.lemmas.Grind.{common_steps}
+use Rattle.std.proofs.Common.{◌≡◌, length, refl, ap, ◌∙◌, subst, arith, None, rules}
 use Rattle.std.proofs.lemmas.List.{length-set}
-use Rattle.profile_rows.specs.declared.tallies.Tally.{Tally}
 use Rattle.profile_rows.specs.declared.weighted_stacks.WeightedStack.{WeightedStack}
 use Rattle.profile_rows.specs.Tallies.{IsNumberedStack}
 use Rattle.profile_rows.proofs.TallyLaws.{counted-leaf, counted-none, cumulative-most, flat-most, numbers_counted-flat}
 use Rattle.profile_rows.proofs.tallies.Tallies.count.Goals as goal
 
 pub count_names-requires-clause-fits : goal.count_names-requires-clause-fits
-count_names-requires-clause-fits c = λ number lt apart.
-    let (names, rows, stack, are, this) = c.requires.counted in
-    let many = are.many in
-    let most = cumulative-most rows names c.args.self.now number are (omega (arith, lt, many)) in
-    let fits = c.requires.fits in
-    omega (arith, most, fits)
+count_names-requires-clause-fits c = grind (arith, common_steps, cumulative-most)
 
 pub count_leaf-requires-clause-fits : goal.count_leaf-requires-clause-fits
-count_leaf-requires-clause-fits c =
-    let (names, rows, stack, are, this) = c.requires.counted in
-    let leaf = c.in-Some.leaf in
-    let own : IsNumberedStack names stack c.args.numbers.now (Some leaf) =
-    subst (IsNumberedStack names stack c.args.numbers.now) c.in-Some.is this in
-    let most = flat-most rows names c.args.self.now leaf are own.last.0 in
-    let same = ap (λ (t : Tally). t.flat) (c.count_names.ensures.each leaf)
-    ∙ numbers_counted-flat c.args.numbers.now (c.args.self.now.total + c.args.weight) c.args.weight leaf _ in
-    let fits = c.requires.fits in
-    omega (arith, most, same, fits)
+count_leaf-requires-clause-fits c = grind (arith, common_steps, flat-most, numbers_counted-flat)
 
 pub returns-in-Some : goal.returns-in-Some
 returns-in-Some c = λ names rows stack are this.

@@ -1,6 +1,7 @@
 -- Values are added place by place.
-use Rattle.std.proofs.Common.{◌≡◌, ◌+◌, length, take, ap, sym, ◌∙◌, subst, arith}
-use Rattle.profile_rows.specs.Values.{IsPadded, value_of}
+use Rattle.std.proofs.lemmas.Grind.{common_steps}
+use Rattle.std.proofs.Common.{◌≡◌, length, ap, subst, arith}
+use Rattle.profile_rows.specs.Values.{IsPadded}
 use Rattle.profile_rows.proofs.FourValues.{value_of-sums}
 use Rattle.profile_rows.proofs.values.Weights.plus.Goals as goal
 
@@ -18,10 +19,4 @@ more_padded : (c : goal.After-result-5-1) → IsPadded c.self.inside.width c.mor
 more_padded c = subst (λ w. IsPadded w c.more.inside.values) (widths c) c.more.invariant
 
 pub returns-clause-each : goal.returns-clause-each
-returns-clause-each c = λ value.
-    let sums = value_of-sums c.self.inside.width c.self.inside.values c.more.inside.values c.self.invariant
-    (more_padded c) value in
-    let one = ap (value_of value) c.self.view_is in
-    let other = ap (λ w. value_of value (take w c.more.inside.values)) (sym (widths c))
-    ∙ ap (value_of value) c.more.view_is in
-    sums ∙ (λ i. one i + other i)
+returns-clause-each c = grind (arith, common_steps, value_of-sums, widths, more_padded)

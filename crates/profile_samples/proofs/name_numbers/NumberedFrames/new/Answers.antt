@@ -1,8 +1,7 @@
 -- All numbers are of names, and the ids differ.
-use Rattle.std.proofs.Common.{rules, ◌≡◌, ◌<◌, ℕ, List, All, sym, length, subst}
-use Rattle.std.specs.Prelude.{false}
+use Rattle.std.proofs.lemmas.Grind.{common_steps}
+use Rattle.std.proofs.Common.{arith, rules, ◌≡◌, ◌<◌, ℕ, List, All, sym, length, subst}
 use Rattle.std.proofs.lemmas.List.Elements.{All-map}
-use Rattle.pprof_profile.specs.Valid.{IsValidDraft, has_double, location_ids}
 use Rattle.profile_samples.specs.NameNumbers.{frame_names, numbers_of}
 use Rattle.profile_samples.proofs.ItemsById.{ids_differ}
 use Rattle.profile_samples.proofs.FrameNumbers.{all_named}
@@ -22,16 +21,4 @@ all_once-requires c =
     }
 
 pub invariant_of-result : goal.invariant_of-result
-invariant_of-result c =
-    let draft = c.draft-draft.result.now in
-    let ids : c.in_ok-indices.indices ≡ location_ids draft = search rules in
-    let valid : IsValidDraft draft = subst IsValidDraft (sym c.draft-draft.ensures.draft) c.draft-draft.ensures.valid in
-    record {
-      ids_are = ids;
-      single = subst (λ i. has_double i ≡ false) (sym ids) (ids_differ draft valid).0;
-      frames_are = c.in_ok-names.ensures.frames;
-      once_are = c.in_ok-once.ensures;
-      depths = c.deepest_of-deepest.ensures;
-      names_are = c.in_ok-names.ensures.names;
-      each = c.in_ok-names.ensures.each;
-    }
+invariant_of-result c = grind (arith, common_steps, ids_differ)

@@ -1,0 +1,201 @@
+#!/usr/bin/env python3
+"""shorter_proofs.py CRATE [JOBS]: tries proofs of a crate that take three lines or more as one call of a tactic each.
+
+An equation of an answer or of a lemma becomes a call of `grind` or `search` over the lemmas that its term cites and its
+own calls of the lemma, where that is shorter. The crate is checked, and what the prover refuses is put back, until
+nothing is refused, and then the next form is tried; imports that nothing uses any more are removed at last. It changes
+the files of crates/CRATE/proofs, and says how many lines are gone, once the crate is proved. Nothing else may work in
+the crate meanwhile.
+"""
+import pathlib
+import re
+import subprocess
+import sys
+from dataclasses import dataclass
+
+ROOT = pathlib.Path(__file__).resolve().parent.parent
+WIDTH = 120
+LEAST = 3
+# The forms of a call, each a tactic and what its list begins with, and where these names are from.
+FORMS = [("grind", ("arith",)), ("grind", ("arith", "common_steps")), ("search", ("rules",))]
+HOMES = {
+    "arith": "Rattle.std.proofs.Common",
+    "rules": "Rattle.std.proofs.Common",
+    "common_steps": "Rattle.std.proofs.lemmas.Grind",
+}
+IMPORT = re.compile(r"^use ([\w.\-]+)\.\{([^}]*)\}", re.M)
+SIGNATURE = re.compile(r"^(?:pub )?([^\s:]+) : ", re.M)
+EQUATION = re.compile(r"^([^\s:=]+)((?: [^=]*)?) =(?: |$)")
+REFUSED = re.compile(r"(?:^|: )\./(proofs/\S+?\.antt):(\d+):\d+: error: ", re.M)
+ARGUMENT = re.compile(r"[A-Za-z_][\w\-'.]*|\d+|\[\]")
+KEYWORDS = {"in", "then", "where", "let", "rw", "at"}
+
+
+@dataclass
+class Try:
+    """An equation whose term was replaced: its file, its old lines, and its new ones."""
+
+    file: pathlib.Path
+    old: list
+    new: list
+
+
+def imports_of(text):
+    """The names that a file imports, each with the module that it is from."""
+    return {name.strip(): module for module, names in IMPORT.findall(text) for name in names.split(",")}
+
+
+def is_lemma(name, module):
+    """Whether an imported name may be that of a lemma: a lemma's name has a dash or is from a module of proofs."""
+    if "◌" in name or "-" in name:
+        return "◌" not in name
+    return name[:1].islower() and ".proofs." in module and not module.endswith("std.proofs.Common")
+
+
+def end_of_group(text, start):
+    """Where the parenthesis or brace that opens at start is closed."""
+    depth = 0
+    for at in range(start, len(text)):
+        depth += (text[at] in "({") - (text[at] in ")}")
+        if depth == 0:
+            return at + 1
+    return len(text)
+
+
+def argument_at(text, start):
+    """The end of the argument that begins at start, with its projections; start itself where none does."""
+    if text[start : start + 1] in ("(", "{"):
+        end = end_of_group(text, start)
+        return end + re.match(r"(\.[\w\-]+)*", text[end:]).end()
+    found = ARGUMENT.match(text, start)
+    return found.end() if found and found.group() not in KEYWORDS else start
+
+
+def calls_of(name, term):
+    """The calls of a lemma in a term, each with its arguments."""
+    calls = []
+    for found in re.finditer(rf"(?<![\w\-.]){re.escape(name)}(?![\w\-])", term):
+        end = found.end()
+        while end < len(term) and term[end] == " ":
+            after = argument_at(term, end + 1)
+            if after == end + 1:
+                break
+            end = after
+        call = term[found.start() : end]
+        if call != name and call not in calls:
+            calls.append(call)
+    return calls
+
+
+def laid_out(head, tactic, facts):
+    """The equation of a tactic's call, as the formatter lays it out."""
+    line = f"{head} = {tactic} ({', '.join(facts)})"
+    if len(line) <= WIDTH:
+        return [line]
+    if len(line) - len(head) + 2 <= WIDTH:
+        return [f"{head} =", f"    {tactic} ({', '.join(facts)})"]
+    return [f"{head} =", f"    {tactic} (", *(f"      {fact}," for fact in facts), "    )"]
+
+
+def shorter(name, head, term, imports, earlier, form):
+    """The equation as one call of a tactic over what its term cites."""
+    words = set(re.findall(r"[^\s(){}\[\],;.]+", term))
+    cited = [lemma for lemma, module in imports.items() if lemma in words and is_lemma(lemma, module)]
+    cited += [lemma for lemma in earlier if lemma in words]
+    tactic, begin = form
+    return laid_out(head, tactic, [*begin, *(x for x in cited if x not in begin), *calls_of(name, term)])
+
+
+def with_imports(text, names):
+    """The text of a file in which these names are imported."""
+    for name in names:
+        if name in imports_of(text):
+            continue
+        home = HOMES[name]
+        line = f"use {home}.{{"
+        if line in text:
+            text = text.replace(line, f"{line}{name}, ", 1)
+        else:
+            text = re.sub(r"^use ", f"{line}{name}}}\nuse ", text, count=1, flags=re.M)
+    return text
+
+
+def end_of_equation(lines, start):
+    """The line behind the equation that begins at a line: its others are indented, or close what it opened."""
+    end = start + 1
+    while end < len(lines) and lines[end][:1] in (" ", ")", "]", "}") and lines[end]:
+        end += 1
+    return end
+
+
+def try_file(file, form):
+    """Replaces the equations of a file that are long enough, and returns the tries."""
+    text = file.read_text(encoding="utf-8")
+    lines, imports = text.split("\n"), imports_of(text)
+    names, tries, kept, at = SIGNATURE.findall(text), [], [], 0
+    while at < len(lines):
+        end, found = end_of_equation(lines, at), EQUATION.match(lines[at])
+        old = lines[at:end]
+        if found and found[1] in names and len(old) >= LEAST and not any("where" in line for line in old):
+            name, head = found[1], found[1] + found[2]
+            term = re.sub(r"\s+", " ", "\n".join(old)[len(head) + 2 :])
+            new = shorter(name, head, term, imports, names[: names.index(name)], form)
+            if len(new) < len(old):
+                tries.append(Try(file, old, new))
+                old = new
+        kept += old
+        at = end
+    if tries:
+        file.write_text(with_imports("\n".join(kept), form[1]), encoding="utf-8")
+    return tries
+
+
+def refused_lines(crate, jobs):
+    """Checks the crate, and returns the lines that the prover refuses, by file."""
+    words = ["rt", "check", "--jobs", jobs, "--allow-holes"]
+    said = subprocess.run(words, cwd=crate, capture_output=True, text=True).stdout
+    refused = {}
+    for file, line in REFUSED.findall(said):
+        refused.setdefault(crate / file, set()).add(int(line))
+    return refused
+
+
+def lines_at(one):
+    """The lines of its file at which a try stands."""
+    text = one.file.read_text(encoding="utf-8")
+    first = text[: text.find("\n".join(["", *one.new, ""]))].count("\n") + 2
+    return range(first, first + len(one.new))
+
+
+def put_back(tries, refused):
+    """Puts the old lines of refused tries in their places, and returns the tries that are left and those put back."""
+    back = [one for one in tries if not refused.get(one.file, set()).isdisjoint(lines_at(one))]
+    for one in back:
+        text = one.file.read_text(encoding="utf-8")
+        changed = text.replace("\n".join(["", *one.new, ""]), "\n".join(["", *one.old, ""]), 1)
+        one.file.write_text(changed, encoding="utf-8")
+    return [one for one in tries if one not in back], back
+
+
+def lines_of(crate):
+    return sum(file.read_text(encoding="utf-8").count("\n") for file in (crate / "proofs").rglob("*.antt"))
+
+
+def main():
+    crate = ROOT / "crates" / sys.argv[1]
+    jobs = sys.argv[2] if len(sys.argv) > 2 else "1"
+    before = lines_of(crate)
+    for form in FORMS:
+        files = sorted((crate / "proofs").rglob("*.antt"))
+        tries = [one for file in files for one in try_file(file, form)]
+        count, back = len(tries), tries
+        while back:
+            tries, back = put_back(tries, refused_lines(crate, jobs))
+        print(f"{form[0]} {form[1]}: {len(tries)} of {count} equations are one call", flush=True)
+    if subprocess.run(["rt", "check", "--jobs", jobs, "--fix-imports"], cwd=crate, capture_output=True).returncode:
+        sys.exit(f"shorter_proofs: {crate.name} isn't proved: put its proofs back")
+    print(f"{before - lines_of(crate)} of {before} lines are gone")
+
+
+if __name__ == "__main__":
+    main()

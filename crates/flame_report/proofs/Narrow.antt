@@ -1,13 +1,14 @@
 -- Below a rectangle that takes no column there is none that does.
-use Rattle.std.proofs.Common.{ℕ, ◌≡◌, ◌<◌, ◌≤◌, ◌+◌, List, [], ◌∷◌, ◌++◌, length, take, drop, get_or, refl, sym, ap}
+use Rattle.std.proofs.Common.{ℕ, ◌≡◌, ◌<◌, ◌≤◌, ◌+◌, ◌-◌, List, [], ◌∷◌, ◌++◌, length, take, drop, get_or, refl, sym, ap}
 use Rattle.std.proofs.Common.{subst, ◌∙◌, arith, zero, suc, true, false}
-use Rattle.std.proofs.lemmas.Bool.{cases_Bool, both_ways}
+use Rattle.std.proofs.lemmas.Bool.{cases_Bool, both_ways, le-ltb}
 use Rattle.std.proofs.lemmas.List.{take-take, take-append-drop}
 use Rattle.std.proofs.Common.{inl, inr}
 use Rattle.profile_rows.specs.declared.weighted_stacks.WeightedStack.{WeightedStack}
 use Rattle.profile_rows.specs.Layout.{is_shown, last_name, rectangle_at}
 use Rattle.profile_rows.specs.Paths.{prefixes}
-use Rattle.flame_report.specs.Sharing.{shown_of}
+use Rattle.flame_report.specs.Sharing.{shown_of, span_of}
+use Rattle.flame_report.specs.declared.layout.Span.{Span}
 use Rattle.flame_report.proofs.Prefixes.{drop-prefixes_more, drop-prefixes_all, shown_of-no}
 use Rattle.flame_report.proofs.Spans.{parents_are_shown}
 
@@ -34,10 +35,18 @@ none_from columns rows stack n k (suc more) le end hidden =
     (take k stack) (drop (k + 1) (prefixes stack)) (longer_hidden columns rows stack n k le hidden)
     ∙ none_from columns rows stack n (k + 1) more (omega arith) (omega arith) hidden
 
-pub none_below : (columns : ℕ) (rows : List WeightedStack) (stack : List (List ℕ)) (n more : ℕ)
+none_below : (columns : ℕ) (rows : List WeightedStack) (stack : List (List ℕ)) (n more : ℕ)
     → n + more ≡ length stack + 1 → is_shown (rectangle_at columns rows (take n stack)) ≡ false
     → shown_of columns rows (drop n (prefixes stack)) ≡ []
 none_below columns rows stack n more end hidden = none_from columns rows stack n n more (omega arith) end hidden
+
+-- so none is drawn below a span that takes no column
+pub nothing_left : (columns : ℕ) (rows : List WeightedStack) (stack : List (List ℕ)) (n : ℕ) (span : Span)
+    → span ≡ span_of (rectangle_at columns rows (take n stack)) → span.right ≤ span.left → n ≤ length stack
+    → shown_of columns rows (drop n (prefixes stack)) ≡ []
+nothing_left columns rows stack n span is narrow deep =
+    none_below columns rows stack n (length stack + 1 - n) (omega arith)
+    (le-ltb _ _ (omega (arith, ap (λ (s : Span). s.left) is, ap (λ (s : Span). s.right) is)))
 
 -- what the path of a stack's first names is called
 pub last_name-take : (names : List (List ℕ)) (k : ℕ) (d : List ℕ)

@@ -157,54 +157,56 @@ group_first rows path i d h here none =
     let more = weight_where-more (begins_with name_cmp path) rows i d h here in
     omega (arith, before, more)
 
+one_less : (k : ℕ) → suc k - 1 ≡ k
+one_less k = omega arith
+
 -- the row after one of a group is of the group where it shares enough
-pub group_next : (rows : List WeightedStack) (path : List (List ℕ)) (i : ℕ) → begins_with name_cmp path
-    (stack_at rows i) ≡ true → length path < shared_paths (stack_at rows i) (stack_at rows (i + 1))
-    → begins_with name_cmp path (stack_at rows (i + 1)) ≡ true
-group_next rows path i here h =
-    let e = order.take_prefix names_total names_same path (stack_at rows i) here in
+pub group_next : (rows : List WeightedStack) (path : List (List ℕ)) (k : ℕ) → 0 < k
+    → begins_with name_cmp path (stack_at rows (k - 1)) ≡ true → length path < known_at rows k
+    → begins_with name_cmp path (stack_at rows k) ≡ true
+group_next rows path zero some before h = absurd (omega arith)
+group_next rows path (suc k) some before h =
+    let here = subst (λ n. begins_with name_cmp path (stack_at rows n) ≡ true) (one_less k) before in
+    let e = order.take_prefix names_total names_same path (stack_at rows k) here in
     let l = ap length e in
-    subst (λ p. begins_with name_cmp p (stack_at rows (i + 1)) ≡ true) e
-    (order.prefix-take_yes names_total names_same (length path) (stack_at rows i)
-    (stack_at rows (i + 1)) (omega (arith, l, length-take (length path) (stack_at rows i))) (omega (arith, h)))
+    subst (λ p. begins_with name_cmp p (stack_at rows (suc k)) ≡ true) e
+    (order.prefix-take_yes names_total names_same (length path) (stack_at rows k)
+    (stack_at rows (suc k)) (omega (arith, l, length-take (length path) (stack_at rows k))) (omega (arith, h)))
+
+-- and isn't where it shares too little
+pub group_ends : (rows : List WeightedStack) (path : List (List ℕ)) (k : ℕ) → 0 < k
+    → begins_with name_cmp path (stack_at rows (k - 1)) ≡ true → known_at rows k ≤ length path
+    → begins_with name_cmp path (stack_at rows k) ≡ false
+group_ends rows path zero some before h = absurd (omega arith)
+group_ends rows path (suc k) some before h =
+    let here = subst (λ n. begins_with name_cmp path (stack_at rows n) ≡ true) (one_less k) before in
+    let e = order.take_prefix names_total names_same path (stack_at rows k) here in
+    let l = ap length e in
+    subst (λ p. begins_with name_cmp p (stack_at rows (suc k)) ≡ false) e
+    (order.prefix-take_no names_total names_same (length path) (stack_at rows k)
+    (stack_at rows (suc k)) (omega (arith, l, length-take (length path) (stack_at rows k))) (omega (arith, h)))
 
 -- the rows from one on that isn't of the group add nothing
-pub group_whole : (rows : List WeightedStack) (path : List (List ℕ)) (i : ℕ)
-    → IsAscending rows → i + 1 < length rows → begins_with name_cmp path (stack_at rows i) ≡ true
-    → begins_with name_cmp path (stack_at rows (i + 1)) ≡ false
-    → weight_where (begins_with name_cmp path) (take (i + 1) rows) ≡ path_weight rows path
-group_whole rows path i up h here gone =
+pub group_whole : (rows : List WeightedStack) (path : List (List ℕ)) (k : ℕ)
+    → IsAscending rows → 0 < k → k < length rows → begins_with name_cmp path (stack_at rows (k - 1)) ≡ true
+    → begins_with name_cmp path (stack_at rows k) ≡ false
+    → weight_where (begins_with name_cmp path) (take k rows) ≡ path_weight rows path
+group_whole rows path k up some h here gone =
     let d : WeightedStack = record { stack = []; weight = 0 } in
-    let here' : begins_with name_cmp path (stack_of rows i d) ≡ true =
-    subst (λ s. begins_with name_cmp path s ≡ true) (stack_at-get rows i d (omega arith)) here in
-    let gone' : begins_with name_cmp path (stack_of rows (i + 1) d) ≡ false =
-    subst (λ s. begins_with name_cmp path s ≡ false) (stack_at-get rows (i + 1) d h) gone in
-    let rest = no_more_rows rows path i (i + 1) d up (omega arith) h here' gone' in
+    let here' : begins_with name_cmp path (stack_of rows (k - 1) d) ≡ true =
+    subst (λ s. begins_with name_cmp path s ≡ true) (stack_at-get rows (k - 1) d (omega arith)) here in
+    let gone' : begins_with name_cmp path (stack_of rows k d) ≡ false =
+    subst (λ s. begins_with name_cmp path s ≡ false) (stack_at-get rows k d h) gone in
+    let rest = no_more_rows rows path (k - 1) k d up (omega arith) h here' gone' in
     let whole : weight_where (begins_with name_cmp path)
-    (take (i + 1) rows) + weight_where (begins_with name_cmp path) (drop (i + 1) rows) ≡ path_weight rows path =
-    sum_by-take-drop (λ r. cond (begins_with name_cmp path r.stack) r.weight 0) rows (i + 1) in
+    (take k rows) + weight_where (begins_with name_cmp path) (drop k rows) ≡ path_weight rows path =
+    sum_by-take-drop (λ r. cond (begins_with name_cmp path r.stack) r.weight 0) rows k in
     omega (arith, rest, whole)
-
--- the row after one of a group isn't of the group where it shares too little
-pub group_ends : (rows : List WeightedStack) (path : List (List ℕ)) (i : ℕ) → begins_with name_cmp path
-    (stack_at rows i) ≡ true → shared_paths (stack_at rows i) (stack_at rows (i + 1)) ≤ length path
-    → begins_with name_cmp path (stack_at rows (i + 1)) ≡ false
-group_ends rows path i here h =
-    let e = order.take_prefix names_total names_same path (stack_at rows i) here in
-    let l = ap length e in
-    subst (λ p. begins_with name_cmp p (stack_at rows (i + 1)) ≡ false) e
-    (order.prefix-take_no names_total names_same (length path) (stack_at rows i)
-    (stack_at rows (i + 1)) (omega (arith, l, length-take (length path) (stack_at rows i))) (omega (arith, h)))
 
 pub known_at-back : (rows : List WeightedStack) (k : ℕ)
     → 0 < k → shared_paths (stack_at rows (k - 1)) (stack_at rows k) ≡ known_at rows k
 known_at-back rows zero h = absurd (omega arith)
-known_at-back rows (suc k) h = let e : suc k - 1 ≡ k = omega arith in rw e refl
-
-pub known_next : (rows : List WeightedStack) (known : List ℕ) (k : ℕ)
-    → ((k : ℕ) → k < length rows → get_or known k 0 ≡ known_at rows k)
-    → k + 1 < length rows → get_or known (k + 1) 0 ≡ shared_paths (stack_at rows k) (stack_at rows (k + 1))
-known_next rows known k at h = at (k + 1) h ∙ let e : k + 1 ≡ suc k = omega arith in rw e refl
+known_at-back rows (suc k) h = rw (one_less k) refl
 
 -- rows in order, by their stacks
 pub in_order : (rows : List WeightedStack) (i j : ℕ)

@@ -1,5 +1,5 @@
 -- What the stacks of rows in order share, row by row.
-use Rattle.std.specs.Prelude.{ℕ, ◌≡◌, ◌<◌, ◌≤◌, ◌+◌, List, [], ◌++◌, map, filter, length, take, drop, slice_index_or, ⊤}
+use Rattle.std.specs.Prelude.{ℕ, ◌≡◌, ◌<◌, ◌≤◌, ◌+◌, ◌^◌, List, [], ◌++◌, map, filter, length, take, drop, slice_index_or, ⊤}
 use Prim.Native.Nat.{zero, suc}
 use Rattle.std.specs.Ordering.{eq_by_cmp}
 use Rattle.std.specs.List.{common_prefix_len}
@@ -7,7 +7,10 @@ use Rattle.profile_rows.specs.declared.weighted_stacks.WeightedStack.{WeightedSt
 use Rattle.profile_rows.specs.Layout.{Rectangle, is_shown, rectangle_at}
 use Rattle.profile_rows.specs.Names.{name_cmp}
 use Rattle.profile_rows.specs.Paths.{begins_with, prefixes}
-use Rattle.profile_rows.specs.Rows.{weight_where}
+use Rattle.profile_rows.specs.Aggregate.{AreWeighty, IsAscending}
+use Rattle.profile_rows.specs.Rows.{total_of, weight_where}
+use Rattle.flame_report.specs.declared.layout.Plan.{Plan}
+use Rattle.flame_report.specs.declared.layout.Shape.{Shape}
 use Rattle.flame_report.specs.declared.layout.Span.{Span}
 
 -- the stack of the row at an index
@@ -23,15 +26,23 @@ abbrev pub known_at : List WeightedStack → ℕ → ℕ
 known_at rows zero = 0
 known_at rows (suc k) = shared_paths (stack_at rows k) (stack_at rows (suc k))
 
--- of each row, how many of its paths the row before has too
-pub record AreKnownPaths (known : List ℕ) (rows : List WeightedStack) : Type 0 where
-  pub each : length known ≡ length rows
-  pub at : (k : ℕ) → k < length rows → slice_index_or known k 0 ≡ known_at rows k
+-- how many paths of the row at an index the row before has too, and how many names its stack has
+abbrev pub shape_of : List WeightedStack → ℕ → Shape
+shape_of rows k = record { known = known_at rows k; depth = length (stack_at rows k) }
 
--- of each row, how many names its stack has
-pub record AreDepths (depths : List ℕ) (rows : List WeightedStack) : Type 0 where
-  pub each : length depths ≡ length rows
-  pub at : (k : ℕ) → k < length rows → slice_index_or depths k 0 ≡ length (stack_at rows k)
+-- the shape of each row
+pub record AreShapes (shapes : List Shape) (rows : List WeightedStack) : Type 0 where
+  pub each : length shapes ≡ length rows
+  pub at : (k : ℕ) (other : Shape) → k < length rows → slice_index_or shapes k other ≡ shape_of rows k
+
+-- rows in order of some weight, with their shapes and with the scale of their total
+pub record IsPlan (plan : Plan) : Type 0 where
+  pub ascending : IsAscending plan.rows.now
+  pub weighty : AreWeighty plan.rows.now
+  pub shapes : AreShapes plan.shapes.items plan.rows.now
+  pub total : plan.scale.total ≡ total_of plan.rows.now
+  pub some : 0 < plan.scale.total
+  pub fits : plan.scale.total < 2 ^ 63
 
 -- the weight of the rows before an index whose stacks are beginnings of the path: their own weight lies right of it
 abbrev pub held_weight : List WeightedStack → ℕ → List (List ℕ) → ℕ

@@ -1,7 +1,7 @@
 //! The layout of a flame graph, over rows in order. A row is compared with the row before alone: what the
 //! two don't share are the paths that come first with this row, in the order of paths.
 
-ghost use Rattle.std.specs.Prelude.{ℕ, ◌≡◌, ◌++◌, ◌+◌, ◌<◌, ◌≤◌, ◌^◌, false, IfOk, OnOk, drop, length, map, take};
+ghost use Rattle.std.specs.Prelude.{ℕ, ◌≡◌, ◌++◌, ◌+◌, ◌<◌, ◌≤◌, false, IfOk, OnOk, drop, length, map, take};
 ghost use Rattle.std.specs.List.{common_prefix_len};
 ghost use Rattle.std.specs.Ordering.{eq_by_cmp};
 ghost use Rattle.folded_text.specs.OrderedRows.{AreNames, names_in};
@@ -10,13 +10,12 @@ ghost use Rattle.profile_rows.specs.Names.{name_cmp};
 ghost use Rattle.profile_rows.specs.Paths.{begins_with, path_weight, prefixes};
 ghost use Rattle.profile_rows.specs.Rows.{total_of};
 ghost use Rattle.flame_report.specs.Answers.{rect_of};
-ghost use Rattle.profile_rows.specs.Aggregate.{AreWeighty, IsAscending};
-ghost use Rattle.flame_report.specs.Sharing.{AreDepths, AreHeld, AreKnownPaths, held_weight, known_at, shown_of, span_of, stack_at};
+ghost use Rattle.flame_report.specs.Sharing.{AreHeld, AreShapes, IsPlan, held_weight, known_at, shape_of, shown_of, span_of, stack_at};
 
 use crate::answer::{Label, Rect};
 use crate::query::Columns;
 use basics::NoMemory;
-use folded_text::{KnownNames, OrderedRows, RowNames};
+use folded_text::{KnownNames, OrderedRows, RowNames, RowShape};
 use profile_rows::Hashing;
 use std::alloc::{AllocError, Global};
 
@@ -29,9 +28,9 @@ struct Drawing<'a> {
 
 /// Weights in columns: the total of all rows fills them.
 #[derive(Clone, Copy)]
-pub(crate) struct Scale {
-    pub total: u64,
-    pub columns: Columns,
+struct Scale {
+    total: u64,
+    columns: Columns,
 }
 
 /// Where a path stands, in weight and in columns.
@@ -54,89 +53,36 @@ impl Scale {
     }
 }
 
-/// Of each row, how many of its paths the row before has too, and how many names its stack has.
-#[derive(Drop)]
-struct Shapes {
-    known: Vec<usize>,
-    depths: Vec<usize>,
+/// How many paths of a row the row before has too, and how many names its stack has.
+#[derive(Clone, Copy)]
+struct Shape {
+    known: usize,
+    depth: usize,
 }
 
-/// How many paths of a row the row before has too, and how many names its stack has.
-fn shape_at(rows: &OrderedRows, at: usize) -> (usize, usize)
+/// The shape of a row.
+fn shape_at(rows: &OrderedRows, at: usize) -> Shape
     requires { at < length rows.now }
-    ensures known { result.0 ≡ known_at rows.now at }
-    ensures depth { result.1 ≡ length (stack_at rows.now at) }
+    ensures { result ≡ shape_of rows.now at }
 {
     if at == 0 {
-        return (0, rows.depth(at));
+        let depth = rows.depth(at);
+        return Shape { known: 0, depth };
     }
-    let shape = rows.shape(at);
-    (shape.shared + 1, shape.depth)
+    let RowShape { shared, depth } = rows.shape(at);
+    let known = shared + 1;
+    Shape { known, depth }
 }
 
 /// The shapes of rows.
-fn shapes_of(alloc: Global, rows: &OrderedRows) -> Result<Shapes, AllocError>
-    ensures known { IfOk result (λ shapes. AreKnownPaths shapes.known.items rows.now) }
-    ensures depths { IfOk result (λ shapes. AreDepths shapes.depths.items rows.now) }
+fn shapes_of(alloc: Global, rows: &OrderedRows) -> Result<Vec<Shape>, AllocError>
+    ensures { IfOk result (λ shapes. AreShapes shapes.items rows.now) }
 {
-    let mut known = Vec::with_capacity(alloc, rows.len())?;
-    let mut depths = Vec::with_capacity(alloc, rows.len())?;
+    let mut shapes = Vec::with_capacity(alloc, rows.len())?;
     for at in 0..rows.len() {
-        let (paths, depth) = shape_at(rows, at);
-        known.push(paths)?;
-        depths.push(depth)?;
+        shapes.push(shape_at(rows, at))?;
     }
-    Ok(Shapes { known, depths })
-}
-
-/// The weight of the rows that begin with the first names of a row that is the first of them.
-fn group_weight(rows: &OrderedRows, known: &[usize], at: usize, depth: usize) -> u64
-    requires ascending { IsAscending rows.now }
-    requires known { AreKnownPaths known.now rows.now }
-    requires at { at < length rows.now }
-    requires depth { depth ≤ length (stack_at rows.now at) }
-    requires first { (k : ℕ) → k < at
-        → begins_with name_cmp (take depth (stack_at rows.now at)) (stack_at rows.now k) ≡ false }
-    requires fits { total_of rows.now < 2 ^ 63 }
-    ensures { result ≡ path_weight rows.now (take depth (stack_at rows.now at)) }
-{
-    let mut weight = rows.weight(at);
-    for next in at + 1..rows.len() {
-        if known[next] <= depth {
-            return weight;
-        }
-        weight += rows.weight(next);
-    }
-    weight
-}
-
-/// Where the path of a row's first names stands, which the row before doesn't have.
-fn span_at(
-    rows: &OrderedRows,
-    known: &[usize],
-    at: usize,
-    depth: usize,
-    start: u64,
-    scale: &Scale,
-) -> Span
-    requires ascending { IsAscending rows.now }
-    requires known { AreKnownPaths known.now rows.now }
-    requires at { at < length rows.now }
-    requires new { known_at rows.now at ≤ depth }
-    requires depth { depth ≤ length (stack_at rows.now at) }
-    requires start { start + held_weight rows.now at (stack_at rows.now at) ≡ total_of (take at rows.now) }
-    requires total { scale.now.total ≡ total_of rows.now }
-    requires some { 0 < scale.now.total }
-    requires fits { scale.now.total < 2 ^ 63 }
-    ensures { result ≡ span_of (rectangle_at scale.now.columns rows.now (take depth (stack_at rows.now at))) }
-{
-    let weight = group_weight(rows, known, at, depth);
-    Span {
-        start,
-        weight,
-        left: scale.column(start),
-        right: scale.column(start + weight),
-    }
+    Ok(shapes)
 }
 
 /// The rectangle of a path, which is the first names of a stack.
@@ -170,156 +116,163 @@ fn rect_at<'a>(
     })
 }
 
-/// Adds the rectangles of the paths that come first with a row. Below one that takes no column there is none.
-fn draw_row<'a>(
-    alloc: Global,
-    drawing: &mut Drawing<'a>,
-    rows: &'a OrderedRows,
-    known: &[usize],
-    at: usize,
-    start: u64,
-    scale: &Scale,
-) -> Result<(), NoMemory>
-    requires ascending { IsAscending rows.now }
-    requires known { AreKnownPaths known.now rows.now }
-    requires at { at < length rows.now }
-    requires start { start + held_weight rows.now at (stack_at rows.now at) ≡ total_of (take at rows.now) }
-    requires total { scale.now.total ≡ total_of rows.now }
-    requires some { 0 < scale.now.total }
-    requires fits { scale.now.total < 2 ^ 63 }
-    ensures { OnOk result (drawing.new.rects.items ≡ drawing.old.rects.items
-        ++ map rect_of
-        (shown_of scale.now.columns rows.now (drop (known_at rows.now at) (prefixes (stack_at rows.now at))))) }
-{
-    let names = &rows.names(alloc, at)?;
-    for depth in known[at]..names.len() + 1 {
-        let span = span_at(rows, known, at, depth, start, scale);
-        if span.left >= span.right {
+/// Rows in order that weigh something, what each shares with the row before, and the scale that they are drawn to.
+#[derive(Drop)]
+struct Plan<'a> {
+    rows: &'a OrderedRows<'a>,
+    shapes: Vec<Shape>,
+    scale: Scale,
+}
+
+impl<'a> Plan<'a> {
+    /// The shape of a row.
+    fn shape(&self, at: usize) -> Shape
+        requires plan { IsPlan self.now }
+        requires at { at < length self.now.rows.now }
+        ensures { result ≡ shape_of self.now.rows.now at }
+    {
+        self.shapes[at]
+    }
+
+    /// The weight of the rows that begin with the first names of a row that is the first of them.
+    fn group_weight(&self, at: usize, depth: usize) -> u64
+        requires plan { IsPlan self.now }
+        requires at { at < length self.now.rows.now }
+        requires depth { depth ≤ length (stack_at self.now.rows.now at) }
+        requires first { (k : ℕ) → k < at → begins_with name_cmp
+            (take depth (stack_at self.now.rows.now at)) (stack_at self.now.rows.now k) ≡ false }
+        ensures { result ≡ path_weight self.now.rows.now (take depth (stack_at self.now.rows.now at)) }
+    {
+        let mut weight = self.rows.weight(at);
+        for next in at + 1..self.rows.len() {
+            if self.shape(next).known <= depth {
+                return weight;
+            }
+            weight += self.rows.weight(next);
+        }
+        weight
+    }
+
+    /// Where the path of a row's first names stands, which the row before doesn't have.
+    fn span_at(&self, at: usize, depth: usize, start: u64) -> Span
+        requires plan { IsPlan self.now }
+        requires at { at < length self.now.rows.now }
+        requires new { known_at self.now.rows.now at ≤ depth }
+        requires depth { depth ≤ length (stack_at self.now.rows.now at) }
+        requires start { start + held_weight self.now.rows.now at (stack_at self.now.rows.now at)
+            ≡ total_of (take at self.now.rows.now) }
+        ensures { result ≡ span_of
+            (rectangle_at self.now.scale.columns self.now.rows.now (take depth (stack_at self.now.rows.now at))) }
+    {
+        let weight = self.group_weight(at, depth);
+        Span {
+            start,
+            weight,
+            left: self.scale.column(start),
+            right: self.scale.column(start + weight),
+        }
+    }
+
+    /// Adds the rectangles of the paths that come first with a row. Below one that takes no column there is none, and
+    /// the names of a row of which nothing is seen aren't looked at.
+    fn draw_row(
+        &self,
+        alloc: Global,
+        drawing: &mut Drawing<'a>,
+        at: usize,
+        start: u64,
+    ) -> Result<(), NoMemory>
+        requires plan { IsPlan self.now }
+        requires at { at < length self.now.rows.now }
+        requires start { start + held_weight self.now.rows.now at (stack_at self.now.rows.now at)
+            ≡ total_of (take at self.now.rows.now) }
+        ensures { OnOk result (drawing.new.rects.items ≡ drawing.old.rects.items
+            ++ map rect_of (shown_of self.now.scale.columns self.now.rows.now
+            (drop (known_at self.now.rows.now at) (prefixes (stack_at self.now.rows.now at))))) }
+    {
+        let known = self.shape(at).known;
+        let shortest = self.span_at(at, known, start);
+        if shortest.left >= shortest.right {
             return Ok(());
         }
-        let rect = rect_at(alloc, &mut drawing.names, names, depth, span)?;
-        drawing.rects.push(rect)?;
+        let names = &self.rows.names(alloc, at)?;
+        for depth in known..names.len() + 1 {
+            let span = self.span_at(at, depth, start);
+            if span.left >= span.right {
+                return Ok(());
+            }
+            let rect = rect_at(alloc, &mut drawing.names, names, depth, span)?;
+            drawing.rects.push(rect)?;
+        }
+        Ok(())
     }
-    Ok(())
-}
 
-/// Adds the rectangles of the paths that come first with a row. The names of a row of which nothing is seen aren't
-/// looked at.
-fn layout_row<'a>(
-    alloc: Global,
-    drawing: &mut Drawing<'a>,
-    rows: &'a OrderedRows,
-    known: &[usize],
-    at: usize,
-    start: u64,
-    scale: &Scale,
-) -> Result<(), NoMemory>
-    requires ascending { IsAscending rows.now }
-    requires known { AreKnownPaths known.now rows.now }
-    requires at { at < length rows.now }
-    requires start { start + held_weight rows.now at (stack_at rows.now at) ≡ total_of (take at rows.now) }
-    requires total { scale.now.total ≡ total_of rows.now }
-    requires some { 0 < scale.now.total }
-    requires fits { scale.now.total < 2 ^ 63 }
-    ensures { OnOk result (drawing.new.rects.items ≡ drawing.old.rects.items
-        ++ map rect_of
-        (shown_of scale.now.columns rows.now (drop (known_at rows.now at) (prefixes (stack_at rows.now at))))) }
-{
-    let shortest = span_at(rows, known, at, known[at], start, scale);
-    if shortest.left >= shortest.right {
-        return Ok(());
+    /// The weight of the rows so far that are beginnings of a row.
+    fn held_above(&self, held: &[u64], at: usize) -> u64
+        requires plan { IsPlan self.now }
+        requires at { at < length self.now.rows.now }
+        requires held { AreHeld held.now self.now.rows.now at }
+        ensures { result ≡ held_weight self.now.rows.now at (stack_at self.now.rows.now at) }
+    {
+        let known = self.shape(at).known;
+        if known == 0 { 0 } else { held[known - 1] }
     }
-    draw_row(alloc, drawing, rows, known, at, start, scale)
-}
 
-/// The weight of the rows so far that are beginnings of a row.
-fn held_above(held: &[u64], rows: &OrderedRows, at: usize, known: usize) -> u64
-    requires ascending { IsAscending rows.now }
-    requires at { at < length rows.now }
-    requires held { AreHeld held.now rows.now at }
-    requires known { known ≡ known_at rows.now at }
-    ensures { result ≡ held_weight rows.now at (stack_at rows.now at) }
-{
-    if known == 0 { 0 } else { held[known - 1] }
-}
-
-/// Keeps, for each path of a row, the weight of the rows so far that are beginnings of it.
-fn hold(
-    held: &mut Vec<u64>,
-    rows: &OrderedRows,
-    at: usize,
-    known: usize,
-    depth: usize,
-    above: u64,
-) -> Result<(), AllocError>
-    requires ascending { IsAscending rows.now }
-    requires at { at < length rows.now }
-    requires held { AreHeld held.old.items rows.now at }
-    requires known { known ≡ known_at rows.now at }
-    requires depth { depth ≡ length (stack_at rows.now at) }
-    requires above { above ≡ held_weight rows.now at (stack_at rows.now at) }
-    requires fits { total_of rows.now < 2 ^ 63 }
-    ensures { OnOk result (AreHeld held.new.items rows.now (at + 1)) }
-{
-    held.truncate(known);
-    held.resize(depth, above)?;
-    held.push(above + rows.weight(at))?;
-    Ok(())
-}
-
-/// The layout of rows in order, whose total is above 0.
-fn layout(
-    alloc: Global,
-    hashing: Hashing,
-    rows: &OrderedRows,
-    scale: &Scale,
-) -> Result<Vec<Rect>, NoMemory>
-    requires ascending { IsAscending rows.now }
-    requires weighty { AreWeighty rows.now }
-    requires total { scale.now.total ≡ total_of rows.now }
-    requires some { 0 < scale.now.total }
-    requires fits { scale.now.total < 2 ^ 63 }
-    ensures { IfOk result (λ rects. rects.items ≡ map rect_of (rectangles_of scale.now.columns rows.now)) }
-{
-    let Shapes { known, depths } = shapes_of(alloc, rows)?;
-    let mut drawing = Drawing {
-        names: KnownNames::new(alloc, hashing),
-        rects: Vec::new(alloc),
-    };
-    let mut held = Vec::new(alloc);
-    let mut before = 0;
-    for at in 0..rows.len() {
-        let above = held_above(held.as_slice(), rows, at, known[at]);
-        layout_row(
-            alloc,
-            &mut drawing,
-            rows,
-            known.as_slice(),
-            at,
-            before - above,
-            scale,
-        )?;
-        hold(&mut held, rows, at, known[at], depths[at], above)?;
-        before += rows.weight(at);
+    /// Keeps, for each path of a row, the weight of the rows so far that are beginnings of it.
+    fn hold(&self, held: &mut Vec<u64>, at: usize, above: u64) -> Result<(), AllocError>
+        requires plan { IsPlan self.now }
+        requires at { at < length self.now.rows.now }
+        requires held { AreHeld held.old.items self.now.rows.now at }
+        requires above { above ≡ held_weight self.now.rows.now at (stack_at self.now.rows.now at) }
+        ensures { OnOk result (AreHeld held.new.items self.now.rows.now (at + 1)) }
+    {
+        let Shape { known, depth } = self.shape(at);
+        held.truncate(known);
+        held.resize(depth, above)?;
+        held.push(above + self.rows.weight(at))?;
+        Ok(())
     }
-    Ok(drawing.rects)
+
+    /// The rectangles of all paths that take a column.
+    fn rects(&self, alloc: Global, hashing: Hashing) -> Result<Vec<Rect>, NoMemory>
+        requires { IsPlan self.now }
+        ensures { IfOk result
+            (λ rects. rects.items ≡ map rect_of (rectangles_of self.now.scale.columns self.now.rows.now)) }
+    {
+        let mut drawing = Drawing {
+            names: KnownNames::new(alloc, hashing),
+            rects: Vec::new(alloc),
+        };
+        let mut held = Vec::new(alloc);
+        let mut before = 0;
+        for at in 0..self.rows.len() {
+            let above = self.held_above(held.as_slice(), at);
+            self.draw_row(alloc, &mut drawing, at, before - above)?;
+            self.hold(&mut held, at, above)?;
+            before += self.rows.weight(at);
+        }
+        Ok(drawing.rects)
+    }
 }
 
-/// The layout of rows in order; without rows there are no rectangles. `hashing` says how names are hashed.
+/// The layout of rows in order; where they weigh nothing there are no rectangles. `hashing` says how names are hashed.
 pub(crate) fn rects_of(
     alloc: Global,
     hashing: Hashing,
     rows: &OrderedRows,
-    scale: &Scale,
+    columns: Columns,
 ) -> Result<Vec<Rect>, NoMemory>
-    requires ascending { IsAscending rows.now }
-    requires weighty { AreWeighty rows.now }
-    requires total { scale.now.total ≡ total_of rows.now }
-    requires fits { scale.now.total < 2 ^ 63 }
-    ensures { IfOk result (λ rects. rects.items ≡ map rect_of (rectangles_of scale.now.columns rows.now)) }
+    ensures { IfOk result (λ rects. rects.items ≡ map rect_of (rectangles_of columns rows.now)) }
 {
-    if scale.total == 0 {
+    rows.facts();
+    let total = rows.total();
+    if total == 0 {
         return Ok(Vec::new(alloc));
     }
-    layout(alloc, hashing, rows, scale)
+    let plan = Plan {
+        rows,
+        shapes: shapes_of(alloc, rows)?,
+        scale: Scale { total, columns },
+    };
+    plan.rects(alloc, hashing)
 }

@@ -9,7 +9,7 @@ ghost use Rattle.flame_report.specs.Answers.{answer_of, flame_of, kept_by, top_o
 ghost use Rattle.profile_rows.specs.Values.{rows_at};
 
 use crate::answer::{Answer, Flame, Top};
-use crate::layout::{Scale, rects_of};
+use crate::layout::rects_of;
 use crate::query::{Columns, Kind, Query, Rank};
 use crate::top::{kept_total, top_list, top_of_rows};
 use basics::Items;
@@ -41,14 +41,9 @@ fn flame(
 ) -> Result<Flame, NoMemory>
     ensures { IfOk result (λ flame. flame ≡ flame_of columns rows.now) }
 {
-    rows.facts();
-    let scale = Scale {
-        total: rows.total(),
-        columns,
-    };
-    let rects = rects_of(alloc, hashing, rows, &scale)?;
+    let rects = rects_of(alloc, hashing, rows, columns)?;
     Ok(Flame {
-        total: scale.total,
+        total: rows.total(),
         columns,
         rects: Items::new(rects),
     })

@@ -4,5 +4,5 @@ use Rattle.std.proofs.Common.{arith}
 use Rattle.flame_report.proofs.Drawn.{no_rows}
 use Rattle.flame_report.proofs.layout.rects_of.Goals as goal
 
-pub returns-then-scale-eq0 : goal.returns-then-scale-eq0
-returns-then-scale-eq0 c = grind (arith, common_steps, no_rows)
+pub returns-then-total-eq0 : goal.returns-then-total-eq0
+returns-then-total-eq0 c = grind (arith, common_steps, no_rows)

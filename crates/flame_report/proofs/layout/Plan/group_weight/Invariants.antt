@@ -3,10 +3,10 @@ use Rattle.profile_rows.specs.Paths.{begins_with}
 use Rattle.profile_rows.specs.Names.{name_cmp}
 use Rattle.profile_rows.specs.Rows.{weight_where}
 use Rattle.flame_report.specs.Sharing.{stack_at}
-use Rattle.flame_report.proofs.layout.group_weight.Given as goal
+use Rattle.flame_report.proofs.layout.Plan.group_weight.Given as goal
 
 abbrev pub invariant-loop-next : goal.invariant-loop-next
 invariant-loop-next l = record {
-  so_far : l.weight ≡ weight_where (begins_with name_cmp (take l.depth (stack_at l.rows l.at))) (take l.next l.rows);
-  last : begins_with name_cmp (take l.depth (stack_at l.rows l.at)) (stack_at l.rows (l.next - 1)) ≡ true;
+  so_far : l.weight ≡ weight_where (begins_with name_cmp (take l.depth (stack_at l.self.rows.now l.at))) (take l.next l.self.rows.now);
+  last : begins_with name_cmp (take l.depth (stack_at l.self.rows.now l.at)) (stack_at l.self.rows.now (l.next - 1)) ≡ true;
 }

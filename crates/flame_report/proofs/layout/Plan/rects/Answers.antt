@@ -7,21 +7,21 @@ use Rattle.flame_report.proofs.Drawn.{drawn-append}
 use Rattle.flame_report.proofs.Held.{held_weight-le}
 use Rattle.flame_report.proofs.NewPaths.{paths_until-whole}
 use Rattle.flame_report.proofs.RowSums.{total-next}
-use Rattle.flame_report.proofs.layout.layout.Goals as goal
+use Rattle.flame_report.proofs.layout.Plan.rects.Goals as goal
 
 pub overflow_sub-before : goal.overflow_sub-before
 overflow_sub-before c = grind (arith, common_steps, held_weight-le)
 
-pub layout_row-requires-clause-start : goal.layout_row-requires-clause-start
-layout_row-requires-clause-start c = grind (arith, common_steps, held_weight-le)
+pub draw_row-requires-clause-start : goal.draw_row-requires-clause-start
+draw_row-requires-clause-start c = grind (arith, common_steps, held_weight-le)
 
 pub loop-at-preserved : goal.loop-at-preserved
-loop-at-preserved c = grind (arith, common_steps, drawn-append, total-next)
+loop-at-preserved c = grind (arith, drawn-append, total-next)
 
 pub returns : goal.returns
 returns c =
-    let end : c.loop-at.at ≡ length c.args.rows.now = omega (arith, c.len-at-end.ensures) in
+    let end : c.loop-at.at ≡ length c.args.self.now.rows.now = omega (arith, c.len-at-end.ensures) in
     c.loop-at.invariant.done
-    ∙ ap (λ n. map rect_of (shown_of c.args.scale.now.columns c.args.rows.now (paths_until c.args.rows.now n))) end
-    ∙ ap (λ paths. map rect_of (shown_of c.args.scale.now.columns c.args.rows.now paths))
-    (paths_until-whole c.args.rows.now c.requires.ascending c.requires.weighty)
+    ∙ ap (λ n. map rect_of (shown_of c.args.self.now.scale.columns c.args.self.now.rows.now (paths_until c.args.self.now.rows.now n))) end
+    ∙ ap (λ paths. map rect_of (shown_of c.args.self.now.scale.columns c.args.self.now.rows.now paths))
+    (paths_until-whole c.args.self.now.rows.now c.requires.ascending c.requires.weighty)

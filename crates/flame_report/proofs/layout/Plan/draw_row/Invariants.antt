@@ -2,14 +2,14 @@ use Rattle.std.proofs.Common.{◌≡◌, ◌+◌, ◌≤◌, ◌++◌, drop, len
 use Rattle.profile_rows.specs.Paths.{prefixes}
 use Rattle.flame_report.specs.Answers.{rect_of}
 use Rattle.flame_report.specs.Sharing.{known_at, shown_of, stack_at}
-use Rattle.flame_report.proofs.layout.draw_row.Given as goal
+use Rattle.flame_report.proofs.layout.Plan.draw_row.Given as goal
 
 -- what is drawn and what is left are together what was drawn before and the row's new paths
 abbrev pub invariant-loop-depth : goal.invariant-loop-depth
 invariant-loop-depth l = record {
-  inside : l.depth ≤ length (stack_at l.rows l.at) + 1;
+  inside : l.depth ≤ length (stack_at l.self.rows.now l.at) + 1;
   rest : l.drawing.rects.items ++ map rect_of
-      (shown_of l.scale.columns l.rows (drop l.depth (prefixes (stack_at l.rows l.at))))
+      (shown_of l.self.scale.columns l.self.rows.now (drop l.depth (prefixes (stack_at l.self.rows.now l.at))))
       ≡ l.initial.drawing.rects.items ++ map rect_of
-      (shown_of l.scale.columns l.rows (drop (known_at l.rows l.at) (prefixes (stack_at l.rows l.at))));
+      (shown_of l.self.scale.columns l.self.rows.now (drop (known_at l.self.rows.now l.at) (prefixes (stack_at l.self.rows.now l.at))));
 }

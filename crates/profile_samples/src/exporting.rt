@@ -135,12 +135,8 @@ fn locations_of(alloc: Global, names: &TextTable) -> Result<Items<Location>, NoM
 fn location_ids(alloc: Global, names: &TextTable, stack: &[Name]) -> Result<Items<u64>, NoMemory>
     ensures { IfOk result (λ ids. ids ≡ reverse (map (id_in names.now.texts) stack.now)) }
 {
-    let mut ids = Vec::with_capacity(alloc, stack.len())?;
-    for name in stack {
-        ids.push(id_in(names, name.text()))?;
-    }
-    ids.reverse();
-    Ok(Items::new(ids))
+    let ids = stack.iter().rev().map(|name| id_in(names, name.text()));
+    Ok(Items::new(ids.collect(alloc)?))
 }
 
 /// The values of a row as those of a sample.

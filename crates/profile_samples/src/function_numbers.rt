@@ -7,7 +7,7 @@ ghost use Rattle.profile_samples.specs.Samples.{address_name, item_with, named_b
 ghost use Rattle.profile_samples.specs.NameNumbers.{address_of, lacks_name, line_number, name_in, needs_address, number_at, number_by, number_of, numbers_of, string_numbers};
 
 use crate::id_index::IdIndex;
-use crate::string_names::{GivenName, address_name};
+use crate::string_names::{GivenName, address_name, index_in};
 use basics::NoMemory;
 use pprof_profile::{Draft, Function, Line, Location};
 use profile_rows::Hashing;
@@ -25,23 +25,14 @@ fn function_ids(alloc: Global, functions: &[Function]) -> Result<Vec<u64>, Alloc
 fn number_at(numbers: &[Option<usize>], index: i64) -> Option<usize>
     ensures { result ≡ number_at numbers.now index }
 {
-    match usize::try_from(index) {
-        Ok(at) => match numbers.get(at) {
-            Some(number) => *number,
-            None => None,
-        },
-        Err(_) => None,
-    }
+    *numbers.get(index_in(index)?)?
 }
 
 /// The number of the name of a function: of its `name`, or else of its `system_name`.
 fn number_by(numbers: &[Option<usize>], function: &Function) -> Option<usize>
     ensures { result ≡ number_by numbers.now function.now }
 {
-    match number_at(numbers, function.name) {
-        Some(number) => Some(number),
-        None => number_at(numbers, function.system_name),
-    }
+    number_at(numbers, function.name).or_else(|| number_at(numbers, function.system_name))
 }
 
 /// The numbers of the names of functions.
@@ -52,11 +43,10 @@ fn function_numbers(
 ) -> Result<Vec<Option<usize>>, AllocError>
     ensures { IfOk result (λ made. made.items ≡ map (number_by numbers.now) functions.now) }
 {
-    let mut made = Vec::with_capacity(alloc, functions.len())?;
-    for function in functions {
-        made.push(number_by(numbers, function))?;
-    }
-    Ok(made)
+    functions
+        .iter()
+        .map(|function| number_by(numbers, function))
+        .collect(alloc)
 }
 
 /// The numbers of the names of a profile's functions. A contract sees the profile.
@@ -110,10 +100,7 @@ impl<'a> FunctionNumbers<'a> {
         ensures { result ≡ option_map (number_of self.now)
             (named_by self.now.strings (item_with (λ function. function.id) id self.now.functions)) }
     {
-        match self.indices.find(id) {
-            Some(at) => self.number_at(at),
-            None => None,
-        }
+        self.number_at(self.indices.find(id)?)
     }
 
     /// The number of the name of the function at an index, where it has one.
@@ -165,10 +152,7 @@ impl<'a> FunctionNumbers<'a> {
             → address ≡ number_of self.now (address_name location.now.address) }
         ensures { result ≡ line_number self.now location.now.address line.now }
     {
-        match self.number_of(line.function_id) {
-            Some(number) => number,
-            None => address,
-        }
+        self.number_of(line.function_id).unwrap_or(address)
     }
 
     /// The numbers of the names of a location's lines, of which there are some, by that of its address.

@@ -101,13 +101,10 @@ impl<'a> GivenName<'a> {
 }
 
 /// An index that isn't below 0.
-fn index_in(index: i64) -> Option<usize>
+pub(crate) fn index_in(index: i64) -> Option<usize>
     ensures { result ≡ index_in index }
 {
-    match usize::try_from(index) {
-        Ok(at) => Some(at),
-        Err(_) => None,
-    }
+    usize::try_from(index).ok()
 }
 
 /// The indices of the strings that name a function.

@@ -79,10 +79,8 @@ fn weight_from(digits: &str) -> Option<u64>
     ensures { MatchOption result (2 ^ 63 ≤ digits_value 10 digits.now)
         (λ weight. (weight ≡ digits_value 10 digits.now) × (weight < 2 ^ 63)) }
 {
-    match digits.parse::<u64>() {
-        Ok(weight) if weight <= MAX_TOTAL => Some(weight),
-        _ => None,
-    }
+    let weight = digits.parse::<u64>().ok()?;
+    (weight <= MAX_TOTAL).then_some(weight)
 }
 
 /// The stack text and the weight of a line.
@@ -252,8 +250,6 @@ pub fn read_folded_with(alloc: Global, hashing: Hashing, text: &[u8]) -> Result<
     ensures every_fault { (first : FoldedFault) → first ≢ FoldedFault.NoMemory → IsFirstFault text.now first
         → MatchResult result (λ batch. ⊥) (λ fault. (fault ≡ FoldedFault.NoMemory) ⊎ (fault ≡ first)) }
 {
-    match read_stacks(alloc, hashing, text) {
-        Ok(rows) => Ok(Batch::single(alloc, rows)),
-        Err(fault) => Err(fault),
-    }
+    let rows = read_stacks(alloc, hashing, text)?;
+    Ok(Batch::single(alloc, rows))
 }

@@ -60,15 +60,8 @@ fn has_frame(text: &str, name: &Name) -> bool
 fn keeps(text: &str, focus: Option<&Name>, ignored: Option<&Name>) -> bool
     ensures { result ≡ is_kept (option_copied focus.entry) (option_copied ignored.entry) (frames_of text.now) }
 {
-    let focused = match focus {
-        Some(name) => has_frame(text, name),
-        None => true,
-    };
-    let left_out = match ignored {
-        Some(name) => has_frame(text, name),
-        None => false,
-    };
-    focused && !left_out
+    focus.is_none_or(|name| has_frame(text, name))
+        && ignored.is_none_or(|name| !has_frame(text, name))
 }
 
 /// Takes out the rows without the focus and those with the ignored name.
@@ -96,11 +89,10 @@ fn total_of_texts(rows: &[TextRow]) -> u64
 fn lent_rows<'a>(alloc: Global, texts: &'a [StackText]) -> Result<Vec<TextRow<'a>>, NoMemory>
     ensures { IfOk result (λ rows. rows.items ≡ map plain_text texts.now) }
 {
-    let mut rows = Vec::with_capacity(alloc, texts.len())?;
-    for row in texts {
-        rows.push(TextRow::new(row.text.as_str(), row.weight))?;
-    }
-    Ok(rows)
+    let rows = texts
+        .iter()
+        .map(|row| TextRow::new(row.text.as_str(), row.weight));
+    Ok(rows.collect(alloc)?)
 }
 
 impl<'a> TextStacks<'a> {

@@ -84,10 +84,8 @@ struct Counting<'a> {
 impl<'a> Counting<'a> {
     /// Whether waiting has saved work in so many lines.
     fn should_wait(&self, lines: u64) -> bool {
-        match &self.waiting {
-            Some(sums) => saves_work(sums.rows().len() as u64, lines, self.bytes),
-            None => false,
-        }
+        let waiting = self.waiting.as_ref();
+        waiting.is_some_and(|sums| saves_work(sums.rows().len() as u64, lines, self.bytes))
     }
 
     /// Counts the rows that wait.

@@ -280,7 +280,7 @@ new_path-first rows (suc i) d up inside h deep k below =
     ])
 
 -- where a new path of a row begins
-pub new_path-start : (rows : List WeightedStack) (i d : ℕ)
+new_path-start : (rows : List WeightedStack) (i d : ℕ)
     → IsAscending rows → i < length rows → known_at rows i ≤ d → d ≤ length (stack_at rows i)
     → path_start rows (take d (stack_at rows i)) + held_weight rows i (stack_at rows i) ≡ total_of (take i rows)
 new_path-start rows i d up inside h deep =
@@ -301,7 +301,7 @@ span_fits false true w a c t apart h = omega arith
 span_fits false false w a c t apart h = omega arith
 
 -- a span lies inside the total
-pub path_start-path_weight-le : (rows : List WeightedStack) (path : List (List ℕ))
+path_start-path_weight-le : (rows : List WeightedStack) (path : List (List ℕ))
     → path_start rows path + path_weight rows path ≤ total_of rows
 path_start-path_weight-le [] path = omega arith
 path_start-path_weight-le (row ∷ rows) path =
@@ -317,3 +317,14 @@ path_start-path_weight-le (row ∷ rows) path =
 pub total-next : (rows : List WeightedStack) (i : ℕ) (d : WeightedStack)
     → i < length rows → total_of (take (i + 1) rows) ≡ total_of (take i rows) + (get_or rows i d).weight
 total-next rows i d h = sum_by_more (λ r. r.weight) rows i d h
+
+-- a path that comes first with a row starts where the rows before end, and lies within the total
+pub path_at : (rows : List WeightedStack) (at depth start : ℕ)
+    → IsAscending rows → at < length rows → known_at rows at ≤ depth → depth ≤ length (stack_at rows at)
+    → start + held_weight rows at (stack_at rows at) ≡ total_of (take at rows)
+    → (start ≡ path_start rows (take depth (stack_at rows at)))
+    × (start + path_weight rows (take depth (stack_at rows at)) ≤ total_of rows)
+path_at rows at depth start up h new deep from =
+    let first = new_path-start rows at depth up h new deep in
+    let within = path_start-path_weight-le rows (take depth (stack_at rows at)) in
+    (omega (arith, first), omega (arith, first, within))

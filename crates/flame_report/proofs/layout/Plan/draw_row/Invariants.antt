@@ -11,5 +11,6 @@ invariant-loop-depth l = record {
   rest : l.drawing.rects.items ++ map rect_of
       (shown_of l.self.scale.columns l.self.rows.now (drop l.depth (prefixes (stack_at l.self.rows.now l.at))))
       ≡ l.initial.drawing.rects.items ++ map rect_of
-      (shown_of l.self.scale.columns l.self.rows.now (drop (known_at l.self.rows.now l.at) (prefixes (stack_at l.self.rows.now l.at))));
+      (shown_of l.self.scale.columns l.self.rows.now
+      (drop (known_at l.self.rows.now l.at) (prefixes (stack_at l.self.rows.now l.at))));
 }

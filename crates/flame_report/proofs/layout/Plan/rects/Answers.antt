@@ -20,8 +20,9 @@ loop-at-preserved c = grind (arith, drawn-append, total-next)
 
 pub returns : goal.returns
 returns c =
+    let rows = c.args.self.now.rows.now in
     let end : c.loop-at.at ≡ length c.args.self.now.rows.now = omega (arith, c.len-at-end.ensures) in
     c.loop-at.invariant.done
-    ∙ ap (λ n. map rect_of (shown_of c.args.self.now.scale.columns c.args.self.now.rows.now (paths_until c.args.self.now.rows.now n))) end
-    ∙ ap (λ paths. map rect_of (shown_of c.args.self.now.scale.columns c.args.self.now.rows.now paths))
-    (paths_until-whole c.args.self.now.rows.now c.requires.ascending c.requires.weighty)
+    ∙ ap (λ n. map rect_of (shown_of c.args.self.now.scale.columns rows (paths_until rows n))) end
+    ∙ ap (λ paths. map rect_of (shown_of c.args.self.now.scale.columns rows paths))
+    (paths_until-whole rows c.requires.ascending c.requires.weighty)

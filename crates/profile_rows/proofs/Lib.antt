@@ -23,3 +23,4 @@ pub mod UniqueRows
 pub mod Weighted
 pub mod WorkedAggregate
 pub mod WorkedRows
+pub mod Steps

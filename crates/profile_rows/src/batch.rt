@@ -1,4 +1,5 @@
 //! Batches: rows of one to four values, in order, of which the total of each value keeps the limit.
+#![tactic(auto, using(crate::proofs::Steps::batch))]
 
 ghost use Rattle.std.specs.Prelude.{ℕ, ◌≡◌, ◌+◌, ◌-◌, ◌*◌, ◌<◌, ◌≤◌, ◌++◌, ◌∷◌, [], drop, length, map, take, IfErr, IfOk, OnErr, OnOk};
 ghost use Rattle.profile_rows.specs.Values.{AreTotals, BatchState, HasRoom, IsBatch, row_in, rows_at, single_batch, value_of};

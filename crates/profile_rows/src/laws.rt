@@ -1,5 +1,6 @@
 //! Laws of the definitions in `specs/`, each the contract of a function that does nothing. A caller calls one to use
 //! its law.
+#![tactic(auto, using(crate::proofs::Steps::laws))]
 
 ghost use Rattle.std.specs.Prelude.{ℕ, ◌≡◌, ◌++◌, ◌<◌, ◌^◌, All, Bool, List, Option, IsPermutation, IsSorted, length, take};
 ghost use Rattle.profile_rows.specs.declared.weighted_stacks.WeightedStack.{WeightedStack};

@@ -1,4 +1,5 @@
 //! Names of frames.
+#![tactic(auto, using(crate::proofs::Steps::name))]
 
 ghost use Rattle.std.specs.Prelude.{◌≡◌, ◌↔◌, IfOk, IsErrOf, IsTrue, ◌==◌};
 ghost use Rattle.std.specs.Cmp.Lexicographic.{slice_cmp, pointwise};

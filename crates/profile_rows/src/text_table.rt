@@ -1,4 +1,5 @@
 //! Texts that are numbered as they come.
+#![tactic(auto, using(crate::proofs::Steps::text_table))]
 
 ghost use Rattle.std.specs.Prelude.{◌≡◌, ◌<◌, ◌^◌, [], IfOk, OnErr, OnOk, map};
 ghost use Rattle.profile_rows.specs.TextTables.{number_in, with_text};

@@ -1,4 +1,5 @@
 //! The values of a row: one to four.
+#![tactic(auto, using(crate::proofs::Steps::values))]
 
 ghost use Rattle.std.specs.Prelude.{ℕ, ◌≡◌, ◌+◌, ◌^◌, ◌<◌, ◌≤◌, ◌⊎◌, ◌∷◌, ◌↔◌, IsTrue, MatchOption, drop, length};
 ghost use Rattle.profile_rows.specs.Aggregate.{HasWeight};

@@ -1,12 +1,8 @@
 -- The first value stands with the stack, the others among the other values.
-use Rattle.std.proofs.lemmas.Grind.{common_steps}
 use Rattle.std.proofs.Common.{◌≡◌, suc, [], ap, sym, ◌∙◌, length, ◌-◌, ◌*◌, get_or, take, drop, arith}
 use Rattle.profile_rows.specs.Values.{Row, row_in, value_of}
 use Rattle.profile_rows.proofs.RowValues.{seen-length, seen-row}
 use Rattle.profile_rows.proofs.batch.Batch.weight.Goals as goal
-
-pub prove-unreachable-requires : goal.prove-unreachable-requires
-prove-unreachable-requires c = grind (arith, common_steps, seen-length)
 
 pub returns-then-value-eq0 : goal.returns-then-value-eq0
 returns-then-value-eq0 c =

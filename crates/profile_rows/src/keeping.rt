@@ -18,13 +18,6 @@ fn has_frame(row: &WeightedStack, name: &Name) -> bool
 pub fn keeps(row: &WeightedStack, focus: Option<&Name>, ignored: Option<&Name>) -> bool
     ensures { result ≡ is_kept (option_copied focus.entry) (option_copied ignored.entry) row.now.stack }
 {
-    let focused = match focus {
-        Some(name) => has_frame(row, name),
-        None => true,
-    };
-    let left_out = match ignored {
-        Some(name) => has_frame(row, name),
-        None => false,
-    };
-    focused && !left_out
+    focus.is_none_or(|name| has_frame(row, name))
+        && ignored.is_none_or(|name| !has_frame(row, name))
 }

@@ -28,6 +28,8 @@ SIGNATURE = re.compile(r"^(?:pub )?([^\s:]+) : ", re.M)
 EQUATION = re.compile(r"^([^\s:=]+)((?: [^=]*)?) =(?: |$)")
 REFUSED = re.compile(r"(?:^|: )\./(proofs/\S+?\.antt):(\d+):\d+: error: ", re.M)
 ARGUMENT = re.compile(r"[A-Za-z_][\w\-'.]*|\d+|\[\]")
+BINDER = re.compile(r"λ ([^.]*)\.|let ([^=:]*)[=:]|\| ([^↦]*)↦")
+WORD = re.compile(r"[A-Za-z_][\w\-']*")
 KEYWORDS = {"in", "then", "where", "let", "rw", "at"}
 
 
@@ -71,14 +73,19 @@ def argument_at(text, start):
     return found.end() if found and found.group() not in KEYWORDS else start
 
 
+def bound_in(term):
+    """The names that a term binds: by a λ, a let or a pattern."""
+    return {word for parts in BINDER.findall(term) for part in parts for word in WORD.findall(part)}
+
+
 def calls_of(name, term):
-    """The calls of a lemma in a term, each with its arguments."""
-    calls = []
+    """The calls of a lemma in a term, each with its arguments up to the first that the term itself binds."""
+    calls, bound = [], bound_in(term)
     for found in re.finditer(rf"(?<![\w\-.]){re.escape(name)}(?![\w\-])", term):
         end = found.end()
         while end < len(term) and term[end] == " ":
             after = argument_at(term, end + 1)
-            if after == end + 1:
+            if after == end + 1 or not bound.isdisjoint(WORD.findall(term[end + 1 : after])):
                 break
             end = after
         call = term[found.start() : end]

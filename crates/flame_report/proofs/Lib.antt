@@ -1,11 +1,10 @@
-pub mod Drawn
 pub mod Held
 pub mod Listed
 pub mod Narrow
 pub mod NewPaths
+pub mod Pairs
 pub mod PathOrder
 pub mod Prefixes
-pub mod Ranked
 pub mod RowSums
 pub mod Same
 pub mod Selected

@@ -1,197 +1,118 @@
 -- The children of a path stand side by side from its left edge, in the order of their names, and its own weight lies
 -- right of them.
-use Rattle.std.proofs.lemmas.Grind.{common_steps}
-use Rattle.std.proofs.Common.{◌≡◌, ℕ, ◌+◌, ◌≤◌, true, false, cond, List, [], ◌∷◌, ◌++◌, refl, arith}
-use Rattle.std.specs.declared.cmp.Ordering.TheVariants.{Less, Equal, Greater}
-use Rattle.std.specs.Ordering.{is_eq, match_ordering, ordering_then}
-use Rattle.std.proofs.lemmas.Cmp.{tied_itself}
+use Rattle.std.proofs.Common.{◌≡◌, ℕ, ◌+◌, ◌≤◌, Bool, true, false, ◌&&◌, ◌||◌, List, [], ◌∷◌, ◌++◌, length, drop, refl}
+use Rattle.std.proofs.Common.{sym, ◌∙◌, arith, inl, inr}
+use Rattle.std.specs.declared.cmp.Ordering.TheVariants.{Less}
+use Rattle.std.proofs.lemmas.Bool.{cases_eq}
 use Rattle.profile_rows.specs.declared.weighted_stacks.WeightedStack.{WeightedStack}
 use Rattle.profile_rows.specs.Names.{name_cmp}
-use Rattle.profile_rows.specs.Paths.{begins_with, lies_left_of, path_start, path_weight}
-use Rattle.profile_rows.specs.Rows.{stack_cmp, is_same_stack, weight_of}
-use Rattle.flame_report.proofs.PathOrder as order
-use Rattle.flame_report.proofs.RowSums.{names_total, names_same, weight_where-cons}
+use Rattle.profile_rows.specs.Paths.{path_start, path_weight}
+use Rattle.profile_rows.specs.Rows.{is_same_stack, weight_of, weight_where}
+use Rattle.flame_report.proofs.PathOrder.{Path, begins, is_left, is_left_of_end, left-append, end-append, prefix-append}
+use Rattle.flame_report.proofs.PathOrder.{name_itself, names_total, not_left_under, same_name, same-stack, turned}
+use Rattle.flame_report.proofs.RowSums.{span_end, weight_where-cons, weight_where-either, weight_where-le}
 
-abbrev Path : Type 0
-Path = List (List ℕ)
+-- A stack by how it stands to a path: whether it lies left of the path, whether it begins with it, and what it has
+-- behind it. None of the children that are meant here has it.
+abbrev NoneHas : (List ℕ → Type 0) → Bool → Path → Type 0
+NoneHas Meant here rest = (n : List ℕ) → Meant n → (here && begins (n ∷ []) rest) ≡ false
 
--- what one row gives to a path, and to what lies left of it
-abbrev within : Path → Path → ℕ → ℕ
-within path stack weight = cond (begins_with name_cmp path stack) weight 0
-
-abbrev left : Path → Path → ℕ → ℕ
-left path stack weight = cond (lies_left_of name_cmp path stack) weight 0
-
--- a row whose next name no child has weighs nothing
-no_child : (f : List ℕ) (stack : Path) (weight : ℕ) → within (f ∷ []) (f ∷ stack) weight ≡ 0 → weight ≡ 0
-no_child f stack weight none = rw (tied_itself names_total f) at none
+-- two tests give one weight where they agree on each stack that none of these children has, if these weigh nothing
+weight_where-agree : (Meant : List ℕ → Type 0) (path : Path) (test other : Path → Bool) (rows : List WeightedStack)
+    → ((n : List ℕ) → Meant n → path_weight rows (path ++ n ∷ []) ≡ 0)
+    → ((s : Path) → NoneHas Meant (begins path s) (drop (length path) s) → test s ≡ other s)
+    → weight_where test rows ≡ weight_where other rows
+weight_where-agree Meant path test other [] none agree = refl
+weight_where-agree Meant path test other (row ∷ rows) none agree =
+    let rest = weight_where-agree Meant path test other rows (λ n meant.
+    omega (arith, none n meant, weight_where-cons (begins (path ++ n ∷ [])) row rows)) agree in
+    elim (cases_eq row.weight 0) [
+      | inl light ↦ grind (arith, weight_where-cons)
+      | inr heavy ↦
+          let here = agree row.stack (λ n meant. grind (
+            arith,
+            none n meant,
+            weight_where-cons (begins (path ++ n ∷ [])) row rows,
+            prefix-append path (n ∷ []) row.stack,
+          )) in
+          grind (arith, weight_where-cons)
+    ]
 
 -- ---- two children
 
-row_next : (path stack : Path) (a b : List ℕ) (weight : ℕ) → name_cmp a b ≡ Less
-    → ((n : List ℕ) → name_cmp a n ≡ Less → name_cmp n b ≡ Less → within (path ++ n ∷ []) stack weight ≡ 0)
-    → left (path ++ b ∷ []) stack weight ≡ left (path ++ a ∷ []) stack weight + within (path ++ a ∷ []) stack weight
-row_next [] [] a b weight less none = omega arith
-row_next [] (f ∷ stack) a b weight less none = grind (arith, common_steps, names_total, names_same, no_child)
-row_next (n ∷ path) [] a b weight less none = omega arith
-row_next (n ∷ path) (f ∷ stack) a b weight less none =
-    elim (name_cmp f n) as (λ o. ((m : List ℕ) → name_cmp a m ≡ Less → name_cmp m b ≡ Less
-    → cond (match_ordering o false (begins_with name_cmp (path ++ m ∷ []) stack) false) weight 0 ≡ 0)
-    → cond (match_ordering o true (lies_left_of name_cmp (path ++ b ∷ []) stack) false) weight 0
-    ≡ cond (match_ordering o true (lies_left_of name_cmp (path ++ a ∷ []) stack) false) weight 0 + cond
-    (match_ordering o false (begins_with name_cmp (path ++ a ∷ []) stack) false) weight 0) [
-      | Less ↦ λ all. omega arith
-      | Equal ↦ λ all. row_next path stack a b weight less all
-      | Greater ↦ λ all. omega arith
-    ] none
+row_next : (here : Bool) (rest : Path) (a b : List ℕ) → name_cmp a b ≡ Less
+    → NoneHas (λ n. (name_cmp a n ≡ Less) × (name_cmp n b ≡ Less)) here rest
+    → (here && is_left (b ∷ []) rest) ≡ (here && is_left_of_end (a ∷ []) rest)
+row_next here [] a b less none = refl
+row_next here (f ∷ rest) a b less none =
+    let own = none f in grind (arith, names_total, same_name, turned, name_itself)
 
 pub siblings-next : (rows : List WeightedStack) (path : Path) (a b : List ℕ) → name_cmp a b ≡ Less
     → ((n : List ℕ) → name_cmp a n ≡ Less → name_cmp n b ≡ Less → path_weight rows (path ++ n ∷ []) ≡ 0)
     → path_start rows (path ++ b ∷ []) ≡ path_start rows (path ++ a ∷ []) + path_weight rows (path ++ a ∷ [])
-siblings-next [] path a b less none = omega arith
-siblings-next (row ∷ rows) path a b less none =
-    let here = row_next path row.stack a b row.weight less (λ n above below. let all = none n above below in let cons =
-    weight_where-cons (begins_with name_cmp (path ++ n ∷ [])) row rows in omega arith) in
-    let rest = siblings-next rows path a b less (λ n above below. let all = none n above below in let cons =
-    weight_where-cons (begins_with name_cmp (path ++ n ∷ [])) row rows in omega arith) in
-    omega (
-      arith,
-      here,
-      rest,
-      weight_where-cons (lies_left_of name_cmp (path ++ b ∷ [])) row rows,
-      weight_where-cons (lies_left_of name_cmp (path ++ a ∷ [])) row rows,
-      weight_where-cons (begins_with name_cmp (path ++ a ∷ [])) row rows,
-    )
+siblings-next rows path a b less none =
+    weight_where-agree (λ n. (name_cmp a n ≡ Less) × (name_cmp n b ≡ Less)) path (is_left (path ++ b ∷ []))
+    (is_left_of_end (path ++ a ∷ [])) rows (λ n between. none n between.0 between.1) (λ s absent.
+    rw (left-append path (b ∷ []) s, end-append path (a ∷ []) s, row_next (begins path s) _ a b less absent) refl)
+    ∙ span_end rows (path ++ a ∷ [])
 
-row_order : (path stack : Path) (a b : List ℕ) (weight : ℕ) → name_cmp a b ≡ Less
-    → left (path ++ a ∷ []) stack weight + within (path ++ a ∷ []) stack weight ≤ left (path ++ b ∷ []) stack weight
-row_order [] [] a b weight less = omega arith
-row_order [] (f ∷ stack) a b weight less = grind (arith, common_steps, names_total, names_same)
-row_order (n ∷ path) [] a b weight less = omega arith
-row_order (n ∷ path) (f ∷ stack) a b weight less = grind (arith, common_steps, row_order path stack a b weight less)
+row_order : (rest : Path) (a b : List ℕ)
+    → name_cmp a b ≡ Less → is_left_of_end (a ∷ []) rest ≡ true → is_left (b ∷ []) rest ≡ true
+row_order [] a b less first = first
+row_order (f ∷ rest) a b less first = grind (arith, names_total, same_name, turned)
 
 pub siblings-order : (rows : List WeightedStack) (path : Path) (a b : List ℕ) → name_cmp a b ≡ Less
     → path_start rows (path ++ a ∷ []) + path_weight rows (path ++ a ∷ []) ≤ path_start rows (path ++ b ∷ [])
-siblings-order [] path a b less = omega arith
-siblings-order (row ∷ rows) path a b less =
-    grind (arith, common_steps, weight_where-cons, row_order, siblings-order rows path a b less)
+siblings-order rows path a b less =
+    let below = weight_where-le (is_left_of_end (path ++ a ∷ [])) (is_left (path ++ b ∷ [])) rows
+    (λ s first. grind (arith, left-append, end-append, row_order (drop (length path) s) a b less)) in
+    omega (arith, below, span_end rows (path ++ a ∷ []))
 
 -- ---- the first child
 
-row_first : (path stack : Path) (a : List ℕ) (weight : ℕ)
-    → ((n : List ℕ) → name_cmp n a ≡ Less → within (path ++ n ∷ []) stack weight ≡ 0)
-    → left (path ++ a ∷ []) stack weight ≡ left path stack weight
-row_first [] [] a weight none = refl
-row_first [] (f ∷ stack) a weight none =
-    elim (name_cmp f a) as (λ o. name_cmp f a ≡ o → cond (match_ordering o true false false) weight 0 ≡ 0) [
-      | Less ↦ λ e. no_child f stack weight (none f e)
-      | Equal ↦ λ e. refl
-      | Greater ↦ λ e. refl
-    ] refl
-row_first (n ∷ path) [] a weight none = refl
-row_first (n ∷ path) (f ∷ stack) a weight none =
-    elim (name_cmp f n) as (λ o. ((m : List ℕ) → name_cmp m a ≡ Less
-    → cond (match_ordering o false (begins_with name_cmp (path ++ m ∷ []) stack) false) weight 0 ≡ 0)
-    → cond (match_ordering o true (lies_left_of name_cmp (path ++ a ∷ []) stack) false) weight 0
-    ≡ cond (match_ordering o true (lies_left_of name_cmp path stack) false) weight 0) [
-      | Less ↦ λ all. refl
-      | Equal ↦ λ all. row_first path stack a weight all
-      | Greater ↦ λ all. refl
-    ] none
+row_first : (here : Bool) (rest : Path) (a : List ℕ)
+    → NoneHas (λ n. name_cmp n a ≡ Less) here rest → (here && is_left (a ∷ []) rest) ≡ false
+row_first here [] a none = grind arith
+row_first here (f ∷ rest) a none = let own = none f in grind (arith, name_itself)
 
 pub siblings-first : (rows : List WeightedStack) (path : Path) (a : List ℕ)
     → ((n : List ℕ) → name_cmp n a ≡ Less → path_weight rows (path ++ n ∷ []) ≡ 0)
     → path_start rows (path ++ a ∷ []) ≡ path_start rows path
-siblings-first [] path a none = refl
-siblings-first (row ∷ rows) path a none =
-    let here = row_first path row.stack a row.weight (λ n below. let all =
-    none n below in let cons = weight_where-cons (begins_with name_cmp (path ++ n ∷ [])) row rows in omega arith) in
-    let rest = siblings-first rows path a (λ n below. let all =
-    none n below in let cons = weight_where-cons (begins_with name_cmp (path ++ n ∷ [])) row rows in omega arith) in
-    omega (
-      arith,
-      here,
-      rest,
-      weight_where-cons (lies_left_of name_cmp (path ++ a ∷ [])) row rows,
-      weight_where-cons (lies_left_of name_cmp path) row rows,
-    )
+siblings-first rows path a none =
+    weight_where-agree (λ n. name_cmp n a ≡ Less) path (is_left (path ++ a ∷ [])) (is_left path) rows none
+    (λ s absent. grind (arith, left-append, row_first (begins path s) (drop (length path) s) a absent))
 
 -- ---- the last child, and none
 
-row_last : (path stack : Path) (a : List ℕ) (weight : ℕ)
-    → ((n : List ℕ) → name_cmp a n ≡ Less → within (path ++ n ∷ []) stack weight ≡ 0)
-    → left (path ++ a ∷ []) stack weight + within (path ++ a ∷ []) stack weight + cond
-    (is_same_stack path stack) weight 0 ≡ left path stack weight + within path stack weight
-row_last [] [] a weight none = omega arith
-row_last [] (f ∷ stack) a weight none = grind (arith, common_steps, names_total, names_same, no_child)
-row_last (n ∷ path) [] a weight none = omega arith
-row_last (n ∷ path) (f ∷ stack) a weight none =
-    elim (name_cmp f n) as (λ o. name_cmp f n ≡ o → ((m : List ℕ) → name_cmp a m ≡ Less
-    → cond (match_ordering o false (begins_with name_cmp (path ++ m ∷ []) stack) false) weight 0 ≡ 0)
-    → cond (match_ordering o true (lies_left_of name_cmp (path ++ a ∷ []) stack) false) weight 0 + cond
-    (match_ordering o false (begins_with name_cmp (path ++ a ∷ []) stack) false) weight 0
-    + cond (is_eq (ordering_then (name_cmp n f) (stack_cmp path stack))) weight 0
-    ≡ cond (match_ordering o true (lies_left_of name_cmp path stack) false) weight 0 + cond
-    (match_ordering o false (begins_with name_cmp path stack) false) weight 0) [
-      | Less ↦ λ e all. let turned : name_cmp n f ≡ Greater =
-          order.turned names_total names_same f n Less e in rw turned (omega arith)
-      | Equal ↦ λ e all. let turned : name_cmp n f ≡ Equal =
-          order.turned names_total names_same f n Equal e in rw turned (row_last path stack a weight all)
-      | Greater ↦ λ e all. let turned : name_cmp n f ≡ Less =
-          order.turned names_total names_same f n Greater e in rw turned (omega arith)
-    ] refl none
+row_last : (here : Bool) (rest : Path) (a : List ℕ) → NoneHas (λ n. name_cmp a n ≡ Less) here rest
+    → ((here && is_left_of_end (a ∷ []) rest) || (here && is_same_stack [] rest)) ≡ here
+row_last here [] a none = grind arith
+row_last here (f ∷ rest) a none = let own = none f in grind (arith, turned, name_itself)
+
+-- what has a name more isn't the path
+child_apart : (rest : Path) (a : List ℕ) → is_left_of_end (a ∷ []) rest ≡ true → is_same_stack [] rest ≡ false
+child_apart [] a there = cc
+child_apart (f ∷ rest) a there = refl
 
 pub own_weight-last : (rows : List WeightedStack) (path : Path) (a : List ℕ)
     → ((n : List ℕ) → name_cmp a n ≡ Less → path_weight rows (path ++ n ∷ []) ≡ 0)
     → path_start rows (path ++ a ∷ []) + path_weight rows (path ++ a ∷ []) + weight_of rows path
     ≡ path_start rows path + path_weight rows path
-own_weight-last [] path a none = omega arith
-own_weight-last (row ∷ rows) path a none =
-    let here = row_last path row.stack a row.weight (λ n above. let all =
-    none n above in let cons = weight_where-cons (begins_with name_cmp (path ++ n ∷ [])) row rows in omega arith) in
-    let rest = own_weight-last rows path a (λ n above. let all =
-    none n above in let cons = weight_where-cons (begins_with name_cmp (path ++ n ∷ [])) row rows in omega arith) in
-    omega (
-      arith,
-      here,
-      rest,
-      weight_where-cons (lies_left_of name_cmp (path ++ a ∷ [])) row rows,
-      weight_where-cons (begins_with name_cmp (path ++ a ∷ [])) row rows,
-      weight_where-cons (is_same_stack path) row rows,
-      weight_where-cons (lies_left_of name_cmp path) row rows,
-      weight_where-cons (begins_with name_cmp path) row rows,
-    )
+own_weight-last rows path a none =
+    let both = weight_where-either (is_left_of_end (path ++ a ∷ [])) (is_same_stack path) rows (λ s there.
+    grind (arith, end-append, same-stack, not_left_under, child_apart (drop (length path) s) a)) in
+    let same = weight_where-agree (λ n. name_cmp a n ≡ Less) path
+    (λ s. is_left_of_end (path ++ a ∷ []) s || is_same_stack path s) (is_left_of_end path) rows none (λ s absent.
+    grind (arith, end-append, same-stack, row_last (begins path s) (drop (length path) s) a absent)) in
+    omega (arith, both, same, span_end rows path, span_end rows (path ++ a ∷ []))
 
-row_alone : (path stack : Path) (weight : ℕ) → ((n : List ℕ) → within (path ++ n ∷ []) stack weight ≡ 0)
-    → within path stack weight ≡ cond (is_same_stack path stack) weight 0
-row_alone [] [] weight none = refl
-row_alone [] (f ∷ stack) weight none = no_child f stack weight (none f)
-row_alone (n ∷ path) [] weight none = refl
-row_alone (n ∷ path) (f ∷ stack) weight none =
-    elim (name_cmp f n) as (λ o. name_cmp f n ≡ o → ((m : List ℕ)
-    → cond (match_ordering o false (begins_with name_cmp (path ++ m ∷ []) stack) false) weight 0 ≡ 0)
-    → cond (match_ordering o false (begins_with name_cmp path stack) false) weight 0
-    ≡ cond (is_eq (ordering_then (name_cmp n f) (stack_cmp path stack))) weight 0) [
-      | Less ↦ λ e all. let turned : name_cmp n f ≡ Greater =
-          order.turned names_total names_same f n Less e in rw turned refl
-      | Equal ↦ λ e all. let turned : name_cmp n f ≡ Equal =
-          order.turned names_total names_same f n Equal e in rw turned (row_alone path stack weight all)
-      | Greater ↦ λ e all. let turned : name_cmp n f ≡ Less =
-          order.turned names_total names_same f n Greater e in rw turned refl
-    ] refl none
+row_alone : (here : Bool) (rest : Path) → ((n : List ℕ) → (here && begins (n ∷ []) rest) ≡ false)
+    → here ≡ (here && is_same_stack [] rest)
+row_alone here [] none = grind arith
+row_alone here (f ∷ rest) none = let own = none f in grind (arith, name_itself)
 
 pub own_weight-alone : (rows : List WeightedStack) (path : Path)
     → ((n : List ℕ) → path_weight rows (path ++ n ∷ []) ≡ 0) → path_weight rows path ≡ weight_of rows path
-own_weight-alone [] path none = refl
-own_weight-alone (row ∷ rows) path none =
-    let here = row_alone path row.stack row.weight (λ n. let all =
-    none n in let cons = weight_where-cons (begins_with name_cmp (path ++ n ∷ [])) row rows in omega arith) in
-    let rest = own_weight-alone rows path (λ n. let all =
-    none n in let cons = weight_where-cons (begins_with name_cmp (path ++ n ∷ [])) row rows in omega arith) in
-    omega (
-      arith,
-      here,
-      rest,
-      weight_where-cons (begins_with name_cmp path) row rows,
-      weight_where-cons (is_same_stack path) row rows,
-    )
+own_weight-alone rows path none =
+    weight_where-agree (λ n. n ≡ n) path (begins path) (is_same_stack path) rows (λ n same. none n)
+    (λ s absent. row_alone (begins path s) (drop (length path) s) (λ n. absent n refl) ∙ sym (same-stack path s))

@@ -12,12 +12,6 @@ use Rattle.flame_report.specs.Tokens.{flame_tokens, rects_tokens}
 use Rattle.flame_report.specs.declared.answer.Flame.{Flame}
 use Rattle.flame_report.specs.declared.answer.Rect.{Rect}
 
--- what was added piece by piece is one list
-pub one_list : (t a b c d e f g h i : List Token)
-    → ((((((((t ++ a) ++ b) ++ c) ++ d) ++ e) ++ f) ++ g) ++ h) ++ i
-    ≡ t ++ (a ++ (b ++ (c ++ (d ++ (e ++ (f ++ (g ++ (h ++ i))))))))
-one_list t a b c d e f g h i = simp append_assoc
-
 rects_back : (rects : List Rect) (rest : List Token)
     → items_tokens (items_outline (items_from (map rect_data rects))) ++ rest ≡ rects_tokens rects ++ (end_array ∷ rest)
 rects_back [] rest = refl

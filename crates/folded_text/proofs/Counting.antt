@@ -8,7 +8,7 @@ use Rattle.folded_text.specs.declared.folded.FoldedFault.TheVariants.{NoMemory}
 use Rattle.profile_rows.specs.declared.frame_totals.FrameTotals.{FrameTotals}
 use Rattle.folded_text.specs.FoldedText.{IsFoldedText, IsWorkFault}
 use Rattle.profile_rows.specs.Merging.{AreMergedSoFar}
-use Rattle.profile_rows.specs.TopList.{AreTotalsOf, sums_at}
+use Rattle.profile_rows.specs.TopList.{AreTotalsOf}
 use Rattle.profile_rows.proofs.EntryLaws.{weight_where-same}
 use Rattle.profile_rows.proofs.MergedRows.{AreMergedSoFar-same}
 use Rattle.folded_text.specs.TextSums.{AreTotalsOfText}
@@ -25,12 +25,8 @@ only_totals text (Err fault) counted rows folded = elim counted [
   | inr late ↦ late.0
 ]
 
-sums_at-same : (rows merged : List WeightedStack) (name : List ℕ)
-    → AreMergedSoFar rows merged → sums_at merged name ≡ sums_at rows name
-sums_at-same rows merged name same = grind (arith, common_steps, weight_where-same, AreMergedSoFar-same)
-
 -- what names weigh in rows is what they weigh where some are put together
 pub AreTotalsOf-merged : (rows merged : List WeightedStack) (totals : FrameTotals)
     → AreMergedSoFar rows merged → AreTotalsOf merged totals → AreTotalsOf rows totals
 AreTotalsOf-merged rows merged totals same these =
-    grind (arith, common_steps, weight_where-same, AreMergedSoFar-same, sums_at-same)
+    grind (arith, common_steps, weight_where-same, AreMergedSoFar-same)

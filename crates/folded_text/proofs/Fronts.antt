@@ -1,12 +1,10 @@
 -- The first bytes of two texts as numbers are in the order of the texts.
 use Rattle.std.proofs.lemmas.Grind.{common_steps}
-use Rattle.std.proofs.Common.{◌≡◌, ◌≢◌, ℕ, ◌+◌, ◌*◌, ◌<◌, false, List, [], ◌∷◌, length, drop, get_or}
-use Rattle.std.proofs.Common.{refl, sym, ap, ◌∙◌}
-use Rattle.std.proofs.Common.{subst, arith}
+use Rattle.std.proofs.Common.{◌≡◌, ◌≢◌, ℕ, ◌+◌, ◌*◌, ◌<◌, false, List, [], ◌∷◌, length, drop, get_or, refl, sym, ap}
+use Rattle.std.proofs.Common.{◌∙◌, arith}
 use Prim.Native.Nat.{zero, suc}
-use Rattle.std.specs.declared.cmp.Ordering.{Ordering}
-use Rattle.std.specs.declared.cmp.Ordering.TheVariants.{Less, Equal, Greater}
-use Rattle.std.specs.Ordering.{MatchOrdering, is_ne, nat_cmp, ordering_reverse, ordering_then}
+use Rattle.std.specs.declared.cmp.Ordering.TheVariants.{Less, Equal}
+use Rattle.std.specs.Ordering.{is_ne, nat_cmp}
 use Rattle.std.specs.Cmp.{ranks}
 use Rattle.folded_text.specs.StackOrder.{AreDigits, digits_of, front_of, number_of, rank_of, stack_text_cmp}
 use Rattle.folded_text.proofs.StackOrder.{stack_text_cmp_total}
@@ -38,37 +36,19 @@ lower_text (suc count) high [] [] are also below = absurd (omega (arith, below))
 lower_text (suc count) high [] (b ∷ other) are also below = refl
 lower_text (suc count) high (a ∷ text) [] are also below = grind (arith, common_steps, lower, as_long)
 lower_text (suc count) high (a ∷ text) (b ∷ other) are also below =
-    by_rank (lower_text count (high * 512 + (rank_of b + 1)) text other are.1 also.1)
-    (nat_cmp (rank_of a) (rank_of b)) refl (ranks (rank_of a) (rank_of b))
-  where
-    by_rank : (number_of (high * 512 + (rank_of b + 1)) (digits_of count text) < number_of
-        (high * 512 + (rank_of b + 1)) (digits_of count other) → stack_text_cmp text other ≡ Less)
-        → (o : Ordering) → nat_cmp (rank_of a) (rank_of b) ≡ o → MatchOrdering o (rank_of a < rank_of b)
-        (rank_of a ≡ rank_of b) (rank_of b < rank_of a) → stack_text_cmp (a ∷ text) (b ∷ other) ≡ Less
-    by_rank rest Less is ranked = ap (λ o. ordering_then o (stack_text_cmp text other)) is
-    by_rank rest Equal is ranked =
-        ap (λ o. ordering_then o (stack_text_cmp text other)) is
-        ∙ rest (subst (λ rank. number_of (high * 512 + (rank + 1))
-        (digits_of count text) < number_of (high * 512 + (rank_of b + 1)) (digits_of count other)) ranked below)
-    by_rank rest Greater is ranked =
-        let above = lower (high * 512 + (rank_of b + 1)) (high * 512 + (rank_of a + 1)) (digits_of count other)
-        (digits_of count text) (as_long count other text) also.1 are.1 (omega (arith, ranked)) in
-        absurd (omega (arith, below, above))
+    let rest = lower_text count (high * 512 + (rank_of b + 1)) text other are.1 also.1 in
+    let above = lower (high * 512 + (rank_of b + 1)) (high * 512 + (rank_of a + 1))
+    (digits_of count other) (digits_of count text) (as_long count other text) also.1 are.1 in
+    grind (arith, common_steps, ranks (rank_of a) (rank_of b), rest, above)
 
 -- where fronts differ, they are in the order of the texts
 pub fronts_decide : (text other : List ℕ)
     → AreDigits (digits_of 7 text) → AreDigits (digits_of 7 other) → nat_cmp (front_of text) (front_of other) ≢ Equal
     → nat_cmp (front_of text) (front_of other) ≡ stack_text_cmp text other
 fronts_decide text other are also apart =
-    decide (nat_cmp (front_of text) (front_of other)) refl (ranks (front_of text) (front_of other))
-  where
-    decide : (o : Ordering) → nat_cmp (front_of text) (front_of other) ≡ o → MatchOrdering o
-        (front_of text < front_of other) (front_of text ≡ front_of other) (front_of other < front_of text)
-        → nat_cmp (front_of text) (front_of other) ≡ stack_text_cmp text other
-    decide Less is ranked = is ∙ sym (lower_text 7 0 text other are also ranked)
-    decide Equal is ranked = absurd (apart is)
-    decide Greater is ranked = is ∙ sym
-        (stack_text_cmp_total.antisymm text other ∙ ap ordering_reverse (lower_text 7 0 other text also are ranked))
+    let lower = lower_text 7 0 text other are also in
+    let above = lower_text 7 0 other text also are in
+    grind (arith, common_steps, ranks, lower, above, stack_text_cmp_total.antisymm text other)
 
 -- numbers that are the same have the same digits
 same_digits : (high : ℕ) (digits others : List ℕ) → length digits ≡ length others → AreDigits digits → AreDigits others
@@ -76,34 +56,18 @@ same_digits : (high : ℕ) (digits others : List ℕ) → length digits ≡ leng
 same_digits high [] [] same are also is = refl
 same_digits high [] (o ∷ others) same are also is = absurd (omega (arith, same))
 same_digits high (d ∷ digits) [] same are also is = absurd (omega (arith, same))
-same_digits high (d ∷ digits) (o ∷ others) same are also is = by_first
-    (λ first. same_digits (high * 512 + o) digits others (omega (arith, same)) are.1 also.1
-    (ap (λ digit. number_of (high * 512 + digit) digits) (sym first) ∙ is))
-    (nat_cmp d o) (ranks d o)
-  where
-    long : length digits ≡ length others
-    long = omega (arith, same)
-
-    by_first : (d ≡ o → digits ≡ others) → (found : Ordering) → MatchOrdering found (d < o) (d ≡ o) (o < d)
-        → d ∷ digits ≡ o ∷ others
-    by_first rest Less ranked =
-        let below = lower (high * 512 + d) (high * 512 + o) digits others long are.1 also.1 (omega (arith, ranked)) in
-        absurd (omega (arith, below, is))
-    by_first rest Equal ranked = ap (λ digit. digit ∷ digits) ranked ∙ ap (λ more. o ∷ more) (rest ranked)
-    by_first rest Greater ranked =
-        let below = lower (high * 512 + o) (high * 512 + d) others digits (sym long) also.1 are.1
-        (omega (arith, ranked)) in
-        absurd (omega (arith, below, is))
+same_digits high (d ∷ digits) (o ∷ others) same are also is =
+    let below = lower (high * 512 + d) (high * 512 + o) digits others in
+    let above = lower (high * 512 + o) (high * 512 + d) others digits in
+    grind (arith, common_steps, below, above, same_digits (high * 512 + o) digits others)
 
 -- texts whose first bytes rank the same compare as what is behind these
 past_digits : (count : ℕ) (text other : List ℕ) → digits_of count text ≡ digits_of count other
     → stack_text_cmp text other ≡ stack_text_cmp (drop count text) (drop count other)
 past_digits zero text other same = refl
 past_digits (suc count) [] [] same = refl
-past_digits (suc count) [] (b ∷ other) same = let first = ap (λ digits. get_or digits 0 0) same in
-    absurd (omega (arith, first))
-past_digits (suc count) (a ∷ text) [] same = let first = ap (λ digits. get_or digits 0 0) same in
-    absurd (omega (arith, first))
+past_digits (suc count) [] (b ∷ other) same = absurd (omega (arith, ap (λ digits. get_or digits 0 0) same))
+past_digits (suc count) (a ∷ text) [] same = absurd (omega (arith, ap (λ digits. get_or digits 0 0) same))
 past_digits (suc count) (a ∷ text) (b ∷ other) same =
     grind (arith, common_steps, past_digits count text other (ap (drop 1) same))
 
@@ -115,10 +79,4 @@ past_fronts text other are also same = past_digits 7 text other
 
 -- numbers of which none is lower are the same
 pub same_front : (front other : ℕ) → is_ne (nat_cmp front other) ≡ false → front ≡ other
-same_front front other even = by_order (nat_cmp front other) even (ranks front other)
-  where
-    by_order : (o : Ordering) → is_ne o ≡ false → MatchOrdering o (front < other) (front ≡ other) (other < front)
-        → front ≡ other
-    by_order Less e ranked = cc
-    by_order Equal e ranked = ranked
-    by_order Greater e ranked = cc
+same_front front other even = grind (arith, common_steps, ranks)

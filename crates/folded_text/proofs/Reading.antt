@@ -1,10 +1,10 @@
 -- What a text is folded text of.
 use Rattle.std.proofs.lemmas.Grind.{common_steps}
 use Rattle.std.proofs.Common.{◌≡◌, ◌≢◌, ℕ, ◌+◌, ◌^◌, ◌<◌, ◌≤◌, List, [], ◌∷◌, ◌++◌, length, map, refl, sym, ap, ◌∙◌}
-use Rattle.std.proofs.Common.{arith, subst, append_assoc, length-append}
-use Rattle.std.proofs.Math.ListN.{get_or-append}
-use Rattle.std.proofs.lemmas.List.{get_or_at, nil_from_length}
+use Rattle.std.proofs.Common.{arith, subst, length-append, drop}
+use Rattle.std.proofs.lemmas.List.{nil_from_length}
 use Rattle.std.proofs.lemmas.List.Sums.{sum_by-cons, sum_by-append, sum_by_push}
+use Rattle.std.proofs.lemmas.List.Elements.{All-drop, All-head, All-same}
 use Rattle.std.specs.Str.{IsUtf8}
 use Rattle.std.specs.Str.Lines.{lines}
 use Rattle.std.specs.Str.Parse.{digits_value}
@@ -20,17 +20,22 @@ use Rattle.bstr.specs.Text.{lines_of, without_terminator}
 use Rattle.folded_text.proofs.Counts.{HasCount-same}
 use Rattle.folded_text.proofs.Lines.{lines-one_line, lines_of-lines}
 
-same_row : (a b : WeightedStack) → a.stack ≡ b.stack → a.weight ≡ b.weight → a ≡ b
-same_row a b stack weight = grind (arith, common_steps)
+pub record Shares (line : List ℕ) (row : WeightedStack) (stack digits : List ℕ) : Type 0 where
+  pub frames : row.stack ≡ frames_of stack
+  pub weight : row.weight ≡ digits_value 10 digits
+
+-- a row of the line has the line's one count
+pub shared : (line : List ℕ) (row : WeightedStack) (stack digits : List ℕ)
+    → IsRowLine line row → HasCount line stack digits → Shares line row stack digits
+shared line row stack digits this count =
+    let (same_stack, same_digits) =
+    HasCount-same line this.counted.0 stack this.counted.1 digits this.counted.2.count count in
+    record { frames = cc; weight = cc }
 
 -- one line spells one row
 pub IsRowLine-same : (line : List ℕ) (a b : WeightedStack) → IsRowLine line a → IsRowLine line b → a ≡ b
 IsRowLine-same line a b one other =
-    let parts = HasCount-same
-    line one.counted.0 other.counted.0 one.counted.1 other.counted.1 one.counted.2.count other.counted.2.count in
-    same_row a b
-    (one.counted.2.frames ∙ ap frames_of parts.0 ∙ sym other.counted.2.frames)
-    (one.counted.2.weight ∙ ap (digits_value 10) parts.1 ∙ sym other.counted.2.weight)
+    grind (arith, common_steps, shared line a other.counted.0 other.counted.1 one other.counted.2.count)
 
 pub AreRowLines-same : (ls : List (List ℕ)) (rows others : List WeightedStack)
     → AreRowLines ls rows → AreRowLines ls others → rows ≡ others
@@ -39,9 +44,7 @@ AreRowLines-same ([] ∷ ls) rows others one other = AreRowLines-same ls rows ot
 AreRowLines-same ((byte ∷ line) ∷ ls) [] others one other = absurd one
 AreRowLines-same ((byte ∷ line) ∷ ls) (row ∷ rows) [] one other = absurd other
 AreRowLines-same ((byte ∷ line) ∷ ls) (row ∷ rows) (r ∷ others) one other =
-    let here = IsRowLine-same (byte ∷ line) row r one.0 other.0 in
-    let rest = AreRowLines-same ls rows others one.1 other.1 in
-    ap (λ z. z ∷ rows) here ∙ ap (λ z. r ∷ z) rest
+    cc (IsRowLine-same (byte ∷ line) row r one.0 other.0, AreRowLines-same ls rows others one.1 other.1)
 
 -- one line more, that spells a row or is empty
 pub AreRowLines-push : (ls : List (List ℕ)) (rows : List WeightedStack) (line : List ℕ) (row : WeightedStack)
@@ -77,38 +80,19 @@ cut_at ((byte ∷ l) ∷ before) line after (r ∷ rows) all some =
     let rest = cut_at before line after rows all.1 some in
     (r ∷ rest.0, rest.1, rest.2, ap (λ z. r ∷ z) rest.3, (all.0, rest.4), rest.5)
 
-pub record Shares (line : List ℕ) (row : WeightedStack) (stack digits : List ℕ) : Type 0 where
-  pub frames : row.stack ≡ frames_of stack
-  pub weight : row.weight ≡ digits_value 10 digits
-
--- a row of the line has the line's one count
-pub shared : (line : List ℕ) (row : WeightedStack) (stack digits : List ℕ)
-    → IsRowLine line row → HasCount line stack digits → Shares line row stack digits
-shared line row stack digits this count =
-    let parts = HasCount-same line this.counted.0 stack this.counted.1 digits this.counted.2.count count in
-    record {
-      frames = this.counted.2.frames
-          ∙ ap frames_of parts.0;
-      weight = this.counted.2.weight ∙ ap (digits_value 10) parts.1;
-    }
-
 -- a line that spells a row within the total has no fault but want of memory
-faultless : (earlier number : ℕ) (line : List ℕ) (row : WeightedStack) (fault : FoldedFault)
+pub faultless : (earlier number : ℕ) (line : List ℕ) (row : WeightedStack) (fault : FoldedFault)
     → IsRowLine line row → earlier + row.weight < 2 ^ 63 → IsLineFault earlier number line fault → fault ≡ NoMemory
 faultless earlier number line row (NotUtf8 at) this fits h = absurd (h.1 this.utf8)
-faultless earlier number line row (NoCount at) this fits h =
-    absurd (h.2 this.counted.0 this.counted.1 this.counted.2.count)
+faultless earlier number line row (NoCount at) this fits h = absurd (h.2 _ _ this.counted.2.count)
 faultless earlier number line row (Count at) this fits h =
     let same = shared line row h.2 h.3 this h.4 in
-    let small = this.fits in
-    absurd (omega (arith, same.weight, small, h.5))
+    absurd (omega (arith, same.weight, this.fits, h.5))
 faultless earlier number line row (Depth at) this fits h =
     let same = shared line row h.2 h.3 this h.4 in
-    let deep = this.depth in
-    absurd (omega (arith, ap length same.frames, deep, h.6))
+    absurd (omega (arith, ap length same.frames, this.depth, h.6))
 faultless earlier number line row (Heavy at) this fits h =
-    let same : row.weight ≡ h.1.weight = ap (λ (r : WeightedStack). r.weight) (IsRowLine-same line row h.1 this h.2) in
-    absurd (omega (arith, same, fits, h.3))
+    absurd (omega (arith, ap (λ (r : WeightedStack). r.weight) (IsRowLine-same line row h.1 this h.2), fits, h.3))
 faultless earlier number line row NoMemory this fits h = refl
 
 -- a line among those of rows within the limit has no fault but want of memory
@@ -116,14 +100,10 @@ pub faultless_at : (before : List (List ℕ)) (line : List ℕ) (after : List (L
     (number : ℕ) (fault : FoldedFault) → AreRowLines (before ++ line ∷ after) rows → total_of rows < 2 ^ 63
     → AreRowLines before front → 0 < length line → IsLineFault (total_of front) number line fault → fault ≡ NoMemory
 faultless_at before line after front rows number fault all fits known some there =
-    let cut_rows = cut_at before line after rows all some in
-    let same : front ≡ cut_rows.0 = AreRowLines-same before front cut_rows.0 known cut_rows.4 in
-    let total : total_of rows ≡ total_of (cut_rows.0 ++ cut_rows.1 ∷ cut_rows.2) = ap total_of cut_rows.3 in
-    let parts = sum_by-append (λ (row : WeightedStack). row.weight) cut_rows.0 (cut_rows.1 ∷ cut_rows.2) in
-    let row = sum_by-cons (λ (row : WeightedStack). row.weight) cut_rows.1 cut_rows.2 in
-    let earlier = ap total_of same in
-    faultless
-    (total_of front) number line cut_rows.1 fault cut_rows.5 (omega (arith, total, parts, row, fits, earlier)) there
+    let (own, row, back, cut, known_own, this) = cut_at before line after rows all some in
+    let same = AreRowLines-same before front own known known_own in
+    let earlier : total_of front + row.weight < 2 ^ 63 = grind (arith, common_steps, sum_by-append, sum_by-cons) in
+    faultless (total_of front) number line row fault this earlier there
 
 -- folded text has no first fault but want of memory
 pub IsFirstFault-folded : (text : List ℕ) (rows : List WeightedStack) (fault : FoldedFault)
@@ -155,10 +135,7 @@ IsRowLine-read line stack digits weight utf8 count value depth fits = grind (ari
 -- the stack text of a line holds no line feed either
 pub text_one_line : (line text digits : List ℕ)
     → HasCount line text digits → All (λ byte. byte ≢ 10) line → All (λ byte. byte ≢ 10) text
-text_one_line line text digits count all = λ k d below.
-    let long = length-append text (32 ∷ digits) in
-    subst (λ byte. byte ≢ 10) (get_or-append text (32 ∷ digits) d k below)
-    (subst (All (λ byte. byte ≢ 10)) count.parts all k d (omega (arith, long, below)))
+text_one_line line text digits count all = λ k d below. grind (arith, common_steps, count.parts, all k d)
 
 -- ---- the loop over the lines
 
@@ -176,25 +153,17 @@ pub IsReadTo-begin : (text : List ℕ) (iterator numbered : Enumerate (List (Lis
     → numbered.count ≡ 0 → rows ≡ [] → IsReadTo text iterator.iter iterator.count rows
 IsReadTo-begin text iterator numbered rows same source first none = grind (arith, common_steps, lines_of-lines)
 
-regroup : (text : List ℕ) (before rest : List (List ℕ)) (line : List ℕ) (next : List (List ℕ))
-    → lines text ≡ before ++ rest → rest ≡ line ∷ next → lines text ≡ (before ++ line ∷ []) ++ next
-regroup text before rest line next cut e = cut ∙ ap (λ ls. before ++ ls) e ∙ sym (append_assoc before (line ∷ []) next)
-
 pub IsReadTo-row : (text : List ℕ) (rest : List (List ℕ)) (count : ℕ) (rows : List WeightedStack)
     (line : List ℕ) (next : List (List ℕ)) (after : ℕ) (row : WeightedStack) (all : List WeightedStack)
     → IsReadTo text rest count rows → rest ≡ line ∷ next → after ≡ count + 1 → 0 < length line → IsRowLine line row
     → total_of rows + row.weight < 2 ^ 63 → all ≡ rows ++ row ∷ [] → IsReadTo text next after all
 IsReadTo-row text rest count rows line next after row all so_far e number some this fits more =
-    let parts : total_of (rows ++ row ∷ []) ≡ total_of rows + row.weight =
-    sum_by_push (λ (row : WeightedStack). row.weight) rows row in
-    let total : total_of all ≡ total_of (rows ++ row ∷ []) = ap total_of more in
     record {
       before = so_far.before ++ line ∷ [];
-      cut = regroup text so_far.before rest line next so_far.cut e;
+      cut = grind (arith, common_steps, so_far.cut);
       counted = omega (arith, length-append so_far.before (line ∷ []), so_far.counted);
-      known = subst (AreRowLines (so_far.before ++ line ∷ []))
-          (sym more) (AreRowLines-push so_far.before rows line row so_far.known some this);
-      fits = omega arith;
+      known = rw more (AreRowLines-push so_far.before rows line row so_far.known some this);
+      fits = rw more (omega (arith, sum_by_push (λ (row : WeightedStack). row.weight) rows row, fits));
     }
 
 pub IsReadTo-skip : (text : List ℕ)
@@ -202,16 +171,15 @@ pub IsReadTo-skip : (text : List ℕ)
     → IsReadTo text rest count rows
     → rest ≡ line ∷ next → after ≡ count + 1 → length line ≡ 0 → IsReadTo text next after rows
 IsReadTo-skip text rest count rows line next after so_far e number none =
-    grind (arith, common_steps, nil_from_length, length-append, AreRowLines-skip, regroup)
+    grind (arith, common_steps, nil_from_length, length-append, AreRowLines-skip)
 
 pub IsReadTo-one_line : (text : List ℕ) (rest : List (List ℕ)) (count : ℕ) (rows : List WeightedStack) (line : List ℕ)
     (next : List (List ℕ)) → IsReadTo text rest count rows → rest ≡ line ∷ next → All (λ byte. byte ≢ 10) line
 IsReadTo-one_line text rest count rows line next so_far e =
-    let each : All (All (λ byte. byte ≢ 10)) (so_far.before ++ line ∷ next) =
-    subst (All (All (λ byte. byte ≢ 10))) (so_far.cut ∙ ap (λ ls. so_far.before ++ ls) e) (lines-one_line text) in
-    let long = length-append so_far.before (line ∷ next) in
-    subst (All (λ byte. byte ≢ 10)) (get_or_at so_far.before line next [] (length so_far.before) refl)
-    (each (length so_far.before) [] (omega (arith, long)))
+    All-head (All (λ byte. byte ≢ 10)) line next
+    (All-same (All (λ byte. byte ≢ 10)) (line ∷ next) (drop (length so_far.before) (lines text))
+    (grind (arith, common_steps, so_far.cut))
+    (All-drop (All (λ byte. byte ≢ 10)) (length so_far.before) (lines text) (lines-one_line text)))
 
 -- a line whose stack text and weight don't fit has that fault
 pub IsLineFault-fitting : (earlier number : ℕ) (line text digits : List ℕ) (weight : ℕ) (fault : FoldedFault)
@@ -231,11 +199,11 @@ IsLineFault-fitting earlier number line text digits weight (Heavy at) utf8 small
 IsLineFault-fitting earlier number line text digits weight NoMemory utf8 small count value h = absurd h
 
 -- where memory runs out the line spells a row that can follow
-pub IsLineFault-memory : (earlier total number : ℕ) (line text digits : List ℕ) (depth weight : ℕ)
-    → total ≡ earlier → IsUtf8 line → total + weight < 2 ^ 63 → HasCount line text digits
+pub IsLineFault-memory : (earlier number : ℕ) (line text digits : List ℕ) (depth weight : ℕ)
+    → IsUtf8 line → earlier + weight < 2 ^ 63 → HasCount line text digits
     → weight ≡ digits_value 10 digits
     → depth ≡ length (frames_of text) → depth ≤ 65535 → IsLineFault earlier number line NoMemory
-IsLineFault-memory earlier total number line text digits depth weight same utf8 fits count value frames most = (
+IsLineFault-memory earlier number line text digits depth weight utf8 fits count value frames most = (
   record { stack = frames_of text; weight = weight },
   IsRowLine-read line text digits weight utf8 count value (omega arith) (omega arith),
   omega arith,

@@ -37,25 +37,15 @@ spelled : (stack digits : List ℕ) (frames : List (List ℕ)) (weight : ℕ)
 spelled stack digits frames weight utf8 numeral frames_are weight_is depth fits = grind (arith, common_steps)
 
 -- Read rows: a carriage return before the line feed is dropped, an empty line is skipped, a stack may be empty, a
--- count may
--- have zeros in front, empty parts are dropped, and the last line needs no line feed.
+-- count may have zeros in front, empty parts are dropped, and the last line needs no line feed.
 read : IsFoldedText (codes "a b;c d 7" ++ 13 ∷ 10 ∷ 10 ∷ codes " 05" ++ 10 ∷ codes "a;;b 1")
     (row (codes "a b" ∷ codes "c d" ∷ []) 7 ∷ row [] 5 ∷ row (a ∷ b ∷ []) 1 ∷ [])
 unfolding lib.Utf8.encode
-read = record {
-  rows_lines = (
-    spelled
-        (codes "a b;c d") (codes "7") _ 7 (codes "a b;c d 7", (refl, refl)) (omega arith, (omega arith, tt)) refl refl
-        (omega arith) (omega arith),
-    (
-      spelled [] (codes "05") _ 5 (codes " 05", (refl, refl)) (omega arith, (omega arith, (omega arith, tt))) refl refl
-          (omega arith) (omega arith),
-      (
-        spelled (codes "a;;b") (codes "1") _ 1 (codes "a;;b 1", (refl, refl)) (omega arith, (omega arith, tt)) refl refl
-            (omega arith) (omega arith),
-        refl,
-      ),
-    ),
-  );
-  total_fits = omega arith;
-}
+read =
+    let spaces = spelled (codes "a b;c d") (codes "7") _ 7 (codes "a b;c d 7", (refl, refl))
+    (omega arith, (omega arith, tt)) refl refl (omega arith) (omega arith) in
+    let no_stack = spelled [] (codes "05") _ 5 (codes " 05", (refl, refl))
+    (omega arith, (omega arith, (omega arith, tt))) refl refl (omega arith) (omega arith) in
+    let empty_part = spelled (codes "a;;b") (codes "1") _ 1 (codes "a;;b 1", (refl, refl))
+    (omega arith, (omega arith, tt)) refl refl (omega arith) (omega arith) in
+    record { rows_lines = (spaces, (no_stack, (empty_part, refl))); total_fits = omega arith }

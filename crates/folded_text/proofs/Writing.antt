@@ -1,68 +1,61 @@
 -- Rows as folded text, which is folded text of these rows.
+use Rattle.std.proofs.lemmas.Str.Ascii.{IsAscii-from_all}
 use Rattle.std.proofs.lemmas.Grind.{common_steps}
-use Rattle.std.proofs.Common.{◌≡◌, ℕ, ◌+◌, ◌-◌, ◌^◌, ◌<◌, false, cond, eqb, List, [], ◌∷◌, ◌++◌, length, get_or, take}
-use Rattle.std.proofs.Common.{map, filter, refl, sym, ap, ◌∙◌, lit<, arith, append_assoc, length-append, ◌⊎◌}
-use Rattle.std.proofs.Common.{inl, inr}
-use Rattle.std.specs.Prelude.{◌==◌, not}
+use Rattle.std.proofs.Common.{◌≡◌, ℕ, ◌+◌, ◌-◌, ◌^◌, ◌<◌, false, eqb, List, [], ◌∷◌, ◌++◌, length, get_or, take, map}
+use Rattle.std.proofs.Common.{refl, sym, lit<, arith, append_assoc, length-append, ◌⊎◌, inl, inr, ◌≤◌}
+use Rattle.std.specs.Prelude.{◌≢◌}
 use Rattle.std.specs.List.{AllByRecursion, All, join_with_byte}
 use Rattle.std.specs.Fmt.{decimal}
 use Rattle.std.specs.Char.{IsAsciiDigit}
 use Rattle.std.specs.Str.{IsUtf8}
-use Rattle.std.specs.Str.Lines.{lines_of_parts, lines, strip_carriage_return}
+use Rattle.std.specs.Str.Lines.{lines, strip_carriage_return}
 use Rattle.std.specs.Str.Parse.{IsNumeral, digits_value}
 use Rattle.std.proofs.lemmas.Fmt.{decimal_is_IsNumeral, IsAscii-decimal}
-use Rattle.std.proofs.lemmas.List.Elements.{All-from_recursion, recursion_from_All}
+use Rattle.std.proofs.lemmas.List.Elements.{All-append, All-cons, All-from_get_or, All-nil, All-weaker}
+use Rattle.std.proofs.lemmas.List.Elements.{recursion_from_All}
 use Rattle.std.proofs.lemmas.List.Splits.{slice_split_none, slice_split_at}
 use Rattle.std.proofs.lemmas.Str.{IsUtf8-append, IsUtf8-from_ascii, IsUtf8-nil}
-use Rattle.std.proofs.lemmas.List.{get_or-append_right, append-nil, flat_map_more, length-map, length-take-le}
-use Rattle.std.proofs.lemmas.List.{take_more}
-use Prim.Native.Nat.{zero, suc}
+use Rattle.std.proofs.lemmas.List.{get_or-map, append-nil, flat_map_more, length-map, length-take-le, take_more}
 use borrow.Author.Tests.{ne_eqb}
 use Rattle.profile_rows.specs.declared.weighted_stacks.WeightedStack.{WeightedStack}
 use Rattle.profile_rows.specs.Names.{IsName}
-use Rattle.profile_rows.specs.Rows.{total_of}
+use Rattle.profile_rows.specs.Rows.{total_of, IsBatchRow}
 use Rattle.profile_rows.specs.Values.{Row, row_in, rows_at, weighing}
-use Rattle.folded_text.specs.FoldedText.{frames_of, IsRowLine, AreRowLines, IsFoldedText, row_text, rows_text}
-use Rattle.profile_rows.specs.Rows.{IsBatchRow}
-use Rattle.folded_text.proofs.Counts.{AllDigits-each}
+use Rattle.folded_text.specs.FoldedText.{IsCounted, frames_of, IsRowLine, AreRowLines, IsFoldedText, row_text}
+use Rattle.folded_text.specs.FoldedText.{rows_text}
+use Rattle.std.proofs.lemmas.Str.Parse.{digit_at}
 use Rattle.folded_text.proofs.Lines.{IsFeed, more_parts}
+
+-- the stack of a row that a batch can hold
+abbrev pub can_stand : WeightedStack → Type 0
+can_stand row = All IsName row.stack × (length row.stack ≤ 65535)
 
 -- a row's line, without its line feed
 abbrev line_of : WeightedStack → List ℕ
 line_of row = join_with_byte 59 row.stack ++ 32 ∷ decimal row.weight
 
-all_append : {X : Type 0} (P : X → Type 0) (xs ys : List X)
-    → AllByRecursion P xs → AllByRecursion P ys → AllByRecursion P (xs ++ ys)
-all_append P [] ys a b = b
-all_append P (x ∷ xs) ys a b = (a.0, all_append P xs ys a.1 b)
+-- a text behind a character of ASCII
+utf8_behind : (byte : ℕ) (text : List ℕ) → byte < 128 → IsUtf8 text → IsUtf8 (byte ∷ text)
+utf8_behind byte text ascii utf8 =
+    let first = All-cons (λ byte. byte < 128) byte [] ascii (All-nil (λ byte. byte < 128)) in
+    IsUtf8-append (byte ∷ []) text (IsUtf8-from_ascii (byte ∷ []) (IsAscii-from_all (byte ∷ []) first)) utf8
 
 -- ---- the stack text
 
+-- names joined by semicolons hold no line feed
 pub joined_plain : (names : List (List ℕ))
-    → AllByRecursion IsName names → AllByRecursion (λ byte. IsFeed byte ≡ false) (join_with_byte 59 names)
-joined_plain [] all = tt
-joined_plain (name ∷ []) all =
-    recursion_from_All (λ byte. IsFeed byte ≡ false) name (λ k d lt. ne_eqb _ 10 (all.0.no_line_feed k d lt))
+    → AllByRecursion IsName names → All (λ byte. byte ≢ 10) (join_with_byte 59 names)
+joined_plain [] all = All-nil (λ byte. byte ≢ 10)
+joined_plain (name ∷ []) all = all.0.no_line_feed
 joined_plain (name ∷ next ∷ names) all =
-    all_append (λ byte. IsFeed byte ≡ false) name (59 ∷ join_with_byte 59 (next ∷ names))
-    (recursion_from_All (λ byte. IsFeed byte ≡ false) name (λ k d lt. ne_eqb _ 10 (all.0.no_line_feed k d lt)))
-    (refl, joined_plain (next ∷ names) all.1)
+    All-append (λ byte. byte ≢ 10) name (59 ∷ join_with_byte 59 (next ∷ names)) all.0.no_line_feed
+    (All-cons (λ byte. byte ≢ 10) 59 _ (λ e. omega (arith, e)) (joined_plain (next ∷ names) all.1))
 
 joined_utf8 : (names : List (List ℕ)) → AllByRecursion IsName names → IsUtf8 (join_with_byte 59 names)
 joined_utf8 [] all = IsUtf8-nil
 joined_utf8 (name ∷ []) all = all.0.utf8
-joined_utf8 (name ∷ next ∷ names) all =
-    IsUtf8-append name (59 ∷ join_with_byte 59 (next ∷ names)) all.0.utf8
-    (IsUtf8-append (59 ∷ [])
-    (join_with_byte 59 (next ∷ names)) (IsUtf8-from_ascii (59 ∷ []) semicolon) (joined_utf8 (next ∷ names) all.1))
-  where
-    semicolon : (i : ℕ) → get_or (59 ∷ []) i 0 < 128
-    semicolon zero = lit< tt
-    semicolon (suc i) = lit< tt
-
-kept : (name : List ℕ) (parts : List (List ℕ)) → IsName name
-    → filter (λ piece. not (length piece == 0)) (name ∷ parts) ≡ name ∷ filter (λ piece. not (length piece == 0)) parts
-kept name parts is = grind (arith, common_steps)
+joined_utf8 (name ∷ next ∷ names) all = IsUtf8-append name (59 ∷ join_with_byte 59 (next ∷ names)) all.0.utf8
+    (utf8_behind 59 _ (lit< tt) (joined_utf8 (next ∷ names) all.1))
 
 uncut : (name : List ℕ) → IsName name → All (λ byte. eqb byte 59 ≡ false) name
 uncut name is k d lt = ne_eqb _ 59 (is.no_separator k d lt)
@@ -71,9 +64,9 @@ uncut name is k d lt = ne_eqb _ 59 (is.no_separator k d lt)
 pub frames_of-joined : (names : List (List ℕ))
     → AllByRecursion IsName names → frames_of (join_with_byte 59 names) ≡ names
 frames_of-joined [] all = refl
-frames_of-joined (name ∷ []) all = grind (arith, common_steps, slice_split_none, kept, uncut)
+frames_of-joined (name ∷ []) all = grind (arith, common_steps, slice_split_none, uncut)
 frames_of-joined (name ∷ next ∷ names) all =
-    grind (arith, common_steps, slice_split_at, kept, uncut, frames_of-joined (next ∷ names) all.1)
+    grind (arith, common_steps, slice_split_at, uncut, frames_of-joined (next ∷ names) all.1)
 
 -- ---- the line
 
@@ -81,62 +74,42 @@ numeral : (row : WeightedStack)
     → row.weight < 2 ^ 63 → IsNumeral 10 (decimal row.weight) × (digits_value 10 (decimal row.weight) ≡ row.weight)
 numeral row fits = decimal_is_IsNumeral row.weight (omega arith)
 
-digit_plain : (digits : List ℕ)
-    → AllByRecursion IsAsciiDigit digits → AllByRecursion (λ byte. IsFeed byte ≡ false) digits
-digit_plain [] all = tt
-digit_plain (byte ∷ digits) all = let digit = all.0 in (ne_eqb byte 10 (λ e. omega arith), digit_plain digits all.1)
-
-line_plain : (row : WeightedStack) → IsBatchRow row → AllByRecursion (λ byte. IsFeed byte ≡ false) (line_of row)
+line_plain : (row : WeightedStack) → IsBatchRow row → All (λ byte. IsFeed byte ≡ false) (line_of row)
 line_plain row is =
-    all_append (λ byte. IsFeed byte ≡ false) (join_with_byte 59 row.stack) (32 ∷ decimal row.weight)
-    (joined_plain row.stack (recursion_from_All IsName row.stack is.names))
-    (refl, digit_plain (decimal row.weight) (AllDigits-each (decimal row.weight) (numeral row is.fits).0.1))
+    let joined = joined_plain row.stack (recursion_from_All IsName row.stack is.names) in
+    All-weaker (λ byte. byte ≢ 10) (λ byte. IsFeed byte ≡ false) (λ byte. ne_eqb byte 10) (line_of row)
+    (All-append (λ byte. byte ≢ 10) (join_with_byte 59 row.stack) (32 ∷ decimal row.weight) joined
+    (All-cons (λ byte. byte ≢ 10) 32 (decimal row.weight) (λ e. omega (arith, e))
+    (All-from_get_or (λ byte. byte ≢ 10) (decimal row.weight) 0
+    (λ k lt e. let digit = digit_at (decimal row.weight) k (numeral row is.fits).0.1 lt in omega arith))))
 
 line_utf8 : (row : WeightedStack) → IsBatchRow row → IsUtf8 (line_of row)
 line_utf8 row is =
     IsUtf8-append (join_with_byte 59 row.stack)
     (32 ∷ decimal row.weight) (joined_utf8 row.stack (recursion_from_All IsName row.stack is.names))
-    (IsUtf8-from_ascii (32 ∷ decimal row.weight) ascii)
-  where
-    ascii : (i : ℕ) → get_or (32 ∷ decimal row.weight) i 0 < 128
-    ascii zero = lit< tt
-    ascii (suc i) = IsAscii-decimal row.weight (let fits = is.fits in omega arith) i
+    (utf8_behind 32 _ (lit< tt)
+    (IsUtf8-from_ascii (decimal row.weight) (IsAscii-decimal row.weight (let fits = is.fits in omega arith))))
 
 -- the line spells the row
 line_spells : (row : WeightedStack) → IsBatchRow row → IsRowLine (line_of row) row
-line_spells row is = record {
-  utf8 = line_utf8 row is;
-  counted = (
-    join_with_byte 59 row.stack,
-    decimal row.weight,
-    record {
-      count = record { parts = refl; numeral = (numeral row is.fits).0 };
-      frames = sym (frames_of-joined row.stack (recursion_from_All IsName row.stack is.names));
-      weight = sym (numeral row is.fits).1;
-    },
-  );
-  depth = is.depth;
-  fits = is.fits;
-}
+line_spells row is =
+    let (digits, value) = numeral row is.fits in
+    let frames = frames_of-joined row.stack (recursion_from_All IsName row.stack is.names) in
+    let counted : IsCounted (line_of row) row (join_with_byte 59 row.stack) (decimal row.weight) =
+    grind (arith, common_steps, value, frames) in
+    record { utf8 = line_utf8 row is; counted = (_, _, counted); depth = is.depth; fits = is.fits }
 
 -- its last byte is a digit, so nothing is dropped before the line feed
 line_whole : (row : WeightedStack) → IsBatchRow row → strip_carriage_return (line_of row) ≡ line_of row
 line_whole row is =
-    let digits = decimal row.weight in
-    let some = (numeral row is.fits).0.0 in
-    let long : length (line_of row) ≡ length (join_with_byte 59 row.stack) + length (32 ∷ decimal row.weight) =
-    length-append (join_with_byte 59 row.stack) (32 ∷ decimal row.weight) in
-    let index : length (line_of row) - 1 - length (join_with_byte 59 row.stack)
-    ≡ suc (length (decimal row.weight) - 1) = omega arith in
-    let last : get_or (line_of row) (length (line_of row) - 1) 0
-    ≡ get_or (decimal row.weight) (length (decimal row.weight) - 1) 0 =
-    get_or-append_right (join_with_byte 59 row.stack)
-    (32 ∷ decimal row.weight) (length (join_with_byte 59 row.stack)) (length (line_of row) - 1) 0 refl (omega arith)
-    ∙ ap (λ n. get_or (32 ∷ decimal row.weight) n 0) index in
-    let digit = All-from_recursion IsAsciiDigit (decimal row.weight) (AllDigits-each
-    (decimal row.weight) (numeral row is.fits).0.1) (length (decimal row.weight) - 1) 0 (omega arith) in
-    ap (λ b. cond b (take (length (line_of row) - 1) (line_of row)) (line_of row))
-    (ne_eqb (get_or (line_of row) (length (line_of row) - 1) 0) 13 (λ e. omega arith))
+    let (some, digits) = (numeral row is.fits).0 in
+    let digit = digit_at (decimal row.weight) (length (decimal row.weight) - 1) digits (omega arith) in
+    behind_digits (join_with_byte 59 row.stack) (decimal row.weight) some digit
+  where
+    behind_digits : (stack digits : List ℕ) → 0 < length digits
+        → IsAsciiDigit (get_or digits (length digits - 1) 0)
+        → strip_carriage_return (stack ++ 32 ∷ digits) ≡ stack ++ 32 ∷ digits
+    behind_digits stack digits some digit = grind (arith, common_steps)
 
 -- ---- the text
 
@@ -144,14 +117,7 @@ lines-rows_text : (rows : List WeightedStack)
     → AllByRecursion IsBatchRow rows → lines (rows_text rows) ≡ map line_of rows
 lines-rows_text [] all = refl
 lines-rows_text (row ∷ rows) all =
-    let regroup : rows_text (row ∷ rows) ≡ line_of row ++ 10 ∷ rows_text rows =
-    append_assoc (line_of row) (10 ∷ []) (rows_text rows) in
-    let plain = All-from_recursion (λ byte. IsFeed byte ≡ false) (line_of row) (line_plain row all.0) in
-    ap lines regroup
-    ∙ ap lines_of_parts (slice_split_at IsFeed (line_of row) 10 (rows_text rows) plain refl)
-    ∙ more_parts (line_of row) (rows_text rows)
-    ∙ ap (λ line. line ∷ lines (rows_text rows)) (line_whole row all.0)
-    ∙ ap (λ ls. line_of row ∷ ls) (lines-rows_text rows all.1)
+    grind (arith, common_steps, line_plain, slice_split_at, more_parts, line_whole, lines-rows_text rows all.1)
 
 AreRowLines-cons : (line : List ℕ) (ls : List (List ℕ)) (row : WeightedStack) (rows : List WeightedStack)
     → 0 < length line → IsRowLine line row → AreRowLines ls rows → AreRowLines (line ∷ ls) (row ∷ rows)
@@ -198,6 +164,4 @@ length-rows_at value rows = length-map rows (weighing value)
 
 pub rows_at-row_in : (value : ℕ) (rows : List Row) (at : ℕ) (d : WeightedStack)
     → at < length rows → get_or (rows_at value rows) at d ≡ weighing value (row_in rows at)
-rows_at-row_in value [] at d lt = absurd (omega arith)
-rows_at-row_in value (row ∷ rows) zero d lt = refl
-rows_at-row_in value (row ∷ rows) (suc at) d lt = rows_at-row_in value rows at d (omega arith)
+rows_at-row_in value rows at d lt = get_or-map (weighing value) rows at _ d lt

@@ -1,6 +1,6 @@
 -- Every answer depends on the aggregate of the rows alone.
 use Rattle.std.proofs.lemmas.Grind.{common_steps}
-use Rattle.std.proofs.Common.{◌≡◌, ℕ, ◌+◌, ◌<◌, Bool, true, false, cond, ◌||◌, ◌&&◌, List, [], ◌∷◌, ◌++◌, length, map}
+use Rattle.std.proofs.Common.{◌≡◌, ℕ, ◌+◌, ◌<◌, Bool, true, false, cond, ◌||◌, List, [], ◌∷◌, ◌++◌, length, map}
 use Rattle.std.proofs.Common.{filter, Option, refl, sym, ap, ◌∙◌, arith, zero-add}
 use Rattle.std.specs.Prelude.{nat_lt}
 use Rattle.std.specs.List.{list_any, flat_map}
@@ -14,13 +14,14 @@ use Rattle.std.proofs.lemmas.Cmp.{nat_list_cmp_total}
 use borrow.Author.Tests.{lt-ltb, ltb-true}
 use Rattle.profile_rows.specs.declared.weighted_stacks.WeightedStack.{WeightedStack}
 use Rattle.profile_rows.specs.Names.{name_cmp}
-use Rattle.profile_rows.specs.Rows.{stack_cmp, is_same_stack, is_kept, kept_rows, total_of, weight_if, weight_where}
+use Rattle.profile_rows.specs.Rows.{stack_cmp, is_same_stack, kept_rows, total_of, weight_if}
 use Rattle.profile_rows.specs.Aggregate.{aggregate_of, rows_of}
 use Rattle.profile_rows.specs.Paths.{begins_with, lies_left_of, prefixes, path_weight, path_start, paths_of}
 use Rattle.profile_rows.specs.Layout.{Rectangle, rectangle_at, rectangles_of, column_at, last_name, is_shown}
 use Rattle.profile_rows.specs.TopList.{Ranking, top_list_of}
 use Rattle.profile_rows.proofs.RowLaws.{stack_cmp_total, stack_cmp_apart, aggregate_of-same}
-use Rattle.profile_rows.proofs.EntryLaws.{weight_where-same, weight_where-rows_of}
+use Rattle.profile_rows.proofs.EntryLaws.{nothing, weight_where-same, weight_where-rows_of}
+use Rattle.profile_rows.proofs.Kept.{weight_where-kept}
 use Rattle.profile_rows.proofs.Members.{in_order-same}
 use Rattle.profile_rows.proofs.Ranking.{top_list_of-same}
 use Rattle.profile_rows.proofs.TextNumbers.{list_any-map}
@@ -43,13 +44,6 @@ aggregate_of-parts rows more =
     omega arith)
 
 -- ---- kept rows
-
-weight_where-kept : (focus ignored : Option (List ℕ)) (test : List (List ℕ) → Bool) (rows : List WeightedStack)
-    → weight_where test (kept_rows focus ignored rows)
-    ≡ weight_where (λ stack. is_kept focus ignored stack && test stack) rows
-weight_where-kept focus ignored test [] = refl
-weight_where-kept focus ignored test (row ∷ rows) =
-    grind (arith, common_steps, sum_by-cons, weight_where-kept focus ignored test rows)
 
 pub kept_rows-same : (focus ignored : Option (List ℕ)) (rows others : List WeightedStack)
     → aggregate_of rows ≡ aggregate_of others
@@ -124,10 +118,6 @@ list_any-paths path (row ∷ rows) =
     with_first : (b : Bool) (w n : ℕ) → 0 < w → (b || nat_lt 0 n) ≡ nat_lt 0 (cond b w 0 + n)
     with_first true w n some = sym (lt-ltb 0 (w + n) (omega arith))
     with_first false w n some = ap (nat_lt 0) (sym (zero-add n))
-
-    nothing : (b : Bool) → let none : ℕ = 0 in cond b none none ≡ none
-    nothing true = refl
-    nothing false = refl
 
 pub paths_of-same : (rows others : List WeightedStack)
     → aggregate_of rows ≡ aggregate_of others → paths_of rows ≡ paths_of others

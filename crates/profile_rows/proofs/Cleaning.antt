@@ -1,13 +1,13 @@
 -- The names of a profile's texts.
 use Rattle.std.proofs.lemmas.Grind.{common_steps}
-use Rattle.std.proofs.Common.{◌≡◌, ◌≢◌, ℕ, ◌<◌, ◌≤◌, true, List, [], ◌∷◌, length, map, refl, sym, ap}
+use Rattle.std.proofs.Common.{◌≡◌, ◌≢◌, ℕ, ◌<◌, ◌≤◌, true, List, [], ◌∷◌, get_or, length, map, refl, sym, ap}
 use Rattle.std.proofs.Common.{◌∙◌, subst, arith, ◌⊎◌, inl, inr}
 use Rattle.std.specs.Prelude.{◌==◌, false, Some}
 use Rattle.std.specs.List.{AllByRecursion}
 use Rattle.std.specs.Str.{IsUtf8}
 use Rattle.std.proofs.lemmas.Bool.{cases_lt, cases_eq, eq-eqb, eqb-false, ne_eqb, le-ltb, lt-ltb, and_parts}
 use Rattle.std.proofs.lemmas.List.{map-append, length-map}
-use Rattle.std.proofs.lemmas.List.Elements.{All-from_recursion, recursion_from_All}
+use Rattle.std.proofs.lemmas.List.Elements.{All-from_recursion, All-map, recursion_from_All}
 use Rattle.std.proofs.lemmas.Str.{IsUtf8-nil, IsUtf8-append, IsUtf8-encode, IsUtf8-from_ascii, encode_ascii}
 use Rattle.std.proofs.lemmas.Str.Ascii.{IsAscii-from_all}
 use lib.Utf8.{scalar, scalars, encode, encodes}
@@ -33,11 +33,6 @@ cleaned-plain byte other plain = rw (ne_eqb byte 59 other, ne_eqb byte 10 plain)
 cleaned-high : (byte : ℕ) → 128 ≤ byte → cleaned_byte byte ≡ byte
 cleaned-high byte high =
     cleaned-plain byte (λ e. absurd (omega (arith, e, high))) (λ e. absurd (omega (arith, e, high)))
-
-each : (P : ℕ → Type 0) (bytes : List ℕ)
-    → ((byte : ℕ) → P (cleaned_byte byte)) → AllByRecursion P (map cleaned_byte bytes)
-each P [] h = tt
-each P (byte ∷ bytes) h = (h byte, each P bytes h)
 
 -- ---- text stays text
 
@@ -85,10 +80,8 @@ pub IsName-cleaned : (text : List ℕ) → IsUtf8 text → 0 < length text → I
 IsName-cleaned text utf8 some = record {
   utf8 = IsUtf8-cleaned text utf8;
   not_empty = let long = length-map text cleaned_byte in omega (arith, long, some);
-  no_separator =
-      All-from_recursion (λ b. b ≢ 59) (map cleaned_byte text) (each (λ b. b ≢ 59) text cleaned-no_separator);
-  no_line_feed =
-      All-from_recursion (λ b. b ≢ 10) (map cleaned_byte text) (each (λ b. b ≢ 10) text cleaned-no_line_feed);
+  no_separator = All-map (λ b. b ≢ 59) cleaned_byte text (λ k d lt. cleaned-no_separator (get_or text k d));
+  no_line_feed = All-map (λ b. b ≢ 10) cleaned_byte text (λ k d lt. cleaned-no_line_feed (get_or text k d));
 }
 
 -- a text that isn't empty has a byte

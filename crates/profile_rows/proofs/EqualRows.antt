@@ -10,7 +10,8 @@ use Rattle.profile_rows.specs.Names.{is_same_name}
 use Rattle.profile_rows.specs.declared.weighted_stacks.WeightedStack.{WeightedStack}
 use Rattle.profile_rows.specs.Equality.{row_eq, values_eq, batch_eq}
 use Rattle.profile_rows.specs.Values.{AreParts, BatchState, Row, batch_with, rows_at, with_values}
-use Rattle.profile_rows.proofs.RowValues.{empty_list, no_times, rows_at-with_values, suc_times}
+use Rattle.std.proofs.lemmas.List.{nil_from_length}
+use Rattle.profile_rows.proofs.RowValues.{no_times, rows_at-with_values, suc_times}
 use Rattle.std.specs.List.{flat_map}
 use Rattle.std.proofs.lemmas.List.{take-append-drop}
 
@@ -46,7 +47,7 @@ other_values_in rows = flat_map (λ row. drop 1 row.weights) rows
 
 other_values_in-with_values : (m : ℕ) (rows : List WeightedStack) (values : List ℕ) → length values ≡ length rows * m
     → other_values_in (with_values m rows values) ≡ values
-other_values_in-with_values m [] values sizes = sym (empty_list values (sizes ∙ no_times m))
+other_values_in-with_values m [] values sizes = sym (nil_from_length values (sizes ∙ no_times m))
 other_values_in-with_values m (row ∷ rows) values sizes =
     let times = suc_times (length rows) m in
     let left = length-drop m values in
@@ -81,7 +82,6 @@ parts_eq-decides totals rows values sums others more parts other_parts =
     grind (
       arith,
       common_steps,
-      pointwise,
       both_decide,
       is_same_name-decides,
       rows_eq-decides,

@@ -1,7 +1,8 @@
 -- Four weights for one to four values, and what each value weighs.
 use Rattle.std.proofs.lemmas.Grind.{common_steps}
 use Rattle.std.proofs.Common.{◌≡◌, ℕ, zero, suc, ◌+◌, ◌<◌, ◌≤◌, List, [], ◌∷◌, ◌++◌, length, get_or, refl, sym, ap, ◌∙◌}
-use Rattle.std.proofs.Common.{arith, take, drop, length-append, length-drop}
+use Rattle.std.proofs.Common.{◌-◌, arith, replicate, take, drop, length-append, length-drop}
+use Rattle.std.proofs.lemmas.List.{drop-replicate}
 use Rattle.profile_rows.specs.Values.{IsPadded, value_of}
 
 pub value_of-past : (v : ℕ) (values : List ℕ) → length values ≤ v → value_of v values ≡ 0
@@ -18,26 +19,13 @@ value_of-take (suc v) (suc w) (x ∷ values) lt = value_of-take v w values (omeg
 abbrev pub zeros : List ℕ
 zeros = 0 ∷ 0 ∷ 0 ∷ 0 ∷ []
 
-value_of-none : (n v : ℕ) → value_of v (drop n []) ≡ 0
-value_of-none zero v = refl
-value_of-none (suc n) v = refl
+value_of-replicate : (n v : ℕ) → value_of v (replicate n 0) ≡ 0
+value_of-replicate zero v = refl
+value_of-replicate (suc n) zero = refl
+value_of-replicate (suc n) (suc v) = value_of-replicate n v
 
 value_of-zeros : (n v : ℕ) → value_of v (drop n zeros) ≡ 0
-value_of-zeros zero zero = refl
-value_of-zeros zero (suc zero) = refl
-value_of-zeros zero (suc (suc zero)) = refl
-value_of-zeros zero (suc (suc (suc zero))) = refl
-value_of-zeros zero (suc (suc (suc (suc v)))) = refl
-value_of-zeros (suc zero) zero = refl
-value_of-zeros (suc zero) (suc zero) = refl
-value_of-zeros (suc zero) (suc (suc zero)) = refl
-value_of-zeros (suc zero) (suc (suc (suc v))) = refl
-value_of-zeros (suc (suc zero)) zero = refl
-value_of-zeros (suc (suc zero)) (suc zero) = refl
-value_of-zeros (suc (suc zero)) (suc (suc v)) = refl
-value_of-zeros (suc (suc (suc zero))) zero = refl
-value_of-zeros (suc (suc (suc zero))) (suc v) = refl
-value_of-zeros (suc (suc (suc (suc n)))) v = value_of-none n v
+value_of-zeros n v = ap (value_of v) (drop-replicate n 4 0) ∙ value_of-replicate (4 - n) v
 
 value_of-append_zeros : (n v : ℕ) (values : List ℕ) → value_of v (values ++ drop n zeros) ≡ value_of v values
 value_of-append_zeros n v [] = value_of-zeros n v

@@ -1,52 +1,33 @@
 -- What is kept of rows, row by row.
 use Rattle.std.proofs.lemmas.Grind.{common_steps}
-use Rattle.std.proofs.Common.{◌≡◌, ℕ, ◌+◌, ◌<◌, ◌≤◌, Bool, true, false, cond, List, [], ◌∷◌, ◌++◌, length, get_or, take}
-use Rattle.std.proofs.Common.{Option, None, refl, ap, ◌∙◌, arith}
-use Rattle.std.proofs.lemmas.List.{take_more}
+use Rattle.std.proofs.Common.{◌≡◌, ℕ, ◌+◌, ◌<◌, ◌≤◌, Bool, ◌&&◌, true, false, cond, List, [], ◌∷◌, ◌++◌, length, get_or, take}
+use Rattle.std.proofs.Common.{Option, None, refl, sym, subst, ap, ◌∙◌, arith}
+use Rattle.std.proofs.lemmas.List.{append-nil, take_more}
+use Rattle.std.proofs.lemmas.List.Elements.{filter-append}
 use Rattle.std.proofs.lemmas.List.Sums.{sum_by-cons}
 use Rattle.profile_rows.specs.declared.weighted_stacks.WeightedStack.{WeightedStack}
-use Rattle.profile_rows.specs.Rows.{is_kept, kept_rows, weight_if, weight_where, total_of}
+use Rattle.profile_rows.specs.Rows.{is_kept, kept_rows, weight_where, total_of}
+use Rattle.profile_rows.proofs.RowLaws.{weight_where-le-total}
 
 pub kept_rows-push : (focus ignored : Option (List ℕ)) (rows : List WeightedStack) (row : WeightedStack)
     → kept_rows focus ignored (rows ++ row ∷ []) ≡ cond
     (is_kept focus ignored row.stack) (kept_rows focus ignored rows ++ row ∷ []) (kept_rows focus ignored rows)
-kept_rows-push focus ignored [] row = refl
-kept_rows-push focus ignored (first ∷ rows) row =
-    let rest = kept_rows-push focus ignored rows row in
-    elim (is_kept focus ignored first.stack) as (λ b. cond b
-    (first ∷ kept_rows focus ignored (rows ++ row ∷ [])) (kept_rows focus ignored (rows ++ row ∷ []))
-    ≡ cond (is_kept focus ignored row.stack)
-    (cond b (first ∷ kept_rows focus ignored rows) (kept_rows focus ignored rows) ++ row ∷ [])
-    (cond b (first ∷ kept_rows focus ignored rows) (kept_rows focus ignored rows))) [
-      | true ↦ ap (λ kept. first ∷ kept) rest ∙ under first
-          (is_kept focus ignored row.stack) (kept_rows focus ignored rows ++ row ∷ []) (kept_rows focus ignored rows)
-      | false ↦ rest
-    ]
-  where
-    under : (first : WeightedStack) (b : Bool) (xs ys : List WeightedStack)
-        → first ∷ cond b xs ys ≡ cond b (first ∷ xs) (first ∷ ys)
-    under first true xs ys = refl
-    under first false xs ys = refl
+kept_rows-push focus ignored rows row = grind (arith, append-nil, filter-append)
 
--- what is kept weighs no more than all
+-- what is kept weighs what passes both tests
+pub weight_where-kept : (focus ignored : Option (List ℕ)) (test : List (List ℕ) → Bool) (rows : List WeightedStack)
+    → weight_where test (kept_rows focus ignored rows)
+    ≡ weight_where (λ stack. is_kept focus ignored stack && test stack) rows
+weight_where-kept focus ignored test [] = refl
+weight_where-kept focus ignored test (row ∷ rows) =
+    grind (arith, common_steps, sum_by-cons, weight_where-kept focus ignored test rows)
+
+-- and no more than all
 pub weight_where-kept-le : (focus ignored : Option (List ℕ)) (test : List (List ℕ) → Bool) (rows : List WeightedStack)
     → weight_where test (kept_rows focus ignored rows) ≤ total_of rows
-weight_where-kept-le focus ignored test [] = omega arith
-weight_where-kept-le focus ignored test (row ∷ rows) =
-    let rest = weight_where-kept-le focus ignored test rows in
-    let all = sum_by-cons (λ (row : WeightedStack). row.weight) row rows in
-    elim (is_kept focus ignored row.stack) as (λ b. weight_where test
-    (cond b (row ∷ kept_rows focus ignored rows) (kept_rows focus ignored rows)) ≤ total_of (row ∷ rows)) [
-      | true ↦
-          let more = sum_by-cons (weight_if test) row (kept_rows focus ignored rows) in
-          let here = at_most (test row.stack) row.weight in
-          omega arith
-      | false ↦ omega arith
-    ]
-  where
-    at_most : (b : Bool) (n : ℕ) → cond b n 0 ≤ n
-    at_most true n = omega arith
-    at_most false n = omega arith
+weight_where-kept-le focus ignored test rows =
+    subst (λ n. n ≤ total_of rows) (sym (weight_where-kept focus ignored test rows))
+    (weight_where-le-total (λ stack. is_kept focus ignored stack && test stack) rows)
 
 -- ---- the rows so far, in a loop over them
 

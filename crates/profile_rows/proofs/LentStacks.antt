@@ -11,8 +11,8 @@ use Rattle.std.specs.declared.cmp.Ordering.TheVariants.{Less}
 use Rattle.std.specs.Ordering.{is_eq}
 use Rattle.std.specs.BTreeMap.{insert_entry}
 use Rattle.std.specs.FinMap.{find, put, is_sorted}
-use Rattle.std.specs.FinMap.Entries.{below_all, is_sorted-put}
-use Rattle.std.proofs.lemmas.List.{map-append, take_more}
+use Rattle.std.specs.FinMap.Entries.{is_sorted-put}
+use Rattle.std.proofs.lemmas.List.{map-append, take-map, take_more}
 use Rattle.std.proofs.lemmas.List.Sums.{sum_by-take-le}
 use Rattle.std.proofs.lemmas.Map.Views.{All-values-insert_entry}
 use denote.Ref.{Bor}
@@ -21,7 +21,8 @@ use Rattle.profile_rows.specs.Rows.{stack_cmp, is_same_stack, total_of, weight_i
 use Rattle.profile_rows.specs.Values.{Row, row_in, rows_at, value_of, weighing}
 use Rattle.profile_rows.specs.Aggregate.{AreRowsOf, HasWeight, aggregates_of, row_of}
 use Rattle.profile_rows.specs.LentStacks.{lent_row}
-use Rattle.profile_rows.proofs.EntryLaws.{Entry, entry_if, first, less, put_more, second, sum_put, weight_where-entries}
+use Rattle.profile_rows.proofs.EntryLaws.{Entry, entry_if, nothing, put_more, sum_put}
+use Rattle.profile_rows.proofs.EntryLaws.{pairs-map, rising_keys, weight_where-entries}
 use Rattle.profile_rows.proofs.RowLaws.{stack_cmp_total, aggregate_of-same, weight_where-push}
 use Rattle.profile_rows.proofs.RowValues.{total_of-push}
 
@@ -105,10 +106,6 @@ HasSums-weightless width rows all row entries none is held =
           ∙ nothing (test row.stack) in
           omega (arith, before, more, here);
     })
-  where
-    nothing : (b : Bool) → let none : ℕ = 0 in cond b none none ≡ none
-    nothing true = refl
-    nothing false = refl
 
 pub HasSums-weighted : (width : ℕ)
     (rows all : List Row) (row : Row) (entries after : List LentEntry) (key : LentStack) (held sum : List ℕ)
@@ -150,11 +147,6 @@ HasSums-weighted width rows all row entries after key held sum some is key_is he
 pub next_row : (rows : List Row) (k : ℕ) → k < length rows → take (k + 1) rows ≡ take k rows ++ row_in rows k ∷ []
 next_row rows k lt = take_more rows k (record { stack = []; weights = [] }) lt
 
-map-take : {A B : Type 0} (f : A → B) (n : ℕ) (xs : List A) → map f (take n xs) ≡ take n (map f xs)
-map-take f zero xs = refl
-map-take f (suc n) [] = refl
-map-take f (suc n) (x ∷ xs) = ap (λ rest. f x ∷ rest) (map-take f n xs)
-
 pub held-fits : (width : ℕ) (rows : List Row) (k : ℕ) (entries : List LentEntry) (value : ℕ) (held : ℕ)
     → k < length rows → HasSums width (take k rows) entries
     → total_of (rows_at value rows) < 2 ^ 63
@@ -166,7 +158,7 @@ held-fits width rows k entries value held lt so_far fits held_is =
     so_far.sums value (λ stack. true) in
     let most = sum_by-take-le (λ (r : WeightedStack). r.weight) (rows_at value rows) (k + 1) in
     let front : total_of (rows_at value (take (k + 1) rows)) ≡ total_of (take (k + 1) (rows_at value rows)) =
-    ap total_of (map-take (weighing value) (k + 1) rows) in
+    ap total_of (sym (take-map (weighing value) (k + 1) rows)) in
     let next : total_of (rows_at value (take (k + 1) rows))
     ≡ total_of (rows_at value (take k rows)) + value_of value (row_in rows k).weights =
     ap (λ rs. total_of (rows_at value rs)) (next_row rows k lt) ∙ total_of-push value (take k rows) (row_in rows k) in
@@ -181,19 +173,11 @@ weighty_rows (e ∷ entries) all zero d lt = all 0 [] (omega arith)
 weighty_rows (e ∷ entries) all (suc k) d lt =
     weighty_rows entries (λ k d lt. all (suc k) d (omega arith)) k d (omega arith)
 
-below_rows : (stack : List (List ℕ)) (entries : List LentEntry) → T (below_all stack_cmp stack (by_value 0 entries))
-    → All (λ (row : Row). stack_cmp stack row.stack ≡ Less) (map lent_row entries)
-below_rows stack [] below k d lt = absurd (omega arith)
-below_rows stack (e ∷ entries) below zero d lt = less _ (first _ _ below)
-below_rows stack (e ∷ entries) below (suc k) d lt = below_rows stack entries (second _ _ below) k d (omega arith)
-
 ascending_rows : (entries : List LentEntry) → T (is_sorted stack_cmp (by_value 0 entries))
     → AllPairs (λ (row after : Row). stack_cmp row.stack after.stack ≡ Less) (map lent_row entries)
-ascending_rows [] up i j d before lt = absurd (omega arith)
-ascending_rows (e ∷ entries) up i zero d before lt = absurd (omega arith)
-ascending_rows (e ∷ entries) up zero (suc j) d before lt = below_rows e.0.now entries (first _ _ up) j d (omega arith)
-ascending_rows (e ∷ entries) up (suc i) (suc j) d before lt =
-    ascending_rows entries (second _ _ up) i j d (omega arith) (omega arith)
+ascending_rows entries up =
+    pairs-map (λ (row after : Row). stack_cmp row.stack after.stack ≡ Less) lent_row entries
+    (rising_keys (λ (e : LentEntry). e.0.now) (λ (e : LentEntry). value_of 0 e.1) entries up)
 
 -- the rows of the map are those of the aggregate of each value
 pub HasSums-AreRowsOf : (width : ℕ) (rows : List Row) (entries : List LentEntry)

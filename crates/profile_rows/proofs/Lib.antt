@@ -15,6 +15,7 @@ pub mod Ranking
 pub mod RowLaws
 pub mod RowValues
 pub mod SameNames
+pub mod StackLaws
 pub mod NumberedRows
 pub mod PuttingTogether
 pub mod TallyLaws

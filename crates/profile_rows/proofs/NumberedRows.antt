@@ -6,23 +6,25 @@ use Rattle.std.proofs.Common.{None}
 use Rattle.std.specs.Prelude.{MatchOption, slice_get, slice_index_or}
 use Rattle.std.specs.List.{AllByRecursion, IsDistinct, common_prefix_len, list_any}
 use Rattle.std.specs.Str.{bytes_eq}
-use Rattle.std.proofs.lemmas.Bool.{false≢true}
 use Rattle.std.proofs.lemmas.List.{get_or-drop, get_or-take, get_or_append_left, length-append, length-drop, length-map}
 use Rattle.std.proofs.lemmas.List.{append-nil, append_assoc, length-replicate, length-take-le, map-append, take_all, take_more}
 use Rattle.std.proofs.lemmas.List.Elements.{All-head, All-push, All-tail, All-weaker, recursion_from_All}
 use Rattle.std.proofs.Math.Seq.{get_or-append_seam}
+use Rattle.std.proofs.lemmas.Option.{slice_get-get_or}
+use Rattle.std.proofs.lemmas.Cmp.{nat_list_eq_equiv}
+use Rattle.std.proofs.lemmas.Map.Keys.{IsDistinct-push}
 use denote.Ref.{Bor}
 use Rattle.profile_rows.specs.declared.tallies.Tallies.{Tallies}
 use Rattle.profile_rows.specs.declared.tallies.Tally.{Tally}
 use Rattle.profile_rows.specs.declared.weighted_stacks.WeightedStack.{WeightedStack}
-use Rattle.profile_rows.specs.Names.{IsName, is_same_name}
+use Rattle.profile_rows.specs.Names.{IsName}
 use Rattle.profile_rows.specs.Tallies.{AreSingle, AreTalliesOf, IsNumberedStack, IsTallyOf}
 use Rattle.profile_rows.specs.Tallies.{tally_at, tally_of}
 use Rattle.profile_rows.specs.TextTables.{names_at, number_in, with_text, with_texts}
 use Rattle.profile_rows.specs.NumberedRows.{IsNumberOfText}
 use Rattle.profile_rows.proofs.TallyLaws.{zero_tally}
 use Rattle.profile_rows.proofs.TextNumbers.{any_push, no_text, number_in-kept, number_in-lt, shown_at, text_of, there_inside}
-use Rattle.profile_rows.proofs.TextNumbers.{text_of_number, turned, with_text-there}
+use Rattle.profile_rows.proofs.TextNumbers.{text_of_number, with_text-there}
 use Rattle.profile_rows.proofs.SameNames.{is_same_name-self, same_from_is_same_name}
 
 abbrev texts_of : List (Bor (List ℕ)) → List (List ℕ)
@@ -32,20 +34,7 @@ texts_of = map text_of
 
 single_push : (names : List (List ℕ)) (name : List ℕ)
     → AreSingle names → list_any (bytes_eq name) names ≡ false → AreSingle (names ++ name ∷ [])
-unfolding IsDistinct
-single_push [] name single none = (tt, tt)
-single_push (first ∷ names) name single none =
-    elim (bytes_eq name first) as (λ b. bytes_eq name first ≡ b
-    → (b || list_any (bytes_eq name) names) ≡ false → AreSingle (first ∷ names ++ name ∷ [])) [
-      | true ↦ λ is e. absurd (false≢true (sym e))
-      | false ↦ λ is e. (apart names single.0 (turned name first is), single_push names name single.1 e)
-    ] refl none
-  where
-    apart : (others : List (List ℕ))
-        → AllByRecursion (λ (other : List ℕ). is_same_name first other ≡ false) others → is_same_name first name ≡ false
-        → AllByRecursion (λ (other : List ℕ). is_same_name first other ≡ false) (others ++ name ∷ [])
-    apart [] all this = (this, tt)
-    apart (other ∷ others) all this = (all.0, apart others all.1 this)
+single_push names name single none = IsDistinct-push nat_list_eq_equiv names name single none
 
 nothing_counted : (count number : ℕ) → tally_at (replicate count zero_tally) number ≡ zero_tally
 nothing_counted zero zero = refl
@@ -61,16 +50,7 @@ tally_of-more [] more [] count q same = nothing_counted count (number_in more q)
 tally_of-more [] more (tally ∷ tallies) count q same = absurd (omega (arith, same))
 tally_of-more (first ∷ names) more [] count q same = absurd (omega (arith, same))
 tally_of-more (first ∷ names) more (tally ∷ tallies) count q same =
-    let further = number_in (names ++ more) q in
-    let here = number_in names q in
-    let next : further + 1 ≡ suc further = omega arith in
-    let before : suc here ≡ here + 1 = omega arith in
-    elim (bytes_eq q first) as (λ b. tally_at (tally ∷ tallies ++ replicate count zero_tally) (cond b 0 (further + 1))
-    ≡ tally_at (tally ∷ tallies) (cond b 0 (here + 1))) [
-      | true ↦ refl
-      | false ↦ ap (tally_at (tally ∷ tallies ++ replicate count zero_tally)) next
-          ∙ tally_of-more names more tallies count q (omega (arith, same)) ∙ ap (tally_at (tally ∷ tallies)) before
-    ]
+    grind (arith, zero_tally, tally_of-more names more tallies count q (omega (arith, same)))
 
 -- texts that are added stand behind those that are there
 texts_behind : (names more : List (List ℕ)) → (behind : List (List ℕ)) × (with_texts names more ≡ names ++ behind)
@@ -85,11 +65,8 @@ texts_behind names (name ∷ more) = elim (list_any (bytes_eq name) names) as (�
 
 pub single_with : (names more : List (List ℕ)) → AreSingle names → AreSingle (with_texts names more)
 single_with names [] single = single
-single_with names (name ∷ more) single = elim (list_any (bytes_eq name) names) as (λ b. list_any (bytes_eq name) names
-    ≡ b → AreSingle (with_texts (cond b names (names ++ name ∷ [])) more)) [
-      | true ↦ λ e. single_with names more single
-      | false ↦ λ e. single_with (names ++ name ∷ []) more (single_push names name single e)
-    ] refl
+single_with names (name ∷ more) single =
+    grind (arith, single_push, single_with names more single, single_with (names ++ name ∷ []) more)
 
 -- names that are new have tallies of no row
 pub names-new : (rows : List WeightedStack) (names more : List (List ℕ)) (old new : Tallies) → new.total ≡ old.total
@@ -194,9 +171,7 @@ numbers-kept names name numbers = All-weaker (IsNumberOfText names) (IsNumberOfT
 -- the name of a number that was added
 added_name : (old new : List (List ℕ)) (name : List ℕ) (number : ℕ)
     → new ≡ with_text old name → number ≡ number_in new name → slice_index_or new number [] ≡ name
-added_name old new name number names number_is = ap (λ n. slice_index_or new n []) number_is
-    ∙ text_of_number new name (subst (λ n. n < length new) number_is
-    (number_inside old new name number names number_is))
+added_name old new name number names number_is = grind (arith, text_of_number, number_inside)
 
 pub numbers-pushed : (old new : List (List ℕ)) (before after : List ℕ) (name : List ℕ) (number : ℕ)
     → new ≡ with_text old name → number ≡ number_in new name → number < 2 ^ 63 → after ≡ before ++ number ∷ []
@@ -226,9 +201,7 @@ pub are_own : (texts : List (List ℕ)) (numbers : List ℕ)
     → All (IsNumberOfText texts) numbers → map (number_in texts) (names_at texts numbers) ≡ numbers
 are_own texts [] are = refl
 are_own texts (number ∷ numbers) are =
-    ap (λ n. n ∷ map (number_in texts) (names_at texts numbers))
-    (All-head (IsNumberOfText texts) number numbers are).own
-    ∙ ap (λ ns. number ∷ ns) (are_own texts numbers (All-tail (IsNumberOfText texts) number numbers are))
+    grind (arith, All-head, All-tail, are_own texts numbers (All-tail (IsNumberOfText texts) number numbers are))
 
 -- texts of numbers are there
 pub are_known : (texts : List (List ℕ)) (numbers : List ℕ)
@@ -299,19 +272,13 @@ all_frames frames rest shared i is end within =
 last_of : (numbers : List ℕ) → MatchOption (slice_get numbers (length numbers - 1))
     (numbers ≡ []) (λ number. (before : List ℕ) × (numbers ≡ before ++ number ∷ []))
 last_of [] = refl
-last_of (number ∷ []) = ([], refl)
-last_of (first ∷ number ∷ numbers) =
-    let all = first ∷ number ∷ numbers in
-    let end : length all - 1 ≡ suc (length numbers) = omega arith in
-    let before : length (number ∷ numbers) - 1 ≡ length numbers = omega arith in
-    subst (λ k. MatchOption (slice_get all k) (all ≡ []) (λ n. (before : List ℕ) × (all ≡ before ++ n ∷ []))) (sym end)
-    (elim (slice_get (number ∷ numbers) (length numbers)) as (λ last. MatchOption last
-    (number ∷ numbers ≡ []) (λ n. (before : List ℕ) × (number ∷ numbers ≡ before ++ n ∷ []))
-    → MatchOption last (all ≡ []) (λ n. (before : List ℕ) × (all ≡ before ++ n ∷ []))) [
-      | None ↦ λ none. absurd (let long = ap length none in omega (arith, long))
-      | Some n ↦ λ found. (first ∷ found.0, ap (λ ns. first ∷ ns) found.1)
-    ] (subst (λ k. MatchOption (slice_get (number ∷ numbers) k) (number ∷ numbers ≡ [])
-    (λ n. (before : List ℕ) × (number ∷ numbers ≡ before ++ n ∷ []))) before (last_of (number ∷ numbers))))
+last_of (first ∷ rest) =
+    let all = first ∷ rest in
+    let at = length all - 1 in
+    let inside : at < length all = omega arith in
+    subst (λ last. MatchOption last (all ≡ []) (λ number. (before : List ℕ) × (all ≡ before ++ number ∷ [])))
+    (sym (slice_get-get_or all at first inside))
+    (take at all, sym (take_all (at + 1) all (omega arith)) ∙ take_more all at first inside)
 
 inside_last : (many : ℕ) (before : List ℕ) (number : ℕ) → All (λ n. n < many) (before ++ number ∷ []) → number < many
 inside_last many before number all = grind (arith, common_steps, length-append, get_or-append_seam)

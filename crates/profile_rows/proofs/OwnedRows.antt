@@ -6,7 +6,7 @@ use Rattle.profile_rows.specs.declared.batch.OwnedRow.{OwnedRow}
 use Rattle.profile_rows.specs.declared.weighted_stacks.WeightedStack.{WeightedStack}
 use Rattle.profile_rows.specs.OwnedRows.{plain_row}
 use Rattle.profile_rows.specs.Values.{with_values}
-use Rattle.profile_rows.proofs.RowValues.{drops, row_with, suc_times}
+use Rattle.profile_rows.proofs.RowValues.{row_with, suc_times}
 
 -- the next row is the first of those that were left
 pub taken-step : (more : ℕ)
@@ -16,4 +16,4 @@ pub taken-step : (more : ℕ)
     → map plain_row after ++ with_values more rest (drop (length after * more) values)
     ≡ map plain_row taken ++ with_values more (row ∷ rest) (drop (length taken * more) values)
 taken-step more taken after row rest values owned grown is =
-    grind (arith, common_steps, append_assoc, length_push, map_push, drops, suc_times)
+    grind (arith, common_steps, append_assoc, length_push, map_push, suc_times)

@@ -1,7 +1,9 @@
 -- Rows in the order of their stacks, put together one after the other.
-use Rattle.std.proofs.Common.{◌≡◌, ℕ, suc, ◌+◌, ◌-◌, ◌<◌, Bool, true, false, cond, List, [], ◌∷◌, ◌++◌, length, get_or}
-use Rattle.std.proofs.Common.{refl, sym, ap, ◌∙◌, subst, arith, inl, inr, length-append}
+use Rattle.std.proofs.Common.{rules, ◌≡◌, ℕ, suc, ◌+◌, ◌<◌, Bool, true, false, cond, List, [], ◌∷◌, ◌++◌, length, get_or}
+use Rattle.std.proofs.Common.{refl, sym, ap, ◌∙◌, subst, arith}
 use Rattle.std.specs.Prelude.{All, IsSorted}
+use Rattle.std.specs.List.{AllPairs}
+use Rattle.std.proofs.lemmas.List.Kept.{AllPairs-cons}
 use Rattle.std.specs.declared.cmp.Ordering.{Ordering}
 use Rattle.std.specs.declared.cmp.Ordering.TheVariants.{Less, Equal, Greater}
 use Rattle.std.specs.Ordering.{is_lt, ordering_reverse}
@@ -10,11 +12,9 @@ use Rattle.std.proofs.lemmas.List.Elements.{All-push}
 use Rattle.std.proofs.lemmas.List.Sorted.{ranks_by, sorted_far}
 use Rattle.std.proofs.lemmas.List.Sums.{sum_by-cons}
 use Rattle.std.proofs.lemmas.List.{get_or_default}
-use Rattle.std.proofs.Math.ListN.{get_or-append}
-use Rattle.std.proofs.Math.Seq.{get_or-append_seam}
 use Rattle.profile_rows.specs.declared.weighted_stacks.WeightedStack.{WeightedStack}
 use Rattle.profile_rows.specs.Aggregate.{AreWeighty, IsAscending}
-use Rattle.profile_rows.specs.Merging.{AddsRow, AreUpTo, by_stack, row_at, with_added_at}
+use Rattle.profile_rows.specs.Merging.{AddsRow, AreUpTo, by_stack, row_at}
 use Rattle.profile_rows.specs.Rows.{is_same_stack, stack_cmp, total_of, weight_if, weight_of}
 use Rattle.profile_rows.proofs.RowLaws.{stack_cmp_apart, stack_cmp_total}
 
@@ -38,43 +38,24 @@ IsNew stack rows = (at : ℕ) → at + 1 ≡ length rows → (row_at rows at).st
 before_new : (stack : List (List ℕ)) (rows : List WeightedStack)
     → IsAscending rows → AreUpTo stack rows → IsNew stack rows
     → (k : ℕ) → k < length rows → stack_cmp (row_at rows k).stack stack ≡ Less
-before_new stack rows up reached new k lt =
-    strictly (stack_cmp stack (row_at rows k).stack) (stack_cmp (row_at rows k).stack stack)
-    (stack_cmp_total.antisymm (row_at rows k).stack stack) (reached k no_row lt)
-    (λ tie.
-    let same : stack ≡ (row_at rows k).stack = stack_cmp_apart stack (row_at rows k).stack tie in
-    elim (cases_eq (k + 1) (length rows)) [
-      | inl last ↦ new k last (sym same)
-      | inr inner ↦
-          let at_last : is_lt (stack_cmp stack (row_at rows (length rows - 1)).stack) ≡ true =
-          ap (λ s. is_lt (stack_cmp s (row_at rows (length rows - 1)).stack)) same
-          ∙ ap is_lt (up k (length rows - 1) no_row (omega arith) (omega arith)) in
-          let not_lower = reached (length rows - 1) no_row (omega arith) in
-          let clash : true ≡ false = sym at_last ∙ not_lower in cc
-    ])
+before_new stack rows up reached new k lt = search (rules, cases_eq, stack_cmp_apart, stack_cmp_total, strictly)
+
+pairs-push : {X : Type 0} (R : X → X → Type 0) (xs : List X) (y : X)
+    → AllPairs R xs → All (λ x. R x y) xs → AllPairs R (xs ++ y ∷ [])
+pairs-push R [] y up all = λ i j d lt short. absurd (omega (arith, lt, short))
+pairs-push R (x ∷ xs) y up all =
+    AllPairs-cons R x (xs ++ y ∷ [])
+    (All-push (R x) xs y (λ k d lt. up 0 (suc k) d (omega arith) (omega (arith, lt))) (all 0 x (omega arith)))
+    (pairs-push R xs y (λ i j d lt short. up (suc i) (suc j) d (omega (arith, lt)) (omega (arith, short)))
+    (λ k d lt. all (suc k) d (omega (arith, lt))))
 
 pub IsAscending-push : (rows all : List WeightedStack) (row : WeightedStack)
     → all ≡ rows ++ row ∷ [] → IsAscending rows → AreUpTo row.stack rows → IsNew row.stack rows → IsAscending all
-IsAscending-push rows all row is up reached new = λ i j d lt short.
-    let long : length all ≡ length rows + 1 = ap length is ∙ length-append rows (row ∷ []) in
-    let seen : (k : ℕ) → k < length rows → row_at all k ≡ row_at rows k = λ k below. ap (λ rs. row_at rs k) is
-    ∙ get_or-append rows (row ∷ []) no_row k below in
-    let at : (k : ℕ)
-    → k < length all → get_or all k d ≡ row_at all k = λ k below. get_or_default all k d no_row below in
-    let first : get_or all i d ≡ row_at rows i = at i (omega (arith, lt, short))
-    ∙ seen i (omega (arith, lt, short, long)) in
-    ap (λ (r : WeightedStack). stack_cmp r.stack (get_or all j d).stack) first
-    ∙ elim (cases_eq j (length rows)) [
-      | inl last ↦
-          let second : get_or all j d ≡ row = at j short ∙ ap (λ rs. row_at rs j) is
-          ∙ ap (row_at (rows ++ row ∷ [])) last ∙ get_or-append_seam rows row [] no_row in
-          ap (λ (r : WeightedStack). stack_cmp (row_at rows i).stack r.stack) second
-          ∙ before_new row.stack rows up reached new i (omega (arith, lt, last))
-      | inr inner ↦
-          let second : get_or all j d ≡ row_at rows j = at j short ∙ seen j (omega (arith, short, long, inner)) in
-          ap (λ (r : WeightedStack). stack_cmp (row_at rows i).stack r.stack) second
-          ∙ up i j no_row lt (omega (arith, short, long, inner))
-    ]
+IsAscending-push rows all row is up reached new =
+    subst IsAscending (sym is)
+    (pairs-push (λ (r after : WeightedStack). stack_cmp r.stack after.stack ≡ Less) rows row up (λ k d lt.
+    ap (λ (r : WeightedStack). stack_cmp r.stack row.stack) (get_or_default rows k d no_row lt)
+    ∙ before_new row.stack rows up reached new k lt))
 
 pub AreWeighty-push : (rows all : List WeightedStack) (row : WeightedStack)
     → all ≡ rows ++ row ∷ [] → AreWeighty rows → 0 < row.weight → AreWeighty all
@@ -93,13 +74,6 @@ pub AreUpTo-push : (rows all : List WeightedStack) (row : WeightedStack)
     → all ≡ rows ++ row ∷ [] → AreUpTo row.stack rows → AreUpTo row.stack all
 AreUpTo-push rows all row is reached = subst (AreUpTo row.stack) (sym is)
     (All-push (λ (r : WeightedStack). is_lt (stack_cmp row.stack r.stack) ≡ false) rows row reached (itself row.stack))
-
--- ---- a row that weighs more
-
-module _ (rows all : List WeightedStack)
-    (at weight : ℕ) (lt : at < length rows) (is : all ≡ with_added_at rows at weight) where
-  abbrev written : WeightedStack
-  written = record { stack = (row_at rows at).stack; weight = (row_at rows at).weight + weight }
 
 -- ---- the loop
 

@@ -1,102 +1,65 @@
 -- What rows weigh, and the maps that they add up to.
-use Rattle.std.proofs.Common.{◌≡◌, ◌≢◌, ℕ, ◌+◌, ◌<◌, ◌≤◌, Bool, true, false, cond, ltb, List, [], ◌∷◌, ◌++◌, length}
+use Rattle.std.proofs.lemmas.Grind.{common_steps}
+use Rattle.std.proofs.Common.{rules, ◌≡◌, ◌≢◌, ℕ, ◌+◌, ◌<◌, ◌≤◌, Bool, true, false, cond, ltb, List, [], ◌∷◌, ◌++◌, length}
 use Rattle.std.proofs.Common.{get_or, Option, Some, None, refl, sym, ap, ◌∙◌, subst, arith}
 use Rattle.std.specs.Option.{unwrap_or}
-use Rattle.std.specs.declared.cmp.Ordering.{Ordering}
-use Rattle.std.specs.Ordering.{is_eq}
-use Rattle.std.specs.declared.cmp.Ordering.TheVariants.{Less, Equal, Greater}
-use Rattle.std.specs.Cmp.{IsTotalOrder}
-use Rattle.std.specs.FinMap as map
-use Rattle.std.specs.FinMap.{IsAntisymmetric, slice_cmp-IsAntisymmetric, nat_cmp-IsAntisymmetric, get-insert, get-empty}
-use Rattle.std.specs.FinMap.{get_tied, same_map}
-use Rattle.std.proofs.lemmas.Cmp.{nat_list_cmp_total, lists_total, tied_itself}
+use Rattle.std.specs.List.{AllByRecursion}
+use Rattle.std.specs.FinMap as finite
+use Rattle.std.specs.FinMap.{put, find, entries-insert, entries_sorted, get-entries, same_map}
 use Rattle.std.proofs.lemmas.List.Sums.{sum_by-cons, sum_by_push, sum_by-set, sum_by-le-sum_by}
 use Rattle.std.proofs.Math.ListN.{set}
-use Rattle.std.proofs.lemmas.Bool.{ltb-false}
-use borrow.Author.Tests.{ltb-true}
+use Rattle.std.proofs.lemmas.Bool.{ltb-true}
 use Rattle.profile_rows.specs.declared.weighted_stacks.WeightedStack.{WeightedStack}
 use Rattle.profile_rows.specs.Rows.{stack_cmp, is_same_stack, weight_if, weight_where, weight_of, total_of}
 use Rattle.profile_rows.specs.Aggregate.{Weighted, weight_in, with_row, with_rows, aggregate_of}
+use Rattle.profile_rows.proofs.EntryLaws.{Entry, entries_where, entries_where-aggregate_of, entries_where-with_rows}
+use Rattle.profile_rows.proofs.EntryLaws.{no_entries, sum_found}
+pub use Rattle.profile_rows.proofs.StackLaws.{stack_cmp_total, stack_cmp_apart}
+pub use Rattle.profile_rows.proofs.StackLaws.{same_from_is_same_stack, is_same_stack-self}
 
-pub stack_cmp_total : IsTotalOrder stack_cmp
-stack_cmp_total = lists_total nat_list_cmp_total
+-- what a map has of a stack is the sum over its entries of that stack
+weight_in-entries : (m : Weighted) (s : List (List ℕ)) → weight_in m s ≡ entries_where (is_same_stack s) m
+weight_in-entries m s = ap (λ o. unwrap_or o 0) (get-entries m s)
+    ∙ sym (sum_found s (finite.entries m) (entries_sorted m))
 
-pub stack_cmp_apart : IsAntisymmetric stack_cmp
-stack_cmp_apart = slice_cmp-IsAntisymmetric (slice_cmp-IsAntisymmetric nat_cmp-IsAntisymmetric)
+pub weight_in-aggregate_of : (rows : List WeightedStack) (s : List (List ℕ))
+    → weight_in (aggregate_of rows) s ≡ weight_of rows s
+weight_in-aggregate_of rows s =
+    weight_in-entries (aggregate_of rows) s ∙ entries_where-aggregate_of (is_same_stack s) rows
 
-is_equal : (o : Ordering) → is_eq o ≡ true → o ≡ Equal
-is_equal Less e = cc
-is_equal Equal e = refl
-is_equal Greater e = cc
+-- ---- each entry weighs something
 
-pub same_from_is_same_stack : (a b : List (List ℕ)) → is_same_stack a b ≡ true → a ≡ b
-same_from_is_same_stack a b e = stack_cmp_apart a b (is_equal _ e)
+abbrev pub Weighs : Entry → Type 0
+Weighs e = 0 < e.1
 
-pub is_same_stack-self : (a : List (List ℕ)) → is_same_stack a a ≡ true
-is_same_stack-self a = ap is_eq (tied_itself stack_cmp_total a)
+put-weighs : (k : List (List ℕ)) (v : ℕ) (es : List Entry)
+    → 0 < v → AllByRecursion Weighs es → AllByRecursion Weighs (put stack_cmp k v es)
+put-weighs k v [] some all = (some, tt)
+put-weighs k v (e ∷ es) some all = grind (arith, common_steps, put-weighs k v es some all.1)
 
-weight_in_tied : (m : Weighted) (s t : List (List ℕ)) → is_same_stack s t ≡ true → weight_in m t ≡ weight_in m s
-weight_in_tied m s t e = ap (λ o. unwrap_or o 0) (get_tied stack_cmp_total m s t (is_equal _ e))
-
-weight_in_put : (m : Weighted) (t : List (List ℕ)) (w : ℕ) (s : List (List ℕ))
-    → weight_in (map.insert m t (weight_in m t + w)) s ≡ weight_in m s + cond (is_same_stack s t) w 0
-weight_in_put m t w s =
-    ap (λ o. unwrap_or o 0) (get-insert stack_cmp_total m t (weight_in m t + w) s)
-    ∙ elim (is_same_stack s t) as (λ b. is_same_stack s t ≡ b
-    → unwrap_or (cond b (Some (weight_in m t + w)) (map.get m s)) 0 ≡ weight_in m s + cond b w 0) [
-      | true ↦ λ e. ap (λ x. x + w) (weight_in_tied m s t e)
-      | false ↦ λ e. omega arith
+with_row-weighs : (m : Weighted) (row : WeightedStack)
+    → AllByRecursion Weighs (finite.entries m) → AllByRecursion Weighs (finite.entries (with_row m row))
+with_row-weighs m row all =
+    elim (ltb 0 row.weight) as (λ b. ltb 0 row.weight ≡ b → AllByRecursion Weighs
+    (finite.entries (cond b (finite.insert m row.stack (weight_in m row.stack + row.weight)) m))) [
+      | true ↦ λ e. subst (AllByRecursion Weighs)
+          (sym (entries-insert stack_cmp_total m row.stack (weight_in m row.stack + row.weight)))
+          (put-weighs row.stack (weight_in m row.stack + row.weight)
+          (finite.entries m) (let some = ltb-true 0 row.weight e in omega arith) all)
+      | false ↦ λ e. all
     ] refl
 
-pub no_more : (w a : ℕ) (b : Bool) → ltb 0 w ≡ false → a ≡ a + cond b w 0
-no_more w a true e = let zero : w ≤ 0 = ltb-false 0 w e in omega arith
-no_more w a false e = omega arith
+pub with_rows-weighs : (m : Weighted) (rows : List WeightedStack)
+    → AllByRecursion Weighs (finite.entries m) → AllByRecursion Weighs (finite.entries (with_rows m rows))
+with_rows-weighs m [] all = all
+with_rows-weighs m (row ∷ rows) all = with_rows-weighs (with_row m row) rows (with_row-weighs m row all)
 
-pub weight_in-with_row : (m : Weighted) (row : WeightedStack) (s : List (List ℕ))
-    → weight_in (with_row m row) s ≡ weight_in m s + weight_if (is_same_stack s) row
-weight_in-with_row m row s =
-    elim (ltb 0 row.weight) as (λ b. ltb 0 row.weight ≡ b → weight_in (cond b (map.insert m row.stack
-    (weight_in m row.stack + row.weight)) m) s ≡ weight_in m s + cond (is_same_stack s row.stack) row.weight 0) [
-      | true ↦ λ e. weight_in_put m row.stack row.weight s
-      | false ↦ λ e. no_more row.weight (weight_in m s) (is_same_stack s row.stack) e
-    ] refl
+pub aggregate-weighs : (rows : List WeightedStack) → AllByRecursion Weighs (finite.entries (aggregate_of rows))
+aggregate-weighs rows = with_rows-weighs finite.empty rows (subst (AllByRecursion Weighs) (sym no_entries) tt)
 
-pub weight_in-with_rows : (m : Weighted) (rows : List WeightedStack) (s : List (List ℕ))
-    → weight_in (with_rows m rows) s ≡ weight_in m s + weight_of rows s
-weight_in-with_rows m [] s = omega arith
-weight_in-with_rows m (row ∷ rows) s =
-    let rest = weight_in-with_rows (with_row m row) rows s in
-    let first = weight_in-with_row m row s in
-    let cons = sum_by-cons (weight_if (is_same_stack s)) row rows in
-    omega (arith, rest, first, cons)
-
--- no stack of the map has weight 0
-abbrev pub IsPositive : Weighted → Type 0
-IsPositive m = (s : List (List ℕ)) → map.get m s ≢ Some 0
-
-positive_put : (b : Bool) (v : ℕ) (o : Option ℕ) → 0 < v → o ≢ Some 0 → cond b (Some v) o ≢ Some 0
-positive_put true v o p h e = let zero : v ≡ 0 = cc in omega arith
-positive_put false v o p h e = h e
-
-pub IsPositive-with_row : (m : Weighted) (row : WeightedStack) → IsPositive m → IsPositive (with_row m row)
-IsPositive-with_row m row h s =
-    elim (ltb 0 row.weight) as (λ b. ltb 0 row.weight ≡ b
-    → map.get (cond b (map.insert m row.stack (weight_in m row.stack + row.weight)) m) s ≢ Some 0) [
-      | true ↦ λ e. let some : 0 < row.weight = ltb-true 0 row.weight e in
-          subst (λ o. o ≢ Some 0) (sym (get-insert stack_cmp_total m row.stack (weight_in m row.stack + row.weight) s))
-          (positive_put (is_same_stack s row.stack) _ (map.get m s) (omega arith) (h s))
-      | false ↦ λ e. h s
-    ] refl
-
-pub IsPositive-with_rows : (m : Weighted) (rows : List WeightedStack) → IsPositive m → IsPositive (with_rows m rows)
-IsPositive-with_rows m [] h = h
-IsPositive-with_rows m (row ∷ rows) h = IsPositive-with_rows (with_row m row) rows (IsPositive-with_row m row h)
-
-pub IsPositive-empty : IsPositive map.empty
-IsPositive-empty s e = let none = get-empty {X = ℕ} stack_cmp s in cc
-
-pub IsPositive-aggregate_of : (rows : List WeightedStack) → IsPositive (aggregate_of rows)
-IsPositive-aggregate_of rows = IsPositive-with_rows map.empty rows IsPositive-empty
+some_found : (stack : List (List ℕ)) (es : List Entry) → AllByRecursion Weighs es → find stack_cmp stack es ≢ Some 0
+some_found stack [] all = λ is. cc
+some_found stack (e ∷ es) all = grind (arith, some_found stack es all.1)
 
 same_option : (o p : Option ℕ) → o ≢ Some 0 → p ≢ Some 0 → unwrap_or o 0 ≡ unwrap_or p 0 → o ≡ p
 same_option None None h k e = refl
@@ -106,31 +69,27 @@ same_option (Some x) (Some y) h k e = ap Some e
 
 -- two such maps with one weight for each stack are one map
 pub same_weighted : (m n : Weighted)
-    → IsPositive m → IsPositive n → ((s : List (List ℕ)) → weight_in m s ≡ weight_in n s) → m ≡ n
+    → AllByRecursion Weighs (finite.entries m) → AllByRecursion Weighs (finite.entries n)
+    → ((s : List (List ℕ)) → weight_in m s ≡ weight_in n s) → m ≡ n
 same_weighted m n h k e =
-    same_map stack_cmp_total stack_cmp_apart m n (λ s. same_option (map.get m s) (map.get n s) (h s) (k s) (e s))
-
-pub weight_in-aggregate_of : (rows : List WeightedStack) (s : List (List ℕ))
-    → weight_in (aggregate_of rows) s ≡ weight_of rows s
-weight_in-aggregate_of rows s =
-    let all = weight_in-with_rows map.empty rows s in
-    let none = ap (λ o. unwrap_or o 0) (get-empty {X = ℕ} stack_cmp s) in
-    omega (arith, all, none)
+    same_map stack_cmp_total stack_cmp_apart m n (λ s.
+    same_option (finite.get m s) (finite.get n s)
+    (λ is. some_found s (finite.entries m) h (sym (get-entries m s) ∙ is))
+    (λ is. some_found s (finite.entries n) k (sym (get-entries n s) ∙ is)) (e s))
 
 -- rows that weigh the same at each stack add up to one map
 pub aggregate_of-same : (rows others : List WeightedStack)
     → ((s : List (List ℕ)) → weight_of rows s ≡ weight_of others s) → aggregate_of rows ≡ aggregate_of others
-aggregate_of-same rows others e =
-    same_weighted _ _ (IsPositive-aggregate_of rows) (IsPositive-aggregate_of others)
-    (λ s. weight_in-aggregate_of rows s ∙ e s ∙ sym (weight_in-aggregate_of others s))
+aggregate_of-same rows others e = search (rules, weight_in-aggregate_of, aggregate-weighs, same_weighted)
 
 pub aggregate_of-more : (rows added all : List WeightedStack)
     → ((s : List (List ℕ)) → weight_of all s ≡ weight_of rows s + weight_of added s)
     → aggregate_of all ≡ with_rows (aggregate_of rows) added
 aggregate_of-more rows added all e =
-    same_weighted _ _ (IsPositive-aggregate_of all) (IsPositive-with_rows _ added (IsPositive-aggregate_of rows))
-    (λ s. weight_in-aggregate_of all s ∙ e s ∙ sym (weight_in-with_rows (aggregate_of rows) added s
-    ∙ ap (λ x. x + weight_of added s) (weight_in-aggregate_of rows s)))
+    same_weighted _ _ (aggregate-weighs all) (with_rows-weighs _ added (aggregate-weighs rows))
+    (λ s. weight_in-aggregate_of all s ∙ e s ∙ sym (weight_in-entries (with_rows (aggregate_of rows) added) s
+    ∙ entries_where-with_rows (is_same_stack s) (aggregate_of rows) added
+    ∙ ap (λ x. x + weight_of added s) (entries_where-aggregate_of (is_same_stack s) rows)))
 
 -- ---- a row written, and a row added
 

@@ -4,6 +4,7 @@ use Rattle.std.proofs.Common.{◌≡◌, ℕ, zero, suc, ◌+◌, ◌-◌, ◌*�
 use Rattle.std.proofs.Common.{refl, sym, ap, ◌∙◌, subst, arith, take, drop, length-append, length-drop}
 use Rattle.std.proofs.lemmas.List.{drop-append-le, take-append-le, length-take-le, map-append}
 use Rattle.std.specs.List.{All}
+use Rattle.std.proofs.lemmas.List.Elements.{All-push}
 use Rattle.std.proofs.lemmas.List.Sums.{sum_by_push, sum_by-cons}
 use Rattle.profile_rows.specs.declared.weighted_stacks.WeightedStack.{WeightedStack}
 use Rattle.profile_rows.specs.Rows.{total_of}
@@ -30,15 +31,11 @@ length-with_values m (row ∷ rows) values = ap suc (length-with_values m rows (
 pub no_times : (m : ℕ) → 0 * m ≡ 0
 no_times m = omega arith
 
-pub empty_list : (values : List ℕ) → length values ≡ 0 → values ≡ []
-empty_list [] none = refl
-empty_list (x ∷ values) none = absurd (omega arith)
-
 pub with_values-push : (m : ℕ) (rows : List WeightedStack) (values : List ℕ) (row : WeightedStack) (more : List ℕ)
     → length values ≡ length rows * m → length more ≡ m
     → with_values m (rows ++ row ∷ []) (values ++ more)
     ≡ with_values m rows values ++ (record { stack = row.stack; weights = row.weight ∷ more }) ∷ []
-with_values-push m [] values row more sizes size = grind (arith, common_steps, no_times, empty_list)
+with_values-push m [] values row more sizes size = grind (arith, common_steps, no_times)
 with_values-push m (first ∷ rows) values row more sizes size =
     let times = suc_times (length rows) m in
     let left = length-drop m values in
@@ -47,16 +44,6 @@ with_values-push m (first ∷ rows) values row more sizes size =
     let rest = with_values-push m rows (drop m values) row more (omega arith) size in
     λ i. row_with first.stack (first.weight ∷ front i)
     ∷ (ap (with_values m (rows ++ row ∷ [])) back ∙ rest) i
-
-drop_none : {X : Type 0} (n : ℕ) → drop {A = X} n [] ≡ []
-drop_none zero = refl
-drop_none (suc n) = refl
-
-pub drops : {X : Type 0} (a b n : ℕ) (l : List X) → n ≡ a + b → drop b (drop a l) ≡ drop n l
-drops zero b n l whole = let same : b ≡ n = omega arith in ap (λ n. drop n l) same
-drops (suc a) b n [] whole = drop_none b ∙ sym (drop_none n)
-drops (suc a) b zero (x ∷ l) whole = absurd (omega arith)
-drops (suc a) b (suc n) (x ∷ l) whole = drops a b n l (omega arith)
 
 -- the stack and the values of a row
 pub row_in-with_values : (m : ℕ) (rows : List WeightedStack) (values : List ℕ) (k : ℕ) (d : WeightedStack)
@@ -67,7 +54,7 @@ row_in-with_values m [] values k d lt = absurd (omega arith)
 row_in-with_values m (row ∷ rows) values zero d lt =
     ap (λ n. row_with row.stack (row.weight ∷ take m (drop n values))) (sym (no_times m))
 row_in-with_values m (row ∷ rows) values (suc k) d lt =
-    grind (arith, common_steps, suc_times, drops, row_in-with_values m rows (drop m values) k d (omega arith))
+    grind (arith, common_steps, suc_times, row_in-with_values m rows (drop m values) k d (omega arith))
 
 -- ---- totals
 
@@ -131,13 +118,6 @@ single-AreParts rows fits = (sym (times_none (length rows)), batch, are)
 whole_weights : (weights : List ℕ) → 0 < length weights → value_of 0 weights ∷ drop 1 weights ≡ weights
 whole_weights [] some = absurd (omega arith)
 whole_weights (w ∷ weights) some = refl
-
-All-push : {X : Type 0} (P : X → Type 0) (xs : List X) (x : X) → All P xs → P x → All P (xs ++ x ∷ [])
-All-push P [] x all last zero d lt = last
-All-push P [] x all last (suc k) d lt = absurd (omega arith)
-All-push P (y ∷ xs) x all last zero d lt = all 0 d (omega arith)
-All-push P (y ∷ xs) x all last (suc k) d lt =
-    All-push P xs x (λ k d lt. all (suc k) d (omega arith)) last k d (omega arith)
 
 module _ (totals : List ℕ)
     (rows : List WeightedStack) (values : List ℕ) (sizes : length values ≡ length rows * (length totals - 1))

@@ -1,6 +1,6 @@
 -- Where texts stand, as texts are added.
 use Rattle.std.proofs.lemmas.Grind.{common_steps}
-use Rattle.std.proofs.Common.{◌≡◌, ℕ, zero, suc, ◌+◌, ◌<◌, ◌≤◌, Bool, true, false, cond, ◌||◌, List, [], ◌∷◌}
+use Rattle.std.proofs.Common.{rules, ◌≡◌, ℕ, zero, suc, ◌+◌, ◌<◌, ◌≤◌, Bool, true, false, cond, ◌||◌, List, [], ◌∷◌}
 use Rattle.std.proofs.Common.{◌++◌, length}
 use Rattle.std.proofs.Common.{take, map, get_or, Some, refl, sym, ap, ◌∙◌, arith}
 use Rattle.std.specs.Prelude.{position, slice_index_or, unwrap_or}
@@ -20,47 +20,25 @@ number_in-le (first ∷ texts) text = grind (arith, common_steps, number_in-le t
 number_in-missing : (texts : List (List ℕ)) (text : List ℕ)
     → list_any (bytes_eq text) texts ≡ false → number_in texts text ≡ length texts
 number_in-missing [] text none = refl
-number_in-missing (first ∷ texts) text none =
-    elim (bytes_eq text first) as (λ b. (b || list_any (bytes_eq text) texts) ≡ false
-    → cond b 0 (number_in texts text + 1) ≡ length (first ∷ texts)) [
-      | true ↦ λ e. absurd (false≢true (sym e))
-      | false ↦ λ e. let rest = number_in-missing texts text e in omega (arith, rest)
-    ] none
+number_in-missing (first ∷ texts) text none = grind (arith, common_steps, number_in-missing texts text)
 
 -- a text that is there stands before the end
 pub number_in-lt : (texts : List (List ℕ)) (text : List ℕ)
     → list_any (bytes_eq text) texts ≡ true → number_in texts text < length texts
 number_in-lt [] text e = absurd (false≢true e)
-number_in-lt (first ∷ texts) text e =
-    elim (bytes_eq text first) as (λ b. (b || list_any (bytes_eq text) texts) ≡ true
-    → cond b 0 (number_in texts text + 1) < length (first ∷ texts)) [
-      | true ↦ λ r. omega arith
-      | false ↦ λ r. let rest = number_in-lt texts text r in omega (arith, rest)
-    ] e
+number_in-lt (first ∷ texts) text e = grind (arith, common_steps, number_in-lt texts text)
 
 -- more texts change no number
 pub number_in-more : (texts more : List (List ℕ)) (text : List ℕ)
     → list_any (bytes_eq text) texts ≡ true → number_in (texts ++ more) text ≡ number_in texts text
 number_in-more [] more text some = absurd (false≢true some)
-number_in-more (first ∷ texts) more text some =
-    elim (bytes_eq text first) as (λ b. (b || list_any (bytes_eq text) texts) ≡ true
-    → cond b 0 (number_in (texts ++ more) text + 1) ≡ cond b 0 (number_in texts text + 1)) [
-      | true ↦ λ e. refl
-      | false ↦ λ e. ap (λ n. n + 1) (number_in-more texts more text e)
-    ] some
+number_in-more (first ∷ texts) more text some = grind (arith, common_steps, number_in-more texts more text)
 
 -- the text at a text's number
 pub text_of_number : (texts : List (List ℕ)) (text : List ℕ)
     → number_in texts text < length texts → slice_index_or texts (number_in texts text) [] ≡ text
 text_of_number [] text lt = absurd (omega (arith, lt))
-text_of_number (first ∷ texts) text lt =
-    elim (bytes_eq text first) as (λ b. bytes_eq text first ≡ b → cond b 0 (number_in texts text + 1) < suc
-    (length texts) → slice_index_or (first ∷ texts) (cond b 0 (number_in texts text + 1)) [] ≡ text) [
-      | true ↦ λ is r. sym (same_from_is_same_name text first is)
-      | false ↦ λ is r.
-          let next : number_in texts text + 1 ≡ suc (number_in texts text) = omega arith in
-          ap (λ n. slice_index_or (first ∷ texts) n []) next ∙ text_of_number texts text (omega (arith, r))
-    ] refl lt
+text_of_number (first ∷ texts) text lt = search (rules, same_from_is_same_name, text_of_number texts text)
 
 pub any_push : (texts : List (List ℕ)) (text q : List ℕ)
     → list_any (bytes_eq q) (texts ++ text ∷ []) ≡ (list_any (bytes_eq q) texts || bytes_eq q text)
@@ -70,18 +48,10 @@ any_push (first ∷ texts) text q = grind (arith, common_steps, any_push texts t
 number_at_end : (texts : List (List ℕ)) (text : List ℕ)
     → list_any (bytes_eq text) texts ≡ false → number_in (texts ++ text ∷ []) text ≡ length texts
 number_at_end [] text none = ap (λ b. cond b 0 (0 + 1)) (is_same_name-self text)
-number_at_end (first ∷ texts) text none =
-    elim (bytes_eq text first) as (λ b. (b || list_any (bytes_eq text) texts) ≡ false
-    → cond b 0 (number_in (texts ++ text ∷ []) text + 1) ≡ length (first ∷ texts)) [
-      | true ↦ λ e. absurd (false≢true (sym e))
-      | false ↦ λ e. let rest = number_at_end texts text e in omega (arith, rest)
-    ] none
+number_at_end (first ∷ texts) text none = grind (arith, common_steps, number_at_end texts text)
 
 pub turned : (a b : List ℕ) → bytes_eq a b ≡ false → bytes_eq b a ≡ false
-turned a b none = elim (bytes_eq b a) as (λ t. bytes_eq b a ≡ t → t ≡ false) [
-  | true ↦ λ e. absurd (false≢true (sym none ∙ ap (bytes_eq a) (same_from_is_same_name b a e) ∙ is_same_name-self a))
-  | false ↦ λ e. refl
-] refl
+turned a b none = search (rules, false≢true, same_from_is_same_name, is_same_name-self)
 
 -- where a text that is lent stands among others
 place_of_text : (items : List (Bor (List ℕ))) (text : List ℕ)

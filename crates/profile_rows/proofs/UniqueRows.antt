@@ -1,19 +1,17 @@
 -- Rows of one width are known by the maps of their values.
-use Rattle.std.proofs.Common.{◌≡◌, ℕ, suc, Bool, true, false, cond, ◌&&◌, List, [], ◌∷◌, length, map, Option, Some}
-use Rattle.std.proofs.Common.{None, refl, sym, ap, ◌∙◌, subst, arith}
+use Rattle.std.proofs.Common.{rules, ◌≡◌, ℕ, suc, true, false, cond, List, [], ◌∷◌, length, map, Option, Some}
+use Rattle.std.proofs.Common.{None, refl, sym, ap, ◌∙◌, arith}
 use Rattle.std.specs.Option.{unwrap_or, IfSome}
 use Rattle.std.specs.Prelude.{T}
 use Rattle.std.specs.List.{All, AllPairs}
 use Rattle.std.specs.declared.cmp.Ordering.TheVariants.{Less}
-use Rattle.std.specs.Ordering.{is_eq, is_lt}
 use Rattle.std.specs.FinMap.{find, is_sorted}
-use Rattle.std.specs.FinMap.Entries.{below_all, same_entries}
-use Rattle.std.proofs.lemmas.List.Sums.{sum_by-cons}
-use Rattle.profile_rows.specs.Rows.{stack_cmp, is_same_stack, weight_if, weight_of}
-use Rattle.profile_rows.specs.Values.{Row, rows_at, value_of, weighing}
+use Rattle.std.specs.FinMap.Entries.{same_entries}
+use Rattle.profile_rows.specs.Rows.{stack_cmp, is_same_stack, weight_of}
+use Rattle.profile_rows.specs.Values.{Row, rows_at, value_of}
 use Rattle.profile_rows.specs.Aggregate.{AreRowsOf, HasWeight, Weighted}
-use Rattle.profile_rows.proofs.EntryLaws.{weight_where-same}
-use Rattle.profile_rows.proofs.RowLaws.{stack_cmp_apart, stack_cmp_total, same_from_is_same_stack}
+use Rattle.profile_rows.proofs.EntryLaws.{entry, pairs-map, sorted_keys, weight_found, weight_where-same}
+use Rattle.profile_rows.proofs.RowLaws.{stack_cmp_apart, stack_cmp_total}
 
 abbrev RowEntry : Type 0
 RowEntry = List (List ℕ) × List ℕ
@@ -32,64 +30,20 @@ rows_again (row ∷ rows) = ap (λ rest. row ∷ rest) (rows_again rows)
 abbrev Ascends : List Row → Type 0
 Ascends rows = AllPairs (λ (row after : Row). stack_cmp row.stack after.stack ≡ Less) rows
 
-abbrev AreAbove : List (List ℕ) → List Row → Type 0
-AreAbove stack rows = All (λ (row : Row). stack_cmp stack row.stack ≡ Less) rows
-
-above_first : (row : Row) (rows : List Row) → Ascends (row ∷ rows) → AreAbove row.stack rows
-above_first row rows up k d lt = up 0 (suc k) d (omega arith) (omega arith)
-
-ascends_after : (row : Row) (rows : List Row) → Ascends (row ∷ rows) → Ascends rows
-ascends_after row rows up i j d before lt = up (suc i) (suc j) d (omega arith) (omega arith)
-
-both : (a b : Bool) → T a → T b → T (a && b)
-both true b p q = q
-both false b p q = p
-
-entries_above : (stack : List (List ℕ)) (rows : List Row)
-    → AreAbove stack rows → T (below_all stack_cmp stack (map row_entry rows))
-entries_above stack [] above = tt
-entries_above stack (row ∷ rows) above =
-    both _ _ (subst (λ o. T (is_lt o)) (sym (above 0 row (omega arith))) tt)
-    (entries_above stack rows (λ k d lt. above (suc k) d (omega arith)))
-
-entries_sorted : (rows : List Row) → Ascends rows → T (is_sorted stack_cmp (map row_entry rows))
-entries_sorted [] up = tt
-entries_sorted (row ∷ rows) up =
-    both _ _ (entries_above row.stack rows (above_first row rows up)) (entries_sorted rows (ascends_after row rows up))
-
--- a stack below all rows weighs nothing in them
-weightless_below : (value : ℕ) (stack : List (List ℕ)) (rows : List Row)
-    → AreAbove stack rows → weight_of (rows_at value rows) stack ≡ 0
-weightless_below value stack [] above = refl
-weightless_below value stack (row ∷ rows) above =
-    let rest = weightless_below value stack rows (λ k d lt. above (suc k) d (omega arith)) in
-    let cons = sum_by-cons (weight_if (is_same_stack stack)) (weighing value row) (rows_at value rows) in
-    let here : weight_if (is_same_stack stack) (weighing value row) ≡ 0 =
-    ap (λ o. cond (is_eq o) (value_of value row.weights) 0) (above 0 row (omega arith)) in
-    omega (arith, rest, cons, here)
+sorted : (rows : List Row) → Ascends rows → T (is_sorted stack_cmp (map row_entry rows))
+sorted rows up =
+    sorted_keys (map row_entry rows) (pairs-map (λ (a b : RowEntry). stack_cmp a.0 b.0 ≡ Less) row_entry rows up)
 
 -- what is found at a stack is its weight
+found_value : (value : ℕ) (stack : List (List ℕ)) (rows : List Row)
+    → unwrap_or (find stack_cmp stack (map entry (rows_at value rows))) 0
+    ≡ value_of value (unwrap_or (find stack_cmp stack (map row_entry rows)) [])
+found_value value stack [] = refl
+found_value value stack (row ∷ rows) = grind (arith, entry, found_value value stack rows)
+
 found-weight : (value : ℕ) (stack : List (List ℕ)) (rows : List Row) → Ascends rows
     → value_of value (unwrap_or (find stack_cmp stack (map row_entry rows)) []) ≡ weight_of (rows_at value rows) stack
-found-weight value stack [] up = refl
-found-weight value stack (row ∷ rows) up =
-    let rest = found-weight value stack rows (ascends_after row rows up) in
-    let cons = sum_by-cons (weight_if (is_same_stack stack)) (weighing value row) (rows_at value rows) in
-    elim (is_same_stack stack row.stack) as (λ b. is_same_stack stack row.stack ≡ b
-    → value_of value (unwrap_or (cond b (Some row.weights) (find stack_cmp stack (map row_entry rows))) [])
-    ≡ weight_of (rows_at value (row ∷ rows)) stack) [
-      | true ↦ λ e.
-          let same = same_from_is_same_stack stack row.stack e in
-          let none =
-          weightless_below value stack rows (subst (λ s. AreAbove s rows) (sym same) (above_first row rows up)) in
-          let here : weight_if (is_same_stack stack) (weighing value row) ≡ value_of value row.weights =
-          ap (λ b. cond b (value_of value row.weights) 0) e in
-          omega (arith, cons, none, here)
-      | false ↦ λ e.
-          let here : weight_if (is_same_stack stack) (weighing value row) ≡ 0 =
-          ap (λ b. cond b (value_of value row.weights) 0) e in
-          omega (arith, cons, rest, here)
-    ] refl
+found-weight value stack rows up = search (rules, pairs-map, weight_found, found_value)
 
 -- what is found has the rows' width, and some value above 0
 abbrev IsHeld : ℕ → List ℕ → Type 0
@@ -141,5 +95,5 @@ same_rows width weights rows others widths other_widths are other_are =
     (is_same_stack stack) (rows_at value rows) (rows_at value others) (are.each value ∙ sym (other_are.each value))
     ∙ sym (found-weight value stack others other_are.ascending)) in
     let entries = same_entries stack_cmp stack_cmp_total stack_cmp_apart (map row_entry rows) (map row_entry others)
-    (entries_sorted rows are.ascending) (entries_sorted others other_are.ascending) found in
+    (sorted rows are.ascending) (sorted others other_are.ascending) found in
     sym (rows_again rows) ∙ ap (map entry_row) entries ∙ rows_again others

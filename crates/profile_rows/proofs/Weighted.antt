@@ -1,6 +1,6 @@
 -- The tallies of names show each name that weighs something once.
 use Rattle.std.proofs.lemmas.Grind.{common_steps}
-use Rattle.std.proofs.Common.{◌≡◌, ℕ, ◌+◌, ◌<◌, ◌≤◌, true, false, cond, List, [], ◌∷◌, ◌++◌, length, take, get_or}
+use Rattle.std.proofs.Common.{rules, ◌≡◌, ℕ, ◌+◌, ◌<◌, ◌≤◌, true, false, cond, List, [], ◌∷◌, ◌++◌, length, take, get_or}
 use Rattle.std.proofs.Common.{refl, sym, ap, ◌∙◌, subst, arith}
 use Rattle.std.specs.Prelude.{filter, map, nat_lt, slice_index_or, unwrap_or}
 use Rattle.std.specs.List.{zip}
@@ -51,11 +51,7 @@ others : (name : List ℕ) (entry : Entry) (entries : List Entry)
     → is_same_name name entry.0 ≡ true → AllByRecursion (λ other. is_same_name entry.0 other ≡ false) (keys_of entries)
     → AllByRecursion (λ (e : Entry). is_same_name name e.0 ≡ false) entries
 others name entry [] is apart = tt
-others name entry (e ∷ entries) is apart = (
-  ap (λ n. is_same_name n e.0) (same_from_is_same_name name entry.0 is)
-      ∙ apart.0,
-  others name entry entries is apart.1,
-)
+others name entry (e ∷ entries) is apart = search (rules, same_from_is_same_name, others name entry entries is apart.1)
 
 -- a name is shown once where its tally weighs something
 shown_once : (name : List ℕ) (entries : List Entry) → AreSingle (keys_of entries)
@@ -152,23 +148,11 @@ pub weighty_more : (names : List (List ℕ)) (tallies : List Tally) (number : �
     → tally ≡ tally_at tallies number → 0 < tally.cumulative → old ≡ weighted_in (take number (zip names tallies))
     → new ≡ old ++ entry_shown (name, tally) ∷ [] → new ≡ weighted_in (take (number + 1) (zip names tallies))
 weighty_more names tallies number name tally old new same lt name_is tally_is some so_far pushed =
-    pushed ∙ ap (λ list. list ++ entry_shown (name, tally) ∷ []) so_far
-    ∙ ap (λ list. weighted_in (take number (zip names tallies)) ++ list)
-    (sym (ap (λ b. cond b (entry_shown (name, tally) ∷ []) []) (lt-ltb 0 tally.cumulative some))
-    ∙ ap (λ n. weighted_in ((n, tally) ∷ [])) name_is
-    ∙ ap (λ t. weighted_in ((slice_index_or names number [], t) ∷ [])) tally_is)
-    ∙ sym (next_weighted names tallies number same lt)
+    grind (arith, lt-ltb, next_weighted)
 
 -- one that weighs nothing
 pub weightless_more : (names : List (List ℕ)) (tallies : List Tally)
     (number : ℕ) (tally : Tally) (list : List FrameTotal) → length tallies ≡ length names → number < length names
     → tally ≡ tally_at tallies number → tally.cumulative ≤ 0 → list ≡ weighted_in (take number (zip names tallies))
     → list ≡ weighted_in (take (number + 1) (zip names tallies))
-weightless_more names tallies number tally list same lt tally_is none so_far =
-    let name = slice_index_or names number [] in
-    let nothing : tally.cumulative ≡ 0 = omega (arith, none) in
-    so_far ∙ sym (append-nil (weighted_in (take number (zip names tallies))))
-    ∙ ap (λ list. weighted_in (take number (zip names tallies)) ++ list)
-    (sym (ap (λ n. cond (nat_lt 0 n) (entry_shown (name, tally) ∷ []) []) nothing)
-    ∙ ap (λ t. weighted_in ((name, t) ∷ [])) tally_is)
-    ∙ sym (next_weighted names tallies number same lt)
+weightless_more names tallies number tally list same lt tally_is none so_far = grind (arith, append-nil, next_weighted)

@@ -1,13 +1,11 @@
 -- Rows that are written as samples when they come: a name keeps its id as more names come.
-use Rattle.std.proofs.lemmas.Grind.{common_steps}
-use Rattle.std.proofs.Common.{arith, ◌≡◌, ℕ, ◌+◌, List, [], ◌∷◌, ◌++◌, map, inl, inr, pos, refl, sym, ap}
-use Rattle.std.proofs.Common.{◌∙◌, subst}
+use Rattle.std.proofs.lemmas.Grind.{common_steps, flat_map-append}
+use Rattle.std.proofs.Common.{arith, ◌≡◌, ℕ, ◌+◌, List, [], ◌∷◌, ◌++◌, map, inl, inr, pos, refl, sym, ap, ◌∙◌, subst}
 use Rattle.std.specs.Prelude.{Err, MatchResult, Ok, Result, reverse}
 use Rattle.std.specs.List.{flat_map}
 use Rattle.std.proofs.lemmas.List.{map-append, append-nil}
 use Rattle.std.proofs.lemmas.List.Concat.{flat_map-cons}
 use Rattle.std.proofs.lemmas.List.Sums.{sum_by_push}
-use Rattle.std.proofs.lemmas.Grind.{flat_map-append}
 use Rattle.pprof_profile.specs.declared.messages.Sample.{Sample}
 use Rattle.pprof_profile.specs.Canonical.{canonical_bytes_of, sample_bytes, samples_bytes, FitsEach, FitsSample}
 use Rattle.profile_rows.specs.declared.weighted_stacks.WeightedStack.{WeightedStack}
@@ -18,7 +16,7 @@ use Rattle.folded_text.specs.FoldedText.{IsFoldedText, IsWorkFault}
 use Rattle.profile_rows.specs.TextTables.{with_text, with_texts}
 use Rattle.profile_samples.specs.Export.{AreSamplesOf, IsExportOfText, single_profile_of, exported_sample, id_in}
 use Rattle.profile_samples.specs.Export.{names_of}
-use Rattle.profile_samples.proofs.ExportLaws.{AllStand, RowsStand, rows_stand, with_text-stands}
+use Rattle.profile_samples.proofs.ExportLaws.{AllStand, frames_in, stand_parts, stand_where, with_text-stands}
 use Rattle.profile_samples.proofs.ExportLaws.{with_texts-own}
 use Rattle.folded_text.proofs.Reading.{IsFirstFault-folded, IsFoldedText-same}
 use Rattle.profile_rows.proofs.TextNumbers.{number_in-kept, with_texts-append}
@@ -35,28 +33,21 @@ stack_stays : (texts : List (List ℕ)) (text : List ℕ) (stack : List (List �
 stack_stays texts text [] all = tt
 stack_stays texts text (name ∷ stack) all = (with_text-stands texts text name all.0, stack_stays texts text stack all.1)
 
-rows_stay : (texts : List (List ℕ)) (text : List ℕ) (rows : List Row)
-    → RowsStand texts rows → RowsStand (with_text texts text) rows
-rows_stay texts text [] all = tt
-rows_stay texts text (row ∷ rows) all = (stack_stays texts text row.stack all.0, rows_stay texts text rows all.1)
-
 samples_kept-text : (texts : List (List ℕ)) (text : List ℕ) (rows : List Row)
-    → RowsStand texts rows → map (exported_sample (with_text texts text)) rows ≡ map (exported_sample texts) rows
+    → AllStand texts (frames_in rows)
+    → map (exported_sample (with_text texts text)) rows ≡ map (exported_sample texts) rows
 samples_kept-text texts text [] all = refl
 samples_kept-text texts text (row ∷ rows) all =
-    ap (λ ids. let sample : Sample = record {
-      location_ids = reverse ids;
-      values = map pos row.weights;
-      labels =
-          [];
-    } in sample ∷ map (exported_sample (with_text texts text)) rows) (ids_kept texts text row.stack all.0)
-    ∙ ap (λ samples. exported_sample texts row ∷ samples) (samples_kept-text texts text rows all.1)
+    let (here, later) = stand_parts texts row.stack (frames_in rows) all in
+    rw (ids_kept texts text row.stack here, samples_kept-text texts text rows later) refl
 
 samples_kept : (texts more : List (List ℕ)) (rows : List Row)
-    → RowsStand texts rows → map (exported_sample (with_texts texts more)) rows ≡ map (exported_sample texts) rows
+    → AllStand texts (frames_in rows)
+    → map (exported_sample (with_texts texts more)) rows ≡ map (exported_sample texts) rows
 samples_kept texts [] rows all = refl
-samples_kept texts (text ∷ more) rows all = samples_kept
-    (with_text texts text) more rows (rows_stay texts text rows all) ∙ samples_kept-text texts text rows all
+samples_kept texts (text ∷ more) rows all =
+    samples_kept (with_text texts text) more rows (stack_stays texts text (frames_in rows) all)
+    ∙ samples_kept-text texts text rows all
 
 names_push : (rows : List Row) (row : Row) → names_of (rows ++ row ∷ []) ≡ with_texts (names_of rows) row.stack
 names_push rows row = grind (arith, common_steps, append-nil, flat_map-cons, flat_map-append, with_texts-append)
@@ -78,26 +69,19 @@ pub AreSamplesOf-push : (rows : List WeightedStack) (row : WeightedStack)
 AreSamplesOf-push rows row names next samples after ids total sum so_far added numbered more written fits =
     let before = singles rows in
     let longer : singles (rows ++ row ∷ []) ≡ before ++ single row ∷ [] = map-append single rows (row ∷ []) in
-    let all : RowsStand names before = subst (λ texts. RowsStand texts before) (sym so_far.names_rows)
-    (rows_stand (names_of before) before (λ q e. with_texts-own [] (flat_map (λ (r : Row). r.stack) before) q e)) in
-    let kept : map (exported_sample names) before ≡ map (exported_sample next) before =
-    sym (samples_kept names row.stack before all) ∙ ap (λ texts. map (exported_sample texts) before) (sym added) in
+    let all : AllStand names (frames_in before) = rw so_far.names_rows
+    (stand_where (frames_in before) (names_of before) (with_texts-own [] (frames_in before))) in
     let sample : Sample = record { location_ids = ids; values = pos row.weight ∷ []; labels = [] } in
     let listed : map (exported_sample names) before ++ sample ∷ []
     ≡ map (exported_sample next) (singles (rows ++ row ∷ [])) =
-    ap (λ is. let one : Sample = record { location_ids = is; values = pos row.weight ∷ []; labels = [] } in map
-    (exported_sample names) before ++ one ∷ []) numbered
-    ∙ ap (λ front. front ++ exported_sample next (single row) ∷ []) kept
-    ∙ sym (map-append (exported_sample next) before (single row ∷ []))
-    ∙ ap (map (exported_sample next)) (sym longer) in
+    rw (numbered, longer, added, ← samples_kept names row.stack before all)
+    (sym (map-append (exported_sample (with_texts names row.stack)) before (single row ∷ []))) in
     record {
-      names_rows = added ∙ ap (λ texts. with_texts texts row.stack) so_far.names_rows
-          ∙ sym (names_push before (single row)) ∙ ap names_of (sym longer);
+      names_rows = rw (added, longer, so_far.names_rows) (sym (names_push before (single row)));
       samples_rows = written ∙ ap samples_bytes listed;
       fits_rows = subst (λ all. FitsEach FitsSample sample_bytes all) listed
           (fits_joined (map (exported_sample names) before) (sample ∷ []) so_far.fits_rows fits);
-      total_rows = more ∙ ap (λ earlier. earlier + row.weight) so_far.total_rows
-          ∙ sym (sum_by_push (λ (r : WeightedStack). r.weight) rows row);
+      total_rows = rw (more, so_far.total_rows) (sym (sum_by_push (λ (r : WeightedStack). r.weight) rows row));
     }
 
 -- the stacks of rows of several values are those of their first values

@@ -3,6 +3,7 @@ use Rattle.std.proofs.lemmas.Grind.{common_steps}
 use Rattle.std.proofs.Common.{◌≡◌, ℕ, ◌+◌, ◌^◌, ◌<◌, ◌≤◌, List, [], ◌∷◌, ◌++◌, length, take, map, get_or, Some, refl}
 use Rattle.std.proofs.Common.{ap, arith}
 use Rattle.std.specs.List.{All, AllByRecursion}
+use Rattle.std.proofs.lemmas.List.Elements.{recursion_from_All}
 use Rattle.std.proofs.lemmas.List.{get_or_default, take_more}
 use Rattle.profile_rows.specs.declared.weighted_stacks.WeightedStack.{WeightedStack}
 use Rattle.profile_rows.specs.Names.{IsName}
@@ -43,12 +44,21 @@ last_one strings (unit ∷ next ∷ units) one = absurd (omega (arith, one))
 
 -- ---- rows
 
-pub can_stand : (width : ℕ) (rows : List Row)
-    → AllByRecursion (λ (row : WeightedStack). All IsName row.stack × (length row.stack ≤ 65535)) (rows_at 0 rows)
+-- a stack that can be read
+abbrev pub CanBeRead : WeightedStack → Type 0
+CanBeRead row = All IsName row.stack × (length row.stack ≤ 65535)
+
+each_stands : (width : ℕ) (rows : List Row) → AllByRecursion CanBeRead (rows_at 0 rows)
     → AllByRecursion (λ (row : Row). length row.weights ≡ width) rows → AllByRecursion (CanStand width) rows
-can_stand width [] each widths = tt
-can_stand width (row ∷ rows) each widths =
-    ((each.0.0, each.0.1, widths.0), can_stand width rows each.1 widths.1)
+each_stands width [] each widths = tt
+each_stands width (row ∷ rows) each widths =
+    ((each.0.0, each.0.1, widths.0), each_stands width rows each.1 widths.1)
+
+pub can_stand : (width : ℕ) (rows : List Row) → All CanBeRead (rows_at 0 rows)
+    → All (λ (row : Row). length row.weights ≡ width) rows → AllByRecursion (CanStand width) rows
+can_stand width rows each widths =
+    each_stands width rows (recursion_from_All CanBeRead (rows_at 0 rows) each)
+    (recursion_from_All (λ (row : Row). length row.weights ≡ width) rows widths)
 
 -- the values of a batch's rows keep the limit
 pub weights_small : (batch : BatchState) (at : ℕ)

@@ -1,74 +1,68 @@
 -- A profile has one first fault of its samples, want of memory aside.
-use Rattle.std.proofs.lemmas.Grind.{common_steps}
+use Rattle.std.proofs.lemmas.Grind.{common_steps, same_number_lists}
 use Rattle.std.proofs.Common.{◌≡◌, ◌≢◌, ◌⊎◌, ℕ, ◌+◌, ◌<◌, ◌≤◌, List, ◌∷◌, ◌++◌, length, refl, sym, ap, ◌∙◌, inl, inr}
 use Rattle.std.proofs.Common.{subst, arith}
-use Rattle.std.specs.Prelude.{Option, Some, None, Result, Ok, Err, MatchResult, slice_get, is_some}
-use Rattle.std.proofs.lemmas.Bool.{false≢true}
+use Rattle.std.specs.Prelude.{Result, Ok, Err, MatchResult, slice_get}
 use Rattle.pprof_profile.specs.declared.messages.Draft.{Draft}
 use Rattle.pprof_profile.specs.declared.messages.Sample.{Sample}
-use Rattle.profile_rows.specs.Values.{AreTotals, BatchState, value_of}
+use Rattle.profile_rows.specs.Values.{AreTotals, BatchState}
 use Rattle.folded_text.proofs.Cuts.{cuts}
 use Rattle.profile_samples.specs.declared.sampling.BatchFault.{BatchFault}
 use Rattle.profile_samples.specs.declared.sampling.BatchFault.TheVariants.{NoValue, Width, Negative, Depth, Heavy}
 use Rattle.profile_samples.specs.declared.sampling.BatchFault.TheVariants.{NoMemory}
 use Rattle.profile_samples.specs.declared.sampling.ValueChoice.{ValueChoice}
-use Rattle.profile_samples.specs.Batches.{AreRowsOfSamples, IsBatchOf, IsFirstFault, StandsAtSample}
-use Rattle.profile_samples.specs.Samples.{IsSampleFault, chosen_types_of}
-use Rattle.profile_samples.proofs.SampleBatches.{IsFirstFault-batch, faultless_among, rows_of_choice}
-use Rattle.profile_samples.proofs.SampleRows.{AreRowsOfSamples-same, not_below, same_count, same_first, same_values}
+use Rattle.profile_samples.specs.Batches.{IsBatchOf, IsFirstFault, StandsAtSample}
+use Rattle.profile_samples.specs.Samples.{HasWeights, IsSampleFault, sample_stack_of}
+use Rattle.profile_samples.proofs.SampleBatches.{IsFirstFault-batch, IsTooWide, as_named, faultless_among}
+use Rattle.profile_samples.proofs.SampleBatches.{memory_or_named, none_some, rows_of_choice}
+use Rattle.profile_samples.proofs.SampleRows.{AreRowsOfSamples-same, not_below, same_count, same_first}
 
--- ---- a sample has one fault: each case says that those of the cases before it don't stand
+-- ---- a sample has one fault
 
-Negative-Depth : (draft : Draft) (first : ℕ) (totals : List ℕ) (number : ℕ) (sample : Sample) (x y : ℕ)
-    → IsSampleFault draft first totals number sample (Negative x)
-    → IsSampleFault draft first totals number sample (Depth y) → ⊥
-Negative-Depth draft first totals number sample x y (value, lt, (at, below, e)) (is, weights, values, deep) =
-    not_below (slice_get sample.values (first + value)) (value_of value weights) below (values value lt) e
+-- so many values from the first that is taken on are these weights
+abbrev AreWeights : ℕ → List ℕ → Sample → List ℕ → Type 0
+AreWeights first totals sample weights = HasWeights first (length totals) sample.values weights
 
-Negative-Heavy : (draft : Draft) (first : ℕ) (totals : List ℕ) (number : ℕ) (sample : Sample) (x y : ℕ)
-    → IsSampleFault draft first totals number sample (Negative x)
-    → IsSampleFault draft first totals number sample (Heavy y) → ⊥
-Negative-Heavy draft first totals number sample x y (value, lt, (at, below, e)) (is, row, own, more, inside, heavy) =
-    not_below (slice_get sample.values (first + value)) (value_of value row.weights) below (own.values value lt) e
-
-Depth-Heavy : (draft : Draft) (first : ℕ) (totals : List ℕ) (number : ℕ) (sample : Sample) (x y : ℕ)
-    → IsSampleFault draft first totals number sample (Depth x)
-    → IsSampleFault draft first totals number sample (Heavy y) → ⊥
-Depth-Heavy draft first totals number sample x y (at, weights, values, deep) (is, row, own, value, lt, heavy) =
-    grind (arith, common_steps)
+-- no weights, or weights and a stack that is too deep, or weights and a stack that isn't
+as_kind : (draft : Draft) (first : ℕ) (totals : List ℕ) (number : ℕ) (sample : Sample) (fault : BatchFault)
+    → fault ≢ NoMemory → IsSampleFault draft first totals number sample fault
+    → ((fault ≡ Negative number) × ((weights : List ℕ) → AreWeights first totals sample weights → ⊥))
+    ⊎ (((fault ≡ Depth number) × (weights : List ℕ) × AreWeights first totals sample weights
+    × (65535 < length (sample_stack_of draft sample.location_ids)))
+    ⊎ ((fault ≡ Heavy number) × (weights : List ℕ) × AreWeights first totals sample weights
+    × (length (sample_stack_of draft sample.location_ids) ≤ 65535)))
+as_kind draft first totals number sample NoValue named h = absurd h
+as_kind draft first totals number sample (Width count) named h = absurd h
+as_kind draft first totals number sample (Negative at) named (value, lt, (is, below, e)) =
+    inl (ap Negative is, λ weights are. not_below (slice_get sample.values (first + value)) _ below (are value lt) e)
+as_kind draft first totals number sample (Depth at) named (is, weights, are, deep) =
+    inr (inl (ap Depth is, weights, are, deep))
+as_kind draft first totals number sample (Heavy at) named (is, row, own, value, lt, heavy) =
+    inr (inr (ap Heavy is, row.weights, own.values, subst (λ s. length s ≤ 65535) own.stack own.depth))
+as_kind draft first totals number sample NoMemory named h = absurd (named refl)
 
 one_sample_fault : (draft : Draft) (first : ℕ) (totals : List ℕ) (number : ℕ) (sample : Sample)
     (fault other : BatchFault) → fault ≢ NoMemory → other ≢ NoMemory
     → IsSampleFault draft first totals number sample fault
     → IsSampleFault draft first totals number sample other → fault ≡ other
-one_sample_fault draft first totals number sample NoValue other named known ha hb = absurd ha
-one_sample_fault draft first totals number sample (Width c) other named known ha hb = absurd ha
-one_sample_fault draft first totals number sample NoMemory other named known ha hb = absurd (named refl)
-one_sample_fault draft first totals number sample (Negative x) NoValue named known ha hb = absurd hb
-one_sample_fault draft first totals number sample (Negative x) (Width c) named known ha hb = absurd hb
-one_sample_fault draft first totals number sample (Negative x) (Negative y) named known ha hb =
-    ap Negative (ha.2.0 ∙ sym hb.2.0)
-one_sample_fault draft first totals number sample (Negative x) (Depth y) named known ha hb =
-    absurd (Negative-Depth draft first totals number sample x y ha hb)
-one_sample_fault draft first totals number sample (Negative x) (Heavy y) named known ha hb =
-    absurd (Negative-Heavy draft first totals number sample x y ha hb)
-one_sample_fault draft first totals number sample (Negative x) NoMemory named known ha hb = absurd (known refl)
-one_sample_fault draft first totals number sample (Depth x) NoValue named known ha hb = absurd hb
-one_sample_fault draft first totals number sample (Depth x) (Width c) named known ha hb = absurd hb
-one_sample_fault draft first totals number sample (Depth x) (Negative y) named known ha hb =
-    absurd (Negative-Depth draft first totals number sample y x hb ha)
-one_sample_fault draft first totals number sample (Depth x) (Depth y) named known ha hb = ap Depth (ha.0 ∙ sym hb.0)
-one_sample_fault draft first totals number sample (Depth x) (Heavy y) named known ha hb =
-    absurd (Depth-Heavy draft first totals number sample x y ha hb)
-one_sample_fault draft first totals number sample (Depth x) NoMemory named known ha hb = absurd (known refl)
-one_sample_fault draft first totals number sample (Heavy x) NoValue named known ha hb = absurd hb
-one_sample_fault draft first totals number sample (Heavy x) (Width c) named known ha hb = absurd hb
-one_sample_fault draft first totals number sample (Heavy x) (Negative y) named known ha hb =
-    absurd (Negative-Heavy draft first totals number sample y x hb ha)
-one_sample_fault draft first totals number sample (Heavy x) (Depth y) named known ha hb =
-    absurd (Depth-Heavy draft first totals number sample y x hb ha)
-one_sample_fault draft first totals number sample (Heavy x) (Heavy y) named known ha hb = ap Heavy (ha.0 ∙ sym hb.0)
-one_sample_fault draft first totals number sample (Heavy x) NoMemory named known ha hb = absurd (known refl)
+one_sample_fault draft first totals number sample fault other named known ha hb =
+    elim (as_kind draft first totals number sample fault named ha) [
+      | inl (is, none) ↦ elim (as_kind draft first totals number sample other known hb) [
+        | inl (same, nothing) ↦ is ∙ sym same
+        | inr (inl (same, weights, are, deep)) ↦ absurd (none weights are)
+        | inr (inr (same, weights, are, low)) ↦ absurd (none weights are)
+      ]
+      | inr (inl (is, weights, are, deep)) ↦ elim (as_kind draft first totals number sample other known hb) [
+        | inl (same, none) ↦ absurd (none weights are)
+        | inr (inl (same, more, these, deeper)) ↦ is ∙ sym same
+        | inr (inr (same, more, these, low)) ↦ absurd (omega (arith, deep, low))
+      ]
+      | inr (inr (is, weights, are, low)) ↦ elim (as_kind draft first totals number sample other known hb) [
+        | inl (same, none) ↦ absurd (none weights are)
+        | inr (inl (same, more, these, deep)) ↦ absurd (omega (arith, deep, low))
+        | inr (inr (same, more, these, lower)) ↦ is ∙ sym same
+      ]
+    ]
 
 -- ---- the first sample with a fault
 
@@ -87,19 +81,13 @@ one_standing most draft choice fault other named known a b =
       | inl same ↦
           let index = same_first draft choice b.first a.first b.batch.width a.batch.width b.is_chosen a.is_chosen in
           let count = same_count draft choice b.first a.first b.batch.width a.batch.width b.is_chosen a.is_chosen in
-          let own = subst (λ ss. AreRowsOfSamples draft a.first a.batch.width ss b.batch.rows) (sym same.0)
-          (rows_of_choice draft choice b.first b.batch.width a.first a.batch.width b.before b.batch.rows
-          b.is_chosen a.is_chosen b.rows_samples) in
+          let own = rw (← same.0) at (rows_of_choice draft choice b.first b.batch.width a.first a.batch.width
+          b.before b.batch.rows b.is_chosen a.is_chosen b.rows_samples) in
           let rows =
           AreRowsOfSamples-same draft a.first a.batch.width a.before b.batch.rows a.batch.rows own a.rows_samples in
           let batch : b.batch ≡ a.batch = λ i. record { width = count i; rows = rows i } in
-          let totals = totals_same a.batch b.totals a.totals
-          (subst (λ (some : BatchState). AreTotals some b.totals) batch b.are_totals) a.are_totals in
-          let here : IsSampleFault draft a.first a.totals (length a.before) a.sample other =
-          subst (λ s. IsSampleFault draft a.first a.totals (length a.before) s other) (sym same.1)
-          (subst (λ ss. IsSampleFault draft a.first a.totals (length ss) b.sample other) (sym same.0)
-          (subst (λ ts. IsSampleFault draft a.first ts (length b.before) b.sample other) totals
-          (subst (λ f. IsSampleFault draft f b.totals (length b.before) b.sample other) index b.there))) in
+          let totals = totals_same a.batch b.totals a.totals (rw batch at b.are_totals) a.are_totals in
+          let here = rw (index, totals, ← same.0, ← same.1) at b.there in
           one_sample_fault draft a.first a.totals (length a.before) a.sample fault other named known a.there here
       | inr (inl within) ↦ absurd (known (earlier_fault most draft choice other fault b a within.0 within.1))
       | inr (inr within) ↦ absurd (named (earlier_fault most draft choice fault other a b within.0 within.1))
@@ -107,31 +95,9 @@ one_standing most draft choice fault other named known a b =
   where
     totals_same : (batch : BatchState) (one other : List ℕ) → AreTotals batch one → AreTotals batch other → one ≡ other
     totals_same batch one other a b =
-        same_values one other (a.width ∙ sym b.width) (λ value lt. a.each value ∙ sym (b.each value))
+        same_number_lists one other (a.width ∙ sym b.width) (λ value lt. a.each value ∙ sym (b.each value))
 
 -- ---- the first fault of a profile
-
-none_some : {A : Type 0} → (option : Option A) (item : A) → option ≡ None → option ≡ Some item → ⊥
-none_some option item none some = false≢true (ap is_some (sym none ∙ some))
-
--- more values than are allowed
-abbrev IsTooWide : ℕ → Draft → ValueChoice → BatchFault → Type 0
-IsTooWide most draft choice fault = (count : ℕ)
-    × (first : ℕ) × (fault ≡ Width count) × (chosen_types_of draft choice ≡ Some (first, count)) × (most < count)
-
--- no value, too many, or a fault that stands at a sample
-abbrev IsNamed : ℕ → Draft → ValueChoice → BatchFault → Type 0
-IsNamed most draft choice fault = ((fault ≡ NoValue) × (chosen_types_of draft choice ≡ None))
-    ⊎ (IsTooWide most draft choice fault ⊎ StandsAtSample most draft choice fault)
-
-as_named : (most : ℕ) (draft : Draft) (choice : ValueChoice) (fault : BatchFault)
-    → fault ≢ NoMemory → IsFirstFault most draft choice fault → IsNamed most draft choice fault
-as_named most draft choice NoValue named h = inl (refl, h)
-as_named most draft choice (Width count) named (first, is, many) = inr (inl (count, first, refl, is, many))
-as_named most draft choice (Negative at) named h = inr (inr h)
-as_named most draft choice (Depth at) named h = inr (inr h)
-as_named most draft choice (Heavy at) named h = inr (inr h)
-as_named most draft choice NoMemory named h = absurd (named refl)
 
 too_wide : (most : ℕ) (draft : Draft) (choice : ValueChoice) (fault other : BatchFault)
     → IsTooWide most draft choice fault → StandsAtSample most draft choice other → ⊥
@@ -144,14 +110,6 @@ IsFirstFault-same most draft choice fault other named known ha hb =
     grind (arith, common_steps, same_count, one_standing, none_some, as_named, too_wide)
 
 -- ---- what is answered where there is a first fault
-
-memory_or_named : (fault : BatchFault) → (fault ≡ NoMemory) ⊎ (fault ≢ NoMemory)
-memory_or_named NoValue = inr (λ e. cc)
-memory_or_named (Width count) = inr (λ e. cc)
-memory_or_named (Negative at) = inr (λ e. cc)
-memory_or_named (Depth at) = inr (λ e. cc)
-memory_or_named (Heavy at) = inr (λ e. cc)
-memory_or_named NoMemory = inl refl
 
 -- what is answered is of a batch of so many values at most
 pub only_first_fault : {T : Type 0} (P : T → Type 0) (most : ℕ) (draft : Draft) (choice : ValueChoice)

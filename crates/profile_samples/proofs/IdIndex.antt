@@ -1,5 +1,5 @@
 -- Where ids stand.
-use Rattle.std.proofs.Common.{ℕ, ◌≡◌, ◌≢◌, ◌+◌, ◌<◌, ◌≤◌, ◌∙◌, ap, cond, eqb, length, List, Some, None, Option, subst}
+use Rattle.std.proofs.Common.{ℕ, ◌≡◌, ◌≢◌, ◌+◌, ◌<◌, ◌≤◌, ◌∙◌, ap, cond, eqb, length, List, Some, None, Option}
 use Rattle.std.proofs.Common.{sym, inl, inr, arith}
 use Rattle.std.specs.Prelude.{MatchOption, slice_get, unwrap_or}
 use Rattle.std.proofs.lemmas.Bool.{cases_eq, eq-eqb, ne_eqb}
@@ -17,13 +17,8 @@ pub indices_more : (ids : List ℕ) (before after : ℕ → Option ℕ) (at id :
     → ((other : ℕ) → after other ≡ cond (eqb id other) (Some at) (before other))
     → AreIndicesOfFirst ids before at → AreIndicesOfFirst ids after (at + 1)
 indices_more ids before after at id stands put indices other = elim (cases_eq id other) [
-  | inl same ↦ subst
-      (λ o. MatchOption o ((k : ℕ) → k < at + 1 → slice_get ids k ≢ Some other) (λ k. slice_get ids k ≡ Some other))
-      (sym (put other ∙ ap (λ b. cond b (Some at) (before other)) (eq-eqb id other same))) (stands ∙ ap Some same)
-  | inr ne ↦ subst
-      (λ o. MatchOption o ((k : ℕ) → k < at + 1 → slice_get ids k ≢ Some other) (λ k. slice_get ids k ≡ Some other))
-      (sym (put other ∙ ap (λ b. cond b (Some at) (before other)) (ne_eqb id other ne)))
-      (further (before other) (indices other) ne)
+  | inl same ↦ rw (put other, eq-eqb id other same) (stands ∙ ap Some same)
+  | inr ne ↦ rw (put other, ne_eqb id other ne) (further (before other) (indices other) ne)
 ]
   where
     further : (found : Option ℕ)

@@ -1,7 +1,6 @@
 -- What is answered for a profile's samples decides what its rows add up to.
 use Rattle.std.proofs.lemmas.Grind.{common_steps}
-use Rattle.std.proofs.Common.{◌≡◌, ℕ, ◌≤◌, [], List, ap, sym, ◌∙◌, get_or, length, map}
-use Rattle.std.proofs.Common.{subst, arith}
+use Rattle.std.proofs.Common.{◌≡◌, ℕ, [], List, ap, sym, ◌∙◌, get_or, length, map, arith}
 use Rattle.std.specs.Prelude.{Result, Ok, Err, MatchResult, Some, position}
 use Rattle.std.specs.Str.{bytes_eq}
 use Rattle.std.proofs.lemmas.List.{get_or-map, length-map}
@@ -44,8 +43,8 @@ pub only_sample_totals : (draft : Draft) (choice : ValueChoice) (outcome : Resul
     → MatchResult outcome (AreTotalsOfSamples draft choice) (λ fault. IsFirstStacksFault draft choice fault)
     → (rows : List WeightedStack)
     → AreStacksOf draft choice rows → MatchResult outcome (AreTotalsOf rows) (λ fault. fault ≡ batch.NoMemory)
-only_sample_totals draft choice (Ok totals) read rows this = subst
-    (λ some. AreTotalsOf some totals) (AreStacksOf-same draft choice read.rows rows read.sampled this) read.totals_rows
+only_sample_totals draft choice (Ok totals) read rows this =
+    rw (AreStacksOf-same draft choice read.rows rows read.sampled this) at read.totals_rows
 only_sample_totals draft choice (Err fault) read rows this = no_fault draft choice rows fault this read
 
 -- ---- rows by the lists of their locations
@@ -71,7 +70,7 @@ stack_found draft lists rows ids at are is =
       sym (get_or-map stack_in rows at (record { stack = []; weight = 0 }) [] (omega (arith, many, inside)))
           ∙ ap (λ stacks. get_or stacks at []) are.stacks
           ∙ get_or-map (stack_at draft) lists at no_text [] inside ∙ ap (sample_stack_of draft) own,
-      subst (λ list. length (sample_stack_of draft list) ≤ 65535) own (are.depths at no_text inside),
+      rw own at (are.depths at no_text inside),
     )
 
 pub AreRowsAt-added : (draft : Draft) (lists : List (Bor (List ℕ))) (rows : List WeightedStack) (at weight : ℕ)

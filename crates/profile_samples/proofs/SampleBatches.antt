@@ -1,20 +1,22 @@
 -- What batch the samples of a profile give.
 use Rattle.std.proofs.Common.{◌≡◌, ℕ, zero, suc, ◌+◌, ◌^◌, ◌<◌, ◌≤◌, List, [], ◌∷◌, ◌++◌, length, take, drop, get_or}
-use Rattle.std.proofs.Common.{refl, sym, ap, ◌∙◌, inl, inr, subst, arith}
-use Rattle.std.specs.Prelude.{ℤ, pos, Some, Result, Ok, Err, MatchResult, slice_get, is_some}
+use Rattle.std.proofs.Common.{◌≢◌, ◌⊎◌, refl, sym, ap, ◌∙◌, inl, inr, subst, arith}
+use Rattle.std.specs.Prelude.{ℤ, pos, Option, Some, None, Result, Ok, Err, MatchResult, slice_get, is_some}
 use Rattle.std.specs.List.{All, AllByRecursion}
 use Rattle.std.proofs.Math.Seq.{drop-cons}
 use Rattle.std.proofs.lemmas.Bool.{false≢true}
-use Rattle.std.proofs.lemmas.Grind.{common_steps, take_at_read}
-use Rattle.std.proofs.lemmas.List.{map-append, take_all, take-append-drop}
-use Rattle.std.proofs.lemmas.List.Elements.{All-append, All-from_recursion, recursion_from_All}
+use Rattle.std.proofs.lemmas.Option.{get_or_from_slice_get, slice_get_within}
+use Rattle.std.proofs.lemmas.Result.{MatchResult-weaker}
+use Rattle.std.proofs.lemmas.Grind.{common_steps}
+use Rattle.std.proofs.lemmas.List.{map-append, take_all, take-append-drop, take_more}
+use Rattle.std.proofs.lemmas.List.Elements.{All-map, All-push, recursion_from_All}
 use Rattle.std.proofs.lemmas.List.Sums.{sum_by-append, sum_by-cons}
 use Rattle.pprof_profile.specs.declared.messages.Draft.{Draft}
 use Rattle.pprof_profile.specs.declared.messages.Sample.{Sample}
 use Rattle.profile_rows.specs.declared.weighted_stacks.WeightedStack.{WeightedStack}
 use Rattle.profile_rows.specs.Rows.{total_of}
 use Rattle.profile_rows.specs.Values.{AreTotals, BatchState, HasRoom, IsBatch, Row, rows_at, single, single_batch}
-use Rattle.profile_rows.specs.Values.{singles, value_of, weighing}
+use Rattle.profile_rows.specs.Values.{singles, value_of}
 use Rattle.profile_rows.proofs.RowValues.{total_of-past, total_of-push}
 use Rattle.profile_samples.specs.declared.sampling.BatchFault.{BatchFault}
 use Rattle.profile_samples.specs.declared.sampling.BatchFault.TheVariants as faults
@@ -51,10 +53,7 @@ faultless_among draft first batch totals number before sample after rows fault a
     let same : front ≡ batch.rows =
     AreRowsOfSamples-same draft first batch.width before front batch.rows own_before known in
     faultless draft first totals number sample row fault
-    (subst (λ w. IsRowOfSample draft first w sample row) (sym are.width) own)
-    (λ value. subst (λ earlier. earlier + value_of value row.weights < 2 ^ 63)
-    (ap (λ earlier. total_of (rows_at value earlier)) same ∙ sym (are.each value))
-    (room_in value front row back rows cut (fits value))) there
+    (rw are.width own) (λ value. rw (are.each value, ← same) (room_in value front row back rows cut (fits value))) there
 
 -- the rows of another batch of the same choice
 pub rows_of_choice : (draft : Draft) (choice : ValueChoice) (first width other more : ℕ) (samples : List Sample)
@@ -69,20 +68,53 @@ stands_nowhere : (most : ℕ) (draft : Draft) (choice : ValueChoice) (batch : Ba
     → IsBatchOf draft choice batch → StandsAtSample most draft choice fault → fault ≡ faults.NoMemory
 stands_nowhere most draft choice batch fault this stands = grind (arith, common_steps, faultless_among, rows_of_choice)
 
+-- an option is not both
+pub none_some : {A : Type 0} → (option : Option A) (item : A) → option ≡ None → option ≡ Some item → ⊥
+none_some option item none some = false≢true (ap is_some (sym none ∙ some))
+
+-- more values than are allowed
+abbrev pub IsTooWide : ℕ → Draft → ValueChoice → BatchFault → Type 0
+IsTooWide most draft choice fault = (count : ℕ)
+    × (first : ℕ) × (fault ≡ faults.Width count) × (chosen_types_of draft choice ≡ Some (first, count)) × (most < count)
+
+-- no value, too many, or a fault that stands at a sample
+abbrev pub IsNamed : ℕ → Draft → ValueChoice → BatchFault → Type 0
+IsNamed most draft choice fault = ((fault ≡ faults.NoValue) × (chosen_types_of draft choice ≡ None))
+    ⊎ (IsTooWide most draft choice fault ⊎ StandsAtSample most draft choice fault)
+
+-- a first fault is want of memory or one of these
+pub as_named : (most : ℕ) (draft : Draft) (choice : ValueChoice) (fault : BatchFault)
+    → fault ≢ faults.NoMemory → IsFirstFault most draft choice fault → IsNamed most draft choice fault
+as_named most draft choice faults.NoValue named h = inl (refl, h)
+as_named most draft choice (faults.Width count) named (first, is, many) = inr (inl (count, first, refl, is, many))
+as_named most draft choice (faults.Negative at) named h = inr (inr h)
+as_named most draft choice (faults.Depth at) named h = inr (inr h)
+as_named most draft choice (faults.Heavy at) named h = inr (inr h)
+as_named most draft choice faults.NoMemory named h = absurd (named refl)
+
+-- a fault is want of memory or another
+pub memory_or_named : (fault : BatchFault) → (fault ≡ faults.NoMemory) ⊎ (fault ≢ faults.NoMemory)
+memory_or_named faults.NoValue = inr (λ e. cc)
+memory_or_named (faults.Width count) = inr (λ e. cc)
+memory_or_named (faults.Negative at) = inr (λ e. cc)
+memory_or_named (faults.Depth at) = inr (λ e. cc)
+memory_or_named (faults.Heavy at) = inr (λ e. cc)
+memory_or_named faults.NoMemory = inl refl
+
 pub IsFirstFault-batch : (most : ℕ) (draft : Draft) (choice : ValueChoice) (batch : BatchState) (fault : BatchFault)
     → batch.width ≤ most → IsBatchOf draft choice batch → IsFirstFault most draft choice fault
     → fault ≡ faults.NoMemory
-IsFirstFault-batch most draft choice batch faults.NoValue few this h =
-    absurd (false≢true (sym (ap is_some (sym this.is_chosen ∙ h))))
-IsFirstFault-batch most draft choice batch (faults.Width count) few this (first, is, many) =
-    grind (arith, common_steps, same_count)
-IsFirstFault-batch most draft choice batch (faults.Negative at) few this h =
-    stands_nowhere most draft choice batch (faults.Negative at) this h
-IsFirstFault-batch most draft choice batch (faults.Depth at) few this h =
-    stands_nowhere most draft choice batch (faults.Depth at) this h
-IsFirstFault-batch most draft choice batch (faults.Heavy at) few this h =
-    stands_nowhere most draft choice batch (faults.Heavy at) this h
-IsFirstFault-batch most draft choice batch faults.NoMemory few this h = refl
+IsFirstFault-batch most draft choice batch fault few this h =
+    elim (memory_or_named fault) [
+      | inl late ↦ late
+      | inr named ↦ elim (as_named most draft choice fault named h) [
+        | inl (is, none) ↦ absurd (none_some (chosen_types_of draft choice) _ none this.is_chosen)
+        | inr (inl (count, first, is, chosen, many)) ↦
+            let same = same_count draft choice first this.first count batch.width chosen this.is_chosen in
+            absurd (omega (arith, same, many, few))
+        | inr (inr stands) ↦ stands_nowhere most draft choice batch fault this stands
+      ]
+    ]
 
 -- one profile and choice have one batch
 pub IsBatchOf-same : (draft : Draft) (choice : ValueChoice) (batch other : BatchState)
@@ -117,8 +149,8 @@ memory_first draft choice first is = (first, 1, is, omega arith)
 pub first_of_standing : {T : Type 0} (P : T → Type 0) (most : ℕ) (draft : Draft) (choice : ValueChoice)
     (outcome : Result T BatchFault) → MatchResult outcome P (λ fault. StandsAtSample most draft choice fault)
     → MatchResult outcome P (λ fault. IsFirstFault most draft choice fault)
-first_of_standing P most draft choice (Ok made) this = this
-first_of_standing P most draft choice (Err fault) this = stands_first most draft choice fault this
+first_of_standing P most draft choice outcome this =
+    MatchResult-weaker outcome this (λ made p. p) (stands_first most draft choice)
 
 -- and so is what work on rows of one value ends with
 work_first : (draft : Draft) (choice : ValueChoice) (fault : BatchFault)
@@ -130,8 +162,7 @@ work_first draft choice fault (inr (late, rows, sampled)) =
 pub first_of_work : {T : Type 0} (P : T → Type 0) (draft : Draft) (choice : ValueChoice) (outcome : Result T BatchFault)
     → MatchResult outcome P (λ fault. IsStacksWorkFault draft choice fault)
     → MatchResult outcome P (λ fault. IsFirstFault 1 draft choice fault)
-first_of_work P draft choice (Ok made) this = this
-first_of_work P draft choice (Err fault) this = work_first draft choice fault this
+first_of_work P draft choice outcome this = MatchResult-weaker outcome this (λ made p. p) (work_first draft choice)
 
 -- ---- rows of one value
 
@@ -140,11 +171,7 @@ rows_at-singles [] = refl
 rows_at-singles (row ∷ rows) = ap (λ rest. row ∷ rest) (rows_at-singles rows)
 
 pub widths-singles : (rows : List WeightedStack) → All (λ row. length row.weights ≡ 1) (singles rows)
-widths-singles rows = All-from_recursion (λ (row : Row). length row.weights ≡ 1) (singles rows) (each rows)
-  where
-    each : (rows : List WeightedStack) → AllByRecursion (λ (row : Row). length row.weights ≡ 1) (singles rows)
-    each [] = tt
-    each (row ∷ rows) = (refl, each rows)
+widths-singles rows = All-map (λ (row : Row). length row.weights ≡ 1) single rows (λ k d lt. refl)
 
 -- the total of rows of one value
 pub single_totals : (rows : List WeightedStack) → AreTotals (single_batch rows) (total_of rows ∷ [])
@@ -181,17 +208,12 @@ AreStacksOf-same draft choice rows others one two =
 singles_at : (rows : List Row) → AllByRecursion (λ (row : Row). length row.weights ≡ 1) rows
     → singles (rows_at 0 rows) ≡ rows
 singles_at [] all = refl
-singles_at (row ∷ rows) all =
-    ap (λ r. r ∷ singles (rows_at 0 rows)) (same row all.0) ∙ ap (λ rest. row ∷ rest) (singles_at rows all.1)
+singles_at (row ∷ rows) all = rw (alone row.weights all.0, singles_at rows all.1) refl
   where
     alone : (weights : List ℕ) → length weights ≡ 1 → value_of 0 weights ∷ [] ≡ weights
     alone [] one = absurd (omega (arith, one))
     alone (weight ∷ []) one = refl
     alone (weight ∷ next ∷ weights) one = absurd (omega (arith, one))
-
-    same : (row : Row) → length row.weights ≡ 1 → single (weighing 0 row) ≡ row
-    same row one = ap (λ ws. let made : Row = record { stack = row.stack; weights = ws } in made)
-        (alone row.weights one)
 
 -- a batch of one value has the rows of that value
 pub batch_of_one : (draft : Draft) (choice : ValueChoice) (batch : BatchState) → IsBatchOf
@@ -214,32 +236,27 @@ pub record IsBatchSoFar (draft : Draft) (first width count : ℕ) (batch : Batch
   pub is : IsBatch batch
 
 pub IsBatchSoFar-row : (draft : Draft) (first width count : ℕ) (sample : Sample) (batch : BatchState)
-    (row : Row) (next : BatchState) → count < length draft.samples → sample ≡ get_or draft.samples count sample
+    (row : Row) (next : BatchState) → slice_get draft.samples count ≡ Some sample
     → IsBatchSoFar draft first width count batch
     → IsRowOfSample draft first batch.width sample row → ((value : ℕ) → HasRoom batch row.weights value)
     → next ≡ record { width = batch.width; rows = batch.rows ++ row ∷ [] }
     → IsBatchSoFar draft first width (count + 1) next
-IsBatchSoFar-row draft first width count sample batch row next lt item so_far this room more =
+IsBatchSoFar-row draft first width count sample batch row next read so_far this room more =
     let front : take (count + 1) draft.samples ≡ take count draft.samples ++ sample ∷ [] =
-    (take_at_read draft.samples count sample lt).1 ∙ ap (λ s. take count draft.samples ++ s ∷ []) (sym item) in
-    subst (IsBatchSoFar draft first width (count + 1)) (sym more) (record {
+    take_more draft.samples count sample (slice_get_within draft.samples count sample read)
+    ∙ ap (λ s. take count draft.samples ++ s ∷ []) (get_or_from_slice_get draft.samples count sample sample read) in
+    rw more (record {
       wide = so_far.wide;
-      known = subst (λ ss. AreRowsOfSamples draft first batch.width ss (batch.rows ++ row ∷ [])) (sym front)
-          (AreRowsOfSamples-push draft first batch.width
+      known = rw front (AreRowsOfSamples-push draft first batch.width
           (take count draft.samples) batch.rows sample row so_far.known this);
       is = record {
         some = so_far.is.some;
         few = so_far.is.few;
-        widths = All-append (λ (r : Row). length r.weights ≡ batch.width) batch.rows
-            (row ∷ []) so_far.is.widths (last batch.width row this.count);
+        widths = All-push (λ (r : Row). length r.weights ≡ batch.width) batch.rows row so_far.is.widths this.count;
         fits = λ value. let total =
             total_of-push value batch.rows row in let fits = room value in omega (arith, total, fits);
       };
     })
-  where
-    last : (width : ℕ) (row : Row) → length row.weights ≡ width → All (λ (r : Row). length r.weights ≡ width) (row ∷ [])
-    last width row size zero d lt = size
-    last width row size (suc k) d lt = absurd (omega (arith, lt))
 
 pub IsBatchSoFar-end : (draft : Draft) (choice : ValueChoice) (first width count : ℕ) (batch : BatchState)
     → chosen_types_of draft choice ≡ Some (first, width)
@@ -250,14 +267,15 @@ IsBatchSoFar-end draft choice first width count batch is_chosen whole so_far = g
 -- a sample with a fault is the first one
 pub IsBatchSoFar-stands : (most : ℕ) (draft : Draft) (choice : ValueChoice) (first width count : ℕ) (sample : Sample)
     (batch : BatchState) (totals : List ℕ) (fault : BatchFault) → chosen_types_of draft choice ≡ Some (first, width)
-    → width ≤ most → count < length draft.samples → sample ≡ get_or draft.samples count sample
+    → width ≤ most → slice_get draft.samples count ≡ Some sample
     → IsBatchSoFar draft first width count batch → AreTotals batch totals
     → IsSampleFault draft first totals count sample fault → StandsAtSample most draft choice fault
-IsBatchSoFar-stands most draft choice first width count sample batch totals fault is_chosen few lt item so_far are
-    there =
+IsBatchSoFar-stands most draft choice first width count sample batch totals fault is_chosen few read so_far are there =
+    let lt = slice_get_within draft.samples count sample read in
     let long : length (take count draft.samples) ≡ count = grind (arith, common_steps) in
     let back : drop count draft.samples ≡ sample ∷ drop (suc count) draft.samples =
-    drop-cons draft.samples count sample lt ∙ ap (λ s. s ∷ drop (suc count) draft.samples) (sym item) in
+    drop-cons draft.samples count sample lt ∙ ap (λ s. s ∷ drop (suc count) draft.samples)
+    (get_or_from_slice_get draft.samples count sample sample read) in
     let wide = so_far.wide in
     record {
       first = first;
@@ -281,24 +299,24 @@ abbrev pub AreStacksSoFar : Draft → ℕ → ℕ → List WeightedStack → Typ
 AreStacksSoFar draft first count rows = IsBatchSoFar draft first 1 count (single_batch rows)
 
 pub AreStacksSoFar-row : (draft : Draft) (first count : ℕ) (sample : Sample) (rows : List WeightedStack)
-    (row : WeightedStack) → count < length draft.samples → sample ≡ get_or draft.samples count sample
+    (row : WeightedStack) → slice_get draft.samples count ≡ Some sample
     → AreStacksSoFar draft first count rows → IsRowOfSample draft first 1 sample (single row)
     → total_of rows + row.weight < 2 ^ 63 → AreStacksSoFar draft first (count + 1) (rows ++ row ∷ [])
-AreStacksSoFar-row draft first count sample rows row lt item so_far this fits =
+AreStacksSoFar-row draft first count sample rows row read so_far this fits =
     IsBatchSoFar-row draft first 1 count sample (single_batch rows) (single row) (single_batch (rows ++ row ∷ []))
-    lt item so_far this (has_room (single_batch rows) (total_of rows ∷ []) (row.weight ∷ []) (single_totals rows)
+    read so_far this (has_room (single_batch rows) (total_of rows ∷ []) (row.weight ∷ []) (single_totals rows)
     (one_value_room (total_of rows) row.weight fits))
     (ap (λ some. let batch : BatchState = record { width = 1; rows = some } in batch)
     (map-append single rows (row ∷ [])))
 
 pub AreStacksSoFar-stands : (draft : Draft) (choice : ValueChoice) (first count : ℕ) (sample : Sample)
     (rows : List WeightedStack) (fault : BatchFault) → chosen_types_of draft choice ≡ Some (first, 1)
-    → count < length draft.samples → sample ≡ get_or draft.samples count sample
+    → slice_get draft.samples count ≡ Some sample
     → AreStacksSoFar draft first count rows → IsSampleFault draft first (total_of rows ∷ []) count sample fault
     → StandsAtSample 1 draft choice fault
-AreStacksSoFar-stands draft choice first count sample rows fault is_chosen lt item so_far there =
+AreStacksSoFar-stands draft choice first count sample rows fault is_chosen read so_far there =
     IsBatchSoFar-stands 1 draft choice first 1 count sample (single_batch rows) (total_of rows ∷ []) fault is_chosen
-    (omega arith) lt item so_far (single_totals rows) there
+    (omega arith) read so_far (single_totals rows) there
 
 pub AreStacksSoFar-fits : (draft : Draft) (first count : ℕ) (rows : List WeightedStack)
     → AreStacksSoFar draft first count rows → total_of rows < 2 ^ 63

@@ -1,8 +1,8 @@
 -- What rows the samples of a profile give.
-use Rattle.std.proofs.lemmas.Grind.{common_steps}
+use Rattle.std.proofs.lemmas.Grind.{common_steps, same_number_lists}
 use Rattle.std.proofs.Common.{◌≡◌, ℕ, zero, suc, ◌+◌, ◌^◌, ◌<◌, ◌≤◌, Bool, true, false, List, [], ◌∷◌, ◌++◌, length}
-use Rattle.std.proofs.Common.{get_or, ◌↔◌, refl, sym, ap, ◌∙◌, subst, arith}
-use Rattle.std.proofs.lemmas.Option.{get_or_from_slice_get, slice_get_within}
+use Rattle.std.proofs.Common.{◌↔◌, refl, sym, ap, ◌∙◌, arith}
+use Rattle.std.proofs.lemmas.Option.{some_pair_parts}
 use Rattle.std.specs.Prelude.{ℤ, pos, negsuc, Option, Some, None, slice_get, unwrap_or, is_some, ◌==◌}
 use Rattle.std.specs.Str.{bytes_eq}
 use Rattle.std.specs.Bool.{IsTrue}
@@ -20,9 +20,8 @@ use Rattle.profile_samples.specs.declared.sampling.BatchFault.TheVariants.{NoMem
 use Rattle.profile_samples.specs.declared.sampling.ValueChoice.{ValueChoice}
 use Rattle.profile_samples.specs.declared.sampling.ValueChoice.TheVariants.{Default, Named, All}
 use Rattle.profile_samples.specs.Batches.{AreRowsOfSamples}
-use Rattle.profile_samples.specs.Samples.{HasWeights, IsFitFault, IsRowOfSample, IsSampleFault, all_of}
-use Rattle.profile_samples.specs.Samples.{chosen_types_of, default_type, frames_of_ids}
-use Rattle.profile_samples.specs.Samples.{last_index, one_from, or_last, sample_stack_of}
+use Rattle.profile_samples.specs.Samples.{HasWeights, IsFitFault, IsRowOfSample, IsSampleFault, all_of, chosen_types_of}
+use Rattle.profile_samples.specs.Samples.{default_type, frames_of_ids, last_index, one_from, or_last, sample_stack_of}
 use Rattle.profile_samples.specs.Samples.{string_at, type_named}
 use Rattle.profile_samples.proofs.ItemsById.{rule_holds}
 
@@ -47,38 +46,25 @@ default_within : (draft : Draft) (chosen : ℕ)
     → default_type draft ≡ Some chosen → chosen < length draft.sample_types
 default_within draft chosen e = grind (arith, common_steps, named_within, last_within, or_last_within)
 
-first_in : Option (ℕ × ℕ) → ℕ
-first_in None = 0
-first_in (Some pair) = pair.0
-
-count_in : Option (ℕ × ℕ) → ℕ
-count_in None = 0
-count_in (Some pair) = pair.1
-
 pub same_first : (draft : Draft) (choice : ValueChoice) (first other width more : ℕ) → chosen_types_of draft choice
     ≡ Some (first, width) → chosen_types_of draft choice ≡ Some (other, more) → first ≡ other
-unfolding first_in
-same_first draft choice first other width more one two = ap first_in (sym one ∙ two)
+same_first draft choice first other width more one two =
+    (some_pair_parts first other width more (sym one ∙ two)).0
 
 pub same_count : (draft : Draft) (choice : ValueChoice) (first other width more : ℕ) → chosen_types_of draft choice
     ≡ Some (first, width) → chosen_types_of draft choice ≡ Some (other, more) → width ≡ more
-unfolding count_in
-same_count draft choice first other width more one two = ap count_in (sym one ∙ two)
+same_count draft choice first other width more one two =
+    (some_pair_parts first other width more (sym one ∙ two)).1
 
 one_within : (count : ℕ) (found : Option ℕ) (first width : ℕ) → ((chosen : ℕ) → found ≡ Some chosen → chosen < count)
     → one_from found ≡ Some (first, width) → first + width ≤ count
-unfolding first_in count_in
 one_within count None first width h e = absurd (false≢true (ap is_some e))
 one_within count (Some chosen) first width h e =
-    let lt = h chosen refl in
-    let index : chosen ≡ first = ap first_in e in
-    let one : 1 ≡ width = ap count_in e in
-    omega (arith, lt, index, one)
+    grind (arith, h chosen refl, some_pair_parts chosen first 1 width e)
 
 all_within : (count first width : ℕ) → all_of count ≡ Some (first, width) → first + width ≤ count
-unfolding first_in count_in
 all_within zero first width e = absurd (false≢true (ap is_some e))
-all_within (suc more) first width e = grind (arith, common_steps, first_in, count_in)
+all_within (suc more) first width e = grind (arith, some_pair_parts 0 first (suc more) width e)
 
 -- the values that are taken are some of those that there are
 pub chosen_types_within : (draft : Draft) (choice : ValueChoice) (first width : ℕ)
@@ -93,24 +79,20 @@ chosen_types_within draft All first width e = all_within (length draft.sample_ty
 values_match : (draft : Draft) → IsValidDraft draft → each_has_values (length draft.sample_types) draft.samples ≡ true
 values_match draft valid = grind (arith, common_steps, rule_holds)
 
-each_matches : (count : ℕ) (samples : List Sample) (k : ℕ) (d : Sample)
-    → each_has_values count samples ≡ true → k < length samples → length (get_or samples k d).values ≡ count
-each_matches count [] k d all lt = absurd (omega (arith, lt))
-each_matches count (sample ∷ samples) zero d all lt = eqb-true
-    (length sample.values) count (and_parts (length sample.values == count) (each_has_values count samples) all).0
-each_matches count (sample ∷ samples) (suc k) d all lt = each_matches count samples k d
-    (and_parts (length sample.values == count) (each_has_values count samples) all).1 (omega (arith, lt))
+each_matches : (count : ℕ) (samples : List Sample) (at : ℕ) (sample : Sample)
+    → each_has_values count samples ≡ true → slice_get samples at ≡ Some sample → length sample.values ≡ count
+each_matches count [] at sample all read = cc
+each_matches count (first ∷ samples) zero sample all read = grind (arith, common_steps, and_parts, eqb-true)
+each_matches count (first ∷ samples) (suc at) sample all read = each_matches count samples at sample
+    (and_parts (length first.values == count) (each_has_values count samples) all).1 read
 
--- so each has a value for each sample type
-values_of_sample : (draft : Draft) (count : ℕ) (sample : Sample) → IsValidDraft draft → count < length draft.samples
-    → sample ≡ get_or draft.samples count sample → length sample.values ≡ length draft.sample_types
-values_of_sample draft count sample valid lt item = grind (arith, common_steps, values_match, each_matches)
-
--- and those that are taken
-pub has_values : (draft : Draft) (first width count : ℕ) (sample : Sample) → IsValidDraft draft → first
-    + width ≤ length draft.sample_types → count < length draft.samples → sample ≡ get_or draft.samples count sample
+-- so each has the values that are taken
+pub has_values : (draft : Draft) (first width at : ℕ) (sample : Sample) → IsValidDraft draft
+    → first + width ≤ length draft.sample_types → slice_get draft.samples at ≡ Some sample
     → first + width ≤ length sample.values
-has_values draft first width count sample valid within lt item = grind (arith, common_steps, values_of_sample)
+has_values draft first width at sample valid within read =
+    let same = each_matches (length draft.sample_types) draft.samples at sample (values_match draft valid) read in
+    omega (arith, within, same)
 
 -- ---- rows
 
@@ -121,39 +103,18 @@ pub row_of_sample : (draft : Draft) (first width : ℕ) (sample : Sample) (weigh
 row_of_sample draft first width sample weights count values deep =
     record { stack = refl; depth = deep; count = count; values = values }
 
-pub same_values : (a b : List ℕ)
-    → length a ≡ length b → ((value : ℕ) → value < length a → value_of value a ≡ value_of value b) → a ≡ b
-same_values [] [] long h = refl
-same_values [] (y ∷ b) long h = absurd (omega (arith, long))
-same_values (x ∷ a) [] long h = absurd (omega (arith, long))
-same_values (x ∷ a) (y ∷ b) long h =
-    let rest = same_values a b (omega (arith, long)) (λ value lt. h (suc value) (omega (arith, lt))) in
-    ap (λ first. first ∷ a) (h 0 (omega arith)) ∙ ap (λ others. y ∷ others) rest
-
-magnitude : Option ℤ → ℕ
-magnitude None = 0
-magnitude (Some (pos n)) = n
-magnitude (Some (negsuc n)) = 0
-
-is_below : Option ℤ → Bool
-is_below None = false
-is_below (Some (pos n)) = false
-is_below (Some (negsuc n)) = true
-
 -- a value that is a weight isn't below 0
 pub not_below : (value : Option ℤ) (weight below : ℕ) → value ≡ Some (pos weight) → value ≡ Some (negsuc below) → ⊥
-unfolding is_below
-not_below value weight below one other = false≢true (ap is_below (sym one ∙ other))
+not_below value weight below one other = cc
 
 IsRowOfSample-same : (draft : Draft) (first width : ℕ) (sample : Sample) (a b : Row)
     → IsRowOfSample draft first width sample a → IsRowOfSample draft first width sample b → a ≡ b
-unfolding magnitude
 IsRowOfSample-same draft first width sample a b one other =
-    let stacks = one.stack ∙ sym other.stack in
-    let values = same_values a.weights b.weights (one.count ∙ sym other.count)
-    (λ value lt. let size = one.count in ap magnitude
-    (sym (one.values value (omega (arith, lt, size))) ∙ other.values value (omega (arith, lt, size)))) in
-    λ i. record { stack = stacks i; weights = values i }
+    let count = one.count in
+    let same = same_number_lists a.weights b.weights (count ∙ sym other.count)
+    (λ value lt. let here = one.values value (omega (arith, lt, count)) in
+    let there = other.values value (omega (arith, lt, count)) in cc) in
+    let stacks = one.stack ∙ sym other.stack in λ i. record { stack = stacks i; weights = same i }
 
 pub AreRowsOfSamples-same : (draft : Draft) (first width : ℕ) (samples : List Sample) (rows others : List Row)
     → AreRowsOfSamples draft first width samples rows
@@ -163,8 +124,7 @@ AreRowsOfSamples-same draft first width (sample ∷ samples) [] others one other
 AreRowsOfSamples-same draft first width (sample ∷ samples) (row ∷ rows) [] one other = absurd other
 AreRowsOfSamples-same draft first width (sample ∷ samples) (row ∷ rows) (r ∷ others) one other =
     let here = IsRowOfSample-same draft first width sample row r one.0 other.0 in
-    let rest = AreRowsOfSamples-same draft first width samples rows others one.1 other.1 in
-    ap (λ z. z ∷ rows) here ∙ ap (λ z. r ∷ z) rest
+    let rest = AreRowsOfSamples-same draft first width samples rows others one.1 other.1 in cc
 
 pub AreRowsOfSamples-push : (draft : Draft)
     (first width : ℕ) (samples : List Sample) (rows : List Row) (sample : Sample) (row : Row)
@@ -229,7 +189,7 @@ pub IsSampleFault-heavy : (draft : Draft) (first : ℕ) (totals : List ℕ) (num
     → (fault ≡ Heavy number) × (value : ℕ) × (value < length totals) × (2 ^ 63 ≤ value_of value totals
     + value_of value weights) → IsSampleFault draft first totals number sample fault
 IsSampleFault-heavy draft first totals number sample weights fault count values deep (is, value, lt, heavy) =
-    subst (IsSampleFault draft first totals number sample) (sym is) (
+    rw is (
       refl,
       record { stack = sample_stack_of draft sample.location_ids; weights = weights },
       row_of_sample draft first (length totals) sample weights count values deep,
@@ -281,14 +241,10 @@ IsSampleFault-fit draft index earlier number sample weight fit (Width count) is 
 IsSampleFault-fit draft index earlier number sample weight fit (Negative at) is decides h = absurd h
 IsSampleFault-fit draft index earlier number sample weight fit (Depth at) is decides h =
     (h.0, weight ∷ [], one_weight index weight sample.values is, too_deep draft sample.location_ids fit decides h.1)
-IsSampleFault-fit draft index earlier number sample weight fit (Heavy at) is decides h = (
-  h.0,
-  record { stack = sample_stack_of draft sample.location_ids; weights = weight ∷ [] },
-  one_value_row draft index sample weight is (fits_in draft sample.location_ids fit decides h.1),
-  0,
-  omega arith,
-  h.2,
-)
+IsSampleFault-fit draft index earlier number sample weight fit (Heavy at) is decides h =
+    IsSampleFault-heavy draft index (earlier ∷ []) number sample (weight ∷ []) (Heavy at) refl
+    (one_weight index weight sample.values is) (fits_in draft sample.location_ids fit decides h.1)
+    (ap Heavy h.0, 0, omega arith, h.2)
 IsSampleFault-fit draft index earlier number sample weight fit NoMemory is decides h = absurd h
 
 pub one_value_memory : (draft : Draft) (index earlier number : ℕ) (sample : Sample) (weight : ℕ)
@@ -300,11 +256,6 @@ one_value_memory draft index earlier number sample weight is deep fits =
     (one_weight index weight sample.values is) deep (one_value_room earlier weight fits)
 
 -- ---- a pass over the samples, which are lent
-
-pub sample_read : (profile draft : Draft) (at : ℕ) (sample : Sample) → draft ≡ profile
-    → slice_get draft.samples at ≡ Some sample
-    → (sample ≡ get_or profile.samples at sample) × (at < length profile.samples)
-sample_read profile draft at sample same item = grind (arith, common_steps, get_or_from_slice_get, slice_get_within)
 
 pub samples_read : (profile draft : Draft) (at count : ℕ) → draft ≡ profile → count ≡ length draft.samples
     → count ≤ at → length profile.samples ≤ at

@@ -2,7 +2,7 @@
 use Rattle.std.proofs.Common.{◌∙◌}
 use Rattle.profile_rows.specs.TopList.{top_cmp}
 use Rattle.flame_report.specs.Answers.{ranking_of}
-use Rattle.flame_report.proofs.Ranked.{top_cmp-total}
+use Rattle.profile_rows.proofs.Ranking.{top_cmp-total}
 use Rattle.flame_report.proofs.Selected.{ranked_whole}
 use Rattle.flame_report.proofs.top.rank_names.Goals as goal
 

@@ -5,7 +5,7 @@ use Rattle.std.proofs.lemmas.List.Sorted.{ranks_by}
 use Rattle.profile_rows.specs.TopList.{top_cmp}
 use Rattle.flame_report.specs.Answers.{ranking_of}
 use Rattle.profile_rows.specs.declared.frame_totals.FrameTotal.{FrameTotal}
-use Rattle.flame_report.proofs.Ranked.{top_cmp-total}
+use Rattle.profile_rows.proofs.Ranking.{top_cmp-total}
 use Rattle.flame_report.proofs.top.sort_names.Goals as goal
 
 pub returns-clause-sorted : goal.returns-clause-sorted

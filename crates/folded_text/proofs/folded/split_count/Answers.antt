@@ -15,10 +15,8 @@ returns-in_err-stack c =
 pub returns-else-is_numeral : goal.returns-else-is_numeral
 returns-else-is_numeral c = λ stack digits has.
     let (i, j, found, front, back, inside, front_len, back_len) = c.in_ok-stack.ensures.cases in
-    let cut =
-    last_cut c.args.line.now c.in_ok-stack.stack.now c.in_ok-stack.digits.now i j found.0 found.1 front back in
-    let same =
-    HasCount-digits c.args.line.now c.in_ok-stack.stack.now c.in_ok-stack.digits.now stack digits cut.0 cut.1 has in
+    let cut = last_cut c.args.line.now _ _ i j found.0 found.1 front back in
+    let same = HasCount-digits c.args.line.now _ _ stack digits cut.0 cut.1 has in
     let yes : IsTrue c.is_numeral.result = c.is_numeral.ensures.1 (subst (IsNumeral 10) same has.numeral) in
     let no = c.if-is_numeral.false in
     search rules

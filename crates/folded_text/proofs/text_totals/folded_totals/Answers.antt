@@ -9,12 +9,8 @@ use Rattle.folded_text.proofs.text_totals.folded_totals.Goals as goal
 pub returns-clause-counted : goal.returns-clause-counted
 returns-clause-counted c =
     let (rows, read, (merged, same, counted)) = c.in_ok-take_lines.ensures.taken in
-    record {
-      rows = rows;
-      folded = read;
-      totals_rows = AreTotalsOf-merged rows merged c.in_ok-totals.field-0 same
-          (c.in_ok-totals.ensures merged (c.in_ok-count_waiting.ensures.counted merged counted));
-    }
+    let totals = c.in_ok-totals.ensures merged (c.in_ok-count_waiting.ensures.counted merged counted) in
+    record { rows = rows; folded = read; totals_rows = AreTotalsOf-merged rows merged _ same totals }
 
 pub returns-clause-accepted : goal.returns-clause-accepted
 returns-clause-accepted c = only_totals c.args.text.now (Ok _) (returns-clause-counted c)

@@ -1,5 +1,6 @@
 -- The next frame is the same, or none of those that follow is shared.
-use Rattle.std.proofs.Common.{◌≡◌, ◌<◌, [], ℕ, Bool, List, length, map, get_or, true, false, ap, sym, ◌∙◌}
+use Rattle.std.proofs.lemmas.Grind.{common_steps}
+use Rattle.std.proofs.Common.{◌≡◌, ◌<◌, [], ℕ, Bool, List, length, map, get_or, true, false, sym}
 use Rattle.std.proofs.Common.{arith}
 use Rattle.std.proofs.lemmas.Bool.{not-false, not-true}
 use Rattle.std.proofs.lemmas.List.{get_or-map, length-map}
@@ -22,12 +23,7 @@ compared : (names : List (List ℕ)) (texts frames : List (Bor (List ℕ))) (num
     → map now texts ≡ names → at < length numbers
     → bytes_eq (get_or texts (get_or numbers at 0) no_text).now (get_or frames at no_text).now ≡ same
     → bytes_eq (get_or (names_at names numbers) at []) (get_or (map now frames) at []) ≡ same
-compared names texts frames numbers at same are lt this =
-    ap (λ text. bytes_eq text (get_or (map now frames) at []))
-    (get_or-map (λ number. slice_index_or names number []) numbers at 0 [] lt
-    ∙ ap (λ ns. get_or ns (get_or numbers at 0) []) (sym are) ∙ shown_at texts (get_or numbers at 0) no_text)
-    ∙ ap (bytes_eq (get_or texts (get_or numbers at 0) no_text).now) (shown_at frames at no_text)
-    ∙ this
+compared names texts frames numbers at same are lt this = grind (arith, common_steps, get_or-map, no_text, shown_at)
 
 pub returns-then-at-frames : goal.returns-then-at-frames
 returns-then-at-frames c =

@@ -5,7 +5,6 @@ use Rattle.pprof_profile.specs.declared.messages.Draft.{Draft}
 use Rattle.pprof_profile.specs.declared.messages.Sample.{Sample}
 use Rattle.pprof_profile.specs.Valid.{IsValidDraft}
 use Rattle.profile_rows.specs.declared.weighted_stacks.WeightedStack.{WeightedStack}
-use Rattle.profile_rows.specs.TextTables.{NumberedTexts}
 use Rattle.profile_rows.specs.Values.{singles}
 use Rattle.profile_samples.specs.Export.{exported_draft, exported_sample, names_of, profile_with, single_profile_of}
 use Rattle.profile_samples.specs.Export.{strings_of}
@@ -25,25 +24,19 @@ filled draft names samples kind unit all is same =
     with_samples) is
     ∙ ap (λ texts. profile_with texts (strings_of units texts) rows units) same
 
-abbrev drafted : List Sample → List ℕ → List ℕ → NumberedTexts → Draft
-drafted samples kind unit table = exported_draft table.texts samples ((kind, unit) ∷ [])
-
 pub returns-clause-profile : goal.returns-clause-profile
 returns-clause-profile c = λ all so_far.
-    let names = c.args.rows.now.row.texts in
-    let rows = singles all in
-    let made = filled c.in_ok-draft.draft names c.empty.result c.args.kind.now c.args.unit.now all
-    (c.in_ok-draft.ensures ∙ ap (drafted c.empty.result c.args.kind.now c.args.unit.now) c.names.ensures)
-    so_far.names_rows in
-    rw (sym made) (c.encode_around.ensures.profile (map (exported_sample names) rows) so_far.samples_rows
-    so_far.fits_rows (subst (λ (d : Draft). IsValidDraft d) (sym made)
-    (export_valid rows ((c.args.kind.now, c.args.unit.now) ∷ []) (widths-singles all))))
+    let made = filled c.in_ok-draft.draft c.args.rows.now.row.texts c.empty.result c.args.kind.now c.args.unit.now all
+    (rw c.names.ensures at c.in_ok-draft.ensures) so_far.names_rows in
+    rw (sym made) (c.encode_around.ensures.profile
+    (map (exported_sample c.args.rows.now.row.texts) (singles all)) so_far.samples_rows so_far.fits_rows
+    (subst (λ (d : Draft). IsValidDraft d) (sym made)
+    (export_valid (singles all) ((c.args.kind.now, c.args.unit.now) ∷ []) (widths-singles all))))
 
 pub returns-clause-canonical : goal.returns-clause-canonical
 returns-clause-canonical c = λ all so_far.
-    let names = c.args.rows.now.row.texts in
     subst (λ d. IfOk c.encode_around.result (λ bytes. bytes.items ≡ canonical_bytes_of d))
-    (filled c.in_ok-draft.draft names c.empty.result c.args.kind.now c.args.unit.now all
-    (c.in_ok-draft.ensures ∙ ap (drafted c.empty.result c.args.kind.now c.args.unit.now) c.names.ensures)
-    so_far.names_rows)
-    (c.encode_around.ensures.canonical (map (exported_sample names) (singles all)) so_far.samples_rows)
+    (filled c.in_ok-draft.draft c.args.rows.now.row.texts c.empty.result c.args.kind.now c.args.unit.now all
+    (rw c.names.ensures at c.in_ok-draft.ensures) so_far.names_rows)
+    (c.encode_around.ensures.canonical
+    (map (exported_sample c.args.rows.now.row.texts) (singles all)) so_far.samples_rows)

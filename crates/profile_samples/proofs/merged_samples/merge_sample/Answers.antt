@@ -10,12 +10,12 @@ use Rattle.pprof_profile.specs.declared.messages.Draft.{Draft}
 use Rattle.pprof_profile.specs.declared.messages.Sample.{Sample}
 use Rattle.profile_rows.specs.Rows.{total_of}
 use Rattle.profile_rows.specs.Values.{single}
-use Rattle.profile_samples.specs.Samples.{IsFitFault, IsRowOfSample, IsSampleFault, sample_stack_of}
+use Rattle.profile_samples.specs.Samples.{IsRowOfSample, IsSampleFault, sample_stack_of}
 use Rattle.profile_rows.specs.Merging.{AddsRow, IsStackAt, row_at, with_added_at}
 use Rattle.profile_rows.proofs.MergedRows.{AddsRow-added}
 use Rattle.profile_samples.proofs.MergedSamples.{AreRowsAt-added, stack_found}
-use Rattle.profile_samples.proofs.SampleRows.{Decides, IsSampleFault-fit, fits_in, one_value_memory}
-use Rattle.profile_samples.proofs.SampleRows.{one_value_row}
+use Rattle.profile_samples.proofs.SampleRows.{IsSampleFault-heavy, one_weight}
+use Rattle.profile_samples.proofs.SampleRows.{IsSampleFault-fit, fits_in, one_value_memory, one_value_row}
 use Rattle.profile_samples.proofs.merged_samples.merge_sample.Goals as goal
 
 -- a row of the sample's stack, which weighs more now
@@ -43,14 +43,8 @@ refused_at : (draft : Draft)
     → IfErr outcome (IsSampleFault draft chosen (total_of sums ∷ []) number sample)
 refused_at draft chosen at weight number sample sums (Ok done) value there fault = tt
 refused_at draft chosen at weight number sample sums (Err found) value there fault =
-    subst (IsSampleFault draft chosen (total_of sums ∷ []) number sample) (sym fault.0) (
-      refl,
-      record { stack = sample_stack_of draft sample.location_ids; weights = weight ∷ [] },
-      one_value_row draft chosen sample weight value there.2,
-      0,
-      omega arith,
-      fault.1,
-    )
+    IsSampleFault-heavy draft chosen (total_of sums ∷ []) number sample (weight ∷ []) found refl
+    (one_weight chosen weight sample.values value) there.2 (fault.0, 0, omega arith, fault.1)
 
 pub returns-in-Some-clause-added : goal.returns-in-Some-clause-added
 returns-in-Some-clause-added c = grind (arith, common_steps, stack_found, added_to)
@@ -60,38 +54,28 @@ returns-in-Some-clause-stacks c = grind (arith, common_steps, on_ok_weaker, AreR
 
 pub returns-in-Some-clause-fault : goal.returns-in-Some-clause-fault
 returns-in-Some-clause-fault c =
-    let value = subst (λ values. slice_get values c.args.chosen ≡ Some (pos c.in_ok-weight.weight))
-    c.values.ensures c.in_ok-weight.ensures.weight.0 in
-    let there = subst (λ ids. IsStackAt c.args.merged.now (sample_stack_of c.args.frames.now ids) c.in-Some.at)
-    c.location_ids-ids.ensures
-    (stack_found c.args.frames.now c.args.known.now.keys c.args.merged.now c.location_ids-ids.result.now c.in-Some.at
-    c.requires.stacks (sym c.in-Some.is ∙ c.get_index_of.ensures.index)) in
-    refused_at c.args.frames.now c.args.chosen c.in-Some.at c.in_ok-weight.weight
-    c.args.number c.args.sample.now c.args.merged.now c.add_to_row.result value there c.add_to_row.ensures.fault
+    let there = stack_found c.args.frames.now c.args.known.now.keys c.args.merged.now c.location_ids-ids.result.now
+    c.in-Some.at c.requires.stacks (sym c.in-Some.is ∙ c.get_index_of.ensures.index) in
+    refused_at c.args.frames.now c.args.chosen c.in-Some.at c.in_ok-weight.weight c.args.number c.args.sample.now
+    c.args.merged.now c.add_to_row.result (rw c.values.ensures at c.in_ok-weight.ensures.weight.0)
+    (rw c.location_ids-ids.ensures at there) c.add_to_row.ensures.fault
 
 pub returns-in_err-check_fit-in-None-clause-fault : goal.returns-in_err-check_fit-in-None-clause-fault
 returns-in_err-check_fit-in-None-clause-fault c =
     let p = err_from_is_err_and
     c.from_residual-in_err-check_fit-in-None.result c.from_residual-in_err-check_fit-in-None.ensures.1 in
-    let value = subst (λ values. slice_get values c.args.chosen ≡ Some (pos c.in_ok-weight.weight))
-    c.values.ensures c.in_ok-weight.ensures.weight.0 in
-    let decides = subst (λ ids. Decides c.args.frames.now ids c.fit.result) c.location_ids-ids.ensures c.fit.ensures in
-    let fault = subst (λ earlier. IsFitFault c.fit.result earlier c.args.number c.in_ok-weight.weight
-    c.in_err-check_fit-in-None.field-0.0) c.total.ensures.total c.in_err-check_fit-in-None.ensures.fault in
     rw (p.1, p.2) (IsSampleFault-fit c.args.frames.now c.args.chosen (total_of c.args.merged.now) c.args.number
-    c.args.sample.now c.in_ok-weight.weight c.fit.result c.in_err-check_fit-in-None.field-0.0 value decides fault)
+    c.args.sample.now c.in_ok-weight.weight c.fit.result c.in_err-check_fit-in-None.field-0.0
+    (rw c.values.ensures at c.in_ok-weight.ensures.weight.0) (rw c.location_ids-ids.ensures at c.fit.ensures)
+    (rw c.total.ensures.total at c.in_err-check_fit-in-None.ensures.fault))
 
 pub returns-in_err-push_merged-in-None-clause-fault : goal.returns-in_err-push_merged-in-None-clause-fault
 returns-in_err-push_merged-in-None-clause-fault c =
     let p = err_from_is_err_and
     c.from_residual-in_err-push_merged-in-None.result c.from_residual-in_err-push_merged-in-None.ensures.1 in
-    let value = subst (λ values. slice_get values c.args.chosen ≡ Some (pos c.in_ok-weight.weight))
-    c.values.ensures c.in_ok-weight.ensures.weight.0 in
-    let decides = subst (λ ids. Decides c.args.frames.now ids c.fit.result) c.location_ids-ids.ensures c.fit.ensures in
-    let deep = fits_in c.args.frames.now c.args.sample.now.location_ids c.fit.result decides
-    c.in_ok-check_fit-in-None.ensures.depth in
-    let fits = subst
-    (λ earlier. earlier + c.in_ok-weight.weight < 2 ^ 63) c.total.ensures.total
-    c.in_ok-check_fit-in-None.ensures.fits in
+    let deep = fits_in c.args.frames.now c.args.sample.now.location_ids c.fit.result
+    (rw c.location_ids-ids.ensures at c.fit.ensures) c.in_ok-check_fit-in-None.ensures.depth in
     rw (p.1, p.2) (one_value_memory c.args.frames.now c.args.chosen
-    (total_of c.args.merged.now) c.args.number c.args.sample.now c.in_ok-weight.weight value deep fits)
+    (total_of c.args.merged.now) c.args.number c.args.sample.now c.in_ok-weight.weight
+    (rw c.values.ensures at c.in_ok-weight.ensures.weight.0) deep
+    (rw c.total.ensures.total at c.in_ok-check_fit-in-None.ensures.fits))

@@ -1,47 +1,38 @@
 -- What stands at a sample is the first fault.
 use Rattle.std.proofs.lemmas.Grind.{common_steps}
-use Rattle.std.proofs.Common.{◌≡◌, Some, subst, arith}
-use Rattle.std.specs.Prelude.{Err}
+use Rattle.std.proofs.Common.{arith}
 use Rattle.std.proofs.lemmas.Result.{err_from_is_err_and}
 use Rattle.profile_rows.specs.Values.{single_batch}
-use Rattle.profile_samples.specs.Batches.{IsFirstStacksFault}
 use Rattle.profile_samples.specs.MergedSamples.{IsMergedBatch}
-use Rattle.profile_samples.specs.Samples.{chosen_types_of}
 use Rattle.profile_samples.proofs.FirstFaults.{only_first_fault}
 use Rattle.profile_samples.proofs.MergedSamples.{only_batch_sums}
 use Rattle.profile_samples.proofs.SampleBatches.{first_of_standing, memory_first}
 use Rattle.profile_samples.proofs.SampleRows.{chosen_types_within}
 use Rattle.profile_samples.proofs.merged_samples.merge_samples.Goals as goal
 
+pub returns-in_err-chosen-clause-read : goal.returns-in_err-chosen-clause-read
+returns-in_err-chosen-clause-read c = grind (arith, common_steps, err_from_is_err_and)
+
 pub returns-in_err-chosen-clause-accepted : goal.returns-in_err-chosen-clause-accepted
 returns-in_err-chosen-clause-accepted c =
-    let p = err_from_is_err_and c.from_residual.result c.from_residual.ensures.1 in
-    let first = subst (λ d. IsFirstStacksFault d c.args.choice c.in_err-chosen.field-0.0)
-    c.draft.ensures.draft c.in_err-chosen.ensures in
-    rw (p.1, p.2) (only_batch_sums c.args.profile.now c.args.choice (Err c.in_err-chosen.field-0.0) first)
+    only_batch_sums c.args.profile.now c.args.choice c.from_residual.result (returns-in_err-chosen-clause-read c)
 
 pub returns-in_err-chosen-clause-every_fault : goal.returns-in_err-chosen-clause-every_fault
 returns-in_err-chosen-clause-every_fault c =
-    let p = err_from_is_err_and c.from_residual.result c.from_residual.ensures.1 in
-    let first = subst (λ d. IsFirstStacksFault d c.args.choice c.in_err-chosen.field-0.0)
-    c.draft.ensures.draft c.in_err-chosen.ensures in
-    rw (p.1, p.2) (only_first_fault (λ sums. IsMergedBatch c.args.profile.now c.args.choice sums) 1 c.args.profile.now
-    c.args.choice (Err c.in_err-chosen.field-0.0) (λ sums merged.
-    (single_batch merged.rows, omega arith, merged.sampled)) first)
+    only_first_fault (IsMergedBatch c.args.profile.now c.args.choice) 1 c.args.profile.now c.args.choice
+    c.from_residual.result (λ sums merged. (single_batch merged.rows, omega arith, merged.sampled))
+    (returns-in_err-chosen-clause-read c)
 
 pub returns-in_err-known-clause-read : goal.returns-in_err-known-clause-read
 returns-in_err-known-clause-read c =
     let p = err_from_is_err_and c.from_residual-in_err-known.result c.from_residual-in_err-known.ensures.1 in
-    let is = subst (λ d. chosen_types_of d c.args.choice ≡ Some (c.in_ok-chosen.chosen, 1)) c.draft.ensures.draft
-    c.in_ok-chosen.ensures in
-    rw (p.1, p.2) (memory_first c.args.profile.now c.args.choice c.in_ok-chosen.chosen is)
+    rw (p.1, p.2) (memory_first c.args.profile.now c.args.choice c.in_ok-chosen.chosen
+    (rw c.draft.ensures.draft at c.in_ok-chosen.ensures))
 
 pub merged_by-requires-clause-typed : goal.merged_by-requires-clause-typed
 merged_by-requires-clause-typed c =
-    let chosen = c.in_ok-chosen.chosen in
-    let is = subst (λ d. chosen_types_of d c.args.choice ≡ Some (chosen, 1)) c.draft.ensures.draft
-    c.in_ok-chosen.ensures in
-    let within = chosen_types_within c.args.profile.now c.args.choice chosen 1 is in
+    let within = chosen_types_within c.args.profile.now c.args.choice c.in_ok-chosen.chosen 1
+    (rw c.draft.ensures.draft at c.in_ok-chosen.ensures) in
     omega (arith, within)
 
 pub returns-clause-read : goal.returns-clause-read

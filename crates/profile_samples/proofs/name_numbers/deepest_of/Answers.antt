@@ -1,5 +1,5 @@
 -- The next location's frames are no more than the deepest, or become it.
-use Rattle.std.proofs.Common.{◌≤◌, ◌++◌, ◌∷◌, [], List, length, ℕ, ap, sym, ◌∙◌, subst, take, arith, All}
+use Rattle.std.proofs.Common.{◌≤◌, ◌++◌, ◌∷◌, [], List, length, ℕ, ap, ◌∙◌, subst, take, arith, All}
 use Rattle.std.proofs.lemmas.List.{take_all, take_more}
 use Rattle.std.proofs.lemmas.List.Elements.{All-push, All-weaker}
 use Rattle.std.proofs.lemmas.Option.{get_or_from_slice_get}
@@ -17,23 +17,14 @@ loop-index-preserved c =
     let before = take index all in
     let next = take_more all index item (let lt = c.loop-index-test.true in let n = c.len-index-end.ensures in
     omega (arith, lt, n)) ∙ ap (λ f. before ++ f ∷ []) (get_or_from_slice_get all index item item c.at-depth.ensures) in
+    let both : (c.loop-index.deepest ≤ c.if-depth-deepest.deepest) × (length item ≤ c.if-depth-deepest.deepest) =
     elim c.if-depth-deepest.branch [
-      | then-depth-deepest w ↦
-          let deeper = w.if-depth-deepest.true in
-          let is = w.deepest-is in
-          subst (All (IsWithin c.if-depth-deepest.deepest)) (sym next)
-          (All-push (IsWithin c.if-depth-deepest.deepest) before item
-          (All-weaker (IsWithin c.loop-index.deepest) (IsWithin c.if-depth-deepest.deepest)
-          (λ frames low. omega (arith, low, deeper, is)) before c.loop-index.invariant)
-          (omega (arith, is)))
-      | else-depth-deepest w ↦
-          let low = w.if-depth-deepest.false in
-          let is = w.deepest-is in
-          subst (All (IsWithin c.if-depth-deepest.deepest)) (sym next)
-          (All-push (IsWithin c.if-depth-deepest.deepest) before item
-          (subst (λ deepest. All (IsWithin deepest) before) (sym is) c.loop-index.invariant)
-          (omega (arith, low, is)))
-    ]
+      | then-depth-deepest w ↦ (omega arith, omega arith)
+      | else-depth-deepest w ↦ (omega arith, omega arith)
+    ] in
+    rw next (All-push (IsWithin c.if-depth-deepest.deepest) before item
+    (All-weaker (IsWithin c.loop-index.deepest) (IsWithin c.if-depth-deepest.deepest)
+    (λ frames low. omega (arith, low, both.0)) before c.loop-index.invariant) both.1)
 
 pub returns : goal.returns
 returns c = subst (All (IsWithin c.loop-index.deepest))

@@ -1,6 +1,5 @@
 -- The next number is marked, where it isn't yet.
-use Rattle.std.proofs.Common.{◌≡◌, ◌+◌, ◌<◌, ◌++◌, ◌∷◌, [], ℕ, List, ap, sym, ◌∙◌, get_or, length, set, subst}
-use Rattle.std.proofs.Common.{take}
+use Rattle.std.proofs.Common.{◌≡◌, ◌+◌, ◌<◌, ◌++◌, ◌∷◌, [], ℕ, ap, sym, ◌∙◌, get_or, length, subst, take}
 use Rattle.std.proofs.lemmas.List.{get_or_default, take_more}
 use Rattle.std.specs.declared.vec.Vec.{Vec}
 use Rattle.profile_samples.proofs.FrameNumbers.{IsOnceSoFar, once-push, once-same}
@@ -27,27 +26,18 @@ loop-number-preserved c =
     subst (λ n. number < n) (sym c.loop-number.invariant.count) (c.requires.inside at 0 c.loop-number-test.true) in
     let read : c.index.result.now ≡ get_or marks number 0 = c.index.ensures
     ∙ get_or_default marks number c.index.result.now 0 lt in
-    elim c.if-index-mark.branch [
+    let all : IsOnceSoFar (take (at + 1) numbers) (length c.args.marks.now.items) c.args.mark
+    c.if-index-mark.marks.items c.if-index-mark.once.items = elim c.if-index-mark.branch [
       | then-index-mark+in_ok-push w ↦
-          let this = once-push before (take (at + 1) numbers) (length c.args.marks.now.items) c.args.mark
-          number marks c.loop-number.once.items so_far next lt (λ same. w.if-index-mark.true (read ∙ same)) in
-          let made : c.if-index-mark.marks.items ≡ set marks number c.args.mark =
-          ap (λ (m : Vec ℕ _). m.items) w.marks-is in
-          let kept : c.if-index-mark.once.items ≡ c.loop-number.once.items ++ number ∷ [] =
-          ap (λ (m : Vec ℕ _). m.items) w.once-is ∙ w.in_ok-push.ensures.items in
-          let all = subst (λ (m : List ℕ). IsOnceSoFar (take (at + 1) numbers)
-          (length c.args.marks.now.items) c.args.mark m c.if-index-mark.once.items) (sym made)
-          (subst (λ (o : List ℕ). IsOnceSoFar (take (at + 1) numbers)
-          (length c.args.marks.now.items) c.args.mark (set marks number c.args.mark) o) (sym kept) this) in
-          record { once = all.once_is; count = all.count_is; marked = all.marked; seen = all.seen }
+          rw (
+            ap (λ (m : Vec ℕ _). m.items) w.marks-is,
+            ap (λ (m : Vec ℕ _). m.items) w.once-is ∙ w.in_ok-push.ensures.items,
+          )
+          (once-push before (take (at + 1) numbers) (length c.args.marks.now.items) c.args.mark
+          number marks c.loop-number.once.items so_far next lt (λ same. w.if-index-mark.true (read ∙ same)))
       | else-index-mark w ↦
-          let this = once-same before (take (at + 1) numbers) (length c.args.marks.now.items)
-          c.args.mark number marks c.loop-number.once.items so_far next (sym read ∙ w.if-index-mark.false) in
-          let made : c.if-index-mark.marks.items ≡ marks = ap (λ (m : Vec ℕ _). m.items) w.marks-is in
-          let kept : c.if-index-mark.once.items ≡ c.loop-number.once.items = ap (λ (m : Vec ℕ _). m.items) w.once-is in
-          let all = subst (λ (m : List ℕ). IsOnceSoFar (take (at + 1) numbers)
-          (length c.args.marks.now.items) c.args.mark m c.if-index-mark.once.items) (sym made)
-          (subst (λ (o : List ℕ). IsOnceSoFar
-          (take (at + 1) numbers) (length c.args.marks.now.items) c.args.mark marks o) (sym kept) this) in
-          record { once = all.once_is; count = all.count_is; marked = all.marked; seen = all.seen }
-    ]
+          rw (ap (λ (m : Vec ℕ _). m.items) w.marks-is, ap (λ (m : Vec ℕ _). m.items) w.once-is)
+          (once-same before (take (at + 1) numbers) (length c.args.marks.now.items)
+          c.args.mark number marks c.loop-number.once.items so_far next (sym read ∙ w.if-index-mark.false))
+    ] in
+    record { once = all.once_is; count = all.count_is; marked = all.marked; seen = all.seen }

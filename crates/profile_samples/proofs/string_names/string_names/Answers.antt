@@ -1,9 +1,8 @@
 -- One string more.
 use Rattle.std.proofs.lemmas.Grind.{common_steps}
-use Rattle.std.proofs.Common.{◌≡◌, ◌<◌, ◌+◌, ◌++◌, ◌∷◌, ◌∙◌, ℕ, List, [], None, ap, arith, get_or, length, map}
-use Rattle.std.proofs.Common.{sym, take}
+use Rattle.std.proofs.Common.{◌≡◌, ◌<◌, ◌+◌, ◌++◌, ◌∷◌, ℕ, List, [], None, arith, get_or, length, map, take}
 use Rattle.std.specs.Prelude.{if◌then◌else◌}
-use Rattle.std.proofs.lemmas.List.{get_or_read, length-take-le, map-append, take_more}
+use Rattle.std.proofs.lemmas.List.{get_or_read, length-take-le, take_more}
 use Rattle.pprof_profile.specs.declared.messages.Function.{Function}
 use Rattle.profile_rows.specs.Names.{cleaned_name_of}
 use Rattle.profile_samples.specs.declared.string_names.GivenName.{GivenName}
@@ -20,14 +19,7 @@ next_named : (functions : List Function) (strings : List (List ℕ)) (at : ℕ) 
 next_named functions strings at string names next name lt is so_far next_is name_is =
     let front = take at strings in
     let many : length front ≡ at = length-take-le at strings (omega (arith, lt)) in
-    ap (map name_in) next_is ∙ map-append name_in names (name ∷ [])
-    ∙ ap (λ these. these ++ name_in name ∷ []) so_far
-    ∙ ap (λ this. string_names_from functions 0 front ++ this ∷ []) name_is
-    ∙ ap (λ n. string_names_from functions 0 front
-    ++ (if names_function functions n then cleaned_name_of string else None) ∷ []) (omega (arith, many))
-    ∙ sym (strings_more functions 0 front string)
-    ∙ ap (λ these. string_names_from functions 0 these)
-    (ap (λ this. front ++ this ∷ []) is ∙ sym (take_more strings at string lt))
+    grind (arith, common_steps, many, is, strings_more, take_more)
 
 pub loop-at-preserved : goal.loop-at-preserved
 loop-at-preserved c = grind (arith, common_steps, get_or_read, else-index, next_named)

@@ -8,7 +8,8 @@ use Rattle.flame_report.proofs.layout.Plan.group_weight.Given as goal
 abbrev pub invariant-loop-next : goal.invariant-loop-next
 invariant-loop-next l = record {
   so_far : l.weight
-      ≡ weight_where (begins_with name_cmp (take l.depth (stack_at l.self.rows.now l.at))) (take l.next l.self.rows.now);
+      ≡ weight_where (begins_with name_cmp (take l.depth (stack_at l.self.rows.now l.at)))
+      (take l.next l.self.rows.now);
   last : begins_with name_cmp (take l.depth (stack_at l.self.rows.now l.at)) (stack_at l.self.rows.now (l.next - 1))
       ≡ true;
 }

@@ -1,13 +1,18 @@
 -- Row by row, each path is drawn where it first comes.
 use Rattle.std.proofs.lemmas.Grind.{common_steps}
-use Rattle.std.proofs.Common.{◌≡◌, length, ap, arith, ◌∙◌, map}
+use Rattle.std.proofs.Common.{◌≡◌, arith, map, ℕ, List, ◌++◌}
 use Rattle.flame_report.specs.Answers.{rect_of}
-use Rattle.flame_report.specs.Sharing.{paths_until, shown_of}
-use Rattle.flame_report.proofs.Drawn.{drawn-append}
+use Rattle.flame_report.specs.Sharing.{shown_of}
+use Rattle.profile_rows.specs.declared.weighted_stacks.WeightedStack.{WeightedStack}
 use Rattle.flame_report.proofs.Held.{held_weight-le}
 use Rattle.flame_report.proofs.NewPaths.{paths_until-whole}
-use Rattle.flame_report.proofs.RowSums.{total-next}
+use Rattle.std.proofs.lemmas.List.Sums.{sum_by_more}
 use Rattle.flame_report.proofs.layout.Plan.rects.Goals as goal
+
+drawn-append : (columns : ℕ) (rows : List WeightedStack) (paths more : List (List (List ℕ)))
+    → map rect_of (shown_of columns rows (paths ++ more))
+    ≡ map rect_of (shown_of columns rows paths) ++ map rect_of (shown_of columns rows more)
+drawn-append columns rows paths more = grind (arith, common_steps)
 
 pub overflow_sub-before : goal.overflow_sub-before
 overflow_sub-before c = grind (arith, common_steps, held_weight-le)
@@ -16,13 +21,7 @@ pub draw_row-requires-clause-start : goal.draw_row-requires-clause-start
 draw_row-requires-clause-start c = grind (arith, common_steps, held_weight-le)
 
 pub loop-at-preserved : goal.loop-at-preserved
-loop-at-preserved c = grind (arith, drawn-append, total-next)
+loop-at-preserved c = grind (arith, drawn-append, sum_by_more)
 
 pub returns : goal.returns
-returns c =
-    let rows = c.args.self.now.rows.now in
-    let end : c.loop-at.at ≡ length c.args.self.now.rows.now = omega (arith, c.len-at-end.ensures) in
-    c.loop-at.invariant.done
-    ∙ ap (λ n. map rect_of (shown_of c.args.self.now.scale.columns rows (paths_until rows n))) end
-    ∙ ap (λ paths. map rect_of (shown_of c.args.self.now.scale.columns rows paths))
-    (paths_until-whole rows c.requires.ascending c.requires.weighty)
+returns c = grind (arith, c.len-at-end.ensures, paths_until-whole c.args.self.now.rows.now)

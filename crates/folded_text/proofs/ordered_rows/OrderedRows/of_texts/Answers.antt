@@ -1,16 +1,14 @@
 -- The rows of an aggregate are in order.
-use Rattle.std.proofs.Common.{subst, sym, ap, ◌∙◌}
-use Rattle.profile_rows.specs.Aggregate.{AreWeighty, IsAscending, rows_of}
+use Rattle.std.proofs.Common.{sym, ap, ◌∙◌}
+use Rattle.profile_rows.specs.Aggregate.{rows_of}
 use Rattle.profile_rows.proofs.InOrder.{rows_of-AreWeighty, rows_of-IsAscending}
 use Rattle.folded_text.proofs.ordered_rows.OrderedRows.of_texts.Goals as goal
 
 pub invariant_of-result : goal.invariant_of-result
 invariant_of-result c =
     let (weights, are) = c.requires in
-    let is = c.in_ok-rows.ensures weights are ∙ ap rows_of (sym are.whole) in (
-      subst IsAscending (sym (c.in_ok-rows.ensures weights are)) (rows_of-IsAscending weights),
-      subst AreWeighty (sym is) (rows_of-AreWeighty are.rows),
-    )
+    let is = c.in_ok-rows.ensures weights are ∙ ap rows_of (sym are.whole) in
+    (rw (c.in_ok-rows.ensures weights are) (rows_of-IsAscending weights), rw is (rows_of-AreWeighty are.rows))
 
 pub returns : goal.returns
-returns c = λ weights are. c.in_ok-rows.ensures weights are
+returns c = c.in_ok-rows.ensures

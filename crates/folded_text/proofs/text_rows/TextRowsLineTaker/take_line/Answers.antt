@@ -1,5 +1,5 @@
 -- A row more of the text is a row more of the sums.
-use Rattle.std.proofs.Common.{◌+◌, ◌^◌, ◌<◌, ◌++◌, ◌∷◌, [], refl, subst}
+use Rattle.std.proofs.Common.{◌++◌, ◌∷◌, [], refl}
 use Rattle.std.proofs.lemmas.Result.{on_ok_weaker}
 use Rattle.profile_rows.proofs.MergedRows.{AreMergedSoFar-row}
 use Rattle.folded_text.specs.TextRows.{spelled_rows}
@@ -10,7 +10,7 @@ returns-clause-taken c = λ rows same fits.
     on_ok_weaker c.sum_line.result (λ added. let (row, this, adds) = added in (
       row,
       this,
-      subst (λ earlier. earlier + row.weight < 2 ^ 63) same.total adds.fits,
+      rw (← same.total) adds.fits,
       AreMergedSoFar-row rows (rows ++ row ∷ []) (spelled_rows c.args.self.now) (spelled_rows c.sum_line.new.self) row
           same adds refl,
     )) c.sum_line.ensures.added

@@ -2,21 +2,17 @@
 use Rattle.std.proofs.Common.{ap, ◌∙◌}
 use Rattle.profile_rows.specs.Aggregate.{aggregate_of, rows_of}
 use Rattle.folded_text.proofs.StackTexts.{AreJoinedTexts-lent, AreTextRows-lent, spelled_are}
-use Rattle.folded_text.proofs.TextRows.{as_rows}
+use Rattle.folded_text.proofs.TextRows.{as_text}
 use Rattle.folded_text.proofs.text_stacks.TextStacks.of_texts.Goals as goal
 
 pub sorted-requires-clause-texts : goal.sorted-requires-clause-texts
-sorted-requires-clause-texts c =
-    AreTextRows-lent c.requires.0 c.args.texts.now c.requires.1 c.in_ok-rows.rows.items c.in_ok-rows.ensures
+sorted-requires-clause-texts c = AreTextRows-lent _ _ c.requires.1 _ c.in_ok-rows.ensures
 
 pub sorted-requires-clause-spelled : goal.sorted-requires-clause-spelled
-sorted-requires-clause-spelled c = λ k d lt.
-    (AreJoinedTexts-lent c.requires.0 c.args.texts.now c.requires.1 c.in_ok-rows.rows.items c.in_ok-rows.ensures
-    k d lt).0
+sorted-requires-clause-spelled c = λ k d lt. (AreJoinedTexts-lent _ _ c.requires.1 _ c.in_ok-rows.ensures k d lt).0
 
 pub returns : goal.returns
 returns c = λ weights are.
-    as_rows c.sorted.result _ _
-    (ap (λ rows. rows_of (aggregate_of rows))
-    (spelled_are weights c.args.texts.now are c.in_ok-rows.rows.items c.in_ok-rows.ensures)
-    ∙ ap rows_of are.whole) c.sorted.ensures
+    as_text (λ rows. rows) c.sorted.result _ _
+    (ap (λ rows. rows_of (aggregate_of rows)) (spelled_are _ _ are _ c.in_ok-rows.ensures) ∙ ap rows_of are.whole)
+    c.sorted.ensures

@@ -1,5 +1,5 @@
 -- A row more: its first value goes with its stack, the others behind those of the rows before.
-use Rattle.std.proofs.Common.{◌≡◌, ℕ, [], ◌∷◌, ◌++◌, ap, sym, ◌∙◌, length, drop, subst}
+use Rattle.std.proofs.Common.{arith, ◌≡◌, ℕ, [], ◌∷◌, ◌++◌, ap, sym, ◌∙◌, length, drop, subst}
 use Rattle.profile_rows.specs.Values.{AreParts, BatchState, HasRoom, batch_with, value_of}
 use Rattle.profile_rows.proofs.RowValues.{batch_with-push, pushed-AreParts}
 use Rattle.profile_rows.proofs.batch.Batch.push.Goals as goal
@@ -31,15 +31,4 @@ invariant_of-self-in-Ok c =
     (subst (AreParts c.plus-self-inside.result _) (sym (values_are c)) kept)
 
 pub returns-in-Ok-clause-pushed : goal.returns-in-Ok-clause-pushed
-returns-in-Ok-clause-pushed c =
-    let totals = c.self.inside.totals in
-    let parts = c.self.invariant in
-    let more = batch_with-push totals c.self.inside.first
-    c.self.inside.others.items parts.0 parts.1 parts.2 c.args.stack c.args.weights (width_is c) (has_room c)
-    c.plus-self-inside.result c.plus-self-inside.ensures.width c.plus-self-inside.ensures.each in
-    (λ i. batch_with c.plus-self-inside.result (rows_are c i) (values_are c i)) ∙ more
-    ∙ ap (λ (b : BatchState). (record {
-      width =
-          b.width;
-      rows = b.rows ++ (record { stack = c.args.stack; weights = c.args.weights }) ∷ [];
-    })) c.self.view_is
+returns-in-Ok-clause-pushed c = grind (arith, batch_with-push, width_is, has_room, rows_are, values_are)

@@ -1,5 +1,5 @@
 -- Batches are compared by their parts.
-use Rattle.std.proofs.Common.{rules, ◌≡◌, ◌&&◌, sym, ap, ◌∙◌, length}
+use Rattle.std.proofs.Common.{arith, rules, ◌≡◌, ◌&&◌, sym, ap, ◌∙◌, length}
 use Rattle.std.specs.Cmp.Lexicographic.{pointwise}
 use Rattle.std.specs.Prelude.{◌==◌}
 use Rattle.profile_rows.specs.Equality.{row_eq}
@@ -10,22 +10,11 @@ use Rattle.profile_rows.proofs.batch.BatchPartialEq.eq.Goals as goal
 -- the widths, and the stacks with their first values
 first_is : (c : goal.After-eq-then-eq-2) → c.if-eq.value ≡ ((length c.self.inside.totals ==
     length c.other.inside.totals) && pointwise row_eq c.self.inside.first c.other.inside.first)
-first_is c =
-    let widths : c.eq.result ≡ (length c.self.inside.totals == length c.other.inside.totals) =
-    c.eq.ensures ∙ (λ i. (c.width.ensures i == c.width-2.ensures i)) in
-    elim c.if-eq.branch [
-      | then-eq w ↦ w.value-is ∙ w.eq-then-eq.ensures.compared
-          ∙ ap (λ b. b && pointwise row_eq c.self.inside.first c.other.inside.first) (sym w.if-eq.true ∙ widths)
-      | else-eq w ↦ w.value-is ∙ w.if-eq.false
-          ∙ ap (λ b. b && pointwise row_eq c.self.inside.first c.other.inside.first) (sym w.if-eq.false ∙ widths)
-    ]
+first_is c = grind (arith, then-eq, else-eq)
 
 others_are : (c : goal.After-eq-then-eq-2) → c.eq-then-eq-2.result ≡ parts_eq c.self.inside.totals c.self.inside.first
     c.self.inside.others.items c.other.inside.totals c.other.inside.first c.other.inside.others.items
-others_are c =
-    c.eq-then-eq-2.ensures ∙ (λ i. pointwise ◌==◌ (c.as_slice.ensures.value i) (c.as_slice-then-eq-2.ensures.value i))
-    ∙ ap (λ b. b && pointwise ◌==◌ c.self.inside.others.items c.other.inside.others.items)
-    (sym c.if-eq-2.true ∙ first_is c)
+others_are c = grind (arith, first_is)
 
 pub returns-then-eq-2-clause-compared : goal.returns-then-eq-2-clause-compared
 returns-then-eq-2-clause-compared c = search (rules, parts_compare, others_are)
@@ -40,15 +29,7 @@ returns-then-eq-2-clause-equal c =
 -- where they differ, the batches do
 first_differs : (c : goal.Else-eq-2) → c.if-eq.value ≡ ((length c.self.inside.totals == length c.other.inside.totals)
     && pointwise row_eq c.self.inside.first c.other.inside.first)
-first_differs c =
-    let widths : c.eq.result ≡ (length c.self.inside.totals == length c.other.inside.totals) =
-    c.eq.ensures ∙ (λ i. (c.width.ensures i == c.width-2.ensures i)) in
-    elim c.if-eq.branch [
-      | then-eq w ↦ w.value-is ∙ w.eq-then-eq.ensures.compared
-          ∙ ap (λ b. b && pointwise row_eq c.self.inside.first c.other.inside.first) (sym w.if-eq.true ∙ widths)
-      | else-eq w ↦ w.value-is ∙ w.if-eq.false
-          ∙ ap (λ b. b && pointwise row_eq c.self.inside.first c.other.inside.first) (sym w.if-eq.false ∙ widths)
-    ]
+first_differs c = grind (arith, then-eq, else-eq)
 
 parts_differ : (c : goal.Else-eq-2) → c.if-eq.value ≡ parts_eq c.self.inside.totals c.self.inside.first
     c.self.inside.others.items c.other.inside.totals c.other.inside.first c.other.inside.others.items

@@ -1,5 +1,5 @@
 -- The row's frames have their numbers, and its leaf's is the last.
-use Rattle.std.proofs.Common.{◌≡◌, ℕ, List, length, map, ap, sym, ◌∙◌, subst}
+use Rattle.std.proofs.Common.{arith, ◌≡◌, ℕ, List, length, map, ap, ◌∙◌}
 use Rattle.std.proofs.lemmas.List.{length-map}
 use denote.Ref.{Bor}
 use Rattle.profile_rows.specs.declared.tallies.Tallies.{Tallies}
@@ -17,9 +17,7 @@ reached : (rows : List WeightedStack) (before frames after : List (List ℕ)) (t
     → ((names more : List (List ℕ)) (rows : List WeightedStack) → length (with_texts names more) ≡ length lent
     → AreTalliesOf rows names old → AreTalliesOf rows (with_texts names more) new)
     → AreTalliesOf rows after new
-reached rows before frames after table lent old new names known texts are counted =
-    subst (λ ns. AreTalliesOf rows ns new) (sym names) (counted before frames rows
-    (sym (ap length names) ∙ ap length (sym known) ∙ ap length (sym texts) ∙ length-map lent text_of) are)
+reached rows before frames after table lent old new names known texts are counted = grind (arith, length-map, text_of)
 
 pub count-requires-clause-counted : goal.count-requires-clause-counted
 count-requires-clause-counted c =

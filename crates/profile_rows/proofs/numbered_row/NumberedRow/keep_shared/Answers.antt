@@ -1,10 +1,9 @@
 -- The numbers of the first frames stay.
 use Rattle.std.proofs.lemmas.Grind.{common_steps}
-use Rattle.std.proofs.Common.{◌≡◌, ℕ, List, [], All, map, take, ap, sym, ◌∙◌, arith, subst}
+use Rattle.std.proofs.Common.{◌≡◌, ℕ, List, All, map, take, ap, sym, ◌∙◌, arith, subst}
 use Rattle.std.proofs.lemmas.List.{length-map, take-map}
 use Rattle.std.proofs.lemmas.List.Elements.{All-take}
 use Rattle.std.proofs.lemmas.List.Sums.{common_prefix_len-le}
-use Rattle.std.specs.Prelude.{slice_index_or}
 use Rattle.std.specs.List.{common_prefix_len}
 use Rattle.std.specs.Str.{bytes_eq}
 use Rattle.profile_rows.specs.NumberedRows.{IsNumberOfText, NumberedFrames}
@@ -20,13 +19,7 @@ returns-clause-within c = grind (arith, common_steps, length-map, common_prefix_
 kept : (texts : List (List ℕ)) (lent before after : List ℕ) (frames : List (List ℕ)) (shared : ℕ)
     → shared ≡ common_prefix_len bytes_eq (names_at texts lent) frames → lent ≡ before
     → after ≡ take shared before → names_at texts after ≡ take shared frames
-kept texts lent before after frames shared is same cut =
-    ap (names_at texts) cut
-    ∙ sym (take-map (λ number. slice_index_or texts number []) shared before)
-    ∙ ap (λ numbers. take shared (names_at texts numbers)) (sym same)
-    ∙ ap (λ count. take count (names_at texts lent)) is
-    ∙ shared_same (names_at texts lent) frames
-    ∙ ap (λ count. take count frames) (sym is)
+kept texts lent before after frames shared is same cut = grind (arith, take-map, shared_same)
 
 pub returns-clause-frames : goal.returns-clause-frames
 returns-clause-frames c = grind (arith, common_steps, text_of, kept)

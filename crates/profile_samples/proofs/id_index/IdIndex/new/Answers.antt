@@ -1,5 +1,5 @@
 -- Each id gets its index.
-use Rattle.std.proofs.Common.{◌≡◌, ◌<◌, ◌≤◌, ◌∙◌, Some, ap, arith, length, slice_index_or, subst, sym}
+use Rattle.std.proofs.Common.{◌≡◌, Some, ap, arith, length, slice_index_or, subst, sym}
 use Rattle.std.specs.Prelude.{slice_get}
 use Rattle.std.proofs.lemmas.Option.{slice_get-get_or}
 use Rattle.profile_samples.specs.IdIndex.{AreIdIndices, index_found}
@@ -10,19 +10,15 @@ pub loop-at-preserved : goal.loop-at-preserved
 loop-at-preserved c =
     let ids = c.args.ids.items in
     let id = slice_index_or c.deref-id-items.result.now c.loop-at.at 0 in
-    let lt : c.loop-at.at < length ids =
-    subst (λ items. c.loop-at.at < length items) c.deref-id-items.ensures.value c.loop-at-test.true in
-    let same : id ≡ slice_index_or ids c.loop-at.at 0 =
-    ap (λ items. slice_index_or items c.loop-at.at 0) c.deref-id-items.ensures.value in
-    let stands : slice_get ids c.loop-at.at ≡ Some id = slice_get-get_or ids c.loop-at.at 0 lt ∙ ap Some (sym same) in
+    let stands : slice_get ids c.loop-at.at ≡ Some id = rw (← c.deref-id-items.ensures.value)
+    (slice_get-get_or c.deref-id-items.result.now c.loop-at.at 0 c.loop-at-test.true) in
     indices_more ids (index_found c.loop-at.indices)
     (index_found c.put.new.self) c.loop-at.at id stands c.in_ok-put.ensures c.loop-at.invariant
 
 pub invariant_of-result : goal.invariant_of-result
 invariant_of-result c =
-    let all : length c.args.ids.items ≤ c.loop-at.at =
-    (let past =
-    c.loop-at-test.false in let count = ap length c.deref-id-items.ensures.value in omega (arith, past, count)) in
-    let indices : AreIdIndices c.args.ids.items (index_found c.loop-at.indices) =
-    indices_all c.args.ids.items (index_found c.loop-at.indices) c.loop-at.at all c.loop-at.invariant in
-    subst (λ ids. AreIdIndices ids (index_found c.loop-at.indices)) (ap (λ ids. ids.items) (sym c.of.ensures)) indices
+    let past = c.loop-at-test.false in
+    let count = ap length c.deref-id-items.ensures.value in
+    subst (λ ids. AreIdIndices ids (index_found c.loop-at.indices)) (ap (λ ids. ids.items) (sym c.of.ensures))
+    (indices_all c.args.ids.items (index_found c.loop-at.indices) c.loop-at.at (omega (arith, past, count))
+    c.loop-at.invariant)

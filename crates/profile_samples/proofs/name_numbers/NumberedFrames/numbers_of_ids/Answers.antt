@@ -1,8 +1,7 @@
 -- The frames of the next location, where it is there.
+use Rattle.std.proofs.lemmas.Grind.{common_steps}
 use Rattle.std.proofs.Common.{◌≡◌, ◌<◌, ◌+◌, ◌++◌, ℕ, List, [], Some, None, All, ap, sym, ◌∙◌, get_or, length}
-use Rattle.std.proofs.Common.{append-nil, arith, subst, take}
-use Rattle.std.specs.Prelude.{slice_index_or}
-use Rattle.std.proofs.lemmas.List.{map-append}
+use Rattle.std.proofs.Common.{append-nil, arith, take}
 use Rattle.std.proofs.lemmas.List.Elements.{All-append}
 use Rattle.pprof_profile.specs.declared.messages.Draft.{Draft}
 use Rattle.profile_rows.specs.TextTables.{names_at}
@@ -23,15 +22,10 @@ more : (draft : Draft) (ids numbers next here : List ℕ) (i : ℕ) → i < leng
     → All (λ number. number < length (frame_names draft)) here
     → names_at (frame_names draft) here ≡ frames_of_id draft (get_or ids i 0) → AreNumbers draft (take (i + 1) ids) next
 unfolding AreNumbers
-more draft ids numbers next here i lt so_far next_is inside here_is =
-    let names = frame_names draft in (
-      subst (All (λ number. number < length names)) (sym next_is)
-          (All-append (λ number. number < length names) numbers here so_far.0 inside),
-      ap (names_at names) next_is ∙ map-append (λ number. slice_index_or names number []) numbers here
-          ∙ ap (λ (front : List (List ℕ)). front ++ names_at names here) so_far.1
-          ∙ ap (λ (back : List (List ℕ)). frames_of_ids draft (take i ids) ++ back) here_is
-          ∙ sym (frames-more draft ids i lt),
-    )
+more draft ids numbers next here i lt so_far next_is inside here_is = (
+  rw next_is (All-append (λ number. number < length (frame_names draft)) numbers here so_far.0 inside),
+  grind (arith, common_steps, frames-more, so_far.1, here_is, next_is),
+)
 
 pub loop-id-preserved : goal.loop-id-preserved
 unfolding AreNumbers

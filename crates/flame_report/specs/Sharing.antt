@@ -35,14 +35,12 @@ pub record AreShapes (shapes : List Shape) (rows : List WeightedStack) : Type 0 
   pub each : length shapes ≡ length rows
   pub at : (k : ℕ) (other : Shape) → k < length rows → slice_index_or shapes k other ≡ shape_of rows k
 
--- rows in order of some weight, with their shapes and with the scale of their total
+-- rows in order, with their shapes
 pub record IsPlan (plan : Plan) : Type 0 where
   pub ascending : IsAscending plan.rows.now
   pub weighty : AreWeighty plan.rows.now
   pub shapes : AreShapes plan.shapes.items plan.rows.now
-  pub total : plan.scale.total ≡ total_of plan.rows.now
-  pub some : 0 < plan.scale.total
-  pub fits : plan.scale.total < 2 ^ 63
+  pub fits : total_of plan.rows.now < 2 ^ 63
 
 -- the weight of the rows before an index whose stacks are beginnings of the path: their own weight lies right of it
 abbrev pub held_weight : List WeightedStack → ℕ → List (List ℕ) → ℕ

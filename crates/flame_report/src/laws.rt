@@ -6,7 +6,7 @@ ghost use Rattle.profile_rows.specs.declared.weighted_stacks.WeightedStack.{Weig
 ghost use Rattle.profile_rows.specs.Aggregate.{aggregate_of, rows_of};
 ghost use Rattle.flame_report.specs.Answers.{answer_of};
 ghost use Rattle.flame_report.specs.declared.query.Query.{Query};
-ghost use Rattle.profile_rows.specs.Layout.{column_at, is_shown, rectangle_at, rectangles_of};
+ghost use Rattle.profile_rows.specs.Layout.{is_shown, rectangle_at, rectangles_of};
 ghost use Rattle.profile_rows.specs.Names.{name_cmp};
 ghost use Rattle.profile_rows.specs.Paths.{path_start, path_weight, paths_of};
 ghost use Rattle.profile_rows.specs.Rows.{stack_cmp, weight_of};

@@ -1,36 +1,29 @@
 //! The layout of a flame graph, over rows in order. A row is compared with the row before alone: what the
 //! two don't share are the paths that come first with this row, in the order of paths.
 
-ghost use Rattle.std.specs.Prelude.{ℕ, ◌≡◌, ◌++◌, ◌+◌, ◌<◌, ◌≤◌, false, IfOk, OnOk, drop, length, map, take};
+ghost use Rattle.std.specs.Prelude.{ℕ, ◌≡◌, ◌++◌, ◌+◌, ◌<◌, ◌≤◌, false, All, IfOk, OnOk, drop, length, map, take};
 ghost use Rattle.std.specs.List.{common_prefix_len};
 ghost use Rattle.std.specs.Ordering.{eq_by_cmp};
-ghost use Rattle.folded_text.specs.OrderedRows.{AreNames, names_in};
 ghost use Rattle.profile_rows.specs.Layout.{column_at, last_name, rectangle_at, rectangles_of};
-ghost use Rattle.profile_rows.specs.Names.{name_cmp};
+ghost use Rattle.profile_rows.specs.Names.{IsName, name_cmp};
 ghost use Rattle.profile_rows.specs.Paths.{begins_with, path_weight, prefixes};
 ghost use Rattle.profile_rows.specs.Rows.{total_of};
-ghost use Rattle.flame_report.specs.Answers.{rect_of};
+ghost use Rattle.flame_report.specs.Answers.{flame_of, rect_of};
 ghost use Rattle.flame_report.specs.Sharing.{AreHeld, AreShapes, IsPlan, held_weight, known_at, shape_of, shown_of, span_of, stack_at};
 
-use crate::answer::{Label, Rect};
+use crate::answer::{Flame, Label, Rect};
 use crate::query::Columns;
-use basics::NoMemory;
-use folded_text::{KnownNames, OrderedRows, RowNames, RowShape};
+use basics::{Items, NoMemory};
+use folded_text::{KnownNames, OrderedRows};
 use profile_rows::Hashing;
 use std::alloc::{AllocError, Global};
+use std::mem;
 
 /// The rectangles so far, and the names by which they are called.
 #[derive(Drop)]
 struct Drawing<'a> {
     names: KnownNames<'a>,
     rects: Vec<Rect>,
-}
-
-/// Weights in columns: the total of all rows fills them.
-#[derive(Clone, Copy)]
-struct Scale {
-    total: u64,
-    columns: Columns,
 }
 
 /// Where a path stands, in weight and in columns.
@@ -42,17 +35,6 @@ struct Span {
     right: u32,
 }
 
-impl Scale {
-    /// The column in which an offset of the total falls, rounded down.
-    fn column(&self, offset: u64) -> u32
-        requires within { offset ≤ self.now.total }
-        requires some { 0 < self.now.total }
-        ensures { result ≡ column_at self.now.columns self.now.total offset }
-    {
-        (offset as u128 * self.columns.get() as u128 / self.total as u128) as u32
-    }
-}
-
 /// How many paths of a row the row before has too, and how many names its stack has.
 #[derive(Clone, Copy)]
 struct Shape {
@@ -60,27 +42,31 @@ struct Shape {
     depth: usize,
 }
 
-/// The shape of a row.
-fn shape_at(rows: &OrderedRows, at: usize) -> Shape
-    requires { at < length rows.now }
-    ensures { result ≡ shape_of rows.now at }
+/// How many frames a row shares with the row before, from their roots.
+fn shared(before: &[&str], frames: &[&str]) -> usize
+    ensures { result
+        ≡ common_prefix_len (λ other frame. eq_by_cmp name_cmp other.now frame.now) before.now frames.now }
 {
-    if at == 0 {
-        let depth = rows.depth(at);
-        return Shape { known: 0, depth };
+    for (at, frame) in before.iter().enumerate() {
+        if at >= frames.len() || *frame != frames[at] {
+            return at;
+        }
     }
-    let RowShape { shared, depth } = rows.shape(at);
-    let known = shared + 1;
-    Shape { known, depth }
+    before.len()
 }
 
 /// The shapes of rows.
-fn shapes_of(alloc: Global, rows: &OrderedRows) -> Result<Vec<Shape>, AllocError>
+fn shapes_of(alloc: Global, rows: &OrderedRows) -> Result<Vec<Shape>, NoMemory>
     ensures { IfOk result (λ shapes. AreShapes shapes.items rows.now) }
 {
     let mut shapes = Vec::with_capacity(alloc, rows.len())?;
+    let (mut before, mut frames) = (Vec::new(alloc), Vec::new(alloc));
     for at in 0..rows.len() {
-        shapes.push(shape_at(rows, at))?;
+        rows.frames(&mut frames, at)?;
+        let (shared, depth) = (shared(&before, &frames), frames.len());
+        let known = if at == 0 { 0 } else { shared + 1 };
+        shapes.push(Shape { known, depth })?;
+        mem::swap(&mut before, &mut frames);
     }
     Ok(shapes)
 }
@@ -89,22 +75,22 @@ fn shapes_of(alloc: Global, rows: &OrderedRows) -> Result<Vec<Shape>, AllocError
 fn rect_at<'a>(
     alloc: Global,
     known: &mut KnownNames<'a>,
-    names: &RowNames<'a>,
+    frames: &[&'a str],
     depth: usize,
     span: Span,
 ) -> Result<Rect, NoMemory>
-    requires names { AreNames names.now }
-    requires within { depth ≤ length (names_in names.now) }
+    requires names { All IsName (map (λ frame. frame.now) frames.now) }
+    requires within { depth ≤ length frames.now }
     requires deep { depth ≤ 65535 }
-    ensures { IfOk result
-        (λ rect. (rect.depth ≡ depth) × (rect.name ≡ last_name (take depth (names_in names.now)))
+    ensures { IfOk result (λ rect. (rect.depth ≡ depth)
+        × (rect.name ≡ last_name (take depth (map (λ frame. frame.now) frames.now)))
         × (rect.x ≡ span.start) × (rect.weight ≡ span.weight) × (rect.left ≡ span.left)
         × (rect.right ≡ span.right)) }
 {
     let name = if depth == 0 {
         Label::empty()
     } else {
-        Label::of(names.name(alloc, known, depth - 1)?)
+        Label::of(known.name_of(alloc, frames[depth - 1])?)
     };
     Ok(Rect {
         depth: depth as u32,
@@ -116,15 +102,24 @@ fn rect_at<'a>(
     })
 }
 
-/// Rows in order that weigh something, what each shares with the row before, and the scale that they are drawn to.
+/// Rows in order, what each shares with the row before, and the columns that their total fills.
 #[derive(Drop)]
 struct Plan<'a> {
     rows: &'a OrderedRows<'a>,
     shapes: Vec<Shape>,
-    scale: Scale,
+    columns: Columns,
 }
 
 impl<'a> Plan<'a> {
+    /// The column in which an offset of the total falls, rounded down.
+    fn column(&self, offset: u64) -> u32
+        requires within { offset ≤ total_of self.now.rows.now }
+        requires some { 0 < total_of self.now.rows.now }
+        ensures { result ≡ column_at self.now.columns (total_of self.now.rows.now) offset }
+    {
+        (offset as u128 * self.columns.get() as u128 / self.rows.total() as u128) as u32
+    }
+
     /// The shape of a row.
     fn shape(&self, at: usize) -> Shape
         requires plan { IsPlan self.now }
@@ -162,19 +157,19 @@ impl<'a> Plan<'a> {
         requires start { start + held_weight self.now.rows.now at (stack_at self.now.rows.now at)
             ≡ total_of (take at self.now.rows.now) }
         ensures { result ≡ span_of
-            (rectangle_at self.now.scale.columns self.now.rows.now (take depth (stack_at self.now.rows.now at))) }
+            (rectangle_at self.now.columns self.now.rows.now (take depth (stack_at self.now.rows.now at))) }
     {
         let weight = self.group_weight(at, depth);
         Span {
             start,
             weight,
-            left: self.scale.column(start),
-            right: self.scale.column(start + weight),
+            left: self.column(start),
+            right: self.column(start + weight),
         }
     }
 
-    /// Adds the rectangles of the paths that come first with a row. Below one that takes no column there is none, and
-    /// the names of a row of which nothing is seen aren't looked at.
+    /// Adds the rectangles of the paths that come first with a row. Below one that takes no column there is none, and no
+    /// name is made for a row of which nothing is seen.
     fn draw_row(
         &self,
         alloc: Global,
@@ -187,7 +182,7 @@ impl<'a> Plan<'a> {
         requires start { start + held_weight self.now.rows.now at (stack_at self.now.rows.now at)
             ≡ total_of (take at self.now.rows.now) }
         ensures { OnOk result (drawing.new.rects.items ≡ drawing.old.rects.items
-            ++ map rect_of (shown_of self.now.scale.columns self.now.rows.now
+            ++ map rect_of (shown_of self.now.columns self.now.rows.now
             (drop (known_at self.now.rows.now at) (prefixes (stack_at self.now.rows.now at))))) }
     {
         let known = self.shape(at).known;
@@ -195,13 +190,14 @@ impl<'a> Plan<'a> {
         if shortest.left >= shortest.right {
             return Ok(());
         }
-        let names = &self.rows.names(alloc, at)?;
-        for depth in known..names.len() + 1 {
+        let mut frames = Vec::new(alloc);
+        self.rows.frames(&mut frames, at)?;
+        for depth in known..frames.len() + 1 {
             let span = self.span_at(at, depth, start);
             if span.left >= span.right {
                 return Ok(());
             }
-            let rect = rect_at(alloc, &mut drawing.names, names, depth, span)?;
+            let rect = rect_at(alloc, &mut drawing.names, &frames, depth, span)?;
             drawing.rects.push(rect)?;
         }
         Ok(())
@@ -237,7 +233,7 @@ impl<'a> Plan<'a> {
     fn rects(&self, alloc: Global, hashing: Hashing) -> Result<Vec<Rect>, NoMemory>
         requires { IsPlan self.now }
         ensures { IfOk result
-            (λ rects. rects.items ≡ map rect_of (rectangles_of self.now.scale.columns self.now.rows.now)) }
+            (λ rects. rects.items ≡ map rect_of (rectangles_of self.now.columns self.now.rows.now)) }
     {
         let mut drawing = Drawing {
             names: KnownNames::new(alloc, hashing),
@@ -256,23 +252,23 @@ impl<'a> Plan<'a> {
 }
 
 /// The layout of rows in order; where they weigh nothing there are no rectangles. `hashing` says how names are hashed.
-pub(crate) fn rects_of(
+pub(crate) fn flame_of(
     alloc: Global,
     hashing: Hashing,
     rows: &OrderedRows,
     columns: Columns,
-) -> Result<Vec<Rect>, NoMemory>
-    ensures { IfOk result (λ rects. rects.items ≡ map rect_of (rectangles_of columns rows.now)) }
+) -> Result<Flame, NoMemory>
+    ensures { IfOk result (λ flame. flame ≡ flame_of columns rows.now) }
 {
     rows.facts();
-    let total = rows.total();
-    if total == 0 {
-        return Ok(Vec::new(alloc));
-    }
     let plan = Plan {
         rows,
         shapes: shapes_of(alloc, rows)?,
-        scale: Scale { total, columns },
+        columns,
     };
-    plan.rects(alloc, hashing)
+    Ok(Flame {
+        total: rows.total(),
+        columns,
+        rects: Items::new(plan.rects(alloc, hashing)?),
+    })
 }

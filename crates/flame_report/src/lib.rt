@@ -4,7 +4,6 @@
 
 mod answer;
 mod json_text;
-mod keeping;
 pub mod laws;
 mod layout;
 mod query;

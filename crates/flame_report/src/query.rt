@@ -1,6 +1,8 @@
 //! Queries: which rows a report is over, and which report it is.
 
-ghost use Rattle.std.specs.Prelude.{◌≡◌, ◌<◌, ◌≤◌, ◌⊎◌, ◌↔◌, IsTrue, MatchOption};
+ghost use Rattle.std.specs.Prelude.{◌≡◌, ◌<◌, ◌≤◌, ◌⊎◌, ◌↔◌, IsNone, IsTrue, List, MatchOption};
+ghost use Rattle.profile_rows.specs.declared.weighted_stacks.WeightedStack.{WeightedStack};
+ghost use Rattle.flame_report.specs.Answers.{kept_by};
 
 use profile_rows::Name;
 use std::marker::Model;
@@ -80,6 +82,16 @@ pub struct Query {
     /// Which value of each row is its weight, counted from 0.
     pub value: u32,
     pub kind: Kind,
+}
+
+impl Query {
+    /// Whether the query has no focus and ignores no name, and so keeps every row.
+    pub fn keeps_all(&self) -> bool
+        ensures keeps { IsTrue result → (rows : List WeightedStack) → kept_by self.now rows ≡ rows }
+        ensures exact { IsTrue result ↔ (IsNone self.now.focus × IsNone self.now.ignore) }
+    {
+        self.focus.is_none() && self.ignore.is_none()
+    }
 }
 
 impl PartialEq for Query {

@@ -1,19 +1,16 @@
 //! Top lists: the names that weigh most, and their text.
 
-ghost use Rattle.std.specs.Prelude.{ℕ, ◌≡◌, ◌^◌, ◌<◌, List, IfOk, OnOk, IsSorted, IsPermutation, map, take, string_bytes, ◌++◌};
+ghost use Rattle.std.specs.Prelude.{◌≡◌, List, IfOk, OnOk, IsSorted, IsPermutation, string_bytes, ◌++◌};
 ghost use Rattle.profile_rows.specs.declared.weighted_stacks.WeightedStack.{WeightedStack};
-ghost use Rattle.profile_rows.specs.Rows.{total_of};
 ghost use Rattle.profile_rows.specs.TopList.{AreSumsOf, AreTotalsOf, chosen_weight, top_cmp, top_line, top_list_of, top_text_of};
-ghost use Rattle.flame_report.specs.Answers.{kept_by, ranking_of, top_of};
+ghost use Rattle.flame_report.specs.Answers.{ranking_of, top_of};
 ghost use Rattle.flame_report.specs.First.{AreFirst};
 
 use crate::answer::Top;
-use crate::query::{Query, Rank};
+use crate::query::Rank;
 use basics::Items;
 use profile_rows::laws::top_list_is_front_of_sorted;
-use profile_rows::{
-    FrameTotal, FrameTotals, Hashing, NoMemory, WeightedStack, WeightedStacks, kept_totals,
-};
+use profile_rows::{FrameTotal, FrameTotals, NoMemory};
 use std::alloc::{AllocError, Global};
 use std::cmp::Ordering;
 
@@ -85,20 +82,6 @@ fn rank_names(list: &mut Vec<FrameTotal>, rank: Rank, count: u32) -> Result<(), 
     Ok(())
 }
 
-/// The weight of the rows that a query keeps.
-pub(crate) fn kept_total(rows: &[WeightedStack], query: &Query) -> u64
-    requires { total_of rows.now < 2 ^ 63 }
-    ensures { result ≡ total_of (kept_by query.now rows.now) }
-{
-    let mut total = 0;
-    for row in rows {
-        if query.keeps(row) {
-            total += row.weight;
-        }
-    }
-    total
-}
-
 /// The top list of rows, from what their names weigh: the first `count` names by the weight that `rank` chooses.
 ///
 /// # Errors
@@ -114,22 +97,6 @@ pub fn top_list(totals: FrameTotals, rank: Rank, count: u32) -> Result<Top, NoMe
         total,
         rows: Items::new(frames),
     })
-}
-
-/// The top list of the rows that a query keeps.
-pub(crate) fn top_of_rows(
-    alloc: Global,
-    hashing: Hashing,
-    batch: &WeightedStacks,
-    query: &Query,
-    rank: Rank,
-    count: u32,
-) -> Result<Top, NoMemory>
-    ensures { IfOk result (λ top. top ≡ top_of rank count (kept_by query.now batch.now)) }
-{
-    let (focus, ignored) = (query.focus.as_ref(), query.ignore.as_ref());
-    let totals = kept_totals(alloc, hashing, batch, focus, ignored)?;
-    top_list(totals, rank, count)
 }
 
 /// Adds the line of a name.

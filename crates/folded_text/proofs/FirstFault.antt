@@ -6,7 +6,8 @@ use Rattle.profile_rows.specs.declared.weighted_stacks.WeightedStack.{WeightedSt
 use Rattle.folded_text.specs.declared.folded.FoldedFault.{FoldedFault}
 use Rattle.folded_text.specs.declared.folded.FoldedFault.TheVariants.{NotUtf8, NoCount, Count, Depth, Heavy, NoMemory}
 use Rattle.profile_rows.specs.Rows.{total_of}
-use Rattle.folded_text.specs.FoldedText.{AreRowLines, IsRowLine, IsFoldedText, IsLineFault, IsFirstFault}
+use Rattle.folded_text.specs.FoldedText.{AreRowLines, IsRowLine, IsFoldedBatch, IsLineFault, IsFirstFault}
+use Rattle.profile_rows.specs.Values.{BatchState}
 use Rattle.folded_text.proofs.Counts.{HasCount-same}
 use Rattle.folded_text.proofs.Cuts.{cuts}
 use Rattle.folded_text.proofs.Reading.{AreRowLines-same, IsFirstFault-folded, faultless, faultless_at}
@@ -71,11 +72,11 @@ IsFirstFault-same text fault other (before, line, after, rows, cut, known, fits,
     ]
 
 -- what reading answers to a text with a first fault
-pub only_fault : (text : List ℕ) (outcome : Result (List WeightedStack) FoldedFault)
-    → MatchResult outcome (λ batch. IsFoldedText text batch) (λ fault. IsFirstFault text fault)
+pub only_fault : (text : List ℕ) (outcome : Result BatchState FoldedFault)
+    → MatchResult outcome (λ batch. IsFoldedBatch text batch) (λ fault. IsFirstFault text fault)
     → (first : FoldedFault) → first ≢ NoMemory
     → IsFirstFault text first → MatchResult outcome (λ batch. ⊥) (λ fault. (fault ≡ NoMemory) ⊎ (fault ≡ first))
-only_fault text (Ok batch) read first some there = some (IsFirstFault-folded text batch first read there)
+only_fault text (Ok batch) (rows, read, is) first some there = some (IsFirstFault-folded text rows first read there)
 only_fault text (Err fault) read first some there =
     elim (IsFirstFault-same text fault first read there) [
       | inl none ↦ inl none

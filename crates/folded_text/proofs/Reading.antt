@@ -13,7 +13,8 @@ use Rattle.folded_text.specs.declared.folded.FoldedFault.{FoldedFault}
 use Rattle.folded_text.specs.declared.folded.FoldedFault.TheVariants.{NotUtf8, NoCount, Count, Depth, Heavy, NoMemory}
 use Rattle.profile_rows.specs.Rows.{total_of}
 use Rattle.folded_text.specs.FoldedText.{HasCount, IsRowLine, AreRowLines, IsFoldedText, IsLineFault, IsFirstFault}
-use Rattle.folded_text.specs.FoldedText.{IsFittingFault, frames_of}
+use Rattle.folded_text.specs.FoldedText.{IsFittingFault, IsFoldedBatch, frames_of}
+use Rattle.profile_rows.specs.Values.{BatchState, single_batch}
 use Rattle.std.specs.Prelude.{Result, Ok, Err, MatchResult, All}
 use Rattle.std.specs.declared.iter.Enumerate.{Enumerate}
 use Rattle.bstr.specs.Text.{lines_of, without_terminator}
@@ -118,11 +119,12 @@ pub IsFoldedText-same : (text : List ℕ) (rows others : List WeightedStack)
 IsFoldedText-same text rows others one other = AreRowLines-same (lines text) rows others one.rows_lines other.rows_lines
 
 -- what reading answers decides what a text is folded text of
-pub only_answer : (text : List ℕ) (outcome : Result (List WeightedStack) FoldedFault)
-    → MatchResult outcome (λ batch. IsFoldedText text batch) (λ fault. IsFirstFault text fault)
+pub only_answer : (text : List ℕ) (outcome : Result BatchState FoldedFault)
+    → MatchResult outcome (λ batch. IsFoldedBatch text batch) (λ fault. IsFirstFault text fault)
     → (rows : List WeightedStack)
-    → IsFoldedText text rows → MatchResult outcome (λ batch. batch ≡ rows) (λ fault. fault ≡ NoMemory)
-only_answer text (Ok batch) read rows folded = IsFoldedText-same text batch rows read folded
+    → IsFoldedText text rows → MatchResult outcome (λ batch. batch ≡ single_batch rows) (λ fault. fault ≡ NoMemory)
+only_answer text (Ok batch) (found, read, is) rows folded =
+    is ∙ ap single_batch (IsFoldedText-same text found rows read folded)
 only_answer text (Err fault) read rows folded = IsFirstFault-folded text rows fault folded read
 
 -- the row of a line that was read

@@ -92,16 +92,10 @@ pub(crate) fn stack_and_weight<'a>(
         × (digits : List ℕ) × HasCount line.now found.0.now digits × (found.1 ≡ digits_value 10 digits)) }
     ensures fault { IfErr result (IsCountFault number line.now) }
 {
-    let Ok(text) = basic::from_utf8(line) else {
-        return Err(FoldedFault::NotUtf8 { line: number });
-    };
-    let Some((stack, digits)) = split_count(text) else {
-        return Err(FoldedFault::NoCount { line: number });
-    };
-    match weight_from(digits) {
-        Some(weight) => Ok((stack, weight)),
-        None => Err(FoldedFault::Count { line: number }),
-    }
+    let text = basic::from_utf8(line).map_err(|_| FoldedFault::NotUtf8 { line: number })?;
+    let (stack, digits) = split_count(text).ok_or(FoldedFault::NoCount { line: number })?;
+    let weight = weight_from(digits).ok_or(FoldedFault::Count { line: number })?;
+    Ok((stack, weight))
 }
 
 /// Whether a row of so many frames can follow rows of the weight `earlier`.
@@ -170,9 +164,7 @@ pub(crate) fn push_frames<'a>(
         (rows.new ≡ rows.old ++ (record { stack = map (λ frame. frame.now) frames.now; weight = weight }) ∷ []) }
 {
     let names = known.names_of(alloc, frames, rows.rows().last())?;
-    let Ok(stack) = Stack::make(names) else {
-        return Err(NoMemory);
-    };
+    let stack = Stack::make(names).map_err(|_| NoMemory)?;
     rows.push(stack, weight).map_err(|_| NoMemory)
 }
 
@@ -198,24 +190,6 @@ impl<'a> LineTaker<'a> for Reading<'a> {
             weight,
         )?)
     }
-}
-
-/// Reads the rows of folded stacks.
-fn read_stacks(alloc: Global, hashing: Hashing, text: &[u8]) -> Result<WeightedStacks, FoldedFault>
-    ensures read { MatchResult result (λ rows. IsFoldedText text.now rows) (λ fault. IsFirstFault text.now fault) }
-    ensures accepted { (rows : List WeightedStack) → IsFoldedText text.now rows
-        → MatchResult result (λ found. found ≡ rows) (λ fault. fault ≡ FoldedFault.NoMemory) }
-    ensures every_fault { (first : FoldedFault) → first ≢ FoldedFault.NoMemory → IsFirstFault text.now first
-        → MatchResult result (λ rows. ⊥) (λ fault. (fault ≡ FoldedFault.NoMemory) ⊎ (fault ≡ first)) }
-{
-    let mut reading = Reading {
-        alloc,
-        known: KnownNames::new(alloc, hashing),
-        rows: WeightedStacks::new(alloc),
-        frames: Vec::new(alloc),
-    };
-    take_lines(text, &mut reading)?;
-    Ok(reading.rows)
 }
 
 /// Reads folded stacks: a line for each row, its frames from root to leaf separated by semicolons, then a space and a
@@ -250,6 +224,12 @@ pub fn read_folded_with(alloc: Global, hashing: Hashing, text: &[u8]) -> Result<
     ensures every_fault { (first : FoldedFault) → first ≢ FoldedFault.NoMemory → IsFirstFault text.now first
         → MatchResult result (λ batch. ⊥) (λ fault. (fault ≡ FoldedFault.NoMemory) ⊎ (fault ≡ first)) }
 {
-    let rows = read_stacks(alloc, hashing, text)?;
-    Ok(Batch::single(alloc, rows))
+    let mut reading = Reading {
+        alloc,
+        known: KnownNames::new(alloc, hashing),
+        rows: WeightedStacks::new(alloc),
+        frames: Vec::new(alloc),
+    };
+    take_lines(text, &mut reading)?;
+    Ok(Batch::single(alloc, reading.rows))
 }

@@ -39,27 +39,11 @@ impl<'a> KnownNames<'a> {
         ensures { IfOk result (λ name. name ≡ text.now) }
     {
         if let Some(name) = self.names.get(text) {
-            return name.share();
+            return Ok(name.clone()?);
         }
         let name = Name::keep(alloc, text)?;
-        self.names.insert(text, name.share()?)?;
+        self.names.insert(text, name.clone()?)?;
         Ok(name)
-    }
-
-    /// The name of a frame: that of the row before at its place, where this has the same text.
-    fn name_like(
-        &mut self,
-        alloc: Global,
-        text: &'a str,
-        before: Option<&Name>,
-    ) -> Result<Name, NoMemory>
-        requires { IsName text.now }
-        ensures { IfOk result (λ name. name ≡ text.now) }
-    {
-        match before {
-            Some(name) if name.text() == text => name.share(),
-            _ => self.name_of(alloc, text),
-        }
     }
 
     /// The names of a row's frames, many of which the row before it may have at the same places.
@@ -75,7 +59,10 @@ impl<'a> KnownNames<'a> {
         let mut names = Vec::with_capacity(alloc, frames.len())?;
         for frame in frames {
             let like = before.and_then(|row| row.stack.names().get(names.len()));
-            names.push(self.name_like(alloc, *frame, like)?)?;
+            names.push(match like {
+                Some(name) if name.text() == *frame => name.clone()?,
+                _ => self.name_of(alloc, *frame)?,
+            })?;
         }
         Ok(names)
     }

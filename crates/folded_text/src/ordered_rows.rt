@@ -1,31 +1,27 @@
 //! Rows in the order of their stacks, of which reports are made.
 
-ghost use Rattle.std.specs.Prelude.{◌≡◌, ◌+◌, ◌-◌, ◌^◌, ◌<◌, ◌≤◌, All, IfOk, List, MatchResult, length, map, slice_index_or, if◌then◌else◌, ◌∷◌, [], ℕ};
-ghost use Rattle.std.specs.List.{common_prefix_len};
+ghost use Rattle.std.specs.Prelude.{◌≡◌, ◌^◌, ◌<◌, ◌≤◌, All, IfOk, List, MatchResult, OnOk, length, map};
 ghost use Rattle.std.specs.Option.{option_copied};
-ghost use Rattle.std.specs.Ordering.{eq_by_cmp};
 ghost use Rattle.profile_rows.specs.declared.weighted_stacks.WeightedStack.{WeightedStack};
 ghost use Rattle.profile_rows.specs.Aggregate.{AreWeighty, IsAscending, Weighted, aggregate_of, rows_of};
 ghost use Rattle.profile_rows.specs.Merging.{row_at};
-ghost use Rattle.profile_rows.specs.Names.{IsName, name_cmp};
+ghost use Rattle.profile_rows.specs.Names.{IsName};
 ghost use Rattle.profile_rows.specs.Rows.{kept_rows, total_of};
 ghost use Rattle.profile_rows.specs.StackTexts.{AreStackTexts};
 ghost use Rattle.profile_rows.specs.TopList.{AreTotalsOf};
 ghost use Rattle.folded_text.specs.FoldedText.{IsFoldedText, IsWorkFault, folded_text_of, rows_text};
-ghost use Rattle.folded_text.specs.OrderedRows.{AreNames, IsOrderedText, names_in, rows_in};
+ghost use Rattle.folded_text.specs.OrderedRows.{IsOrderedText, rows_in};
 ghost use Rattle.folded_text.specs.TextRows.{spelled_rows};
 
 use crate::folded::FoldedFault;
-use crate::row_names::RowNames;
-use crate::row_shape::{RowShape, shape_by_names, shape_by_texts};
-use crate::stack_frames::{measured, replace_by_text};
+use crate::stack_frames::replace_by_text;
 use crate::text_rows::{TextRows, read_text_rows, stacks_of_texts};
 use crate::text_stacks::TextStacks;
 use crate::written::write_stacks;
 use basics::NoMemory;
 use profile_rows::{
-    FrameTotals, Hashing, Name, StackText, WeightedStack, WeightedStacks, aggregate_stacks, keeps,
-    kept_totals,
+    FrameTotals, Hashing, Name, StackText, WeightedStacks, aggregate_stacks, kept_totals,
+    replace_by_names,
 };
 use std::alloc::Global;
 use std::marker::Model;
@@ -57,43 +53,19 @@ impl<'a> Model for OrderedRows<'a> {
     ghost invariant = { λ ordered. IsAscending (rows_in ordered.rows) × AreWeighty (rows_in ordered.rows) };
 }
 
-/// The rows that a focus and an ignored name leave.
-fn kept_stacks(
-    alloc: Global,
-    rows: WeightedStacks,
-    focus: Option<&Name>,
-    ignored: Option<&Name>,
-) -> Result<WeightedStacks, NoMemory>
-    ensures { IfOk result
-        (λ kept. kept ≡ kept_rows (option_copied focus.entry) (option_copied ignored.entry) rows) }
-{
-    let mut kept = WeightedStacks::new(alloc);
-    for row in rows.into_rows() {
-        if keeps(&row, focus, ignored) {
-            let WeightedStack { stack, weight } = row;
-            if kept.push(stack, weight).is_err() {
-                return Err(NoMemory);
-            }
-        }
-    }
-    Ok(kept)
-}
-
 /// The rows in order that a focus and an ignored name leave.
-fn kept_in_order<'a>(
-    alloc: Global,
-    rows: InOrder<'a>,
-    focus: Option<&Name>,
-    ignored: Option<&Name>,
-) -> Result<InOrder<'a>, NoMemory>
-    ensures { IfOk result (λ kept. rows_in kept
-        ≡ kept_rows (option_copied focus.entry) (option_copied ignored.entry) (rows_in rows.entry)) }
+fn kept_in_order<'a>(rows: InOrder<'a>, focus: Option<&Name>, ignored: Option<&Name>) -> InOrder<'a>
+    ensures { rows_in result
+        ≡ kept_rows (option_copied focus.entry) (option_copied ignored.entry) (rows_in rows.entry) }
 {
     match rows {
-        InOrder::Named(rows) => Ok(InOrder::Named(kept_stacks(alloc, rows, focus, ignored)?)),
+        InOrder::Named(mut rows) => {
+            rows.keep(focus, ignored);
+            InOrder::Named(rows)
+        }
         InOrder::Spelled(mut rows) => {
             rows.keep(focus, ignored);
-            Ok(InOrder::Spelled(rows))
+            InOrder::Spelled(rows)
         }
     }
 }
@@ -107,15 +79,12 @@ fn in_order<'a>(
     ensures { IfOk result (λ ordered. ordered ≡ rows_of (aggregate_of (spelled_rows sums.entry))) }
 {
     let (rows, total, are_joined) = sums.into_rows();
-    if are_joined {
-        let rows = TextStacks::sorted(rows, total)?;
-        Ok(OrderedRows {
-            rows: InOrder::Spelled(rows),
-        })
-    } else {
+    if !are_joined {
         let stacks = stacks_of_texts(alloc, hashing, rows.as_slice())?;
-        OrderedRows::of(alloc, stacks)
+        return OrderedRows::of(alloc, stacks);
     }
+    let rows = InOrder::Spelled(TextStacks::sorted(rows, total)?);
+    Ok(OrderedRows { rows })
 }
 
 /// Reads folded stacks, as [`read_folded`](crate::read_folded) does, and puts their rows in order. `hashing` says how
@@ -145,9 +114,8 @@ impl<'a> OrderedRows<'a> {
         requires weighty { AreWeighty rows }
         ensures { result ≡ rows }
     {
-        OrderedRows {
-            rows: InOrder::Named(rows),
-        }
+        let rows = InOrder::Named(rows);
+        OrderedRows { rows }
     }
 
     /// Puts rows in order: each stack of weight above 0 once, with the sum of its weights.
@@ -158,8 +126,7 @@ impl<'a> OrderedRows<'a> {
     pub fn of(alloc: Global, rows: WeightedStacks) -> Result<OrderedRows<'a>, NoMemory>
         ensures { IfOk result (λ ordered. ordered ≡ rows_of (aggregate_of rows)) }
     {
-        let rows = aggregate_stacks(alloc, rows)?;
-        Ok(OrderedRows::named(rows))
+        Ok(OrderedRows::named(aggregate_stacks(alloc, rows)?))
     }
 
     /// Puts rows in order by the texts of their stacks, which it lends. No name is made of them.
@@ -172,10 +139,8 @@ impl<'a> OrderedRows<'a> {
         ensures { (weights : Weighted) → AreStackTexts weights texts.now
             → IfOk result (λ ordered. ordered ≡ rows_of weights) }
     {
-        let rows = TextStacks::of_texts(alloc, texts)?;
-        Ok(OrderedRows {
-            rows: InOrder::Spelled(rows),
-        })
+        let rows = InOrder::Spelled(TextStacks::of_texts(alloc, texts)?);
+        Ok(OrderedRows { rows })
     }
 
     /// Does nothing; its clauses say that the rows are in order and that each weighs something.
@@ -192,7 +157,7 @@ impl<'a> OrderedRows<'a> {
     {
         match &self.rows {
             InOrder::Named(rows) => rows.rows().len(),
-            InOrder::Spelled(rows) => rows.len(),
+            InOrder::Spelled(rows) => rows.rows().len(),
         }
     }
 
@@ -214,77 +179,34 @@ impl<'a> OrderedRows<'a> {
     {
         match &self.rows {
             InOrder::Named(rows) => rows.rows()[at].weight,
-            InOrder::Spelled(rows) => rows.weight(at),
+            InOrder::Spelled(rows) => rows.rows()[at].weight(),
         }
     }
 
-    /// How many names a row's stack has.
-    pub fn depth(&self, at: usize) -> usize
-        requires { at < length self.now }
-        ensures depth { result ≡ length (row_at self.now at).stack }
-    {
-        match &self.rows {
-            InOrder::Named(rows) => rows.rows()[at].stack.names().len(),
-            InOrder::Spelled(rows) => measured(rows.text(at)).0,
-        }
-    }
-
-    /// How many names a row's stack has, and how many of them the row before has too, at their roots.
-    pub fn shape(&self, at: usize) -> RowShape
-        requires follows { 0 < at }
-        requires index { at < length self.now }
-        ensures shared { result.shared
-            ≡ common_prefix_len (eq_by_cmp name_cmp) (row_at self.now (at - 1)).stack (row_at self.now at).stack }
-        ensures depth { result.depth ≡ length (row_at self.now at).stack }
-        ensures small { result.depth ≤ 65535 }
-    {
-        match &self.rows {
-            InOrder::Named(rows) => {
-                let rows = rows.rows();
-                shape_by_names(rows[at - 1].stack.names(), rows[at].stack.names())
-            }
-            InOrder::Spelled(rows) => shape_by_texts(rows.text(at - 1), rows.text(at)),
-        }
-    }
-
-    /// The names of a row's stack.
+    /// The frames of a row's stack, root first, in the place of others.
     ///
     /// # Errors
     ///
     /// `NoMemory`.
-    pub fn names<'s>(&'s self, alloc: Global, at: usize) -> Result<RowNames<'s>, NoMemory>
+    pub fn frames<'s>(&'s self, frames: &mut Vec<&'s str>, at: usize) -> Result<(), NoMemory>
         requires { at < length self.now }
-        ensures names { IfOk result (λ names. names_in names ≡ (row_at self.now at).stack) }
-        ensures named { IfOk result AreNames }
+        ensures frames { OnOk result
+            (map (λ frame. frame.now) frames.new.items ≡ (row_at self.now at).stack) }
+        ensures names { OnOk result (All IsName (row_at self.now at).stack) }
         ensures depth { length (row_at self.now at).stack ≤ 65535 }
     {
         match &self.rows {
-            InOrder::Named(rows) => Ok(RowNames::Named(rows.rows()[at].stack.names())),
-            InOrder::Spelled(rows) => {
-                let mut frames = Vec::new(alloc);
-                replace_by_text(&mut frames, rows.text(at))?;
-                Ok(RowNames::Spelled(frames))
-            }
+            InOrder::Named(rows) => Ok(replace_by_names(frames, rows.rows()[at].stack.names())?),
+            InOrder::Spelled(rows) => Ok(replace_by_text(frames, rows.rows()[at].text())?),
         }
     }
 
     /// The rows that have the focus, where there is one, and not the ignored name, where there is one.
-    ///
-    /// # Errors
-    ///
-    /// `NoMemory`; the rows are then gone.
-    pub fn keep(
-        self,
-        alloc: Global,
-        focus: Option<&Name>,
-        ignored: Option<&Name>,
-    ) -> Result<OrderedRows<'a>, NoMemory>
-        ensures { IfOk result
-            (λ kept. kept ≡ kept_rows (option_copied focus.entry) (option_copied ignored.entry) self.entry) }
+    pub fn keep(self, focus: Option<&Name>, ignored: Option<&Name>) -> OrderedRows<'a>
+        ensures { result ≡ kept_rows (option_copied focus.entry) (option_copied ignored.entry) self.entry }
     {
-        Ok(OrderedRows {
-            rows: kept_in_order(alloc, self.rows, focus, ignored)?,
-        })
+        let rows = kept_in_order(self.rows, focus, ignored);
+        OrderedRows { rows }
     }
 
     /// The folded report of the rows: a line for each, in order.

@@ -1,15 +1,14 @@
 //! The rows of folded text by their stack texts: lines of one text are summed, and no name is made. So is its folded
 //! report.
 
-ghost use Rattle.std.specs.Prelude.{ℕ, ◌≡◌, ◌≢◌, ◌+◌, ◌^◌, ◌<◌, ◌≤◌, ◌++◌, ◌∷◌, [], All, IfErr, IfOk, IsPermutation, IsSorted};
+ghost use Rattle.std.specs.Prelude.{◌≡◌, ◌≢◌, ◌+◌, ◌^◌, ◌<◌, ◌≤◌, [], All, IfErr, IfOk};
 ghost use Rattle.std.specs.Prelude.{IsTrue, MatchOption, MatchResult, OnOk, length, sum_by};
 ghost use Rattle.profile_rows.specs.declared.weighted_stacks.WeightedStack.{WeightedStack};
 ghost use Rattle.profile_rows.specs.Merging.{AddsRow, AreMergedSoFar, IsStackAt, with_added_at};
 ghost use Rattle.profile_rows.specs.Rows.{total_of};
 ghost use Rattle.folded_text.specs.FoldedText.{IsFirstFault, IsLineFault, IsRowLine, frames_of};
 ghost use Rattle.folded_text.specs.StackOrder.{IsJoined};
-ghost use Rattle.folded_text.specs.TextRows.{AreSumsOfText, AreTextRows, IsStackText, by_text, rows_with, spelled_rows};
-ghost use Rattle.folded_text.specs.TextRows.{text_lines};
+ghost use Rattle.folded_text.specs.TextRows.{AreSumsOfText, AreTextRows, IsStackText, rows_with, spelled_rows};
 
 use crate::folded::{FoldedFault, fitting, push_frames, stack_and_weight};
 use crate::known_names::KnownNames;
@@ -17,7 +16,6 @@ use crate::stack_frames::{measured, replace_by_text};
 use crate::taking::{LineTaker, take_lines};
 use crate::text_row::TextRow;
 use basics::NoMemory;
-use itoa::Buffer;
 use profile_rows::{Hashing, MAX_TOTAL, TextTable, WeightedStacks};
 use std::alloc::Global;
 use std::marker::Model;
@@ -112,25 +110,6 @@ impl<'a> TextRows<'a> {
         Ok(())
     }
 
-    /// Adds a row of weight above 0 of a stack text that has none yet.
-    fn push(&mut self, text: &'a str, weight: u64, is_joined: bool) -> Result<(), NoMemory>
-        requires new_text { rows_with text.now self.old ≡ 0 }
-        requires spelled { IsStackText text.now }
-        requires some { 0 < weight }
-        requires fits { total_of (spelled_rows self.old) + weight < 2 ^ 63 }
-        requires joined { IsTrue is_joined → IsJoined text.now }
-        ensures { OnOk result (self.new ≡ self.old ++ (record { text = text.now; weight = weight }) ∷ []) }
-    {
-        self.rows.push(TextRow::new(text, weight))?;
-        let Ok(()) = self.texts.add(text) else {
-            self.rows.pop();
-            return Err(NoMemory);
-        };
-        self.total += weight;
-        self.are_joined = self.are_joined && is_joined;
-        Ok(())
-    }
-
     /// Adds the row of a stack text that has none yet, where it weighs something.
     fn add(&mut self, text: &'a str, weight: u64, is_joined: bool) -> Result<(), NoMemory>
         requires new_text { rows_with text.now self.old ≡ 0 }
@@ -140,9 +119,16 @@ impl<'a> TextRows<'a> {
         ensures { OnOk result (AddsRow (spelled_rows self.old) (spelled_rows self.new)
             (record { stack = frames_of text.now; weight = weight })) }
     {
-        if weight > 0 {
-            self.push(text, weight, is_joined)?;
+        if weight == 0 {
+            return Ok(());
         }
+        self.rows.push(TextRow::new(text, weight))?;
+        let Ok(()) = self.texts.add(text) else {
+            self.rows.pop();
+            return Err(NoMemory);
+        };
+        self.total += weight;
+        self.are_joined = self.are_joined && is_joined;
         Ok(())
     }
 
@@ -159,8 +145,7 @@ impl<'a> TextRows<'a> {
         }
         let (depth, bytes) = measured(text);
         fitting(depth, weight, self.total, number)?;
-        let joined = is_joined(text, depth, bytes);
-        Ok(self.add(text, weight, joined)?)
+        Ok(self.add(text, weight, is_joined(text, depth, bytes))?)
     }
 }
 
@@ -183,30 +168,6 @@ pub(crate) fn read_text_rows<'a>(
     let mut sums = TextRows::new(alloc, hashing);
     take_lines(text, &mut sums)?;
     Ok(sums)
-}
-
-/// Sorts rows by their texts.
-pub(crate) fn sort_by_text(rows: &mut Vec<TextRow>) -> Result<(), NoMemory>
-    ensures permutation { IsPermutation rows.old.items rows.new.items }
-    ensures sorted { OnOk result (IsSorted by_text rows.new.items) }
-{
-    rows.sort_by(|left, right| left.cmp_text(right))?;
-    Ok(())
-}
-
-/// The rows as lines of folded text, each stack as its text has it.
-pub(crate) fn write_text_rows(alloc: Global, rows: &[TextRow]) -> Result<Vec<u8>, NoMemory>
-    ensures { IfOk result (λ text. text.items ≡ text_lines rows.now) }
-{
-    let mut text = Vec::new(alloc);
-    let mut buffer = Buffer::new();
-    for row in rows {
-        text.extend_from_slice(row.text().as_bytes())?;
-        text.push(b' ')?;
-        text.extend_from_slice(buffer.format(row.weight()).as_bytes())?;
-        text.push(b'\n')?;
-    }
-    Ok(text)
 }
 
 /// Rows with the names of their stacks.

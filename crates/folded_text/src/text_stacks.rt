@@ -1,12 +1,8 @@
 //! Rows whose stacks are texts, in the order of their stacks.
 
-ghost use Rattle.std.specs.Prelude.{◌≡◌, ◌^◌, ◌<◌, ◌≤◌, All, IfOk, filter, length, map};
-ghost use Rattle.std.specs.List.{common_prefix_len};
+ghost use Rattle.std.specs.Prelude.{◌≡◌, ◌^◌, ◌<◌, All, IfOk, filter, map};
 ghost use Rattle.std.specs.Option.{option_copied};
-ghost use Rattle.std.specs.Ordering.{eq_by_cmp};
 ghost use Rattle.profile_rows.specs.Aggregate.{Weighted, aggregate_of, rows_of};
-ghost use Rattle.profile_rows.specs.Merging.{row_at};
-ghost use Rattle.profile_rows.specs.Names.{name_cmp};
 ghost use Rattle.profile_rows.specs.Rows.{has_name, is_kept, kept_rows, total_of};
 ghost use Rattle.profile_rows.specs.StackTexts.{AreStackTexts, plain_text};
 ghost use Rattle.profile_rows.specs.TopList.{AreTotalsOf};
@@ -15,9 +11,9 @@ ghost use Rattle.folded_text.specs.TextRows.{AreTextRows, IsStackText, spelled_r
 
 use crate::stack_frames::Frames;
 use crate::text_row::TextRow;
-use crate::text_rows::{sort_by_text, write_text_rows};
 use crate::text_totals::count_rows;
 use basics::NoMemory;
+use itoa::Buffer;
 use profile_rows::{CountedRows, FrameTotals, Hashing, Name, StackText};
 use std::alloc::Global;
 use std::marker::Model;
@@ -105,7 +101,7 @@ impl<'a> TextStacks<'a> {
         ensures { IfOk result (λ stacks. stacks ≡ rows_of (aggregate_of (spelled_rows rows.entry.items))) }
     {
         let mut rows = rows;
-        sort_by_text(&mut rows)?;
+        rows.sort_by(|left, right| left.cmp_text(right))?;
         Ok(TextStacks { rows, total })
     }
 
@@ -120,11 +116,13 @@ impl<'a> TextStacks<'a> {
         TextStacks::sorted(rows, total)
     }
 
-    /// How many rows there are.
-    pub fn len(&self) -> usize
-        ensures { result ≡ length self.now }
+    /// The rows.
+    pub fn rows(&self) -> &[TextRow<'a>]
+        ensures rows { spelled_rows result.now ≡ self.now }
+        ensures spelled { All (λ row. IsStackText row.text) result.now }
+        ensures fits { total_of self.now < 2 ^ 63 }
     {
-        self.rows.len()
+        self.rows.as_slice()
     }
 
     /// What the rows weigh together.
@@ -133,23 +131,6 @@ impl<'a> TextStacks<'a> {
         ensures fits { total_of self.now < 2 ^ 63 }
     {
         self.total
-    }
-
-    /// What a row weighs.
-    pub fn weight(&self, at: usize) -> u64
-        requires { at < length self.now }
-        ensures { result ≡ (row_at self.now at).weight }
-    {
-        self.rows[at].weight()
-    }
-
-    /// The text of a row's stack.
-    pub fn text(&self, at: usize) -> &'a str
-        requires { at < length self.now }
-        ensures frames { frames_of result.now ≡ (row_at self.now at).stack }
-        ensures spelled { IsStackText result.now }
-    {
-        self.rows[at].text()
     }
 
     /// Takes out the rows without the focus and those with the ignored name. Takes no memory.
@@ -164,7 +145,15 @@ impl<'a> TextStacks<'a> {
     pub fn write(&self, alloc: Global) -> Result<Vec<u8>, NoMemory>
         ensures { IfOk result (λ text. text.items ≡ rows_text self.now) }
     {
-        write_text_rows(alloc, self.rows.as_slice())
+        let mut text = Vec::new(alloc);
+        let mut buffer = Buffer::new();
+        for row in self.rows.as_slice() {
+            text.extend_from_slice(row.text().as_bytes())?;
+            text.push(b' ')?;
+            text.extend_from_slice(buffer.format(row.weight()).as_bytes())?;
+            text.push(b'\n')?;
+        }
+        Ok(text)
     }
 
     /// What the names weigh in the rows.

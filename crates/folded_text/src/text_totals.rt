@@ -1,13 +1,12 @@
 //! What the names weigh in the rows of folded text, counted while it is read.
 
-ghost use Rattle.std.specs.Prelude.{ℕ, ◌≡◌, ◌≢◌, ◌+◌, ◌^◌, ◌<◌, ◌++◌, ◌∷◌, [], All, List, MatchResult, IfErr, None, OnOk, map};
+ghost use Rattle.std.specs.Prelude.{◌≡◌, ◌≢◌, ◌+◌, ◌^◌, ◌<◌, ◌++◌, ◌∷◌, [], All, List, MatchResult, IfErr, None, OnOk};
 ghost use Rattle.profile_rows.specs.declared.weighted_stacks.WeightedStack.{WeightedStack};
 ghost use Rattle.profile_rows.specs.Merging.{AreMergedSoFar};
-ghost use Rattle.profile_rows.specs.Names.{IsName};
 ghost use Rattle.profile_rows.specs.Rows.{total_of};
 ghost use Rattle.profile_rows.specs.Tallies.{HasCounted};
 ghost use Rattle.profile_rows.specs.TopList.{AreTotalsOf};
-ghost use Rattle.folded_text.specs.FoldedText.{IsFoldedText, IsLineFault, IsRowLine, IsWorkFault, frames_of};
+ghost use Rattle.folded_text.specs.FoldedText.{IsFoldedText, IsLineFault, IsRowLine, IsWorkFault};
 ghost use Rattle.folded_text.specs.TextRows.{IsStackText, spelled_rows};
 ghost use Rattle.folded_text.specs.TextSums.{AreCounted, AreTotalsOfText};
 

@@ -1,29 +1,14 @@
 //! Folded text written.
 
-ghost use Rattle.std.specs.Prelude.{◌≡◌, ◌++◌, ◌^◌, ◌<◌, ◌≤◌, All, IfOk, OnOk, length};
-ghost use Rattle.std.specs.List.{join_with_byte};
+ghost use Rattle.std.specs.Prelude.{◌≡◌, ◌++◌, ◌<◌, ◌≤◌, All, IfOk, OnOk, length};
 ghost use Rattle.folded_text.specs.FoldedText.{IsFoldedText, row_text, rows_text};
 ghost use Rattle.profile_rows.specs.Names.{IsName};
 ghost use Rattle.profile_rows.specs.Values.{rows_at};
 
 use basics::NoMemory;
 use itoa::Buffer;
-use profile_rows::{Batch, Name, Stack, WeightedStacks};
+use profile_rows::{Batch, Stack, WeightedStacks};
 use std::alloc::Global;
-
-/// Adds the names of a stack, separated by semicolons.
-fn push_stack(text: &mut Vec<u8>, names: &[Name]) -> Result<(), NoMemory>
-    ensures joined { OnOk result (text.new.items ≡ text.old.items ++ join_with_byte 59 names.now) }
-    ensures names { OnOk result (All IsName names.now) }
-{
-    for (index, name) in names.iter().enumerate() {
-        if index > 0 {
-            text.push(b';')?;
-        }
-        text.extend_from_slice(name.text().as_bytes())?;
-    }
-    Ok(())
-}
 
 /// Adds the line of a stack and its weight.
 fn push_row(text: &mut Vec<u8>, stack: &Stack, weight: u64) -> Result<(), NoMemory>
@@ -32,8 +17,13 @@ fn push_row(text: &mut Vec<u8>, stack: &Stack, weight: u64) -> Result<(), NoMemo
     ensures names { OnOk result (All IsName stack.now) }
     ensures depth { length stack.now ≤ 65535 }
 {
+    for (index, name) in stack.names().iter().enumerate() {
+        if index > 0 {
+            text.push(b';')?;
+        }
+        text.extend_from_slice(name.text().as_bytes())?;
+    }
     let mut buffer = Buffer::new();
-    push_stack(text, stack.names())?;
     text.push(b' ')?;
     text.extend_from_slice(buffer.format(weight).as_bytes())?;
     text.push(b'\n')?;

@@ -41,7 +41,7 @@ fn a_name_has_no_greatest_length(rt: HostRuntime) -> Result<(), Fail> {
 #[test]
 fn a_name_is_shared_and_kept_again(rt: HostRuntime) -> Result<(), Fail> {
     let name = Name::make(rt.alloc(), "a b")?;
-    assert!(rt; name.share()? == name);
+    assert!(rt; name.clone()? == name);
     assert!(rt; Name::keep(rt.alloc(), name.text())? == name);
     Ok(())
 }
@@ -92,7 +92,7 @@ fn weighted_stacks_keep_their_total_within_the_limit(rt: HostRuntime) -> Result<
 fn repeated(name: &Name, alloc: Global, times: usize) -> Result<Vec<Name>, NoMemory> {
     let mut names = Vec::new(alloc);
     for _ in 0..times {
-        names.push(name.share()?)?;
+        names.push(name.clone()?)?;
     }
     Ok(names)
 }
@@ -224,7 +224,7 @@ fn rows_of_a_batch_are_given_away_in_order(rt: HostRuntime) -> Result<(), Fail> 
 }
 
 fn shared_text(alloc: Global, batch: &Batch) -> Result<String, Fail> {
-    all_text(alloc, &batch.share(alloc)?)
+    all_text(alloc, &batch.share()?)
 }
 
 #[test]
@@ -247,12 +247,12 @@ fn room_for_rows_is_no_row(rt: HostRuntime) -> Result<(), Fail> {
 // Three stacks of one value, one of them of no weight.
 fn some_stacks(alloc: Global) -> Result<WeightedStacks, Fail> {
     let rows = rows_of(alloc, "b 2\na;b 1\nc 0\n")?;
-    Ok(rows.first().share(alloc)?)
+    Ok(rows.first().share()?)
 }
 
 #[test]
 fn weighted_stacks_are_shared(rt: HostRuntime) -> Result<(), Fail> {
-    let shared = some_stacks(rt.alloc())?.share(rt.alloc())?;
+    let shared = some_stacks(rt.alloc())?.share()?;
     let text = write_stacks(rt.alloc(), &shared)?;
     assert_eq!(rt; text.as_slice(), b"b 2\na;b 1\nc 0\n".as_slice());
     assert_eq!(rt; shared.total(), 3);
@@ -277,7 +277,7 @@ fn weighted_stacks_are_given_away(rt: HostRuntime) -> Result<(), Fail> {
 // The rows `b 2`, `a;b 1`, `b 3` and `c 0`.
 fn twice_the_same(alloc: Global) -> Result<WeightedStacks, Fail> {
     let rows = rows_of(alloc, "b 2\na;b 1\nb 3\nc 0\n")?;
-    Ok(rows.first().share(alloc)?)
+    Ok(rows.first().share()?)
 }
 
 #[test]

@@ -24,7 +24,7 @@ pub(crate) fn deal(
         (λ lists. AreDealt (arc_value batch) sessions (map (λ list. map plain_op list.items) lists.items)) }
 {
     let mut lists = empty_lists(alloc, sessions)?;
-    let batch = own_batch(alloc, batch)?;
+    let batch = own_batch(batch)?;
     let width = batch.width();
     let rows = batch.into_rows(alloc)?;
     deal_rows(alloc, width, rows, &mut lists)?;
@@ -32,12 +32,12 @@ pub(crate) fn deal(
 }
 
 /// The batch itself where it has no other owner, and else one that shares its names.
-fn own_batch(alloc: Global, batch: Arc<Batch>) -> Result<Batch, NoMemory>
+fn own_batch(batch: Arc<Batch>) -> Result<Batch, NoMemory>
     ensures { IfOk result (λ own. own ≡ arc_value batch) }
 {
     match Arc::try_unwrap(batch) {
         Ok(own) => Ok(own),
-        Err(shared) => shared.share(alloc),
+        Err(shared) => shared.share(),
     }
 }
 

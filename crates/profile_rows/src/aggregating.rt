@@ -22,7 +22,7 @@ fn batch_of_weights(
 {
     let mut batch = Batch::new(alloc, width);
     for (stack, weights) in weights.iter() {
-        let stack = stack.share(alloc)?;
+        let stack = (*stack).clone()?;
         batch.push(stack, *weights).map_err(|_| NoMemory)?;
     }
     Ok(batch)

@@ -182,7 +182,7 @@ impl Batch {
         let mut rows = WeightedStacks::new(alloc);
         for at in 0..self.len() {
             let weight = self.weight(at, value);
-            let stack = self.row(at).stack.share(alloc)?;
+            let stack = self.row(at).stack.clone()?;
             rows.push(stack, weight).map_err(|_| NoMemory)?;
         }
         Ok(rows)
@@ -193,12 +193,12 @@ impl Batch {
     /// # Errors
     ///
     /// `NoMemory`.
-    pub fn share(&self, alloc: Global) -> Result<Batch, NoMemory>
+    pub fn share(&self) -> Result<Batch, NoMemory>
         ensures { IfOk result (λ batch. batch ≡ self.now) }
     {
         Ok(Batch {
             totals: self.totals,
-            first: self.first.share(alloc)?,
+            first: self.first.share()?,
             others: self.others.clone()?,
         })
     }
@@ -212,12 +212,7 @@ impl Batch {
         ensures { IfOk result (λ rows. map plain_row rows.items ≡ self.rows) }
     {
         let width = self.width();
-        let Batch {
-            totals: _,
-            first,
-            others,
-        } = self;
-        let stacks = first.into_rows();
+        let (stacks, others) = (self.first.into_rows(), self.others);
         let mut rows = Vec::with_capacity(alloc, stacks.len())?;
         for row in stacks {
             let WeightedStack { stack, weight } = row;
@@ -266,10 +261,8 @@ impl Batch {
         }
         let kept = self.others.len();
         if let Err(_) = self.others.extend_from_slice(weights.rest()) {
-            return Err(Refused {
-                fault: PushFault::NoMemory,
-                back: stack,
-            });
+            let fault = PushFault::NoMemory;
+            return Err(Refused { fault, back: stack });
         }
         match self.first.push(stack, weights.value(0)) {
             Ok(()) => {
@@ -278,10 +271,8 @@ impl Batch {
             }
             Err(refused) => {
                 self.others.truncate(kept);
-                Err(Refused {
-                    fault: PushFault::NoMemory,
-                    back: refused.back,
-                })
+                let (fault, back) = (PushFault::NoMemory, refused.back);
+                Err(Refused { fault, back })
             }
         }
     }

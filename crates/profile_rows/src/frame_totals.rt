@@ -98,8 +98,12 @@ impl<'a> CountedRows<'a> {
     }
 }
 
-/// The texts of names in the place of others.
-fn replace_by_names<'a>(frames: &mut Vec<&'a str>, names: &'a [Name]) -> Result<(), AllocError>
+/// The texts of names, as the frames of a row, in the place of others.
+///
+/// # Errors
+///
+/// `AllocError`; the list then has the first of these texts.
+pub fn replace_by_names<'a>(frames: &mut Vec<&'a str>, names: &'a [Name]) -> Result<(), AllocError>
     ensures texts { OnOk result (map (λ frame. frame.now) frames.new.items ≡ names.now) }
     ensures names { OnOk result (All IsName names.now) }
 {

@@ -21,9 +21,8 @@ impl Hashing {
     pub fn fixed() -> Hashing
         ensures { result.start ≡ initial }
     {
-        Hashing {
-            start: FoldHasher::default(),
-        }
+        let start = FoldHasher::default();
+        Hashing { start }
     }
 
     /// From a start that this key decides.

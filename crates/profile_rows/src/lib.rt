@@ -24,7 +24,7 @@ pub use aggregating::aggregate;
 pub use basics::NoMemory;
 pub use batch::{Batch, OwnedRow, Row};
 pub use batch_rows::Rows;
-pub use frame_totals::{CountedRows, FrameTotal, FrameTotals, kept_totals};
+pub use frame_totals::{CountedRows, FrameTotal, FrameTotals, kept_totals, replace_by_names};
 pub use hashing::Hashing;
 pub use keeping::keeps;
 pub use name::{Name, NameFault};

@@ -82,6 +82,7 @@ impl Clone for Name {
 
     ghost is_clone = { λ name clone. clone ≡ name };
 
+    /// A second owner of the same text, which isn't copied. It fails at the limit of owners (2^63).
     fn clone(&self) -> Result<Name, AllocError> {
         let text = self.text.clone()?;
         Ok(Name { text })
@@ -133,18 +134,6 @@ impl Name {
         }
         let cleaned = cleaned_text(alloc, text)?;
         Ok(Some(Name::keep(alloc, cleaned.as_str())?))
-    }
-
-    /// A second owner of the same text, which isn't copied.
-    ///
-    /// # Errors
-    ///
-    /// `NoMemory`, at the limit of owners (2^63).
-    pub fn share(&self) -> Result<Name, NoMemory>
-        ensures { IfOk result (λ name. name ≡ self.now) }
-    {
-        let text = self.text.clone()?;
-        Ok(Name { text })
     }
 
     /// The text.

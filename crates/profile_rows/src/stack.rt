@@ -1,6 +1,6 @@
 //! Stacks of names.
 
-ghost use Rattle.std.specs.Prelude.{◌≡◌, ◌<◌, ◌≤◌, length, IfOk, MatchResult, ◌==◌, refl};
+ghost use Rattle.std.specs.Prelude.{◌≡◌, ◌<◌, ◌≤◌, length, MatchResult, ◌==◌, refl};
 ghost use Rattle.std.specs.Cmp.Lexicographic.{slice_cmp, pointwise, lists_ties, lists_total, texts_ties, nat_list_cmp_total};
 ghost use Rattle.std.specs.Ordering.{nat_cmp, as_partial_cmp};
 ghost use Rattle.std.specs.Cmp.Rules.{comparing};
@@ -8,8 +8,8 @@ ghost use Rattle.std.specs.Cmp.{partial_order_from_agreeing_total};
 ghost use Rattle.std.proofs.Common.{rules};
 
 use crate::name::Name;
-use basics::NoMemory;
-use std::alloc::Global;
+use std::alloc::AllocError;
+use std::clone::Clone;
 use std::cmp::Ordering;
 use std::marker::Model;
 
@@ -55,23 +55,19 @@ impl Stack {
         ensures names { result.now ≡ self.now }
         ensures depth { length self.now ≤ MAX_DEPTH }
     {
-        let names: &Vec<Name> = &self.names;
-        names.as_slice()
+        self.names.as_slice()
     }
+}
 
-    /// The same stack, with a second owner of each name.
-    ///
-    /// # Errors
-    ///
-    /// `NoMemory`.
-    pub fn share(&self, alloc: Global) -> Result<Stack, NoMemory>
-        ensures { IfOk result (λ stack. stack ≡ self.now) }
-    {
-        let mut shares = Vec::with_capacity(alloc, self.names.len())?;
-        for name in self.names.as_slice() {
-            shares.push(name.share()?)?;
-        }
-        Ok(Stack { names: shares })
+impl Clone for Stack {
+    ghost use Rattle.std.specs.Prelude.{◌≡◌};
+
+    ghost is_clone = { λ stack clone. clone ≡ stack };
+
+    /// A second owner of each name.
+    fn clone(&self) -> Result<Stack, AllocError> {
+        let names = self.names.clone()?;
+        Ok(Stack { names })
     }
 }
 

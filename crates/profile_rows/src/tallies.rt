@@ -13,24 +13,11 @@ use std::alloc::{AllocError, Global};
 
 /// What a name weighs so far: as a leaf, and in the rows that have it. `row` is the number of the last of these, which
 /// is the weight counted up to it.
-#[derive(Clone, Copy, Debug)]
+#[derive(Clone, Copy, Debug, Default)]
 pub struct Tally {
     pub flat: u64,
     pub cumulative: u64,
     pub row: u64,
-}
-
-impl Tally {
-    /// That of a name which no row has.
-    pub fn none() -> Tally
-        ensures { result ≡ record { flat = 0; cumulative = 0; row = 0 } }
-    {
-        Tally {
-            flat: 0,
-            cumulative: 0,
-            row: 0,
-        }
-    }
 }
 
 /// Counts a frame of the name of this number, where it is the row's first of its name.
@@ -112,7 +99,7 @@ impl Tallies {
         ensures { (names : List (List ℕ)) → AreSingle names → length names ≡ count
             → IfOk result (AreTalliesOf [] names) }
     {
-        let names = vec![in alloc; Tally::none(); count]?;
+        let names = vec![in alloc; Tally::default(); count]?;
         Ok(Tallies { names, total: 0 })
     }
 
@@ -128,7 +115,7 @@ impl Tallies {
             → OnOk result (AreTalliesOf rows (with_texts names more) self.new) }
     {
         if count > self.names.len() {
-            self.names.resize(count, Tally::none())?;
+            self.names.resize(count, Tally::default())?;
         }
         Ok(())
     }

@@ -101,10 +101,8 @@ impl Weights {
         ensures width { length result ≡ width }
         ensures zero { (value : ℕ) → value_of value result ≡ 0 }
     {
-        Weights {
-            width,
-            values: [0; 4],
-        }
+        let values = [0; 4];
+        Weights { width, values }
     }
 
     /// A first value and up to three others.
@@ -114,12 +112,9 @@ impl Weights {
     {
         let mut values = [first, 0, 0, 0];
         values[1..others.len() + 1].copy_from_slice(others);
-        Weights {
-            width: Width {
-                count: others.len() as u32 + 1,
-            },
-            values,
-        }
+        let count = others.len() as u32 + 1;
+        let width = Width { count };
+        Weights { width, values }
     }
 
     /// These values and as many others, added one by one: each sum is at most [`MAX_TOTAL`].
@@ -154,8 +149,7 @@ impl Weights {
     pub(crate) fn rest(&self) -> &[u64]
         ensures { result.now ≡ drop 1 self.now }
     {
-        let values = self.values();
-        &values[1..]
+        &self.values()[1..]
     }
 
     /// Whether some value is above 0.

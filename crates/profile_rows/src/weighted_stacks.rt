@@ -1,10 +1,13 @@
 //! Rows of one value, in order, whose total keeps the limit.
 
 ghost use Rattle.std.specs.Prelude.{◌≡◌, ◌≤◌, ◌+◌, ◌^◌, ◌<◌, ◌++◌, ◌∷◌, [], length, IfErr, IfOk, OnErr, OnOk};
-ghost use Rattle.profile_rows.specs.Rows.{total_of};
+ghost use Rattle.std.specs.Option.{option_copied};
+ghost use Rattle.profile_rows.specs.Rows.{kept_rows, total_of};
 ghost use Rattle.profile_rows.specs.Pushing.{IsWeightFault};
 ghost use Rattle.profile_rows.specs.Merging.{with_added_at};
 
+use crate::keeping::keeps;
+use crate::name::Name;
 use crate::stack::Stack;
 use basics::NoMemory;
 use std::alloc::Global;
@@ -15,7 +18,7 @@ use thiserror::Error;
 pub const MAX_TOTAL: u64 = 9_223_372_036_854_775_807;
 
 /// A row of one value: a stack and its weight.
-#[derive(Drop, PartialEq, Eq)]
+#[derive(Clone, Drop, PartialEq, Eq)]
 pub struct WeightedStack {
     pub stack: Stack,
     pub weight: u64,
@@ -51,11 +54,10 @@ pub struct WeightedStacks {
 
 impl Model for WeightedStacks {
     ghost use Rattle.std.specs.Prelude.{List, ◌≡◌, ◌<◌, ◌^◌};
+    ghost use Rattle.profile_rows.specs.Rows.{total_of};
     ghost use Rattle.profile_rows.specs.declared.weighted_stacks.WeightedStack.{WeightedStack};
 
     ghost Value = { List WeightedStack };
-
-    ghost use Rattle.profile_rows.specs.Rows.{total_of};
 
     ghost view = { λ b. b.rows.items };
 
@@ -67,10 +69,8 @@ impl WeightedStacks {
     pub fn new(alloc: Global) -> WeightedStacks
         ensures { result ≡ [] }
     {
-        WeightedStacks {
-            rows: Vec::new(alloc),
-            total: 0,
-        }
+        let rows = Vec::new(alloc);
+        WeightedStacks { rows, total: 0 }
     }
 
     /// No rows, with room for so many.
@@ -81,10 +81,8 @@ impl WeightedStacks {
     pub fn with_capacity(alloc: Global, rows: usize) -> Result<WeightedStacks, NoMemory>
         ensures { IfOk result (λ stacks. stacks ≡ []) }
     {
-        Ok(WeightedStacks {
-            rows: Vec::with_capacity(alloc, rows)?,
-            total: 0,
-        })
+        let rows = Vec::with_capacity(alloc, rows)?;
+        Ok(WeightedStacks { rows, total: 0 })
     }
 
     /// The same rows, with a second owner of each name.
@@ -92,21 +90,11 @@ impl WeightedStacks {
     /// # Errors
     ///
     /// `NoMemory`.
-    pub fn share(&self, alloc: Global) -> Result<WeightedStacks, NoMemory>
+    pub fn share(&self) -> Result<WeightedStacks, NoMemory>
         ensures { IfOk result (λ stacks. stacks ≡ self.now) }
     {
-        let mut shares = Vec::with_capacity(alloc, self.rows.len())?;
-        for row in self.rows.as_slice() {
-            let stack = row.stack.share(alloc)?;
-            shares.push(WeightedStack {
-                stack,
-                weight: row.weight,
-            })?;
-        }
-        Ok(WeightedStacks {
-            rows: shares,
-            total: self.total,
-        })
+        let (rows, total) = (self.rows.clone()?, self.total);
+        Ok(WeightedStacks { rows, total })
     }
 
     /// The rows, in the order in which they were added.
@@ -114,8 +102,7 @@ impl WeightedStacks {
         ensures rows { result.now ≡ self.now }
         ensures fits { total_of self.now < 2 ^ 63 }
     {
-        let rows: &Vec<WeightedStack> = &self.rows;
-        rows.as_slice()
+        self.rows.as_slice()
     }
 
     /// The rows as a vector of the caller's own. Takes no memory.
@@ -149,10 +136,8 @@ impl WeightedStacks {
     {
         let held = self.total;
         if weight > MAX_TOTAL - held {
-            return Err(Refused {
-                fault: PushFault::Heavy { value: 0, held },
-                back: stack,
-            });
+            let fault = PushFault::Heavy { value: 0, held };
+            return Err(Refused { fault, back: stack });
         }
         match self.rows.push(WeightedStack { stack, weight }) {
             Ok(()) => {
@@ -160,17 +145,13 @@ impl WeightedStacks {
                 Ok(())
             }
             Err(failed) => {
-                let WeightedStack { stack, weight: _ } = failed.value;
-                Err(Refused {
-                    fault: PushFault::NoMemory,
-                    back: stack,
-                })
+                let fault = PushFault::NoMemory;
+                let back = failed.value.stack;
+                Err(Refused { fault, back })
             }
         }
     }
-}
 
-impl WeightedStacks {
     /// Makes a row weigh so much more. Takes no memory.
     ///
     /// # Errors
@@ -184,17 +165,36 @@ impl WeightedStacks {
         ensures heavy { IfErr result
             (λ fault. (fault ≡ PushFault.Heavy 0 (total_of self.old)) × (2 ^ 63 ≤ total_of self.old + weight)) }
     {
-        let room = MAX_TOTAL - self.total;
-        if room < weight {
-            return Err(PushFault::Heavy {
-                value: 0,
-                held: self.total,
-            });
+        let held = self.total;
+        if weight > MAX_TOTAL - held {
+            return Err(PushFault::Heavy { value: 0, held });
         }
         let row = &mut self.rows[at];
         row.weight += weight;
-        self.total = self.total + weight;
+        self.total += weight;
         Ok(())
+    }
+
+    /// What the rows weigh that have the focus, where there is one, and not the ignored name, where there is one.
+    pub fn kept_total(&self, focus: Option<&Name>, ignored: Option<&Name>) -> u64
+        ensures { result ≡ total_of (kept_rows (option_copied focus.entry) (option_copied ignored.entry) self.now) }
+    {
+        let mut total = 0;
+        for row in self.rows() {
+            if keeps(row, focus, ignored) {
+                total += row.weight;
+            }
+        }
+        total
+    }
+
+    /// Leaves the rows that have the focus, where there is one, and not the ignored name, where there is one.
+    pub fn keep(&mut self, focus: Option<&Name>, ignored: Option<&Name>)
+        ensures { self.new ≡ kept_rows (option_copied focus.entry) (option_copied ignored.entry) self.old }
+    {
+        let total = self.kept_total(focus, ignored);
+        self.rows.retain(|row| keeps(row, focus, ignored));
+        self.total = total;
     }
 }
 

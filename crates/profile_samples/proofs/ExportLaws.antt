@@ -44,7 +44,7 @@ pub with_text-stands : (texts : List (List ℕ)) (text q : List ℕ)
     → stands_in texts q ≡ true → stands_in (with_text texts text) q ≡ true
 with_text-stands texts text q e = grind (arith, common_steps, any_push, or_left)
 
-with_text-own : (texts : List (List ℕ)) (text : List ℕ) → stands_in (with_text texts text) text ≡ true
+pub with_text-own : (texts : List (List ℕ)) (text : List ℕ) → stands_in (with_text texts text) text ≡ true
 with_text-own texts text = grind (arith, common_steps, is_same_name-self, any_push, or_right)
 
 pub with_texts-stands : (texts more : List (List ℕ)) (q : List ℕ)

@@ -5,15 +5,15 @@ use Rattle.std.proofs.Common.{length-set, take-append-drop, Bool, true, false, c
 use Rattle.std.proofs.Common.{length, map, get_or, Option, Some, None, refl, sym, ap, ◌∙◌, subst, arith, All}
 use Rattle.std.specs.Prelude.{ℤ, pos, negsuc, MatchOption, is_some, not, reverse, slice_get, slice_index_or, unwrap_or}
 use Rattle.std.specs.Prelude.{if◌then◌else◌}
-use Rattle.std.specs.List.{AllByRecursion, list_any}
+use Rattle.std.specs.List.{AllByRecursion, list_any, position_or_len}
 use Rattle.std.specs.Option.{option_and_then, option_map, option_or}
-use Rattle.std.specs.Str.{bytes_eq}
+use Rattle.std.specs.Str.{IsUtf8, bytes_eq}
 use mathlib.Core.List.{map-map}
 use Rattle.basics.proofs.Growing.{map_agreeing}
 use Rattle.std.proofs.lemmas.Bool.{cases_eq, cond_both, false≢true, eqb-true, eq-eqb, ne_eqb, or_left, or_right}
-use Rattle.std.proofs.lemmas.List.{flat_map_more, get_or-map, length-map, reverse-append, take_more}
+use Rattle.std.proofs.lemmas.List.{drop_more, flat_map_more, get_or-map, length-map, reverse-append, take_more}
 use Rattle.std.proofs.lemmas.Option.{slice_get-map}
-use Rattle.std.proofs.lemmas.List.Elements.{All-from_recursion, All-head, All-nil, All-push, All-set, All-tail}
+use Rattle.std.proofs.lemmas.List.Elements.{All-cons, All-from_recursion, All-head, All-nil, All-push, All-set, All-tail}
 use Rattle.std.proofs.lemmas.List.Elements.{All-weaker, recursion_from_All}
 use Rattle.std.proofs.lemmas.List.Folds.{length-flat_map-take, list_any_at}
 use Rattle.std.proofs.Math.Nat.{mul-suc}
@@ -21,7 +21,8 @@ use Rattle.pprof_profile.specs.declared.messages.Draft.{Draft}
 use Rattle.pprof_profile.specs.declared.messages.Function.{Function}
 use Rattle.pprof_profile.specs.declared.messages.Location.{Location}
 use Rattle.pprof_profile.specs.declared.messages.Line.{Line}
-use Rattle.profile_rows.specs.Names.{cleaned_name_of, is_same_name}
+use Rattle.profile_rows.specs.Names.{IsName, cleaned_byte, cleaned_name_of, is_same_name}
+use Rattle.profile_rows.proofs.Cleaning.{IsName-cleaned}
 use Rattle.profile_rows.specs.Rows.{has_name}
 use Rattle.profile_rows.proofs.SameNames.{is_same_name-self}
 use Rattle.profile_samples.specs.Samples.{address_name, first_name, frames_at, frames_from, frames_of_id, frames_of_ids}
@@ -35,15 +36,15 @@ use Rattle.profile_samples.specs.NameNumbers.{frame_names, is_name_of, lacks_nam
 use Rattle.profile_samples.specs.NameNumbers.{string_names_from, given, line_number, number_at, number_by, number_of}
 use Rattle.profile_samples.specs.NameNumbers.{numbers_of, numbers_of_id, once_of, string_names, string_numbers}
 use Rattle.profile_samples.specs.NameNumbers.{with_number, with_numbers}
-use Rattle.profile_samples.proofs.ExportLaws.{AllStand, stand_where, stands_in}
-use Rattle.profile_samples.proofs.ExportLaws.{with_text-stands, with_texts-own, with_texts-stands}
+use Rattle.profile_samples.proofs.ExportLaws.{AllStand, stands_in}
+use Rattle.profile_samples.proofs.ExportLaws.{with_text-own, with_text-stands, with_texts-own, with_texts-stands}
 use Rattle.profile_rows.proofs.NumberedRows.{none_single, single_with}
-use Rattle.profile_rows.proofs.TextNumbers.{number_in-kept, list_any-map, number_in-lt, text_of_number}
-use Rattle.profile_samples.proofs.ItemsById.{item_with-all, item_with-found}
+use Rattle.profile_rows.proofs.TextNumbers.{number_in-kept, number_in-with, with_texts-append, list_any-map, number_in-lt, text_of_number}
+use Rattle.profile_samples.proofs.ItemsById.{IsName-address, item_with-all, item_with-found}
 
 -- ---- numbers of strings and functions
 
-or_assoc : (a b c : Bool) → ((a || b) || c) ≡ (a || (b || c))
+pub or_assoc : (a b c : Bool) → ((a || b) || c) ≡ (a || (b || c))
 or_assoc true b c = refl
 or_assoc false b c = refl
 
@@ -59,20 +60,87 @@ number_in-withs front (next ∷ back) text there =
     number_in-withs (with_text front next) back text (with_text-stands front next text there)
     ∙ number_in-kept front next text there
 
-numbers_kept : (front back : List (List ℕ)) (names : List (Option (List ℕ))) → AllStand front (given names)
-    → map (option_map (number_in front)) names ≡ map (option_map (number_in (with_texts front back))) names
-numbers_kept front back [] all = refl
-numbers_kept front back (None ∷ names) all = ap (λ numbers. None ∷ numbers) (numbers_kept front back names all)
-numbers_kept front back (Some name ∷ names) all =
-    grind (arith, common_steps, number_in-withs, numbers_kept front back names all.1)
+place_of : (texts : List (List ℕ)) (text : List ℕ) → position_or_len (is_same_name text) texts ≡ number_in texts text
+place_of [] text = refl
+place_of (first ∷ texts) text = grind (arith, common_steps, place_of texts text)
 
--- the numbers of strings are there before those of addresses
-pub string_numbers_first : (draft : Draft) → map (option_map (number_in (with_texts [] (given (string_names draft)))))
-    (string_names draft) ≡ string_numbers draft
-string_numbers_first draft =
-    numbers_kept (with_texts [] (given (string_names draft))) (given (address_names draft)) (string_names draft)
-    (stand_where (given (string_names draft)) (with_texts [] (given (string_names draft)))
-    (with_texts-own [] (given (string_names draft))))
+-- the place at which a text is put in is its number, which it keeps as more come
+pub number_put : (texts more : List (List ℕ)) (text : List ℕ)
+    → position_or_len (is_same_name text) texts ≡ number_in (with_texts (with_text texts text) more) text
+number_put texts more text =
+    place_of texts text ∙ sym (number_in-with texts text)
+    ∙ sym (number_in-withs (with_text texts text) more text (with_text-own texts text))
+
+-- what is true of some texts and of more is true of all
+pub texts_all : (P : List ℕ → Type 0) (start more : List (List ℕ))
+    → All P start → All P more → All P (with_texts start more)
+texts_all P start [] all rest = all
+texts_all P start (text ∷ more) all rest = texts_all P (with_text start text) more
+    (cond_both (stands_in start text) start (start ++ text ∷ []) (All P) (λ there. all)
+    (λ none. All-push P start text all (All-head P text more rest))) (All-tail P text more rest)
+
+-- the name of a string is one
+pub named_string : (text : List ℕ) → IsUtf8 text → All IsName (given (cleaned_name_of text ∷ []))
+named_string [] utf8 = All-nil IsName
+named_string (byte ∷ bytes) utf8 =
+    All-cons IsName (map cleaned_byte (byte ∷ bytes)) []
+    (IsName-cleaned (byte ∷ bytes) utf8 (omega arith)) (All-nil IsName)
+
+-- so is that of an address
+pub named_address : (draft : Draft) (location : Location) → All IsName (given (address_of draft location ∷ []))
+named_address draft location =
+    cond_both (needs_address draft location.lines) (Some (address_name location.address)) None
+    (λ name. All IsName (given (name ∷ [])))
+    (λ needs. All-cons IsName (address_name location.address) [] (IsName-address location.address) (All-nil IsName))
+    (λ none. All-nil IsName)
+
+-- ---- names that are put in one by one
+
+-- the next name is put in, and the names to come give the same names in all
+pub name_put : (names new last all : List (List ℕ)) (name : Option (List ℕ)) (rest : List (Option (List ℕ)))
+    → new ≡ with_texts names (given (name ∷ [])) → with_texts (with_texts names (given (name ∷ rest))) last ≡ all
+    → with_texts (with_texts new (given rest)) last ≡ all
+name_put names new last all None rest is front = rw is front
+name_put names new last all (Some name) rest is front = rw is front
+
+-- its number is that among all names
+pub number_kept : (new last all : List (List ℕ)) (name : Option (List ℕ)) (rest : List (Option (List ℕ)))
+    (number : Option ℕ) → ((more : List (List ℕ)) → number ≡ option_map (number_in (with_texts new more)) name)
+    → with_texts (with_texts new (given rest)) last ≡ all → number ≡ option_map (number_in all) name
+number_kept new last all name rest number numbered front =
+    numbered (given rest ++ last)
+    ∙ ap (λ texts. option_map (number_in texts) name) (with_texts-append new (given rest) last ∙ front)
+
+-- the names so far, and the numbers of those of strings, where these are the names of the strings to come
+pub record AreNamedSoFar (draft : Draft) (names : List (List ℕ)) (numbers : List (Option ℕ))
+    (rest : List (Option (List ℕ))) : Type 0 where
+  pub front : with_texts (with_texts names (given rest)) (given (address_names draft)) ≡ frame_names draft
+  pub each : All IsName names
+  pub numbers_are : numbers ++ map (option_map (number_of draft)) rest ≡ string_numbers draft
+
+pub string_named : (draft : Draft) (names new : List (List ℕ)) (numbers next : List (Option ℕ))
+    (name : Option (List ℕ)) (number : Option ℕ) (rest : List (Option (List ℕ)))
+    → AreNamedSoFar draft names numbers (name ∷ rest) → new ≡ with_texts names (given (name ∷ []))
+    → All IsName (given (name ∷ [])) → next ≡ numbers ++ number ∷ []
+    → ((more : List (List ℕ)) → number ≡ option_map (number_in (with_texts new more)) name)
+    → AreNamedSoFar draft new next rest
+string_named draft names new numbers next name number rest so_far new_is named next_is numbered =
+    let front = name_put names new (given (address_names draft)) (frame_names draft) name rest new_is so_far.front in
+    let kept = number_kept new (given (address_names draft)) (frame_names draft) name rest number numbered front in
+    record {
+      front = front;
+      each = rw new_is (texts_all IsName names (given (name ∷ [])) so_far.each named);
+      numbers_are = grind (arith, common_steps, kept, next_is, so_far.numbers_are);
+    }
+
+-- the name of the next string, and those of the strings to come
+pub string_next : (functions : List Function) (strings : List (List ℕ)) (at : ℕ) (string : List ℕ)
+    (name : Option (List ℕ)) → at < length strings → string ≡ get_or strings at string
+    → name ≡ (if names_function functions at then cleaned_name_of string else None)
+    → string_names_from functions at (drop at strings)
+    ≡ name ∷ string_names_from functions (at + 1) (drop (at + 1) strings)
+string_next functions strings at string name lt is named =
+    rw (drop_more strings at string lt, ← is, named) refl
 
 -- where a string names a function, its name stands at its index
 name_from : (functions : List Function) (at : ℕ) (strings : List (List ℕ)) (index : ℕ)
@@ -139,17 +207,6 @@ function_numbers_are draft =
     map_agreeing (number_by (string_numbers draft))
     (λ (function : Function). option_map (number_of draft) (function_name draft.strings function)) draft.functions
     (All-weaker (IsFunctionOf draft) _ (number_by-name draft) draft.functions (each_is draft))
-
--- ---- names of strings
-
--- one string more
-pub strings_more : (functions : List Function) (at : ℕ) (strings : List (List ℕ)) (string : List ℕ)
-    → string_names_from functions at (strings ++ string ∷ []) ≡ string_names_from functions at strings
-    ++ (if names_function functions (at + length strings) then cleaned_name_of string else None) ∷ []
-strings_more functions at [] string =
-    ap (λ n. (if names_function functions n then cleaned_name_of string else None) ∷ []) (omega arith)
-strings_more functions at (first ∷ strings) string =
-    grind (arith, common_steps, strings_more functions (at + 1) strings string)
 
 -- ---- the names stand among those that are numbered
 
@@ -358,19 +415,30 @@ found_names draft id found is =
 
 -- ---- what stands at an id
 
-pub function_numbered : (draft : Draft) (ids : List ℕ) (numbers : List (Option ℕ)) (id : ℕ) (found : Option ℕ)
+-- the number of the name of the function that stands there
+pub function_number : (draft : Draft) (ids : List ℕ) (numbers : List (Option ℕ)) (id : ℕ) (found : Option ℕ)
     → AreFunctionNumbers draft ids numbers
     → MatchOption found ((at : ℕ) → slice_get ids at ≢ Some id) (λ at. slice_get ids at ≡ Some id)
-    → item_with (λ function. function.id) id draft.functions
-    ≡ option_and_then (λ at. slice_get draft.functions at) found
-function_numbered draft ids numbers id found this h =
-    item_with-found (λ function. function.id) draft.functions ids id found this.ids_are this.single h
+    → option_map (number_of draft) (named_by draft.strings (item_with (λ function. function.id) id draft.functions))
+    ≡ option_and_then (λ number. number) (option_and_then (λ at. slice_get numbers at) found)
+function_number draft ids numbers id found this h =
+    ap (λ function. option_map (number_of draft) (named_by draft.strings function))
+    (item_with-found (λ function. function.id) draft.functions ids id found this.ids_are this.single h)
+    ∙ elim found as (λ f. option_map (number_of draft) (named_by draft.strings
+    (option_and_then (λ at. slice_get draft.functions at) f))
+    ≡ option_and_then (λ number. number) (option_and_then (λ at. slice_get numbers at) f)) [
+      | None ↦ refl
+      | Some at ↦ rw (this.numbers_are, slice_get-map _ draft.functions at)
+          (elim (slice_get draft.functions at) as (λ f. option_map (number_of draft) (named_by draft.strings f)
+          ≡ option_and_then (λ number. number) (option_map (λ (function : Function). option_map (number_of draft)
+          (function_name draft.strings function)) f)) [ None ↦ refl | Some function ↦ refl ])
+    ]
 
-pub numbers_at : (draft : Draft) (ids : List ℕ) (frames once : List (List ℕ)) (deepest : ℕ)
-    (names : List (List ℕ)) (id : ℕ) (found : Option ℕ) → AreFrameNumbers draft ids frames once deepest names
+pub numbers_at : (draft : Draft) (ids : List ℕ) (frames once names : List (List ℕ))
+    (id : ℕ) (found : Option ℕ) → AreFrameNumbers draft ids frames once names
     → MatchOption found ((at : ℕ) → slice_get ids at ≢ Some id) (λ at. slice_get ids at ≡ Some id)
     → numbers_of_id draft id ≡ option_and_then (λ at. slice_get frames at) found
-numbers_at draft ids frames once deepest names id found this h =
+numbers_at draft ids frames once names id found this h =
     ap (option_map (numbers_of draft))
     (item_with-found (λ location. location.id) draft.locations ids id found this.ids_are this.single h)
     ∙ elim found as (λ f. option_map (numbers_of draft) (option_and_then (λ at. slice_get draft.locations at) f)
@@ -385,15 +453,6 @@ pub numbers_of_lines : (draft : Draft) (address : ℕ) (lines : List Line) → 0
 numbers_of_lines draft address [] some = absurd (omega (arith, some))
 numbers_of_lines draft address (line ∷ lines) some =
     sym (map-map (number_of draft) (line_name draft.strings draft.functions address) (line ∷ lines))
-
--- ---- the names that are there, one by one
-
-pub given-push : (names : List (Option (List ℕ))) (name : Option (List ℕ))
-    → given (names ++ name ∷ []) ≡ given names ++ given (name ∷ [])
-given-push [] None = refl
-given-push [] (Some name) = refl
-given-push (None ∷ names) name = given-push names name
-given-push (Some first ∷ names) name = ap (λ more. first ∷ more) (given-push names name)
 
 -- ---- the frames of ids, one by one
 
@@ -459,10 +518,26 @@ once-same before next count mark number marks once so_far is here =
 -- ---- lines that lack a name
 
 -- a location with a line that lacks a name needs its address
-pub lacking : (draft : Draft) (lines : List Line) (index : ℕ) (none : Line) → index < length lines
+lacking : (draft : Draft) (lines : List Line) (index : ℕ) (none : Line) → index < length lines
     → lacks_name draft (get_or lines index none) ≡ true → needs_address draft lines ≡ true
 lacking draft [] index none lt lacks = refl
 lacking draft (line ∷ lines) index none lt lacks = list_any_at (lacks_name draft) (line ∷ lines) index none lt lacks
+
+or_else_numbered : (f : List ℕ → ℕ) (found : Option (List ℕ)) (name : List ℕ) (number : ℕ)
+    → (not (is_some found) ≡ true → number ≡ f name) → unwrap_or (option_map f found) number ≡ f (unwrap_or found name)
+or_else_numbered f (Some found) name number h = refl
+or_else_numbered f None name number h = h refl
+
+-- the number of a line's name, by that of its address
+pub line_numbered : (draft : Draft) (address number : ℕ) (lines : List Line) (index : ℕ) (none : Line)
+    → index < length lines → (needs_address draft lines ≡ true → number ≡ number_of draft (address_name address))
+    → unwrap_or (option_map (number_of draft) (named_by draft.strings (item_with (λ function. function.id)
+    (get_or lines index none).function_id draft.functions))) number
+    ≡ line_number draft address (get_or lines index none)
+line_numbered draft address number lines index none lt h =
+    or_else_numbered (number_of draft) (named_by draft.strings (item_with (λ function. function.id)
+    (get_or lines index none).function_id draft.functions)) (address_name address) number
+    (λ lacks. h (lacking draft lines index none lt lacks))
 
 -- ---- all locations
 
@@ -474,18 +549,6 @@ all_named draft =
     (λ location. numbers_below (frame_names draft) (location_frames draft location))
     draft.locations (locations_stand draft)
 
-texts_all : (P : List ℕ → Type 0) (start more : List (List ℕ))
-    → All P start → All P more → All P (with_texts start more)
-texts_all P start [] all rest = all
-texts_all P start (text ∷ more) all rest = texts_all P (with_text start text) more
-    (cond_both (stands_in start text) start (start ++ text ∷ []) (All P) (λ there. all)
-    (λ none. All-push P start text all (All-head P text more rest))) (All-tail P text more rest)
-
-pub texts_named : (P : List ℕ → Type 0) (front back : List (List ℕ))
-    → All P front → All P back → All P (with_texts (with_texts [] front) back)
-texts_named P front back all rest =
-    texts_all P (with_texts [] front) back (texts_all P [] front (All-nil P) all) rest
-
 -- ---- the deepest location
 
 deepest_bounds : (draft : Draft) (deepest : ℕ) (locations : List Location)
@@ -496,10 +559,10 @@ deepest_bounds draft deepest (location ∷ locations) all id =
     grind (arith, common_steps, length-map, deepest_bounds draft deepest locations all.1 id)
 
 -- a location has no more frames than the deepest
-pub within_deepest : (draft : Draft) (ids : List ℕ) (frames once : List (List ℕ)) (deepest : ℕ)
-    (names : List (List ℕ)) → AreFrameNumbers draft ids frames once deepest names
+pub within_deepest : (draft : Draft) (frames : List (List ℕ)) (deepest : ℕ)
+    → frames ≡ map (numbers_of draft) draft.locations → All (λ (numbers : List ℕ). length numbers ≤ deepest) frames
     → (id : ℕ) → length (frames_of_id draft id) ≤ deepest
-within_deepest draft ids frames once deepest names this id =
+within_deepest draft frames deepest frames_are depths id =
     grind (arith, common_steps, recursion_from_All, deepest_bounds)
 
 -- so many locations have no more frames than so many of the deepest

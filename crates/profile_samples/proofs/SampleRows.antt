@@ -20,7 +20,7 @@ use Rattle.profile_samples.specs.declared.sampling.BatchFault.TheVariants.{NoMem
 use Rattle.profile_samples.specs.declared.sampling.ValueChoice.{ValueChoice}
 use Rattle.profile_samples.specs.declared.sampling.ValueChoice.TheVariants.{Default, Named, All}
 use Rattle.profile_samples.specs.Batches.{AreRowsOfSamples}
-use Rattle.profile_samples.specs.Samples.{HasWeights, IsFitFault, IsRowOfSample, IsSampleFault, all_of, chosen_types_of}
+use Rattle.profile_samples.specs.Samples.{HasWeights, IsRowOfSample, IsSampleFault, all_of, chosen_types_of}
 use Rattle.profile_samples.specs.Samples.{default_type, frames_of_ids, last_index, one_from, or_last, sample_stack_of}
 use Rattle.profile_samples.specs.Samples.{string_at, type_named}
 use Rattle.profile_samples.proofs.ItemsById.{rule_holds}
@@ -231,29 +231,20 @@ pub one_value_room : (earlier weight : ℕ) → earlier + weight < 2 ^ 63
 one_value_room earlier weight fits zero = fits
 one_value_room earlier weight fits (suc value) = omega (arith, fits)
 
--- the sample doesn't fit
-pub IsSampleFault-fit : (draft : Draft) (index earlier number : ℕ) (sample : Sample) (weight : ℕ) (fit : Bool)
-    (fault : BatchFault) → slice_get sample.values index ≡ Some (pos weight)
-    → Decides draft sample.location_ids fit → IsFitFault fit earlier number weight fault
-    → IsSampleFault draft index (earlier ∷ []) number sample fault
-IsSampleFault-fit draft index earlier number sample weight fit NoValue is decides h = absurd h
-IsSampleFault-fit draft index earlier number sample weight fit (Width count) is decides h = absurd h
-IsSampleFault-fit draft index earlier number sample weight fit (Negative at) is decides h = absurd h
-IsSampleFault-fit draft index earlier number sample weight fit (Depth at) is decides h =
-    (h.0, weight ∷ [], one_weight index weight sample.values is, too_deep draft sample.location_ids fit decides h.1)
-IsSampleFault-fit draft index earlier number sample weight fit (Heavy at) is decides h =
-    IsSampleFault-heavy draft index (earlier ∷ []) number sample (weight ∷ []) (Heavy at) refl
-    (one_weight index weight sample.values is) (fits_in draft sample.location_ids fit decides h.1)
-    (ap Heavy h.0, 0, omega arith, h.2)
-IsSampleFault-fit draft index earlier number sample weight fit NoMemory is decides h = absurd h
+-- the sample's stack is too deep
+pub one_value_deep : (draft : Draft) (index earlier number : ℕ) (sample : Sample) (weight : ℕ) (fit : Bool)
+    → slice_get sample.values index ≡ Some (pos weight) → Decides draft sample.location_ids fit → fit ≡ false
+    → IsSampleFault draft index (earlier ∷ []) number sample (Depth number)
+one_value_deep draft index earlier number sample weight fit is decides none =
+    (refl, weight ∷ [], one_weight index weight sample.values is, too_deep draft sample.location_ids fit decides none)
 
-pub one_value_memory : (draft : Draft) (index earlier number : ℕ) (sample : Sample) (weight : ℕ)
+-- the weight passes the limit
+pub one_value_heavy : (draft : Draft) (index earlier number : ℕ) (sample : Sample) (weight : ℕ)
     → slice_get sample.values index ≡ Some (pos weight)
     → length (sample_stack_of draft sample.location_ids) ≤ 65535
-    → earlier + weight < 2 ^ 63 → IsSampleFault draft index (earlier ∷ []) number sample NoMemory
-one_value_memory draft index earlier number sample weight is deep fits =
-    IsSampleFault-memory draft index (earlier ∷ []) number sample (weight ∷ []) refl
-    (one_weight index weight sample.values is) deep (one_value_room earlier weight fits)
+    → 2 ^ 63 ≤ earlier + weight → IsSampleFault draft index (earlier ∷ []) number sample (Heavy number)
+one_value_heavy draft index earlier number sample weight is deep heavy =
+    (refl, _, one_value_row draft index sample weight is deep, 0, omega arith, heavy)
 
 -- ---- a pass over the samples, which are lent
 

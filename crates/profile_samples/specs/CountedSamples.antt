@@ -2,10 +2,8 @@
 use Rattle.std.specs.Prelude.{ℕ, ◌≡◌, ◌<◌, All, List, length}
 use Rattle.pprof_profile.specs.declared.messages.Draft.{Draft}
 use Rattle.profile_rows.specs.declared.frame_totals.FrameTotals.{FrameTotals}
-use Rattle.profile_rows.specs.declared.tallies.Tallies.{Tallies}
 use Rattle.profile_rows.specs.declared.weighted_stacks.WeightedStack.{WeightedStack}
 use Rattle.profile_rows.specs.Rows.{has_name}
-use Rattle.profile_rows.specs.Tallies.{AreTalliesOf}
 use Rattle.profile_rows.specs.TextTables.{names_at}
 use Rattle.profile_rows.specs.TopList.{AreTotalsOf}
 use Rattle.profile_samples.specs.declared.sampling.ValueChoice.{ValueChoice}
@@ -18,12 +16,6 @@ pub record AreNumbersOfIds (draft : Draft) (ids numbers : List ℕ) : Type 0 whe
   pub inside : All (λ number. number < length (frame_names draft)) numbers
   pub same : (name : List ℕ)
       → has_name name (names_at (frame_names draft) numbers) ≡ has_name name (frames_of_ids draft ids)
-
--- the rows of a profile's samples are counted
-pub record AreRowsCounted (draft : Draft) (choice : ValueChoice) (tallies : Tallies) : Type 0 where
-  pub rows : List WeightedStack
-  pub sampled : AreStacksOf draft choice rows
-  pub counted : AreTalliesOf rows (frame_names draft) tallies
 
 -- what the names weigh in the rows of a profile's samples
 pub record AreTotalsOfSamples (draft : Draft) (choice : ValueChoice) (totals : FrameTotals) : Type 0 where

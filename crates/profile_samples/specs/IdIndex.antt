@@ -1,23 +1,20 @@
 -- Where ids stand.
-use Rattle.std.specs.Prelude.{ℕ, zero, suc, ◌≡◌, ◌≢◌, ◌-◌, ◌==◌, List, Option, Some, None, MatchOption, cond, nat_lt}
+use Rattle.std.specs.Prelude.{ℕ, zero, suc, ◌≡◌, ◌≢◌, ◌-◌, List, Option, Some, None, MatchOption, cond, nat_lt}
 use Rattle.std.specs.Prelude.{slice_get, slice_index_or}
-use Rattle.std.specs.HashMap as hash
 use Rattle.std.specs.Option.{option_or}
-use Rattle.profile_samples.specs.declared.id_index.IndexTable.{IndexTable}
 
 -- a number that is one more than an index, or 0 where there is none
 abbrev pub index_before : ℕ → Option ℕ
 index_before zero = None
 index_before (suc index) = Some index
 
--- the index that the table has for an id
-abbrev pub index_near : IndexTable → ℕ → Option ℕ
-index_near indices id =
-    cond (nat_lt id indices.lowest) None (index_before (slice_index_or indices.near.items (id - indices.lowest) 0))
+-- the index that a table from `lowest` on has for an id
+abbrev pub index_near : ℕ → List ℕ → ℕ → Option ℕ
+index_near lowest near id = cond (nat_lt id lowest) None (index_before (slice_index_or near (id - lowest) 0))
 
--- the index of an id
-abbrev pub index_found : IndexTable → ℕ → Option ℕ
-index_found indices id = option_or (index_near indices id) (hash.get ◌==◌ indices.far id)
+-- the index of an id, by the table and what is found elsewhere
+abbrev pub index_found : ℕ → List ℕ → (ℕ → Option ℕ) → ℕ → Option ℕ
+index_found lowest near far id = option_or (index_near lowest near id) (far id)
 
 -- what is found for an id is an index at which it stands, and where none is found it stands nowhere
 abbrev pub AreIdIndices : List ℕ → (ℕ → Option ℕ) → Type 0

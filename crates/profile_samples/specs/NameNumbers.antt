@@ -1,5 +1,5 @@
 -- The names of a profile's frames by numbers: equal names have one number.
-use Rattle.std.specs.Prelude.{ℕ, ℤ, pos, negsuc, ◌≡◌, ◌≤◌, All, false, Option, Some, None, List, [], ◌∷◌, ◌++◌, length}
+use Rattle.std.specs.Prelude.{ℕ, ℤ, pos, negsuc, ◌≡◌, All, false, Option, Some, None, List, [], ◌∷◌, ◌++◌}
 use Rattle.std.specs.Prelude.{map, not, is_some, slice_index_or, true, Bool, if◌then◌else◌, eqb, ◌||◌, ◌+◌}
 use Rattle.std.specs.List.{list_any}
 use Rattle.std.specs.Option.{option_map, option_or}
@@ -9,8 +9,6 @@ use Rattle.pprof_profile.specs.declared.messages.Location.{Location}
 use Rattle.pprof_profile.specs.declared.messages.Line.{Line}
 use Rattle.pprof_profile.specs.Valid.{function_ids, has_double, location_ids}
 use Rattle.profile_rows.specs.Names.{IsName, cleaned_name_of}
-use Rattle.profile_samples.specs.declared.string_names.GivenName.{GivenName}
-use Rattle.profile_samples.specs.declared.string_names.GivenName.TheVariants.{Missing, Plain, Made}
 use Rattle.profile_samples.specs.Samples.{address_name, function_name, item_with, line_name, location_frames}
 use Rattle.profile_samples.specs.Samples.{named_by}
 use Rattle.profile_rows.specs.Tallies.{has_number}
@@ -23,12 +21,6 @@ abbrev pub given : List (Option (List ℕ)) → List (List ℕ)
 given [] = []
 given (None ∷ names) = given names
 given (Some name ∷ names) = name ∷ given names
-
--- the name that a string gives, where it gives one
-abbrev pub name_in : GivenName → Option (List ℕ)
-name_in Missing = None
-name_in (Plain name) = Some name
-name_in (Made name) = Some name
 
 -- an index below 0 is that of nothing
 abbrev pub index_in : ℤ → Option ℕ
@@ -134,12 +126,10 @@ abbrev pub numbers_of_id : Draft → ℕ → Option (List ℕ)
 numbers_of_id draft id = option_map (numbers_of draft) (item_with (λ location. location.id) id draft.locations)
 
 -- the frames of the profile's locations by numbers, and what they number
-pub record AreFrameNumbers (draft : Draft) (ids : List ℕ) (frames once : List (List ℕ))
-    (deepest : ℕ) (names : List (List ℕ)) : Type 0 where
+pub record AreFrameNumbers (draft : Draft) (ids : List ℕ) (frames once names : List (List ℕ)) : Type 0 where
   pub ids_are : ids ≡ location_ids draft
   pub single : has_double ids ≡ false
   pub frames_are : frames ≡ map (numbers_of draft) draft.locations
   pub once_are : once ≡ map once_of frames
-  pub depths : All (λ (numbers : List ℕ). length numbers ≤ deepest) frames
   pub names_are : names ≡ frame_names draft
   pub each : All IsName (frame_names draft)

@@ -5,7 +5,6 @@ use Rattle.std.specs.Prelude.{List, [], ◌∷◌, ◌++◌, length, map, revers
 use Rattle.std.specs.Prelude.{if◌then◌else◌}
 use Rattle.std.specs.List.{flat_map, position}
 use Rattle.std.specs.Fmt.{digits}
-use Rattle.std.specs.Bool.{IsTrue}
 use Rattle.std.specs.Str.{bytes_eq}
 use Rattle.pprof_profile.specs.declared.messages.Draft.{Draft}
 use Rattle.pprof_profile.specs.declared.messages.Sample.{Sample}
@@ -158,15 +157,6 @@ IsValueFault index number values (Negative at) = (at ≡ number) × (below : ℕ
 IsValueFault index number values (Depth at) = ⊥
 IsValueFault index number values (Heavy at) = ⊥
 IsValueFault index number values NoMemory = ⊥
-
--- why a sample, by whether its frames fit, gives no row of this weight that can follow rows of the weight `earlier`
-abbrev pub IsFitFault : Bool → ℕ → ℕ → ℕ → BatchFault → Type 0
-IsFitFault fit earlier number weight NoValue = ⊥
-IsFitFault fit earlier number weight (Width count) = ⊥
-IsFitFault fit earlier number weight (Negative at) = ⊥
-IsFitFault fit earlier number weight (Depth at) = (at ≡ number) × (fit ≡ false)
-IsFitFault fit earlier number weight (Heavy at) = (at ≡ number) × IsTrue fit × (2 ^ 63 ≤ earlier + weight)
-IsFitFault fit earlier number weight NoMemory = ⊥
 
 -- Why a sample gives no row that can follow rows of these totals, one for each value that is taken: a value below 0;
 -- else its depth; else a value that passes the limit. Memory runs out only at a sample which has none of them.

@@ -1,19 +1,16 @@
 //! A profile's samples as a batch: the values that are chosen, a row for each sample, and why there is none.
 
-ghost use Rattle.std.specs.Prelude.{ℕ, ◌≡◌, ◌≢◌, ◌+◌, ◌^◌, ◌<◌, ◌≤◌, ◌∷◌, ◌++◌, ◌⊎◌, [], IfErr, IfOk, List, MatchResult, OnErr, OnOk, Some, length};
-ghost use Rattle.profile_rows.specs.Values.{AreTotals, BatchState, HasRoom, IsBatch, Row, rows_at, value_of};
-ghost use Rattle.profile_rows.specs.Rows.{total_of};
+ghost use Rattle.std.specs.Prelude.{ℕ, ◌≡◌, ◌≢◌, ◌+◌, ◌<◌, ◌≤◌, ◌∷◌, ◌++◌, ◌⊎◌, [], IfErr, IfOk, List, MatchResult, OnOk, Some, length};
+ghost use Rattle.profile_rows.specs.Values.{AreTotals, BatchState, HasRoom, Row};
 ghost use Rattle.profile_samples.specs.declared.sampling.BatchFault.{BatchFault};
 ghost use Rattle.profile_samples.specs.declared.sampling.ValueChoice.{ValueChoice};
-ghost use Rattle.profile_samples.specs.Samples.{HasWeights, IsRowOfSample, IsSampleFault, IsValueFault, chosen_types_of, sample_stack_of};
-ghost use Rattle.profile_samples.specs.Batches.{AreRowsOfSamples, IsBatchOf, IsFirstBatchFault, StandsAtSample};
+ghost use Rattle.profile_samples.specs.Samples.{HasWeights, IsRowOfSample, IsSampleFault, IsValueFault, chosen_types_of};
+ghost use Rattle.profile_samples.specs.Batches.{IsBatchOf, IsFirstBatchFault, StandsAtSample};
 
 use crate::name_numbers::NumberedFrames;
-use crate::sampling::{
-    BatchFault, ChosenValues, ValueChoice, check_depth, chosen_values, weight_of,
-};
+use crate::sampling::{BatchFault, ChosenValues, ValueChoice, chosen_values, weight_of};
 use basics::NoMemory;
-use pprof_profile::{Draft, Profile, SampleRef};
+use pprof_profile::{Profile, SampleRef};
 use profile_rows::{Batch, Hashing, MAX_DEPTH, MAX_WIDTH, Weights, first_heavy};
 use std::alloc::Global;
 
@@ -30,45 +27,7 @@ fn weights_of(values: &[i64], chosen: &ChosenValues, number: u64) -> Result<Weig
     for value in 0..count {
         four[value] = weight_of(values, chosen.first + value, number)?;
     }
-    match Weights::make(&four[..count]) {
-        Some(weights) => Ok(weights),
-        None => unreachable!(),
-    }
-}
-
-/// Whether a row of these values can follow rows of these totals.
-fn check_room(totals: &Weights, weights: &Weights, number: u64) -> Result<(), BatchFault>
-    requires width { length totals.now ≡ length weights.now }
-    requires fits { (value : ℕ) → value_of value totals.now < 2 ^ 63 }
-    ensures room { OnOk result ((value : ℕ) → value_of value totals.now + value_of value weights.now < 2 ^ 63) }
-    ensures fault { IfErr result (λ fault. (fault ≡ BatchFault.Heavy number) × (value : ℕ)
-        × (value < length totals.now) × (2 ^ 63 ≤ value_of value totals.now + value_of value weights.now)) }
-{
-    match first_heavy(totals, weights) {
-        Some(_) => Err(BatchFault::Heavy { sample: number }),
-        None => Ok(()),
-    }
-}
-
-/// Adds a row of the stack at these locations, which fits.
-fn push_row(
-    alloc: Global,
-    frames: &NumberedFrames,
-    batch: &mut Batch,
-    ids: &[u64],
-    weights: &Weights,
-) -> Result<(), NoMemory>
-    requires depth { length (sample_stack_of frames.now ids.now) ≤ MAX_DEPTH }
-    requires width { length weights.now ≡ batch.old.width }
-    requires room { (value : ℕ) → HasRoom batch.old weights.now value }
-    ensures { OnOk result (batch.new ≡ record {
-      width = batch.old.width;
-      rows = batch.old.rows
-          ++ (record { stack = sample_stack_of frames.now ids.now; weights = weights.now }) ∷ [];
-    }) }
-{
-    let stack = frames.stack_at(alloc, ids)?;
-    batch.push(stack, *weights).map_err(|_| NoMemory)
+    Ok(Weights::make(&four[..count]).unwrap())
 }
 
 /// Adds the row of a sample, where it gives one that can follow the rows of the batch. A fault of the sample is found
@@ -92,9 +51,14 @@ fn add_sample(
     let ids = sample.location_ids();
     let totals = batch.total();
     let weights = weights_of(sample.values(), chosen, number)?;
-    check_depth(frames.fit(ids), number)?;
-    check_room(&totals, &weights, number)?;
-    Ok(push_row(alloc, frames, batch, ids, &weights)?)
+    if !frames.fit(ids) {
+        return Err(BatchFault::Depth { sample: number });
+    }
+    if let Some(_) = first_heavy(&totals, &weights) {
+        return Err(BatchFault::Heavy { sample: number });
+    }
+    let stack = frames.stack_at(alloc, ids)?;
+    Ok(batch.push(stack, weights).map_err(|_| NoMemory)?)
 }
 
 /// The batch of a profile's samples by these values. Where memory runs out, the samples before have no fault, nor has

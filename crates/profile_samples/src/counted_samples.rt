@@ -1,21 +1,21 @@
 //! What the names of frames weigh in a profile's samples, counted sample by sample without rows.
 
-ghost use Rattle.std.specs.Prelude.{ℕ, ◌≡◌, ◌≢◌, ◌⊎◌, ◌+◌, ◌^◌, ◌<◌, ◌≤◌, ◌++◌, ◌∷◌, [], All, List, IfErr, IfOk, MatchResult, OnOk, Some, length, map, pos, slice_get, slice_index_or, slice_set};
+ghost use Rattle.std.specs.Prelude.{◌≡◌, ◌≢◌, ◌⊎◌, ◌<◌, [], All, List, IfOk, MatchResult, OnOk, Some, length, map};
 ghost use Rattle.profile_rows.specs.declared.weighted_stacks.WeightedStack.{WeightedStack};
 ghost use Rattle.profile_rows.specs.Names.{IsName};
 ghost use Rattle.profile_rows.specs.Tallies.{AreTalliesOf};
 ghost use Rattle.profile_rows.specs.TopList.{AreTotalsOf};
 ghost use Rattle.profile_samples.specs.declared.sampling.BatchFault.{BatchFault};
 ghost use Rattle.profile_samples.specs.declared.sampling.ValueChoice.{ValueChoice};
-ghost use Rattle.profile_samples.specs.Samples.{IsRowOfSample, IsSampleFault, chosen_types_of, sample_stack_of};
-ghost use Rattle.profile_samples.specs.Batches.{AreStacksOf, IsFirstStacksFault, IsStacksWorkFault, StandsAtSample};
+ghost use Rattle.profile_samples.specs.Samples.{chosen_types_of};
+ghost use Rattle.profile_samples.specs.Batches.{AreStacksOf, IsFirstStacksFault, IsStacksWorkFault};
 ghost use Rattle.profile_samples.specs.NameNumbers.{frame_names};
-ghost use Rattle.profile_samples.specs.CountedSamples.{AreNumbersOfIds, AreRowsCounted, AreTotalsOfSamples};
+ghost use Rattle.profile_samples.specs.CountedSamples.{AreNumbersOfIds, AreTotalsOfSamples};
 
 use crate::name_numbers::NumberedFrames;
-use crate::sampling::{BatchFault, ValueChoice, check_fit, chosen_value, weight_of};
+use crate::sampling::{BatchFault, ValueChoice, chosen_value, sample_weight};
 use crate::unfolding::push_numbers;
-use pprof_profile::{Profile, SampleRef};
+use pprof_profile::Profile;
 use profile_rows::{FrameTotals, Hashing, Name, Tallies};
 use std::alloc::{AllocError, Global};
 
@@ -37,53 +37,34 @@ fn gather_numbers(
     Ok(())
 }
 
-/// The weight of a sample that gives a row which can follow rows of the weight `earlier`.
-fn sample_weight(
-    frames: &NumberedFrames,
-    chosen: usize,
-    sample: &SampleRef,
-    earlier: u64,
-    number: u64,
-) -> Result<u64, BatchFault>
-    requires values { chosen < length sample.now.values }
-    requires earlier { earlier < 2 ^ 63 }
-    ensures row { IfOk result (λ weight. IsRowOfSample frames.now chosen 1 sample.now
-        (record { stack = sample_stack_of frames.now sample.now.location_ids; weights = weight ∷ [] })) }
-    ensures fits { IfOk result (λ weight. earlier + weight < 2 ^ 63) }
-    ensures fault { IfErr result (IsSampleFault frames.now chosen (earlier ∷ []) number sample.now) }
-{
-    let ids = sample.location_ids();
-    let weight = weight_of(sample.values(), chosen, number)?;
-    check_fit(frames.fit(ids), weight, earlier, number)?;
-    Ok(weight)
-}
-
-/// Counts the rows of a profile's samples by the values at an index.
-fn count_samples(
+/// What the names weigh in the rows of a profile's samples by the values at an index. Where memory runs out, the samples
+/// before have no fault, nor has the one at hand.
+fn totals_by(
     alloc: Global,
     profile: &Profile,
     frames: &NumberedFrames,
     tallies: &mut Tallies,
     chosen: usize,
-) -> Result<(), BatchFault>
+) -> Result<FrameTotals, BatchFault>
     requires framed { frames.now ≡ profile.now }
     requires typed { chosen < length profile.now.sample_types }
     requires each { All IsName (frame_names profile.now) }
     requires uncounted { AreTalliesOf [] (frame_names profile.now) tallies.old }
     ensures { (choice : ValueChoice) → chosen_types_of profile.now choice ≡ Some (chosen, 1)
-        → MatchResult result (λ counted. AreRowsCounted profile.now choice tallies.new)
-        (λ fault. StandsAtSample 1 profile.now choice fault) }
+        → MatchResult result (AreTotalsOfSamples profile.now choice)
+        (λ fault. IsStacksWorkFault profile.now choice fault) }
 {
     let mut numbers = Vec::new(alloc);
     let samples = &profile.draft().samples;
     for index in 0..samples.len() {
         let sample = samples.at(index);
-        let ids = sample.location_ids();
         let weight = sample_weight(frames, chosen, &sample, tallies.total, index as u64)?;
+        let ids = sample.location_ids();
         gather_numbers(frames, ids, &mut numbers)?;
         tallies.count(numbers.as_slice(), frames.leaf_of(ids), weight);
     }
-    Ok(())
+    let names = texts_of(alloc, frames.names())?;
+    Ok(tallies.totals(alloc, names.as_slice())?)
 }
 
 /// The texts of names.
@@ -95,28 +76,6 @@ fn texts_of(alloc: Global, names: &[Name]) -> Result<Vec<&str>, AllocError>
         texts.push(name.text())?;
     }
     Ok(texts)
-}
-
-/// What the names weigh in the rows of a profile's samples by one value. Where memory runs out, the samples before have
-/// no fault, nor has the one at hand.
-fn totals_by(
-    alloc: Global,
-    profile: &Profile,
-    frames: &NumberedFrames,
-    tallies: &mut Tallies,
-    chosen: usize,
-) -> Result<FrameTotals, BatchFault>
-    requires framed { frames.now ≡ profile.now }
-    requires chosen { (choice : ValueChoice) × (chosen_types_of profile.now choice ≡ Some (chosen, 1)) }
-    requires each { All IsName (frame_names profile.now) }
-    requires uncounted { AreTalliesOf [] (frame_names profile.now) tallies.old }
-    ensures { (choice : ValueChoice) → chosen_types_of profile.now choice ≡ Some (chosen, 1)
-        → MatchResult result (AreTotalsOfSamples profile.now choice)
-        (λ fault. IsStacksWorkFault profile.now choice fault) }
-{
-    count_samples(alloc, profile, frames, tallies, chosen)?;
-    let names = texts_of(alloc, frames.names())?;
-    Ok(tallies.totals(alloc, names.as_slice())?)
 }
 
 /// What the names weigh in the rows that [`batch_of`](crate::batch_of) makes of a profile's samples, by one value. The

@@ -1,20 +1,18 @@
 //! Rows as the profile that they are exported as.
 
-ghost use Rattle.std.specs.Prelude.{ℕ, ◌≡◌, ◌<◌, ◌≤◌, ◌++◌, ◌^◌, All, IfOk, OnOk, [], length, map, pos, reverse};
+ghost use Rattle.std.specs.Prelude.{◌≡◌, ◌<◌, ◌≤◌, ◌^◌, All, IfOk, OnOk, [], length, map, pos, reverse};
 ghost use Rattle.std.specs.List.{flat_map};
 ghost use Rattle.profile_rows.specs.Names.{IsName};
-ghost use Rattle.profile_rows.specs.Values.{rows_at};
-ghost use Rattle.profile_samples.specs.Export.{draft_with, exported_draft, exported_function, exported_location, exported_profile_of, exported_sample, exported_type, id_in, pairs_of, strings_of, unit_texts};
+ghost use Rattle.profile_samples.specs.Export.{exported_draft, exported_function, exported_location, exported_profile_of, exported_sample, exported_type, id_in, pairs_of, strings_of, unit_texts};
 ghost use Rattle.profile_samples.specs.Batches.{IsBatchOf};
 ghost use Rattle.profile_rows.specs.TextTables.{with_texts};
-ghost use Rattle.profile_samples.specs.declared.sampling.ValueChoice.TheVariants.{Default};
 ghost use Rattle.profile_samples.specs.declared.sampling.ValueChoice.TheVariants as choices;
 
 use basics::NoMemory;
 use pprof_profile::{
     Draft, Function, Items, Line, Location, Profile, Sample, Samples, Text, ValueType, check,
 };
-use profile_rows::{Batch, Hashing, Name, Stack, TextTable, WeightedStack, Weights};
+use profile_rows::{Batch, Hashing, Name, Row, TextTable, WeightedStack, Weights};
 use std::alloc::Global;
 
 /// What a value counts, and in which unit: as `cpu` and `nanoseconds`.
@@ -151,20 +149,15 @@ fn values_of(alloc: Global, weights: &Weights) -> Result<Items<i64>, NoMemory>
     Ok(Items::new(values))
 }
 
-/// The sample of a row of this stack and these values.
-fn sample_of(
-    alloc: Global,
-    names: &TextTable,
-    stack: &Stack,
-    weights: &Weights,
-) -> Result<Sample, NoMemory>
-    requires { All (λ weight. weight < 2 ^ 63) weights.now }
+/// The sample of a row.
+fn sample_of(alloc: Global, names: &TextTable, row: &Row) -> Result<Sample, NoMemory>
+    requires { All (λ weight. weight < 2 ^ 63) row.now.weights }
     ensures { IfOk result (λ sample. sample
-        ≡ exported_sample names.now.texts (record { stack = stack.now; weights = weights.now })) }
+        ≡ exported_sample names.now.texts (record { stack = row.now.stack.now; weights = row.now.weights })) }
 {
     Ok(Sample {
-        location_ids: location_ids(alloc, names, stack.names())?,
-        values: values_of(alloc, weights)?,
+        location_ids: location_ids(alloc, names, row.stack.names())?,
+        values: values_of(alloc, &row.weights)?,
         labels: Items::empty(alloc),
     })
 }
@@ -175,8 +168,7 @@ fn samples_of(alloc: Global, names: &TextTable, batch: &Batch) -> Result<Samples
 {
     let mut samples = Samples::empty(alloc);
     for at in 0..batch.first().rows().len() {
-        let row = batch.row(at);
-        samples.push(&sample_of(alloc, names, row.stack, &row.weights)?)?;
+        samples.push(&sample_of(alloc, names, &batch.row(at))?)?;
     }
     Ok(samples)
 }
@@ -210,34 +202,6 @@ fn copies_of(alloc: Global, texts: &TextTable) -> Result<Items<Text>, NoMemory>
     Ok(Items::new(copies))
 }
 
-/// The draft of these samples, names and strings.
-fn draft_of(
-    alloc: Global,
-    samples: Samples,
-    names: &TextTable,
-    strings: &TextTable,
-    sample_types: Items<ValueType>,
-) -> Result<Draft, NoMemory>
-    ensures { IfOk result (λ draft. draft ≡ draft_with names.now.texts strings.now.texts samples sample_types) }
-{
-    Ok(Draft {
-        sample_types,
-        samples,
-        mappings: Items::empty(alloc),
-        locations: locations_of(alloc, names)?,
-        functions: functions_of(alloc, names, strings)?,
-        strings: copies_of(alloc, strings)?,
-        drop_frames: 0,
-        keep_frames: 0,
-        time_nanos: 0,
-        duration_nanos: 0,
-        period_type: ValueType { kind: 0, unit: 0 },
-        period: 0,
-        comments: Items::empty(alloc),
-        default_sample_type: 0,
-    })
-}
-
 /// The draft of samples whose values are of these kinds and in these units, and of the names that they number.
 pub(crate) fn exported_draft(
     alloc: Global,
@@ -249,8 +213,22 @@ pub(crate) fn exported_draft(
     ensures { IfOk result (λ draft. draft ≡ exported_draft names.now.texts samples (pairs_of units.now)) }
 {
     let strings = strings_of(alloc, hashing, units, names)?;
-    let sample_types = types_of(alloc, &strings, units)?;
-    draft_of(alloc, samples, names, &strings, sample_types)
+    Ok(Draft {
+        sample_types: types_of(alloc, &strings, units)?,
+        samples,
+        mappings: Items::empty(alloc),
+        locations: locations_of(alloc, names)?,
+        functions: functions_of(alloc, names, &strings)?,
+        strings: copies_of(alloc, &strings)?,
+        drop_frames: 0,
+        keep_frames: 0,
+        time_nanos: 0,
+        duration_nanos: 0,
+        period_type: ValueType { kind: 0, unit: 0 },
+        period: 0,
+        comments: Items::empty(alloc),
+        default_sample_type: 0,
+    })
 }
 
 /// The batch as a profile of a sample type for each value, whose kinds and units these are, in order: a sample for each
@@ -264,7 +242,7 @@ pub fn profile_of(alloc: Global, batch: &Batch, units: &[ValueUnit]) -> Result<P
     requires { length units.now ≡ batch.now.width }
     ensures profile { IfOk result (λ profile. profile ≡ exported_profile_of batch.now.rows (pairs_of units.now)) }
     ensures reads_back { IfOk result (λ profile. IsBatchOf profile choices.All batch.now) }
-    ensures default { IfOk result (λ profile. batch.now.width ≡ 1 → IsBatchOf profile Default batch.now) }
+    ensures default { IfOk result (λ profile. batch.now.width ≡ 1 → IsBatchOf profile choices.Default batch.now) }
 {
     let hashing = Hashing::fixed();
     let names = names_of(alloc, hashing, batch.first().rows())?;

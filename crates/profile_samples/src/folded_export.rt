@@ -1,19 +1,18 @@
 //! Folded text as the bytes of a profile, with no row and no sample kept.
 
-ghost use Rattle.std.specs.Prelude.{◌≡◌, ◌+◌, ◌^◌, ◌<◌, ◌∷◌, ◌++◌, [], All, IfErr, IfOk, List, MatchResult, OnOk, map, reverse};
+ghost use Rattle.std.specs.Prelude.{◌≡◌, ◌+◌, ◌^◌, ◌<◌, All, IfOk, List, MatchResult, OnOk, map, reverse};
 ghost use Rattle.pprof_profile.specs.Canonical.{canonical_bytes_of};
 ghost use Rattle.pprof_profile.specs.Profiles.{IsProfile};
 ghost use Rattle.profile_rows.specs.declared.weighted_stacks.WeightedStack.{WeightedStack};
 ghost use Rattle.profile_samples.specs.Export.{AreSamplesOf, IsExportOfText, single_profile_of};
-ghost use Rattle.folded_text.specs.FoldedText.{IsFoldedText, IsLineFault, IsRowLine, IsWorkFault};
-ghost use Rattle.profile_rows.specs.Rows.{total_of};
+ghost use Rattle.folded_text.specs.FoldedText.{IsFoldedText, IsWorkFault};
 
 use crate::exporting::{ValueUnit, exported_draft};
 use basics::NoMemory;
 use folded_text::{FoldedFault, LineTaker, read_frames, take_lines};
 use pprof_profile::{Samples, WrittenSamples, encode_around};
 use profile_rows::{Hashing, NumberedRow};
-use std::alloc::{AllocError, Global};
+use std::alloc::Global;
 
 /// Rows as the samples of the profile that they are exported as: written when they come, their names numbered as they
 /// first stand. The frames of a line, and their ids, take the place of others in the buffers.
@@ -27,7 +26,7 @@ struct SampledRows<'a> {
 }
 
 /// The ids of the locations of a stack's frames, leaf first, in the place of others.
-fn replace_ids(ids: &mut Vec<u64>, numbers: &[usize]) -> Result<(), AllocError>
+fn replace_ids(ids: &mut Vec<u64>, numbers: &[usize]) -> Result<(), NoMemory>
     requires { All (λ number. number < 2 ^ 63) numbers.now }
     ensures { OnOk result (ids.new.items ≡ reverse (map (λ number. number + 1) numbers.now)) }
 {
@@ -39,27 +38,16 @@ fn replace_ids(ids: &mut Vec<u64>, numbers: &[usize]) -> Result<(), AllocError>
     Ok(())
 }
 
-/// Adds the row of the frames in the buffer, which fits.
-fn push_row(rows: &mut SampledRows, weight: u64) -> Result<(), NoMemory>
-    requires fits { rows.old.total + weight < 2 ^ 63 }
-    ensures { (before : List WeightedStack) → AreSamplesOf before rows.old.row.texts rows.old.samples rows.old.total
-        → OnOk result (AreSamplesOf
-        (before ++ (record { stack = map (λ frame. frame.now) rows.old.frames.items; weight = weight }) ∷ [])
-        rows.new.row.texts rows.new.samples rows.new.total) }
-{
-    rows.row.replace(rows.frames.as_slice())?;
-    replace_ids(&mut rows.ids, rows.row.numbers())?;
-    rows.samples.push(rows.ids.as_slice(), &[weight as i64])?;
-    rows.total += weight;
-    Ok(())
-}
-
 impl<'a> LineTaker<'a> for SampledRows<'a> {
     ghost is_of = { λ sampled rows. AreSamplesOf rows sampled.row.texts sampled.samples sampled.total };
 
     fn take_line(&mut self, line: &'a [u8], number: u64) -> Result<(), FoldedFault> {
         let weight = read_frames(&mut self.frames, line, self.total, number)?;
-        Ok(push_row(self, weight)?)
+        self.row.replace(self.frames.as_slice())?;
+        replace_ids(&mut self.ids, self.row.numbers())?;
+        self.samples.push(self.ids.as_slice(), &[weight as i64])?;
+        self.total += weight;
+        Ok(())
     }
 }
 
@@ -79,13 +67,8 @@ fn profile_bytes(
         → IfOk result (λ bytes. IsProfile bytes.items (single_profile_of all kind.now unit.now)) }
 {
     let units = [ValueUnit { kind, unit }];
-    let draft = exported_draft(
-        alloc,
-        hashing,
-        Samples::empty(alloc),
-        rows.row.names(),
-        &units,
-    )?;
+    let samples = Samples::empty(alloc);
+    let draft = exported_draft(alloc, hashing, samples, rows.row.names(), &units)?;
     encode_around(alloc, &draft, &rows.samples)
 }
 

@@ -1,31 +1,23 @@
 //! The names of a profile's functions by numbers.
 
-ghost use Rattle.std.specs.Prelude.{◌≡◌, ◌<◌, IfOk, length, map, slice_get, true};
+ghost use Rattle.std.specs.Prelude.{◌≡◌, IfOk, true};
 ghost use Rattle.std.specs.Option.{option_map};
 ghost use Rattle.pprof_profile.specs.Valid.{IsValidDraft};
 ghost use Rattle.profile_samples.specs.Samples.{address_name, item_with, named_by};
-ghost use Rattle.profile_samples.specs.NameNumbers.{address_of, lacks_name, line_number, name_in, needs_address, number_at, number_by, number_of, numbers_of, string_numbers};
+ghost use Rattle.profile_samples.specs.NameNumbers.{address_of, needs_address, number_at, number_by, number_of, numbers_of, string_numbers};
 
 use crate::id_index::IdIndex;
-use crate::string_names::{GivenName, address_name, index_in};
 use basics::NoMemory;
 use pprof_profile::{Draft, Function, Line, Location};
-use profile_rows::Hashing;
+use profile_rows::{Hashing, Name};
 use std::alloc::{AllocError, Global};
 use std::marker::Model;
-
-/// The ids of functions.
-fn function_ids(alloc: Global, functions: &[Function]) -> Result<Vec<u64>, AllocError>
-    ensures { IfOk result (λ ids. ids.items ≡ map (λ function. function.id) functions.now) }
-{
-    functions.iter().map(|function| function.id).collect(alloc)
-}
 
 /// The number at an index of strings.
 fn number_at(numbers: &[Option<usize>], index: i64) -> Option<usize>
     ensures { result ≡ number_at numbers.now index }
 {
-    *numbers.get(index_in(index)?)?
+    *numbers.get(usize::try_from(index).ok()?)?
 }
 
 /// The number of the name of a function: of its `name`, or else of its `system_name`.
@@ -33,20 +25,6 @@ fn number_by(numbers: &[Option<usize>], function: &Function) -> Option<usize>
     ensures { result ≡ number_by numbers.now function.now }
 {
     number_at(numbers, function.name).or_else(|| number_at(numbers, function.system_name))
-}
-
-/// The numbers of the names of functions.
-fn function_numbers(
-    alloc: Global,
-    numbers: &[Option<usize>],
-    functions: &[Function],
-) -> Result<Vec<Option<usize>>, AllocError>
-    ensures { IfOk result (λ made. made.items ≡ map (number_by numbers.now) functions.now) }
-{
-    functions
-        .iter()
-        .map(|function| number_by(numbers, function))
-        .collect(alloc)
 }
 
 /// The numbers of the names of a profile's functions. A contract sees the profile.
@@ -71,10 +49,6 @@ impl<'a> Model for FunctionNumbers<'a> {
 
 impl<'a> FunctionNumbers<'a> {
     /// The numbers of the names of a valid profile's functions, by those of its strings.
-    ///
-    /// # Errors
-    ///
-    /// `NoMemory`.
     pub fn new(
         alloc: Global,
         hashing: Hashing,
@@ -86,8 +60,12 @@ impl<'a> FunctionNumbers<'a> {
         ensures { IfOk result (λ functions. functions ≡ draft.now) }
     {
         let functions = draft.functions.as_slice();
-        let indices = IdIndex::new(alloc, hashing, function_ids(alloc, functions)?)?;
-        let numbers = function_numbers(alloc, strings, functions)?;
+        let ids = functions.iter().map(|function| function.id).collect(alloc)?;
+        let indices = IdIndex::new(alloc, hashing, ids)?;
+        let numbers = functions
+            .iter()
+            .map(|function| number_by(strings, function))
+            .collect(alloc)?;
         Ok(FunctionNumbers {
             draft,
             indices,
@@ -100,18 +78,7 @@ impl<'a> FunctionNumbers<'a> {
         ensures { result ≡ option_map (number_of self.now)
             (named_by self.now.strings (item_with (λ function. function.id) id self.now.functions)) }
     {
-        self.number_at(self.indices.find(id)?)
-    }
-
-    /// The number of the name of the function at an index, where it has one.
-    fn number_at(&self, at: usize) -> Option<usize>
-        ensures { result ≡ option_map (number_of self.now)
-            (named_by self.now.strings (slice_get self.now.functions at)) }
-    {
-        match self.numbers.get(at) {
-            Some(number) => *number,
-            None => None,
-        }
+        *self.numbers.get(self.indices.find(id)?)?
     }
 
     /// Whether a frame of a location of these lines is called as its address: there is no line, or one whose function
@@ -127,59 +94,18 @@ impl<'a> FunctionNumbers<'a> {
         lines.is_empty()
     }
 
-    /// The name of a location's address, where a frame needs it.
-    ///
-    /// # Errors
-    ///
-    /// `NoMemory`.
-    pub fn address_of<'t>(
-        &self,
-        alloc: Global,
-        location: &Location,
-    ) -> Result<GivenName<'t>, NoMemory>
-        ensures { IfOk result (λ name. name_in name ≡ address_of self.now location.now) }
+    /// The name of a location's address, where a frame needs it: `0x` and hexadecimal digits.
+    pub fn address_of(&self, alloc: Global, location: &Location) -> Result<Option<Name>, NoMemory>
+        ensures { IfOk result (λ name. name ≡ address_of self.now location.now) }
     {
-        if self.needs_address(location.lines.as_slice()) {
-            Ok(GivenName::Made(address_name(alloc, location.address)?))
-        } else {
-            Ok(GivenName::Missing)
+        if !self.needs_address(location.lines.as_slice()) {
+            return Ok(None);
         }
-    }
-
-    /// The number of a line's name, by that of its address.
-    fn line_number(&self, location: &Location, line: &Line, address: usize) -> usize
-        requires { lacks_name self.now line.now ≡ true
-            → address ≡ number_of self.now (address_name location.now.address) }
-        ensures { result ≡ line_number self.now location.now.address line.now }
-    {
-        self.number_of(line.function_id).unwrap_or(address)
-    }
-
-    /// The numbers of the names of a location's lines, of which there are some, by that of its address.
-    fn line_numbers(
-        &self,
-        alloc: Global,
-        location: &Location,
-        address: usize,
-    ) -> Result<Vec<usize>, AllocError>
-        requires some { 0 < length location.now.lines }
-        requires address { needs_address self.now location.now.lines ≡ true
-            → address ≡ number_of self.now (address_name location.now.address) }
-        ensures { IfOk result (λ numbers. numbers.items ≡ numbers_of self.now location.now) }
-    {
-        let lines = location.lines.as_slice();
-        let mut numbers = Vec::with_capacity(alloc, lines.len())?;
-        for line in lines {
-            numbers.push(self.line_number(location, line, address))?;
-        }
-        Ok(numbers)
+        let text = format!(in alloc; "0x{:x}", location.address)?;
+        Ok(Some(Name::keep(alloc, text.as_str())?))
     }
 
     /// The numbers of the names of a location's frames, leaf first, by that of its address, where a frame needs it.
-    ///
-    /// # Errors
-    ///
-    /// `AllocError`.
     pub fn numbers_of(
         &self,
         alloc: Global,
@@ -190,9 +116,14 @@ impl<'a> FunctionNumbers<'a> {
             → address ≡ number_of self.now (address_name location.now.address) }
         ensures { IfOk result (λ numbers. numbers.items ≡ numbers_of self.now location.now) }
     {
-        if location.lines.as_slice().is_empty() {
+        let lines = location.lines.as_slice();
+        if lines.is_empty() {
             return Ok(vec![in alloc; address]?);
         }
-        self.line_numbers(alloc, location, address)
+        let mut numbers = Vec::with_capacity(alloc, lines.len())?;
+        for line in lines {
+            numbers.push(self.number_of(line.function_id).unwrap_or(address))?;
+        }
+        Ok(numbers)
     }
 }

@@ -1,7 +1,8 @@
 //! Where ids stand among the ids of items.
 
-ghost use Rattle.std.specs.Prelude.{ℕ, ◌≡◌, ◌≢◌, ◌<◌, ◌-◌, ◌^◌, ◌==◌, IfOk, MatchOption, None, OnOk, Some, cond, slice_get};
-ghost use Rattle.profile_samples.specs.IdIndex.{index_found, index_near};
+ghost use Rattle.std.specs.Prelude.{ℕ, ◌≡◌, ◌≢◌, ◌<◌, ◌-◌, ◌^◌, ◌==◌, IfOk, MatchOption, OnOk, Some, cond, slice_get};
+ghost use Rattle.std.specs.HashMap as hash;
+ghost use Rattle.profile_samples.specs.IdIndex.{index_found};
 
 use basics::NoMemory;
 use pprof_profile::IdRange;
@@ -11,9 +12,10 @@ use std::collections::HashMap;
 use std::marker::Model;
 use std::snapshot::Snapshot;
 
-/// An index for each of some ids, by a table for those that lie close together.
+/// Where each id stands among the ids of items, by a table for those that lie close together. A contract sees the ids.
 #[derive(Drop)]
-pub(crate) struct IndexTable {
+pub(crate) struct IdIndex {
+    ids: Snapshot<Vec<u64>>,
     /// The number that the table begins with.
     lowest: u64,
     /// For each number from there on one more than its index, or 0 where it has none here.
@@ -22,92 +24,37 @@ pub(crate) struct IndexTable {
     far: HashMap<u64, usize, Hashing>,
 }
 
-impl IndexTable {
-    /// No indices yet, with a table for ids of the range.
-    fn new(
-        alloc: Global,
-        hashing: Hashing,
-        range: IdRange,
-        count: usize,
-    ) -> Result<IndexTable, NoMemory>
-        ensures { IfOk result (λ indices. (id : ℕ) → index_found indices id ≡ None) }
-    {
-        Ok(IndexTable {
-            lowest: range.lowest,
-            near: vec![in alloc; 0; range.table_len(count)]?,
-            far: HashMap::with_hasher(alloc, hashing),
-        })
-    }
-
-    /// The index of an id.
-    fn find(&self, id: u64) -> Option<usize>
-        ensures { result ≡ index_found self.now id }
-    {
-        match self.find_near(id) {
-            Some(index) => Some(index),
-            None => self.far.get(&id).copied(),
-        }
-    }
-
-    /// The index that the table has for an id.
-    fn find_near(&self, id: u64) -> Option<usize>
-        ensures { result ≡ index_near self.now id }
-    {
-        let at = id.checked_sub(self.lowest)?;
-        self.near.get(at as usize)?.checked_sub(1)
-    }
-
-    /// Gives an id its index.
-    fn put(&mut self, id: u64, index: usize) -> Result<(), NoMemory>
-        requires { index < 2 ^ 64 - 1 }
-        ensures { OnOk result ((other : ℕ)
-            → index_found self.new other ≡ cond (id == other) (Some index) (index_found self.old other)) }
-    {
-        match id.checked_sub(self.lowest) {
-            Some(at) if (at as usize) < self.near.len() => self.near[at as usize] = index + 1,
-            _ => {
-                self.far.insert(id, index)?;
-            }
-        }
-        Ok(())
-    }
-}
-
-/// Where each id stands among the ids of items. A contract sees the ids.
-#[derive(Drop)]
-pub(crate) struct IdIndex {
-    ids: Snapshot<Vec<u64>>,
-    indices: IndexTable,
-}
-
 impl Model for IdIndex {
-    ghost use Rattle.std.specs.Prelude.{List, ℕ};
+    ghost use Rattle.std.specs.Prelude.{List, ℕ, ◌==◌};
+    ghost use Rattle.std.specs.HashMap as hash;
     ghost use Rattle.profile_samples.specs.IdIndex.{AreIdIndices, index_found};
 
     ghost Value = { List ℕ };
 
     ghost view = { λ indices. indices.ids.value.items };
 
-    ghost invariant = { λ indices. AreIdIndices indices.ids.value.items (index_found indices.indices) };
+    ghost invariant = { λ indices. AreIdIndices indices.ids.value.items
+        (index_found indices.lowest indices.near.items (hash.get ◌==◌ indices.far)) };
 }
 
 impl IdIndex {
     /// The indices of these ids, and `hashing` says how they are hashed.
-    ///
-    /// # Errors
-    ///
-    /// `NoMemory`.
     pub fn new(alloc: Global, hashing: Hashing, ids: Vec<u64>) -> Result<IdIndex, NoMemory>
         ensures { IfOk result (λ indices. indices ≡ ids.items) }
     {
-        let range = range_of(ids.as_slice());
-        let mut indices = IndexTable::new(alloc, hashing, range, ids.len())?;
+        let range = ids
+            .iter()
+            .fold(IdRange::empty(), |range, id| range.with(*id));
+        let mut near = vec![in alloc; 0; range.table_len(ids.len())]?;
+        let mut far = HashMap::with_hasher(alloc, hashing);
         for (at, id) in ids.iter().enumerate() {
-            indices.put(*id, at)?;
+            put(range.lowest, &mut near, &mut far, *id, at)?;
         }
         Ok(IdIndex {
             ids: Snapshot::of(&ids),
-            indices,
+            lowest: range.lowest,
+            near,
+            far,
         })
     }
 
@@ -116,15 +63,33 @@ impl IdIndex {
         ensures { MatchOption result ((at : ℕ) → slice_get self.now at ≢ Some id)
             (λ at. slice_get self.now at ≡ Some id) }
     {
-        self.indices.find(id)
+        match id.checked_sub(self.lowest) {
+            Some(at) if (at as usize) < self.near.len() && self.near[at as usize] > 0 => {
+                Some(self.near[at as usize] - 1)
+            }
+            _ => self.far.get(&id).copied(),
+        }
     }
 }
 
-/// The range of ids.
-fn range_of(ids: &[u64]) -> IdRange {
-    let mut range = IdRange::empty();
-    for id in ids {
-        range = range.with(*id);
+/// Gives an id its index, in the table from `lowest` on where that has a place for it.
+fn put(
+    lowest: u64,
+    near: &mut Vec<usize>,
+    far: &mut HashMap<u64, usize, Hashing>,
+    id: u64,
+    index: usize,
+) -> Result<(), NoMemory>
+    requires { index < 2 ^ 64 - 1 }
+    ensures { OnOk result ((other : ℕ)
+        → index_found lowest near.new.items (hash.get ◌==◌ far.new) other
+        ≡ cond (id == other) (Some index) (index_found lowest near.old.items (hash.get ◌==◌ far.old) other)) }
+{
+    match id.checked_sub(lowest) {
+        Some(at) if (at as usize) < near.len() => near[at as usize] = index + 1,
+        _ => {
+            far.insert(id, index)?;
+        }
     }
-    range
+    Ok(())
 }

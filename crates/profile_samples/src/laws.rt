@@ -1,7 +1,7 @@
 //! Laws of the definitions in `specs/`, each the contract of a function that does nothing. A caller calls one to use
 //! its law.
 
-ghost use Rattle.std.specs.Prelude.{ℕ, ◌≡◌, ◌≢◌, ◌<◌, ◌≤◌, ◌^◌, All, List, Some, length};
+ghost use Rattle.std.specs.Prelude.{ℕ, ◌≡◌, ◌≢◌, ◌<◌, ◌≤◌, ◌^◌, All, List, length};
 ghost use Rattle.pprof_profile.specs.Valid.{IsValidDraft};
 ghost use Rattle.profile_rows.specs.declared.weighted_stacks.WeightedStack.{WeightedStack};
 ghost use Rattle.profile_rows.specs.Rows.{IsBatchRow, total_of};
@@ -10,7 +10,6 @@ ghost use Rattle.profile_rows.specs.Values.{BatchState, IsBatch, Row, rows_at};
 ghost use Rattle.pprof_profile.specs.declared.messages.Draft.{Draft};
 ghost use Rattle.profile_samples.specs.declared.sampling.BatchFault.{BatchFault};
 ghost use Rattle.profile_samples.specs.declared.sampling.ValueChoice.{ValueChoice};
-ghost use Rattle.profile_samples.specs.declared.sampling.ValueChoice.TheVariants.{Default};
 ghost use Rattle.profile_samples.specs.declared.sampling.ValueChoice.TheVariants as choices;
 ghost use Rattle.profile_samples.specs.Export.{KindAndUnit, exported_profile_of, single_profile_of};
 ghost use Rattle.profile_samples.specs.Batches.{AreStacksOf, IsBatchOf, IsFirstBatchFault, IsFirstStacksFault};
@@ -21,7 +20,7 @@ pub fn export_reads_back()
     ensures valid { (rows : List Row) (units : List KindAndUnit)
         → All (λ row. length row.weights ≡ length units) rows → IsValidDraft (exported_profile_of rows units) }
     ensures rows { (rows : List WeightedStack) (kind unit : List ℕ) → All IsBatchRow rows → total_of rows < 2 ^ 63
-        → AreStacksOf (single_profile_of rows kind unit) Default rows }
+        → AreStacksOf (single_profile_of rows kind unit) choices.Default rows }
     ensures batch { (batch : BatchState) (units : List KindAndUnit) → length units ≡ batch.width → IsBatch batch
         → All (λ row. All IsName row.stack × (length row.stack ≤ 65535)) (rows_at 0 batch.rows)
         → IsBatchOf (exported_profile_of batch.rows units) choices.All batch }

@@ -1,84 +1,24 @@
 //! The rows of a profile's samples, those of the same locations merged into one.
 
-ghost use Rattle.std.specs.Prelude.{[], ◌∷◌, ◌++◌, ◌≡◌, ◌≢◌, ◌⊎◌, ◌+◌, ◌^◌, ◌<◌, ◌≤◌, false, IfErr, List, MatchResult, OnErr, OnOk, length, pos, slice_get, Some};
-ghost use Rattle.std.specs.List.{list_any};
-ghost use Rattle.std.specs.Str.{bytes_eq};
+ghost use Rattle.std.specs.Prelude.{[], ◌∷◌, ◌≡◌, ◌≢◌, ◌⊎◌, ◌<◌, IfErr, List, MatchResult, OnOk, length, Some};
 ghost use Rattle.profile_rows.specs.declared.weighted_stacks.WeightedStack.{WeightedStack};
 ghost use Rattle.profile_samples.specs.declared.sampling.BatchFault.{BatchFault};
 ghost use Rattle.profile_samples.specs.declared.sampling.ValueChoice.{ValueChoice};
 ghost use Rattle.profile_rows.specs.Aggregate.{aggregate_of};
 ghost use Rattle.profile_rows.specs.Rows.{total_of};
 ghost use Rattle.profile_rows.specs.Values.{single};
-ghost use Rattle.profile_samples.specs.Samples.{IsRowOfSample, IsSampleFault, chosen_types_of, sample_stack_of};
+ghost use Rattle.profile_samples.specs.Samples.{IsRowOfSample, IsSampleFault, chosen_types_of};
 ghost use Rattle.profile_samples.specs.Batches.{AreStacksOf, IsFirstStacksFault, StandsAtSample};
-ghost use Rattle.profile_rows.specs.Merging.{AddsRow, with_added_at};
+ghost use Rattle.profile_rows.specs.Merging.{AddsRow};
 ghost use Rattle.profile_samples.specs.MergedSamples.{AreRowsAt, IsMergedBatch};
 
 use crate::name_numbers::NumberedFrames;
-use crate::sampling::{BatchFault, ValueChoice, check_fit, chosen_value, weight_of};
+use crate::sampling::{BatchFault, ValueChoice, chosen_value, sample_weight, weight_of};
 use basics::NoMemory;
 use indexmap::IndexSet;
 use pprof_profile::{Profile, SampleRef};
 use profile_rows::{Hashing, MAX_DEPTH, WeightedStacks};
 use std::alloc::Global;
-
-/// Adds a row of the stack at these locations, which fits.
-fn push_row(
-    alloc: Global,
-    frames: &NumberedFrames,
-    batch: &mut WeightedStacks,
-    ids: &[u64],
-    weight: u64,
-) -> Result<(), NoMemory>
-    requires depth { length (sample_stack_of frames.now ids.now) ≤ MAX_DEPTH }
-    requires fits { total_of batch.old + weight < 2 ^ 63 }
-    ensures { OnOk result
-        (batch.new ≡ batch.old ++ (record { stack = sample_stack_of frames.now ids.now; weight = weight }) ∷ []) }
-{
-    let stack = frames.stack_at(alloc, ids)?;
-    batch.push(stack, weight).map_err(|_| NoMemory)
-}
-
-/// Adds the row of locations that no sample had yet.
-fn push_merged<'a>(
-    alloc: Global,
-    frames: &NumberedFrames,
-    known: &mut IndexSet<&'a [u64], Hashing>,
-    merged: &mut WeightedStacks,
-    ids: &'a [u64],
-    weight: u64,
-) -> Result<(), NoMemory>
-    requires depth { length (sample_stack_of frames.now ids.now) ≤ 65535 }
-    requires fits { total_of merged.old + weight < 2 ^ 63 }
-    requires fresh { list_any (λ list. bytes_eq ids.now list.now) known.old.keys ≡ false }
-    requires stacks { AreRowsAt frames.now known.old.keys merged.old }
-    ensures added { OnOk result
-        (AddsRow merged.old merged.new (record { stack = sample_stack_of frames.now ids.now; weight = weight })) }
-    ensures stacks { OnOk result (AreRowsAt frames.now known.new.keys merged.new) }
-{
-    push_row(alloc, frames, merged, ids, weight)?;
-    known.insert(ids)?;
-    Ok(())
-}
-
-/// Sums a weight with that of a row.
-fn add_to_row(
-    merged: &mut WeightedStacks,
-    at: usize,
-    weight: u64,
-    number: u64,
-) -> Result<(), BatchFault>
-    requires { at < length merged.old }
-    ensures added { OnOk result (merged.new ≡ with_added_at merged.old at weight) }
-    ensures fits { OnOk result (total_of merged.old + weight < 2 ^ 63) }
-    ensures fault { IfErr result
-        (λ fault. (fault ≡ BatchFault.Heavy number) × (2 ^ 63 ≤ total_of merged.old + weight)) }
-{
-    match merged.add_weight(at, weight) {
-        Ok(()) => Ok(()),
-        Err(_) => Err(BatchFault::Heavy { sample: number }),
-    }
-}
 
 /// Merges the row of a sample into the row of the same locations, or adds it where there is none.
 fn merge_sample<'a>(
@@ -99,14 +39,17 @@ fn merge_sample<'a>(
     ensures fault { IfErr result (IsSampleFault frames.now chosen (total_of merged.old ∷ []) number sample.now) }
 {
     let ids = sample.location_ids();
-    let weight = weight_of(sample.values(), chosen, number)?;
-    match known.get_index_of(ids) {
-        Some(at) => add_to_row(merged, at, weight, number),
-        None => {
-            check_fit(frames.fit(ids), weight, merged.total(), number)?;
-            Ok(push_merged(alloc, frames, known, merged, ids, weight)?)
-        }
+    if let Some(at) = known.get_index_of(ids) {
+        let weight = weight_of(sample.values(), chosen, number)?;
+        let heavy = BatchFault::Heavy { sample: number };
+        merged.add_weight(at, weight).map_err(|_| heavy)?;
+        return Ok(());
     }
+    let weight = sample_weight(frames, chosen, sample, merged.total(), number)?;
+    let stack = frames.stack_at(alloc, ids)?;
+    merged.push(stack, weight).map_err(|_| NoMemory)?;
+    known.insert(ids).map_err(|_| NoMemory)?;
+    Ok(())
 }
 
 /// The rows of a profile's samples by the values at an index, those of the same locations merged by a map that is empty

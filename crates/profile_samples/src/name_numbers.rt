@@ -1,216 +1,47 @@
 //! The names of a profile's frames by numbers. Equal names have one number, whether they come of one string, of two or
 //! of an address, so that a sample's frames are told apart without their texts.
 
-ghost use Rattle.std.specs.Prelude.{ℕ, ◌≡◌, ◌<◌, ◌≤◌, ◌↔◌, All, IfOk, IsTrue, List, OnOk, MatchOption, [], ◌∷◌, ◌++◌, length, map, slice_get, slice_index_or};
+ghost use Rattle.std.specs.Prelude.{ℕ, ◌≡◌, ◌<◌, ◌≤◌, ◌↔◌, All, IfOk, IsTrue, List, OnOk, MatchOption, [], ◌∷◌, ◌++◌, length, map, slice_index_or};
 ghost use Rattle.std.specs.Option.{option_map};
 ghost use Rattle.profile_rows.specs.Names.{IsName};
 ghost use Rattle.profile_samples.specs.Samples.{frames_of_ids, sample_stack_of};
-ghost use Rattle.profile_rows.specs.TextTables.{number_in, with_texts};
-ghost use Rattle.pprof_profile.specs.Valid.{IsValidDraft};
-ghost use Rattle.profile_samples.specs.NameNumbers.{address_names, address_of, frame_names, given, name_in, number_of, numbers_of, numbers_of_id, once_of, string_names};
+ghost use Rattle.profile_rows.specs.TextTables.{with_texts};
+ghost use Rattle.profile_samples.specs.NameNumbers.{address_names, frame_names, given, numbers_of, numbers_of_id, once_of};
 
 use crate::frame_lists::FrameLists;
 use crate::function_numbers::FunctionNumbers;
 use crate::id_index::IdIndex;
-use crate::string_names::{GivenName, string_names};
+use crate::string_names::{number_with, string_numbers};
 use basics::NoMemory;
+use indexmap::IndexSet;
 use pprof_profile::{Draft, Location, Profile};
-use profile_rows::{Hashing, MAX_DEPTH, Name, TextTable};
-use std::alloc::{AllocError, Global};
+use profile_rows::{Hashing, MAX_DEPTH, Name};
+use std::alloc::Global;
 use std::marker::Model;
 
-/// The names of the addresses of locations that need them.
-fn address_names<'t>(
-    alloc: Global,
-    functions: &FunctionNumbers,
-    locations: &[Location],
-) -> Result<Vec<GivenName<'t>>, NoMemory>
-    ensures { IfOk result (λ names. map name_in names.items ≡ map (address_of functions.now) locations.now) }
-{
-    let mut names = Vec::with_capacity(alloc, locations.len())?;
-    for location in locations {
-        names.push(functions.address_of(alloc, location)?)?;
-    }
-    Ok(names)
-}
-
-/// The table with the names that are there.
-fn with_given<'a>(
-    mut table: TextTable<'a>,
-    names: &'a [GivenName],
-) -> Result<TextTable<'a>, NoMemory>
-    ensures texts { IfOk result (λ more. more.texts ≡ with_texts table.entry.texts (given (map name_in names.now))) }
-    ensures each { OnOk result (All IsName (given (map name_in names.now))) }
-{
-    for name in names {
-        if let Some(text) = name.text() {
-            table.add(text)?;
-        }
-    }
-    Ok(table)
-}
-
-/// The numbers of the names that are there.
-fn given_numbers(
-    alloc: Global,
-    table: &TextTable,
-    names: &[GivenName],
-) -> Result<Vec<Option<usize>>, AllocError>
-    ensures { IfOk result
-        (λ numbers. numbers.items ≡ map (option_map (number_in table.now.texts)) (map name_in names.now)) }
-{
-    let mut numbers = Vec::with_capacity(alloc, names.len())?;
-    for name in names {
-        let number = match name.text() {
-            Some(text) => Some(table.number_of(text)),
-            None => None,
-        };
-        numbers.push(number)?;
-    }
-    Ok(numbers)
-}
-
-/// A copy of each text, which is a name.
-fn copied_names(alloc: Global, texts: &[&str]) -> Result<Vec<Name>, NoMemory>
-    requires { All IsName (map (λ text. text.now) texts.now) }
-    ensures { IfOk result (λ names. names.items ≡ map (λ text. text.now) texts.now) }
-{
-    let mut names = Vec::with_capacity(alloc, texts.len())?;
-    for text in texts {
-        names.push(Name::keep(alloc, text)?)?;
-    }
-    Ok(names)
-}
-
-/// Puts the numbers of a list, each once, in the place of others. A number's mark is the greatest where it stood
-/// before.
-fn each_once(
-    numbers: &[usize],
-    marks: &mut Vec<usize>,
-    mark: usize,
-    once: &mut Vec<usize>,
-) -> Result<(), AllocError>
-    requires inside { All (λ number. number < length marks.old.items) numbers.now }
-    requires marked { 0 < mark }
-    requires fresh { All (λ before. before < mark) marks.old.items }
-    ensures once { OnOk result (once.new.items ≡ once_of numbers.now) }
-    ensures count { OnOk result (length marks.new.items ≡ length marks.old.items) }
-    ensures marked { OnOk result (All (λ before. before ≤ mark) marks.new.items) }
-{
-    once.clear();
-    for number in numbers {
-        if marks[*number] != mark {
-            marks[*number] = mark;
-            once.push(*number)?;
-        }
-    }
-    Ok(())
-}
-
-/// The ids of locations.
-fn location_ids(alloc: Global, locations: &[Location]) -> Result<Vec<u64>, AllocError>
-    ensures { IfOk result (λ ids. ids.items ≡ map (λ location. location.id) locations.now) }
-{
-    locations.iter().map(|location| location.id).collect(alloc)
-}
-
-/// The frames of locations, leaf first, by the numbers of their addresses.
+/// The frames of a profile's locations, leaf first, by the numbers of their names. The names have those of strings, and
+/// get those of addresses.
 fn all_frames(
     alloc: Global,
     functions: &FunctionNumbers,
     locations: &[Location],
-    addresses: &[Option<usize>],
+    names: &mut IndexSet<Name, Hashing>,
 ) -> Result<FrameLists, NoMemory>
-    requires { addresses.now
-        ≡ map (option_map (number_of functions.now)) (map (address_of functions.now) locations.now) }
-    ensures { IfOk result (λ frames. frames ≡ map (numbers_of functions.now) locations.now) }
+    requires locations { locations.now ≡ functions.now.locations }
+    requires strings { with_texts names.old.keys (given (address_names functions.now)) ≡ frame_names functions.now }
+    requires each { All IsName names.old.keys }
+    ensures names { OnOk result (names.new.keys ≡ frame_names functions.now) }
+    ensures each { OnOk result (All IsName names.new.keys) }
+    ensures frames { IfOk result (λ frames. frames ≡ map (numbers_of functions.now) functions.now.locations) }
 {
     let mut frames = FrameLists::with_capacity(alloc, locations.len())?;
-    for (at, location) in locations.iter().enumerate() {
-        let address = addresses[at].unwrap_or(0);
+    for location in locations {
+        let name = functions.address_of(alloc, location)?;
+        let address = number_with(names, name)?.unwrap_or(0);
         let numbers = functions.numbers_of(alloc, location, address)?;
         frames.push(numbers.as_slice())?;
     }
     Ok(frames)
-}
-
-/// The numbers of each list, each once. They are below `count`. Lists are marked from 1.
-fn all_once(alloc: Global, frames: &FrameLists, count: usize) -> Result<FrameLists, NoMemory>
-    requires inside { All (All (λ number. number < count)) frames.now }
-    ensures { IfOk result (λ names. names ≡ map once_of frames.now) }
-{
-    let mut marks = vec![in alloc; 0; count]?;
-    let mut names = FrameLists::with_capacity(alloc, frames.len())?;
-    let mut once = Vec::new(alloc);
-    for at in 0..frames.len() {
-        each_once(frames.at(at), &mut marks, at + 1, &mut once)?;
-        names.push(once.as_slice())?;
-    }
-    Ok(names)
-}
-
-/// The most frames that a location has.
-fn deepest_of(locations: &FrameLists) -> usize
-    ensures { All (λ frames. length frames ≤ result) locations.now }
-{
-    let mut deepest = 0;
-    for index in 0..locations.len() {
-        let depth = locations.at(index).len();
-        if depth > deepest {
-            deepest = depth;
-        }
-    }
-    deepest
-}
-
-/// The names of a profile's frames, and the frames of each location, leaf first, by the numbers of their names.
-struct FrameNames {
-    names: Vec<Name>,
-    frames: FrameLists,
-}
-
-/// The names and the frames of a profile whose addresses give these names. The table has those of its strings.
-fn names_by_addresses<'a>(
-    alloc: Global,
-    functions: &FunctionNumbers,
-    locations: &[Location],
-    table: TextTable<'a>,
-    addresses: &'a [GivenName],
-) -> Result<FrameNames, NoMemory>
-    requires locations { locations.now ≡ functions.now.locations }
-    requires strings { table.texts ≡ with_texts [] (given (string_names functions.now)) }
-    requires names { All IsName (given (string_names functions.now)) }
-    requires addresses { map name_in addresses.now ≡ address_names functions.now }
-    ensures names { IfOk result (λ made. made.names.items ≡ frame_names functions.now) }
-    ensures frames { IfOk result (λ made. made.frames ≡ map (numbers_of functions.now) functions.now.locations) }
-    ensures each { OnOk result (All IsName (frame_names functions.now)) }
-{
-    let table = with_given(table, addresses)?;
-    let numbers = given_numbers(alloc, &table, addresses)?;
-    let frames = all_frames(alloc, functions, locations, numbers.as_slice())?;
-    let names = copied_names(alloc, table.texts())?;
-    Ok(FrameNames { names, frames })
-}
-
-/// The names and the frames of a valid profile whose strings give these names.
-fn names_by_strings(
-    alloc: Global,
-    hashing: Hashing,
-    draft: &Draft,
-    strings: &[GivenName],
-) -> Result<FrameNames, NoMemory>
-    requires valid { IsValidDraft draft.now }
-    requires strings { map name_in strings.now ≡ string_names draft.now }
-    ensures names { IfOk result (λ made. made.names.items ≡ frame_names draft.now) }
-    ensures frames { IfOk result (λ made. made.frames ≡ map (numbers_of draft.now) draft.now.locations) }
-    ensures each { OnOk result (All IsName (frame_names draft.now)) }
-{
-    let table = with_given(TextTable::new(alloc, hashing), strings)?;
-    let numbers = given_numbers(alloc, &table, strings)?;
-    let functions = FunctionNumbers::new(alloc, hashing, draft, numbers.as_slice())?;
-    let locations = draft.locations.as_slice();
-    let addresses = address_names(alloc, &functions, locations)?;
-    names_by_addresses(alloc, &functions, locations, table, addresses.as_slice())
 }
 
 /// The frames of a profile's locations by the numbers of their names, so that a sample costs a look-up for each
@@ -223,8 +54,7 @@ pub(crate) struct NumberedFrames<'a> {
     frames: FrameLists,
     /// Those numbers each once.
     once: FrameLists,
-    deepest: usize,
-    names: Vec<Name>,
+    names: IndexSet<Name, Hashing>,
 }
 
 impl<'a> Model for NumberedFrames<'a> {
@@ -236,16 +66,12 @@ impl<'a> Model for NumberedFrames<'a> {
     ghost view = { λ numbered. numbered.draft.now };
 
     ghost invariant = { λ numbered.
-        AreFrameNumbers numbered.draft.now numbered.indices numbered.frames numbered.once numbered.deepest
-        numbered.names.items };
+        AreFrameNumbers numbered.draft.now numbered.indices numbered.frames numbered.once
+        numbered.names.keys };
 }
 
 impl<'a> NumberedFrames<'a> {
     /// The frames of a profile's locations, and `hashing` says how names and ids are hashed.
-    ///
-    /// # Errors
-    ///
-    /// `NoMemory`.
     pub fn new(
         alloc: Global,
         hashing: Hashing,
@@ -254,23 +80,19 @@ impl<'a> NumberedFrames<'a> {
         ensures { IfOk result (λ numbered. numbered ≡ profile.now) }
     {
         let draft = profile.draft();
-        let strings = string_names(alloc, draft)?;
-        let FrameNames { names, frames } = names_by_strings(
-            alloc,
-            hashing,
-            draft,
-            strings.as_slice(),
-        )?;
-        let once = all_once(alloc, &frames, names.len())?;
-        let ids = location_ids(alloc, draft.locations.as_slice())?;
+        let mut names = IndexSet::with_hasher(alloc, hashing);
+        let strings = string_numbers(alloc, draft, &mut names)?;
+        let functions = FunctionNumbers::new(alloc, hashing, draft, strings.as_slice())?;
+        let locations = draft.locations.as_slice();
+        let frames = all_frames(alloc, &functions, locations, &mut names)?;
+        let once = frames.all_once(alloc, names.len())?;
+        let ids = locations.iter().map(|location| location.id).collect(alloc)?;
         let indices = IdIndex::new(alloc, hashing, ids)?;
-        let deepest = deepest_of(&frames);
         Ok(NumberedFrames {
             draft,
             indices,
             frames,
             once,
-            deepest,
             names,
         })
     }
@@ -304,18 +126,7 @@ impl<'a> NumberedFrames<'a> {
     pub fn fit(&self, ids: &[u64]) -> bool
         ensures { IsTrue result ↔ (length (frames_of_ids self.now ids.now) ≤ MAX_DEPTH) }
     {
-        self.fit_all(ids.len()) || self.fit_these(ids)
-    }
-
-    /// Whether any so many locations fit.
-    fn fit_all(&self, count: usize) -> bool
-        ensures { IsTrue result → (ids : List ℕ) → length ids ≡ count
-            → length (frames_of_ids self.now ids) ≤ MAX_DEPTH }
-    {
-        match self.deepest.checked_mul(count) {
-            Some(most) => most <= MAX_DEPTH,
-            None => false,
-        }
+        self.frames.deepest().saturating_mul(ids.len()) <= MAX_DEPTH || self.fit_these(ids)
     }
 
     /// Whether these locations fit, by the frames of each.

@@ -1,16 +1,17 @@
 //! A profile's samples as rows: the values that are chosen, a row for each sample, and why there is none.
 
-ghost use Rattle.std.specs.Prelude.{◌≡◌, ◌+◌, ◌^◌, ◌<◌, ◌≤◌, ◌⊎◌, false, IfErr, IfOk, IsTrue, MatchOption, MatchResult, None, OnOk, Some, pos, length, slice_get};
+ghost use Rattle.std.specs.Prelude.{◌≡◌, ◌+◌, ◌∷◌, [], ◌^◌, ◌<◌, ◌≤◌, IfErr, IfOk, MatchResult, Some, pos, length, slice_get};
 ghost use Rattle.std.specs.List.{position};
 ghost use Rattle.pprof_profile.specs.declared.messages.ValueType.{ValueType};
 ghost use Rattle.profile_samples.specs.declared.sampling.ValueChoice.{ValueChoice};
 ghost use Rattle.profile_samples.specs.Batches.{IsFirstFault, IsFirstStacksFault};
-ghost use Rattle.profile_samples.specs.Samples.{IsFitFault, IsValueFault, chosen_types_of, default_type, one_from, type_named};
+ghost use Rattle.profile_samples.specs.Samples.{IsRowOfSample, IsSampleFault, IsValueFault, chosen_types_of, default_type, sample_stack_of, type_named};
 ghost use Rattle.profile_samples.specs.EqualStrings.{equal_at, equal_strings};
 
+use crate::name_numbers::NumberedFrames;
 use crate::string_names::string_at;
 use basics::NoMemory;
-use pprof_profile::{Draft, Text, ValueType};
+use pprof_profile::{Draft, SampleRef, Text, ValueType};
 use profile_rows::{MAX_TOTAL, MAX_WIDTH, Width};
 use std::alloc::{AllocError, Global};
 use thiserror::Error;
@@ -87,11 +88,10 @@ fn equal_strings(alloc: Global, strings: &[Text], text: &str) -> Result<Vec<bool
 fn is_equal_at(equal: &[bool], index: i64, text: &str) -> bool
     ensures { result ≡ equal_at equal.now text.now index }
 {
-    let missing = "" == text;
-    match usize::try_from(index) {
-        Ok(at) => equal.get(at).copied().unwrap_or(missing),
-        Err(_) => missing,
-    }
+    let known = usize::try_from(index)
+        .ok()
+        .and_then(|at| equal.get(at).copied());
+    known.unwrap_or("" == text)
 }
 
 /// The first sample type of this name, by what is known of each string.
@@ -126,12 +126,8 @@ fn default_type(alloc: Global, draft: &Draft) -> Option<usize>
     if draft.default_sample_type == 0 {
         return last;
     }
-    type_named(
-        alloc,
-        draft,
-        string_at(draft.strings.as_slice(), draft.default_sample_type),
-    )
-    .or(last)
+    let text = string_at(draft.strings.as_slice(), draft.default_sample_type);
+    type_named(alloc, draft, text).or(last)
 }
 
 /// The values that are taken of each sample: the index of the first, and how many they are.
@@ -139,48 +135,6 @@ fn default_type(alloc: Global, draft: &Draft) -> Option<usize>
 pub(crate) struct ChosenValues {
     pub(crate) first: usize,
     pub(crate) width: Width,
-}
-
-/// So many values, where there are some, and no more than these.
-fn width_of(count: usize, most: u32) -> Option<Width>
-    requires { most ≤ MAX_WIDTH }
-    ensures { MatchOption result ((count ≡ 0) ⊎ (most < count)) (λ width. (width ≡ count) × (width ≤ most)) }
-{
-    match u32::try_from(count) {
-        Ok(count) if count <= most => Width::new(count),
-        _ => None,
-    }
-}
-
-/// All values of the samples.
-fn all_values(draft: &Draft, most: u32) -> Result<ChosenValues, BatchFault>
-    requires { most ≤ MAX_WIDTH }
-    ensures few { IfOk result (λ chosen. chosen.width ≤ most) }
-    ensures chosen { MatchResult result
-        (λ chosen. chosen_types_of draft.now ValueChoice.All ≡ Some (chosen.first, chosen.width))
-        (λ fault. IsFirstFault most draft.now ValueChoice.All fault) }
-{
-    let count = draft.sample_types.len();
-    match width_of(count, most) {
-        Some(width) => Ok(ChosenValues { first: 0, width }),
-        None if count == 0 => Err(BatchFault::NoValue),
-        None => Err(BatchFault::Width { count }),
-    }
-}
-
-/// The value at this index alone, where there is one.
-fn one_value(first: Option<usize>) -> Result<ChosenValues, BatchFault>
-    ensures one { IfOk result (λ chosen. chosen.width ≡ 1) }
-    ensures chosen { MatchResult result (λ chosen. one_from first ≡ Some (chosen.first, chosen.width))
-        (λ fault. (one_from first ≡ None) × (fault ≡ BatchFault.NoValue)) }
-{
-    match first {
-        Some(first) => Ok(ChosenValues {
-            first,
-            width: Width::one(),
-        }),
-        None => Err(BatchFault::NoValue),
-    }
 }
 
 /// The values that a choice takes, where they are no more than these.
@@ -197,10 +151,17 @@ pub(crate) fn chosen_values(
         (λ chosen. chosen_types_of draft.now choice.entry ≡ Some (chosen.first, chosen.width))
         (λ fault. IsFirstFault most draft.now choice.entry fault) }
 {
-    match choice {
-        ValueChoice::All => all_values(draft, most),
-        ValueChoice::Default => one_value(default_type(alloc, draft)),
-        ValueChoice::Named(text) => one_value(type_named(alloc, draft, text)),
+    let (first, count) = match choice {
+        ValueChoice::All => (Some(0), draft.sample_types.len()),
+        ValueChoice::Default => (default_type(alloc, draft), 1),
+        ValueChoice::Named(text) => (type_named(alloc, draft, text), 1),
+    };
+    if count > most as usize {
+        return Err(BatchFault::Width { count });
+    }
+    match (first, Width::new(count as u32)) {
+        (Some(first), Some(width)) => Ok(ChosenValues { first, width }),
+        _ => Err(BatchFault::NoValue),
     }
 }
 
@@ -225,28 +186,27 @@ pub(crate) fn weight_of(values: &[i64], chosen: usize, number: u64) -> Result<u6
     u64::try_from(values[chosen]).map_err(|_| BatchFault::Negative { sample: number })
 }
 
-/// Whether a stack can have the frames of a sample, by whether they fit.
-pub(crate) fn check_depth(fit: bool, number: u64) -> Result<(), BatchFault>
-    ensures depth { OnOk result (IsTrue fit) }
-    ensures fault { IfErr result (λ fault. (fault ≡ BatchFault.Depth number) × (fit ≡ false)) }
+/// The weight of a sample by the value at an index, where it gives a row that can follow rows of the weight `earlier`.
+pub(crate) fn sample_weight(
+    frames: &NumberedFrames,
+    chosen: usize,
+    sample: &SampleRef,
+    earlier: u64,
+    number: u64,
+) -> Result<u64, BatchFault>
+    requires values { chosen < length sample.now.values }
+    requires earlier { earlier < 2 ^ 63 }
+    ensures row { IfOk result (λ weight. IsRowOfSample frames.now chosen 1 sample.now
+        (record { stack = sample_stack_of frames.now sample.now.location_ids; weights = weight ∷ [] })) }
+    ensures fits { IfOk result (λ weight. earlier + weight < 2 ^ 63) }
+    ensures fault { IfErr result (IsSampleFault frames.now chosen (earlier ∷ []) number sample.now) }
 {
-    if fit {
-        Ok(())
-    } else {
-        Err(BatchFault::Depth { sample: number })
+    let weight = weight_of(sample.values(), chosen, number)?;
+    if !frames.fit(sample.location_ids()) {
+        return Err(BatchFault::Depth { sample: number });
     }
-}
-
-/// Whether a sample, by whether its frames fit, gives a row that can follow rows of the weight `earlier`.
-pub(crate) fn check_fit(fit: bool, weight: u64, earlier: u64, number: u64) -> Result<(), BatchFault>
-    requires { earlier < 2 ^ 63 }
-    ensures depth { OnOk result (IsTrue fit) }
-    ensures fits { OnOk result (earlier + weight < 2 ^ 63) }
-    ensures fault { IfErr result (IsFitFault fit earlier number weight) }
-{
-    check_depth(fit, number)?;
     if weight > MAX_TOTAL - earlier {
         return Err(BatchFault::Heavy { sample: number });
     }
-    Ok(())
+    Ok(weight)
 }

@@ -21,18 +21,6 @@ pub(crate) fn push_numbers(numbers: &mut Vec<usize>, more: &[usize]) -> Result<(
     Ok(())
 }
 
-/// A second owner of each name that a number names.
-fn shares_at(alloc: Global, names: &[Name], numbers: &[usize]) -> Result<Vec<Name>, NoMemory>
-    requires { All (λ number. number < length names.now) numbers.now }
-    ensures { IfOk result (λ shares. shares.items ≡ names_at names.now numbers.now) }
-{
-    let mut shares = Vec::with_capacity(alloc, numbers.len())?;
-    for number in numbers {
-        shares.push(names[*number].share()?)?;
-    }
-    Ok(shares)
-}
-
 impl<'a> NumberedFrames<'a> {
     /// The numbers of the frames of locations, leaf first. They are gathered before names are shared, so that waits for
     /// memory overlap where locations stand far apart.
@@ -52,22 +40,19 @@ impl<'a> NumberedFrames<'a> {
     }
 
     /// The names of the frames of locations, leaf first.
-    ///
-    /// # Errors
-    ///
-    /// `NoMemory`.
     pub fn leaf_first(&self, alloc: Global, ids: &[u64]) -> Result<Vec<Name>, NoMemory>
         ensures { IfOk result (λ names. names.items ≡ frames_of_ids self.now ids.now) }
     {
         let numbers = self.numbers_of_ids(alloc, ids)?;
-        shares_at(alloc, self.names(), numbers.as_slice())
+        let names = self.names();
+        let mut shares = Vec::with_capacity(alloc, numbers.len())?;
+        for number in &numbers {
+            shares.push(names[*number].clone()?)?;
+        }
+        Ok(shares)
     }
 
     /// The stack of the frames of these locations, which it can have.
-    ///
-    /// # Errors
-    ///
-    /// `NoMemory`.
     pub fn stack_at(&self, alloc: Global, ids: &[u64]) -> Result<Stack, NoMemory>
         requires { length (sample_stack_of self.now ids.now) ≤ MAX_DEPTH }
         ensures { IfOk result (λ stack. stack ≡ sample_stack_of self.now ids.now) }

@@ -99,8 +99,6 @@ pub use stack_text::OwnedRow;
 pub use stack_text::PushFault;
 pub use stack_text::Refused;
 pub use stack_text::Row;
-pub use stack_text::RowNames;
-pub use stack_text::RowShape;
 pub use stack_text::Rows;
 pub use stack_text::Stack;
 pub use stack_text::ValueChoice;

@@ -118,8 +118,8 @@ impl Grower {
         ensures values { self.new.values ≡ self.old.values }
     {
         let number = number_of(self.numbers.len())?;
-        let listed = name.share()?;
-        let key = name.share()?;
+        let listed = name.clone()?;
+        let key = name.clone()?;
         self.numbers.reserve(1)?;
         self.tree.facts();
         Arc::make_mut(&mut self.tree)?.append_name(listed)?;

@@ -107,7 +107,7 @@ impl CallTree {
         for number in 0..sums.len() {
             let sum = sums[number];
             if sum.cum > 0 {
-                let name = self.names.read(number).share()?;
+                let name = self.names.read(number).clone()?;
                 totals.push(FrameTotal {
                     name,
                     flat: sum.flat,
@@ -144,7 +144,7 @@ impl CallTree {
         let mut slot = at;
         while slot != 0 {
             let link = self.nodes.link(slot);
-            let name = self.names.read(link.name as usize).share()?;
+            let name = self.names.read(link.name as usize).clone()?;
             names.push(name)?;
             slot = link.parent as usize;
         }

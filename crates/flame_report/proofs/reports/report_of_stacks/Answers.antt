@@ -4,5 +4,5 @@ use Rattle.std.proofs.Common.{arith}
 use Rattle.flame_report.proofs.Same.{answer_of-rows_of, if_ok_seen}
 use Rattle.flame_report.proofs.reports.report_of_stacks.Goals as goal
 
-pub returns-in_ok-rows-in_default : goal.returns-in_ok-rows-in_default
-returns-in_ok-rows-in_default c = grind (arith, common_steps, answer_of-rows_of, if_ok_seen)
+pub returns : goal.returns
+returns c = grind (arith, common_steps, answer_of-rows_of, if_ok_seen)

@@ -39,7 +39,9 @@ batch_by-requires-clause-typed c =
     (rw c.draft.ensures.draft at c.in_ok-chosen.ensures.chosen)
 
 pub returns-clause-read : goal.returns-clause-read
-returns-clause-read c = grind (arith, common_steps, first_of_standing)
+returns-clause-read c =
+    first_of_standing (IsBatchOf c.args.profile.now c.args.choice) 4 c.args.profile.now c.args.choice c.batch_by.result
+    (c.batch_by.ensures c.args.choice (rw c.draft.ensures.draft at c.in_ok-chosen.ensures.chosen))
 
 pub returns-clause-accepted : goal.returns-clause-accepted
 returns-clause-accepted c = only_batch c.args.profile.now c.args.choice c.batch_by.result (returns-clause-read c)

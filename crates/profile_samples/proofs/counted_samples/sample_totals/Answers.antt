@@ -9,6 +9,7 @@ use Rattle.profile_samples.proofs.FirstFaults.{only_first_fault}
 use Rattle.profile_samples.proofs.FrameNumbers.{frame_names-single}
 use Rattle.profile_samples.proofs.MergedSamples.{only_sample_totals}
 use Rattle.profile_samples.proofs.SampleBatches.{first_of_work, memory_first}
+use Rattle.profile_samples.proofs.SampleRows.{chosen_types_within}
 use Rattle.profile_samples.proofs.counted_samples.sample_totals.Goals as goal
 
 pub returns-in_err-chosen-clause-read : goal.returns-in_err-chosen-clause-read
@@ -29,6 +30,12 @@ returns-in_err-tallies-clause-read c =
     let p = err_from_is_err_and c.from_residual-in_err-tallies.result c.from_residual-in_err-tallies.ensures.1 in
     rw (p.1, p.2) (memory_first c.args.profile.now c.args.choice c.in_ok-chosen.chosen
     (rw c.draft.ensures.draft at c.in_ok-chosen.ensures))
+
+pub totals_by-requires-clause-typed : goal.totals_by-requires-clause-typed
+totals_by-requires-clause-typed c =
+    let within = chosen_types_within c.args.profile.now c.args.choice c.in_ok-chosen.chosen 1
+    (rw c.draft.ensures.draft at c.in_ok-chosen.ensures) in
+    omega (arith, within)
 
 pub totals_by-requires-clause-uncounted : goal.totals_by-requires-clause-uncounted
 totals_by-requires-clause-uncounted c =

@@ -26,7 +26,7 @@ filled draft names samples kind unit all is same =
 
 pub returns-clause-profile : goal.returns-clause-profile
 returns-clause-profile c = λ all so_far.
-    let made = filled c.in_ok-draft.draft c.args.rows.now.row.texts c.empty.result c.args.kind.now c.args.unit.now all
+    let made = filled c.in_ok-draft.draft c.args.rows.now.row.texts c.empty-samples.result c.args.kind.now c.args.unit.now all
     (rw c.names.ensures at c.in_ok-draft.ensures) so_far.names_rows in
     rw (sym made) (c.encode_around.ensures.profile
     (map (exported_sample c.args.rows.now.row.texts) (singles all)) so_far.samples_rows so_far.fits_rows
@@ -36,7 +36,7 @@ returns-clause-profile c = λ all so_far.
 pub returns-clause-canonical : goal.returns-clause-canonical
 returns-clause-canonical c = λ all so_far.
     subst (λ d. IfOk c.encode_around.result (λ bytes. bytes.items ≡ canonical_bytes_of d))
-    (filled c.in_ok-draft.draft c.args.rows.now.row.texts c.empty.result c.args.kind.now c.args.unit.now all
+    (filled c.in_ok-draft.draft c.args.rows.now.row.texts c.empty-samples.result c.args.kind.now c.args.unit.now all
     (rw c.names.ensures at c.in_ok-draft.ensures) so_far.names_rows)
     (c.encode_around.ensures.canonical
     (map (exported_sample c.args.rows.now.row.texts) (singles all)) so_far.samples_rows)

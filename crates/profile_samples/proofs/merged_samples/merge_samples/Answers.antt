@@ -36,7 +36,9 @@ merged_by-requires-clause-typed c =
     omega (arith, within)
 
 pub returns-clause-read : goal.returns-clause-read
-returns-clause-read c = grind (arith, common_steps, first_of_standing)
+returns-clause-read c =
+    first_of_standing (IsMergedBatch c.args.profile.now c.args.choice) 1 c.args.profile.now c.args.choice
+    c.merged_by.result (c.merged_by.ensures c.args.choice (rw c.draft.ensures.draft at c.in_ok-chosen.ensures))
 
 pub returns-clause-accepted : goal.returns-clause-accepted
 returns-clause-accepted c = only_batch_sums c.args.profile.now c.args.choice c.merged_by.result (returns-clause-read c)

@@ -27,7 +27,7 @@ loop-number-preserved c =
           get_or_read c.self.inside.names k w.read.result.now (omega (arith, ap length kept)) w.read.ensures [] in
           named rows names k c.index-sum.result.now.flat c.index-sum.result.now.cum
           w.in_ok-name.name lt flat cum c.loop-number.totals.items c.if-sum-gt0.totals.items
-          c.loop-number.invariant w.if-sum-gt0.true (w.in_ok-name.ensures ∙ read ∙ ap (λ ns. name_at ns k) kept)
+          c.loop-number.invariant w.if-sum-gt0.true (w.in_ok-name.ensures.cases ∙ read ∙ ap (λ ns. name_at ns k) kept)
           (ap (λ v. v.items) w.totals-is ∙ w.in_ok-push.ensures.items)
       | else-sum-gt0 w ↦
           unnamed rows names k c.index-sum.result.now.flat c.index-sum.result.now.cum

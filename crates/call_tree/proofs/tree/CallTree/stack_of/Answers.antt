@@ -30,7 +30,7 @@ loop-slot-preserved c =
     let name_is : c.read.result.now ≡ name_at names c.link-link.result.name =
     get_or_read names c.link-link.result.name c.read.result.now
     (omega (arith, links.1, ap (λ node. node.name) node_is)) c.read.ensures [] in
-    let name : c.in_ok-name.name ≡ name_at names (at nodes slot).name = c.in_ok-name.ensures
+    let name : c.in_ok-name.name ≡ name_at names (at nodes slot).name = c.in_ok-name.ensures.cases
     ∙ name_is ∙ ap (λ node. name_at names node.name) node_is in
     let child =
     stack_at-child names nodes slot (omega (arith, c.loop-slot-test.true)) c.loop-slot.invariant.0 links.0 in

@@ -30,7 +30,7 @@ span_at-shortest-requires-clause-depth c = grind (arith, common_steps, known-le)
 pub returns-then-shortest : goal.returns-then-shortest
 returns-then-shortest c =
     let rows = c.args.self.now.rows.now in
-    let columns = c.args.self.now.scale.columns in
+    let columns = c.args.self.now.columns in
     let stack = stack_at c.args.self.now.rows.now c.args.at in
     let is = c.span_at-shortest.ensures
     ∙ ap (λ (shape : Shape). span_of (rectangle_at columns rows (take shape.known stack))) c.shape-known.ensures in

@@ -9,8 +9,8 @@ abbrev pub invariant-loop-depth : goal.invariant-loop-depth
 invariant-loop-depth l = record {
   inside : l.depth ≤ length (stack_at l.self.rows.now l.at) + 1;
   rest : l.drawing.rects.items ++ map rect_of
-      (shown_of l.self.scale.columns l.self.rows.now (drop l.depth (prefixes (stack_at l.self.rows.now l.at))))
+      (shown_of l.self.columns l.self.rows.now (drop l.depth (prefixes (stack_at l.self.rows.now l.at))))
       ≡ l.initial.drawing.rects.items ++ map rect_of
-      (shown_of l.self.scale.columns l.self.rows.now
+      (shown_of l.self.columns l.self.rows.now
       (drop (known_at l.self.rows.now l.at) (prefixes (stack_at l.self.rows.now l.at))));
 }

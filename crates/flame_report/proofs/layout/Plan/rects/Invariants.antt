@@ -8,6 +8,6 @@ abbrev pub invariant-loop-at : goal.invariant-loop-at
 invariant-loop-at l = record {
   before : l.before ≡ total_of (take l.at l.self.rows.now);
   done : l.drawing.rects.items
-      ≡ map rect_of (shown_of l.self.scale.columns l.self.rows.now (paths_until l.self.rows.now l.at));
+      ≡ map rect_of (shown_of l.self.columns l.self.rows.now (paths_until l.self.rows.now l.at));
   held : AreHeld l.held.items l.self.rows.now l.at;
 }

@@ -7,8 +7,8 @@ use Rattle.folded_text.proofs.ordered_rows.OrderedRows.of_texts.Goals as goal
 pub invariant_of-result : goal.invariant_of-result
 invariant_of-result c =
     let (weights, are) = c.requires in
-    let is = c.in_ok-rows.ensures weights are ∙ ap rows_of (sym are.whole) in
-    (rw (c.in_ok-rows.ensures weights are) (rows_of-IsAscending weights), rw is (rows_of-AreWeighty are.rows))
+    let is = c.in_ok-of_texts.ensures weights are ∙ ap rows_of (sym are.whole) in
+    (rw (c.in_ok-of_texts.ensures weights are) (rows_of-IsAscending weights), rw is (rows_of-AreWeighty are.rows))
 
 pub returns : goal.returns
-returns c = c.in_ok-rows.ensures
+returns c = c.in_ok-of_texts.ensures

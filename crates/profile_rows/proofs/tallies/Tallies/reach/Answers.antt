@@ -16,12 +16,13 @@ returns-in_ok-resize-clause-counted c = λ names more rows long are.
     let held : vec_len c.args.self.now.names ≡ length before = search rules in
     let size : c.args.count - vec_len c.args.self.now.names ≡ length (with_texts names more) - length names =
     omega (arith, long, many, held) in
+    let zero : c.default.result ≡ zero_tally = search rules in
     names-new rows names more c.args.self.now _ refl
     (c.in_ok-resize.ensures.items
-    ∙ ap (λ kept. kept ++ replicate (c.args.count - vec_len c.args.self.now.names) c.none.result)
+    ∙ ap (λ kept. kept ++ replicate (c.args.count - vec_len c.args.self.now.names) c.default.result)
     (take_all c.args.count before (omega (arith, len, more_than)))
-    ∙ ap (λ n. before ++ replicate n c.none.result) size
-    ∙ ap (λ tally. before ++ replicate (length (with_texts names more) - length names) tally) c.none.ensures) are
+    ∙ ap (λ n. before ++ replicate n c.default.result) size
+    ∙ ap (λ tally. before ++ replicate (length (with_texts names more) - length names) tally) zero) are
 
 pub returns-else-count-len-clause-counted : goal.returns-else-count-len-clause-counted
 returns-else-count-len-clause-counted c = λ names more rows long are.

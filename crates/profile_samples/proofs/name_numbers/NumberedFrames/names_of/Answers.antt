@@ -13,7 +13,7 @@ returns-in_err-find c =
     let this = rw c.self.view_is at c.self.invariant in
     ap (option_map (λ (names : Bor (List ℕ)). names.now)) c.from_residual.ensures
     ∙ ap (option_map once_of)
-    (sym (numbers_at c.args.self.now _ _ _ _ _ c.args.id None this c.in_err-find.ensures))
+    (sym (numbers_at c.args.self.now _ _ _ _ c.args.id None this c.in_err-find.ensures))
 
 pub returns : goal.returns
 returns c =
@@ -22,4 +22,4 @@ returns c =
     c.get.ensures
     ∙ ap (λ lists. slice_get lists at) this.once_are ∙ slice_get-map once_of c.self.inside.frames at
     ∙ ap (option_map once_of)
-    (sym (numbers_at c.args.self.now _ _ _ _ _ c.args.id (Some at) this c.in_ok-find.ensures))
+    (sym (numbers_at c.args.self.now _ _ _ _ c.args.id (Some at) this c.in_ok-find.ensures))

@@ -1,7 +1,0 @@
-use Rattle.std.proofs.Common.{◌≡◌, take}
-use Rattle.folded_text.specs.TextRows.{text_lines}
-use Rattle.folded_text.proofs.text_rows.write_text_rows.Given as goal
-
--- the lines so far
-abbrev pub invariant-loop-row : goal.invariant-loop-row
-invariant-loop-row l = l.text.items ≡ text_lines (take l.row-index l.rows)

@@ -1,0 +1,35 @@
+-- The row's sample has the ids of its names, and its weight for its value.
+use Rattle.std.proofs.Common.{◌≡◌, ◌+◌, ◌<◌, ◌^◌, arith, map, reverse, refl, ap, ◌∙◌}
+use mathlib.Core.List.{map-map}
+use Rattle.std.specs.Int.{w64}
+use Rattle.std.proofs.lemmas.Int.{to_z_pos}
+use Rattle.profile_samples.specs.Export.{exported_sample}
+use Rattle.profile_rows.specs.Values.{singles}
+use Rattle.profile_rows.specs.TextTables.{number_in, with_texts}
+use Rattle.profile_samples.proofs.ExportedRows.{AreSamplesOf-push}
+use Rattle.profile_rows.proofs.TextNumbers.{text_of}
+use Rattle.profile_samples.proofs.folded_export.SampledRowsLineTaker.take_line.Goals as goal
+
+pub returns-clause-taken : goal.returns-clause-taken
+returns-clause-taken c = λ before so_far within.
+    let weight = c.in_ok-weight.weight in
+    let (fits, this) = c.in_ok-weight.ensures.spelled in
+    let small : weight < 2 ^ 63 = omega (arith, fits) in
+    let texts = c.replace.new.self.texts in
+    let frames = map text_of c.read_frames.new.frames.items in
+    let lent : map text_of c.as_slice.result.now ≡ frames = ap (map text_of) c.as_slice.ensures.value in
+    let samples = map (exported_sample c.args.self.now.row.texts) (singles before) in (
+      record { stack = frames; weight = weight },
+      this,
+      rw (← so_far.total_rows) fits,
+      AreSamplesOf-push before (record { stack = frames; weight = weight })
+          c.args.self.now.row.texts texts
+          c.args.self.now.samples c.push.new.self c.replace_ids.new.ids.items c.args.self.now.total _ so_far
+          (c.in_ok-replace.ensures.names ∙ ap (with_texts c.args.self.now.row.texts) lent)
+          (rw (c.in_ok-replace_ids.ensures, c.numbers.ensures.numbers, c.in_ok-replace.ensures.frames, lent)
+          (ap reverse (map-map (λ number. number + 1) (number_in texts) frames)))
+          refl
+          (rw (to_z_pos w64 weight small, c.as_slice-2.ensures.value)
+          at (c.in_ok-push.ensures.pushed samples so_far.samples_rows))
+          (rw (to_z_pos w64 weight small, c.as_slice-2.ensures.value) at c.in_ok-push.ensures.fits),
+    )

@@ -1,8 +1,0 @@
-use Rattle.std.proofs.Common.{◌≡◌, ◌≤◌, All, length, map, take}
-use Rattle.profile_samples.specs.NameNumbers.{once_of}
-use Rattle.profile_samples.proofs.name_numbers.all_once.Given as goal
-
--- the lists so far
-abbrev pub invariant-loop-at : goal.invariant-loop-at
-invariant-loop-at l = (l.names ≡ map once_of (take l.at l.fn.frames))
-    × (length l.marks.items ≡ length l.initial.marks.items) × All (λ mark. mark ≤ l.at) l.marks.items

@@ -1,7 +1,0 @@
-use Rattle.std.proofs.Common.{◌≡◌, take}
-use Rattle.profile_rows.specs.TextTables.{names_at}
-use Rattle.profile_samples.proofs.unfolding.shares_at.Given as goal
-
--- the names so far
-abbrev pub invariant-loop-number : goal.invariant-loop-number
-invariant-loop-number l = l.shares.items ≡ names_at l.names (take l.number-index l.numbers)

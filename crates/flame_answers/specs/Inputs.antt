@@ -1,10 +1,12 @@
 -- What a request reads of an input, and what refuses the input.
 use Rattle.std.specs.Prelude.{ℕ, ◌≡◌, ◌≢◌, ◌⊎◌, ⊤, Bool, true, false, List, Option, Some, None}
+use Rattle.pprof_profile.specs.declared.faults.ProfileFault.{ProfileFault}
 use Rattle.pprof_profile.specs.declared.faults.ProfileFault.TheVariants as profile
 use Rattle.pprof_profile.specs.declared.messages.Draft.{Draft}
 use Rattle.pprof_profile.specs.Profiles.{IsProfile, IsProfileFault}
 use Rattle.profile_rows.specs.declared.weighted_stacks.WeightedStack.{WeightedStack}
 use Rattle.profile_rows.specs.Values.{BatchState}
+use Rattle.folded_text.specs.declared.folded.FoldedFault.{FoldedFault}
 use Rattle.folded_text.specs.declared.folded.FoldedFault.TheVariants as folded
 use Rattle.folded_text.specs.FoldedText.{IsFirstFault, IsFoldedBatch, IsFoldedText}
 use Rattle.profile_samples.specs.declared.sampling.BatchFault.{BatchFault}
@@ -12,6 +14,7 @@ use Rattle.profile_samples.specs.declared.sampling.BatchFault.TheVariants as bat
 use Rattle.profile_samples.specs.declared.sampling.ValueChoice.{ValueChoice}
 use Rattle.profile_samples.specs.declared.sampling.ValueChoice.TheVariants.{All, Default, Named}
 use Rattle.profile_samples.specs.Batches.{AreStacksOf, IsBatchOf, IsFirstBatchFault, IsFirstStacksFault}
+use Rattle.live_report.specs.declared.fault.LiveFault.{LiveFault}
 use Rattle.live_report.specs.declared.fault.LiveFault.TheVariants as live
 use Rattle.flame_words.specs.declared.request.Format.{Format}
 use Rattle.flame_words.specs.declared.request.Format.TheVariants.{Folded, Pprof}
@@ -128,3 +131,15 @@ IsRefusedIn format wanted input tool.NoMemory = ⊤
 abbrev pub IsToldAs : {F : Type 0} → F → (F → ToolFault) → F → ToolFault → Type 0
 IsToldAs no_memory tell fault told =
     ((fault ≡ no_memory) × (told ≡ tool.NoMemory)) ⊎ ((fault ≢ no_memory) × (told ≡ tell fault))
+
+abbrev pub IsToldOfText : FoldedFault → ToolFault → Type 0
+IsToldOfText = IsToldAs folded.NoMemory (λ fault. tool.Input (refused.Folded fault))
+
+abbrev pub IsToldOfProfile : ProfileFault → ToolFault → Type 0
+IsToldOfProfile = IsToldAs profile.NoMemory (λ fault. tool.Input (refused.Profile fault))
+
+abbrev pub IsToldOfSamples : BatchFault → ToolFault → Type 0
+IsToldOfSamples = IsToldAs batch.NoMemory (λ fault. tool.Input (refused.Batch fault))
+
+abbrev pub IsToldOfStore : LiveFault → ToolFault → Type 0
+IsToldOfStore = IsToldAs live.NoMemory tool.Live

@@ -1,27 +1,27 @@
 //! What an input answers to a request.
 
-ghost use Rattle.std.specs.Prelude.{ℕ, ◌≡◌, ◌∷◌, ◌++◌, [], List, MatchResult, IfOk, None, Option};
+ghost use Rattle.std.specs.Prelude.{ℕ, ◌≡◌, List, MatchResult, IfOk, None, Option};
 ghost use Rattle.profile_rows.specs.declared.weighted_stacks.WeightedStack.{WeightedStack};
 ghost use Rattle.profile_rows.specs.TopList.{AreTotalsOf};
 ghost use Rattle.flame_report.specs.Answers.{answer_by};
 ghost use Rattle.flame_report.specs.declared.query.Kind.TheVariants.{Top};
 ghost use Rattle.flame_answers.specs.Answers.{IsAnswer, IsAnswerOfAll, IsExport, IsInputFault, IsReport, answer_text};
-ghost use Rattle.flame_answers.specs.Inputs.{IsChoice, IsRefusedIn, IsToldAs};
+ghost use Rattle.flame_answers.specs.Inputs.{IsChoice, IsRefusedIn};
 ghost use Rattle.flame_answers.specs.Inputs.Wanted.{for_report};
 ghost use Rattle.flame_words.specs.declared.request.Format.TheVariants.{Folded, Pprof};
 
 use crate::live::live_report;
-use crate::outcomes::{InputFault, ToolFault};
+use crate::outcomes::ToolFault;
 use flame_report::laws::answers_are_by_the_aggregate;
 use flame_report::{
     Answer, Kind, Query, Rank, flame_json, report_in_order, report_of_stacks, top_list, top_text,
 };
 use flame_words::{Format, Request, Source};
-use folded_text::{FoldedFault, folded_totals, read_ordered};
+use folded_text::{folded_totals, read_ordered};
 use live_report::Progress;
-use pprof_profile::{ProfileFault, Text, decode};
+use pprof_profile::{Text, decode};
 use profile_rows::{FrameTotals, Hashing, NoMemory};
-use profile_samples::{BatchFault, ValueChoice, export_folded, merge_samples, sample_totals};
+use profile_samples::{ValueChoice, export_folded, merge_samples, sample_totals};
 use std::alloc::Global;
 use std::sync::Wait;
 use std::thread::Threads;
@@ -95,10 +95,8 @@ fn folded_top(
         (λ text. IsAnswerOfAll Folded value input.now (Top rank count) text.items)
         (λ fault. IsRefusedIn Folded (for_report value) input.now fault) }
 {
-    match folded_totals(alloc, hashing, input) {
-        Ok(totals) => Ok(totals_text(alloc, totals, rank, count)?),
-        Err(fault) => Err(folded_fault(fault)),
-    }
+    let totals = folded_totals(alloc, hashing, input)?;
+    Ok(totals_text(alloc, totals, rank, count)?)
 }
 
 /// The text of the top list of the rows of a profile's samples, which aren't made for it.
@@ -114,16 +112,10 @@ fn profile_top(
         (λ text. IsAnswerOfAll Pprof value.now input.now (Top rank count) text.items)
         (λ fault. IsRefusedIn Pprof (for_report value.now) input.now fault) }
 {
-    let profile = match decode(alloc, input) {
-        Ok(profile) => profile,
-        Err(fault) => return Err(profile_fault(fault)),
-    };
+    let profile = decode(alloc, input)?;
     let counted = sample_totals(alloc, hashing, &profile, choice_of(value));
     drop(profile);
-    match counted {
-        Ok(totals) => Ok(totals_text(alloc, totals, rank, count)?),
-        Err(fault) => Err(batch_fault(fault)),
-    }
+    Ok(totals_text(alloc, counted?, rank, count)?)
 }
 
 /// The text of the top list of rows, by what their names weigh.
@@ -156,10 +148,8 @@ pub fn export(
         (λ bytes. IsExport kind.now unit.now input.now bytes.items)
         (λ fault. IsRefusedIn Folded (for_report None) input.now fault) }
 {
-    match export_folded(alloc, hashing, input, kind.as_str(), unit.as_str()) {
-        Ok(bytes) => Ok(bytes),
-        Err(found) => Err(folded_fault(found)),
-    }
+    let bytes = export_folded(alloc, hashing, input, kind.as_str(), unit.as_str())?;
+    Ok(bytes)
 }
 
 /// The text of the answer over the rows of folded text, which are read in order.
@@ -173,10 +163,7 @@ fn folded_answer(
         (λ text. IsReport Folded value query.now input.now text.items)
         (λ fault. IsRefusedIn Folded (for_report value) input.now fault) }
 {
-    let rows = match read_ordered(alloc, hashing, input) {
-        Ok(rows) => rows,
-        Err(fault) => return Err(folded_fault(fault)),
-    };
+    let rows = read_ordered(alloc, hashing, input)?;
     let answer = report_in_order(alloc, hashing, rows, query)?;
     answers_are_by_the_aggregate();
     Ok(text_of(alloc, answer)?)
@@ -194,17 +181,10 @@ fn profile_answer(
         (λ text. IsReport Pprof value.now query.now input.now text.items)
         (λ fault. IsRefusedIn Pprof (for_report value.now) input.now fault) }
 {
-    let profile = match decode(alloc, input) {
-        Ok(profile) => profile,
-        Err(fault) => return Err(profile_fault(fault)),
-    };
+    let profile = decode(alloc, input)?;
     let merged = merge_samples(alloc, hashing, &profile, choice_of(value));
     drop(profile);
-    let rows = match merged {
-        Ok(rows) => rows,
-        Err(fault) => return Err(batch_fault(fault)),
-    };
-    let answer = report_of_stacks(alloc, hashing, rows, query)?;
+    let answer = report_of_stacks(alloc, hashing, merged?, query)?;
     answers_are_by_the_aggregate();
     Ok(text_of(alloc, answer)?)
 }
@@ -232,35 +212,5 @@ fn text_of(alloc: Global, answer: Answer) -> Result<Vec<u8>, NoMemory>
             Ok(text)
         }
         Answer::Folded(text) => Ok(text.into_vec()),
-    }
-}
-
-// The program's fault for one of folded text: want of memory is one for all.
-pub(crate) fn folded_fault(fault: FoldedFault) -> ToolFault
-    ensures { IsToldAs FoldedFault.NoMemory (λ fault. ToolFault.Input (InputFault.Folded fault)) fault result }
-{
-    match fault {
-        FoldedFault::NoMemory => ToolFault::NoMemory,
-        _ => ToolFault::Input(InputFault::Folded(fault)),
-    }
-}
-
-// The program's fault for one of a profile.
-pub(crate) fn profile_fault(fault: ProfileFault) -> ToolFault
-    ensures { IsToldAs ProfileFault.NoMemory (λ fault. ToolFault.Input (InputFault.Profile fault)) fault result }
-{
-    match fault {
-        ProfileFault::NoMemory => ToolFault::NoMemory,
-        _ => ToolFault::Input(InputFault::Profile(fault)),
-    }
-}
-
-// The program's fault for one of a profile's samples.
-pub(crate) fn batch_fault(fault: BatchFault) -> ToolFault
-    ensures { IsToldAs BatchFault.NoMemory (λ fault. ToolFault.Input (InputFault.Batch fault)) fault result }
-{
-    match fault {
-        BatchFault::NoMemory => ToolFault::NoMemory,
-        _ => ToolFault::Input(InputFault::Batch(fault)),
     }
 }

@@ -1,16 +1,16 @@
 //! What `live` writes of an input.
 
-ghost use Rattle.std.specs.Prelude.{ℕ, ◌≡◌, Bool, List, MatchResult, Option};
+ghost use Rattle.std.specs.Prelude.{MatchResult, Option};
 ghost use Rattle.flame_answers.specs.Answers.{IsLiveText};
-ghost use Rattle.flame_answers.specs.Inputs.{IsChosen, IsIn, IsRefusedIn, IsToldAs};
+ghost use Rattle.flame_answers.specs.Inputs.{IsChosen, IsIn, IsRefusedIn};
 ghost use Rattle.flame_answers.specs.Inputs.Wanted.{for_store};
 ghost use Rattle.flame_words.specs.declared.request.Format.TheVariants.{Folded, Pprof};
 
-use crate::answers::{batch_fault, choice_of, folded_fault, profile_fault};
+use crate::answers::choice_of;
 use crate::outcomes::ToolFault;
 use flame_words::{Format, LiveOptions, Source};
 use folded_text::read_folded_with;
-use live_report::{LiveFault, Progress, live_text};
+use live_report::{Progress, live_text};
 use pprof_profile::{Text, decode};
 use profile_rows::{Batch, Hashing};
 use profile_samples::{ValueChoice, batch_of_with};
@@ -33,13 +33,9 @@ pub(crate) fn live_report<P: Progress, R: Threads + Wait + Sync>(
         (λ fault. IsRefusedIn source.now.format (for_store options.all source.now.value) input.now fault) }
 {
     let batch = live_batch(alloc, hashing, source, options.all(), input)?;
-    let Ok(batch) = Arc::new(alloc, batch) else {
-        return Err(ToolFault::NoMemory);
-    };
-    match live_text(rt, alloc, hashing, progress, batch, options) {
-        Ok(text) => Ok(text),
-        Err(fault) => Err(store_fault(fault)),
-    }
+    let batch = Arc::new(alloc, batch).map_err(|_| ToolFault::NoMemory)?;
+    let text = live_text(rt, alloc, hashing, progress, batch, options)?;
+    Ok(text)
 }
 
 /// The batch of the input.
@@ -55,20 +51,8 @@ fn live_batch(
         (λ fault. IsRefusedIn source.now.format (for_store all source.now.value) input.now fault) }
 {
     match source.format {
-        Format::Folded => folded_batch(alloc, hashing, input),
+        Format::Folded => Ok(read_folded_with(alloc, hashing, input)?),
         Format::Pprof => profile_batch(alloc, hashing, all, &source.value, input),
-    }
-}
-
-/// The batch of folded text.
-fn folded_batch(alloc: Global, hashing: Hashing, input: &[u8]) -> Result<Batch, ToolFault>
-    ensures { (all : Bool) (value : Option (List ℕ)) → MatchResult result
-        (λ batch. IsIn Folded (for_store all value) input.now batch)
-        (λ fault. IsRefusedIn Folded (for_store all value) input.now fault) }
-{
-    match read_folded_with(alloc, hashing, input) {
-        Ok(batch) => Ok(batch),
-        Err(fault) => Err(folded_fault(fault)),
     }
 }
 
@@ -84,16 +68,10 @@ fn profile_batch(
         (λ batch. IsIn Pprof (for_store all value.now) input.now batch)
         (λ fault. IsRefusedIn Pprof (for_store all value.now) input.now fault) }
 {
-    let profile = match decode(alloc, input) {
-        Ok(profile) => profile,
-        Err(fault) => return Err(profile_fault(fault)),
-    };
+    let profile = decode(alloc, input)?;
     let batch = batch_of_with(alloc, hashing, &profile, live_choice(all, value));
     drop(profile);
-    match batch {
-        Ok(batch) => Ok(batch),
-        Err(fault) => Err(batch_fault(fault)),
-    }
+    Ok(batch?)
 }
 
 /// The choice of one value or of all.
@@ -104,15 +82,5 @@ fn live_choice<'a>(all: bool, value: &'a Option<Text>) -> ValueChoice<'a>
         ValueChoice::All
     } else {
         choice_of(value)
-    }
-}
-
-// The program's fault for one of the store: want of memory is one for all.
-fn store_fault(fault: LiveFault) -> ToolFault
-    ensures { IsToldAs LiveFault.NoMemory ToolFault.Live fault result }
-{
-    match fault {
-        LiveFault::NoMemory => ToolFault::NoMemory,
-        _ => ToolFault::Live(fault),
     }
 }

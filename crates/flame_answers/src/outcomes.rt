@@ -89,6 +89,58 @@ impl From<NoMemory> for ToolFault {
     }
 }
 
+impl From<FoldedFault> for ToolFault {
+    ghost use Rattle.flame_answers.specs.Inputs.{IsToldOfText};
+
+    ghost from_gives = { IsToldOfText };
+
+    fn from(fault: FoldedFault) -> ToolFault {
+        match fault {
+            FoldedFault::NoMemory => ToolFault::NoMemory,
+            _ => ToolFault::Input(InputFault::Folded(fault)),
+        }
+    }
+}
+
+impl From<ProfileFault> for ToolFault {
+    ghost use Rattle.flame_answers.specs.Inputs.{IsToldOfProfile};
+
+    ghost from_gives = { IsToldOfProfile };
+
+    fn from(fault: ProfileFault) -> ToolFault {
+        match fault {
+            ProfileFault::NoMemory => ToolFault::NoMemory,
+            _ => ToolFault::Input(InputFault::Profile(fault)),
+        }
+    }
+}
+
+impl From<BatchFault> for ToolFault {
+    ghost use Rattle.flame_answers.specs.Inputs.{IsToldOfSamples};
+
+    ghost from_gives = { IsToldOfSamples };
+
+    fn from(fault: BatchFault) -> ToolFault {
+        match fault {
+            BatchFault::NoMemory => ToolFault::NoMemory,
+            _ => ToolFault::Input(InputFault::Batch(fault)),
+        }
+    }
+}
+
+impl From<LiveFault> for ToolFault {
+    ghost use Rattle.flame_answers.specs.Inputs.{IsToldOfStore};
+
+    ghost from_gives = { IsToldOfStore };
+
+    fn from(fault: LiveFault) -> ToolFault {
+        match fault {
+            LiveFault::NoMemory => ToolFault::NoMemory,
+            _ => ToolFault::Live(fault),
+        }
+    }
+}
+
 /// How a run ended.
 #[derive(Debug, Drop)]
 pub enum Outcome {

@@ -49,17 +49,10 @@ pub fn read_input<R: Read>(
         (λ input. IsWholeInput limit (R.remaining reader.old) (R.remaining reader.new) input.items)
         (λ fault. LeavesAfterFault limit (R.remaining reader.old) (R.remaining reader.new) fault) }
 {
-    let Ok(mut buffer) = new_buffer(alloc, CHUNK) else {
-        return Err(ReadFault::NoMemory);
-    };
+    let mut buffer = new_buffer(alloc, CHUNK).map_err(|_| ReadFault::NoMemory)?;
     let mut input = Vec::new(alloc);
-    loop {
-        match read_part(reader, buffer.as_mut_slice(), &mut input, limit) {
-            Ok(true) => {}
-            Ok(false) => return Ok(input),
-            Err(fault) => return Err(fault),
-        }
-    }
+    while read_part(reader, buffer.as_mut_slice(), &mut input, limit)? {}
+    Ok(input)
 }
 
 // Room for one read of at most `size` bytes.
@@ -111,15 +104,10 @@ pub fn write_text<W: Write>(writer: &mut W, text: &[u8]) -> Result<(), WriteFaul
 {
     let mut rest = text;
     while !rest.is_empty() {
-        match write_part(writer, rest) {
-            Ok(count) => rest = &rest[count..],
-            Err(fault) => return Err(fault),
-        }
+        let count = write_part(writer, rest)?;
+        rest = &rest[count..];
     }
-    match writer.flush() {
-        Ok(()) => Ok(()),
-        Err(_) => Err(WriteFault),
-    }
+    writer.flush().map_err(|_| WriteFault)
 }
 
 // Writes once, at least one byte.

@@ -1,16 +1,18 @@
+use Rattle.std.proofs.lemmas.Result.{err_from_is_err_and}
 use Rattle.flame_answers.specs.Inputs.Wanted.{for_report}
 use Rattle.flame_answers.proofs.Inputs.{bytes_refused, samples_refused}
 use Rattle.flame_answers.proofs.answers.profile_answer.Goals as goal
 
-pub returns-in-Err : goal.returns-in-Err
-returns-in-Err c =
-    bytes_refused (for_report c.args.value.now) c.args.input.now c.in-Err.fault c.profile_fault.result
-    c.in-Err.ensures.fault c.in-Err.ensures.every_profile c.profile_fault.ensures
+pub returns-in_err-profile : goal.returns-in_err-profile
+returns-in_err-profile c =
+    let told = err_from_is_err_and c.from_residual.result c.from_residual.ensures.1 in
+    rw (told.1) (bytes_refused (for_report c.args.value.now) c.args.input.now c.in_err-profile.field-0.0 told.0
+    c.in_err-profile.ensures.fault c.in_err-profile.ensures.every_profile told.2)
 
-pub returns-in-Err-merged : goal.returns-in-Err-merged
-returns-in-Err-merged c =
-    samples_refused (for_report c.args.value.now) c.args.input.now c.in-Ok.profile c.choice_of.result
-    c.in-Err-merged.fault c.batch_fault.result c.in-Ok.ensures.read
-    (λ other is. c.in-Ok.ensures.every_profile other is)
-    c.choice_of.ensures
-    c.in-Err-merged.ensures.read c.in-Err-merged.ensures.accepted c.batch_fault.ensures
+pub returns-in_err-merged : goal.returns-in_err-merged
+returns-in_err-merged c =
+    let told = err_from_is_err_and c.from_residual-in_err-merged.result c.from_residual-in_err-merged.ensures.1 in
+    rw (told.1) (samples_refused (for_report c.args.value.now) c.args.input.now c.in_ok-profile.profile
+    c.choice_of.result c.in_err-merged.field-0.0 told.0 c.in_ok-profile.ensures.read
+    (λ other is. c.in_ok-profile.ensures.every_profile other is) c.choice_of.ensures
+    c.in_err-merged.ensures.read c.in_err-merged.ensures.accepted told.2)

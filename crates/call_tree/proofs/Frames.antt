@@ -20,7 +20,6 @@ use Rattle.call_tree.specs.declared.node.Node.{Node}
 use Rattle.profile_rows.specs.declared.frame_totals.FrameTotal.{FrameTotal}
 use Rattle.call_tree.specs.State.{name_at, stack_at}
 use Rattle.call_tree.specs.Shape.{node_rows, at, IsTree}
-use Rattle.call_tree.specs.Totals.{names_of_weight}
 use Rattle.call_tree.proofs.Paths.{has_name-next}
 use Rattle.call_tree.proofs.Shapes.{length-node_rows, stack_at-child, stack_at-root}
 
@@ -29,6 +28,10 @@ mark name sums = cond (is_same_name name sums.name) 1 0
 
 abbrev weighs : FrameTotal → Bool
 weighs sums = nat_lt 0 sums.cum
+
+-- of some names, those of cumulative weight above 0, with their weights
+abbrev pub names_of_weight : List WeightedStack → List (List ℕ) → List FrameTotal
+names_of_weight rows names = filter weighs (map (sums_at rows) names)
 
 -- ---- one name more
 

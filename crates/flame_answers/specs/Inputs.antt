@@ -127,7 +127,8 @@ IsRefusedIn format wanted input tool.Write = ⊥
 IsRefusedIn format wanted input tool.TooLong = ⊥
 IsRefusedIn format wanted input tool.NoMemory = ⊤
 
--- a fault of a part of the program, told as one of the program: want of memory is one fault, wherever it comes
+-- A fault of a part of the program, told as one of the program: want of memory is one fault, wherever it comes. Then
+-- those of each part.
 abbrev pub IsToldAs : {F : Type 0} → F → (F → ToolFault) → F → ToolFault → Type 0
 IsToldAs no_memory tell fault told =
     ((fault ≡ no_memory) × (told ≡ tool.NoMemory)) ⊎ ((fault ≢ no_memory) × (told ≡ tell fault))

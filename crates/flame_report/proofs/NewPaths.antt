@@ -21,11 +21,16 @@ use Rattle.profile_rows.specs.Rows.{stack_cmp}
 use Rattle.profile_rows.specs.Aggregate.{AreWeighty, IsAscending}
 use Rattle.profile_rows.proofs.Members.{Rises, same_members, in_order-Rises, member-in_order}
 use Rattle.profile_rows.proofs.RowLaws.{stack_cmp_total, stack_cmp_apart}
-use Rattle.flame_report.specs.Sharing.{known_at, paths_until, stack_at}
+use Rattle.flame_report.specs.Sharing.{known_at, stack_at}
 use Rattle.flame_report.proofs.PathOrder.{Path, begins, before_new, prefix_shared, take_begins_with, turned, take_less}
 use Rattle.flame_report.proofs.Pairs.{AllPairs-head, AllPairs-tail, AllPairs-append}
 use Rattle.flame_report.proofs.Prefixes.{drop-prefixes}
 use Rattle.flame_report.proofs.RowSums.{in_order as rows_in_order, new_path-first, stack_at-get}
+
+-- the paths of the rows before an index, each where it first comes
+abbrev pub paths_until : List WeightedStack → ℕ → List Path
+paths_until rows zero = []
+paths_until rows (suc n) = paths_until rows n ++ drop (known_at rows n) (prefixes (stack_at rows n))
 
 -- whether a path is among these
 abbrev is_among : Path → List Path → Bool

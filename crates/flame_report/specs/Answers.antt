@@ -1,5 +1,5 @@
 -- The plain answer to a query, over the rows that it keeps.
-use Rattle.std.specs.Prelude.{ℕ, List, map}
+use Rattle.std.specs.Prelude.{ℕ, Bool, List, false, map, true}
 use Rattle.profile_rows.specs.declared.weighted_stacks.WeightedStack.{WeightedStack}
 use Rattle.folded_text.specs.FoldedText.{folded_text_of}
 use Rattle.profile_rows.specs.Layout.{Rectangle, rectangles_of}
@@ -46,6 +46,13 @@ answer_by kind.Total rows = answer.Total (total_of rows)
 answer_by (kind.Top rank count) rows = answer.Top (top_of rank count rows)
 answer_by (kind.Flame columns) rows = answer.Flame (flame_of columns rows)
 answer_by kind.Folded rows = answer.Folded (folded_text_of rows)
+
+-- whether an answer takes rows in the order of their stacks
+abbrev pub needs_order : Kind → Bool
+needs_order kind.Total = false
+needs_order (kind.Top rank count) = false
+needs_order (kind.Flame columns) = true
+needs_order kind.Folded = true
 
 -- the rows that a query keeps
 abbrev pub kept_by : Query → List WeightedStack → List WeightedStack

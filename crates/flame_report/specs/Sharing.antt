@@ -53,11 +53,6 @@ AreHeld held rows (suc n) = (length held ≡ length (stack_at rows n) + 1)
     × ((e : ℕ) → e ≤ length (stack_at rows n)
     → slice_index_or held e 0 ≡ held_weight rows (suc n) (take e (stack_at rows n)))
 
--- the paths of the rows before an index, each where it first comes
-abbrev pub paths_until : List WeightedStack → ℕ → List (List (List ℕ))
-paths_until rows zero = []
-paths_until rows (suc n) = paths_until rows n ++ drop (known_at rows n) (prefixes (stack_at rows n))
-
 -- the rectangles of these paths that are wide enough
 abbrev pub shown_of : ℕ → List WeightedStack → List (List (List ℕ)) → List Rectangle
 shown_of columns rows paths = filter is_shown (map (rectangle_at columns rows) paths)

@@ -19,11 +19,12 @@ use profile_rows::Hashing;
 use std::alloc::{AllocError, Global};
 use std::mem;
 
-/// The rectangles so far, and the names by which they are called.
+/// The rectangles so far, the names by which they are called, and the frames of the row at hand.
 #[derive(Drop)]
 struct Drawing<'a> {
     names: KnownNames<'a>,
     rects: Vec<Rect>,
+    frames: Vec<&'a str>,
 }
 
 /// Where a path stands, in weight and in columns.
@@ -168,8 +169,8 @@ impl<'a> Plan<'a> {
         }
     }
 
-    /// Adds the rectangles of the paths that come first with a row. Below one that takes no column there is none, and no
-    /// name is made for a row of which nothing is seen.
+    /// Adds the rectangles of the paths that come first with a row. Below one that takes no column there is none, and
+    /// no name is made for a row of which nothing is seen.
     fn draw_row(
         &self,
         alloc: Global,
@@ -190,14 +191,13 @@ impl<'a> Plan<'a> {
         if shortest.left >= shortest.right {
             return Ok(());
         }
-        let mut frames = Vec::new(alloc);
-        self.rows.frames(&mut frames, at)?;
-        for depth in known..frames.len() + 1 {
+        self.rows.frames(&mut drawing.frames, at)?;
+        for depth in known..drawing.frames.len() + 1 {
             let span = self.span_at(at, depth, start);
             if span.left >= span.right {
                 return Ok(());
             }
-            let rect = rect_at(alloc, &mut drawing.names, &frames, depth, span)?;
+            let rect = rect_at(alloc, &mut drawing.names, &drawing.frames, depth, span)?;
             drawing.rects.push(rect)?;
         }
         Ok(())
@@ -238,6 +238,7 @@ impl<'a> Plan<'a> {
         let mut drawing = Drawing {
             names: KnownNames::new(alloc, hashing),
             rects: Vec::new(alloc),
+            frames: Vec::new(alloc),
         };
         let mut held = Vec::new(alloc);
         let mut before = 0;

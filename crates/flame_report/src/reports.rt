@@ -1,10 +1,10 @@
 //! Reports: the answer to a query over a call tree, or over a batch.
 
-ghost use Rattle.std.specs.Prelude.{◌≡◌, ◌<◌, IfOk, IfSome, List};
+ghost use Rattle.std.specs.Prelude.{◌≡◌, ◌↔◌, ◌<◌, IfOk, IfSome, IsNone, IsTrue, List};
 ghost use Rattle.profile_rows.specs.Aggregate.{aggregate_of};
 ghost use Rattle.profile_rows.specs.declared.weighted_stacks.WeightedStack.{WeightedStack};
 ghost use Rattle.call_tree.specs.State.{weights_of};
-ghost use Rattle.flame_report.specs.Answers.{answer_of, flame_of, kept_by, value_answer_of};
+ghost use Rattle.flame_report.specs.Answers.{answer_of, kept_by, needs_order, value_answer_of};
 
 use crate::answer::Answer;
 use crate::layout::flame_of;
@@ -26,14 +26,15 @@ fn kept_rows<'a>(rows: OrderedRows<'a>, query: &Query) -> OrderedRows<'a>
     rows.keep(query.focus.as_ref(), query.ignore.as_ref())
 }
 
-/// A total or a top list of rows as they stand. The other answers need them in order.
+/// A total or a top list of rows as they stand; nothing exactly where the answer needs them in order.
 fn unordered_report(
     alloc: Global,
     hashing: Hashing,
     rows: &WeightedStacks,
     query: &Query,
 ) -> Result<Option<Answer>, NoMemory>
-    ensures { IfOk result (λ found. IfSome found (λ answer. answer ≡ answer_of rows.now query.now)) }
+    ensures answer { IfOk result (λ found. IfSome found (λ answer. answer ≡ answer_of rows.now query.now)) }
+    ensures none { IfOk result (λ found. IsNone found ↔ IsTrue (needs_order query.now.kind)) }
 {
     let (focus, ignored) = (query.focus.as_ref(), query.ignore.as_ref());
     match query.kind {

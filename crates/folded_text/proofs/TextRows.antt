@@ -2,8 +2,9 @@
 use Rattle.std.proofs.lemmas.Grind.{common_steps}
 use Rattle.std.proofs.Common.{◌≡◌, ℕ, ◌+◌, ◌<◌, ◌≤◌, ◌^◌, Bool, true, false, cond, eqb, List, [], ◌∷◌, ◌++◌, length}
 use Rattle.std.proofs.Common.{map, filter, get_or, set, refl, sym, ap, ◌∙◌, subst, arith, length-append}
+use Rattle.std.specs.Fmt.{decimal}
 use Rattle.std.specs.Prelude.{All, IfOk, IsPermutation, IsSorted, Option, Result, Ok, Err, ◌==◌, not, sum_by}
-use Rattle.std.specs.List.{join_with_byte, list_any, slice_split}
+use Rattle.std.specs.List.{flat_map, join_with_byte, list_any, slice_split}
 use Rattle.std.specs.Str.{bytes_eq}
 use Rattle.std.specs.declared.cmp.Ordering.TheVariants.{Less}
 use Rattle.std.specs.Ordering.{is_lt}
@@ -30,7 +31,7 @@ use Rattle.folded_text.specs.FoldedText.{frames_of, rows_text}
 use Rattle.folded_text.specs.StackOrder.{IsJoined, stack_text_cmp}
 use Rattle.profile_rows.specs.StackTexts.{TextState}
 use Rattle.folded_text.specs.TextRows.{AreKnownTexts, AreTextRows, IsStackText, by_text, rows_with, spelled_row}
-use Rattle.folded_text.specs.TextRows.{spelled_rows, text_lines}
+use Rattle.folded_text.specs.TextRows.{spelled_rows}
 use Rattle.folded_text.proofs.StackOrder.{joined_texts-cmp, stack_text_cmp_total}
 
 -- ---- texts that are their frames, joined
@@ -219,6 +220,13 @@ ascending rows texts sorted = λ i j d lt short.
     let less = before (get_or rows i e).text (get_or rows j e).text (texts.joined i e (omega (arith, lt, within)))
     (texts.joined j e within) low (apart rows i j e lt within texts.once) in
     grind (arith, common_steps, less)
+
+-- a row as a line of folded text, its stack as its text has it
+abbrev pub text_line : TextState → List ℕ
+text_line row = row.text ++ 32 ∷ decimal row.weight ++ 10 ∷ []
+
+abbrev pub text_lines : List TextState → List ℕ
+text_lines rows = flat_map text_line rows
 
 -- texts without empty frames stand in lines of folded text as they are
 pub lines-joined : (rows : List TextState)

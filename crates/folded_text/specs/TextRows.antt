@@ -1,7 +1,6 @@
 -- Rows whose stacks are known by their texts.
-use Rattle.std.specs.Prelude.{ℕ, ◌≡◌, ◌≢◌, ◌<◌, ◌≤◌, ◌^◌, All, Bool, true, length, List, ◌++◌, ◌∷◌, []}
-use Rattle.std.specs.Prelude.{flat_map, map, sum_by, if◌then◌else◌}
-use Rattle.std.specs.Fmt.{decimal}
+use Rattle.std.specs.Prelude.{ℕ, ◌≡◌, ◌≢◌, ◌<◌, ◌≤◌, ◌^◌, All, Bool, true, length, List}
+use Rattle.std.specs.Prelude.{map, sum_by, if◌then◌else◌}
 use Rattle.std.specs.Str.{bytes_eq}
 use Rattle.std.specs.declared.cmp.Ordering.{Ordering}
 use Rattle.profile_rows.specs.declared.weighted_stacks.WeightedStack.{WeightedStack}
@@ -58,10 +57,3 @@ pub record AreSumsOfText (text : List ℕ) (sums : List TextState) : Type 0 wher
   pub rows : List WeightedStack
   pub folded : IsFoldedText text rows
   pub same : aggregate_of (spelled_rows sums) ≡ aggregate_of rows
-
--- a row as a line of folded text, its stack as its text has it
-abbrev pub text_line : TextState → List ℕ
-text_line row = row.text ++ 32 ∷ decimal row.weight ++ 10 ∷ []
-
-abbrev pub text_lines : List TextState → List ℕ
-text_lines rows = flat_map text_line rows

@@ -2,7 +2,7 @@
 use Rattle.std.proofs.lemmas.Grind.{common_steps}
 use Rattle.std.proofs.Common.{◌≡◌, ◌≢◌, ℕ, zero, suc, ◌+◌, ◌<◌, ◌≤◌, Bool, true, false, cond, eqb, ◌||◌, List, []}
 use Rattle.std.proofs.Common.{◌∷◌, ◌++◌, length, set, Some, None, refl, sym, ap, ◌∙◌, subst, arith, All}
-use Rattle.std.specs.Prelude.{slice_index_or}
+use Rattle.std.specs.Prelude.{if◌then◌else◌, slice_index_or}
 use Rattle.std.specs.List.{AllByRecursion, IsDistinct}
 use Rattle.std.proofs.lemmas.Bool.{eqb-true, eq-eqb, false≢true, ne_eqb}
 use Rattle.std.proofs.lemmas.List.{get_or-set_other, get_or-set_same}
@@ -15,7 +15,7 @@ use Rattle.profile_rows.specs.declared.weighted_stacks.WeightedStack.{WeightedSt
 use Rattle.profile_rows.specs.Names.{IsName, is_same_name}
 use Rattle.profile_rows.specs.Rows.{has_name, ends_with_name, weight_if}
 use Rattle.profile_rows.specs.Tallies.{AreSingle, AreTalliesOf, IsNumberedStack, IsTallyOf, frame_counted, has_number}
-use Rattle.profile_rows.specs.Tallies.{leaf_counted, numbers_counted, row_counted, tally_at, tally_of}
+use Rattle.profile_rows.specs.Tallies.{leaf_counted, numbers_counted, tally_at, tally_of}
 use Rattle.profile_rows.specs.TextTables.{names_at}
 use Rattle.profile_rows.specs.TextTables.{number_in}
 use Rattle.profile_rows.proofs.RowLaws.{weight_where-le-total, weight_where-push}
@@ -148,6 +148,14 @@ ends_with_name-push name (caller ∷ next ∷ callers) leaf = ends_with_name-pus
 or_right : (a b : Bool) → b ≡ true → (a || b) ≡ true
 or_right true b e = refl
 or_right false b e = e
+
+-- a row more, for the tally of one name
+abbrev row_counted : WeightedStack → ℕ → List ℕ → Tally → Tally
+row_counted row number name tally = record {
+  flat = tally.flat + weight_if (ends_with_name name) row;
+  cumulative = tally.cumulative + weight_if (has_name name) row;
+  row = if has_name name row.stack then number else tally.row;
+}
 
 row_counted-leaf : (row : WeightedStack) (names : List (List ℕ)) (numbers : List ℕ) (leaf number : ℕ)
     (q : List ℕ) (t : Tally) → AreSingle names → IsNumberedStack names row.stack numbers (Some leaf) → t.row < number

@@ -54,14 +54,6 @@ abbrev pub leaf_counted : Tally → ℕ → Tally
 leaf_counted tally weight =
     record { flat = tally.flat + weight; cumulative = tally.cumulative; row = tally.row }
 
--- a row more, for the tally of one name
-abbrev pub row_counted : WeightedStack → ℕ → List ℕ → Tally → Tally
-row_counted row number name tally = record {
-  flat = tally.flat + weight_if (ends_with_name name) row;
-  cumulative = tally.cumulative + weight_if (has_name name) row;
-  row = if has_name name row.stack then number else tally.row;
-}
-
 -- ---- rows
 
 -- the tally of a text after these rows, which are numbered up to `last`; a text that weighs something is a name

@@ -102,7 +102,7 @@ impl<'a> CountedRows<'a> {
 ///
 /// # Errors
 ///
-/// `AllocError`; the list then has the first of these texts.
+/// `AllocError`.
 pub fn replace_by_names<'a>(frames: &mut Vec<&'a str>, names: &'a [Name]) -> Result<(), AllocError>
     ensures texts { OnOk result (map (λ frame. frame.now) frames.new.items ≡ names.now) }
     ensures names { OnOk result (All IsName names.now) }

@@ -33,7 +33,7 @@ use Rattle.profile_rows.specs.TextTables.{names_at, number_in, with_text, with_t
 use Rattle.profile_rows.proofs.TallyLaws.{has_number-push}
 use Rattle.profile_samples.specs.NameNumbers.{AreFrameNumbers, AreFunctionNumbers, address_names, address_of}
 use Rattle.profile_samples.specs.NameNumbers.{frame_names, is_name_of, lacks_name, names_function, needs_address}
-use Rattle.profile_samples.specs.NameNumbers.{string_names_from, given, line_number, number_at, number_by, number_of}
+use Rattle.profile_samples.specs.NameNumbers.{string_names_from, given, number_at, number_by, number_of}
 use Rattle.profile_samples.specs.NameNumbers.{numbers_of, numbers_of_id, once_of, string_names, string_numbers}
 use Rattle.profile_samples.specs.NameNumbers.{with_number, with_numbers}
 use Rattle.profile_samples.proofs.ExportLaws.{AllStand, stands_in}
@@ -446,6 +446,10 @@ numbers_at draft ids frames once names id found this h =
       | None ↦ refl
       | Some at ↦ rw this.frames_are (sym (slice_get-map (numbers_of draft) draft.locations at))
     ]
+
+-- the number of a line's name
+abbrev pub line_number : Draft → ℕ → Line → ℕ
+line_number draft address line = number_of draft (line_name draft.strings draft.functions address line)
 
 -- the numbers of lines, where there are some
 pub numbers_of_lines : (draft : Draft) (address : ℕ) (lines : List Line) → 0 < length lines → map

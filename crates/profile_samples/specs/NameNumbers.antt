@@ -9,7 +9,7 @@ use Rattle.pprof_profile.specs.declared.messages.Location.{Location}
 use Rattle.pprof_profile.specs.declared.messages.Line.{Line}
 use Rattle.pprof_profile.specs.Valid.{function_ids, has_double, location_ids}
 use Rattle.profile_rows.specs.Names.{IsName, cleaned_name_of}
-use Rattle.profile_samples.specs.Samples.{address_name, function_name, item_with, line_name, location_frames}
+use Rattle.profile_samples.specs.Samples.{address_name, function_name, item_with, location_frames}
 use Rattle.profile_samples.specs.Samples.{named_by}
 use Rattle.profile_rows.specs.Tallies.{has_number}
 use Rattle.profile_rows.specs.TextTables.{number_in, with_texts}
@@ -99,10 +99,6 @@ pub record AreFunctionNumbers (draft : Draft) (ids : List ℕ) (numbers : List (
       ≡ map (λ function. option_map (number_of draft) (function_name draft.strings function)) draft.functions
 
 -- ---- the frames of locations
-
--- the number of a line's name
-abbrev pub line_number : Draft → ℕ → Line → ℕ
-line_number draft address line = number_of draft (line_name draft.strings draft.functions address line)
 
 -- the numbers of the names of a location's frames, leaf first
 abbrev pub numbers_of : Draft → Location → List ℕ

@@ -37,8 +37,8 @@ fn gather_numbers(
     Ok(())
 }
 
-/// What the names weigh in the rows of a profile's samples by the values at an index. Where memory runs out, the samples
-/// before have no fault, nor has the one at hand.
+/// What the names weigh in the rows of a profile's samples by the values at an index. Where memory runs out, the
+/// samples before have no fault, nor has the one at hand.
 fn totals_by(
     alloc: Global,
     profile: &Profile,

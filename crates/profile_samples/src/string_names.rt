@@ -27,7 +27,8 @@ pub(crate) fn string_at(strings: &[Text], index: i64) -> &str
 fn mark(marks: &mut Vec<bool>, index: i64)
     ensures count { length marks.new.items ≡ length marks.old.items }
     ensures marked { (at : ℕ) → at < length marks.old.items
-        → slice_index_or marks.new.items at false ≡ (slice_index_or marks.old.items at false || is_at (index_in index) at) }
+        → slice_index_or marks.new.items at false
+        ≡ (slice_index_or marks.old.items at false || is_at (index_in index) at) }
 {
     if let Ok(at) = usize::try_from(index) {
         if at < marks.len() {

@@ -2,10 +2,10 @@ use Rattle.std.proofs.Common.{◌≡◌, ◌<◌, [], length, take, arith, sym, 
 use Rattle.std.proofs.lemmas.List.{get_or_read, take_all}
 use Rattle.profile_rows.specs.TopList.{AreSumsOf}
 use Rattle.call_tree.specs.State.{PlainTree, nodes_at, name_at}
-use Rattle.call_tree.specs.Totals.{names_of_weight, no_sums, sums_at}
+use Rattle.call_tree.specs.Totals.{no_sums, sums_at}
 use Rattle.call_tree.specs.Nodes.{nodes_of}
 use Rattle.call_tree.proofs.Trees.{seen_plain, value_lt}
-use Rattle.call_tree.proofs.Frames.{named, unnamed, AreSumsOf-tree, AreSumsOf-aggregate}
+use Rattle.call_tree.proofs.Frames.{names_of_weight, named, unnamed, AreSumsOf-tree, AreSumsOf-aggregate}
 use Rattle.call_tree.proofs.tree.CallTree.named_sums.Goals as goal
 use Rattle.call_tree.proofs.tree.CallTree.named_sums.Goals.{then-sum-gt0+in_ok-name+in_ok-push, else-sum-gt0}
 

@@ -1,6 +1,6 @@
 use Rattle.std.proofs.Common.{◌≡◌, take}
 use Rattle.call_tree.specs.State.{nodes_at}
-use Rattle.call_tree.specs.Totals.{names_of_weight}
+use Rattle.call_tree.proofs.Frames.{names_of_weight}
 use Rattle.call_tree.proofs.tree.CallTree.named_sums.Given as goal
 
 -- the names with the numbers so far

@@ -1,4 +1,5 @@
-use Rattle.std.proofs.Common.{◌≡◌, ◌+◌, ◌≤◌, ◌++◌, drop, length, map}
+use Rattle.std.proofs.Common.{◌≡◌, ◌+◌, ◌≤◌, ◌++◌, All, drop, length, map}
+use Rattle.profile_rows.specs.Names.{IsName}
 use Rattle.profile_rows.specs.Paths.{prefixes}
 use Rattle.flame_report.specs.Answers.{rect_of}
 use Rattle.flame_report.specs.Sharing.{known_at, shown_of, stack_at}
@@ -8,6 +9,8 @@ use Rattle.flame_report.proofs.layout.Plan.draw_row.Given as goal
 abbrev pub invariant-loop-depth : goal.invariant-loop-depth
 invariant-loop-depth l = record {
   inside : l.depth ≤ length (stack_at l.self.rows.now l.at) + 1;
+  texts : map (λ frame. frame.now) l.drawing.frames.items ≡ stack_at l.self.rows.now l.at;
+  names : All IsName (stack_at l.self.rows.now l.at);
   rest : l.drawing.rects.items ++ map rect_of
       (shown_of l.self.columns l.self.rows.now (drop l.depth (prefixes (stack_at l.self.rows.now l.at))))
       ≡ l.initial.drawing.rects.items ++ map rect_of

@@ -1,7 +1,8 @@
 use Rattle.std.proofs.Common.{◌≡◌, map, take}
 use Rattle.profile_rows.specs.Rows.{total_of}
 use Rattle.flame_report.specs.Answers.{rect_of}
-use Rattle.flame_report.specs.Sharing.{AreHeld, paths_until, shown_of}
+use Rattle.flame_report.specs.Sharing.{AreHeld, shown_of}
+use Rattle.flame_report.proofs.NewPaths.{paths_until}
 use Rattle.flame_report.proofs.layout.Plan.rects.Given as goal
 
 abbrev pub invariant-loop-at : goal.invariant-loop-at

@@ -1,5 +1,5 @@
 use Rattle.std.proofs.Common.{◌≡◌, take}
-use Rattle.folded_text.specs.TextRows.{text_lines}
+use Rattle.folded_text.proofs.TextRows.{text_lines}
 use Rattle.folded_text.proofs.text_stacks.TextStacks.write.Given as goal
 
 -- the lines so far

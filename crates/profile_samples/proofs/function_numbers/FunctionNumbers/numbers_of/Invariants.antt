@@ -1,5 +1,5 @@
 use Rattle.std.proofs.Common.{◌≡◌, map, take}
-use Rattle.profile_samples.specs.NameNumbers.{line_number}
+use Rattle.profile_samples.proofs.FrameNumbers.{line_number}
 use Rattle.profile_samples.proofs.function_numbers.FunctionNumbers.numbers_of.Given as goal
 
 -- the numbers so far

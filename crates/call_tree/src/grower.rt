@@ -6,6 +6,7 @@ ghost use Rattle.std.specs.FinMap as map;
 ghost use Rattle.profile_rows.specs.Rows.{total_of};
 ghost use Rattle.profile_rows.specs.Aggregate.{with_rows};
 ghost use Rattle.profile_rows.specs.Values.{rows_at};
+ghost use Rattle.call_tree.specs.Plans.{AreCredited, AreSlots};
 ghost use Rattle.call_tree.specs.State.{TreeState, PlanState, AreGrown, weights_of, total_in, nodes_at, plain_at};
 
 use crate::tree::CallTree;
@@ -218,9 +219,8 @@ impl Grower {
             index,
             walk: _,
         } = grower;
-        let tree = Arc::unwrap_or_clone(tree)?;
         tree.facts();
-        let tree = Arc::new(alloc, tree.add_batch(batch, slots.as_slice())?)?;
+        let tree = with_rows_at(alloc, tree, batch, slots.as_slice())?;
         Ok(Grower {
             tree,
             numbers,
@@ -289,4 +289,22 @@ impl Grower {
             before: Snapshot::of(&self.tree),
         })
     }
+}
+
+/// A tree with the rows of a batch, each at its node. Pages that nobody else owns change in place.
+fn with_rows_at(
+    alloc: Global,
+    tree: Arc<CallTree>,
+    batch: &Batch,
+    slots: &[u32],
+) -> Result<Arc<CallTree>, NoMemory>
+    requires width { batch.now.width ≡ (arc_value tree).width }
+    requires slots { AreSlots (plain_at (arc_value tree) 0) batch.now.rows slots.now }
+    requires fits { (value : ℕ)
+        → total_of (nodes_at (arc_value tree) value) + total_of (rows_at value batch.now.rows) < 2 ^ 63 }
+    ensures { IfOk result
+        (λ next. AreCredited (arc_value tree) (arc_value next) batch.now.rows (arc_value tree).width) }
+{
+    let tree = Arc::unwrap_or_clone(tree)?;
+    Ok(Arc::new(alloc, tree.add_batch(batch, slots)?)?)
 }

@@ -1,6 +1,6 @@
 //! What the names weigh in the rows of folded text, counted while it is read.
 
-ghost use Rattle.std.specs.Prelude.{◌≡◌, ◌≢◌, ◌+◌, ◌^◌, ◌<◌, ◌++◌, ◌∷◌, [], All, List, MatchResult, IfErr, None, OnOk};
+ghost use Rattle.std.specs.Prelude.{◌≡◌, ◌≢◌, ◌+◌, ◌^◌, ◌<◌, ◌++◌, ◌∷◌, [], All, List, MatchResult, IfErr, IfOk, None, OnOk};
 ghost use Rattle.profile_rows.specs.declared.weighted_stacks.WeightedStack.{WeightedStack};
 ghost use Rattle.profile_rows.specs.Merging.{AreMergedSoFar};
 ghost use Rattle.profile_rows.specs.Rows.{total_of};
@@ -81,6 +81,19 @@ struct Counting<'a> {
 }
 
 impl<'a> Counting<'a> {
+    /// No line yet. `hashing` says how names and stack texts are hashed.
+    fn new(alloc: Global, hashing: Hashing) -> Counting<'a>
+        ensures { AreCounted result.waiting result.counted [] }
+    {
+        let waiting = TextRows::new(alloc, hashing);
+        Counting {
+            waiting: Some(waiting),
+            bytes: 0,
+            counted: CountedRows::new(alloc, hashing),
+            frames: Vec::new(alloc),
+        }
+    }
+
     /// Whether waiting has saved work in so many lines.
     fn should_wait(&self, lines: u64) -> bool {
         let waiting = self.waiting.as_ref();
@@ -98,6 +111,16 @@ impl<'a> Counting<'a> {
             count_rows(&mut self.counted, &mut self.frames, sums.rows())?;
         }
         Ok(())
+    }
+
+    /// What the names weigh in all rows, also in those that wait.
+    fn totals(&mut self, alloc: Global) -> Result<FrameTotals, NoMemory>
+        requires { (merged : List WeightedStack) × AreCounted self.old.waiting self.old.counted merged }
+        ensures { (merged : List WeightedStack) → AreCounted self.old.waiting self.old.counted merged
+            → IfOk result (AreTotalsOf merged) }
+    {
+        self.count_waiting()?;
+        self.counted.totals(alloc)
     }
 }
 
@@ -134,15 +157,7 @@ pub fn folded_totals(
     ensures accepted { (rows : List WeightedStack) → IsFoldedText text.now rows
         → MatchResult result (AreTotalsOf rows) (λ fault. fault ≡ FoldedFault.NoMemory) }
 {
-    let waiting = TextRows::new(alloc, hashing);
-    let counted = CountedRows::new(alloc, hashing);
-    let mut counting = Counting {
-        waiting: Some(waiting),
-        bytes: 0,
-        counted,
-        frames: Vec::new(alloc),
-    };
+    let mut counting = Counting::new(alloc, hashing);
     take_lines(text, &mut counting)?;
-    counting.count_waiting()?;
-    Ok(counting.counted.totals(alloc)?)
+    Ok(counting.totals(alloc)?)
 }

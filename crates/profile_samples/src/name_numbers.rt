@@ -3,6 +3,7 @@
 
 ghost use Rattle.std.specs.Prelude.{ℕ, ◌≡◌, ◌<◌, ◌≤◌, ◌↔◌, All, IfOk, IsTrue, List, OnOk, MatchOption, [], ◌∷◌, ◌++◌, length, map, slice_index_or};
 ghost use Rattle.std.specs.Option.{option_map};
+ghost use Rattle.pprof_profile.specs.Valid.{IsValidDraft, location_ids};
 ghost use Rattle.profile_rows.specs.Names.{IsName};
 ghost use Rattle.profile_samples.specs.Samples.{frames_of_ids, sample_stack_of};
 ghost use Rattle.profile_rows.specs.TextTables.{with_texts};
@@ -44,6 +45,33 @@ fn all_frames(
     Ok(frames)
 }
 
+/// The frames of a valid profile's locations, leaf first, by the numbers of their names. There are no names yet.
+fn frames_of(
+    alloc: Global,
+    hashing: Hashing,
+    draft: &Draft,
+    names: &mut IndexSet<Name, Hashing>,
+) -> Result<FrameLists, NoMemory>
+    requires valid { IsValidDraft draft.now }
+    requires none { names.old.keys ≡ [] }
+    ensures names { OnOk result (names.new.keys ≡ frame_names draft.now) }
+    ensures each { OnOk result (All IsName names.new.keys) }
+    ensures frames { IfOk result (λ frames. frames ≡ map (numbers_of draft.now) draft.now.locations) }
+{
+    let strings = string_numbers(alloc, draft, names)?;
+    let functions = FunctionNumbers::new(alloc, hashing, draft, strings.as_slice())?;
+    all_frames(alloc, &functions, draft.locations.as_slice(), names)
+}
+
+/// Where the location of each id stands.
+fn location_indices(alloc: Global, hashing: Hashing, draft: &Draft) -> Result<IdIndex, NoMemory>
+    ensures { IfOk result (λ indices. indices ≡ location_ids draft.now) }
+{
+    let locations = draft.locations.as_slice();
+    let ids = locations.iter().map(|location| location.id).collect(alloc)?;
+    IdIndex::new(alloc, hashing, ids)
+}
+
 /// The frames of a profile's locations by the numbers of their names, so that a sample costs a look-up for each
 /// location, and the names, each of which may be shared. A contract sees the profile.
 #[derive(Drop)]
@@ -81,13 +109,9 @@ impl<'a> NumberedFrames<'a> {
     {
         let draft = profile.draft();
         let mut names = IndexSet::with_hasher(alloc, hashing);
-        let strings = string_numbers(alloc, draft, &mut names)?;
-        let functions = FunctionNumbers::new(alloc, hashing, draft, strings.as_slice())?;
-        let locations = draft.locations.as_slice();
-        let frames = all_frames(alloc, &functions, locations, &mut names)?;
+        let frames = frames_of(alloc, hashing, draft, &mut names)?;
         let once = frames.all_once(alloc, names.len())?;
-        let ids = locations.iter().map(|location| location.id).collect(alloc)?;
-        let indices = IdIndex::new(alloc, hashing, ids)?;
+        let indices = location_indices(alloc, hashing, draft)?;
         Ok(NumberedFrames {
             draft,
             indices,

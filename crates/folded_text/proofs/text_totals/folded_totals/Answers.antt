@@ -9,7 +9,7 @@ use Rattle.folded_text.proofs.text_totals.folded_totals.Goals as goal
 pub returns-clause-counted : goal.returns-clause-counted
 returns-clause-counted c =
     let (rows, read, (merged, same, counted)) = c.in_ok-take_lines.ensures.taken in
-    let totals = c.in_ok-totals.ensures merged (c.in_ok-count_waiting.ensures.counted merged counted) in
+    let totals = c.in_ok-totals.ensures merged counted in
     record { rows = rows; folded = read; totals_rows = AreTotalsOf-merged rows merged _ same totals }
 
 pub returns-clause-accepted : goal.returns-clause-accepted

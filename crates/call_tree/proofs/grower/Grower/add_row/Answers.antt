@@ -1,5 +1,5 @@
 -- One row of one value in the tree of a grower, in place.
-use Rattle.std.proofs.Common.{◌≡◌, ℕ, arith, sym, ap, ◌∙◌, subst, ⊎_elim}
+use Rattle.std.proofs.Common.{◌≡◌, arith, sym, ap, ◌∙◌, subst, ⊎_elim}
 use Rattle.std.specs.Result.{is_ok}
 use Rattle.shared_pages.proofs.Cloning.{on_err}
 use Rattle.std.specs.Arc.{arc_value}

@@ -70,13 +70,16 @@ live_app =
 abbrev pub flame_app : App
 flame_app = record { top = record (new_app (codes "flame")).top { subcommand_required = true }; subs = [] }
 
+-- with the subcommands that write reports
+abbrev pub report_app : App
+report_app = with_subcommand (with_subcommand flame_app top_app.top) flame_graph_app.top
+
+-- and with those that write profiles
+abbrev pub profile_app : App
+profile_app = with_subcommand (with_subcommand report_app fold_app.top) proto_app.top
+
 abbrev pub program_app : App
-program_app =
-    with_subcommand
-    (with_subcommand
-    (with_subcommand (with_subcommand (with_subcommand flame_app top_app.top) flame_graph_app.top) fold_app.top)
-    proto_app.top)
-    live_app.top
+program_app = with_subcommand profile_app live_app.top
 
 -- ---- what words ask for
 

@@ -3,7 +3,7 @@
 ghost use Rattle.std.specs.Prelude.{◌≡◌, IfOk, false};
 ghost use Rattle.clap.specs.Words.{app_of, rule_of};
 ghost use Rattle.clap.specs.declared.builder.command.Command.TheViews.{out-Command};
-ghost use Rattle.flame_words.specs.Words.{default_rule, flag_rule, flame_app, flame_graph_app, fold_app, live_app, option_rule, program_app, proto_app, top_app, with_filters, with_flags, with_source};
+ghost use Rattle.flame_words.specs.Words.{default_rule, flag_rule, flame_app, flame_graph_app, fold_app, live_app, option_rule, profile_app, program_app, proto_app, report_app, top_app, with_filters, with_flags, with_source};
 
 use crate::help;
 use clap::{Arg, ArgAction, Command};
@@ -161,14 +161,27 @@ fn bare_command<'a>(alloc: Global) -> Result<Command<'a>, AllocError>
     Ok(command)
 }
 
+// With the subcommands that write reports.
+fn report_command<'a>(alloc: Global) -> Result<Command<'a>, AllocError>
+    ensures { IfOk result (λ command. app_of command ≡ report_app) }
+{
+    bare_command(alloc)?
+        .subcommand(top_command(alloc)?)?
+        .subcommand(flame_graph_command(alloc)?)
+}
+
+// And with those that write profiles.
+fn profile_command<'a>(alloc: Global) -> Result<Command<'a>, AllocError>
+    ensures { IfOk result (λ command. app_of command ≡ profile_app) }
+{
+    report_command(alloc)?
+        .subcommand(fold_command(alloc)?)?
+        .subcommand(proto_command(alloc)?)
+}
+
 /// The command `flame`, with its subcommands and their texts.
 pub(crate) fn command<'a>(alloc: Global) -> Result<Command<'a>, AllocError>
     ensures { IfOk result (λ command. app_of command ≡ program_app) }
 {
-    bare_command(alloc)?
-        .subcommand(top_command(alloc)?)?
-        .subcommand(flame_graph_command(alloc)?)?
-        .subcommand(fold_command(alloc)?)?
-        .subcommand(proto_command(alloc)?)?
-        .subcommand(live_command(alloc)?)
+    profile_command(alloc)?.subcommand(live_command(alloc)?)
 }

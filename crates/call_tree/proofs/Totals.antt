@@ -5,7 +5,7 @@ use Rattle.std.proofs.lemmas.Bool.{ltb-true, ltb-false}
 use Rattle.profile_rows.specs.Rows.{total_of, weight_of}
 use Rattle.profile_rows.specs.Aggregate.{weight_in}
 use Rattle.profile_rows.specs.Values as values
-use Rattle.profile_rows.specs.Values.{BatchState, rows_at, value_of}
+use Rattle.profile_rows.specs.Values.{BatchState, value_of}
 use Rattle.profile_rows.proofs.FourValues.{value_of-past}
 use Rattle.profile_rows.proofs.EntryLaws.{weight_where-rows_of}
 use Rattle.profile_rows.proofs.RowLaws.{weight_in-aggregate_of}

@@ -14,7 +14,7 @@ use Rattle.profile_rows.proofs.RowLaws.{stack_cmp_total, weight_where-le-total}
 use Rattle.profile_rows.specs.Aggregate.{IsAscending}
 use Rattle.flame_report.specs.Sharing.{stack_at, shared_paths, known_at, held_weight}
 use Rattle.flame_report.proofs.PathOrder as order
-use Rattle.flame_report.proofs.PathOrder.{Path, begins, is_left, is_left_of_end, shared}
+use Rattle.flame_report.proofs.PathOrder.{Path, begins, is_left, is_left_of_end}
 
 -- ---- sums over all rows
 

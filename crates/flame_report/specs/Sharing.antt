@@ -1,12 +1,12 @@
 -- What the stacks of rows in order share, row by row.
-use Rattle.std.specs.Prelude.{ℕ, ◌≡◌, ◌<◌, ◌≤◌, ◌+◌, ◌^◌, List, [], ◌++◌, map, filter, length, take, drop, slice_index_or, ⊤}
+use Rattle.std.specs.Prelude.{ℕ, ◌≡◌, ◌<◌, ◌≤◌, ◌+◌, ◌^◌, List, [], map, filter, length, take, slice_index_or, ⊤}
 use Prim.Native.Nat.{zero, suc}
 use Rattle.std.specs.Ordering.{eq_by_cmp}
 use Rattle.std.specs.List.{common_prefix_len}
 use Rattle.profile_rows.specs.declared.weighted_stacks.WeightedStack.{WeightedStack}
 use Rattle.profile_rows.specs.Layout.{Rectangle, is_shown, rectangle_at}
 use Rattle.profile_rows.specs.Names.{name_cmp}
-use Rattle.profile_rows.specs.Paths.{begins_with, prefixes}
+use Rattle.profile_rows.specs.Paths.{begins_with}
 use Rattle.profile_rows.specs.Aggregate.{AreWeighty, IsAscending}
 use Rattle.profile_rows.specs.Rows.{total_of, weight_where}
 use Rattle.flame_report.specs.declared.layout.Plan.{Plan}

@@ -1,10 +1,10 @@
 //! Reading the words of the command line.
 
-ghost use Rattle.std.specs.Prelude.{◌≡◌, ◌⊎◌, List, MatchResult, Some, Option, true, ⊤, codes, option_map};
+ghost use Rattle.std.specs.Prelude.{◌≡◌, ◌⊎◌, MatchResult, Some, Option, true, ⊤, codes, option_map};
 ghost use Rattle.clap.specs.Words.{Text, first_of, found_of, kind_of, rows_of, subcommand_rows_of};
 ghost use Rattle.flame_words.specs.Options.{is_name_if_given, is_set};
 ghost use Rattle.flame_words.specs.LiveOptions.{options_of};
-ghost use Rattle.flame_words.specs.Words.{IsNameFault, IsReadAs, IsRefused, IsUnread, Reading, asked_by, export_in, live_in, named_report, reading_of, report_in, stored_report, texts_of};
+ghost use Rattle.flame_words.specs.Words.{IsNameFault, IsReadAs, IsUnread, Reading, asked_by, export_in, live_in, named_report, reading_of, report_in, stored_report, texts_of};
 ghost use Rattle.flame_words.specs.Words.Reading.{refused};
 
 use crate::command::command;

@@ -1,11 +1,11 @@
 //! What a store's lock keeps, and what happens under it.
 
-ghost use Rattle.std.specs.Prelude.{◌≡◌, ◌≢◌, ◌+◌, ◌<◌, ◌≤◌, ◌^◌, ◌⊎◌, ◌++◌, ◌∷◌, [], ℕ, IfErr, IfOk, List, MatchResult, OnErr, OnOk, false, length, true};
+ghost use Rattle.std.specs.Prelude.{◌≡◌, ◌≢◌, ◌+◌, ◌<◌, ◌≤◌, ◌⊎◌, ◌++◌, ◌∷◌, [], ℕ, IfErr, IfOk, MatchResult, OnErr, OnOk, false, length, true};
 ghost use Rattle.std.specs.Arc.{arc_value};
 ghost use mathlib.Core.List.{IsPrefix};
 ghost use Rattle.left_right.specs.Sides.{view as known};
 ghost use Rattle.op_book.specs.Books.{IsAppended, IsFirstBookFault, IsSameBook, IsTreeAfter, change_told, receipt_after};
-ghost use Rattle.op_book.specs.Operations.{PlainOp, add, is_change, placed, reset};
+ghost use Rattle.op_book.specs.Operations.{add, is_change, placed, reset};
 ghost use Rattle.op_book.specs.Runs.{turns_of};
 ghost use Rattle.change_history.specs.Histories.{entry_made};
 ghost use Rattle.shown_versions.specs.Views.{IsOf, listed};

@@ -1,6 +1,6 @@
 //! The store: a book behind one lock, and versions of its tree.
 
-ghost use Rattle.std.specs.Prelude.{◌≡◌, ◌<◌, ◌≤◌, [], ℕ, IfOk, length};
+ghost use Rattle.std.specs.Prelude.{◌≡◌, ◌<◌, ◌≤◌, [], IfOk, length};
 
 use crate::blank::Blank;
 use crate::fault::SessionFault;

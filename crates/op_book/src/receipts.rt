@@ -1,8 +1,7 @@
 //! The receipts of all logs, and what is looked for in them one by one.
 
-ghost use Rattle.std.specs.Prelude.{ℕ, ◌≡◌, ◌≢◌, ◌↔◌, ◌<◌, ◌≤◌, ◌+◌, ◌++◌, ◌∷◌, IsTrue, All, Any, None, length, map, IfOk, MatchOption, OnOk};
-ghost use Rattle.op_book.specs.Matching.{HasEntry, HasOneLogEach, IsFirstWithout, IsInOrder, IsKnown, IsOfJournal, IsSecondLog, Precedes, logged, logged_from};
-ghost use Rattle.op_book.specs.Operations.{plain_op, plain_reply};
+ghost use Rattle.std.specs.Prelude.{◌≡◌, ◌↔◌, ◌<◌, ◌+◌, ◌++◌, IsTrue, All, None, length, IfOk, MatchOption, OnOk};
+ghost use Rattle.op_book.specs.Matching.{HasEntry, HasOneLogEach, IsFirstWithout, IsInOrder, IsKnown, IsSecondLog, Precedes, logged, logged_from};
 
 use crate::entry::{Entry, Receipt, SessionLog};
 use crate::journal::Journal;

@@ -1,7 +1,7 @@
 //! A message out of its bytes: what the value of a field does to the part that it belongs to.
 
-ghost use Rattle.std.specs.Prelude.{◌≡◌, ◌≢◌, ℕ, Result, Ok, Err, IfOk, IfErr, OnOk};
-ghost use Rattle.pprof_wire.specs.Fields.{FieldValue, value_of};
+ghost use Rattle.std.specs.Prelude.{◌≡◌, ◌≢◌, Result, Ok, Err, IfOk, IfErr, OnOk};
+ghost use Rattle.pprof_wire.specs.Fields.{value_of};
 ghost use Rattle.pprof_profile.specs.declared.faults.ProfileFault.{ProfileFault};
 ghost use Rattle.pprof_profile.specs.Reading.{Table, Spells, IsFirstFault, SetsNumber, AddsNumbers, AddsText, AddsMessage, MergesMessage, IsUnpacked, IsPackedFault};
 

@@ -1,6 +1,5 @@
 //! Which field of each message goes to which part of it.
 
-ghost use Rattle.std.specs.Prelude.{◌≡◌};
 ghost use Rattle.pprof_profile.specs.Messages.{no_value_type, value_type_table, no_line, line_table, no_label, label_table, no_mapping, mapping_table, no_function, function_table, no_location, location_table, no_sample, sample_table, no_draft, draft_table};
 
 use crate::faults::ProfileFault;

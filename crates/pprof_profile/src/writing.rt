@@ -1,6 +1,6 @@
 //! Fields appended to bytes: numbers, texts and messages.
 
-ghost use Rattle.std.specs.Prelude.{◌≡◌, ◌++◌, ◌<◌, ◌^◌, List, length, map, IfOk, OnOk};
+ghost use Rattle.std.specs.Prelude.{◌≡◌, ◌++◌, ◌<◌, ◌^◌, List, length, map, OnOk};
 ghost use Rattle.pprof_wire.specs.Fields.{PlainField, IsFieldNumber};
 ghost use Rattle.pprof_profile.specs.Canonical.{bytes_of_fields, number_fields, content_fields, each_field, packed_bytes, FitsNumbers, FitsTexts, FitsEach};
 

@@ -1,6 +1,6 @@
 //! Laws of the wire format. Each function does nothing: what it ensures is the law.
 
-ghost use Rattle.std.specs.Prelude.{◌≡◌, ℕ, List, [], ◌∷◌, ◌+◌, ◌*◌, ◌^◌, ◌<◌, ◌≤◌, ◌⊎◌, ◌++◌, length};
+ghost use Rattle.std.specs.Prelude.{◌≡◌, ℕ, List, [], ◌∷◌, ◌+◌, ◌^◌, ◌<◌, ◌≤◌, ◌⊎◌, ◌++◌, length};
 ghost use Rattle.pprof_wire.specs.declared.faults.WireFault.{WireFault};
 ghost use Rattle.pprof_wire.specs.Varints.{IsVarint, IsVarintFault, IsNumberList, SplitsIntoNumbers, varint_of};
 ghost use Rattle.pprof_wire.specs.Fields.{PlainField, IsFieldNumber, FitsValue, IsFieldSpelling, IsFieldList, SplitsIntoFields, IsRestFault, field_bytes_of};

@@ -7,7 +7,7 @@ use Rattle.profile_rows.specs.declared.tallies.Tallies.{Tallies}
 use Rattle.profile_rows.specs.declared.tallies.Tally.{Tally}
 use Rattle.profile_rows.specs.declared.weighted_stacks.WeightedStack.{WeightedStack}
 use Rattle.profile_rows.specs.Names.{IsName, is_same_name}
-use Rattle.profile_rows.specs.Rows.{has_name, ends_with_name, weight_if, total_of, flat_weight_of, cumulative_weight_of}
+use Rattle.profile_rows.specs.Rows.{has_name, total_of, flat_weight_of, cumulative_weight_of}
 use Rattle.profile_rows.specs.TextTables.{names_at, number_in}
 
 -- ---- names by numbers

@@ -2,10 +2,10 @@
 //! its law.
 #![tactic(auto, using(crate::proofs::Steps::laws))]
 
-ghost use Rattle.std.specs.Prelude.{ℕ, ◌≡◌, ◌++◌, ◌<◌, ◌^◌, All, Bool, List, Option, IsPermutation, IsSorted, length, take};
+ghost use Rattle.std.specs.Prelude.{ℕ, ◌≡◌, ◌++◌, All, Bool, List, Option, IsPermutation, IsSorted, length, take};
 ghost use Rattle.profile_rows.specs.declared.weighted_stacks.WeightedStack.{WeightedStack};
 ghost use Rattle.profile_rows.specs.declared.frame_totals.FrameTotal.{FrameTotal};
-ghost use Rattle.profile_rows.specs.Rows.{kept_rows, total_of, weight_of, weight_where};
+ghost use Rattle.profile_rows.specs.Rows.{kept_rows, weight_of, weight_where};
 ghost use Rattle.profile_rows.specs.Aggregate.{AreRowsOf, Weighted, aggregate_of, rows_of, weight_in, with_rows};
 ghost use Rattle.profile_rows.specs.Values.{Row, rows_at};
 ghost use Rattle.profile_rows.specs.Layout.{rectangles_of};

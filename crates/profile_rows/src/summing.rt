@@ -1,6 +1,6 @@
 //! Rows of one value put together: each stack once, in the order of stacks.
 
-ghost use Rattle.std.specs.Prelude.{◌≡◌, ◌≢◌, ◌+◌, ◌^◌, ◌<◌, All, IfOk, IsSorted, List, MatchOption, OnOk, ℕ, length};
+ghost use Rattle.std.specs.Prelude.{◌≡◌, ◌≢◌, ◌+◌, ◌^◌, ◌<◌, IfOk, IsSorted, List, MatchOption, OnOk, ℕ, length};
 ghost use Rattle.profile_rows.specs.Aggregate.{AreWeighty, IsAscending, aggregate_of, rows_of};
 ghost use Rattle.profile_rows.specs.Merging.{AddsRow, AreUpTo, by_stack, row_at};
 ghost use Rattle.profile_rows.specs.Rows.{total_of, weight_of};

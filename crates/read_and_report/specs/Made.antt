@@ -1,5 +1,5 @@
 -- The reports that are made of rows.
-use Rattle.std.specs.Prelude.{ℕ, ◌≡◌, List, None, string_bytes}
+use Rattle.std.specs.Prelude.{◌≡◌, List, string_bytes}
 use Rattle.profile_store.specs.Answers.{flame_of}
 use Rattle.profile_store.specs.FoldedText.{folded_text_of}
 use Rattle.profile_store.specs.Json.{flame_json_of}

@@ -1,6 +1,6 @@
 //! A shelf of items: pages, in groups.
 
-ghost use Rattle.std.specs.Prelude.{◌≡◌, ◌<◌, ◌≤◌, ℕ, [], length, OnOk, OnErr, IfOk, slice_index_or};
+ghost use Rattle.std.specs.Prelude.{◌≡◌, ◌<◌, ◌≤◌, [], length, OnOk, OnErr, IfOk, slice_index_or};
 ghost use Rattle.std.specs.Arc.{arc_value};
 ghost use Rattle.shared_pages.specs.Pages.{AreChunks, ArePages, groups_of, items_in, joined, pages_of, with_item};
 

@@ -1,6 +1,6 @@
 //! Items on shelves.
 
-ghost use Rattle.std.specs.Prelude.{◌≡◌, ◌<◌, ◌≤◌, ℕ, [], length, IfOk, OnOk, OnErr, slice_index_or};
+ghost use Rattle.std.specs.Prelude.{◌≡◌, ◌<◌, ◌≤◌, [], length, OnOk, OnErr, slice_index_or};
 ghost use Rattle.shared_pages.specs.Pages.{AreChunks, joined, shelves_of, with_item};
 
 use crate::shelf::Shelf;

@@ -1,7 +1,5 @@
 //! The rule of what is shown, and what its steps tell.
 
-ghost use Rattle.std.specs.Prelude.{◌≡◌};
-
 use crate::known::KnownVersion;
 use crate::version::Version;
 use atomic_table::{Join, Split};

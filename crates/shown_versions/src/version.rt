@@ -1,6 +1,6 @@
 //! A version: a shared tree, and how many changes made it.
 
-ghost use Rattle.std.specs.Prelude.{◌≡◌, ◌∷◌, [], length, IfOk};
+ghost use Rattle.std.specs.Prelude.{◌≡◌, length, IfOk};
 ghost use Rattle.std.specs.Arc.{arc_value};
 ghost use Rattle.op_book.specs.Books.{IsReplay};
 ghost use Rattle.op_book.specs.Runs.{AreChanges, AreTurnsInOrder};

@@ -1,7 +1,6 @@
 //! The nodes of rows, found in the index or made.
 
 ghost use Rattle.std.specs.Prelude.{◌≡◌, ◌<◌, ◌+◌, ◌≤◌, ◌++◌, ◌∷◌, ℕ, [], length, not, IfOk};
-ghost use Rattle.std.specs.FinMap as map;
 ghost use Rattle.profile_rows.specs.Rows.{has_name};
 ghost use Rattle.call_tree.specs.State.{IsFresh, AreGrown, nodes_at, plain_at, name_at, stack_at};
 ghost use Rattle.call_tree.specs.Plans.{AreFirstSlots};

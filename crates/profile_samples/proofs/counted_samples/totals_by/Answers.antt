@@ -1,6 +1,6 @@
 -- The samples are read in order: each is counted, or has the first fault.
 use Rattle.std.proofs.lemmas.Grind.{common_steps}
-use Rattle.std.proofs.Common.{◌++◌, ◌∷◌, [], inl, inr, arith}
+use Rattle.std.proofs.Common.{◌++◌, ◌∷◌, [], inl, arith}
 use Rattle.std.proofs.lemmas.Result.{err_from_is_err_and}
 use Rattle.profile_rows.specs.declared.weighted_stacks.WeightedStack.{WeightedStack}
 use Rattle.profile_rows.specs.Rows.{total_of}
@@ -9,8 +9,7 @@ use Rattle.profile_samples.specs.Samples.{sample_stack_of}
 use Rattle.profile_samples.specs.NameNumbers.{frame_names}
 use Rattle.profile_samples.proofs.SampleNumbers.{sample_numbered}
 use Rattle.profile_samples.proofs.SampleBatches.{AreStacksSoFar-fits, AreStacksSoFar-row, AreStacksSoFar-stands}
-use Rattle.profile_samples.proofs.SampleBatches.{IsBatchSoFar-end}
-use Rattle.profile_samples.proofs.SampleRows.{has_values, one_value_room, samples_read}
+use Rattle.profile_samples.proofs.SampleRows.{has_values, one_value_room}
 use Rattle.profile_samples.proofs.counted_samples.totals_by.Goals as goal
 
 pub sample_weight-requires-clause-values : goal.sample_weight-requires-clause-values

@@ -28,7 +28,7 @@ from proved_program import copy_program, link, output_of, run_outside
 from random_stacks import function_names, tree_stacks, write_folded
 
 NAME = "audits"
-LIBRARIES = ["profile_rows", "folded_text", "call_tree", "flame_report", "op_book", "anyhow"]
+LIBRARIES = ["profile_rows", "folded_text", "call_tree", "flame_report", "op_book", "log_audit", "anyhow"]
 
 
 class Size(typing.NamedTuple):

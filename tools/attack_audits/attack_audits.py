@@ -25,7 +25,7 @@ sys.path.insert(0, str(HERE.parent / "quick_program"))
 from quick_program import build  # noqa: E402
 
 NAME = "attack_audits"
-LIBRARIES = ["profile_rows", "flame_report", "op_book", "live_store", "anyhow"]
+LIBRARIES = ["profile_rows", "flame_report", "op_book", "log_audit", "live_store", "anyhow"]
 NAMES = ["a", "b", "main", "x"]
 KINDS = ["total", "folded", "flat", "cum"]
 CASES_A_RUN = 5000

@@ -40,10 +40,6 @@ with_source app =
 abbrev pub with_filters : App → App
 with_filters app = with_rule (with_rule app (option_rule (codes "focus"))) (option_rule (codes "ignore"))
 
--- what is stored and written
-abbrev pub with_flags : App → App
-with_flags app = with_rule (with_rule app (flag_rule (codes "all"))) (flag_rule (codes "warm"))
-
 abbrev pub top_app : App
 top_app =
     with_rule
@@ -62,24 +58,24 @@ proto_app =
     with_rule (with_rule (new_app (codes "proto")) (default_rule (codes "kind") (codes "samples")))
     (default_rule (codes "unit") (codes "count"))
 
+-- `all` and `warm` say what is written and what is stored
 abbrev pub live_app : App
 live_app =
-    with_rule (with_flags (with_source (new_app (codes "live")))) (default_rule (codes "sessions") (codes "2"))
+    with_rule
+    (with_rule (with_rule (with_source (new_app (codes "live"))) (flag_rule (codes "all"))) (flag_rule (codes "warm")))
+    (default_rule (codes "sessions") (codes "2"))
 
 -- `flame`, which wants one of its subcommands
 abbrev pub flame_app : App
 flame_app = record { top = record (new_app (codes "flame")).top { subcommand_required = true }; subs = [] }
 
--- with the subcommands that write reports
-abbrev pub report_app : App
-report_app = with_subcommand (with_subcommand flame_app top_app.top) flame_graph_app.top
-
--- and with those that write profiles
-abbrev pub profile_app : App
-profile_app = with_subcommand (with_subcommand report_app fold_app.top) proto_app.top
-
 abbrev pub program_app : App
-program_app = with_subcommand profile_app live_app.top
+program_app =
+    with_subcommand
+    (with_subcommand
+    (with_subcommand (with_subcommand (with_subcommand flame_app top_app.top) flame_graph_app.top) fold_app.top)
+    proto_app.top)
+    live_app.top
 
 -- ---- what words ask for
 

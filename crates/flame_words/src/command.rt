@@ -1,82 +1,87 @@
 //! The command `flame`: its subcommands and their options.
 
 ghost use Rattle.std.specs.Prelude.{◌≡◌, IfOk, false};
-ghost use Rattle.clap.specs.Words.{app_of, rule_of};
+ghost use Rattle.clap.specs.Words.{App, app_of, with_rule, with_subcommand};
 ghost use Rattle.clap.specs.declared.builder.command.Command.TheViews.{out-Command};
-ghost use Rattle.flame_words.specs.Words.{default_rule, flag_rule, flame_app, flame_graph_app, fold_app, live_app, option_rule, profile_app, program_app, proto_app, report_app, top_app, with_filters, with_flags, with_source};
+ghost use Rattle.flame_words.specs.Words.{default_rule, flag_rule, flame_app, flame_graph_app, fold_app, live_app, option_rule, program_app, proto_app, top_app, with_filters, with_source};
 
 use crate::help;
 use clap::{Arg, ArgAction, Command};
 use std::alloc::{AllocError, Global};
 
-// An option with a value.
-fn option<'a>(alloc: Global, id: &'a str, value_name: &'a str, text: &'a str) -> Arg<'a>
-    ensures rule { rule_of result ≡ option_rule id.entry.now }
-    ensures local { result.global ≡ false }
+// With an option that has a value.
+fn with_option<'a>(
+    alloc: Global,
+    command: Command<'a>,
+    id: &'a str,
+    value_name: &'a str,
+    text: &'a str,
+) -> Result<Command<'a>, AllocError>
+    ensures app { IfOk result (λ with. app_of with ≡ with_rule (app_of command.entry) (option_rule id.entry.now)) }
+    ensures local { IfOk result (λ with. (out-Command with).has_globals ≡ (out-Command command.entry).has_globals) }
 {
-    Arg::new(alloc, id)
+    let option = Arg::new(alloc, id)
         .long(id)
         .value_name(value_name)
-        .help(text)
+        .help(text);
+    command.arg(option)
 }
 
-// An option with a value, and the value that it has where it isn't given.
-fn default_option<'a>(
+// With an option that has a value, and this one where it isn't given.
+fn with_default<'a>(
     alloc: Global,
+    command: Command<'a>,
     id: &'a str,
     default: &'a str,
     value_name: &'a str,
     text: &'a str,
-) -> Arg<'a>
-    ensures rule { rule_of result ≡ default_rule id.entry.now default.entry.now }
-    ensures local { result.global ≡ false }
+) -> Result<Command<'a>, AllocError>
+    ensures app { IfOk result
+        (λ with. app_of with ≡ with_rule (app_of command.entry) (default_rule id.entry.now default.entry.now)) }
+    ensures local { IfOk result (λ with. (out-Command with).has_globals ≡ (out-Command command.entry).has_globals) }
 {
-    Arg::new(alloc, id)
+    let option = Arg::new(alloc, id)
         .long(id)
         .value_name(value_name)
         .help(text)
-        .default_value(default)
+        .default_value(default);
+    command.arg(option)
 }
 
-// An option without a value.
-fn flag<'a>(alloc: Global, id: &'a str, text: &'a str) -> Arg<'a>
-    ensures rule { rule_of result ≡ flag_rule id.entry.now }
-    ensures local { result.global ≡ false }
+// With an option that has no value.
+fn with_flag<'a>(
+    alloc: Global,
+    command: Command<'a>,
+    id: &'a str,
+    text: &'a str,
+) -> Result<Command<'a>, AllocError>
+    ensures app { IfOk result (λ with. app_of with ≡ with_rule (app_of command.entry) (flag_rule id.entry.now)) }
+    ensures local { IfOk result (λ with. (out-Command with).has_globals ≡ (out-Command command.entry).has_globals) }
 {
-    Arg::new(alloc, id)
+    let option = Arg::new(alloc, id)
         .long(id)
         .help(text)
-        .action(ArgAction::SetTrue)
+        .action(ArgAction::SetTrue);
+    command.arg(option)
 }
 
-// The options that say how the input is read.
+// With the options that say how the input is read.
 fn with_source<'a>(alloc: Global, command: Command<'a>) -> Result<Command<'a>, AllocError>
     ensures app { IfOk result (λ with. app_of with ≡ with_source (app_of command.entry)) }
     ensures local { IfOk result (λ with. (out-Command with).has_globals ≡ (out-Command command.entry).has_globals) }
 {
-    command
-        .arg(default_option(alloc, "format", "folded", "FORMAT", help::FORMAT))?
-        .arg(option(alloc, "value", "TYPE", help::VALUE))
+    let command = with_default(alloc, command, "format", "folded", "FORMAT", help::FORMAT)?;
+    with_option(alloc, command, "value", "TYPE", help::VALUE)
 }
 
-// The options that say which stacks are kept.
+// With those that say which stacks are kept, too.
 fn with_filters<'a>(alloc: Global, command: Command<'a>) -> Result<Command<'a>, AllocError>
-    ensures app { IfOk result (λ with. app_of with ≡ with_filters (app_of command.entry)) }
+    ensures app { IfOk result (λ with. app_of with ≡ with_filters (with_source (app_of command.entry))) }
     ensures local { IfOk result (λ with. (out-Command with).has_globals ≡ (out-Command command.entry).has_globals) }
 {
-    command
-        .arg(option(alloc, "focus", "NAME", help::FOCUS))?
-        .arg(option(alloc, "ignore", "NAME", help::IGNORE))
-}
-
-// The options that say what is stored and written.
-fn with_flags<'a>(alloc: Global, command: Command<'a>) -> Result<Command<'a>, AllocError>
-    ensures app { IfOk result (λ with. app_of with ≡ with_flags (app_of command.entry)) }
-    ensures local { IfOk result (λ with. (out-Command with).has_globals ≡ (out-Command command.entry).has_globals) }
-{
-    command
-        .arg(flag(alloc, "all", help::ALL))?
-        .arg(flag(alloc, "warm", help::WARM))
+    let command = with_source(alloc, command)?;
+    let command = with_option(alloc, command, "focus", "NAME", help::FOCUS)?;
+    with_option(alloc, command, "ignore", "NAME", help::IGNORE)
 }
 
 // The subcommand `top`.
@@ -87,9 +92,9 @@ fn top_command<'a>(alloc: Global) -> Result<Command<'a>, AllocError>
     let command = Command::new(alloc, "top")
         .about(help::ABOUT_TOP)
         .after_help(help::AFTER_TOP);
-    with_filters(alloc, with_source(alloc, command)?)?
-        .arg(default_option(alloc, "by", "flat", "ORDER", help::BY))?
-        .arg(default_option(alloc, "count", "20", "NUMBER", help::COUNT))
+    let command = with_filters(alloc, command)?;
+    let command = with_default(alloc, command, "by", "flat", "ORDER", help::BY)?;
+    with_default(alloc, command, "count", "20", "NUMBER", help::COUNT)
 }
 
 // The subcommand `flame`.
@@ -100,13 +105,8 @@ fn flame_graph_command<'a>(alloc: Global) -> Result<Command<'a>, AllocError>
     let command = Command::new(alloc, "flame")
         .about(help::ABOUT_FLAME)
         .after_help(help::AFTER_FLAME);
-    with_filters(alloc, with_source(alloc, command)?)?.arg(default_option(
-        alloc,
-        "columns",
-        "100",
-        "NUMBER",
-        help::COLUMNS,
-    ))
+    let command = with_filters(alloc, command)?;
+    with_default(alloc, command, "columns", "100", "NUMBER", help::COLUMNS)
 }
 
 // The subcommand `fold`.
@@ -117,7 +117,7 @@ fn fold_command<'a>(alloc: Global) -> Result<Command<'a>, AllocError>
     let command = Command::new(alloc, "fold")
         .about(help::ABOUT_FOLD)
         .after_help(help::AFTER_FOLD);
-    with_filters(alloc, with_source(alloc, command)?)
+    with_filters(alloc, command)
 }
 
 // The subcommand `proto`.
@@ -125,11 +125,11 @@ fn proto_command<'a>(alloc: Global) -> Result<Command<'a>, AllocError>
     ensures app { IfOk result (λ command. app_of command ≡ proto_app) }
     ensures local { IfOk result (λ command. (out-Command command).has_globals ≡ false) }
 {
-    Command::new(alloc, "proto")
+    let command = Command::new(alloc, "proto")
         .about(help::ABOUT_PROTO)
-        .after_help(help::AFTER_PROTO)
-        .arg(default_option(alloc, "kind", "samples", "KIND", help::KIND))?
-        .arg(default_option(alloc, "unit", "count", "UNIT", help::UNIT))
+        .after_help(help::AFTER_PROTO);
+    let command = with_default(alloc, command, "kind", "samples", "KIND", help::KIND)?;
+    with_default(alloc, command, "unit", "count", "UNIT", help::UNIT)
 }
 
 // The subcommand `live`.
@@ -140,13 +140,10 @@ fn live_command<'a>(alloc: Global) -> Result<Command<'a>, AllocError>
     let command = Command::new(alloc, "live")
         .about(help::ABOUT_LIVE)
         .after_help(help::AFTER_LIVE);
-    with_flags(alloc, with_source(alloc, command)?)?.arg(default_option(
-        alloc,
-        "sessions",
-        "2",
-        "NUMBER",
-        help::SESSIONS,
-    ))
+    let command = with_source(alloc, command)?;
+    let command = with_flag(alloc, command, "all", help::ALL)?;
+    let command = with_flag(alloc, command, "warm", help::WARM)?;
+    with_default(alloc, command, "sessions", "2", "NUMBER", help::SESSIONS)
 }
 
 // The command `flame` without its subcommands.
@@ -161,27 +158,26 @@ fn bare_command<'a>(alloc: Global) -> Result<Command<'a>, AllocError>
     Ok(command)
 }
 
-// With the subcommands that write reports.
-fn report_command<'a>(alloc: Global) -> Result<Command<'a>, AllocError>
-    ensures { IfOk result (λ command. app_of command ≡ report_app) }
+// With a subcommand, where there was memory for it.
+fn with_subcommand<'a>(
+    command: Command<'a>,
+    subcommand: Result<Command<'a>, AllocError>,
+) -> Result<Command<'a>, AllocError>
+    ensures { (app : App) → IfOk subcommand.entry (λ given. app_of given ≡ app)
+        → IfOk subcommand.entry (λ given. (out-Command given).has_globals ≡ false)
+        → IfOk result (λ with. app_of with ≡ with_subcommand (app_of command.entry) app.top) }
 {
-    bare_command(alloc)?
-        .subcommand(top_command(alloc)?)?
-        .subcommand(flame_graph_command(alloc)?)
-}
-
-// And with those that write profiles.
-fn profile_command<'a>(alloc: Global) -> Result<Command<'a>, AllocError>
-    ensures { IfOk result (λ command. app_of command ≡ profile_app) }
-{
-    report_command(alloc)?
-        .subcommand(fold_command(alloc)?)?
-        .subcommand(proto_command(alloc)?)
+    command.subcommand(subcommand?)
 }
 
 /// The command `flame`, with its subcommands and their texts.
 pub(crate) fn command<'a>(alloc: Global) -> Result<Command<'a>, AllocError>
     ensures { IfOk result (λ command. app_of command ≡ program_app) }
 {
-    profile_command(alloc)?.subcommand(live_command(alloc)?)
+    let command = bare_command(alloc)?;
+    let command = with_subcommand(command, top_command(alloc))?;
+    let command = with_subcommand(command, flame_graph_command(alloc))?;
+    let command = with_subcommand(command, fold_command(alloc))?;
+    let command = with_subcommand(command, proto_command(alloc))?;
+    with_subcommand(command, live_command(alloc))
 }

@@ -9,13 +9,15 @@ use Rattle.std.proofs.lemmas.List.Sums.{sum_by-append, sum_by-cons}
 use Rattle.profile_rows.specs.Rows.{is_same_stack, weight_if, weight_of}
 use Rattle.profile_rows.specs.Values.{BatchState, Row, rows_at, weighing}
 use Rattle.op_book.specs.Books.{JournalState}
-use Rattle.op_book.specs.Matching.{IsInOrder, IsKnown, IsOfJournal, LoggedReceipt, LogsMatch, PlainStep, Precedes}
-use Rattle.op_book.specs.Matching.{key_of, logged, logged_after, logged_from, steps_in}
+use Rattle.op_book.specs.Receipts.{Precedes}
+use Rattle.log_audit.specs.Matching.{IsInOrder, IsKnown, IsOfJournal, LoggedReceipt, LogsMatch, PlainStep}
+use Rattle.op_book.specs.Receipts.{key_of}
+use Rattle.log_audit.specs.Matching.{logged, logged_after, logged_from, steps_in}
 use Rattle.op_book.specs.Operations.{PlainEntry, PlainOp, PlainReceipt, add, reset, ask, addition_of, batches_after}
 use Rattle.op_book.specs.Operations.{is_change, is_reset, operations_of, placed, profile_after}
 use Rattle.op_book.specs.declared.entry.SessionLog.{SessionLog}
-use Rattle.op_book.proofs.Weighing as weighing
-use Rattle.op_book.proofs.Weighing.{added, counted, of_changes, sum_by-map, weigh_log, weigh_logs}
+use Rattle.log_audit.proofs.Weighing as weighing
+use Rattle.log_audit.proofs.Weighing.{added, counted, of_changes, sum_by-map, weigh_log, weigh_logs}
 use Rattle.live_store.specs.Workers.{ops_told}
 use Rattle.live_report.specs.Dealing.{AreDealt, addition, total_at, totals_from, warm_lists, weigh}
 use Rattle.live_report.specs.Live.{operations_in}

@@ -1,8 +1,8 @@
 -- Which fault ends `live`, and of what kind it is.
 use Rattle.std.specs.Prelude.{Bool, true, false, List, [], ◌∷◌, Option, None}
 use Rattle.std.specs.Option.{option_or}
-use Rattle.op_book.specs.declared.fault.AuditFault.{AuditFault}
-use Rattle.op_book.specs.declared.fault.AuditFault.TheVariants as audit
+use Rattle.log_audit.specs.declared.fault.AuditFault.{AuditFault}
+use Rattle.log_audit.specs.declared.fault.AuditFault.TheVariants as audit
 use Rattle.op_book.specs.declared.fault.BookFault.{BookFault}
 use Rattle.op_book.specs.declared.fault.BookFault.TheVariants as book
 use Rattle.live_store.specs.declared.fault.MakeFault.{MakeFault}

@@ -4,7 +4,7 @@ ghost use Rattle.std.specs.Prelude.{◌≡◌};
 ghost use Rattle.live_report.specs.Faults.{is_shortage};
 
 use live_store::{BookFault, MakeFault, SessionFault, WorkersFault};
-use op_book::AuditFault;
+use log_audit::AuditFault;
 use profile_rows::NoMemory;
 use std::alloc::{AllocError, AllocFailed};
 use thiserror::Error;

@@ -12,7 +12,7 @@ use Rattle.std.proofs.lemmas.Bool.Decides.{nat_tests}
 use mathlib.Core.List.{IsPrefix}
 use Rattle.change_history.proofs.Fronts.{prefix_trans, prefix_whole, prefix_length, prefix_get}
 use Rattle.op_book.specs.Books.{BookState, IsFirstBookFault, change_told, entry_after, receipt_after}
-use Rattle.op_book.specs.Matching.{HasEntry, Precedes, key_of}
+use Rattle.op_book.specs.Receipts.{HasEntry, Precedes, key_of}
 use Rattle.op_book.specs.Operations.{PlainEntry, PlainOp, PlainReceipt, ask, is_change, operations_of, plain_answer}
 use Rattle.op_book.specs.Runs.{turns_of}
 use Rattle.op_book.specs.declared.fault.BookFault.{BookFault}

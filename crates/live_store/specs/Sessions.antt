@@ -3,7 +3,7 @@ use Rattle.std.specs.Prelude.{ℕ, ◌≡◌, ◌≤◌, ◌*◌, ◌==◌, ◌+
 use Rattle.std.specs.List.{filter}
 use mathlib.Core.List.{IsPrefix}
 use Rattle.op_book.specs.Books.{entry_after}
-use Rattle.op_book.specs.Matching.{HasEntry, Precedes, key_of}
+use Rattle.op_book.specs.Receipts.{HasEntry, Precedes, key_of}
 use Rattle.op_book.specs.Operations.{PlainEntry, PlainOp, PlainReceipt, is_change, operations_of, placed, plain_answer}
 use Rattle.op_book.specs.Runs.{turns_of}
 

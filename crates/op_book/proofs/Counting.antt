@@ -1,12 +1,15 @@
--- Which batches count.
+-- Which batches count, and where counting begins.
 use Rattle.std.proofs.lemmas.Grind.{common_steps}
-use Rattle.std.proofs.Common.{◌≡◌, suc, Bool, true, false, cond, ◌||◌, List, [], ◌∷◌, ◌++◌, All, refl, ap, ◌∙◌}
-use Rattle.std.proofs.Common.{arith}
+use Rattle.std.proofs.Common.{ℕ, suc, ◌≡◌, ◌<◌, ◌+◌, Bool, true, false, cond, ◌||◌, List, [], ◌∷◌, ◌++◌, All, length}
+use Rattle.std.proofs.Common.{get_or, take, refl, ap, sym, ◌∙◌, arith}
+use Rattle.std.proofs.lemmas.List.{length-map, length-take-le, take_more}
 use Rattle.std.proofs.lemmas.List.Folds.{list_any-append, list_any_none}
 use Rattle.std.specs.List.{flat_map, list_any}
 use Rattle.flame_report.specs.declared.query.Query.{Query}
 use Rattle.profile_rows.specs.Values.{BatchState}
-use Rattle.op_book.specs.Operations.{PlainOp, reset, ask, addition_of, batches_after, is_reset}
+use Rattle.op_book.specs.Operations.{PlainEntry, PlainOp, add, reset, ask, addition_of, batches_after, counting_from}
+use Rattle.op_book.specs.Operations.{is_reset, operations_of}
+use Rattle.op_book.proofs.EntryLaws.{operations_of-push}
 
 pub batches_after-all : (operations : List PlainOp)
     → All (λ op. is_reset op ≡ false) operations → batches_after operations ≡ flat_map addition_of operations
@@ -18,7 +21,7 @@ batches_after-all (op ∷ operations) none =
     ∙ ap (λ l. addition_of op ++ l) rest
 
 -- whether a reset stands behind
-pub either : (b : Bool) → (b || true) ≡ true
+either : (b : Bool) → (b || true) ≡ true
 either true = refl
 either false = refl
 
@@ -37,3 +40,51 @@ pub batches_after-report : (before after : List PlainOp) (query : Query)
 batches_after-report [] after query = same_either_way (list_any is_reset after) (batches_after after)
 batches_after-report (op ∷ before) after query =
     grind (arith, common_steps, list_any-append, batches_after-report before after query)
+
+-- a test that is false changes nothing
+neither : (b : Bool) → (b || false) ≡ b
+neither true = refl
+neither false = refl
+
+-- counting begins behind a reset that is the last of operations
+pub counting_from-reset : (operations : List PlainOp)
+    → counting_from (operations ++ reset ∷ []) ≡ suc (length operations)
+counting_from-reset [] = refl
+counting_from-reset (op ∷ operations) =
+    grind (arith, common_steps, list_any-append, either, counting_from-reset operations)
+
+-- another operation changes nothing of it
+pub counting_from-other : (operations : List PlainOp) (op : PlainOp)
+    → is_reset op ≡ false → counting_from (operations ++ op ∷ []) ≡ counting_from operations
+counting_from-other [] op other = ap (λ b. cond b 1 0) other
+counting_from-other (first ∷ operations) op other =
+    grind (arith, common_steps, list_any-append, neither, counting_from-other operations op other)
+
+-- where counting begins after one entry more
+pub counting_from-more : (entries : List PlainEntry) (i behind : ℕ) (entry : PlainEntry)
+    → i < length entries → entry ≡ get_or entries i entry
+    → behind ≡ cond (is_reset entry.op) (i + 1) (counting_from (operations_of (take i entries)))
+    → behind ≡ counting_from (operations_of (take (i + 1) entries))
+counting_from-more entries i behind entry lt is told =
+    told ∙ by_case (is_reset entry.op) refl ∙ ap counting_from (sym (ap operations_of (take_more entries i entry lt
+    ∙ ap (λ e. take i entries ++ e ∷ []) (sym is)) ∙ operations_of-push (take i entries) entry))
+  where
+    so_far : List PlainOp
+    so_far = operations_of (take i entries)
+
+    size : length so_far ≡ i
+    size = length-map (take i entries) (λ (entry : PlainEntry). entry.op) ∙ length-take-le i entries (omega (arith, lt))
+
+    reset_is : (op : PlainOp) → is_reset op ≡ true → op ≡ reset
+    reset_is (add batch) is = absurd (cc)
+    reset_is reset is = refl
+    reset_is (ask query) is = absurd (cc)
+
+    by_case : (b : Bool)
+        → is_reset entry.op ≡ b → cond b (i + 1) (counting_from so_far) ≡ counting_from (so_far ++ entry.op ∷ [])
+    by_case true is =
+        let count = counting_from-reset so_far in
+        let whole : counting_from (so_far ++ entry.op ∷ []) ≡ counting_from (so_far ++ reset ∷ []) =
+        ap (λ op. counting_from (so_far ++ op ∷ [])) (reset_is entry.op is) in
+        omega (arith, count, whole, size)
+    by_case false other = sym (counting_from-other so_far entry.op other)

@@ -1,15 +1,4 @@
 pub mod Counting
-pub mod Deciding
 pub mod EntryLaws
-pub mod Following
 pub mod LedgerLaws
-pub mod Logging
-pub mod Numbering
-pub mod Ordered
-pub mod Passing
 pub mod Readiness
-pub mod Replaying
-pub mod Rising
-pub mod Sorting
-pub mod Totals
-pub mod Weighing

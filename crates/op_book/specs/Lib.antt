@@ -2,8 +2,6 @@ pub mod Books
 pub mod Changes
 pub mod Equality
 pub mod Ledgers
-pub mod Logs
-pub mod Matching
 pub mod Operations
-pub mod Replays
+pub mod Receipts
 pub mod Runs

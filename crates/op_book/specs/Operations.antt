@@ -1,6 +1,7 @@
 -- Operations, their plain answers, and what a journal has of them.
-use Rattle.std.specs.Prelude.{ℕ, ◌≡◌, ◌≢◌, ◌<◌, ◌≤◌, ◌++◌, Bool, true, false, if◌then◌else◌, List, [], ◌∷◌, count_by}
-use Rattle.std.specs.Prelude.{map}
+use Prim.Native.Nat.{suc}
+use Rattle.std.specs.Prelude.{ℕ, ◌≡◌, ◌≢◌, ◌<◌, ◌≤◌, ◌++◌, Bool, true, false, if◌then◌else◌, List, [], ◌∷◌}
+use Rattle.std.specs.Prelude.{cond, count_by, map}
 use Rattle.std.specs.List.{flat_map, list_any}
 use Rattle.std.specs.Arc.{arc_value}
 use Rattle.profile_rows.specs.Values.{BatchState, Row}
@@ -62,6 +63,11 @@ batches_after (op ∷ later) =
 -- the plain profile after these operations: the rows of the batches that count, one batch after the other
 abbrev pub profile_after : List PlainOp → List Row
 profile_after operations = flat_map (λ batch. batch.rows) (batches_after operations)
+
+-- the place behind the last reset of changes, 0 where there is none: the additions that count stand at it and behind it
+abbrev pub counting_from : List PlainOp → ℕ
+counting_from [] = 0
+counting_from (op ∷ later) = if list_any is_reset later then suc (counting_from later) else cond (is_reset op) 1 0
 
 -- the rows that an operation adds to the profile
 abbrev pub rows_added : PlainOp → List Row

@@ -2,8 +2,7 @@
 
 ghost use Rattle.std.specs.Prelude.{◌≡◌, ◌<◌, ◌≤◌, ◌^◌, length};
 ghost use Rattle.op_book.specs.Books.{IsReplay};
-ghost use Rattle.op_book.specs.Logs.{counting_from};
-ghost use Rattle.op_book.specs.Operations.{operations_of};
+ghost use Rattle.op_book.specs.Operations.{counting_from, operations_of};
 ghost use Rattle.op_book.specs.Runs.{AreChanges, AreOfSessions, AreOfWidth, AreTurnsInOrder, KeepLimit};
 
 use crate::book::Book;

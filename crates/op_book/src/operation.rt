@@ -29,7 +29,7 @@ pub enum Reply {
 
 impl Op {
     /// Whether it changes the profile: an addition or a reset.
-    pub(crate) fn is_change(&self) -> bool
+    pub fn is_change(&self) -> bool
         ensures { result ≡ is_change (plain_op self.now) }
     {
         !matches!(self, Op::Ask(_))
@@ -43,7 +43,7 @@ impl Op {
     }
 
     /// Another owner of what the operation holds.
-    pub(crate) fn share(&self) -> Result<Op, NoMemory>
+    pub fn share(&self) -> Result<Op, NoMemory>
         ensures { IfOk result (λ op. plain_op op ≡ plain_op self.now) }
     {
         match self {
@@ -90,7 +90,7 @@ impl Eq for Op {
 
 impl Reply {
     /// Another owner of what the reply holds.
-    pub(crate) fn share(&self) -> Result<Reply, NoMemory>
+    pub fn share(&self) -> Result<Reply, NoMemory>
         ensures { IfOk result (λ reply. plain_reply reply ≡ plain_reply self.now) }
     {
         match self {

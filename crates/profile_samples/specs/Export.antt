@@ -74,10 +74,10 @@ abbrev pub profile_with : List (List ℕ) → List (List ℕ) → List Row → L
 profile_with names strings rows units =
     draft_with names strings (map (exported_sample names) rows) (map (exported_type strings) units)
 
--- the profile of samples that number these names
-abbrev pub exported_draft : List (List ℕ) → List Sample → List KindAndUnit → Draft
-exported_draft names samples units =
-    draft_with names (strings_of units names) samples (map (exported_type (strings_of units names)) units)
+-- the profile of samples that number these names, without the samples
+abbrev pub exported_draft : List (List ℕ) → List KindAndUnit → Draft
+exported_draft names units =
+    draft_with names (strings_of units names) [] (map (exported_type (strings_of units names)) units)
 
 -- the profile of rows whose values are of these kinds and in these units; what it doesn't say is 0 or empty
 abbrev pub exported_profile_of : List Row → List KindAndUnit → Draft

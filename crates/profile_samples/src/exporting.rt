@@ -3,7 +3,7 @@
 ghost use Rattle.std.specs.Prelude.{◌≡◌, ◌<◌, ◌≤◌, ◌^◌, All, IfOk, OnOk, [], length, map, pos, reverse};
 ghost use Rattle.std.specs.List.{flat_map};
 ghost use Rattle.profile_rows.specs.Names.{IsName};
-ghost use Rattle.profile_samples.specs.Export.{exported_draft, exported_function, exported_location, exported_profile_of, exported_sample, exported_type, id_in, pairs_of, strings_of, unit_texts};
+ghost use Rattle.profile_samples.specs.Export.{draft_with, exported_draft, exported_function, exported_location, exported_profile_of, exported_sample, exported_type, id_in, pairs_of, profile_with, strings_of, unit_texts};
 ghost use Rattle.profile_samples.specs.Batches.{IsBatchOf};
 ghost use Rattle.profile_rows.specs.TextTables.{with_texts};
 ghost use Rattle.profile_samples.specs.declared.sampling.ValueChoice.TheVariants as choices;
@@ -202,24 +202,27 @@ fn copies_of(alloc: Global, texts: &TextTable) -> Result<Items<Text>, NoMemory>
     Ok(Items::new(copies))
 }
 
-/// The draft of samples whose values are of these kinds and in these units, and of the names that they number.
-pub(crate) fn exported_draft(
+/// The draft of these names and strings, with no samples yet.
+fn draft_with(
     alloc: Global,
-    hashing: Hashing,
-    samples: Samples,
     names: &TextTable,
+    strings: &TextTable,
     units: &[ValueUnit],
 ) -> Result<Draft, NoMemory>
-    ensures { IfOk result (λ draft. draft ≡ exported_draft names.now.texts samples (pairs_of units.now)) }
+    ensures { IfOk result (λ draft. draft ≡ draft_with names.now.texts strings.now.texts []
+        (map (exported_type strings.now.texts) (pairs_of units.now))) }
 {
-    let strings = strings_of(alloc, hashing, units, names)?;
+    let sample_types = types_of(alloc, strings, units)?;
+    let locations = locations_of(alloc, names)?;
+    let functions = functions_of(alloc, names, strings)?;
+    let strings = copies_of(alloc, strings)?;
     Ok(Draft {
-        sample_types: types_of(alloc, &strings, units)?,
-        samples,
+        sample_types,
+        samples: Samples::empty(alloc),
         mappings: Items::empty(alloc),
-        locations: locations_of(alloc, names)?,
-        functions: functions_of(alloc, names, &strings)?,
-        strings: copies_of(alloc, &strings)?,
+        locations,
+        functions,
+        strings,
         drop_frames: 0,
         keep_frames: 0,
         time_nanos: 0,
@@ -229,6 +232,42 @@ pub(crate) fn exported_draft(
         comments: Items::empty(alloc),
         default_sample_type: 0,
     })
+}
+
+/// The draft of these names for samples whose values are of these kinds and in these units, with no samples yet.
+pub(crate) fn exported_draft(
+    alloc: Global,
+    hashing: Hashing,
+    names: &TextTable,
+    units: &[ValueUnit],
+) -> Result<Draft, NoMemory>
+    ensures { IfOk result (λ draft. draft ≡ exported_draft names.now.texts (pairs_of units.now)) }
+{
+    let strings = strings_of(alloc, hashing, units, names)?;
+    draft_with(alloc, names, &strings, units)
+}
+
+/// The draft with these samples in place of its own.
+fn with_samples(draft: Draft, samples: Samples) -> Draft
+    ensures { result ≡ record draft { samples = samples } }
+{
+    Draft { samples, ..draft }
+}
+
+/// The draft of a batch whose names these are.
+fn draft_of(
+    alloc: Global,
+    hashing: Hashing,
+    names: &TextTable,
+    batch: &Batch,
+    units: &[ValueUnit],
+) -> Result<Draft, NoMemory>
+    ensures { IfOk result (λ draft. draft ≡ profile_with names.now.texts
+        (strings_of (pairs_of units.now) names.now.texts) batch.now.rows (pairs_of units.now)) }
+{
+    let samples = samples_of(alloc, names, batch)?;
+    let draft = exported_draft(alloc, hashing, names, units)?;
+    Ok(with_samples(draft, samples))
 }
 
 /// The batch as a profile of a sample type for each value, whose kinds and units these are, in order: a sample for each
@@ -246,8 +285,7 @@ pub fn profile_of(alloc: Global, batch: &Batch, units: &[ValueUnit]) -> Result<P
 {
     let hashing = Hashing::fixed();
     let names = names_of(alloc, hashing, batch.first().rows())?;
-    let samples = samples_of(alloc, &names, batch)?;
-    let draft = exported_draft(alloc, hashing, samples, &names, units)?;
+    let draft = draft_of(alloc, hashing, &names, batch, units)?;
     match check(alloc, draft) {
         Ok(profile) => Ok(profile),
         Err(_) => Err(NoMemory),

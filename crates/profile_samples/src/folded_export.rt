@@ -10,7 +10,7 @@ ghost use Rattle.folded_text.specs.FoldedText.{IsFoldedText, IsWorkFault};
 use crate::exporting::{ValueUnit, exported_draft};
 use basics::NoMemory;
 use folded_text::{FoldedFault, LineTaker, read_frames, take_lines};
-use pprof_profile::{Samples, WrittenSamples, encode_around};
+use pprof_profile::{WrittenSamples, encode_around};
 use profile_rows::{Hashing, NumberedRow};
 use std::alloc::Global;
 
@@ -67,8 +67,7 @@ fn profile_bytes(
         → IfOk result (λ bytes. IsProfile bytes.items (single_profile_of all kind.now unit.now)) }
 {
     let units = [ValueUnit { kind, unit }];
-    let samples = Samples::empty(alloc);
-    let draft = exported_draft(alloc, hashing, samples, rows.row.names(), &units)?;
+    let draft = exported_draft(alloc, hashing, rows.row.names(), &units)?;
     encode_around(alloc, &draft, &rows.samples)
 }
 

@@ -9,10 +9,11 @@ pub use Rattle.folded_text.specs.TextSums
 pub use Rattle.live_store.specs.Sessions
 pub use Rattle.live_store.specs.Stores
 pub use Rattle.live_store.specs.Workers
+pub use Rattle.log_audit.specs.Logs
+pub use Rattle.log_audit.specs.Matching
 pub use Rattle.op_book.specs.Books
-pub use Rattle.op_book.specs.Logs
-pub use Rattle.op_book.specs.Matching
 pub use Rattle.op_book.specs.Operations
+pub use Rattle.op_book.specs.Receipts
 pub use Rattle.op_book.specs.Runs
 pub use Rattle.pprof_profile.specs.Messages
 pub use Rattle.pprof_profile.specs.Profiles

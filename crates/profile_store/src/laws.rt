@@ -4,7 +4,8 @@ pub use flame_report::laws::{
     answers_are_by_the_aggregate, children_lie_inside, columns_keep_order, own_weight_lies_right,
     parents_are_shown, rectangles_come_in_order, siblings_meet,
 };
-pub use op_book::laws::{additions_count_since_the_last_reset, logs_add_up};
+pub use log_audit::laws::logs_add_up;
+pub use op_book::laws::additions_count_since_the_last_reset;
 pub use pprof_profile::laws::{
     canonical_bytes_spell_the_draft, gzip_spells_no_draft, one_profile, one_profile_or_fault,
 };

@@ -6,7 +6,7 @@ use crate::profiles::deep_sample;
 use flame_answers::{Outcome, Status, ToolFault};
 use live_report::LiveFault;
 use live_store::{BookFault, MakeFault, SessionFault};
-use op_book::AuditFault;
+use log_audit::AuditFault;
 use std::alloc::Global;
 use std::random::RandomSource;
 use std::sync::Wait;

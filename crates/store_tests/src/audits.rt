@@ -3,7 +3,8 @@
 
 use crate::helpers::{audit_text, batch_of, query_of, value_query, verdict_text};
 use flame_report::{Answer, Items, Kind, Query};
-use op_book::{Book, Journal, Op, Receipt, Reply, SessionLog, audit, audit_with};
+use log_audit::{audit, audit_with};
+use op_book::{Book, Journal, Op, Receipt, Reply, SessionLog};
 use stack_text::{Hashing, Width};
 use std::alloc::Global;
 use std::sync::Arc;

@@ -2,7 +2,8 @@
 
 use flame_report::{Answer, Columns, Kind, Query, Rank, flame_json, top_text};
 use live_store::{BookFault, Session, Store, StoreName};
-use op_book::{AuditFault, Journal, Run, SessionLog, audit};
+use log_audit::{AuditFault, Run, audit};
+use op_book::{Journal, SessionLog};
 use stack_text::{Batch, Name, Stack, Weights, Width, read_folded};
 use std::alloc::Global;
 use std::sync::atomic::{AtomicU64, Ordering};

@@ -3,7 +3,7 @@
 use crate::helpers::{batch_of, row_of};
 use live_report::{LiveFault, LiveOptions, NoProgress, Progress, live_text};
 use live_store::{BookFault, MakeFault, SessionFault, WorkersFault};
-use op_book::AuditFault;
+use log_audit::AuditFault;
 use stack_text::{Batch, Hashing};
 use std::alloc::Global;
 use std::sync::{Arc, Mutex, Wait};

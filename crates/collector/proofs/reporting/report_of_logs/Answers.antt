@@ -3,8 +3,8 @@ use Rattle.std.proofs.Common.{ℕ, ◌≡◌, ◌++◌, true, List, map, ap, sym
 use Rattle.std.specs.List.{list_all}
 use Rattle.profile_store.specs.Aggregate.{aggregate_of}
 use Rattle.profile_store.specs.Books.{IsReplay}
-use Rattle.profile_store.specs.Logs.{counting_from, rows_logged}
-use Rattle.profile_store.specs.Operations.{PlainOp, operations_of}
+use Rattle.profile_store.specs.Logs.{rows_logged}
+use Rattle.profile_store.specs.Operations.{PlainOp, counting_from, operations_of}
 use Rattle.profile_store.specs.State.{TreeState, weights_of}
 use Rattle.profile_store.specs.Values.{Row, rows_at}
 use Rattle.profile_store.specs.Workers.{ops_told}

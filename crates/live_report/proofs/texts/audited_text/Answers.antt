@@ -6,7 +6,7 @@ use Rattle.profile_rows.specs.Aggregate.{aggregate_of}
 use Rattle.profile_rows.specs.Values.{BatchState, rows_at}
 use Rattle.call_tree.specs.State.{TreeState, weights_of}
 use Rattle.op_book.specs.Books.{IsReplay, JournalState}
-use Rattle.op_book.specs.Matching.{LogsMatch, PlainStep, steps_in}
+use Rattle.log_audit.specs.Matching.{LogsMatch, PlainStep, steps_in}
 use Rattle.op_book.specs.Operations.{is_change, operations_of, profile_after}
 use Rattle.op_book.specs.declared.entry.SessionLog.{SessionLog}
 use Rattle.live_report.specs.Live.{count_line, operations_in, reports_of}

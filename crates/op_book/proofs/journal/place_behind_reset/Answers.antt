@@ -1,7 +1,7 @@
 -- One entry more.
 use Rattle.std.proofs.Common.{◌+◌, cond, ap, sym, ◌∙◌}
 use Rattle.op_book.specs.Operations.{PlainEntry, is_reset}
-use Rattle.op_book.proofs.Weighing.{counting_from-more}
+use Rattle.op_book.proofs.Counting.{counting_from-more}
 use Rattle.op_book.proofs.journal.place_behind_reset.Goals as goal
 use Rattle.op_book.proofs.journal.place_behind_reset.Goals.{then-is_reset, else-is_reset}
 

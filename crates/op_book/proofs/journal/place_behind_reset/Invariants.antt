@@ -1,6 +1,5 @@
 use Rattle.std.proofs.Common.{◌≡◌, take}
-use Rattle.op_book.specs.Logs.{counting_from}
-use Rattle.op_book.specs.Operations.{operations_of}
+use Rattle.op_book.specs.Operations.{counting_from, operations_of}
 use Rattle.op_book.proofs.journal.place_behind_reset.Given as goal
 
 -- where counting begins after the entries so far

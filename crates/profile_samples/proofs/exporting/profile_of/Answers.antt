@@ -15,7 +15,7 @@ returns-in-Ok c =
     let names : c.in_ok-names.names.texts ≡ names_of rows =
     rw (c.in_ok-names.ensures.texts, first) (ap (with_texts []) (stacks_first rows)) in
     let made : c.in-Ok.profile ≡ exported_profile_of rows units =
-    rw (c.in-Ok.ensures.valid.0, c.in_ok-draft.ensures, c.in_ok-samples.ensures, names) refl in
+    rw (c.in-Ok.ensures.valid.0, c.in_ok-draft.ensures, names) refl in
     let each = rw first at c.in_ok-names.ensures.each in
     let is = c.first.ensures.batch in
     let count = length-map c.args.units.now pair_of ∙ c.requires in

@@ -2,7 +2,6 @@
 use Rattle.std.proofs.Common.{ℕ, List, ◌≡◌, [], ◌∷◌, ap, ◌∙◌, sym, subst, map, IfOk}
 use Rattle.pprof_profile.specs.Canonical.{canonical_bytes_of}
 use Rattle.pprof_profile.specs.declared.messages.Draft.{Draft}
-use Rattle.pprof_profile.specs.declared.messages.Sample.{Sample}
 use Rattle.pprof_profile.specs.Valid.{IsValidDraft}
 use Rattle.profile_rows.specs.declared.weighted_stacks.WeightedStack.{WeightedStack}
 use Rattle.profile_rows.specs.Values.{singles}
@@ -13,11 +12,11 @@ use Rattle.profile_samples.proofs.SampleBatches.{widths-singles}
 use Rattle.profile_samples.proofs.folded_export.profile_bytes.Goals as goal
 
 -- with the samples of the rows the draft is their profile
-filled : (draft : Draft) (names : List (List ℕ)) (samples : List Sample) (kind unit : List ℕ)
-    (all : List WeightedStack) → draft ≡ exported_draft names samples ((kind, unit) ∷ [])
+filled : (draft : Draft) (names : List (List ℕ)) (kind unit : List ℕ)
+    (all : List WeightedStack) → draft ≡ exported_draft names ((kind, unit) ∷ [])
     → names ≡ names_of (singles all)
     → (record draft { samples = map (exported_sample names) (singles all) }) ≡ single_profile_of all kind unit
-filled draft names samples kind unit all is same =
+filled draft names kind unit all is same =
     let rows = singles all in
     let units = (kind, unit) ∷ [] in
     ap (λ (d : Draft). let with_samples : Draft = record d { samples = map (exported_sample names) rows } in
@@ -26,7 +25,7 @@ filled draft names samples kind unit all is same =
 
 pub returns-clause-profile : goal.returns-clause-profile
 returns-clause-profile c = λ all so_far.
-    let made = filled c.in_ok-draft.draft c.args.rows.now.row.texts c.empty-samples.result c.args.kind.now c.args.unit.now all
+    let made = filled c.in_ok-draft.draft c.args.rows.now.row.texts c.args.kind.now c.args.unit.now all
     (rw c.names.ensures at c.in_ok-draft.ensures) so_far.names_rows in
     rw (sym made) (c.encode_around.ensures.profile
     (map (exported_sample c.args.rows.now.row.texts) (singles all)) so_far.samples_rows so_far.fits_rows
@@ -36,7 +35,7 @@ returns-clause-profile c = λ all so_far.
 pub returns-clause-canonical : goal.returns-clause-canonical
 returns-clause-canonical c = λ all so_far.
     subst (λ d. IfOk c.encode_around.result (λ bytes. bytes.items ≡ canonical_bytes_of d))
-    (filled c.in_ok-draft.draft c.args.rows.now.row.texts c.empty-samples.result c.args.kind.now c.args.unit.now all
+    (filled c.in_ok-draft.draft c.args.rows.now.row.texts c.args.kind.now c.args.unit.now all
     (rw c.names.ensures at c.in_ok-draft.ensures) so_far.names_rows)
     (c.encode_around.ensures.canonical
     (map (exported_sample c.args.rows.now.row.texts) (singles all)) so_far.samples_rows)

@@ -1,0 +1,11 @@
+pub mod Deciding
+pub mod Following
+pub mod Logging
+pub mod Numbering
+pub mod Ordered
+pub mod Passing
+pub mod Replaying
+pub mod Rising
+pub mod Sorting
+pub mod Totals
+pub mod Weighing

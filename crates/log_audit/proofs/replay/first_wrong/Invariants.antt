@@ -1,0 +1,7 @@
+use Rattle.std.proofs.Common.{◌≡◌}
+use Rattle.log_audit.specs.Replays.{IsFollowed, IsLowestOf}
+use Rattle.log_audit.proofs.replay.first_wrong.Given as goal
+
+abbrev pub invariant-loop-at : goal.invariant-loop-at
+invariant-loop-at l = (l.followed.grower.width ≡ l.fn.width) × IsFollowed l.ordered l.at l.followed
+    × IsLowestOf l.ordered l.at l.lowest

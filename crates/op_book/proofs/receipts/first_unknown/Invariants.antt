@@ -1,6 +1,0 @@
-use Rattle.std.proofs.Common.{All, take}
-use Rattle.op_book.specs.Matching.{IsKnown}
-use Rattle.op_book.proofs.receipts.first_unknown.Given as goal
-
-abbrev pub invariant-loop-one : goal.invariant-loop-one
-invariant-loop-one l = All (IsKnown l.journal) (take l.one-index l.all)

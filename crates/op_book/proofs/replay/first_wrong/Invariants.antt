@@ -1,7 +1,0 @@
-use Rattle.std.proofs.Common.{◌≡◌}
-use Rattle.op_book.specs.Replays.{IsFollowed, IsLowestOf}
-use Rattle.op_book.proofs.replay.first_wrong.Given as goal
-
-abbrev pub invariant-loop-at : goal.invariant-loop-at
-invariant-loop-at l = (l.followed.grower.width ≡ l.fn.width) × IsFollowed l.ordered l.at l.followed
-    × IsLowestOf l.ordered l.at l.lowest

@@ -1,6 +1,0 @@
-use Rattle.std.proofs.Common.{◌≡◌, take}
-use Rattle.op_book.specs.Replays.{IsTreeOf, ops_in}
-use Rattle.op_book.proofs.replay_state.ReplayState.grown_to.Given as goal
-
-abbrev pub invariant-loop-place : goal.invariant-loop-place
-invariant-loop-place l = (l.grower.width ≡ l.fn.self.grower.width) × IsTreeOf (ops_in (take l.place l.ordered)) l.grower

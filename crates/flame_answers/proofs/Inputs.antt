@@ -23,9 +23,9 @@ use Rattle.flame_report.specs.declared.query.Query.{Query}
 use Rattle.flame_words.specs.declared.request.Format.{Format}
 use Rattle.flame_words.specs.declared.request.Format.TheVariants.{Folded, Pprof}
 use Rattle.flame_words.specs.declared.request.Source.{Source}
-use Rattle.flame_answers.specs.declared.outcomes.InputFault.TheVariants as refused
-use Rattle.flame_answers.specs.declared.outcomes.ToolFault.{ToolFault}
-use Rattle.flame_answers.specs.declared.outcomes.ToolFault.TheVariants as tool
+use Rattle.flame_answers.specs.declared.faults.InputFault.TheVariants as refused
+use Rattle.flame_answers.specs.declared.faults.AnswerFault.{AnswerFault}
+use Rattle.flame_answers.specs.declared.faults.AnswerFault.TheVariants as answer
 use Rattle.flame_answers.specs.Answers.{IsAnswerOfAll, IsReport, answer_text}
 use Rattle.flame_answers.specs.Inputs.{Got, IsChoice, IsChoiceOfAll, IsChosen, IsFirstOfSamples, IsIn, IsRefusedIn}
 use Rattle.flame_answers.specs.Inputs.{IsSampled, IsSpelled, IsToldAs, Wanted}
@@ -45,7 +45,7 @@ IsReport-of_all source query format kind input text same asked keeps (all, spell
 }
 
 pub answered-of_all : {T : Type 0} (bytes : T → List ℕ) (source : Source) (query : Query) (format : Format)
-    (kind : Kind) (input : List ℕ) (outcome : Result T ToolFault) → source.format ≡ format → query.kind ≡ kind
+    (kind : Kind) (input : List ℕ) (outcome : Result T AnswerFault) → source.format ≡ format → query.kind ≡ kind
     → ((rows : List WeightedStack) → kept_by query rows ≡ rows)
     → MatchResult outcome (λ text. IsAnswerOfAll format source.value input kind (bytes text))
     (λ fault. IsRefusedIn format (for_report source.value) input fault)
@@ -58,34 +58,34 @@ answered-of_all bytes source query format kind input (Err fault) same asked keep
 
 -- ---- folded text
 
-pub text_refused : (wanted : Wanted) (input : List ℕ) (fault : FoldedFault) (told : ToolFault)
+pub text_refused : (wanted : Wanted) (input : List ℕ) (fault : FoldedFault) (told : AnswerFault)
     → IsFirstFault input fault → ((got : Got wanted) → IsSpelled wanted input got → fault ≡ folded.NoMemory)
-    → IsToldAs folded.NoMemory (λ f. tool.Input (refused.Folded f)) fault told → IsRefusedIn Folded wanted input told
+    → IsToldAs folded.NoMemory (λ f. answer.Input (refused.Folded f)) fault told → IsRefusedIn Folded wanted input told
 text_refused wanted input fault told first none (inl memory) =
-    subst (λ (t : ToolFault). IsRefusedIn Folded wanted input t) (sym memory.1) tt
+    subst (λ (t : AnswerFault). IsRefusedIn Folded wanted input t) (sym memory.1) tt
 text_refused wanted input fault told first none (inr other) =
-    subst (λ (t : ToolFault). IsRefusedIn Folded wanted input t) (sym other.1)
+    subst (λ (t : AnswerFault). IsRefusedIn Folded wanted input t) (sym other.1)
     ((first, other.0), λ got this. other.0 (none got this))
 
 -- what work on a text's rows ends without a result by
-pub work_refused : (wanted : Wanted) (input : List ℕ) (fault : FoldedFault) (told : ToolFault)
+pub work_refused : (wanted : Wanted) (input : List ℕ) (fault : FoldedFault) (told : AnswerFault)
     → IsWorkFault input fault → ((got : Got wanted) → IsSpelled wanted input got → fault ≡ folded.NoMemory)
-    → IsToldAs folded.NoMemory (λ f. tool.Input (refused.Folded f)) fault told → IsRefusedIn Folded wanted input told
+    → IsToldAs folded.NoMemory (λ f. answer.Input (refused.Folded f)) fault told → IsRefusedIn Folded wanted input told
 work_refused wanted input fault told (inl first) none as_told = text_refused wanted input fault told first none as_told
 work_refused wanted input fault told (inr late) none (inl memory) =
-    subst (λ (t : ToolFault). IsRefusedIn Folded wanted input t) (sym memory.1) tt
+    subst (λ (t : AnswerFault). IsRefusedIn Folded wanted input t) (sym memory.1) tt
 work_refused wanted input fault told (inr late) none (inr other) = absurd (other.0 late.0)
 
 -- ---- profiles
 
-pub bytes_refused : (wanted : Wanted) (input : List ℕ) (fault : ProfileFault) (told : ToolFault)
+pub bytes_refused : (wanted : Wanted) (input : List ℕ) (fault : ProfileFault) (told : AnswerFault)
     → (fault ≢ profile.NoMemory → IsProfileFault input fault)
     → ((draft : Draft) → IsProfile input draft → fault ≡ profile.NoMemory)
-    → IsToldAs profile.NoMemory (λ f. tool.Input (refused.Profile f)) fault told → IsRefusedIn Pprof wanted input told
+    → IsToldAs profile.NoMemory (λ f. answer.Input (refused.Profile f)) fault told → IsRefusedIn Pprof wanted input told
 bytes_refused wanted input fault told first drafts (inl memory) =
-    subst (λ (t : ToolFault). IsRefusedIn Pprof wanted input t) (sym memory.1) tt
+    subst (λ (t : AnswerFault). IsRefusedIn Pprof wanted input t) (sym memory.1) tt
 bytes_refused wanted input fault told first drafts (inr other) =
-    subst (λ (t : ToolFault). IsRefusedIn Pprof wanted input t) (sym other.1)
+    subst (λ (t : AnswerFault). IsRefusedIn Pprof wanted input t) (sym other.1)
     ((first other.0, other.0), λ got this. other.0 (drafts this.draft this.profile))
 
 -- ---- samples
@@ -139,14 +139,14 @@ same_sampled (for_store all value) draft one other got a b =
     same_batch draft one other got (same_types (for_store all value) draft one other a b)
 
 pub samples_refused : (wanted : Wanted) (input : List ℕ) (draft : Draft) (choice : ValueChoice) (fault : BatchFault)
-    (told : ToolFault) → IsProfile input draft → ((other : Draft) → IsProfile input other → draft ≡ other)
+    (told : AnswerFault) → IsProfile input draft → ((other : Draft) → IsProfile input other → draft ≡ other)
     → IsChosen wanted choice → IsFirstOfSamples wanted draft choice fault
     → ((got : Got wanted) → IsSampled wanted draft choice got → fault ≡ batch.NoMemory)
-    → IsToldAs batch.NoMemory (λ f. tool.Input (refused.Batch f)) fault told → IsRefusedIn Pprof wanted input told
+    → IsToldAs batch.NoMemory (λ f. answer.Input (refused.Batch f)) fault told → IsRefusedIn Pprof wanted input told
 samples_refused wanted input draft choice fault told is only chosen first none (inl memory) =
-    subst (λ (t : ToolFault). IsRefusedIn Pprof wanted input t) (sym memory.1) tt
+    subst (λ (t : AnswerFault). IsRefusedIn Pprof wanted input t) (sym memory.1) tt
 samples_refused wanted input draft choice fault told is only chosen first none (inr other) =
-    subst (λ (t : ToolFault). IsRefusedIn Pprof wanted input t) (sym other.1) (
+    subst (λ (t : AnswerFault). IsRefusedIn Pprof wanted input t) (sym other.1) (
       (record { draft = draft; profile = is; choice = choice; chosen = chosen; first = first }, other.0),
       λ got this. other.0 (none got (same_sampled wanted draft this.choice choice got this.chosen chosen
           (subst (λ d. IsSampled wanted d this.choice got) (sym (only this.draft this.profile)) this.sampled))),

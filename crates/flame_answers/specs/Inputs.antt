@@ -14,14 +14,12 @@ use Rattle.profile_samples.specs.declared.sampling.BatchFault.TheVariants as bat
 use Rattle.profile_samples.specs.declared.sampling.ValueChoice.{ValueChoice}
 use Rattle.profile_samples.specs.declared.sampling.ValueChoice.TheVariants.{All, Default, Named}
 use Rattle.profile_samples.specs.Batches.{AreStacksOf, IsBatchOf, IsFirstBatchFault, IsFirstStacksFault}
-use Rattle.live_report.specs.declared.fault.LiveFault.{LiveFault}
-use Rattle.live_report.specs.declared.fault.LiveFault.TheVariants as live
 use Rattle.flame_words.specs.declared.request.Format.{Format}
 use Rattle.flame_words.specs.declared.request.Format.TheVariants.{Folded, Pprof}
-use Rattle.flame_answers.specs.declared.outcomes.InputFault.{InputFault}
-use Rattle.flame_answers.specs.declared.outcomes.InputFault.TheVariants as refused
-use Rattle.flame_answers.specs.declared.outcomes.ToolFault.{ToolFault}
-use Rattle.flame_answers.specs.declared.outcomes.ToolFault.TheVariants as tool
+use Rattle.flame_answers.specs.declared.faults.InputFault.{InputFault}
+use Rattle.flame_answers.specs.declared.faults.InputFault.TheVariants as refused
+use Rattle.flame_answers.specs.declared.faults.AnswerFault.{AnswerFault}
+use Rattle.flame_answers.specs.declared.faults.AnswerFault.TheVariants as answer
 
 -- ---- what is wanted of an input
 
@@ -108,39 +106,24 @@ HasSome format wanted input = (got : Got wanted) × IsIn format wanted input got
 abbrev pub HasNone : Format → Wanted → List ℕ → Type 0
 HasNone format wanted input = (got : Got wanted) → IsIn format wanted input got → ⊥
 
--- only `live` has a store
-abbrev pub IsStored : Wanted → Type 0
-IsStored (for_report value) = ⊥
-IsStored (for_store all value) = ⊤
-
--- What keeps an input from an answer: its first fault, where it hasn't what is wanted; what happened to the store of an
--- input that has it; or want of memory, which claims nothing of the input.
-abbrev pub IsRefusedIn : Format → Wanted → List ℕ → ToolFault → Type 0
-IsRefusedIn format wanted input (tool.Input fault) =
+-- What keeps an input from an answer: its first fault, where it hasn't what is wanted; or want of memory, which claims
+-- nothing of the input.
+abbrev pub IsRefusedIn : Format → Wanted → List ℕ → AnswerFault → Type 0
+IsRefusedIn format wanted input (answer.Input fault) =
     IsFaultIn format wanted input fault × HasNone format wanted input
-IsRefusedIn format wanted input (tool.Live fault) =
-    IsStored wanted × HasSome format wanted input × (fault ≢ live.NoMemory)
-IsRefusedIn format wanted input tool.Name = ⊥
-IsRefusedIn format wanted input tool.Sessions = ⊥
-IsRefusedIn format wanted input tool.Read = ⊥
-IsRefusedIn format wanted input tool.Write = ⊥
-IsRefusedIn format wanted input tool.TooLong = ⊥
-IsRefusedIn format wanted input tool.NoMemory = ⊤
+IsRefusedIn format wanted input answer.NoMemory = ⊤
 
--- A fault of a part of the program, told as one of the program: want of memory is one fault, wherever it comes. Then
--- those of each part.
-abbrev pub IsToldAs : {F : Type 0} → F → (F → ToolFault) → F → ToolFault → Type 0
+-- A fault of what was read, told as one of the answer: want of memory is one fault, wherever it comes. Then those of
+-- each part.
+abbrev pub IsToldAs : {F : Type 0} → F → (F → AnswerFault) → F → AnswerFault → Type 0
 IsToldAs no_memory tell fault told =
-    ((fault ≡ no_memory) × (told ≡ tool.NoMemory)) ⊎ ((fault ≢ no_memory) × (told ≡ tell fault))
+    ((fault ≡ no_memory) × (told ≡ answer.NoMemory)) ⊎ ((fault ≢ no_memory) × (told ≡ tell fault))
 
-abbrev pub IsToldOfText : FoldedFault → ToolFault → Type 0
-IsToldOfText = IsToldAs folded.NoMemory (λ fault. tool.Input (refused.Folded fault))
+abbrev pub IsToldOfText : FoldedFault → AnswerFault → Type 0
+IsToldOfText = IsToldAs folded.NoMemory (λ fault. answer.Input (refused.Folded fault))
 
-abbrev pub IsToldOfProfile : ProfileFault → ToolFault → Type 0
-IsToldOfProfile = IsToldAs profile.NoMemory (λ fault. tool.Input (refused.Profile fault))
+abbrev pub IsToldOfProfile : ProfileFault → AnswerFault → Type 0
+IsToldOfProfile = IsToldAs profile.NoMemory (λ fault. answer.Input (refused.Profile fault))
 
-abbrev pub IsToldOfSamples : BatchFault → ToolFault → Type 0
-IsToldOfSamples = IsToldAs batch.NoMemory (λ fault. tool.Input (refused.Batch fault))
-
-abbrev pub IsToldOfStore : LiveFault → ToolFault → Type 0
-IsToldOfStore = IsToldAs live.NoMemory tool.Live
+abbrev pub IsToldOfSamples : BatchFault → AnswerFault → Type 0
+IsToldOfSamples = IsToldAs batch.NoMemory (λ fault. answer.Input (refused.Batch fault))

@@ -1,4 +1,3 @@
 pub mod Answers
 pub mod Inputs
-pub mod Outcomes
 pub mod Parts

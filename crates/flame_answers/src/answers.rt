@@ -5,57 +5,24 @@ ghost use Rattle.profile_rows.specs.declared.weighted_stacks.WeightedStack.{Weig
 ghost use Rattle.profile_rows.specs.TopList.{AreTotalsOf};
 ghost use Rattle.flame_report.specs.Answers.{answer_by};
 ghost use Rattle.flame_report.specs.declared.query.Kind.TheVariants.{Top};
-ghost use Rattle.flame_answers.specs.Answers.{IsAnswer, IsAnswerOfAll, IsExport, IsInputFault, IsReport, answer_text};
+ghost use Rattle.flame_answers.specs.Answers.{IsAnswerOfAll, IsExport, IsReport, answer_text};
 ghost use Rattle.flame_answers.specs.Inputs.{IsChoice, IsRefusedIn};
 ghost use Rattle.flame_answers.specs.Inputs.Wanted.{for_report};
 ghost use Rattle.flame_words.specs.declared.request.Format.TheVariants.{Folded, Pprof};
 
-use crate::live::live_report;
-use crate::outcomes::ToolFault;
+use crate::faults::AnswerFault;
 use flame_report::laws::answers_are_by_the_aggregate;
 use flame_report::{
     Answer, Kind, Query, Rank, flame_json, report_in_order, report_of_stacks, top_list, top_text,
 };
-use flame_words::{Format, Request, Source};
+use flame_words::{Format, Source};
 use folded_text::{folded_totals, read_ordered};
-use live_report::Progress;
 use pprof_profile::{Text, decode};
 use profile_rows::{FrameTotals, Hashing, NoMemory};
 use profile_samples::{ValueChoice, export_folded, merge_samples, sample_totals};
 use std::alloc::Global;
-use std::sync::Wait;
-use std::thread::Threads;
 
-/// The whole text that is written for an input; `hashing` says how its names and lists of locations are hashed. For
-/// `Live`, `progress` hears of each row that is in; threads and a lock are for `Live` alone, and the other requests are
-/// answered by [`report_on`] and [`export`].
-///
-/// # Errors
-///
-/// The first fault of an input that has no rows for the request; for `Live` also what kept the store's sessions from
-/// their work, or the audit from a run; `NoMemory`.
-pub fn answer<P: Progress, R: Threads + Wait + Sync>(
-    rt: &R,
-    alloc: Global,
-    hashing: Hashing,
-    progress: &P,
-    request: &Request,
-    input: &[u8],
-) -> Result<Vec<u8>, ToolFault>
-    ensures { MatchResult result
-        (λ text. IsAnswer request.now input.now text.items)
-        (λ fault. IsInputFault request.now input.now fault) }
-{
-    match request {
-        Request::Report { source, query } => report_on(alloc, hashing, source, query, input),
-        Request::Export { kind, unit } => export(alloc, hashing, kind, unit, input),
-        Request::Live { source, options } => {
-            live_report(rt, alloc, hashing, progress, source, *options, input)
-        }
-    }
-}
-
-/// The text of a report on an input, as [`answer`] gives it, and without a way to wait.
+/// The text of a report on an input. `hashing` says how its names and lists of locations are hashed.
 ///
 /// # Errors
 ///
@@ -66,7 +33,7 @@ pub fn report_on(
     source: &Source,
     query: &Query,
     input: &[u8],
-) -> Result<Vec<u8>, ToolFault>
+) -> Result<Vec<u8>, AnswerFault>
     ensures { MatchResult result
         (λ text. IsReport source.now.format source.now.value query.now input.now text.items)
         (λ fault. IsRefusedIn source.now.format (for_report source.now.value) input.now fault) }
@@ -90,7 +57,7 @@ fn folded_top(
     rank: Rank,
     count: u32,
     input: &[u8],
-) -> Result<Vec<u8>, ToolFault>
+) -> Result<Vec<u8>, AnswerFault>
     ensures { (value : Option (List ℕ)) → MatchResult result
         (λ text. IsAnswerOfAll Folded value input.now (Top rank count) text.items)
         (λ fault. IsRefusedIn Folded (for_report value) input.now fault) }
@@ -107,7 +74,7 @@ fn profile_top(
     rank: Rank,
     count: u32,
     input: &[u8],
-) -> Result<Vec<u8>, ToolFault>
+) -> Result<Vec<u8>, AnswerFault>
     ensures { MatchResult result
         (λ text. IsAnswerOfAll Pprof value.now input.now (Top rank count) text.items)
         (λ fault. IsRefusedIn Pprof (for_report value.now) input.now fault) }
@@ -132,7 +99,7 @@ fn totals_text(
     top_text(alloc, &top)
 }
 
-/// The bytes of the profile that folded text is exported as, as [`answer`] gives them, and without a way to wait.
+/// The bytes of the profile that folded text is exported as.
 ///
 /// # Errors
 ///
@@ -143,7 +110,7 @@ pub fn export(
     kind: &Text,
     unit: &Text,
     input: &[u8],
-) -> Result<Vec<u8>, ToolFault>
+) -> Result<Vec<u8>, AnswerFault>
     ensures { MatchResult result
         (λ bytes. IsExport kind.now unit.now input.now bytes.items)
         (λ fault. IsRefusedIn Folded (for_report None) input.now fault) }
@@ -158,7 +125,7 @@ fn folded_answer(
     hashing: Hashing,
     query: &Query,
     input: &[u8],
-) -> Result<Vec<u8>, ToolFault>
+) -> Result<Vec<u8>, AnswerFault>
     ensures { (value : Option (List ℕ)) → MatchResult result
         (λ text. IsReport Folded value query.now input.now text.items)
         (λ fault. IsRefusedIn Folded (for_report value) input.now fault) }
@@ -176,7 +143,7 @@ fn profile_answer(
     value: &Option<Text>,
     query: &Query,
     input: &[u8],
-) -> Result<Vec<u8>, ToolFault>
+) -> Result<Vec<u8>, AnswerFault>
     ensures { MatchResult result
         (λ text. IsReport Pprof value.now query.now input.now text.items)
         (λ fault. IsRefusedIn Pprof (for_report value.now) input.now fault) }

@@ -1,14 +1,14 @@
-//! What the program does once its words are read: a request, an input within a limit, the text that answers it, and how
-//! a run ends.
+//! The text that answers a report on an input, and the bytes of an export: what the program gives without a store. And a
+//! whole input within a limit, and a whole text.
 #![tactic(auto)]
 
 mod answers;
-mod live;
-mod outcomes;
+mod batches;
+mod faults;
 mod streams;
 
-pub use answers::{answer, export, report_on};
-pub use flame_words::{Format, Request, Source};
-pub use live_report::{NoProgress, Progress};
-pub use outcomes::{InputFault, Outcome, Status, ToolFault};
+pub use answers::{export, report_on};
+pub use batches::batch_in;
+pub use faults::{AnswerFault, InputFault};
+pub use flame_words::{Format, Source};
 pub use streams::{MAX_INPUT, ReadFault, WriteFault, read_input, write_text};

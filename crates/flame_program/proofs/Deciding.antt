@@ -4,16 +4,16 @@ use Rattle.std.proofs.Common.{◌∙◌, subst, arith, length-append}
 use Rattle.std.specs.Prelude.{◌↔◌, Bool, true, false, cond, is_some}
 use Rattle.std.proofs.lemmas.Bool.{false≢true}
 use Rattle.std.proofs.lemmas.List.{append-nil}
-use Rattle.flame_answers.specs.Answers.{IsAnswer, IsInputFault, IsReadable}
+use Rattle.flame_program.specs.Requests.{IsAnswer, IsInputFault, IsReadable}
 use Rattle.flame_answers.specs.Parts.{IsWholeInput, TakesExactly}
-use Rattle.flame_answers.specs.Outcomes.{code_of, live_code_of}
+use Rattle.flame_program.specs.Outcomes.{code_of, live_code_of}
 use Rattle.flame_program.specs.Program.{EndsBy, IsAccepted, IsUntroubled}
 use Rattle.flame_words.specs.Words.{Reading, reading_of, request_in, request_of}
 use Rattle.flame_words.specs.Words.Reading.{crowded, misnamed, refused}
-use Rattle.flame_answers.specs.declared.outcomes.Outcome.{Outcome}
-use Rattle.flame_answers.specs.declared.outcomes.Outcome.TheVariants.{Done, Words, Fault}
-use Rattle.flame_answers.specs.declared.outcomes.ToolFault.TheVariants.{Name, Sessions, Read, Write, TooLong, NoMemory}
-use Rattle.flame_answers.specs.declared.outcomes.ToolFault.TheVariants as tool
+use Rattle.flame_program.specs.declared.outcomes.Outcome.{Outcome}
+use Rattle.flame_program.specs.declared.outcomes.Outcome.TheVariants.{Done, Words, Fault}
+use Rattle.flame_program.specs.declared.outcomes.ToolFault.TheVariants.{Name, Sessions, Read, Write, TooLong, NoMemory}
+use Rattle.flame_program.specs.declared.outcomes.ToolFault.TheVariants as tool
 use Rattle.flame_words.specs.declared.request.Request.{Request}
 use Rattle.flame_words.specs.declared.request.Request.TheVariants.{Report, Export, Live}
 use Rattle.live_report.specs.declared.fault.LiveFault.{LiveFault}

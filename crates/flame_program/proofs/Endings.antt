@@ -4,13 +4,13 @@ use Rattle.std.proofs.KnownBytes.{Keeps-refl}
 use Rattle.std.specs.Io.KnownBytes.{Keeps}
 use Rattle.flame_answers.specs.Parts.{IsWholeInput, LeavesAfterFault, TakesAtMost}
 use Rattle.flame_program.specs.Program.{EndsBy, EndsByFault, IsAsked, read_fault_of}
-use Rattle.flame_answers.specs.declared.outcomes.Outcome.{Outcome}
-use Rattle.flame_answers.specs.declared.outcomes.Outcome.TheVariants.{Done, Words, Fault}
-use Rattle.flame_answers.specs.declared.outcomes.ToolFault.TheVariants.{Name, Sessions, Read, Write, TooLong, NoMemory}
-use Rattle.flame_answers.specs.declared.outcomes.ToolFault.{ToolFault}
-use Rattle.flame_answers.specs.declared.outcomes.ToolFault.TheVariants as tool
+use Rattle.flame_program.specs.declared.outcomes.Outcome.{Outcome}
+use Rattle.flame_program.specs.declared.outcomes.Outcome.TheVariants.{Done, Words, Fault}
+use Rattle.flame_program.specs.declared.outcomes.ToolFault.TheVariants.{Name, Sessions, Read, Write, TooLong, NoMemory}
+use Rattle.flame_program.specs.declared.outcomes.ToolFault.{ToolFault}
+use Rattle.flame_program.specs.declared.outcomes.ToolFault.TheVariants as tool
 use Rattle.flame_words.specs.declared.request.Request.{Request}
-use Rattle.flame_answers.specs.Answers.{IsInputFault}
+use Rattle.flame_program.specs.Requests.{IsInputFault}
 use Rattle.flame_words.specs.Words.{request_of}
 use Rattle.flame_answers.specs.declared.streams.ReadFault.{ReadFault}
 use Rattle.flame_answers.specs.declared.streams.ReadFault.TheVariants as reading

@@ -1,2 +1,4 @@
+pub mod Outcomes
 pub mod Process
 pub mod Program
+pub mod Requests

@@ -4,10 +4,10 @@ use Rattle.std.specs.Io.KnownBytes.{Appends, Keeps}
 use Rattle.std.specs.declared.io.Error.{Error}
 use Rattle.std.specs.declared.io.ErrorKind.{ErrorKind}
 use Rattle.std.specs.declared.io.ErrorKind.TheVariants.{OutOfMemory}
-use Rattle.flame_answers.specs.Outcomes.{code_of, said_of}
-use Rattle.flame_answers.specs.declared.outcomes.Outcome.{Outcome}
-use Rattle.flame_answers.specs.declared.outcomes.Outcome.TheVariants.{Done, Words, Fault}
-use Rattle.flame_answers.specs.declared.outcomes.ToolFault.TheVariants.{NoMemory}
+use Rattle.flame_program.specs.Outcomes.{code_of, said_of}
+use Rattle.flame_program.specs.declared.outcomes.Outcome.{Outcome}
+use Rattle.flame_program.specs.declared.outcomes.Outcome.TheVariants.{Done, Words, Fault}
+use Rattle.flame_program.specs.declared.outcomes.ToolFault.TheVariants.{NoMemory}
 
 -- The cause of an end where the words couldn't be had, by the kind of that error: some word isn't text, of which a text
 -- for the user says so, or memory ran out.

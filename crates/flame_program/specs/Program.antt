@@ -1,15 +1,15 @@
 -- How a run of the program ends, over what its reader had left and what its writer holds, before and after.
 use Rattle.std.specs.Prelude.{ℕ, ⊤, ◌≡◌, ◌≢◌, ◌+◌, ◌≤◌, ◌↔◌, List, length, Option, Some, IfSome}
 use Rattle.std.specs.Io.KnownBytes.{Appends, Keeps}
-use Rattle.flame_answers.specs.Answers.{IsAnswer, IsInputFault, IsReadable}
+use Rattle.flame_program.specs.Requests.{IsAnswer, IsInputFault, IsReadable}
 use Rattle.flame_answers.specs.Parts.{AppendsBeginning, IsWholeInput, TakesAtMost, TakesExactly}
-use Rattle.flame_answers.specs.Outcomes.{code_of}
+use Rattle.flame_program.specs.Outcomes.{code_of}
 use Rattle.flame_words.specs.Words.{IsCrowded, IsMisnamed, IsRefused, request_of}
-use Rattle.flame_answers.specs.declared.outcomes.Outcome.{Outcome}
-use Rattle.flame_answers.specs.declared.outcomes.Outcome.TheVariants.{Done, Words, Fault}
-use Rattle.flame_answers.specs.declared.outcomes.ToolFault.{ToolFault}
-use Rattle.flame_answers.specs.declared.outcomes.ToolFault.TheVariants as tool
-use Rattle.flame_answers.specs.declared.outcomes.ToolFault.TheVariants.{Name, Sessions, Read, Write, TooLong, NoMemory}
+use Rattle.flame_program.specs.declared.outcomes.Outcome.{Outcome}
+use Rattle.flame_program.specs.declared.outcomes.Outcome.TheVariants.{Done, Words, Fault}
+use Rattle.flame_program.specs.declared.outcomes.ToolFault.{ToolFault}
+use Rattle.flame_program.specs.declared.outcomes.ToolFault.TheVariants as tool
+use Rattle.flame_program.specs.declared.outcomes.ToolFault.TheVariants.{Name, Sessions, Read, Write, TooLong, NoMemory}
 use Rattle.flame_answers.specs.declared.streams.ReadFault.{ReadFault}
 use Rattle.flame_answers.specs.declared.streams.ReadFault.TheVariants as reading
 use Rattle.flame_words.specs.declared.words.WordsFault.{WordsFault}

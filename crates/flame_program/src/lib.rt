@@ -2,11 +2,16 @@
 #![tactic(auto)]
 
 mod host;
+mod outcomes;
 mod process;
 mod program;
+mod requests;
 mod shown_rows;
 
 pub use flame_words::{WordsFault, read_words};
 pub use host::run_on_host;
+pub use live_report::{NoProgress, Progress};
+pub use outcomes::{Outcome, Status, ToolFault};
 pub use process::{End, run_process};
 pub use program::run;
+pub use requests::answer;

@@ -4,13 +4,15 @@ ghost use Rattle.std.specs.Prelude.{◌≡◌, IfOk, IfErr, map, string_bytes};
 ghost use Rattle.std.specs.IoError.{error_kind};
 ghost use Rattle.std.specs.Process.{exit_status};
 ghost use Rattle.std.specs.Vec.Iter.{into_iter_items};
-ghost use Rattle.flame_answers.specs.Outcomes.{code_of};
+ghost use Rattle.flame_program.specs.Outcomes.{code_of};
 ghost use Rattle.flame_program.specs.Process.{IsSaid, IsUnreadCause, IsUnreadEnd};
 ghost use Rattle.flame_program.specs.Program.{InputDecides, IsDone, IsEnd};
 ghost use Rattle.flame_words.specs.Words.{texts_of};
 
+use crate::outcomes::{Outcome, Status, ToolFault};
 use crate::program::run;
-use flame_answers::{MAX_INPUT, Outcome, Progress, Status, ToolFault};
+use flame_answers::MAX_INPUT;
+use live_report::Progress;
 use std::alloc::{AllocError, Global};
 use std::env::Args;
 use std::io;

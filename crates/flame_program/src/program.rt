@@ -6,10 +6,11 @@ ghost use Rattle.flame_answers.specs.Parts.{TakesAtMost};
 ghost use Rattle.flame_program.specs.Program.{EndsBy, InputDecides, IsCut, IsDone, IsEnd, read_fault_of, unasked_outcome_of};
 ghost use Rattle.flame_words.specs.Words.{IsCrowded, IsMisnamed, IsRefused, request_of, texts_of};
 
-use flame_answers::{
-    MAX_INPUT, Outcome, Progress, ReadFault, Status, ToolFault, answer, read_input, write_text,
-};
+use crate::outcomes::{Outcome, Status, ToolFault};
+use crate::requests::answer;
+use flame_answers::{MAX_INPUT, ReadFault, read_input, write_text};
 use flame_words::{Request, WordsFault, read_words};
+use live_report::Progress;
 use profile_rows::Hashing;
 use std::alloc::Global;
 use std::io::{Read, Write};

@@ -1,6 +1,6 @@
 //! What a person at a terminal sees while `live` runs.
 
-use flame_answers::Progress;
+use live_report::Progress;
 use std::io::{IsTerminal, Write};
 use std::rt::Stderr;
 use std::sync::{Mutex, Wait};

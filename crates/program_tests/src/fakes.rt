@@ -3,8 +3,8 @@
 //!
 //! A test compares one text: a proof pays for each comparison, and for each way out beside a value to drop.
 
-use flame_answers::{MAX_INPUT, NoProgress, Status};
-use flame_program::run;
+use flame_answers::MAX_INPUT;
+use flame_program::{NoProgress, Status, run};
 use std::alloc::{AllocError, Global};
 use std::io;
 use std::io::{ErrorKind, Read, Write};

@@ -3,7 +3,7 @@
 
 use crate::fakes::{FOLD, TOP, end_on, repeated, report_of};
 use crate::profiles::deep_sample;
-use flame_answers::{Outcome, Status, ToolFault};
+use flame_program::{Outcome, Status, ToolFault};
 use live_report::LiveFault;
 use live_store::{BookFault, MakeFault, SessionFault};
 use log_audit::AuditFault;

@@ -1,8 +1,7 @@
 //! The exit status of a process, and what it says on the standard error.
 
 use crate::fakes::{Narrow, text_of};
-use flame_answers::NoProgress;
-use flame_program::run_process;
+use flame_program::{NoProgress, run_process};
 use std::alloc::{AllocError, Global};
 use std::env::Args;
 use std::io;

@@ -2,8 +2,8 @@
 
 use crate::fakes::{Dripping, Lasting, Narrow, Unrandom, repeated, text_of};
 use crate::profiles::ONE_SAMPLE;
-use flame_answers::{MAX_INPUT, NoProgress};
-use flame_program::run;
+use flame_answers::MAX_INPUT;
+use flame_program::{NoProgress, run};
 use std::alloc::{AllocError, Global};
 use std::io::ErrorKind;
 use std::random::RandomSource;

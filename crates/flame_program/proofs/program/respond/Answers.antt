@@ -1,7 +1,7 @@
 use Rattle.std.proofs.Common.{subst, sym}
-use Rattle.flame_answers.specs.Answers.{IsInputFault}
+use Rattle.flame_program.specs.Requests.{IsInputFault}
 use Rattle.flame_program.specs.Program.{EndsByFault}
-use Rattle.flame_answers.specs.declared.outcomes.ToolFault.{ToolFault}
+use Rattle.flame_program.specs.declared.outcomes.ToolFault.{ToolFault}
 use Rattle.flame_program.proofs.Endings.{ends_by_input_fault, ends_by_read_fault}
 use Rattle.flame_program.proofs.program.respond.Goals as goal
 

@@ -1,9 +1,9 @@
 use Rattle.std.proofs.Common.{◌≡◌, ℕ, List, Option, Some, None}
 use Rattle.std.specs.Prelude.{IfSome}
-use Rattle.flame_answers.specs.Outcomes.{code_of}
+use Rattle.flame_program.specs.Outcomes.{code_of}
 use Rattle.flame_program.specs.Program.{EndsBy}
 use Rattle.flame_words.specs.Words.{request_of, texts_of}
-use Rattle.flame_answers.specs.declared.outcomes.Outcome.{Outcome}
+use Rattle.flame_program.specs.declared.outcomes.Outcome.{Outcome}
 use Rattle.flame_words.specs.declared.request.Request.{Request}
 use Rattle.flame_program.proofs.Deciding.{IsDecided, decides}
 use Rattle.flame_program.proofs.Endings.{takes_at_most}

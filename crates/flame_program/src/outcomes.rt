@@ -1,42 +1,12 @@
 //! How a run ends, and why.
 
 ghost use Rattle.std.specs.Prelude.{◌≡◌};
-ghost use Rattle.flame_answers.specs.Outcomes.{code_of, fault_text_of, live_code_of, said_of};
+ghost use Rattle.flame_program.specs.Outcomes.{code_of, fault_text_of, live_code_of, said_of};
 
-use folded_text::FoldedFault;
+use flame_answers::{AnswerFault, InputFault};
 use live_report::LiveFault;
-use pprof_profile::ProfileFault;
-use profile_rows::NoMemory;
-use profile_samples::BatchFault;
 use std::error::Error;
 use std::fmt;
-
-/// Why an input has no rows.
-#[derive(Clone, Copy, Debug, PartialEq, Eq)]
-pub enum InputFault {
-    /// It isn't folded text.
-    Folded(FoldedFault),
-    /// It is no profile.
-    Profile(ProfileFault),
-    /// The profile's samples give no rows.
-    Batch(BatchFault),
-}
-
-impl Error for InputFault {}
-
-impl fmt::Display for InputFault {
-    ghost use Rattle.std.specs.Prelude.{None};
-
-    ghost output = { λ _. None };
-
-    fn fmt<W: fmt::Write>(&self, f: &mut fmt::Formatter<W>) -> fmt::Result {
-        match self {
-            InputFault::Folded(fault) => write!(f, "{fault}"),
-            InputFault::Profile(fault) => write!(f, "{fault}"),
-            InputFault::Batch(fault) => write!(f, "{fault}"),
-        }
-    }
-}
 
 /// A fault that ends the program. Its `Display` is what the program says of it.
 #[derive(Clone, Copy, Debug, PartialEq, Eq)]
@@ -78,58 +48,22 @@ impl fmt::Display for ToolFault {
     }
 }
 
-impl From<NoMemory> for ToolFault {
+impl From<AnswerFault> for ToolFault {
     ghost use Rattle.std.specs.Prelude.{◌≡◌};
-    ghost use Rattle.flame_answers.specs.declared.outcomes.ToolFault.TheVariants.{NoMemory};
+    ghost use Rattle.flame_program.specs.Requests.{told_of};
 
-    ghost from_gives = { λ _ fault. fault ≡ NoMemory };
+    ghost from_gives = { λ fault told. told ≡ told_of fault };
 
-    fn from(_error: NoMemory) -> ToolFault {
-        ToolFault::NoMemory
-    }
-}
-
-impl From<FoldedFault> for ToolFault {
-    ghost use Rattle.flame_answers.specs.Inputs.{IsToldOfText};
-
-    ghost from_gives = { IsToldOfText };
-
-    fn from(fault: FoldedFault) -> ToolFault {
+    fn from(fault: AnswerFault) -> ToolFault {
         match fault {
-            FoldedFault::NoMemory => ToolFault::NoMemory,
-            _ => ToolFault::Input(InputFault::Folded(fault)),
-        }
-    }
-}
-
-impl From<ProfileFault> for ToolFault {
-    ghost use Rattle.flame_answers.specs.Inputs.{IsToldOfProfile};
-
-    ghost from_gives = { IsToldOfProfile };
-
-    fn from(fault: ProfileFault) -> ToolFault {
-        match fault {
-            ProfileFault::NoMemory => ToolFault::NoMemory,
-            _ => ToolFault::Input(InputFault::Profile(fault)),
-        }
-    }
-}
-
-impl From<BatchFault> for ToolFault {
-    ghost use Rattle.flame_answers.specs.Inputs.{IsToldOfSamples};
-
-    ghost from_gives = { IsToldOfSamples };
-
-    fn from(fault: BatchFault) -> ToolFault {
-        match fault {
-            BatchFault::NoMemory => ToolFault::NoMemory,
-            _ => ToolFault::Input(InputFault::Batch(fault)),
+            AnswerFault::Input(fault) => ToolFault::Input(fault),
+            AnswerFault::NoMemory => ToolFault::NoMemory,
         }
     }
 }
 
 impl From<LiveFault> for ToolFault {
-    ghost use Rattle.flame_answers.specs.Inputs.{IsToldOfStore};
+    ghost use Rattle.flame_program.specs.Requests.{IsToldOfStore};
 
     ghost from_gives = { IsToldOfStore };
 

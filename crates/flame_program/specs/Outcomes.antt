@@ -1,10 +1,10 @@
 -- The exit statuses of the program, and what it says of its end.
 use Rattle.std.specs.Prelude.{ℕ, List, [], ◌∷◌, ◌++◌, Option, Some, None, codes, cond, option_map, string_bytes}
-use Rattle.flame_answers.specs.declared.outcomes.Outcome.{Outcome}
-use Rattle.flame_answers.specs.declared.outcomes.Outcome.TheVariants.{Done, Words, Fault}
-use Rattle.flame_answers.specs.declared.outcomes.ToolFault.{ToolFault}
-use Rattle.flame_answers.specs.declared.outcomes.ToolFault.TheVariants.{Input, Name, Sessions, Live}
-use Rattle.flame_answers.specs.declared.outcomes.ToolFault.TheVariants.{Read, Write, TooLong, NoMemory}
+use Rattle.flame_program.specs.declared.outcomes.Outcome.{Outcome}
+use Rattle.flame_program.specs.declared.outcomes.Outcome.TheVariants.{Done, Words, Fault}
+use Rattle.flame_program.specs.declared.outcomes.ToolFault.{ToolFault}
+use Rattle.flame_program.specs.declared.outcomes.ToolFault.TheVariants.{Input, Name, Sessions, Live}
+use Rattle.flame_program.specs.declared.outcomes.ToolFault.TheVariants.{Read, Write, TooLong, NoMemory}
 use Rattle.live_report.specs.declared.fault.LiveFault.{LiveFault}
 use Rattle.live_report.specs.Faults.{is_shortage}
 

@@ -1,0 +1,94 @@
+//! Why an input has no answer.
+
+use folded_text::FoldedFault;
+use pprof_profile::ProfileFault;
+use profile_rows::NoMemory;
+use profile_samples::BatchFault;
+use std::error::Error;
+use std::fmt;
+
+/// Why an input has no rows.
+#[derive(Clone, Copy, Debug, PartialEq, Eq)]
+pub enum InputFault {
+    /// It isn't folded text.
+    Folded(FoldedFault),
+    /// It is no profile.
+    Profile(ProfileFault),
+    /// The profile's samples give no rows.
+    Batch(BatchFault),
+}
+
+impl Error for InputFault {}
+
+impl fmt::Display for InputFault {
+    ghost use Rattle.std.specs.Prelude.{None};
+
+    ghost output = { λ _. None };
+
+    fn fmt<W: fmt::Write>(&self, f: &mut fmt::Formatter<W>) -> fmt::Result {
+        match self {
+            InputFault::Folded(fault) => write!(f, "{fault}"),
+            InputFault::Profile(fault) => write!(f, "{fault}"),
+            InputFault::Batch(fault) => write!(f, "{fault}"),
+        }
+    }
+}
+
+/// Why there is no answer.
+#[derive(Clone, Copy, Debug, PartialEq, Eq)]
+pub enum AnswerFault {
+    /// The input is refused.
+    Input(InputFault),
+    /// Memory ran out.
+    NoMemory,
+}
+
+impl From<NoMemory> for AnswerFault {
+    ghost use Rattle.std.specs.Prelude.{◌≡◌};
+    ghost use Rattle.flame_answers.specs.declared.faults.AnswerFault.TheVariants.{NoMemory};
+
+    ghost from_gives = { λ _ fault. fault ≡ NoMemory };
+
+    fn from(_error: NoMemory) -> AnswerFault {
+        AnswerFault::NoMemory
+    }
+}
+
+impl From<FoldedFault> for AnswerFault {
+    ghost use Rattle.flame_answers.specs.Inputs.{IsToldOfText};
+
+    ghost from_gives = { IsToldOfText };
+
+    fn from(fault: FoldedFault) -> AnswerFault {
+        match fault {
+            FoldedFault::NoMemory => AnswerFault::NoMemory,
+            _ => AnswerFault::Input(InputFault::Folded(fault)),
+        }
+    }
+}
+
+impl From<ProfileFault> for AnswerFault {
+    ghost use Rattle.flame_answers.specs.Inputs.{IsToldOfProfile};
+
+    ghost from_gives = { IsToldOfProfile };
+
+    fn from(fault: ProfileFault) -> AnswerFault {
+        match fault {
+            ProfileFault::NoMemory => AnswerFault::NoMemory,
+            _ => AnswerFault::Input(InputFault::Profile(fault)),
+        }
+    }
+}
+
+impl From<BatchFault> for AnswerFault {
+    ghost use Rattle.flame_answers.specs.Inputs.{IsToldOfSamples};
+
+    ghost from_gives = { IsToldOfSamples };
+
+    fn from(fault: BatchFault) -> AnswerFault {
+        match fault {
+            BatchFault::NoMemory => AnswerFault::NoMemory,
+            _ => AnswerFault::Input(InputFault::Batch(fault)),
+        }
+    }
+}

@@ -1,5 +1,5 @@
-//! The text that answers a report on an input, and the bytes of an export: what the program gives without a store. And a
-//! whole input within a limit, and a whole text.
+//! The text that answers a query over an input, and the bytes of an export: what the program gives without a store.
+//! And the reading of a whole input within a limit, and the writing of a whole text.
 #![tactic(auto)]
 
 mod answers;

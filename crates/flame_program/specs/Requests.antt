@@ -68,7 +68,8 @@ IsStored (for_store all value) = ⊤
 -- what refuses the input; what happened to the store of an input that has what is wanted; or want of memory
 abbrev pub IsUnanswered : Format → Wanted → List ℕ → ToolFault → Type 0
 IsUnanswered format wanted input (tool.Input fault) = IsRefusedIn format wanted input (answer.Input fault)
-IsUnanswered format wanted input (tool.Live fault) = IsStored wanted × HasSome format wanted input × (fault ≢ live.NoMemory)
+IsUnanswered format wanted input (tool.Live fault) =
+    IsStored wanted × HasSome format wanted input × (fault ≢ live.NoMemory)
 IsUnanswered format wanted input tool.Name = ⊥
 IsUnanswered format wanted input tool.Sessions = ⊥
 IsUnanswered format wanted input tool.Read = ⊥

@@ -6,8 +6,8 @@ use Rattle.flame_answers.proofs.batches.profile_batch.Goals as goal
 pub returns-in_err-profile : goal.returns-in_err-profile
 returns-in_err-profile c =
     let told = err_from_is_err_and c.from_residual.result c.from_residual.ensures.1 in
-    rw (told.1) (bytes_refused (for_store c.args.all c.args.value.now) c.args.input.now c.in_err-profile.field-0.0 told.0
-    c.in_err-profile.ensures.fault c.in_err-profile.ensures.every_profile told.2)
+    rw (told.1) (bytes_refused (for_store c.args.all c.args.value.now) c.args.input.now
+    c.in_err-profile.field-0.0 told.0 c.in_err-profile.ensures.fault c.in_err-profile.ensures.every_profile told.2)
 
 pub returns-in_err-batch : goal.returns-in_err-batch
 returns-in_err-batch c =

@@ -2,8 +2,10 @@ use Rattle.std.proofs.Common.{ℕ, List, sym, subst, ◌∙◌}
 use mathlib.Core.List.{IsPrefix}
 use Rattle.change_history.proofs.Fronts.{prefix_trans}
 use Rattle.op_book.specs.Operations.{PlainEntry, reset}
-use Rattle.live_store.specs.Stores.{IsShownBy}
-use Rattle.live_store.proofs.Knowing.{shown_first}
+use Rattle.call_tree.proofs.Indexing.{if_ok_more}
+use Rattle.live_store.specs.Sessions.{IsPlaced}
+use Rattle.live_store.specs.Stores.{IsShownBy, changes_told}
+use Rattle.live_store.proofs.Knowing.{placed_behind, shown_first}
 use Rattle.live_store.proofs.locked_book.LockedBook.reset.Goals as goal
 
 pub returns-in-Ok-clause-seen : goal.returns-in-Ok-clause-seen
@@ -20,3 +22,16 @@ returns-in-Err-clause-shown g c =
     let same = c.if-not-catch_up.ensures.0 ∙ c.args.self.now.whole in
     subst (λ (n : ℕ). IsShownBy here n c.in-Err.fault) c.number.ensures (shown_first
     c.args.self.now.book here c.number.result c.turn.result reset same c.in-Err.fault c.in-Err.ensures.first_fault)
+
+pub returns-in-Ok-clause-placed : goal.returns-in-Ok-clause-placed
+returns-in-Ok-clause-placed g c =
+    let old = c.args.front.now in
+    let here = c.catch_up.new.self in
+    let n = c.args.log.now.number in
+    let turns = changes_told c.args.log.now.receipts.items in
+    let caught = c.if-not-catch_up.ensures in
+    let begins : IsPrefix old here = subst (λ (l : List PlainEntry). IsPrefix old l) (sym caught.0) caught.1 in
+    if_ok_more c.make.result _ _
+    (λ placing was. subst (λ op. IsPlaced old n turns op placing.place c.make.new.front) c.in-Ok.ensures.change.2
+    (placed_behind old here n turns c.in-Ok.ready.op placing.place c.make.new.front begins was))
+    c.make.ensures.placed

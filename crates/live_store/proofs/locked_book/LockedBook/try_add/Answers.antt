@@ -1,7 +1,8 @@
-use Rattle.std.proofs.Common.{ℕ, List, sym, subst, ◌∙◌}
+use Rattle.std.proofs.Common.{ℕ, List, [], ◌∷◌, ◌++◌, ap, sym, subst, ◌∙◌}
 use Rattle.std.specs.Arc.{arc_value}
 use mathlib.Core.List.{IsPrefix}
 use Rattle.change_history.proofs.Fronts.{prefix_trans}
+use Rattle.op_book.specs.Books.{change_told}
 use Rattle.op_book.specs.Operations.{PlainEntry, add}
 use Rattle.call_tree.proofs.Indexing.{if_ok_more}
 use Rattle.live_store.specs.Sessions.{IsPlaced}
@@ -37,3 +38,10 @@ returns-in-Ok-clause-placed g c =
     (λ placing was. subst (λ op. IsPlaced old n turns op placing.place c.make.new.front) c.in-Ok.ensures.change.2
     (placed_behind old here n turns c.in-Ok.ready.op placing.place c.make.new.front begins was))
     c.make.ensures.placed
+
+pub returns-in-Ok-clause-extended : goal.returns-in-Ok-clause-extended
+returns-in-Ok-clause-extended g c =
+    if_ok_more c.make.result _ _
+    (λ placing was. was ∙ ap (λ op. c.args.log.now.receipts.items ++ change_told op placing.place ∷ [])
+    c.in-Ok.ensures.change.2)
+    c.make.ensures.extended

@@ -113,17 +113,17 @@ IsRefusedIn format wanted input (answer.Input fault) =
     IsFaultIn format wanted input fault × HasNone format wanted input
 IsRefusedIn format wanted input answer.NoMemory = ⊤
 
--- A fault of what was read, told as one of the answer: want of memory is one fault, wherever it comes. Then those of
--- each part.
-abbrev pub IsToldAs : {F : Type 0} → F → (F → AnswerFault) → F → AnswerFault → Type 0
-IsToldAs no_memory tell fault told =
-    ((fault ≡ no_memory) × (told ≡ answer.NoMemory)) ⊎ ((fault ≢ no_memory) × (told ≡ tell fault))
+-- A fault told as one of another type: want of memory stays want of memory, and every other fault is told as it is.
+-- Then the faults of what is read, told as those of an answer.
+abbrev pub IsToldAs : {F T : Type 0} → F → T → (F → T) → F → T → Type 0
+IsToldAs no_memory told_no_memory tell fault told =
+    ((fault ≡ no_memory) × (told ≡ told_no_memory)) ⊎ ((fault ≢ no_memory) × (told ≡ tell fault))
 
 abbrev pub IsToldOfText : FoldedFault → AnswerFault → Type 0
-IsToldOfText = IsToldAs folded.NoMemory (λ fault. answer.Input (refused.Folded fault))
+IsToldOfText = IsToldAs folded.NoMemory answer.NoMemory (λ fault. answer.Input (refused.Folded fault))
 
 abbrev pub IsToldOfProfile : ProfileFault → AnswerFault → Type 0
-IsToldOfProfile = IsToldAs profile.NoMemory (λ fault. answer.Input (refused.Profile fault))
+IsToldOfProfile = IsToldAs profile.NoMemory answer.NoMemory (λ fault. answer.Input (refused.Profile fault))
 
 abbrev pub IsToldOfSamples : BatchFault → AnswerFault → Type 0
-IsToldOfSamples = IsToldAs batch.NoMemory (λ fault. answer.Input (refused.Batch fault))
+IsToldOfSamples = IsToldAs batch.NoMemory answer.NoMemory (λ fault. answer.Input (refused.Batch fault))

@@ -4,8 +4,8 @@ use folded_text::FoldedFault;
 use pprof_profile::ProfileFault;
 use profile_rows::NoMemory;
 use profile_samples::BatchFault;
-use std::error::Error;
-use std::fmt;
+use std::{error, fmt};
+use thiserror::Error;
 
 /// Why an input has no rows.
 #[derive(Clone, Copy, Debug, PartialEq, Eq)]
@@ -18,7 +18,7 @@ pub enum InputFault {
     Batch(BatchFault),
 }
 
-impl Error for InputFault {}
+impl error::Error for InputFault {}
 
 impl fmt::Display for InputFault {
     ghost use Rattle.std.specs.Prelude.{None};
@@ -35,11 +35,13 @@ impl fmt::Display for InputFault {
 }
 
 /// Why there is no answer.
-#[derive(Clone, Copy, Debug, PartialEq, Eq)]
+#[derive(Clone, Copy, Debug, PartialEq, Eq, Error)]
 pub enum AnswerFault {
     /// The input is refused.
+    #[error("{0}")]
     Input(InputFault),
     /// Memory ran out.
+    #[error("NoMemory")]
     NoMemory,
 }
 

@@ -1,5 +1,5 @@
 -- What an input answers to a request, and what keeps it from an answer.
-use Rattle.std.specs.Prelude.{ℕ, ◌≡◌, ◌≢◌, ◌⊎◌, ⊤, List, Option, None}
+use Rattle.std.specs.Prelude.{ℕ, ◌≡◌, ◌≢◌, ⊤, List, Option, None}
 use Rattle.profile_rows.specs.Values.{BatchState}
 use Rattle.flame_words.specs.LiveOptions.{PlainOptions}
 use Rattle.flame_words.specs.declared.request.Format.{Format}
@@ -12,7 +12,7 @@ use Rattle.live_report.specs.declared.fault.LiveFault.TheVariants as live
 use Rattle.flame_answers.specs.declared.faults.AnswerFault.{AnswerFault}
 use Rattle.flame_answers.specs.declared.faults.AnswerFault.TheVariants as answer
 use Rattle.flame_answers.specs.Answers.{IsExport, IsReport}
-use Rattle.flame_answers.specs.Inputs.{HasSome, IsIn, IsRefusedIn, Wanted}
+use Rattle.flame_answers.specs.Inputs.{HasSome, IsIn, IsRefusedIn, IsToldAs, Wanted}
 use Rattle.flame_answers.specs.Inputs.Wanted.{for_report, for_store}
 use Rattle.flame_program.specs.declared.outcomes.ToolFault.{ToolFault}
 use Rattle.flame_program.specs.declared.outcomes.ToolFault.TheVariants as tool
@@ -55,10 +55,9 @@ abbrev pub told_of : AnswerFault → ToolFault
 told_of (answer.Input fault) = tool.Input fault
 told_of answer.NoMemory = tool.NoMemory
 
--- a fault of the store as one of the program: want of memory is one fault, wherever it comes
+-- a fault of the store as one of the program
 abbrev pub IsToldOfStore : LiveFault → ToolFault → Type 0
-IsToldOfStore fault told =
-    ((fault ≡ live.NoMemory) × (told ≡ tool.NoMemory)) ⊎ ((fault ≢ live.NoMemory) × (told ≡ tool.Live fault))
+IsToldOfStore = IsToldAs live.NoMemory tool.NoMemory tool.Live
 
 -- only `live` has a store
 abbrev pub IsStored : Wanted → Type 0

@@ -1,13 +1,22 @@
 //! The command `flame`: its subcommands and their options.
 
 ghost use Rattle.std.specs.Prelude.{◌≡◌, IfOk, false};
-ghost use Rattle.clap.specs.Words.{App, app_of, with_rule, with_subcommand};
+ghost use Rattle.clap.specs.Words.{App, app_of, rule_of, with_rule, with_subcommand};
 ghost use Rattle.clap.specs.declared.builder.command.Command.TheViews.{out-Command};
 ghost use Rattle.flame_words.specs.Words.{default_rule, flag_rule, flame_app, flame_graph_app, fold_app, live_app, option_rule, program_app, proto_app, top_app, with_filters, with_source};
 
 use crate::help;
 use clap::{Arg, ArgAction, Command};
 use std::alloc::{AllocError, Global};
+
+// With an option that is the command's own.
+fn with_own<'a>(command: Command<'a>, option: Arg<'a>) -> Result<Command<'a>, AllocError>
+    requires { option.global ≡ false }
+    ensures app { IfOk result (λ with. app_of with ≡ with_rule (app_of command.entry) (rule_of option.entry)) }
+    ensures local { IfOk result (λ with. (out-Command with).has_globals ≡ (out-Command command.entry).has_globals) }
+{
+    command.arg(option)
+}
 
 // With an option that has a value.
 fn with_option<'a>(
@@ -24,7 +33,7 @@ fn with_option<'a>(
         .long(id)
         .value_name(value_name)
         .help(text);
-    command.arg(option)
+    with_own(command, option)
 }
 
 // With an option that has a value, and this one where it isn't given.
@@ -45,7 +54,7 @@ fn with_default<'a>(
         .value_name(value_name)
         .help(text)
         .default_value(default);
-    command.arg(option)
+    with_own(command, option)
 }
 
 // With an option that has no value.
@@ -62,7 +71,7 @@ fn with_flag<'a>(
         .long(id)
         .help(text)
         .action(ArgAction::SetTrue);
-    command.arg(option)
+    with_own(command, option)
 }
 
 // With the options that say how the input is read.
@@ -74,8 +83,8 @@ fn with_source<'a>(alloc: Global, command: Command<'a>) -> Result<Command<'a>, A
     with_option(alloc, command, "value", "TYPE", help::VALUE)
 }
 
-// With those that say which stacks are kept, too.
-fn with_filters<'a>(alloc: Global, command: Command<'a>) -> Result<Command<'a>, AllocError>
+// With the options of a report of stacks: how the input is read, and which stacks are kept.
+fn with_report_options<'a>(alloc: Global, command: Command<'a>) -> Result<Command<'a>, AllocError>
     ensures app { IfOk result (λ with. app_of with ≡ with_filters (with_source (app_of command.entry))) }
     ensures local { IfOk result (λ with. (out-Command with).has_globals ≡ (out-Command command.entry).has_globals) }
 {
@@ -92,7 +101,7 @@ fn top_command<'a>(alloc: Global) -> Result<Command<'a>, AllocError>
     let command = Command::new(alloc, "top")
         .about(help::ABOUT_TOP)
         .after_help(help::AFTER_TOP);
-    let command = with_filters(alloc, command)?;
+    let command = with_report_options(alloc, command)?;
     let command = with_default(alloc, command, "by", "flat", "ORDER", help::BY)?;
     with_default(alloc, command, "count", "20", "NUMBER", help::COUNT)
 }
@@ -105,7 +114,7 @@ fn flame_graph_command<'a>(alloc: Global) -> Result<Command<'a>, AllocError>
     let command = Command::new(alloc, "flame")
         .about(help::ABOUT_FLAME)
         .after_help(help::AFTER_FLAME);
-    let command = with_filters(alloc, command)?;
+    let command = with_report_options(alloc, command)?;
     with_default(alloc, command, "columns", "100", "NUMBER", help::COLUMNS)
 }
 
@@ -117,7 +126,7 @@ fn fold_command<'a>(alloc: Global) -> Result<Command<'a>, AllocError>
     let command = Command::new(alloc, "fold")
         .about(help::ABOUT_FOLD)
         .after_help(help::AFTER_FOLD);
-    with_filters(alloc, command)
+    with_report_options(alloc, command)
 }
 
 // The subcommand `proto`.

@@ -200,14 +200,20 @@ shown_first state seen session turn op same (book.Heavy value held) first = let 
 shown_first state seen session turn op same book.NoMemory first = tt
 shown_first state seen session turn op same book.Version first = tt
 
+-- what is known here begins with what was known before
+pub caught_up : (old here own : List PlainEntry) → (here ≡ own) × IsPrefix old own → IsPrefix old here
+caught_up old here own caught = subst (λ (l : List PlainEntry). IsPrefix old l) (sym caught.0) caught.1
+
 -- a change that stands behind what is known stands behind what was known before
-pub placed_behind : (old known : List PlainEntry) (session turn : ℕ) (op : PlainOp) (place : ℕ) (seen : List PlainEntry)
-    → IsPrefix old known → IsPlaced known session turn op place seen → IsPlaced old session turn op place seen
-placed_behind old known session turn op place seen begins was = record {
-  before = was.before;
-  begins = prefix_trans old known was.before begins was.begins;
-  turn_is = was.turn_is;
-  place_is = was.place_is;
-  reply_is = was.reply_is;
-  seen_is = was.seen_is;
-}
+pub placed_behind : (old known own : List PlainEntry) (session turn : ℕ) (op made : PlainOp) (place : ℕ)
+    (seen : List PlainEntry) → (known ≡ own) × IsPrefix old own → made ≡ op
+    → IsPlaced known session turn made place seen → IsPlaced old session turn op place seen
+placed_behind old known own session turn op made place seen caught is was =
+    subst (λ (o : PlainOp). IsPlaced old session turn o place seen) is (record {
+      before = was.before;
+      begins = prefix_trans old known was.before (caught_up old known own caught) was.begins;
+      turn_is = was.turn_is;
+      place_is = was.place_is;
+      reply_is = was.reply_is;
+      seen_is = was.seen_is;
+    })

@@ -43,6 +43,10 @@ impl Op {
     }
 
     /// Another owner of what the operation holds.
+    ///
+    /// # Errors
+    ///
+    /// `NoMemory`, where that has as many owners as it can have.
     pub fn share(&self) -> Result<Op, NoMemory>
         ensures { IfOk result (λ op. plain_op op ≡ plain_op self.now) }
     {
@@ -90,6 +94,10 @@ impl Eq for Op {
 
 impl Reply {
     /// Another owner of what the reply holds.
+    ///
+    /// # Errors
+    ///
+    /// `NoMemory`, where that has as many owners as it can have.
     pub fn share(&self) -> Result<Reply, NoMemory>
         ensures { IfOk result (λ reply. plain_reply reply ≡ plain_reply self.now) }
     {

@@ -73,7 +73,8 @@ pub(crate) fn string_numbers(
     names: &mut IndexSet<Name, Hashing>,
 ) -> Result<Vec<Option<usize>>, NoMemory>
     requires { names.old.keys ≡ [] }
-    ensures names { OnOk result (with_texts names.new.keys (given (address_names draft.now)) ≡ frame_names draft.now) }
+    ensures names { OnOk result
+        (with_texts names.new.keys (given (address_names draft.now)) ≡ frame_names draft.now) }
     ensures each { OnOk result (All IsName names.new.keys) }
     ensures numbers { IfOk result (λ numbers. numbers.items ≡ string_numbers draft.now) }
 {

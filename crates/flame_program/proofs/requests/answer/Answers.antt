@@ -12,5 +12,5 @@ returns-in_err-text-in-Report g c =
     let told = err_from_is_err_and c.from_residual.result c.from_residual.ensures.1 in
     let source = c.in-Report.source in
     rw (told.1) (subst (λ (r : Request). IsInputFault r c.args.input.now told.0) (sym c.in-Report.is)
-    (unanswered source.format (for_report source.value) c.args.input.now c.in_err-text-in-Report.field-0.0 told.0
-    c.in_err-text-in-Report.ensures told.2))
+    (rw (told.2) (unanswered source.format (for_report source.value) c.args.input.now
+    c.in_err-text-in-Report.field-0.0 c.in_err-text-in-Report.ensures)))

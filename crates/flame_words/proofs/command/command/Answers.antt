@@ -1,5 +1,5 @@
 -- Each subcommand in its turn.
-use Rattle.std.proofs.Common.{◌≡◌, ap, ◌∙◌}
+use Rattle.std.proofs.Common.{ap, ◌∙◌}
 use Rattle.std.proofs.lemmas.Result.{IfOk-weaker}
 use Rattle.clap.specs.Words.{App, with_subcommand}
 use Rattle.flame_words.specs.Words.{flame_graph_app, fold_app, live_app, proto_app, top_app}

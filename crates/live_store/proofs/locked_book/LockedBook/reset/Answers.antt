@@ -1,20 +1,17 @@
-use Rattle.std.proofs.Common.{ℕ, List, sym, subst, ◌∙◌}
-use mathlib.Core.List.{IsPrefix}
+use Rattle.std.proofs.Common.{ℕ, subst, ◌∙◌}
 use Rattle.change_history.proofs.Fronts.{prefix_trans}
-use Rattle.op_book.specs.Operations.{PlainEntry, reset}
+use Rattle.op_book.specs.Operations.{reset}
 use Rattle.call_tree.proofs.Indexing.{if_ok_more}
-use Rattle.live_store.specs.Sessions.{IsPlaced}
 use Rattle.live_store.specs.Stores.{IsShownBy, changes_told}
-use Rattle.live_store.proofs.Knowing.{placed_behind, shown_first}
+use Rattle.live_store.proofs.Knowing.{caught_up, placed_behind, shown_first}
 use Rattle.live_store.proofs.locked_book.LockedBook.reset.Goals as goal
 
 pub returns-in-Ok-clause-seen : goal.returns-in-Ok-clause-seen
 returns-in-Ok-clause-seen g c =
     let old = c.args.front.now in
     let here = c.catch_up.new.self in
-    let caught = c.if-not-catch_up.ensures in
-    let begins : IsPrefix old here = subst (λ (l : List PlainEntry). IsPrefix old l) (sym caught.0) caught.1 in
-    prefix_trans old here c.make.new.front begins c.make.ensures.seen
+    prefix_trans old here c.make.new.front (caught_up old here c.args.self.now.front c.if-not-catch_up.ensures)
+    c.make.ensures.seen
 
 pub returns-in-Err-clause-shown : goal.returns-in-Err-clause-shown
 returns-in-Err-clause-shown g c =
@@ -25,13 +22,8 @@ returns-in-Err-clause-shown g c =
 
 pub returns-in-Ok-clause-placed : goal.returns-in-Ok-clause-placed
 returns-in-Ok-clause-placed g c =
-    let old = c.args.front.now in
-    let here = c.catch_up.new.self in
-    let n = c.args.log.now.number in
     let turns = changes_told c.args.log.now.receipts.items in
-    let caught = c.if-not-catch_up.ensures in
-    let begins : IsPrefix old here = subst (λ (l : List PlainEntry). IsPrefix old l) (sym caught.0) caught.1 in
     if_ok_more c.make.result _ _
-    (λ placing was. subst (λ op. IsPlaced old n turns op placing.place c.make.new.front) c.in-Ok.ensures.change.2
-    (placed_behind old here n turns c.in-Ok.ready.op placing.place c.make.new.front begins was))
+    (λ placing. placed_behind c.args.front.now c.catch_up.new.self c.args.self.now.front c.args.log.now.number turns
+    reset c.in-Ok.ready.op placing.place c.make.new.front c.if-not-catch_up.ensures c.in-Ok.ensures.change.2)
     c.make.ensures.placed

@@ -1,10 +1,9 @@
-use Rattle.std.proofs.Common.{List, ◌≡◌, [], ◌∷◌, ◌++◌, sym, ap, ◌∙◌, subst}
+use Rattle.std.proofs.Common.{List, ◌≡◌, [], ◌∷◌, ◌++◌, sym, ap, ◌∙◌}
 use Rattle.std.specs.Arc.{arc_value}
-use mathlib.Core.List.{IsPrefix}
 use Rattle.op_book.specs.Books.{receipt_after}
 use Rattle.op_book.specs.Operations.{PlainEntry, ask}
 use Rattle.live_store.specs.Sessions.{IsBorneOut}
-use Rattle.live_store.proofs.Knowing.{borne_more, borne_asked}
+use Rattle.live_store.proofs.Knowing.{borne_asked, borne_more, caught_up}
 use Rattle.live_store.proofs.session.Session.report.Goals as goal
 
 pub invariant_of-self-2 : goal.invariant_of-self-2
@@ -16,7 +15,7 @@ invariant_of-self-2 g c =
     let q = arc_value c.args.query.now in
     let caught = c.if-not-catch_up.ensures in
     let more : IsBorneOut n log seen = borne_more n log s.front seen
-    (subst (λ (l : List PlainEntry). IsPrefix s.front l) (sym caught.0) caught.1) c.self.invariant.1 in
+    (caught_up s.front seen c.in-Ok.made.front caught) c.self.invariant.1 in
     let receipt = c.in-Ok.ensures.receipt ∙ ap (λ (l : List PlainEntry). receipt_after l (ask q)) (sym caught.0) in
     let items : c.keep_report.new.self.receipts.items ≡ log ++ receipt_after seen (ask q) ∷ [] =
     c.keep_report.ensures.log

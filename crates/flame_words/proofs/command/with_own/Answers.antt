@@ -3,7 +3,7 @@ use Rattle.std.proofs.Common.{◌∙◌, arith}
 use Rattle.std.proofs.lemmas.Grind.{common_steps}
 use Rattle.std.proofs.lemmas.Result.{IfOk-weaker}
 use Rattle.flame_words.proofs.CommandLine.{or_no}
-use Rattle.flame_words.proofs.command.with_default.Goals as goal
+use Rattle.flame_words.proofs.command.with_own.Goals as goal
 
 pub returns-clause-local : goal.returns-clause-local
 returns-clause-local c = IfOk-weaker c.arg.result _ _

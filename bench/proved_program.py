@@ -34,7 +34,8 @@ def copy_crate(name, into):
         if part != "out":
             shutil.rmtree(to, ignore_errors=True)
         if at.is_dir() and not to.exists():
-            shutil.copytree(at, to)
+            # (what ./build keeps is of no use here)
+            shutil.copytree(at, to, ignore=shutil.ignore_patterns("proved"))
 
 
 def copy_proofs(at, into):

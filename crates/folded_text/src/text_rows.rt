@@ -74,6 +74,11 @@ impl<'a> TextRows<'a> {
         self.rows.as_slice()
     }
 
+    /// What the rows weigh together. Takes no time per row.
+    pub fn total(&self) -> u64 {
+        self.total
+    }
+
     /// The rows, what they weigh together, and whether no stack text has an empty frame.
     pub fn into_rows(self) -> (Vec<TextRow<'a>>, u64, bool)
         ensures rows { result.0.items ≡ self.entry }

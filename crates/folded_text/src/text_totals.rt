@@ -62,8 +62,8 @@ const FIRST_TEXTS: u64 = 4096;
 /// How many bytes of lines are read before it is looked at.
 const FIRST_BYTES: usize = 1 << 20;
 
-/// Whether at least a quarter of so many lines had a stack text that was there before, so that waiting for more lines
-/// of these texts saves work.
+/// Whether at least a quarter of so many lines that weigh something had a stack text that was there before, so that
+/// waiting for more lines of these texts saves work.
 fn saves_work(texts: u64, lines: u64, bytes: usize) -> bool {
     (texts < FIRST_TEXTS && bytes < FIRST_BYTES) || lines - lines / 4 >= texts
 }
@@ -74,6 +74,8 @@ fn saves_work(texts: u64, lines: u64, bytes: usize) -> bool {
 struct Counting<'a> {
     /// The rows that wait. There are none once rows are counted.
     waiting: Option<TextRows<'a>>,
+    /// How many of the lines that were summed have a weight above 0: each of them has a text that waits.
+    weighty: u64,
     /// How many bytes the lines so far have.
     bytes: usize,
     counted: CountedRows<'a>,
@@ -88,16 +90,17 @@ impl<'a> Counting<'a> {
         let waiting = TextRows::new(alloc, hashing);
         Counting {
             waiting: Some(waiting),
+            weighty: 0,
             bytes: 0,
             counted: CountedRows::new(alloc, hashing),
             frames: Vec::new(alloc),
         }
     }
 
-    /// Whether waiting has saved work in so many lines.
-    fn should_wait(&self, lines: u64) -> bool {
+    /// Whether waiting has saved work so far.
+    fn should_wait(&self) -> bool {
         let waiting = self.waiting.as_ref();
-        waiting.is_some_and(|sums| saves_work(sums.rows().len() as u64, lines, self.bytes))
+        waiting.is_some_and(|sums| saves_work(sums.rows().len() as u64, self.weighty, self.bytes))
     }
 
     /// Counts the rows that wait.
@@ -133,17 +136,24 @@ impl<'a> LineTaker<'a> for Counting<'a> {
         let Some(sums) = &mut self.waiting else {
             return count_line(&mut self.counted, &mut self.frames, line, number);
         };
+        let before = sums.total();
         sums.sum_line(line, number)?;
-        if self.should_wait(number) {
+        self.weighty = self
+            .weighty
+            .saturating_add(u64::from(sums.total() > before));
+        if self.should_wait() {
             return Ok(());
         }
         Ok(self.count_waiting()?)
     }
 }
 
-/// What the names weigh in the rows that [`read_folded`](crate::read_folded) reads. Lines of one stack text are counted
-/// together where many are; memory is for the names, and for a few thousand stack texts. `hashing` says how names and
-/// stack texts are hashed.
+/// What the names weigh in the rows that [`read_folded`](crate::read_folded) reads. `hashing` says how names and stack
+/// texts are hashed.
+///
+/// Lines of one stack text are counted together as long as that saves work. Memory is for the names, and for each
+/// distinct stack text while these are at most three quarters of the lines that weigh something. Where they once are
+/// more, past some thousand texts or a megabyte of lines, it is for no text of a later line.
 ///
 /// # Errors
 ///

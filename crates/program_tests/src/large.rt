@@ -1,6 +1,6 @@
 //! Reports on thousands of rows, on long names and on long inputs, by closed formulas.
 
-use crate::fakes::{expect_reports, repeated, report_of, report_on, report_text};
+use crate::fakes::{FOLD, expect_reports, repeated, report_of, report_on, report_text};
 use std::alloc::{AllocError, Global};
 use std::random::RandomSource;
 use std::sync::Wait;
@@ -8,7 +8,7 @@ use std::test::Fail;
 use std::thread::Threads;
 use test_support::expect_text;
 
-// The samples are numbered from 128 to 3,199, and each weighs its number. Its leaf has the address 0x7f0000000000 + its
+// The samples are numbered from 128 on, and each weighs its number. Its leaf has the address 0x7f0000000000 + its
 // number, and its root the address 0xffffffffffffffff: locations without lines, which are called by their addresses.
 const TYPE_AND_STRINGS: &[u8] = b"\x0a\x04\x08\x01\x10\x02\x32\x00\x32\x03cpu\x32\x02ns";
 
@@ -27,9 +27,14 @@ fn push_samples(bytes: &mut Vec<u8>, high: u8) -> Result<(), AllocError> {
     Ok(())
 }
 
-fn profile(alloc: Global) -> Result<Vec<u8>, AllocError> {
+// How many blocks of 128 numbers end before the first that no sample has: the samples are 3,072, or 12,672.
+const THOUSANDS: u8 = 25;
+
+const MORE: u8 = 100;
+
+fn profile(alloc: Global, end: u8) -> Result<Vec<u8>, AllocError> {
     let mut bytes = Vec::from_slice(alloc, TYPE_AND_STRINGS)?;
-    for high in 1..25u8 {
+    for high in 1..end {
         push_samples(&mut bytes, high)?;
     }
     bytes.extend_from_slice(ROOT)?;
@@ -37,10 +42,10 @@ fn profile(alloc: Global) -> Result<Vec<u8>, AllocError> {
 }
 
 // The profile's samples as folded text, in order.
-fn folded(alloc: Global) -> Result<String, AllocError> {
+fn folded(alloc: Global, end: u8) -> Result<String, AllocError> {
     let mut text = String::new(alloc);
-    for number in 128..3_200u32 {
-        writeln!(text, "0xffffffffffffffff;0x7f0000000{number:03x} {number}")?;
+    for number in 128..128 * end as u32 {
+        writeln!(text, "0xffffffffffffffff;0x7f000000{number:04x} {number}")?;
     }
     Ok(text)
 }
@@ -107,8 +112,8 @@ const REPORTS: [(&[&str], &str); 9] = [
 
 #[test]
 fn reports_with_options_on_thousands_of_rows(rt: HostRuntime) -> Result<(), Fail> {
-    let profile = profile(rt.alloc())?;
-    let folded = folded(rt.alloc())?;
+    let profile = profile(rt.alloc(), THOUSANDS)?;
+    let folded = folded(rt.alloc(), THOUSANDS)?;
     expect_reports(
         &rt,
         rt.alloc(),
@@ -185,14 +190,57 @@ fn expect_all_whole<T: Threads + Wait + RandomSource + Sync>(
 
 #[test]
 fn whole_reports_on_thousands_of_rows(rt: HostRuntime) -> Result<(), Fail> {
-    let profile = profile(rt.alloc())?;
-    let folded = folded(rt.alloc())?;
+    let profile = profile(rt.alloc(), THOUSANDS)?;
+    let folded = folded(rt.alloc(), THOUSANDS)?;
     expect_all_whole(&rt, rt.alloc(), profile.as_slice(), folded.as_str())
 }
 
 #[test]
-fn an_export_of_thousands_of_rows(rt: HostRuntime) -> Result<(), Fail> {
-    let folded = folded(rt.alloc())?;
+fn more_than_ten_thousand_rows_are_folded(rt: HostRuntime) -> Result<(), Fail> {
+    let folded = folded(rt.alloc(), MORE)?;
+    expect_text(
+        report_text(&rt, rt.alloc(), &FOLD, folded.as_bytes()),
+        folded.as_str(),
+    )
+}
+
+// Where a text has an empty frame, rows are put in order by their names.
+#[test]
+fn an_empty_frame_among_more_than_ten_thousand_rows(rt: HostRuntime) -> Result<(), Fail> {
+    let folded = folded(rt.alloc(), MORE)?;
+    let input = format!(in rt.alloc(); "{folded}x;;y 1\n")?;
+    let want = format!(in rt.alloc(); "{folded}x;y 1\n")?;
+    expect_text(
+        report_text(&rt, rt.alloc(), &FOLD, input.as_bytes()),
+        want.as_str(),
+    )
+}
+
+#[test]
+fn more_than_ten_thousand_samples_are_counted(rt: HostRuntime) -> Result<(), Fail> {
+    let profile = profile(rt.alloc(), MORE)?;
+    let words = ["flame", "top", "--count", "1"];
+    expect_text(
+        report_on(&rt, rt.alloc(), &words, "pprof", profile.as_slice()),
+        "total 81905472\n12799 12799 0x7f00000031ff\n",
+    )
+}
+
+// Each row is an operation, each of two sessions has a report, and the warm start has three operations.
+#[test]
+fn a_store_of_thousands_of_rows(rt: HostRuntime) -> Result<(), Fail> {
+    let folded = folded(rt.alloc(), THOUSANDS)?;
+    let words = ["flame", "live", "--sessions", "2", "--warm"];
+    let want = format!(in rt.alloc(); "{folded}audited 3077 operations\n")?;
+    expect_text(
+        report_text(&rt, rt.alloc(), &words, folded.as_bytes()),
+        want.as_str(),
+    )
+}
+
+#[test]
+fn an_export_of_more_than_ten_thousand_rows(rt: HostRuntime) -> Result<(), Fail> {
+    let folded = folded(rt.alloc(), MORE)?;
     let exported = report_of(&rt, rt.alloc(), &["flame", "proto"], folded.as_bytes())?;
     expect_text(
         report_on(

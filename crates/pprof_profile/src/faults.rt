@@ -83,9 +83,18 @@ impl<T: Drop> From<AllocFailed<T>> for ProfileFault {
     }
 }
 
-/// A fault, and the value that was refused.
-#[derive(Drop)]
+/// A fault, and the value that was refused. As an error it prints the fault alone.
+#[derive(Debug, Drop, Error)]
+#[error("{fault}")]
 pub struct Refused<T> {
     pub fault: ProfileFault,
     pub back: T,
+}
+
+impl<T: Drop> From<Refused<T>> for ProfileFault {
+    ghost from_gives = { λ refused outcome. outcome ≡ refused.fault };
+
+    fn from(refused: Refused<T>) -> ProfileFault {
+        refused.fault
+    }
 }

@@ -9,6 +9,7 @@ ghost use Rattle.pprof_profile.specs.Reading.{AddsMessage, IsAppended, IsFirstFa
 use crate::faults::ProfileFault;
 use crate::messages::{Label, Sample};
 use crate::reading::{Message, read_onto};
+use crate::sample_iter::SampleIter;
 use basics::{Span, append};
 use pprof_wire::{NoMemory, Value, WireFault};
 use std::alloc::{AllocError, Global};
@@ -158,11 +159,7 @@ impl Model for Samples {
 
 impl Debug for Samples {
     fn fmt<W: Write>(&self, f: &mut Formatter<W>) -> Result<(), fmt::Error> {
-        let mut list = f.debug_list();
-        for index in 0..self.len() {
-            list.entry(&self.at(index));
-        }
-        list.finish()
+        f.debug_list().entries(self.iter()).finish()
     }
 }
 
@@ -190,6 +187,13 @@ impl Samples {
         ensures { slice_get self.now index ≡ Some result }
     {
         self.lists.at(index)
+    }
+
+    /// The samples in order, each of them lent. Takes no memory.
+    pub fn iter(&self) -> SampleIter<'_>
+        ensures { result ≡ self.now }
+    {
+        SampleIter::new(self)
     }
 
     /// Adds a copy of a sample.

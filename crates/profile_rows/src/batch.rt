@@ -15,14 +15,14 @@ use std::alloc::Global;
 use std::marker::Model;
 
 /// A row of a batch: a stack, which is lent, and its values.
-#[derive(Clone, Copy)]
+#[derive(Clone, Copy, Debug)]
 pub struct Row<'a> {
     pub stack: &'a Stack,
     pub weights: Weights,
 }
 
 /// A row of a batch that was taken apart: a stack and its values.
-#[derive(Drop)]
+#[derive(Debug, Drop)]
 pub struct OwnedRow {
     pub stack: Stack,
     pub weights: Weights,
@@ -30,7 +30,7 @@ pub struct OwnedRow {
 
 /// Rows in order, each of as many values as the batch is wide. The total of each value is at most
 /// [`MAX_TOTAL`](crate::MAX_TOTAL).
-#[derive(Drop)]
+#[derive(Debug, Drop)]
 pub struct Batch {
     /// The total of each value.
     totals: Weights,

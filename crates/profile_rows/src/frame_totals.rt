@@ -18,7 +18,7 @@ use basics::NoMemory;
 use std::alloc::{AllocError, Global};
 
 /// What a name weighs in rows, as pprof has it.
-#[derive(Drop, PartialEq, Eq)]
+#[derive(Debug, Drop, PartialEq, Eq)]
 pub struct FrameTotal {
     pub name: Name,
     /// The weight of the rows whose leaf has the name.
@@ -28,7 +28,7 @@ pub struct FrameTotal {
 }
 
 /// What the names of rows weigh, and what the rows weigh together.
-#[derive(Drop)]
+#[derive(Debug, Drop)]
 pub struct FrameTotals {
     pub total: u64,
     /// Each name of cumulative weight above 0 once, in any order.

@@ -31,7 +31,7 @@ pub enum NameFault {
 
 /// A frame's name: UTF-8 text that isn't empty and holds no semicolon and no line feed, so that a line of folded stacks
 /// can hold it. Names are ordered by their bytes. A second owner shares the text.
-#[derive(Drop)]
+#[derive(Debug, Drop)]
 pub struct Name {
     text: ArcStr<Global>,
 }

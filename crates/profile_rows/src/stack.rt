@@ -18,7 +18,7 @@ pub const MAX_DEPTH: usize = 65_535;
 
 /// The frames of a stack by their names, root first: at most [`MAX_DEPTH`], perhaps none. Stacks are ordered as lists
 /// of names, so that a stack comes before those that it begins.
-#[derive(Drop)]
+#[derive(Debug, Drop)]
 pub struct Stack {
     names: Vec<Name>,
 }

@@ -18,7 +18,7 @@ use thiserror::Error;
 pub const MAX_TOTAL: u64 = 9_223_372_036_854_775_807;
 
 /// A row of one value: a stack and its weight.
-#[derive(Clone, Drop, PartialEq, Eq)]
+#[derive(Clone, Debug, Drop, PartialEq, Eq)]
 pub struct WeightedStack {
     pub stack: Stack,
     pub weight: u64,
@@ -38,15 +38,26 @@ pub enum PushFault {
     NoMemory,
 }
 
-/// A fault, and the value that was refused.
-#[derive(Drop)]
+/// A fault, and the value that was refused. As an error it prints the fault alone.
+#[derive(Debug, Drop, Error)]
+#[error("{fault}")]
 pub struct Refused<T> {
     pub fault: PushFault,
     pub back: T,
 }
 
+impl<T: Drop> From<Refused<T>> for PushFault {
+    ghost use Rattle.std.specs.Prelude.{◌≡◌};
+
+    ghost from_gives = { λ refused given. given ≡ refused.fault };
+
+    fn from(refused: Refused<T>) -> PushFault {
+        refused.fault
+    }
+}
+
 /// Rows in order, whose weights are at most [`MAX_TOTAL`] together.
-#[derive(Drop)]
+#[derive(Debug, Drop)]
 pub struct WeightedStacks {
     rows: Vec<WeightedStack>,
     total: u64,

@@ -65,9 +65,20 @@ impl<T: Drop> From<AllocFailed<T>> for BookFault {
     }
 }
 
-/// A fault, and the value that was refused.
-#[derive(Drop)]
+/// A fault, and the value that was refused. As an error it prints the fault alone.
+#[derive(Debug, Drop, Error)]
+#[error("{fault}")]
 pub struct Refused<T> {
     pub fault: BookFault,
     pub back: T,
+}
+
+impl<T: Drop> From<Refused<T>> for BookFault {
+    ghost use Rattle.std.specs.Prelude.{◌≡◌};
+
+    ghost from_gives = { λ refusal given. given ≡ refusal.fault };
+
+    fn from(refused: Refused<T>) -> BookFault {
+        refused.fault
+    }
 }

@@ -1,7 +1,10 @@
 //! What a journal keeps of a change, and what a session is told of its operations.
 
+ghost use Rattle.std.specs.Prelude.{◌≡◌, IfOk};
+
 use crate::operation::{Op, Reply};
-use flame_report::Items;
+use flame_report::{Items, NoMemory};
+use std::alloc::Global;
 use std::marker::Model;
 
 /// An entry of a journal. A contract sees what its operation and its reply hold.
@@ -40,9 +43,46 @@ impl Model for Receipt {
     ghost view = { λ r. record { op = plain_op r.op; reply = plain_reply r.reply; at = r.at } };
 }
 
+impl Receipt {
+    /// The same receipt, which shares what the operation and the reply hold.
+    ///
+    /// # Errors
+    ///
+    /// `NoMemory`, where that has as many owners as it can have.
+    pub fn share(&self) -> Result<Receipt, NoMemory>
+        ensures { IfOk result (λ receipt. receipt ≡ self.now) }
+    {
+        Ok(Receipt {
+            op: self.op.share()?,
+            reply: self.reply.share()?,
+            at: self.at,
+        })
+    }
+}
+
 /// What a session was told, in its own order.
 #[derive(Drop)]
 pub struct SessionLog {
     pub session: u32,
     pub receipts: Items<Receipt>,
+}
+
+impl SessionLog {
+    /// The same log, which shares what its receipts hold.
+    ///
+    /// # Errors
+    ///
+    /// `NoMemory`.
+    pub fn share(&self, alloc: Global) -> Result<SessionLog, NoMemory>
+        ensures { IfOk result (λ log. log ≡ self.now) }
+    {
+        let mut receipts = Vec::with_capacity(alloc, self.receipts.len())?;
+        for receipt in self.receipts.as_slice() {
+            receipts.push(receipt.share()?)?;
+        }
+        Ok(SessionLog {
+            session: self.session,
+            receipts: Items::new(receipts),
+        })
+    }
 }

@@ -1,6 +1,7 @@
 //! What a session passes on to others: where its change was placed, and what they may be told of it.
 
 use change_history::{Front, StoreName};
+use std::fmt::{self, Debug, Formatter, Write};
 use std::marker::Model;
 
 /// A list of changes that the store of this name has, as a session told it. Contracts see it as the list of entries.
@@ -20,6 +21,12 @@ impl<N: StoreName> Model for Told<N> {
     ghost view = { λ t. t.front };
 }
 
+impl<N: StoreName> Debug for Told<N> {
+    fn fmt<W: Write>(&self, f: &mut Formatter<W>) -> fmt::Result {
+        f.debug_struct("Told").finish_non_exhaustive()
+    }
+}
+
 /// Where a change was placed, and what others may be told of it.
 #[derive(Drop)]
 pub struct Placed<N: StoreName> {
@@ -27,4 +34,12 @@ pub struct Placed<N: StoreName> {
     pub place: u64,
     /// The change, and all before it.
     pub told: Told<N>,
+}
+
+impl<N: StoreName> Debug for Placed<N> {
+    fn fmt<W: Write>(&self, f: &mut Formatter<W>) -> fmt::Result {
+        f.debug_struct("Placed")
+            .field("place", &self.place)
+            .finish_non_exhaustive()
+    }
 }

@@ -17,6 +17,7 @@ use std::snapshot::Snapshot;
 use std::sync::Wait;
 use std::thread;
 use std::thread::{Promise, PromisedHandle, Threads};
+use thiserror::Error;
 
 /// What is called around each step of each worker, a refused one included. Workers and steps are numbered from 0.
 pub trait Gate: Sync {
@@ -28,16 +29,19 @@ pub trait Gate: Sync {
 }
 
 /// Why a worker stopped.
-#[derive(Clone, Copy, Debug, PartialEq, Eq)]
+#[derive(Clone, Copy, Debug, PartialEq, Eq, Error)]
 pub enum Cause {
     /// Its session was refused the operation.
+    #[error("{0}")]
     Book(BookFault),
     /// Its thread couldn't be started.
+    #[error("G3 Start")]
     Start,
 }
 
 /// Where a worker stopped, and why.
-#[derive(Clone, Copy, Debug, PartialEq, Eq)]
+#[derive(Clone, Copy, Debug, PartialEq, Eq, Error)]
+#[error("G4 Stop step {step} cause {cause}")]
 pub struct Stop {
     /// The number of the operation that it wasn't answered, from 0.
     pub step: usize,

@@ -8,14 +8,14 @@ use profile_rows::{FrameTotal, Name};
 use std::marker::Model;
 
 /// The names that weigh most, and what all rows weigh together.
-#[derive(Drop, PartialEq, Eq)]
+#[derive(Debug, Drop, PartialEq, Eq)]
 pub struct Top {
     pub total: u64,
     pub rows: Items<FrameTotal>,
 }
 
 /// What a rectangle is called: the last name of its path, and nothing for the empty path.
-#[derive(Drop)]
+#[derive(Debug, Drop)]
 pub struct Label {
     name: Option<Name>,
 }
@@ -76,7 +76,7 @@ impl Eq for Label {
 }
 
 /// A rectangle of a flame graph: a path of the kept stacks that is wide enough to be seen.
-#[derive(Drop, PartialEq, Eq)]
+#[derive(Debug, Drop, PartialEq, Eq)]
 pub struct Rect {
     /// How many names the path has.
     pub depth: u32,
@@ -92,7 +92,7 @@ pub struct Rect {
 }
 
 /// The layout of a flame graph. Its rectangles come in the order of their paths.
-#[derive(Drop, PartialEq, Eq)]
+#[derive(Debug, Drop, PartialEq, Eq)]
 pub struct Flame {
     pub total: u64,
     pub columns: Columns,
@@ -100,7 +100,7 @@ pub struct Flame {
 }
 
 /// The answer to a query, of the query's kind.
-#[derive(Drop)]
+#[derive(Debug, Drop)]
 pub enum Answer {
     Total(u64),
     Top(Top),

@@ -73,7 +73,7 @@ pub enum Kind {
 }
 
 /// A question to a profile. Only the rows that it keeps count, in totals too, and only one value of each.
-#[derive(Drop)]
+#[derive(Debug, Drop)]
 pub struct Query {
     /// Where there is one, only rows whose stack has this name are kept.
     pub focus: Option<Name>,

@@ -15,6 +15,8 @@ pub use Rattle.op_book.specs.Books
 pub use Rattle.op_book.specs.Operations
 pub use Rattle.op_book.specs.Receipts
 pub use Rattle.op_book.specs.Runs
+pub use Rattle.pprof_profile.specs.ByFields
+pub use Rattle.pprof_profile.specs.Canonical
 pub use Rattle.pprof_profile.specs.Messages
 pub use Rattle.pprof_profile.specs.Profiles
 pub use Rattle.pprof_profile.specs.Reading

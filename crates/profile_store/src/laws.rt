@@ -7,7 +7,8 @@ pub use flame_report::laws::{
 pub use log_audit::laws::logs_add_up;
 pub use op_book::laws::additions_count_since_the_last_reset;
 pub use pprof_profile::laws::{
-    canonical_bytes_spell_the_draft, gzip_spells_no_draft, one_profile, one_profile_or_fault,
+    canonical_bytes_spell_the_draft, draft_by_its_fields, gzip_spells_no_draft, one_profile,
+    one_profile_or_fault,
 };
 pub use stack_text::laws::{
     a_text_has_one_first_fault, aggregate_has_weights, aggregate_is_by_weights,

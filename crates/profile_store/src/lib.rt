@@ -1,10 +1,23 @@
-//! The library under one name: everything public that a service calls, from the bytes of an input to a store of many
-//! threads and its audit. Nothing is made here; each call stands in the crate that its page of contracts names.
+//! The library under one name: what a service names, from the bytes of an input to a store of many threads and its
+//! audit. Nothing is made here; each call stands in the crate that its page of contracts names.
 //!
 //! - Reading: [`read_folded`], [`decode`] and [`batch_of`] make a [`Batch`] of rows out of folded text and of profiles.
+//!   [`take_lines`] hands a text's lines to a [`LineTaker`] of the service's own, which makes of them what it likes.
+//! - Writing: [`write_folded`], [`encode`], and [`encode_around`] for samples that are written one by one.
 //! - One thread: a [`Grower`] adds batches to a [`CallTree`], and [`report`] answers a [`Query`] over it.
 //! - Many threads: a [`Store`] gives each thread a [`Session`], which adds batches, resets, and reports without a lock.
 //! - Audit: [`audit`] says whether what sessions were told is one history, which [`laws::logs_add_up`] turns into sums.
+//!
+//! # What is in it
+//!
+//! Everything public of `folded_text`, `profile_samples`, `call_tree`, `flame_report`, `op_book`, `log_audit` and
+//! `live_store`. Of `pprof_profile` and `profile_rows` everything but what the crates above them count names and ids
+//! with: `CountedRows`, `NumberedRow`, `TextTable`, `Tallies`, `Tally`, `replace_by_names` and `IdRange`.
+//!
+//! The layers below these aren't in it: `basics`, the wire format (`pprof_wire`), the pages of trees (`shared_pages`),
+//! the history of a store (`change_history`) and its versions (`shown_versions`). Of them it has only what its calls
+//! take or give: [`Items`], [`NoMemory`], [`WireFault`] and [`StoreName`]. Nor is the program in it: `flame_words`,
+//! `flame_answers`, `live_report` and `flame_program`.
 #![tactic(auto)]
 
 pub mod laws;
@@ -31,6 +44,9 @@ pub use flame_report::report_of;
 pub use flame_report::report_of_stacks;
 pub use flame_report::top_list;
 pub use flame_report::top_text;
+pub use folded_text::LineTaker;
+pub use folded_text::read_frames;
+pub use folded_text::take_lines;
 pub use live_store::Blank;
 pub use live_store::Cause;
 pub use live_store::FinishedWorker;
@@ -71,14 +87,17 @@ pub use pprof_profile::Profile;
 pub use pprof_profile::ProfileFault;
 pub use pprof_profile::Refused as RefusedDraft;
 pub use pprof_profile::Sample;
+pub use pprof_profile::SampleIter;
 pub use pprof_profile::SampleRef;
 pub use pprof_profile::Samples;
 pub use pprof_profile::Text;
 pub use pprof_profile::ValueType;
 pub use pprof_profile::WireFault;
+pub use pprof_profile::WrittenSamples;
 pub use pprof_profile::check;
 pub use pprof_profile::decode;
 pub use pprof_profile::encode;
+pub use pprof_profile::encode_around;
 pub use profile_rows::StackText;
 pub use profile_rows::aggregate_stacks;
 pub use stack_text::Batch;

@@ -18,7 +18,7 @@ pub(crate) enum Change {
     Exchanged,
     /// The last receipt of the last log has the total 8.
     OtherTotal,
-    /// There is one log more of session 0.
+    /// The first log stands once more behind all others.
     FirstTwice,
 }
 
@@ -68,13 +68,12 @@ pub(crate) fn given(
     logs: Vec<SessionLog>,
     change: Change,
 ) -> Result<Vec<SessionLog>, Fail> {
-    let first = SessionLog {
-        session: 0,
-        receipts: Items::new(Vec::new(alloc)),
-    };
     match change {
         Change::AsTold => Ok(logs),
-        Change::FirstTwice => with_log(logs, first),
+        Change::FirstTwice => {
+            let first = logs.first().ok_or("no log")?.share(alloc)?;
+            with_log(logs, first)
+        }
         _ => with_last_changed(alloc, logs, change),
     }
 }

@@ -181,10 +181,7 @@ pub(crate) fn add_batch<N: StoreName, R: Wait>(
     session: &mut Session<'_, N>,
     batch: Arc<Batch>,
 ) -> Result<u64, BookFault> {
-    match session.add(rt, alloc, batch) {
-        Ok(placed) => Ok(placed.place),
-        Err(refused) => Err(refused.fault),
-    }
+    Ok(session.add(rt, alloc, batch)?.place)
 }
 
 /// The same of folded text.

@@ -26,13 +26,13 @@ fn refusals() -> [Refusal; 7] {
                 Deed::Add("b 1\n"),
                 Deed::Total(0),
             ],
-            "0: 3 Some(Stop { step: 3, cause: Book(Full { held: 2 }) }); 0.0 0.1 0.2 \
+            "0: 3 G4 Stop step 3 cause K3 Full held 2; 0.0 0.1 0.2 \
              | next Ok(1); [8] calls, 0 wrong",
         ),
         (
             of_size(0, 1),
             &[Deed::Total(0), Deed::Reset, Deed::Total(0)],
-            "0: 1 Some(Stop { step: 1, cause: Book(Full { held: 0 }) }); 0.0 \
+            "0: 1 G4 Stop step 1 cause K3 Full held 0; 0.0 \
              | next Ok(1); [4] calls, 0 wrong",
         ),
         (
@@ -42,7 +42,7 @@ fn refusals() -> [Refusal; 7] {
                 Deed::Add("b 2\n"),
                 Deed::Total(0),
             ],
-            "0: 1 Some(Stop { step: 1, cause: Book(Heavy { value: 0, held: 9223372036854775806 }) }); 0.0 \
+            "0: 1 G4 Stop step 1 cause K4 Heavy value 0 held 9223372036854775806; 0.0 \
              | next Ok(1); [4] calls, 0 wrong",
         ),
         (
@@ -52,7 +52,7 @@ fn refusals() -> [Refusal; 7] {
                 Deed::Row(&[1, 0]),
                 Deed::Row(&[1, 1]),
             ],
-            "0: 2 Some(Stop { step: 2, cause: Book(Heavy { value: 1, held: 9223372036854775807 }) }); 0.0 0.1 \
+            "0: 2 G4 Stop step 2 cause K4 Heavy value 1 held 9223372036854775807; 0.0 0.1 \
              | next Ok(1); [6] calls, 0 wrong",
         ),
         (
@@ -62,13 +62,13 @@ fn refusals() -> [Refusal; 7] {
                 Deed::Total(2),
                 Deed::Row(&[1, 2, 3, 4]),
             ],
-            "0: 2 Some(Stop { step: 2, cause: Book(Width { held: 3 }) }); 0.0 0.1 \
+            "0: 2 G4 Stop step 2 cause K6 Width held 3; 0.0 0.1 \
              | next Ok(1); [6] calls, 0 wrong",
         ),
         (
             of_size(9, 3),
             &[Deed::Total(2), Deed::Total(3)],
-            "0: 1 Some(Stop { step: 1, cause: Book(Width { held: 3 }) }); 0.0 \
+            "0: 1 G4 Stop step 1 cause K6 Width held 3; 0.0 \
              | next Ok(1); [4] calls, 0 wrong",
         ),
         (
@@ -79,7 +79,7 @@ fn refusals() -> [Refusal; 7] {
                 Deed::Total(4),
                 Deed::Total(0),
             ],
-            "0: 2 Some(Stop { step: 2, cause: Book(Width { held: 4 }) }); 0.0 0.1 \
+            "0: 2 G4 Stop step 2 cause K6 Width held 4; 0.0 0.1 \
              | next Ok(1); [6] calls, 0 wrong",
         ),
     ]

@@ -158,7 +158,10 @@ pub(crate) fn told(
     for one in all {
         let FinishedWorker { log, stopped } = one;
         let receipts = log.receipts.as_slice().len();
-        write!(text, "{}: {receipts} {stopped:?}; ", log.session)?;
+        match stopped {
+            Some(stop) => write!(text, "{}: {receipts} {stop}; ", log.session)?,
+            None => write!(text, "{}: {receipts} None; ", log.session)?,
+        }
         logs.push(log).ok().ok_or("no memory")?;
     }
     text.push_str(audit_text(alloc, journal, &logs)?.as_str())?;
@@ -310,11 +313,7 @@ const LONG_AND_SHORT: &[&[Deed]] = &[
 fn gates_are_told_of_each_step_in_order(rt: HostRuntime) -> Result<(), Fail> {
     let said = counted(&rt, rt.alloc(), TEN_CHANGES, LONG_AND_SHORT)?;
     let said = said.as_str();
-    assert!(rt;
-        said.starts_with(
-            "0: 300 None; 1: 2 Some(Stop { step: 2, cause: Book(Width { held: 1 }) }); "
-        )
-    );
+    assert!(rt; said.starts_with("0: 300 None; 1: 2 G4 Stop step 2 cause K6 Width held 1; "));
     assert_eq!(rt; said.matches(".").count(), 302);
     assert!(rt; said.ends_with(" | next Ok(2); [600, 6] calls, 0 wrong"));
     Ok(())

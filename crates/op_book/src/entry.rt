@@ -8,7 +8,7 @@ use std::alloc::Global;
 use std::marker::Model;
 
 /// An entry of a journal. A contract sees what its operation and its reply hold.
-#[derive(Drop)]
+#[derive(Debug, Drop)]
 pub struct Entry {
     pub session: u32,
     /// How many entries of the session stand before this one.
@@ -27,7 +27,7 @@ impl Model for Entry {
 }
 
 /// What a session is told of its operation. A contract sees what the operation and the reply hold.
-#[derive(Drop)]
+#[derive(Debug, Drop)]
 pub struct Receipt {
     pub op: Op,
     pub reply: Reply,
@@ -61,7 +61,7 @@ impl Receipt {
 }
 
 /// What a session was told, in its own order.
-#[derive(Drop)]
+#[derive(Debug, Drop)]
 pub struct SessionLog {
     pub session: u32,
     pub receipts: Items<Receipt>,

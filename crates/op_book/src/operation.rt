@@ -8,7 +8,7 @@ use profile_rows::Batch;
 use std::sync::Arc;
 
 /// An operation of a session.
-#[derive(Drop)]
+#[derive(Debug, Drop)]
 pub enum Op {
     /// The rows of a batch are added.
     Add(Arc<Batch>),
@@ -19,7 +19,7 @@ pub enum Op {
 }
 
 /// What an operation is answered.
-#[derive(Drop)]
+#[derive(Debug, Drop)]
 pub enum Reply {
     /// An addition or a reset: how many of these stand before it.
     Placed(u64),

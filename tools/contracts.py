@@ -6,7 +6,9 @@ their index.
     python3 tools/contracts.py --check    says which files aren't current, and ends with 1 if any isn't
 
 Of each call that the crate exports stand there its comment, its signature with its clauses, and the names of the edits
-that change it; of each `impl` what it says of a trait. Edits of functions inside stand at the end of their crate.
+that change it; of each type its public fields or its variants, with their comments, and its ghost fields; of each trait
+its calls; of each `impl` what it says of a trait. What a crate exports of others stands at the head of its page, and
+edits of functions inside at the end.
 """
 import pathlib
 import re
@@ -21,17 +23,21 @@ INDEX = ROOT / "docs/CONTRACTS.md"
 CALL = re.compile(r"^( *)(pub )?(?:pub\([a-z]+\) )?(?:const )?fn (\w+)")
 IMPL = re.compile(r"^impl(?:<[^>]*>)? (?:(\S+(?:<.*>)?) for )?(.+?)(?: where)? \{$")
 TRAIT = re.compile(r"^pub trait (\w+)")
-STRUCT = re.compile(r"^pub struct (\w+).* \{$")
+TYPE = re.compile(r"^pub (struct|enum) (\w+)")
+# Constants and names of types.
+NAMED = re.compile(r"^pub (?:const|type) (\w+)\b.*;$")
 # What a crate's root exports: a module, or names of one.
 OPEN_MODULE = re.compile(r"^pub mod (\w+);", re.MULTILINE)
-EXPORT = re.compile(r"^pub use (?:crate::)?\w+::(?:\{([^}]*)\}|(\w+));", re.MULTILINE)
+EXPORT = re.compile(r"^pub use (?:crate::)?(\w+)::(?:\{([^}]*)\}|(\w+));", re.MULTILINE)
+CLAUSE = re.compile(r"\b(ensures|requires)\b")
 PROMISE = re.compile(r"^    (?:pub(?:\([a-z]+\))? )?ghost (?!use )\w+")
 # Traits whose `impl` says nothing that a caller reads: what a value is seen as stands in the clauses.
 SILENT = ("Model", "Drop", "Eq")
 
 
 class Item:
-    """A call, or what an `impl` says of a trait: where it stands, its comment, and its lines without a body."""
+    """A call, a type, a trait, or what an `impl` says of one: where it stands, its comment, and its lines without a
+    body."""
 
     def __init__(self, module, owner, name, public, comment, lines):
         self.module = module
@@ -45,6 +51,9 @@ class Item:
     def title(self):
         return f"{self.owner}::{self.name}" if self.owner else self.name
 
+    def is_call(self):
+        return bool(CALL.match(self.lines[0]))
+
 
 def depth_of(line):
     """By how many braces more a line opens than it closes, text aside."""
@@ -53,20 +62,19 @@ def depth_of(line):
 
 
 def head_of(lines, start):
-    """The lines of a function from its `fn` to its body, which begins with a brace that no clause opens, and the index
-    behind them."""
+    """The lines of a function from its `fn` to its body, which begins with a brace that no clause opens, or to the
+    semicolon of one without a body."""
     head, depth = [], 0
-    for index in range(start, len(lines)):
-        line = lines[index]
-        opens_body = depth == 0 and line.strip() in ("{", "{}")
-        ends_head = depth == 0 and (line.endswith(" {") or line.endswith(";") or line.endswith("{}"))
-        if opens_body:
-            return head, index
-        depth += depth_of(line)
-        if ends_head and not re.search(r"\b(ensures|requires)\b", line):
-            return head + [re.sub(r" ?(\{\}?|;)$", "", line)], index
+    for line in lines[start:]:
+        before, depth = depth, depth + depth_of(line)
+        if before == 0 and line.strip() in ("{", "{}"):
+            return head
+        if before == 0 and line.endswith((" {", "{}")) and not CLAUSE.search(line):
+            return head + [re.sub(r" ?\{\}?$", "", line)]
+        if depth == 0 and line.endswith(";"):
+            return head + [line[:-1]]
         head.append(line)
-    return head, len(lines)
+    return head
 
 
 def comment_above(lines, start):
@@ -86,10 +94,11 @@ def dedented(lines, indent):
 
 
 def promises(lines, start):
-    """What an `impl` says by ghost items, up to the end of each."""
+    """What an `impl` or a trait says by ghost items, each with its comment and up to its end."""
     found, depth, open_item = [], 1, False
-    for line in lines[start + 1 :]:
+    for index, line in enumerate(lines[start + 1 :], start + 1):
         if depth == 1 and PROMISE.match(line):
+            found += [f"    /// {it}" for it in comment_above(lines, index)]
             open_item = True
         if open_item:
             found.append(line)
@@ -101,33 +110,73 @@ def promises(lines, start):
     return found
 
 
+def members(lines, start):
+    """The lines of each field or variant of a type, its comment among them."""
+    found, member, depth = [], [], 0
+    for line in lines[start + 1 : lines.index("}", start)]:
+        member.append(line)
+        depth += depth_of(line)
+        if depth == 0 and line.endswith(",") and not line.lstrip().startswith(("//", "#")):
+            found.append(member)
+            member = []
+    return found
+
+
+def is_shown(member):
+    """Whether a struct shows the field to its users: a public one, or a ghost field."""
+    return any(line.startswith("    pub ") or PROMISE.match(line) for line in member)
+
+
+def derives_above(lines, start):
+    """What a type derives, as the source has it."""
+    above = start
+    while lines[above - 1].startswith("#["):
+        above -= 1
+    return [line for line in lines[above:start] if line.startswith(("#[derive(", "#[error("))]
+
+
+def shape_of(lines, start):
+    """A type without its private fields."""
+    head, derives = lines[start], derives_above(lines, start)
+    if not head.endswith(" {"):
+        return [*derives, head]
+    kept = members(lines, start)
+    shown = [it for it in kept if " enum " in head or is_shown(it)]
+    if not shown:
+        return [*derives, f"{head} /* private fields */ }}"]
+    hidden = ["    /* private fields */"] if shown != kept else []
+    return [*derives, head, *(line for it in shown for line in it), *hidden, "}"]
+
+
+def is_public(marked, trait, declared, head):
+    """Whether users see a call: one that is marked so, one that a trait declares, or one of an `impl` that says more
+    than its trait."""
+    return bool(marked) or declared or bool(trait) and any(CLAUSE.search(line) for line in head)
+
+
 def items_of(path, module):
-    """The calls of a source file, public or not, and what its `impl`s say of traits."""
+    """The calls of a source file, public or not, its public types and traits, and what its `impl`s say of traits."""
     lines = path.read_text(encoding="utf-8").split("\n")
-    owner, trait, found = "", "", []
+    owner, trait, declared, found = "", "", False, []
     for index, line in enumerate(lines):
+        comment = comment_above(lines, index)
         if line and not line[0].isspace() and not line.startswith("}"):
-            owner = trait = ""
+            owner, trait, declared = "", "", False
         if head := IMPL.match(line):
             trait, owner = head[1] or "", re.sub(r"<.*", "", head[2])
             said = promises(lines, index)
             if trait and trait not in SILENT and said:
-                found.append(Item(module, owner, f"{trait}", True, [], [line[:-2]] + said))
+                found.append(Item(module, owner, trait, True, [], [line[:-2]] + said))
         elif head := TRAIT.match(line):
-            owner = head[1]
-            said = promises(lines, index)
-            found.append(Item(module, "", f"{owner}", True, comment_above(lines, index), [line[:-2]] + said))
-        elif head := STRUCT.match(line):
-            kept = promises(lines, index)
-            if kept:
-                found.append(Item(module, "", head[1], True, comment_above(lines, index), [line[:-2]] + kept))
+            owner, declared = head[1], True
+            found.append(Item(module, "", owner, True, comment, [line[:-2]] + promises(lines, index)))
+        elif head := TYPE.match(line):
+            found.append(Item(module, "", head[2], True, comment, shape_of(lines, index)))
+        elif head := NAMED.match(line):
+            found.append(Item(module, "", head[1], True, comment, [line]))
         elif head := CALL.match(line):
-            public = bool(head[2]) or bool(trait)
-            text, _ = head_of(lines, index)
-            said = any(re.search(r"\b(ensures|requires)\b", it) for it in text)
-            if trait and not said:
-                public = False
-            comment = comment_above(lines, index)
+            text = head_of(lines, index)
+            public = is_public(head[2], trait, declared, text)
             found.append(Item(module, owner, head[3], public, comment, dedented(text, len(head[1]))))
     return found
 
@@ -167,12 +216,26 @@ def quoted(names):
     return ", ".join(f"`{it}`" for it in names)
 
 
+def root_of(crate):
+    root = crate / "src/lib.rt"
+    return root.read_text(encoding="utf-8") if root.is_file() else ""
+
+
 def exported(crate):
     """The modules that a crate opens, and the names that it exports of others."""
-    root = crate / "src/lib.rt"
-    text = root.read_text(encoding="utf-8") if root.is_file() else ""
-    names = {it for several, one in EXPORT.findall(text) for it in re.findall(r"\w+", several or one)}
+    text = root_of(crate)
+    names = {it for _, several, one in EXPORT.findall(text) for it in re.findall(r"\w+", several or one)}
     return set(OPEN_MODULE.findall(text)), names
+
+
+def handed_on(crate):
+    """What the page says of the names that a crate exports of other crates."""
+    found = []
+    for source, several, one in EXPORT.findall(root_of(crate)):
+        if (ROOT / "crates" / source).is_dir():
+            names = [it.strip() for it in (several or one).split(",") if it.strip()]
+            found.append(f"{quoted(names)} of [{source}]({source}.md)")
+    return [*wrapped(f"Exported too: {'; '.join(found)}."), ""] if found else []
 
 
 def exports_of(item):
@@ -182,7 +245,7 @@ def exports_of(item):
 
 
 def page_of(crate):
-    """The page of a crate, and how many public calls and edits it has."""
+    """The page of a crate, empty where nothing is public, and how many public calls and edits it has."""
     modules, names = exported(crate)
     items = []
     for path in sorted((crate / "src").rglob("*.rt")):
@@ -194,6 +257,7 @@ def page_of(crate):
     public = [it for it in items if it.public]
     inside = [it for it in items if not it.public and it.edits]
     text = [f"# {crate.name}", "", f"Made by `tools/contracts.py` out of `crates/{crate.name}/src`.", ""]
+    text += handed_on(crate)
     for module in dict.fromkeys(it.module for it in public):
         text += [f"## {module}.rt", ""]
         for item in public:
@@ -204,7 +268,7 @@ def page_of(crate):
         text += [line for it in inside for line in wrapped(f"- `{it.title()}`: {quoted(it.edits)}.", "  ")]
         text.append("")
     edits = sum(len(it.edits) for it in items)
-    return "\n".join(text), len(public), edits
+    return "\n".join(text) if public else "", sum(it.is_call() for it in public), edits
 
 
 def pages():
@@ -215,7 +279,7 @@ def pages():
         if name.endswith("_tests"):
             continue
         text, calls, edits = page_of(ROOT / "crates" / name)
-        if calls:
+        if text:
             made[FOLDER / f"{name}.md"] = text
             rows.append(f"| [{name}](contracts/{name}.md) | {calls} | {edits} |")
     made[INDEX] = INDEX_TEXT + "\n".join(rows) + "\n"
@@ -224,11 +288,11 @@ def pages():
 
 INDEX_TEXT = """# Contracts
 
-`tools/contracts.py` makes these pages out of the sources: each public call with its comment, its clauses, and the
-names of its edits, the wrong bodies that the prover has to refuse. `OnOk`, `IfOk` and `OnErr`, `IfErr` say what holds
-where the call succeeds or fails; `.old` and `.new` are a value before and after the call, `.now` is what a reference
-leads to. The definitions that clauses cite stand in the `specs/` of their crate, and [MODEL.md](MODEL.md) says how they
-hang together.
+`tools/contracts.py` makes these pages out of the sources: each public type, and each public call with its comment, its
+clauses, and the names of its edits, the wrong bodies that the prover has to refuse. `OnOk`, `IfOk` and `OnErr`, `IfErr`
+say what holds where the call succeeds or fails; `.old` and `.new` are a value before and after the call, `.now` is what
+a reference leads to. The definitions that clauses cite stand in the `specs/` of their crate, and [MODEL.md](MODEL.md)
+says how they hang together.
 
 No clause can say that memory is asked for only where it is wanted, so a body that answers `NoMemory` too early is
 proved, and tests show that calls succeed; nor how long a call takes, or that it hashes by the `Hashing` that it is

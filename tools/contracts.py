@@ -23,6 +23,7 @@ INDEX = ROOT / "docs/CONTRACTS.md"
 CALL = re.compile(r"^( *)(pub )?(?:pub\([a-z]+\) )?(?:const )?fn (\w+)")
 IMPL = re.compile(r"^impl(?:<[^>]*>)? (?:(\S+(?:<.*>)?) for )?(.+?)(?: where)? \{$")
 TRAIT = re.compile(r"^pub trait (\w+)")
+OWN_TRAIT = re.compile(r"^(?:pub\([a-z]+\) )?trait (\w+)", re.MULTILINE)
 TYPE = re.compile(r"^pub (struct|enum) (\w+)")
 # Constants and names of types.
 NAMED = re.compile(r"^pub (?:const|type) (\w+)\b.*;$")
@@ -154,8 +155,9 @@ def is_public(marked, trait, declared, head):
     return bool(marked) or declared or bool(trait) and any(CLAUSE.search(line) for line in head)
 
 
-def items_of(path, module):
-    """The calls of a source file, public or not, its public types and traits, and what its `impl`s say of traits."""
+def items_of(path, module, own_traits):
+    """The calls of a source file, public or not, its public types and traits, and what its `impl`s say of traits, but
+    for those that the crate keeps to itself."""
     lines = path.read_text(encoding="utf-8").split("\n")
     owner, trait, declared, found = "", "", False, []
     for index, line in enumerate(lines):
@@ -163,7 +165,8 @@ def items_of(path, module):
         if line and not line[0].isspace() and not line.startswith("}"):
             owner, trait, declared = "", "", False
         if head := IMPL.match(line):
-            trait, owner = head[1] or "", re.sub(r"<.*", "", head[2])
+            trait = "" if head[1] in own_traits else head[1] or ""
+            owner = re.sub(r"<.*", "", head[2])
             said = promises(lines, index)
             if trait and trait not in SILENT and said:
                 found.append(Item(module, owner, trait, True, [], [line[:-2]] + said))
@@ -247,10 +250,12 @@ def exports_of(item):
 def page_of(crate):
     """The page of a crate, empty where nothing is public, and how many public calls and edits it has."""
     modules, names = exported(crate)
+    paths = sorted((crate / "src").rglob("*.rt"))
+    own_traits = {it for path in paths for it in OWN_TRAIT.findall(path.read_text(encoding="utf-8"))}
     items = []
-    for path in sorted((crate / "src").rglob("*.rt")):
+    for path in paths:
         module = str(path.relative_to(crate / "src"))[:-3]
-        items += items_of(path, module)
+        items += items_of(path, module, own_traits)
     add_edits(crate, items)
     for item in items:
         item.public &= item.module in modules or bool(names & exports_of(item))

@@ -1,51 +1,76 @@
-//! A history at its beginning, and the word that is its length.
+//! A history at its beginning.
 
 ghost use Rattle.std.specs.Prelude.{◌≡◌, []};
+ghost use Rattle.logbook.specs.Pages.{may_write};
 ghost use Rattle.change_history.specs.Histories.{head_of};
 
-use crate::name::StoreName;
-use crate::rule::{HistoryRule, Reached};
-use logbook::{Seen, Start, Word};
-use op_book::Entry;
-use std::marker::PhantomData;
+use crate::reached::Reached;
+use crate::rule::{Asked, Begins, HistoryRule, HistoryWord, NoTrade, SeenLines, TakesPen};
+use logbook::{Pen, Seen, Start, Word};
+use std::marker::Model;
 
-/// A history without changes, of which no store is named yet.
+/// A history without changes, of which no store is named yet. Contracts see which history it is.
+#[derive(Drop)]
 pub struct NewHistory {
-    /// Its length, 0.
-    pub word: Word<Entry, u64, HistoryRule>,
-    /// The evidence of its list, which is empty.
-    pub seen: Reached,
-    pub ghost empty: { seen.log ≡ [] },
-    pub ghost head_is: { word ≡ head_of seen.book },
+    pub(crate) word: HistoryWord,
+    pub(crate) pen: Pen,
+    pub(crate) lines: SeenLines,
+}
+
+impl Model for NewHistory {
+    ghost use Rattle.std.specs.Prelude.{◌≡◌, ◌<◌, [], length};
+    ghost use Rattle.logbook.specs.Pages.{Book, may_write};
+    ghost use Rattle.change_history.specs.Histories.{entries_of, head_of, next_pen};
+
+    ghost Value = { Book };
+
+    ghost view = { λ h. h.lines.book };
+
+    ghost invariant = { λ h. (h.word ≡ head_of h.lines.book) × (h.pen.book ≡ h.lines.book)
+        × (h.pen.nib.right ≡ may_write) × (h.pen.nib.key ≡ next_pen h.lines.log) × (0 < length h.lines.log)
+        × (entries_of h.lines.log ≡ []) };
 }
 
 impl NewHistory {
-    /// A history of its own. Takes no memory.
-    pub fn new() -> NewHistory {
-        let (seen, mut first, _second) = Seen::open(Start::alone(), 0, 0);
-        NewHistory {
-            word: Word::tracked(0, &mut first),
-            seen,
+    /// A history of its own, with the only pen that writes its next line. Takes no memory.
+    ///
+    /// None would say that somebody else has begun it, which doesn't come: nobody else has its word yet.
+    pub fn new() -> Option<NewHistory> {
+        let (mut lines, mut first, _second) = Seen::open(Start::alone(), 0, 0);
+        let word = Word::tracked(0, &mut first);
+        let mut asked: Asked = lines.plain::<NoTrade, (), NoTrade>(&());
+        let mut pen = lines.no_pen();
+        let found = word.compare_exchange::<Begins, NoTrade>(
+            0, 1, &mut lines, &mut asked, &mut pen,
+        );
+        if found != 0 {
+            return None;
         }
+        drop(Word::<_, _, HistoryRule>::tracked(0, &mut pen));
+        Some(NewHistory { word, pen, lines })
     }
-}
 
-/// The word of a store's history: its length, by which the history is added to.
-#[derive(Drop)]
-pub struct Head<N: StoreName> {
-    pub(crate) word: Word<Entry, u64, HistoryRule>,
-    of: PhantomData<N>,
-    pub(crate) ghost head_is: { word ≡ head_of N.history },
-}
-
-impl<N: StoreName> Head<N> {
-    /// The head of the store of this name.
-    pub fn new(word: Word<Entry, u64, HistoryRule>) -> Head<N>
-        requires { word ≡ head_of N.history }
+    /// The evidence of its list, which is empty.
+    pub fn reached(&self) -> Reached
+        ensures log { result.log ≡ [] }
+        ensures history { result.book ≡ self.now }
     {
-        Head {
-            word,
-            of: PhantomData,
+        Reached {
+            lines: self.lines.again(),
         }
     }
+}
+
+/// A pen for a later line.
+pub(crate) fn new_pen(word: &HistoryWord, lines: &SeenLines) -> Pen
+    requires { word.now ≡ head_of lines.now.book }
+    ensures history { result.book ≡ lines.now.book }
+    ensures right { result.nib.right ≡ may_write }
+{
+    let mut lines = lines.again();
+    let mut asked: Asked = lines.plain::<NoTrade, (), NoTrade>(&());
+    let mut pen = lines.no_pen();
+    let _ = word.compare_exchange::<TakesPen, NoTrade>(1, 1, &mut lines, &mut asked, &mut pen);
+    drop(Word::<_, _, HistoryRule>::tracked(0, &mut pen));
+    pen
 }

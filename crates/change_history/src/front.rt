@@ -1,14 +1,10 @@
 //! A list that the history has reached.
 
-ghost use Rattle.std.specs.Prelude.{◌≡◌, ◌<◌, ◌≤◌, ◌^◌, ◌++◌, ◌∷◌, [], length, MatchBool};
+ghost use Rattle.std.specs.Prelude.{◌≡◌, ◌<◌, ◌≤◌, length, MatchBool};
 ghost use mathlib.Core.List.{IsPrefix};
-ghost use Rattle.change_history.specs.Histories.{entry_made};
 
-use crate::beginning::Head;
 use crate::name::StoreName;
-use crate::rule::{AddsChange, HistoryRule, NoTrade, Reached};
-use logbook::Offer;
-use op_book::{Entry, Ready};
+use crate::reached::Reached;
 use std::marker::{Model, PhantomData};
 
 /// A list of changes that the history of a store has reached: a beginning of all later ones. Contracts see it as the
@@ -16,7 +12,7 @@ use std::marker::{Model, PhantomData};
 #[derive(Drop)]
 pub struct Front<N: StoreName> {
     count: u64,
-    seen: Reached,
+    pub(crate) seen: Reached,
     of: PhantomData<N>,
 }
 
@@ -78,8 +74,7 @@ impl<N: StoreName> Front<N> {
         ensures begins { IsPrefix self.now result }
         ensures begins_other { IsPrefix other.now result }
     {
-        let mut both = self.seen.again();
-        both.learn(&other.seen);
+        self.seen.compare(&other.seen);
         if self.count < other.count {
             other.again()
         } else {
@@ -92,39 +87,11 @@ impl<N: StoreName> Front<N> {
         ensures { MatchBool result ((self.new ≡ to.now) × IsPrefix self.old to.now)
             ((self.new ≡ self.old) × (length to.now < length self.old)) }
     {
-        let mut both = self.seen.again();
-        both.learn(&to.seen);
+        self.seen.compare(&to.seen);
         if to.count < self.count {
             return false;
         }
         *self = to.again();
         true
-    }
-
-    /// Adds the change that a book is ready for to the history, and says whether it did: the list is then all of the
-    /// history, this change the last. It did not where the history is longer, and the list is then the longer one. The
-    /// book has this list.
-    pub fn add(&mut self, head: &Head<N>, ready: &Ready) -> bool
-        requires room { length self.old < 2 ^ 62 }
-        requires book { ready.now.before.entries ≡ self.old }
-        ensures { MatchBool result (self.new ≡ self.old ++ entry_made ready.now ∷ [])
-            (IsPrefix self.old self.new × (length self.old < length self.new)) }
-    {
-        let mut offer: Offer<Entry, u64, HistoryRule, NoTrade> = self
-            .seen
-            .plain::<NoTrade, Ready, AddsChange>(ready);
-        let mut pen = self.seen.no_pen();
-        let count = self.count;
-        let found = head
-            .word
-            .compare_exchange::<AddsChange, NoTrade>(
-                count,
-                count + 1,
-                &mut self.seen,
-                &mut offer,
-                &mut pen,
-            );
-        self.count = if found == count { count + 1 } else { found };
-        found == count
     }
 }

@@ -12,9 +12,12 @@ use Rattle.std.proofs.lemmas.Bool.Decides.{nat_tests}
 use mathlib.Core.List.{IsPrefix}
 use Rattle.change_history.proofs.Fronts.{prefix_trans, prefix_whole, prefix_length, prefix_get}
 use Rattle.op_book.specs.Books.{BookState, IsFirstBookFault, change_told, entry_after, receipt_after}
+use Rattle.op_book.specs.Changes.{change_op}
 use Rattle.op_book.specs.Receipts.{HasEntry, Precedes, key_of}
 use Rattle.op_book.specs.Operations.{PlainEntry, PlainOp, PlainReceipt, ask, is_change, operations_of, plain_answer}
 use Rattle.op_book.specs.Runs.{turns_of}
+use Rattle.op_book.specs.declared.book.changing.Change.{Change}
+use Rattle.op_book.specs.declared.book.changing.Change.TheVariants as change
 use Rattle.op_book.specs.declared.fault.BookFault.{BookFault}
 use Rattle.op_book.specs.declared.fault.BookFault.TheVariants as book
 use Rattle.flame_report.specs.declared.query.Query.{Query}
@@ -178,6 +181,10 @@ borne_changed n turn place op log seen new changes turn_is is h =
     )
 
 -- ---- a change that was placed or refused
+
+pub is_change-change_op : (asked : Change) → is_change (change_op asked) ≡ true
+is_change-change_op (change.Add batch) = refl
+is_change-change_op change.Reset = refl
 
 pub borne_either : {P F : Type 0} (result : Result P F) (place : P → ℕ)
     (n : ℕ) (op : PlainOp) (log more : List PlainReceipt) (old new : List PlainEntry) → is_change op ≡ true

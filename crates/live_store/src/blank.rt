@@ -4,9 +4,8 @@ ghost use Rattle.std.specs.Prelude.{◌≡◌, ◌<◌, ◌≤◌, [], IfOk, Mat
 ghost use Rattle.live_store.specs.Stores.{IsMakeFault};
 
 use crate::fault::MakeFault;
-use change_history::{HistoryRule, NewHistory, Reached};
-use logbook::Word;
-use op_book::{Book, Entry};
+use change_history::{NewHistory, Reached};
+use op_book::Book;
 use profile_rows::{Hashing, NoMemory, Width};
 use shown_versions::{Version, VersionWriter, new_writer};
 use std::alloc::Global;
@@ -21,40 +20,38 @@ pub struct Blank {
     pub(crate) book: Book,
     pub(crate) sessions: u32,
     pub(crate) width: Width,
-    pub(crate) word: Word<Entry, u64, HistoryRule>,
-    pub(crate) seen: Reached,
+    pub(crate) history: NewHistory,
     pub(crate) versions: VersionWriter,
 }
 
 impl Model for Blank {
     ghost use Rattle.std.specs.Prelude.{◌≡◌, ◌≤◌, []};
     ghost use Rattle.left_right.specs.Sides.{view as known};
-    ghost use Rattle.change_history.specs.Histories.{head_of};
     ghost use Rattle.shown_versions.specs.Views.{listed};
     ghost use Rattle.live_store.specs.Stores.{StoreLimits};
 
     ghost Value = { StoreLimits };
 
     ghost view = { λ b. record
-        { limit = b.book.limit; sessions = b.sessions; width = b.width; history = b.seen.book } };
+        { limit = b.book.limit; sessions = b.sessions; width = b.width; history = b.history } };
 
     ghost invariant = { λ b. (b.book.entries ≡ []) × (b.book.sessions ≡ b.sessions) × (b.sessions ≤ 64)
-        × (b.book.width ≡ b.width) × (b.word ≡ head_of b.seen.book) × (b.seen.log ≡ [])
-        × (b.versions.desk.shown.value.seen.log ≡ []) × (b.versions.desk.shown.value.seen.book ≡ b.seen.book)
+        × (b.book.width ≡ b.width)
+        × (b.versions.desk.shown.value.seen.log ≡ []) × (b.versions.desk.shown.value.seen.book ≡ b.history)
         × (b.versions.desk.shown.value.width ≡ b.width)
         × (listed (known b.versions.desk.place) ≡ []) };
 }
 
 /// The version of no changes.
-fn first_version(alloc: Global, book: &Book, seen: &Reached) -> Result<Version, NoMemory>
+fn first_version(alloc: Global, book: &Book, seen: Reached) -> Result<Version, NoMemory>
     requires nothing { book.now.entries ≡ [] }
-    requires fresh { seen.now.log ≡ [] }
-    ensures seen { IfOk result (λ version. version.seen ≡ seen.now) }
+    requires fresh { seen.log ≡ [] }
+    ensures seen { IfOk result (λ version. version.seen ≡ seen) }
     ensures width { IfOk result (λ version. version.width ≡ book.now.width) }
 {
     let _ = book.entries();
     let tree = book.tree().share()?;
-    Ok(Version::new(0, Arc::new(alloc, tree)?, seen.again()))
+    Ok(Version::new(0, Arc::new(alloc, tree)?, seen))
 }
 
 impl Blank {
@@ -96,8 +93,10 @@ impl Blank {
         let Ok(book) = Book::with_hashing(alloc, hashing, limit, sessions, width) else {
             return Err(MakeFault::NoMemory);
         };
-        let NewHistory { word, seen } = NewHistory::new();
-        let Ok(first) = first_version(alloc, &book, &seen) else {
+        let Some(history) = NewHistory::new() else {
+            return Err(MakeFault::Place);
+        };
+        let Ok(first) = first_version(alloc, &book, history.reached()) else {
             return Err(MakeFault::NoMemory);
         };
         let Ok(versions) = new_writer(alloc, first, sessions as usize) else {
@@ -107,8 +106,7 @@ impl Blank {
             book,
             sessions,
             width,
-            word,
-            seen,
+            history,
             versions,
         })
     }

@@ -1,23 +1,22 @@
 //! What a store's lock keeps, and what happens under it.
 
-ghost use Rattle.std.specs.Prelude.{◌≡◌, ◌≢◌, ◌+◌, ◌<◌, ◌≤◌, ◌⊎◌, ◌++◌, ◌∷◌, [], ℕ, IfErr, IfOk, MatchResult, OnErr, OnOk, false, length, true};
+ghost use Rattle.std.specs.Prelude.{◌≡◌, ◌+◌, ◌<◌, ◌≤◌, ◌++◌, ◌∷◌, [], IfErr, IfOk, MatchResult, OnErr, OnOk, length, true};
 ghost use Rattle.std.specs.Arc.{arc_value};
 ghost use mathlib.Core.List.{IsPrefix};
 ghost use Rattle.left_right.specs.Sides.{view as known};
-ghost use Rattle.op_book.specs.Books.{IsAppended, IsFirstBookFault, IsSameBook, IsTreeAfter, change_told, receipt_after};
-ghost use Rattle.op_book.specs.Operations.{add, is_change, placed, reset};
+ghost use Rattle.op_book.specs.Books.{IsAppended, IsFirstBookFault, IsSameBook, change_told, receipt_after};
+ghost use Rattle.op_book.specs.Changes.{change_op};
+ghost use Rattle.op_book.specs.Operations.{is_change};
 ghost use Rattle.op_book.specs.Runs.{turns_of};
-ghost use Rattle.change_history.specs.Histories.{entry_made};
 ghost use Rattle.shown_versions.specs.Views.{IsOf, listed};
 ghost use Rattle.live_store.specs.Sessions.{IsPlaced};
-ghost use Rattle.live_store.specs.Stores.{IsFirstShown, IsGiveFault, IsShownBy, IsUnseen, ShowsCause, changes_told};
+ghost use Rattle.live_store.specs.Stores.{IsFirstShown, IsGiveFault, IsShownBy, ShowsCause, changes_told};
 
 use crate::fault::SessionFault;
 use crate::told::{Placed, Told};
 use call_tree::CallTree;
-use change_history::{Front, Head, StoreName};
-use op_book::{Book, BookFault, Journal, Ready, Refused};
-use profile_rows::Batch;
+use change_history::{Front, HistoryEnd, StoreName};
+use op_book::{Book, BookFault, Change, Journal, Ready};
 use shown_versions::{Version, VersionReader, VersionWriter, make_room, new_reader, publish};
 use std::alloc::{AllocError, Global};
 use std::sync::{Arc, Wait};
@@ -26,42 +25,33 @@ mod log;
 
 pub(crate) use log::Log;
 
-/// The book of a store, how many sessions were given, the evidence of what the history is, and the writer of the
-/// versions. All keep the numbers of the store's name, and all have the same list of changes: that of the book, that of
-/// the history, that of the version that is shown, and that which the writer knows of.
+/// The book of a store, the end of its history, how many sessions were given, and the writer of the versions. All keep
+/// the numbers of the store's name, and all have the same list of changes: that of the book, all of the history, that of
+/// the version that is shown, and that which the writer knows of. So whatever else has reached a list of the history, it
+/// is a beginning of the book's.
 pub(crate) struct LockedBook<N: StoreName> {
     book: Book,
+    end: HistoryEnd<N>,
     sessions: u32,
     given: u32,
-    front: Front<N>,
     versions: VersionWriter,
-    /// Whether a version was shown since the store has its name.
-    named: bool,
     ghost limit: { book.limit ≡ N.limit },
     ghost all: { book.sessions ≡ N.sessions },
     ghost wide: { book.width ≡ N.width },
     ghost many: { sessions ≡ N.sessions },
     ghost few: { given ≤ N.sessions },
-    ghost whole: { front ≡ book.entries },
+    ghost whole: { end ≡ book.entries },
     ghost shown: { versions.desk.shown.value.seen.log ≡ book.entries },
     ghost history: { versions.desk.shown.value.seen.book ≡ N.history },
     ghost shown_wide: { versions.desk.shown.value.width ≡ N.width },
     ghost writer: { listed (known versions.desk.place) ≡ book.entries },
-    ghost name: { named ≡ true → IsOf (known versions.desk.place) N.history N.width },
+    ghost name: { 0 < given → IsOf (known versions.desk.place) N.history N.width },
 }
 
-/// The version after a change that the history has.
-fn version_after<N: StoreName>(
-    book: &Book,
-    ready: &Ready,
-    front: &Front<N>,
-    tree: Arc<CallTree>,
-) -> Version
-    requires before { ready.now.before ≡ book.now }
-    requires change { is_change ready.now.op ≡ true }
-    requires turn { ready.now.turn ≡ turns_of book.now.entries ready.now.session }
-    requires front { front.now ≡ book.now.entries ++ entry_made ready.now ∷ [] }
-    requires tree { IsTreeAfter ready.now.before ready.now.op (arc_value tree) }
+/// The version of a book, whose tree is shared.
+fn version_of<N: StoreName>(book: &Book, front: &Front<N>, tree: Arc<CallTree>) -> Version
+    requires front { front.now ≡ book.now.entries }
+    requires tree { arc_value tree ≡ book.now.tree }
     ensures log { result.seen.log ≡ front.now }
     ensures history { result.seen.book ≡ N.history }
     ensures width { result.width ≡ book.now.width }
@@ -74,15 +64,15 @@ impl<N: StoreName> LockedBook<N> {
     /// The book that the lock will keep, of which no session was given, and of the writer of its first version.
     pub(crate) fn new(
         book: Book,
+        end: HistoryEnd<N>,
         sessions: u32,
-        front: Front<N>,
         versions: VersionWriter,
     ) -> LockedBook<N>
         requires limit { book.limit ≡ N.limit }
         requires all { book.sessions ≡ N.sessions }
         requires wide { book.width ≡ N.width }
         requires many { sessions ≡ N.sessions }
-        requires whole { front ≡ book.entries }
+        requires whole { end ≡ book.entries }
         requires shown { versions.desk.shown.value.seen.log ≡ book.entries }
         requires history { versions.desk.shown.value.seen.book ≡ N.history }
         requires shown_wide { versions.desk.shown.value.width ≡ N.width }
@@ -92,11 +82,10 @@ impl<N: StoreName> LockedBook<N> {
     {
         LockedBook {
             book,
+            end,
             sessions,
             given: 0,
-            front,
             versions,
-            named: false,
         }
     }
 
@@ -128,158 +117,64 @@ impl<N: StoreName> LockedBook<N> {
         }
     }
 
-    /// Gives the writer its room, and shows the version once more, so that the writer knows of which history it is.
+    /// Before the first session, gives the writer its room, and shows the version once more, so that the writer knows of
+    /// which history it is.
     fn show_name<R: Wait>(&mut self, rt: &R) -> Result<(), AllocError>
-        ensures named { OnOk result (self.new.named ≡ true) }
+        ensures named { OnOk result (IsOf (known self.new.versions.desk.place) N.history N.width) }
         ensures given { self.new.given ≡ self.old.given }
         ensures sessions { self.new.sessions ≡ self.old.sessions }
         ensures book { self.new.book ≡ self.old.book }
     {
-        if !self.named {
+        if self.given == 0 {
             if !make_room(&mut self.versions) {
                 return Err(AllocError);
             }
             let version = self.versions.published().share()?;
             publish(rt, &mut self.versions, version);
-            self.named = true;
         }
         Ok(())
     }
 
-    /// The event of an addition: an entry of the book, its version, and its receipt, for which the session's log has
-    /// memory. A refusal tells the front what the book has.
-    pub(crate) fn add<R: Wait>(
+    /// The event of a change: an entry of the book, its version, and its receipt, for which the session's log has
+    /// memory. Afterwards the front has all changes of the book, also where the change is refused.
+    pub(crate) fn change<R: Wait>(
         &mut self,
         rt: &R,
         alloc: Global,
-        head: &Head<N>,
         front: &mut Front<N>,
         log: &mut Log,
-        batch: Arc<Batch>,
-    ) -> Result<Placed<N>, Refused<Arc<Batch>>>
-        requires session { log.old.number < N.sessions }
-        requires room { length log.old.receipts.items < log.old.receipts.cap }
-        ensures appended { OnOk result
-            (IsAppended self.old.book log.old.number (changes_told log.old.receipts.items) (add (arc_value batch))
-            self.new.book) }
-        ensures receipt { OnOk result (log.new.receipts.items
-            ≡ log.old.receipts.items ++ receipt_after self.old.book.entries (add (arc_value batch)) ∷ []) }
-        ensures placed { IfOk result (λ placing. IsPlaced front.old log.old.number
-            (changes_told log.old.receipts.items) (add (arc_value batch)) placing.place front.new) }
-        ensures told { IfOk result (λ placing. placing.told ≡ front.new) }
-        ensures extended { IfOk result (λ placing. log.new.receipts.items
-            ≡ log.old.receipts.items ++ change_told (add (arc_value batch)) placing.place ∷ []) }
-        ensures unchanged { OnErr result (IsSameBook self.old.book self.new.book) }
-        ensures untold { OnErr result (log.new.receipts.items ≡ log.old.receipts.items) }
-        ensures number { log.new.number ≡ log.old.number }
-        ensures given { self.new.given ≡ self.old.given }
-        ensures seen { IsPrefix front.old front.new }
-        ensures back { IfErr result (λ refused. refused.back ≡ batch) }
-        ensures first_fault { IfErr result (λ refused. ((refused.fault ≡ BookFault.Version)
-            × (length self.old.book.entries < length front.new)) ⊎ IsFirstBookFault self.old.book log.old.number
-            (changes_told log.old.receipts.items) (add (arc_value batch)) refused.fault) }
-        ensures cause { IfErr result (λ refused. ShowsCause N.limit N.width
-            (changes_told log.old.receipts.items) (add (arc_value batch)) refused.fault) }
-        ensures shown { IfErr result (λ refused. IsShownBy front.new log.old.number refused.fault) }
-        ensures first_shown { IfErr result (λ refused. IsUnseen refused.fault
-            ⊎ IsFirstShown N.limit N.sessions N.width front.new log.old.number
-            (changes_told log.old.receipts.items) (add (arc_value batch)) refused.fault) }
-    {
-        match self.try_add(rt, alloc, head, front, log, &batch) {
-            Ok(placed) => Ok(placed),
-            Err(fault) => Err(Refused { fault, back: batch }),
-        }
-    }
-
-    /// The same of a batch that is lent.
-    fn try_add<R: Wait>(
-        &mut self,
-        rt: &R,
-        alloc: Global,
-        head: &Head<N>,
-        front: &mut Front<N>,
-        log: &mut Log,
-        batch: &Arc<Batch>,
+        change: Change<'_>,
     ) -> Result<Placed<N>, BookFault>
         requires session { log.old.number < N.sessions }
         requires room { length log.old.receipts.items < log.old.receipts.cap }
         ensures appended { OnOk result
             (IsAppended self.old.book log.old.number (changes_told log.old.receipts.items)
-            (add (arc_value batch.now)) self.new.book) }
+            (change_op change.entry) self.new.book) }
         ensures receipt { OnOk result (log.new.receipts.items
-            ≡ log.old.receipts.items ++ receipt_after self.old.book.entries (add (arc_value batch.now)) ∷ []) }
+            ≡ log.old.receipts.items ++ receipt_after self.old.book.entries (change_op change.entry) ∷ []) }
         ensures placed { IfOk result (λ placing. IsPlaced front.old log.old.number
-            (changes_told log.old.receipts.items) (add (arc_value batch.now)) placing.place front.new) }
+            (changes_told log.old.receipts.items) (change_op change.entry) placing.place front.new) }
         ensures told { IfOk result (λ placing. placing.told ≡ front.new) }
         ensures extended { IfOk result (λ placing. log.new.receipts.items
-            ≡ log.old.receipts.items ++ change_told (add (arc_value batch.now)) placing.place ∷ []) }
+            ≡ log.old.receipts.items ++ change_told (change_op change.entry) placing.place ∷ []) }
         ensures unchanged { OnErr result (IsSameBook self.old.book self.new.book) }
         ensures untold { OnErr result (log.new.receipts.items ≡ log.old.receipts.items) }
         ensures number { log.new.number ≡ log.old.number }
         ensures given { self.new.given ≡ self.old.given }
         ensures seen { IsPrefix front.old front.new }
-        ensures first_fault { IfErr result (λ fault. ((fault ≡ BookFault.Version)
-            × (length self.old.book.entries < length front.new)) ⊎ IsFirstBookFault self.old.book log.old.number
-            (changes_told log.old.receipts.items) (add (arc_value batch.now)) fault) }
+        ensures whole { front.new ≡ self.new.book.entries }
+        ensures first_fault { IfErr result (IsFirstBookFault self.old.book log.old.number
+            (changes_told log.old.receipts.items) (change_op change.entry)) }
         ensures cause { IfErr result (ShowsCause N.limit N.width
-            (changes_told log.old.receipts.items) (add (arc_value batch.now))) }
+            (changes_told log.old.receipts.items) (change_op change.entry)) }
         ensures shown { IfErr result (IsShownBy front.new log.old.number) }
-        ensures first_shown { IfErr result (λ fault. IsUnseen fault
-            ⊎ IsFirstShown N.limit N.sessions N.width front.new log.old.number
-            (changes_told log.old.receipts.items) (add (arc_value batch.now)) fault) }
+        ensures first_shown { IfErr result (IsFirstShown N.limit N.sessions N.width front.new log.old.number
+            (changes_told log.old.receipts.items) (change_op change.entry)) }
     {
         let _ = self.book.entries();
-        if !front.catch_up(&self.front) {
-            return Err(BookFault::Version);
-        }
-        match self.book.prepare(alloc, log.number(), log.turn(), batch) {
-            Ok(ready) => self.make(rt, head, front, log, ready),
-            Err(fault) => Err(fault),
-        }
-    }
-
-    /// The event of a reset: an entry of the book, its version, and its receipt, for which the session's log has
-    /// memory. A refusal tells the front what the book has.
-    pub(crate) fn reset<R: Wait>(
-        &mut self,
-        rt: &R,
-        alloc: Global,
-        head: &Head<N>,
-        front: &mut Front<N>,
-        log: &mut Log,
-    ) -> Result<Placed<N>, BookFault>
-        requires session { log.old.number < N.sessions }
-        requires room { length log.old.receipts.items < log.old.receipts.cap }
-        ensures appended { OnOk result
-            (IsAppended self.old.book log.old.number (changes_told log.old.receipts.items) reset self.new.book) }
-        ensures receipt { OnOk result (log.new.receipts.items
-            ≡ log.old.receipts.items ++ receipt_after self.old.book.entries reset ∷ []) }
-        ensures placed { IfOk result (λ placing. IsPlaced front.old log.old.number
-            (changes_told log.old.receipts.items) reset placing.place front.new) }
-        ensures told { IfOk result (λ placing. placing.told ≡ front.new) }
-        ensures extended { IfOk result
-            (λ placing. log.new.receipts.items ≡ log.old.receipts.items ++ change_told reset placing.place ∷ []) }
-        ensures unchanged { OnErr result (IsSameBook self.old.book self.new.book) }
-        ensures untold { OnErr result (log.new.receipts.items ≡ log.old.receipts.items) }
-        ensures number { log.new.number ≡ log.old.number }
-        ensures given { self.new.given ≡ self.old.given }
-        ensures seen { IsPrefix front.old front.new }
-        ensures first_fault { IfErr result (λ fault. ((fault ≡ BookFault.Version)
-            × (length self.old.book.entries < length front.new)) ⊎ IsFirstBookFault self.old.book log.old.number
-            (changes_told log.old.receipts.items) reset fault) }
-        ensures cause { IfErr result (ShowsCause N.limit N.width (changes_told log.old.receipts.items) reset) }
-        ensures light { IfErr result (λ fault. (value held : ℕ) → fault ≢ BookFault.Heavy value held) }
-        ensures shown { IfErr result (IsShownBy front.new log.old.number) }
-        ensures first_shown { IfErr result (λ fault. IsUnseen fault
-            ⊎ IsFirstShown N.limit N.sessions N.width front.new log.old.number
-            (changes_told log.old.receipts.items) reset fault) }
-    {
-        let _ = self.book.entries();
-        if !front.catch_up(&self.front) {
-            return Err(BookFault::Version);
-        }
-        match self.book.prepare_reset(alloc, log.number(), log.turn()) {
-            Ok(ready) => self.make(rt, head, front, log, ready),
+        self.end.catch_up(front);
+        match self.book.prepare(alloc, log.number(), log.turn(), change) {
+            Ok(ready) => self.make(rt, front, log, ready),
             Err(fault) => Err(fault),
         }
     }
@@ -288,7 +183,6 @@ impl<N: StoreName> LockedBook<N> {
     fn make<R: Wait>(
         &mut self,
         rt: &R,
-        head: &Head<N>,
         front: &mut Front<N>,
         log: &mut Log,
         ready: Ready,
@@ -315,25 +209,24 @@ impl<N: StoreName> LockedBook<N> {
         ensures number { log.new.number ≡ log.old.number }
         ensures given { self.new.given ≡ self.old.given }
         ensures seen { IsPrefix front.old front.new }
-        ensures fault { IfErr result (λ fault. (fault ≡ BookFault.NoMemory)
-            ⊎ ((fault ≡ BookFault.Version) × (length self.old.book.entries < length front.new))) }
+        ensures whole { front.new ≡ self.new.book.entries }
+        ensures fault { IfErr result (λ fault. fault ≡ BookFault.NoMemory) }
     {
         let tree = ready.share_next()?;
-        self.commit(rt, head, front, log, ready, tree)
+        Ok(self.commit(rt, front, log, ready, tree))
     }
 
-    /// The step of a change: the history has it, then the version that is shown, then the book. It takes no memory, and
-    /// is refused only where the history is longer than the book; the front then has that longer list.
+    /// The step of a change: the history and the book have it, then the version that is shown. It takes no memory, and
+    /// can't be refused.
     fn commit<R: Wait>(
         &mut self,
         rt: &R,
-        head: &Head<N>,
         front: &mut Front<N>,
         log: &mut Log,
         ready: Ready,
         tree: Arc<CallTree>,
-    ) -> Result<Placed<N>, BookFault>
-        requires tree { IsTreeAfter ready.before ready.op (arc_value tree) }
+    ) -> Placed<N>
+        requires tree { arc_value tree ≡ ready.next }
         requires before { ready.before ≡ self.old.book }
         requires known { front.old ≡ self.old.book.entries }
         requires change { is_change ready.op ≡ true }
@@ -341,40 +234,32 @@ impl<N: StoreName> LockedBook<N> {
         requires taken { ready.turn ≡ changes_told log.old.receipts.items }
         requires turn { ready.turn ≡ turns_of self.old.book.entries ready.session }
         requires room { length log.old.receipts.items < log.old.receipts.cap }
-        ensures appended { OnOk result
-            (IsAppended self.old.book ready.session ready.turn ready.op self.new.book) }
-        ensures receipt { OnOk result (log.new.receipts.items
-            ≡ log.old.receipts.items ++ receipt_after self.old.book.entries ready.op ∷ []) }
-        ensures placed { IfOk result (λ placing. IsPlaced front.old log.old.number
-            (changes_told log.old.receipts.items) ready.op placing.place front.new) }
-        ensures told { IfOk result (λ placing. placing.told ≡ front.new) }
-        ensures extended { IfOk result
-            (λ placing. log.new.receipts.items
-            ≡ log.old.receipts.items ++ change_told ready.op placing.place ∷ []) }
-        ensures unchanged { OnErr result (self.new.book ≡ self.old.book) }
-        ensures untold { OnErr result (log.new.receipts.items ≡ log.old.receipts.items) }
+        ensures appended { IsAppended self.old.book ready.session ready.turn ready.op self.new.book }
+        ensures receipt { log.new.receipts.items
+            ≡ log.old.receipts.items ++ receipt_after self.old.book.entries ready.op ∷ [] }
+        ensures placed { IsPlaced front.old log.old.number
+            (changes_told log.old.receipts.items) ready.op result.place front.new }
+        ensures told { result.told ≡ front.new }
+        ensures extended { log.new.receipts.items
+            ≡ log.old.receipts.items ++ change_told ready.op result.place ∷ [] }
         ensures number { log.new.number ≡ log.old.number }
         ensures given { self.new.given ≡ self.old.given }
         ensures seen { IsPrefix front.old front.new }
-        ensures fault { IfErr result (λ fault. (fault ≡ BookFault.Version)
-            × (length self.old.book.entries < length front.new)) }
+        ensures whole { front.new ≡ self.new.book.entries }
     {
         let _ = self.book.entries();
-        let mut next = self.front.again();
-        if !next.add(head, &ready) {
-            *front = next;
-            return Err(BookFault::Version);
-        }
-        let version = version_after(&self.book, &ready, &next, tree);
-        publish(rt, &mut self.versions, version);
+        self.end.add(&ready);
         let receipt = self.book.settle(ready);
-        *front = next.again();
-        self.front = next.again();
+        let version = version_of(&self.book, &self.end.front(), tree);
+        publish(rt, &mut self.versions, version);
+        *front = self.end.front();
         let place = log.keep_change(receipt);
-        Ok(Placed {
+        Placed {
             place,
-            told: Told { front: next },
-        })
+            told: Told {
+                front: self.end.front(),
+            },
+        }
     }
 
     /// The book closed, and the versions ended.
@@ -385,11 +270,10 @@ impl<N: StoreName> LockedBook<N> {
     {
         let LockedBook {
             book,
+            end: _,
             sessions: _,
             given: _,
-            front: _,
             versions,
-            named: _,
         } = self;
         drop(versions.take(rt));
         let _ = book.entries();

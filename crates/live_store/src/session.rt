@@ -4,6 +4,7 @@ ghost use Rattle.std.specs.Prelude.{◌≡◌, ◌≢◌, ◌<◌, ◌≤◌, �
 ghost use Rattle.std.specs.Arc.{arc_value};
 ghost use mathlib.Core.List.{IsPrefix};
 ghost use Rattle.op_book.specs.Books.{change_told, receipt_after};
+ghost use Rattle.op_book.specs.Changes.{change_op};
 ghost use Rattle.op_book.specs.Operations.{PlainOp, PlainReceipt, add, answered, ask, plain_op, reset};
 ghost use Rattle.flame_report.specs.declared.answer.Answer.{Answer};
 ghost use Rattle.live_store.specs.Sessions.{IsBorneOut, IsPlaced, changes_by, changes_of};
@@ -15,7 +16,7 @@ use crate::store::Store;
 use crate::told::{Placed, Told};
 use change_history::{Front, StoreName};
 use flame_report::{Answer, Items, Query};
-use op_book::{BookFault, Op, Receipt, Refused, Reply, SessionLog};
+use op_book::{BookFault, Change, Op, Receipt, Refused, Reply, SessionLog};
 use profile_rows::Batch;
 use shown_versions::VersionReader;
 use std::alloc::Global;
@@ -111,8 +112,8 @@ impl<'a, N: StoreName> Session<'a, N> {
     ///
     /// # Errors
     ///
-    /// A [`BookFault`]. The log is then as it was, the batch is handed back, and the session knows of the changes that
-    /// were the cause.
+    /// A [`BookFault`], which isn't `Version`. The log is then as it was, the batch is handed back, and the session knows
+    /// of the changes that were the cause.
     pub fn add<R: Wait>(
         &mut self,
         rt: &R,
@@ -132,35 +133,22 @@ impl<'a, N: StoreName> Session<'a, N> {
         ensures cause { IfErr result (λ refused.
             ShowsCause N.limit N.width (changes_told self.old.log) (add (arc_value batch)) refused.fault) }
         ensures shown { IfErr result (λ refused. IsShownBy self.new.seen self.old.number refused.fault) }
-        ensures first_fault { IfErr result (λ refused. IsUnseen refused.fault
+        ensures first_fault { IfErr result (λ refused. (refused.fault ≡ BookFault.NoMemory)
             ⊎ IsFirstShown N.limit N.sessions N.width self.new.seen self.old.number (changes_told self.old.log)
             (add (arc_value batch)) refused.fault) }
     {
-        if self.log.make_room().is_err() {
-            return Err(Refused {
-                fault: BookFault::NoMemory,
-                back: batch,
-            });
+        match self.change(rt, alloc, Change::Add(&batch)) {
+            Ok(placed) => Ok(placed),
+            Err(fault) => Err(Refused { fault, back: batch }),
         }
-        let mut book = self.store.book().lock(rt);
-        let added = book.add(
-            rt,
-            alloc,
-            self.store.head(),
-            &mut self.front,
-            &mut self.log,
-            batch,
-        );
-        MutexGuard::unlock(book);
-        added
     }
 
     /// Empties the profile, and keeps the receipt: what was added before counts no more.
     ///
     /// # Errors
     ///
-    /// A [`BookFault`], which is neither `Width` nor `Heavy`. The log is then as it was, and the session knows of the
-    /// changes that were the cause.
+    /// A [`BookFault`], which is neither `Width`, `Heavy` nor `Version`. The log is then as it was, and the session knows
+    /// of the changes that were the cause.
     pub fn reset<R: Wait>(&mut self, rt: &R, alloc: Global) -> Result<Placed<N>, BookFault>
         ensures number { self.new.number ≡ self.old.number }
         ensures seen { IsPrefix self.old.seen self.new.seen }
@@ -174,13 +162,39 @@ impl<'a, N: StoreName> Session<'a, N> {
         ensures cause { IfErr result (ShowsCause N.limit N.width (changes_told self.old.log) reset) }
         ensures light { IfErr result (λ fault. (value held : ℕ) → fault ≢ BookFault.Heavy value held) }
         ensures shown { IfErr result (IsShownBy self.new.seen self.old.number) }
-        ensures first_fault { IfErr result (λ fault. IsUnseen fault
+        ensures first_fault { IfErr result (λ fault. (fault ≡ BookFault.NoMemory)
             ⊎ IsFirstShown N.limit N.sessions N.width self.new.seen self.old.number (changes_told self.old.log)
             reset fault) }
     {
+        self.change(rt, alloc, Change::Reset)
+    }
+
+    /// Makes a change, and keeps the receipt, for which memory is taken before the lock.
+    fn change<R: Wait>(
+        &mut self,
+        rt: &R,
+        alloc: Global,
+        change: Change<'_>,
+    ) -> Result<Placed<N>, BookFault>
+        ensures number { self.new.number ≡ self.old.number }
+        ensures seen { IsPrefix self.old.seen self.new.seen }
+        ensures placed { IfOk result (λ placing. IsPlaced self.old.seen self.old.number
+            (changes_told self.old.log) (change_op change.entry) placing.place self.new.seen) }
+        ensures told { IfOk result (λ placing. placing.told ≡ self.new.seen) }
+        ensures extended { IfOk result (λ placing.
+            self.new.log ≡ self.old.log ++ change_told (change_op change.entry) placing.place ∷ []) }
+        ensures own { OnOk result (changes_by self.new.number self.new.seen ≡ changes_of self.new.log) }
+        ensures unchanged { OnErr result (self.new.log ≡ self.old.log) }
+        ensures cause { IfErr result
+            (ShowsCause N.limit N.width (changes_told self.old.log) (change_op change.entry)) }
+        ensures shown { IfErr result (IsShownBy self.new.seen self.old.number) }
+        ensures first_fault { IfErr result (λ fault. (fault ≡ BookFault.NoMemory)
+            ⊎ IsFirstShown N.limit N.sessions N.width self.new.seen self.old.number (changes_told self.old.log)
+            (change_op change.entry) fault) }
+    {
         self.log.make_room()?;
-        let mut book = self.store.book().lock(rt);
-        let made = book.reset(rt, alloc, self.store.head(), &mut self.front, &mut self.log);
+        let mut book = self.store.lock(rt);
+        let made = book.change(rt, alloc, &mut self.front, &mut self.log, change);
         MutexGuard::unlock(book);
         made
     }

@@ -6,7 +6,7 @@ use crate::blank::Blank;
 use crate::fault::SessionFault;
 use crate::locked_book::LockedBook;
 use crate::session::Session;
-use change_history::{Front, Head, StoreName};
+use change_history::{Front, HistoryEnd, StoreName};
 use op_book::Journal;
 use profile_rows::Width;
 use std::alloc::Global;
@@ -19,7 +19,6 @@ use std::sync::{Mutex, MutexGuard, Wait};
 /// It isn't `Drop`: [`close`](Store::close) ends it.
 pub struct Store<N: StoreName> {
     book: Mutex<LockedBook<N>>,
-    head: Head<N>,
     origin: Front<N>,
     width: Width,
     ghost fresh: { origin ≡ [] },
@@ -36,14 +35,13 @@ impl<N: StoreName> Store<N> {
             book,
             sessions,
             width,
-            word,
-            seen,
+            history,
             versions,
         } = blank;
-        let origin = Front::of(0, &seen);
+        let end = HistoryEnd::of(history);
+        let origin = end.front();
         Store {
-            book: Mutex::new(LockedBook::new(book, sessions, origin.again(), versions)),
-            head: Head::new(word),
+            book: Mutex::new(LockedBook::new(book, end, sessions, versions)),
             origin,
             width,
         }
@@ -58,7 +56,7 @@ impl<N: StoreName> Store<N> {
         ensures { IfOk result
             (λ session. (session.number < N.sessions) × (session.log ≡ []) × (session.seen ≡ [])) }
     {
-        let mut book = self.book.lock(rt);
+        let mut book = self.lock(rt);
         let given = book.give(rt, alloc);
         MutexGuard::unlock(book);
         match given {
@@ -75,7 +73,6 @@ impl<N: StoreName> Store<N> {
     {
         let Store {
             book,
-            head: _,
             origin: _,
             width: _,
         } = self;
@@ -89,13 +86,8 @@ impl<N: StoreName> Store<N> {
         self.width
     }
 
-    /// The length of the history.
-    pub(crate) fn head(&self) -> &Head<N> {
-        &self.head
-    }
-
-    /// The lock.
-    pub(crate) fn book(&self) -> &Mutex<LockedBook<N>> {
-        &self.book
+    /// The lock, taken. Nothing else of this crate reaches it, so who has no handle to wait by can't take it.
+    pub(crate) fn lock<R: Wait>(&self, rt: &R) -> MutexGuard<'_, LockedBook<N>> {
+        self.book.lock(rt)
     }
 }

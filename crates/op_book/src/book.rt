@@ -21,6 +21,8 @@ use std::sync::Arc;
 
 mod changing;
 
+pub use changing::Change;
+
 /// Changes in order, each with its reply, and the tree of what they added since the last reset. Whatever is done to a
 /// book, its tree is the aggregate of the additions that count, and each reply is what the plain profile gives after
 /// the changes before.
@@ -113,7 +115,7 @@ impl Ready {
     ///
     /// `AllocError`, where the tree has as many owners as it can have.
     pub fn share_next(&self) -> Result<Arc<CallTree>, AllocError>
-        ensures tree { IfOk result (λ tree. IsTreeAfter self.now.before self.now.op (arc_value tree)) }
+        ensures next { IfOk result (λ tree. arc_value tree ≡ self.now.next) }
     {
         self.plan.share_next()
     }

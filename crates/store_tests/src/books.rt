@@ -4,7 +4,7 @@ ghost use Rattle.std.specs.Prelude.{◌≡◌};
 
 use crate::helpers::{batch_of, row_of, width_of};
 use call_tree::CallTree;
-use op_book::{Book, BookFault, Journal, Ready, Receipt, Reply};
+use op_book::{Book, BookFault, Change, Journal, Ready, Receipt, Reply};
 use stack_text::{MAX_TOTAL, Width};
 use std::alloc::Global;
 use std::test::Fail;
@@ -200,14 +200,14 @@ fn settled(alloc: Global, book: &mut Book, ready: Ready) -> Result<String, Fail>
 
 fn prepared(alloc: Global, book: &mut Book, turn: u64, text: &str) -> Result<String, Fail> {
     let batch = batch_of(alloc, text)?;
-    match book.prepare(alloc, 0, turn, &batch) {
+    match book.prepare(alloc, 0, turn, Change::Add(&batch)) {
         Ok(ready) => settled(alloc, book, ready),
         Err(_) => Err("refused".into()),
     }
 }
 
 fn prepared_reset(alloc: Global, book: &mut Book, turn: u64) -> Result<String, Fail> {
-    match book.prepare_reset(alloc, 0, turn) {
+    match book.prepare(alloc, 0, turn, Change::Reset) {
         Ok(ready) => settled(alloc, book, ready),
         Err(_) => Err("refused".into()),
     }
@@ -236,7 +236,7 @@ fn a_prepared_change_is_made_when_it_is_settled(rt: HostRuntime) -> Result<(), F
 // A change that is prepared and let go.
 fn let_go(alloc: Global, book: &mut Book, text: &str) -> Result<u64, Fail> {
     let batch = batch_of(alloc, text)?;
-    match book.prepare(alloc, 0, 0, &batch) {
+    match book.prepare(alloc, 0, 0, Change::Add(&batch)) {
         Ok(ready) => Ok(total_of(ready.next())),
         Err(_) => Err("refused".into()),
     }

@@ -10,6 +10,8 @@ mod books;
 #[cfg(test)]
 mod changed_logs;
 #[cfg(test)]
+mod counted_changes;
+#[cfg(test)]
 mod held_workers;
 #[cfg(test)]
 mod helpers;

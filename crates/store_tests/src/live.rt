@@ -11,8 +11,8 @@ use std::test::Fail;
 use std::thread::Threads;
 use test_support::{expect_printed, expect_text};
 
-// What is written, or why nothing is.
-fn written<R: Threads + Wait + Sync>(
+/// What is written, or why nothing is.
+pub(crate) fn written<R: Threads + Wait + Sync>(
     rt: &R,
     alloc: Global,
     batch: Arc<Batch>,

@@ -22,8 +22,10 @@ use std::sync::Arc;
 
 /// A change that a session asks for.
 #[derive(Clone, Copy)]
-enum Change<'a> {
+pub enum Change<'a> {
+    /// Adds the rows of a batch.
     Add(&'a Arc<Batch>),
+    /// Empties the profile: what was added before counts no more.
     Reset,
 }
 
@@ -92,64 +94,36 @@ impl Book {
         ensures replay { IsReplay self.new.entries self.new.tree }
         ensures orderly { IsOrderly self.new }
     {
-        let ready = self.prepare_reset(alloc, session, turn)?;
+        let ready = self.prepare(alloc, session, turn, Change::Reset)?;
         Ok(self.settle(ready))
     }
 
-    /// Takes all memory that an addition needs, which [`settle`](Book::settle) then makes. What the book holds stays.
-    /// The batch is shared, so that a caller still has it where it doesn't go on to settle.
+    /// Takes all memory that a change needs, which [`settle`](Book::settle) then makes. What the book holds stays. A
+    /// batch is shared, so that a caller still has it where it doesn't go on to settle.
     ///
     /// # Errors
     ///
-    /// Those of [`add`](Book::add).
+    /// Those of [`add`](Book::add) and of [`reset`](Book::reset).
     pub fn prepare(
         &mut self,
         alloc: Global,
         session: u32,
         turn: u64,
-        batch: &Arc<Batch>,
+        change: Change<'_>,
     ) -> Result<Ready, BookFault>
         ensures before { IfOk result (λ ready. ready.before ≡ self.new) }
         ensures change { IfOk result (λ ready. (ready.session ≡ session) × (ready.turn ≡ turn)
-            × (ready.op ≡ add (arc_value batch.now))) }
-        ensures next { IfOk result (λ ready. IsTreeAfter self.old (add (arc_value batch.now)) ready.next) }
-        ensures taken { OnOk result (IsTaken self.old session turn (add (arc_value batch.now))) }
+            × (ready.op ≡ change_op change.entry)) }
+        ensures next { IfOk result (λ ready. IsTreeAfter self.old (change_op change.entry) ready.next) }
+        ensures taken { OnOk result (IsTaken self.old session turn (change_op change.entry)) }
         ensures unchanged { IsSameBook self.old self.new }
         ensures first_fault { IfErr result
-            (λ fault. IsFirstBookFault self.old session turn (add (arc_value batch.now)) fault) }
+            (λ fault. IsFirstBookFault self.old session turn (change_op change.entry) fault) }
         ensures replay { IsReplay self.new.entries self.new.tree }
         ensures orderly { IsOrderly self.new }
     {
         self.facts();
-        let ready = self.ready(alloc, session, turn, Change::Add(batch));
-        self.facts();
-        ready
-    }
-
-    /// Takes all memory that a reset needs, which [`settle`](Book::settle) then makes. What the book holds stays.
-    ///
-    /// # Errors
-    ///
-    /// Those of [`reset`](Book::reset).
-    pub fn prepare_reset(
-        &mut self,
-        alloc: Global,
-        session: u32,
-        turn: u64,
-    ) -> Result<Ready, BookFault>
-        ensures before { IfOk result (λ ready. ready.before ≡ self.new) }
-        ensures change { IfOk result
-            (λ ready. (ready.session ≡ session) × (ready.turn ≡ turn) × (ready.op ≡ reset)) }
-        ensures next { IfOk result (λ ready. IsTreeAfter self.old reset ready.next) }
-        ensures taken { OnOk result (IsTaken self.old session turn reset) }
-        ensures unchanged { IsSameBook self.old self.new }
-        ensures first_fault { IfErr result (λ fault. IsFirstBookFault self.old session turn reset fault) }
-        ensures light { IfErr result (λ fault. (value held : ℕ) → fault ≢ BookFault.Heavy value held) }
-        ensures replay { IsReplay self.new.entries self.new.tree }
-        ensures orderly { IsOrderly self.new }
-    {
-        self.facts();
-        let ready = self.ready(alloc, session, turn, Change::Reset);
+        let ready = self.ready(alloc, session, turn, change);
         self.facts();
         ready
     }

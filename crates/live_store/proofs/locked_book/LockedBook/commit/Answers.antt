@@ -24,6 +24,6 @@ returns-clause-placed g c =
       turn_is = sym c.requires.taken ∙ (c.requires.turn ∙ ap (turns_of entries) c.requires.mine);
       place_is = place_is;
       reply_is = reply ∙ ap placed (sym place_is);
-      seen_is = c.again.ensures ∙ (c.if-not-add.ensures ∙ (ap (λ l. l ++ entry_made c.args.ready ∷ [])
-          (c.again-next.ensures ∙ c.args.self.now.whole) ∙ ap (λ e. entries ++ e ∷ []) made));
+      seen_is = c.front-2.ensures ∙ (c.add.ensures
+          ∙ (ap (λ l. l ++ entry_made c.args.ready ∷ []) c.args.self.now.whole ∙ ap (λ e. entries ++ e ∷ []) made));
     }

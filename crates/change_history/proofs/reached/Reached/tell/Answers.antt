@@ -1,0 +1,6 @@
+use Rattle.change_history.proofs.Pens.{entries_prefix}
+use Rattle.change_history.proofs.reached.Reached.tell.Goals as goal
+
+pub returns-clause-told : goal.returns-clause-told
+returns-clause-told c =
+    rw (← c.self.view_is) (entries_prefix c.self.inside.lines.log c.learn.new.self.log c.learn.ensures.3)

@@ -35,9 +35,9 @@ impl<N: StoreName> Model for HistoryEnd<N> {
 
     ghost view = { λ e. entries_of e.lines.log };
 
-    ghost invariant = { λ e. (e.word ≡ head_of N.history) × (e.lines.book ≡ N.history) × (e.pen.book ≡ N.history)
-        × (e.pen.nib.right ≡ may_write) × (e.pen.nib.key ≡ next_pen e.lines.log) × (0 < length e.lines.log)
-        × (e.count ≡ length (entries_of e.lines.log)) };
+    ghost invariant = { λ e. (e.word ≡ head_of N.history) × (e.lines.book ≡ N.history)
+        × (e.pen.book ≡ N.history) × (e.pen.nib.right ≡ may_write) × (e.pen.nib.key ≡ next_pen e.lines.log)
+        × (0 < length e.lines.log) × (e.count ≡ length (entries_of e.lines.log)) };
 }
 
 impl<N: StoreName> HistoryEnd<N> {

@@ -26,9 +26,9 @@ mod log;
 pub(crate) use log::Log;
 
 /// The book of a store, the end of its history, how many sessions were given, and the writer of the versions. All keep
-/// the numbers of the store's name, and all have the same list of changes: that of the book, all of the history, that of
-/// the version that is shown, and that which the writer knows of. So whatever else has reached a list of the history, it
-/// is a beginning of the book's.
+/// the numbers of the store's name, and all have the same list of changes: that of the book, all of the history, that
+/// of the version that is shown, and that which the writer knows of. So each list that the history has reached, as what
+/// a session has seen, begins the book's.
 pub(crate) struct LockedBook<N: StoreName> {
     book: Book,
     end: HistoryEnd<N>,
@@ -117,8 +117,8 @@ impl<N: StoreName> LockedBook<N> {
         }
     }
 
-    /// Before the first session, gives the writer its room, and shows the version once more, so that the writer knows of
-    /// which history it is.
+    /// Before the first session, gives the writer its room, and shows the version once more, so that the writer knows
+    /// of which history it is.
     fn show_name<R: Wait>(&mut self, rt: &R) -> Result<(), AllocError>
         ensures named { OnOk result (IsOf (known self.new.versions.desk.place) N.history N.width) }
         ensures given { self.new.given ≡ self.old.given }

@@ -112,8 +112,8 @@ impl<'a, N: StoreName> Session<'a, N> {
     ///
     /// # Errors
     ///
-    /// A [`BookFault`], which isn't `Version`. The log is then as it was, the batch is handed back, and the session knows
-    /// of the changes that were the cause.
+    /// A [`BookFault`], which isn't `Version`. The log is then as it was, the batch is handed back, and the session
+    /// knows of the changes that were the cause.
     pub fn add<R: Wait>(
         &mut self,
         rt: &R,
@@ -147,8 +147,8 @@ impl<'a, N: StoreName> Session<'a, N> {
     ///
     /// # Errors
     ///
-    /// A [`BookFault`], which is neither `Width`, `Heavy` nor `Version`. The log is then as it was, and the session knows
-    /// of the changes that were the cause.
+    /// A [`BookFault`], which is neither `Width`, `Heavy` nor `Version`. The log is then as it was, and the session
+    /// knows of the changes that were the cause.
     pub fn reset<R: Wait>(&mut self, rt: &R, alloc: Global) -> Result<Placed<N>, BookFault>
         ensures number { self.new.number ≡ self.old.number }
         ensures seen { IsPrefix self.old.seen self.new.seen }

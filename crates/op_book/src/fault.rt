@@ -26,8 +26,8 @@ pub enum BookFault {
     /// Memory ran out.
     #[error("K5 NoMemory")]
     NoMemory,
-    /// No version of the tree could be entered, or the one entered has fewer changes than were seen. No book answers it:
-    /// a session of a store that publishes versions does.
+    /// No version of the tree could be entered, or the one entered has fewer changes than were seen. No book answers
+    /// it: a session does that asks a store for a report.
     #[error("K7 Version")]
     Version,
 }

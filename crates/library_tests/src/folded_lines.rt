@@ -91,8 +91,8 @@ fn the_first_fault_is_answered_with_its_line(rt: HostRuntime) -> Result<(), Fail
     Ok(())
 }
 
-// The aggregate of the rows of folded text, as folded text.
-fn aggregated(alloc: Global, text: &str) -> Result<String, Fail> {
+/// The aggregate of the rows of folded text, as folded text.
+pub(crate) fn aggregated(alloc: Global, text: &str) -> Result<String, Fail> {
     let rows = rows_of(alloc, text)?;
     text_of(alloc, &aggregate(alloc, &rows)?)
 }

@@ -15,6 +15,8 @@ mod helpers;
 #[cfg(test)]
 mod hostile_messages;
 #[cfg(test)]
+mod many_rows;
+#[cfg(test)]
 mod message_faults;
 #[cfg(test)]
 mod messages;

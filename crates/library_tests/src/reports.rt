@@ -103,8 +103,8 @@ fn query_answered(alloc: Global, input: &str, query: &Query) -> Result<String, F
     answer_by_both(alloc, &rows, query)
 }
 
-// The answer over the rows of folded text with the focus and without the ignored name; an empty text is none.
-fn kept_answered(
+/// The answer over the rows of folded text with the focus and without the ignored name; an empty text is none.
+pub(crate) fn kept_answered(
     alloc: Global,
     input: &str,
     focus: &str,

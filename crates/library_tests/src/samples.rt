@@ -38,7 +38,8 @@ fn encoded(alloc: Global, profile: &Profile) -> Result<Vec<u8>, Fail> {
     Ok(encode(alloc, profile)?)
 }
 
-fn exported_text(alloc: Global, text: &str) -> Result<Vec<u8>, Fail> {
+/// The bytes of the profile of the rows of folded text.
+pub(crate) fn exported_text(alloc: Global, text: &str) -> Result<Vec<u8>, Fail> {
     let rows = rows_of(alloc, text)?;
     exported(alloc, &rows)
 }
@@ -55,8 +56,8 @@ fn rows_text(alloc: Global, profile: &Profile, choice: ValueChoice) -> Result<St
     text_of(alloc, &batch_of(alloc, profile, choice)?)
 }
 
-// The rows of a profile's samples, as folded text.
-fn read(alloc: Global, bytes: &[u8], choice: ValueChoice) -> Result<String, Fail> {
+/// The rows of a profile's samples, as folded text.
+pub(crate) fn read(alloc: Global, bytes: &[u8], choice: ValueChoice) -> Result<String, Fail> {
     let profile = decode(alloc, bytes)?;
     rows_text(alloc, &profile, choice)
 }
@@ -106,8 +107,8 @@ fn merged_text(alloc: Global, hashing: Hashing, profile: &Profile) -> Result<Str
     stacks_text(alloc, &merged)
 }
 
-// The rows of a profile's samples, equal ones merged, as folded text.
-fn read_merged(alloc: Global, bytes: &[u8]) -> Result<String, Fail> {
+/// The rows of a profile's samples, equal ones merged, as folded text.
+pub(crate) fn read_merged(alloc: Global, bytes: &[u8]) -> Result<String, Fail> {
     let profile = decode(alloc, bytes)?;
     merged_text(alloc, Hashing::fixed(), &profile)
 }
@@ -167,6 +168,14 @@ fn unfolded(alloc: Global, bytes: &[u8]) -> Result<Vec<Name>, Fail> {
 fn the_leaf_is_unfolded_first(rt: HostRuntime) -> Result<(), Fail> {
     let names = unfolded(rt.alloc(), INLINED_AND_BARE_LOCATIONS)?;
     expect_text(joined(rt.alloc(), &names), "a b c 0xff ")
+}
+
+#[test]
+fn a_sample_of_many_frames_is_unfolded(rt: HostRuntime) -> Result<(), Fail> {
+    let bytes = deep(rt.alloc(), b"\x86\x80\x04", b"\xff\xff\x03", 65_535)?;
+    let names = unfolded(rt.alloc(), bytes.as_slice())?;
+    assert_eq!(rt; names.len(), 65_535);
+    Ok(())
 }
 
 // The profile of a row of two values by each of them, its sample types, and what becomes of both as one.

@@ -223,7 +223,8 @@ fn rows_of_a_batch_are_given_away_in_order(rt: HostRuntime) -> Result<(), Fail> 
     expect_text(owned_rows(rt.alloc(), rows.as_slice()), ROWS_OF_FOUR_VALUES)
 }
 
-fn shared_text(alloc: Global, batch: &Batch) -> Result<String, Fail> {
+/// A batch's share as folded text by each value.
+pub(crate) fn shared_text(alloc: Global, batch: &Batch) -> Result<String, Fail> {
     all_text(alloc, &batch.share()?)
 }
 

@@ -1,7 +1,7 @@
 //! Folded text written.
 
 ghost use Rattle.std.specs.Prelude.{◌≡◌, ◌++◌, ◌<◌, ◌≤◌, All, IfOk, OnOk, length};
-ghost use Rattle.folded_text.specs.FoldedText.{IsFoldedText, row_text, rows_text};
+ghost use Rattle.folded_text.specs.FoldedText.{IsFoldedBatch, IsFoldedText, row_text, rows_text};
 ghost use Rattle.profile_rows.specs.Names.{IsName};
 ghost use Rattle.profile_rows.specs.Values.{rows_at};
 
@@ -47,7 +47,8 @@ pub fn write_stacks(alloc: Global, rows: &WeightedStacks) -> Result<Vec<u8>, NoM
     Ok(text)
 }
 
-/// Writes each row of a batch by the value of this number, counted from 0, as [`write_stacks`] does.
+/// Writes each row of a batch by the value of this number, counted from 0, as [`write_stacks`] does. Where rows have
+/// one value, reading the text gives the batch itself.
 ///
 /// # Errors
 ///
@@ -56,6 +57,7 @@ pub fn write_folded(alloc: Global, batch: &Batch, value: u32) -> Result<Vec<u8>,
     requires { value < batch.now.width }
     ensures text { IfOk result (λ text. text.items ≡ rows_text (rows_at value batch.now.rows)) }
     ensures reads_back { IfOk result (λ text. IsFoldedText text.items (rows_at value batch.now.rows)) }
+    ensures reads_back_whole { IfOk result (λ text. batch.now.width ≡ 1 → IsFoldedBatch text.items batch.now) }
 {
     let mut text = Vec::new(alloc);
     for at in 0..batch.first().rows().len() {

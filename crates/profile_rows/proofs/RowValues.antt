@@ -3,13 +3,13 @@ use Rattle.std.proofs.lemmas.Grind.{common_steps}
 use Rattle.std.proofs.Common.{◌≡◌, ℕ, zero, suc, ◌+◌, ◌-◌, ◌*◌, ◌^◌, ◌<◌, ◌≤◌, List, [], ◌∷◌, ◌++◌, length, get_or}
 use Rattle.std.proofs.Common.{refl, sym, ap, ◌∙◌, subst, arith, take, drop, length-append, length-drop}
 use Rattle.std.proofs.lemmas.List.{drop-append-le, take-append-le, length-take-le, map-append}
-use Rattle.std.specs.List.{All}
-use Rattle.std.proofs.lemmas.List.Elements.{All-push}
+use Rattle.std.specs.List.{All, AllByRecursion}
+use Rattle.std.proofs.lemmas.List.Elements.{All-push, recursion_from_All}
 use Rattle.std.proofs.lemmas.List.Sums.{sum_by_push, sum_by-cons}
 use Rattle.profile_rows.specs.declared.weighted_stacks.WeightedStack.{WeightedStack}
 use Rattle.profile_rows.specs.Rows.{total_of}
 use Rattle.profile_rows.specs.Values.{AreParts, AreTotals, BatchState, HasRoom, IsBatch, Row, batch_with, row_in}
-use Rattle.profile_rows.specs.Values.{rows_at, single, singles, value_of, weighing, with_values}
+use Rattle.profile_rows.specs.Values.{rows_at, single, single_batch, singles, value_of, weighing, with_values}
 use Rattle.profile_rows.proofs.FourValues.{value_of-past}
 
 abbrev pub row_with : List (List ℕ) → List ℕ → Row
@@ -76,6 +76,25 @@ width-with_values m (row ∷ rows) values sizes (suc k) d lt =
 pub with_values-single : (rows : List WeightedStack) → with_values 0 rows [] ≡ singles rows
 with_values-single [] = refl
 with_values-single (row ∷ rows) = ap (λ rest. single row ∷ rest) (with_values-single rows)
+
+-- rows whose one value is their first are those of that value
+singles_at : (rows : List Row) → AllByRecursion (λ (row : Row). length row.weights ≡ 1) rows
+    → singles (rows_at 0 rows) ≡ rows
+singles_at [] all = refl
+singles_at (row ∷ rows) all = rw (alone row.weights all.0, singles_at rows all.1) refl
+  where
+    alone : (weights : List ℕ) → length weights ≡ 1 → value_of 0 weights ∷ [] ≡ weights
+    alone [] one = absurd (omega (arith, one))
+    alone (weight ∷ []) one = refl
+    alone (weight ∷ next ∷ weights) one = absurd (omega (arith, one))
+
+-- a batch of one value is that of its rows by this value
+pub single_batch-rows_at : (batch : BatchState) → IsBatch batch → batch.width ≡ 1
+    → single_batch (rows_at 0 batch.rows) ≡ batch
+single_batch-rows_at batch is one =
+    let all : All (λ (row : Row). length row.weights ≡ 1) batch.rows = rw (← one) is.widths in
+    let same = singles_at batch.rows (recursion_from_All (λ (row : Row). length row.weights ≡ 1) batch.rows all) in
+    λ i. record { width = sym one i; rows = same i }
 
 pub total_of-past : (value : ℕ) (rows : List Row) (width : ℕ)
     → All (λ row. length row.weights ≡ width) rows → width ≤ value → total_of (rows_at value rows) ≡ 0

@@ -7,7 +7,7 @@ ghost use Rattle.profile_rows.specs.declared.weighted_stacks.WeightedStack.{Weig
 ghost use Rattle.profile_rows.specs.declared.frame_totals.FrameTotal.{FrameTotal};
 ghost use Rattle.profile_rows.specs.Rows.{kept_rows, weight_of, weight_where};
 ghost use Rattle.profile_rows.specs.Aggregate.{AreRowsOf, Weighted, aggregate_of, rows_of, weight_in, with_rows};
-ghost use Rattle.profile_rows.specs.Values.{Row, rows_at};
+ghost use Rattle.profile_rows.specs.Values.{BatchState, IsBatch, Row, rows_at, single_batch};
 ghost use Rattle.profile_rows.specs.Layout.{rectangles_of};
 ghost use Rattle.profile_rows.specs.TopList.{AreSumsOf, Ranking, top_cmp, top_list_of};
 
@@ -56,6 +56,12 @@ pub fn sums_are_those_of_the_aggregate()
 pub fn rows_at_of_more_rows()
     ensures { (value : ℕ) (rows more : List Row)
         → rows_at value (rows ++ more) ≡ rows_at value rows ++ rows_at value more }
+{}
+
+/// A batch of one value is that of its rows by this value.
+pub fn batch_of_one_value()
+    ensures { (batch : BatchState) → IsBatch batch → batch.width ≡ 1
+        → single_batch (rows_at 0 batch.rows) ≡ batch }
 {}
 
 /// Rows of one width that are those of the same maps are equal: an aggregate has one form.

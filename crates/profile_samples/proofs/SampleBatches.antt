@@ -2,14 +2,14 @@
 use Rattle.std.proofs.Common.{◌≡◌, ℕ, zero, suc, ◌+◌, ◌^◌, ◌<◌, ◌≤◌, List, [], ◌∷◌, ◌++◌, length, take, drop, get_or}
 use Rattle.std.proofs.Common.{◌≢◌, ◌⊎◌, refl, sym, ap, ◌∙◌, inl, inr, subst, arith}
 use Rattle.std.specs.Prelude.{ℤ, pos, Option, Some, None, Result, Ok, Err, MatchResult, slice_get, is_some}
-use Rattle.std.specs.List.{All, AllByRecursion}
+use Rattle.std.specs.List.{All}
 use Rattle.std.proofs.Math.Seq.{drop-cons}
 use Rattle.std.proofs.lemmas.Bool.{false≢true}
 use Rattle.std.proofs.lemmas.Option.{get_or_from_slice_get, slice_get_within}
 use Rattle.std.proofs.lemmas.Result.{MatchResult-weaker}
 use Rattle.std.proofs.lemmas.Grind.{common_steps}
 use Rattle.std.proofs.lemmas.List.{map-append, take_all, take-append-drop, take_more}
-use Rattle.std.proofs.lemmas.List.Elements.{All-map, All-push, recursion_from_All}
+use Rattle.std.proofs.lemmas.List.Elements.{All-map, All-push}
 use Rattle.std.proofs.lemmas.List.Sums.{sum_by-append, sum_by-cons}
 use Rattle.pprof_profile.specs.declared.messages.Draft.{Draft}
 use Rattle.pprof_profile.specs.declared.messages.Sample.{Sample}
@@ -17,7 +17,7 @@ use Rattle.profile_rows.specs.declared.weighted_stacks.WeightedStack.{WeightedSt
 use Rattle.profile_rows.specs.Rows.{total_of}
 use Rattle.profile_rows.specs.Values.{AreTotals, BatchState, HasRoom, IsBatch, Row, rows_at, single, single_batch}
 use Rattle.profile_rows.specs.Values.{singles, value_of}
-use Rattle.profile_rows.proofs.RowValues.{total_of-past, total_of-push}
+use Rattle.profile_rows.proofs.RowValues.{single_batch-rows_at, total_of-past, total_of-push}
 use Rattle.profile_samples.specs.declared.sampling.BatchFault.{BatchFault}
 use Rattle.profile_samples.specs.declared.sampling.BatchFault.TheVariants as faults
 use Rattle.profile_samples.specs.declared.sampling.ValueChoice.{ValueChoice}
@@ -204,21 +204,11 @@ AreStacksOf-same draft choice rows others one two =
     (IsBatchOf-same draft choice (single_batch rows) (single_batch others) one two)
     ∙ rows_at-singles others
 
--- rows whose one value is their first are those of that value
-singles_at : (rows : List Row) → AllByRecursion (λ (row : Row). length row.weights ≡ 1) rows
-    → singles (rows_at 0 rows) ≡ rows
-singles_at [] all = refl
-singles_at (row ∷ rows) all = rw (alone row.weights all.0, singles_at rows all.1) refl
-  where
-    alone : (weights : List ℕ) → length weights ≡ 1 → value_of 0 weights ∷ [] ≡ weights
-    alone [] one = absurd (omega (arith, one))
-    alone (weight ∷ []) one = refl
-    alone (weight ∷ next ∷ weights) one = absurd (omega (arith, one))
-
 -- a batch of one value has the rows of that value
 pub batch_of_one : (draft : Draft) (choice : ValueChoice) (batch : BatchState) → IsBatchOf
     draft choice batch → batch.width ≡ 1 → AreStacksOf draft choice (rows_at 0 batch.rows)
-batch_of_one draft choice batch this one = grind (arith, common_steps, recursion_from_All, singles_at)
+batch_of_one draft choice batch this one =
+    subst (IsBatchOf draft choice) (sym (single_batch-rows_at batch this.is_batch one)) this
 
 -- ---- one sample
 

@@ -6,8 +6,8 @@ pub use folded_text::laws::{
 };
 pub use profile_rows::laws::{
     aggregate_has_weights, aggregate_is_by_weights, aggregate_of_its_rows, aggregate_of_more_rows,
-    aggregates_of_parts_add_up, kept_rows_are_by_the_aggregate, rectangles_are_by_the_aggregate,
-    rows_at_of_more_rows, rows_of_aggregates_are_unique, sums_are_those_of_the_aggregate,
-    top_list_is_front_of_sorted, top_lists_are_by_the_aggregate,
+    aggregates_of_parts_add_up, batch_of_one_value, kept_rows_are_by_the_aggregate,
+    rectangles_are_by_the_aggregate, rows_at_of_more_rows, rows_of_aggregates_are_unique,
+    sums_are_those_of_the_aggregate, top_list_is_front_of_sorted, top_lists_are_by_the_aggregate,
 };
 pub use profile_samples::laws::{export_reads_back, one_first_fault, rows_of_one_value};

@@ -4,10 +4,11 @@ use Rattle.std.proofs.Common.{rules, ◌≡◌, ◌<◌, length, take, get_or, s
 use Rattle.std.proofs.lemmas.List.Elements.{All-more}
 use Rattle.profile_rows.specs.declared.weighted_stacks.WeightedStack.{WeightedStack}
 use Rattle.profile_rows.specs.Values.{rows_at}
-use Rattle.folded_text.specs.FoldedText.{rows_text}
+use Rattle.folded_text.specs.FoldedText.{IsFoldedText, rows_text}
 use Rattle.folded_text.proofs.Writing.{can_stand, length-rows_at, rows_at-row_in, rows_text_more}
 use Rattle.folded_text.proofs.Writing.{rows_text-IsFoldedText}
 use Rattle.profile_rows.proofs.BatchRows.{all_batch_rows}
+use Rattle.profile_rows.proofs.RowValues.{single_batch-rows_at}
 use Rattle.folded_text.proofs.written.write_folded.Goals as goal
 
 -- the row that is written
@@ -41,3 +42,12 @@ returns-clause-text c = c.loop-at.invariant.0 ∙ ap rows_text (whole c)
 
 pub returns-clause-reads_back : goal.returns-clause-reads_back
 returns-clause-reads_back c = search (rules, rows_text-IsFoldedText, all_batch_rows, whole)
+
+pub returns-clause-reads_back_whole : goal.returns-clause-reads_back_whole
+returns-clause-reads_back_whole c = λ one.
+    let rows = c.args.batch.now.rows in
+    let first : c.args.value ≡ 0 = omega (arith, one, c.requires) in (
+      rows_at 0 rows,
+      subst (λ value. IsFoldedText c.loop-at.text.items (rows_at value rows)) first (returns-clause-reads_back c),
+      sym (single_batch-rows_at c.args.batch.now c.first.ensures.batch one),
+    )

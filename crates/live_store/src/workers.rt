@@ -49,7 +49,7 @@ pub struct Stop {
 }
 
 /// What a worker did.
-#[derive(Drop)]
+#[derive(Debug, Drop)]
 pub struct FinishedWorker {
     /// What its session was told.
     pub log: SessionLog,

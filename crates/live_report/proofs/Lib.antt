@@ -1,2 +1,3 @@
 pub mod Audited
 pub mod Lists
+pub mod Turns

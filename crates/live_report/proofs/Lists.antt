@@ -2,14 +2,14 @@
 use Rattle.std.proofs.Common.{ℕ, suc, ◌≡◌, ◌<◌, ◌+◌, ◌*◌, List, [], ◌∷◌, ◌++◌, length, get_or, set, map, Option, None}
 use Rattle.std.proofs.Common.{ap, sym, subst, ◌∙◌, refl, arith}
 use Rattle.std.specs.Prelude.{MatchOption, sum_by}
-use Rattle.std.proofs.lemmas.List.{append_assoc, length-map, map_push}
+use Rattle.std.proofs.lemmas.List.{append_assoc, get_or-map, length-map, map_push}
 use Rattle.std.proofs.lemmas.List.Sums.{sum_by-append, sum_by-cons, sum_by_push, sum_by-set}
 use Rattle.op_book.specs.Operations.{PlainOp}
 use Rattle.op_book.specs.declared.entry.SessionLog.{SessionLog}
 use Rattle.live_store.specs.Workers.{AreWorkOf, IsStoppedBy, ops_told}
 use Rattle.live_store.specs.declared.workers.Stop.{Stop}
 use Rattle.live_store.specs.declared.workers.FinishedWorker.{FinishedWorker}
-use Rattle.live_report.specs.Dealing.{AreDealt, addition, total_at, totals_from, weigh}
+use Rattle.live_report.specs.Dealing.{AreDealt, addition, total_at, totals_from, turns_of, weigh}
 use Rattle.profile_rows.specs.Values.{BatchState}
 
 -- one operation more at the end of a list
@@ -40,13 +40,18 @@ totals-more value more front = append_assoc front (total_at value ∷ []) (total
 
 pub dealt_from : (batch : BatchState) (sessions : ℕ) (dealt asked : List (List PlainOp)) → length dealt ≡ sessions
     → ((weight : PlainOp → ℕ) → weigh weight dealt ≡ sum_by weight (map (addition batch.width) batch.rows))
+    → ((worker : ℕ) → worker < sessions
+    → get_or dealt worker [] ≡ map (addition batch.width) (turns_of sessions worker batch.rows))
     → asked ≡ map (λ list. list ++ totals_from 0 batch.width) dealt → AreDealt batch sessions asked
-dealt_from batch sessions dealt asked count rows ends = record {
+dealt_from batch sessions dealt asked count rows turns ends = record {
   count = ap length ends ∙ length-map dealt (λ list. list ++ totals_from 0 batch.width) ∙ count;
   same = λ weight. ap (weigh weight) ends ∙ weigh-ends weight (totals_from 0 batch.width) dealt
       ∙ ap (λ n. n + length dealt * sum_by weight (totals_from 0 batch.width)) (rows weight)
       ∙ ap (λ n. sum_by weight (map (addition batch.width) batch.rows) + n * sum_by weight (totals_from 0 batch.width))
       count;
+  turns = λ worker lt. ap (λ l. get_or l worker []) ends
+      ∙ get_or-map (λ list. list ++ totals_from 0 batch.width) dealt worker [] [] (omega (arith, lt, count))
+      ∙ ap (λ list. list ++ totals_from 0 batch.width) (turns worker lt);
 }
 
 -- the next worker's log tells the next list

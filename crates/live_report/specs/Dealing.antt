@@ -1,7 +1,7 @@
 -- How the rows of a batch are dealt to workers.
 use Prim.Native.Nat.{zero, suc}
-use Rattle.std.specs.Prelude.{ℕ, ◌≡◌, ◌+◌, ◌*◌, Option, Some, None, List, [], ◌∷◌, ◌++◌, IsSomeAnd, cond, length, map}
-use Rattle.std.specs.Prelude.{slice_get, sum_by}
+use Rattle.std.specs.Prelude.{ℕ, ◌≡◌, ◌<◌, ◌+◌, ◌-◌, ◌*◌, Option, Some, None, List, [], ◌∷◌, ◌++◌, IsSomeAnd, cond}
+use Rattle.std.specs.Prelude.{get_or, length, map, slice_get, sum_by}
 use Rattle.profile_rows.specs.Values.{BatchState, Row}
 use Rattle.flame_report.specs.declared.query.Kind.TheVariants.{Total}
 use Rattle.op_book.specs.Operations.{PlainOp, add, ask, reset}
@@ -37,10 +37,18 @@ IsWarm logs = IsSomeAnd
 abbrev pub weigh : (PlainOp → ℕ) → List (List PlainOp) → ℕ
 weigh weight lists = sum_by (sum_by weight) lists
 
--- The lists have the additions of all rows, and each the totals: so all operations weigh as much as these do, however
--- operations are weighed.
+-- the rows of a worker: the one behind so many others, and then each that is as many rows further as there are workers
+abbrev pub turns_of : ℕ → ℕ → List Row → List Row
+turns_of workers before [] = []
+turns_of workers zero (row ∷ rows) = row ∷ turns_of workers (workers - 1) rows
+turns_of workers (suc before) (row ∷ rows) = turns_of workers before rows
+
+-- Row after row goes to the next list, and each list ends with the totals. So the lists have the additions of all rows,
+-- and all operations weigh as much as these and the totals do, however operations are weighed.
 pub record AreDealt (batch : BatchState) (sessions : ℕ) (lists : List (List PlainOp)) : Type 0 where
   pub count : length lists ≡ sessions
+  pub turns : (worker : ℕ) → worker < sessions → get_or lists worker []
+      ≡ map (addition batch.width) (turns_of sessions worker batch.rows) ++ totals_from 0 batch.width
   pub same : (weight : PlainOp → ℕ) → weigh weight lists
       ≡ sum_by weight (map (addition batch.width) batch.rows) + sessions * sum_by weight (totals_from 0 batch.width)
 

@@ -1,10 +1,10 @@
 //! Dealing the rows of a batch to workers.
 
-ghost use Rattle.std.specs.Prelude.{ℕ, ◌≡◌, ◌+◌, ◌<◌, ◌++◌, length, map, sum_by, IfOk, OnOk};
+ghost use Rattle.std.specs.Prelude.{ℕ, ◌≡◌, ◌+◌, ◌<◌, ◌++◌, [], get_or, length, map, sum_by, IfOk, OnOk};
 ghost use Rattle.std.specs.Arc.{arc_value};
 ghost use Rattle.op_book.specs.Operations.{PlainOp, ask, plain_op};
 ghost use Rattle.profile_rows.specs.OwnedRows.{plain_row};
-ghost use Rattle.live_report.specs.Dealing.{AreDealt, addition, total_at, totals_from, weigh};
+ghost use Rattle.live_report.specs.Dealing.{AreDealt, addition, total_at, totals_from, turns_of, weigh};
 
 use flame_report::{Kind, Query};
 use op_book::Op;
@@ -46,6 +46,8 @@ fn empty_lists(alloc: Global, count: u32) -> Result<Vec<Vec<Op>>, NoMemory>
     ensures count { IfOk result (λ lists. length lists.items ≡ count) }
     ensures empty { IfOk result (λ lists. (weight : PlainOp → ℕ)
         → weigh weight (map (λ list. map plain_op list.items) lists.items) ≡ 0) }
+    ensures each { IfOk result (λ lists. (worker : ℕ)
+        → get_or (map (λ list. map plain_op list.items) lists.items) worker [] ≡ []) }
 {
     let mut lists = Vec::with_capacity(alloc, count as usize)?;
     for _ in 0..count {
@@ -54,7 +56,7 @@ fn empty_lists(alloc: Global, count: u32) -> Result<Vec<Vec<Op>>, NoMemory>
     Ok(lists)
 }
 
-/// Adds row after row to the next of some lists.
+/// Adds row after row to the next of some lists, from the first on.
 fn deal_rows(
     alloc: Global,
     width: Width,
@@ -67,6 +69,10 @@ fn deal_rows(
         → weigh weight (map (λ list. map plain_op list.items) lists.new.items)
         ≡ weigh weight (map (λ list. map plain_op list.items) lists.old.items)
         + sum_by weight (map (addition width) (map plain_row rows.items))) }
+    ensures turns { OnOk result ((worker : ℕ) → worker < length lists.old.items
+        → get_or (map (λ list. map plain_op list.items) lists.new.items) worker []
+        ≡ get_or (map (λ list. map plain_op list.items) lists.old.items) worker []
+        ++ map (addition width) (turns_of (length lists.old.items) worker (map plain_row rows.items))) }
 {
     let mut worker = 0;
     for row in rows {

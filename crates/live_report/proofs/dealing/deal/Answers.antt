@@ -1,12 +1,13 @@
 -- Rows and totals.
-use Rattle.std.proofs.Common.{ℕ, ◌++◌, List, map, ap, sym, subst, ◌∙◌, arith}
+use Rattle.std.proofs.Common.{ℕ, ◌++◌, List, length, map, ap, sym, subst, ◌∙◌, arith}
 use Rattle.std.specs.Prelude.{sum_by}
 use Rattle.std.proofs.lemmas.List.{length-map}
 use Rattle.std.proofs.lemmas.Result.{IfOk-weaker}
 use Rattle.std.proofs.lemmas.Simd.{map-map}
 use Rattle.profile_rows.specs.Values.{BatchState, Row}
-use Rattle.op_book.specs.Operations.{plain_op}
-use Rattle.live_report.specs.Dealing.{AreDealt, addition, totals_from}
+use Rattle.profile_rows.specs.OwnedRows.{plain_row}
+use Rattle.op_book.specs.Operations.{PlainOp, plain_op}
+use Rattle.live_report.specs.Dealing.{AreDealt, addition, totals_from, turns_of}
 use Rattle.live_report.proofs.Lists.{dealt_from}
 use Rattle.live_report.proofs.dealing.deal.Goals as goal
 
@@ -27,6 +28,16 @@ returns c =
     ap (λ (rows : List Row). sum_by weight (map (addition c.width-width.result) rows)) c.in_ok-rows.ensures in
     let width = ap (λ (width : ℕ). sum_by weight (map (addition width) batch.rows)) c.width-width.ensures.width in
     omega (arith, more, none, rows, width))
+    (λ worker lt.
+    c.in_ok-deal_rows.ensures.turns worker (omega (arith, lt, c.in_ok-lists.ensures.count))
+    ∙ ap (λ (first : List PlainOp). first ++ map (addition c.width-width.result) (turns_of
+    (length c.in_ok-lists.lists.items) worker (map plain_row c.in_ok-rows.rows.items)))
+    (c.in_ok-lists.ensures.each worker)
+    ∙ ap (λ (n : ℕ). map (addition c.width-width.result) (turns_of n worker (map plain_row c.in_ok-rows.rows.items)))
+    c.in_ok-lists.ensures.count
+    ∙ ap (λ (rows : List Row). map (addition c.width-width.result) (turns_of c.args.sessions worker rows))
+    c.in_ok-rows.ensures
+    ∙ ap (λ (width : ℕ). map (addition width) (turns_of c.args.sessions worker batch.rows)) c.width-width.ensures.width)
     (ends
     ∙ ap (λ (width : ℕ). map (λ list. map plain_op list.items ++ totals_from 0 width) lists) c.width-width.ensures.width
     ∙ sym (map-map (λ list. list ++ totals_from 0 batch.width) (λ list. map plain_op list.items) lists))))

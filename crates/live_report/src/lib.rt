@@ -10,5 +10,7 @@ mod texts;
 
 pub use fault::LiveFault;
 pub use flame_words::LiveOptions;
+pub use live_store::{BookFault, MakeFault, SessionFault};
+pub use log_audit::AuditFault;
 pub use progress::{NoProgress, Progress};
 pub use texts::live_text;

@@ -23,12 +23,10 @@ use Rattle.flame_report.specs.declared.query.Query.{Query}
 use Rattle.flame_words.specs.declared.request.Format.{Format}
 use Rattle.flame_words.specs.declared.request.Format.TheVariants.{Folded, Pprof}
 use Rattle.flame_words.specs.declared.request.Source.{Source}
-use Rattle.flame_answers.specs.declared.faults.InputFault.TheVariants as refused
 use Rattle.flame_answers.specs.declared.faults.AnswerFault.{AnswerFault}
-use Rattle.flame_answers.specs.declared.faults.AnswerFault.TheVariants as answer
 use Rattle.flame_answers.specs.Answers.{IsAnswerOfAll, IsReport, answer_text}
 use Rattle.flame_answers.specs.Inputs.{Got, IsChoice, IsChoiceOfAll, IsChosen, IsFirstOfSamples, IsIn, IsRefusedIn}
-use Rattle.flame_answers.specs.Inputs.{IsSampled, IsSpelled, IsToldAs, Wanted}
+use Rattle.flame_answers.specs.Inputs.{IsSampled, IsSpelled, IsToldOfProfile, IsToldOfSamples, IsToldOfText, Wanted}
 use Rattle.flame_answers.specs.Inputs.Wanted.{for_report, for_store}
 
 -- ---- answers
@@ -60,8 +58,7 @@ answered-of_all bytes source query format kind input (Err fault) same asked keep
 
 pub text_refused : (wanted : Wanted) (input : List ℕ) (fault : FoldedFault) (told : AnswerFault)
     → IsFirstFault input fault → ((got : Got wanted) → IsSpelled wanted input got → fault ≡ folded.NoMemory)
-    → IsToldAs folded.NoMemory answer.NoMemory (λ f. answer.Input (refused.Folded f)) fault told
-    → IsRefusedIn Folded wanted input told
+    → IsToldOfText fault told → IsRefusedIn Folded wanted input told
 text_refused wanted input fault told first none (inl memory) =
     subst (λ (t : AnswerFault). IsRefusedIn Folded wanted input t) (sym memory.1) tt
 text_refused wanted input fault told first none (inr other) =
@@ -71,8 +68,7 @@ text_refused wanted input fault told first none (inr other) =
 -- what work on a text's rows ends without a result by
 pub work_refused : (wanted : Wanted) (input : List ℕ) (fault : FoldedFault) (told : AnswerFault)
     → IsWorkFault input fault → ((got : Got wanted) → IsSpelled wanted input got → fault ≡ folded.NoMemory)
-    → IsToldAs folded.NoMemory answer.NoMemory (λ f. answer.Input (refused.Folded f)) fault told
-    → IsRefusedIn Folded wanted input told
+    → IsToldOfText fault told → IsRefusedIn Folded wanted input told
 work_refused wanted input fault told (inl first) none as_told = text_refused wanted input fault told first none as_told
 work_refused wanted input fault told (inr late) none (inl memory) =
     subst (λ (t : AnswerFault). IsRefusedIn Folded wanted input t) (sym memory.1) tt
@@ -83,8 +79,7 @@ work_refused wanted input fault told (inr late) none (inr other) = absurd (other
 pub bytes_refused : (wanted : Wanted) (input : List ℕ) (fault : ProfileFault) (told : AnswerFault)
     → (fault ≢ profile.NoMemory → IsProfileFault input fault)
     → ((draft : Draft) → IsProfile input draft → fault ≡ profile.NoMemory)
-    → IsToldAs profile.NoMemory answer.NoMemory (λ f. answer.Input (refused.Profile f)) fault told
-    → IsRefusedIn Pprof wanted input told
+    → IsToldOfProfile fault told → IsRefusedIn Pprof wanted input told
 bytes_refused wanted input fault told first drafts (inl memory) =
     subst (λ (t : AnswerFault). IsRefusedIn Pprof wanted input t) (sym memory.1) tt
 bytes_refused wanted input fault told first drafts (inr other) =
@@ -145,8 +140,7 @@ pub samples_refused : (wanted : Wanted) (input : List ℕ) (draft : Draft) (choi
     (told : AnswerFault) → IsProfile input draft → ((other : Draft) → IsProfile input other → draft ≡ other)
     → IsChosen wanted choice → IsFirstOfSamples wanted draft choice fault
     → ((got : Got wanted) → IsSampled wanted draft choice got → fault ≡ batch.NoMemory)
-    → IsToldAs batch.NoMemory answer.NoMemory (λ f. answer.Input (refused.Batch f)) fault told
-    → IsRefusedIn Pprof wanted input told
+    → IsToldOfSamples fault told → IsRefusedIn Pprof wanted input told
 samples_refused wanted input draft choice fault told is only chosen first none (inl memory) =
     subst (λ (t : AnswerFault). IsRefusedIn Pprof wanted input t) (sym memory.1) tt
 samples_refused wanted input draft choice fault told is only chosen first none (inr other) =

@@ -4,34 +4,20 @@ use folded_text::FoldedFault;
 use pprof_profile::ProfileFault;
 use profile_rows::NoMemory;
 use profile_samples::BatchFault;
-use std::{error, fmt};
 use thiserror::Error;
 
 /// Why an input has no rows.
-#[derive(Clone, Copy, Debug, PartialEq, Eq)]
+#[derive(Clone, Copy, Debug, PartialEq, Eq, Error)]
 pub enum InputFault {
     /// It isn't folded text.
+    #[error("{0}")]
     Folded(FoldedFault),
     /// It is no profile.
+    #[error("{0}")]
     Profile(ProfileFault),
     /// The profile's samples give no rows.
+    #[error("{0}")]
     Batch(BatchFault),
-}
-
-impl error::Error for InputFault {}
-
-impl fmt::Display for InputFault {
-    ghost use Rattle.std.specs.Prelude.{None};
-
-    ghost output = { λ _. None };
-
-    fn fmt<W: fmt::Write>(&self, f: &mut fmt::Formatter<W>) -> fmt::Result {
-        match self {
-            InputFault::Folded(fault) => write!(f, "{fault}"),
-            InputFault::Profile(fault) => write!(f, "{fault}"),
-            InputFault::Batch(fault) => write!(f, "{fault}"),
-        }
-    }
 }
 
 /// Why there is no answer.

@@ -11,4 +11,7 @@ pub use answers::{export, report_on};
 pub use batches::batch_in;
 pub use faults::{AnswerFault, InputFault};
 pub use flame_words::{Format, Source};
+pub use folded_text::FoldedFault;
+pub use pprof_profile::{ProfileFault, WireFault};
+pub use profile_samples::BatchFault;
 pub use streams::{MAX_INPUT, ReadFault, WriteFault, read_input, write_text};

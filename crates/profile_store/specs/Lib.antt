@@ -12,6 +12,7 @@ pub use Rattle.live_store.specs.Workers
 pub use Rattle.log_audit.specs.Logs
 pub use Rattle.log_audit.specs.Matching
 pub use Rattle.op_book.specs.Books
+pub use Rattle.op_book.specs.Changes
 pub use Rattle.op_book.specs.Operations
 pub use Rattle.op_book.specs.Receipts
 pub use Rattle.op_book.specs.Runs

@@ -69,6 +69,7 @@ pub use log_audit::audit;
 pub use log_audit::audit_with;
 pub use op_book::Book;
 pub use op_book::BookFault;
+pub use op_book::Change;
 pub use op_book::Entry;
 pub use op_book::Journal;
 pub use op_book::Op;

@@ -1,8 +1,8 @@
 //! The program `flame` over any words, reader and writer, and over the process's own: the whole run.
 //!
-//! What a caller names stands here too: [`MAX_INPUT`], the greatest limit that [`run`] takes; the [`Request`] that words
-//! ask for; and the faults that a [`ToolFault`] holds. An [`InputFault`] is one of folded text, of a profile or of its
-//! samples, and a [`LiveFault`] one of a store that isn't made, of a session, of a change or of the audit.
+//! What a caller names stands here too: [`MAX_INPUT`], the greatest limit that [`run`] takes; the [`Request`] that
+//! words ask for; and the faults that a [`ToolFault`] holds. An [`InputFault`] is one of folded text, of a profile or
+//! of its samples, and a [`LiveFault`] one of a store that isn't made, of a session, of a change or of the audit.
 #![tactic(auto)]
 
 mod host;

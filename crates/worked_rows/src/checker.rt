@@ -1,0 +1,111 @@
+//! What a script's steps made, compared with what they have to make.
+
+use crate::bytes::{Names, Wrong, say};
+use crate::script::Step;
+use std::alloc::Global;
+use std::mem;
+use std::process::ExitCode;
+
+/// The bytes that have names, the step under way, and what went wrong so far.
+#[derive(Drop)]
+pub(crate) struct Checker {
+    pub(crate) alloc: Global,
+    names: Names,
+    /// The input of the step.
+    pub(crate) input: Vec<u8>,
+    /// What the step made.
+    pub(crate) made: Vec<u8>,
+    report: Vec<u8>,
+    passed: u64,
+    failed: u64,
+    has_failed: bool,
+}
+
+impl Checker {
+    pub(crate) fn new(alloc: Global) -> Checker {
+        Checker {
+            alloc,
+            names: Names::new(alloc),
+            input: Vec::new(alloc),
+            made: Vec::new(alloc),
+            report: Vec::new(alloc),
+            passed: 0,
+            failed: 0,
+            has_failed: false,
+        }
+    }
+
+    /// Spells the input of a step, which has made nothing yet.
+    pub(crate) fn begin(&mut self, step: &Step) -> Result<(), Wrong> {
+        self.input.clear();
+        self.made.clear();
+        self.names.spell_input(step.lines, &mut self.input)
+    }
+
+    /// Gives the input of the step the name that its command has.
+    pub(crate) fn name_input(&mut self, step: &Step) -> Result<(), Wrong> {
+        let name = step.words.word(1)?;
+        self.names.add(self.alloc, name, self.input.as_slice())
+    }
+
+    /// Counts a step that ran to its end, or that couldn't be run.
+    pub(crate) fn settle(&mut self, step: &Step, ran: Result<(), Wrong>) -> Result<(), Wrong> {
+        let mut wanted = Vec::new(self.alloc);
+        let spelled = self.names.spell_wanted(step.lines, &mut wanted);
+        let ran = ran.and(spelled);
+        if ran.is_ok() && wanted.as_slice() == self.made.as_slice() {
+            self.passed = self.passed.saturating_add(1);
+            return Ok(());
+        }
+        self.failed = self.failed.saturating_add(1);
+        self.has_failed = true;
+        self.tell(step, wanted.as_slice(), ran)
+    }
+
+    /// Reports a step that failed.
+    fn tell(&mut self, step: &Step, wanted: &[u8], ran: Result<(), Wrong>) -> Result<(), Wrong> {
+        let head = format!(in self.alloc; "{}:{}: {}\n", step.file, step.line, step.words.text)?;
+        self.report.extend_from_slice(head.as_bytes())?;
+        if let Err(wrong) = ran {
+            say(self.alloc, &mut self.report, &format_args!("  {wrong}"))?;
+        }
+        add_shown(&mut self.report, "wanted", wanted)?;
+        add_shown(&mut self.report, "made", self.made.as_slice())
+    }
+
+    /// Ends a script: its counts are reported, and begin again.
+    pub(crate) fn end(&mut self, file: &str) -> Result<(), Wrong> {
+        let line = format!(in self.alloc;
+            "{file}: {} passed, {} failed\n",
+            self.passed, self.failed
+        )?;
+        self.report.extend_from_slice(line.as_bytes())?;
+        self.passed = 0;
+        self.failed = 0;
+        Ok(())
+    }
+
+    /// What there is to print, which begins again.
+    pub(crate) fn take_report(&mut self) -> Vec<u8> {
+        mem::replace(&mut self.report, Vec::new(self.alloc))
+    }
+
+    /// 1 where a step failed.
+    pub(crate) fn exit_code(&self) -> ExitCode {
+        if self.has_failed {
+            ExitCode::FAILURE
+        } else {
+            ExitCode::SUCCESS
+        }
+    }
+}
+
+/// Adds bytes as they are, under a title. Bytes that are no text are shown as a list of numbers.
+fn add_shown(report: &mut Vec<u8>, title: &str, bytes: &[u8]) -> Result<(), Wrong> {
+    let alloc = *report.allocator();
+    let shown = match std::str::from_utf8(bytes) {
+        Ok(text) => format!(in alloc; "  {title}:\n{text}")?,
+        Err(_) => format!(in alloc; "  {title}: {bytes:?}\n")?,
+    };
+    Ok(report.extend_from_slice(shown.as_bytes())?)
+}

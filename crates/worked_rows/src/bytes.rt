@@ -1,9 +1,11 @@
 //! What the lines of a step spell: `> text`, `>hex 0aff`, `>of NAME cut 3`, `>times 1000 a;`, `>numbered 10 f# 1`.
 
 use crate::script::Words;
+use bstr::ByteSlice;
 use profile_store::NoMemory;
 use std::alloc::{AllocError, AllocFailed, Global};
 use std::fmt::{Debug, Display};
+use std::io::Write;
 use thiserror::Error;
 
 /// Why a step can't be run.
@@ -72,13 +74,21 @@ impl Names {
         Ok(self.all.push(named)?)
     }
 
-    fn find(&self, name: &str) -> Result<&[u8], Wrong> {
+    /// The bytes of a name.
+    pub(crate) fn find(&self, name: &str) -> Result<&[u8], Wrong> {
         let named = self
             .all
             .iter()
             .rev()
             .find(|named| named.name.as_str() == name);
         Ok(named.ok_or(Wrong::Name)?.bytes.as_slice())
+    }
+
+    /// The text of a name.
+    pub(crate) fn find_text(&self, name: &str) -> Result<&str, Wrong> {
+        std::str::from_utf8(self.find(name)?)
+            .ok()
+            .ok_or(Wrong::Line)
     }
 
     /// Adds the bytes that the input of a step has, whose lines begin with `>`.
@@ -104,6 +114,25 @@ impl Names {
         Ok(())
     }
 
+    /// Whether what a step made has each part that a line with `~` wants.
+    pub(crate) fn has_parts(&self, alloc: Global, lines: &str, made: &[u8]) -> Result<bool, Wrong> {
+        for line in lines.lines() {
+            if let Some(text) = line.strip_prefix('~') {
+                if !self.has_part(alloc, text, made)? {
+                    return Ok(false);
+                }
+            }
+        }
+        Ok(true)
+    }
+
+    fn has_part(&self, alloc: Global, text: &str, made: &[u8]) -> Result<bool, Wrong> {
+        let mut part = Vec::new(alloc);
+        self.spell_line(text, &mut part)?;
+        let _line_end = part.pop();
+        Ok(made.contains_str(part.as_slice()))
+    }
+
     /// Adds what a line spells after its mark.
     fn spell_line(&self, line: &str, bytes: &mut Vec<u8>) -> Result<(), Wrong> {
         if line.is_empty() {
@@ -116,6 +145,7 @@ impl Names {
             "of" => self.add_named(text, bytes),
             "times" => add_times(text, bytes),
             "numbered" => add_numbered(text, bytes),
+            "varints" => add_varints(text, bytes),
             _ => Err(Wrong::Line),
         }
     }
@@ -222,31 +252,81 @@ fn add_times(text: &str, bytes: &mut Vec<u8>) -> Result<(), Wrong> {
     Ok(())
 }
 
-/// Adds so many lines, each with its number, from 0 on, in the place of each `#`: `1000 f# 1`.
+/// Which numbers a form goes through, one after the other: `10` for those below it, `5..10`, and `10..5` downwards.
+#[derive(Clone, Copy)]
+struct Numbers {
+    first: u64,
+    end: u64,
+}
+
+impl Numbers {
+    fn read(text: &str) -> Result<Numbers, Wrong> {
+        let (first, end) = text.split_once("..").unwrap_or(("0", text));
+        Ok(Numbers {
+            first: first.parse().ok().ok_or(Wrong::Line)?,
+            end: end.parse().ok().ok_or(Wrong::Line)?,
+        })
+    }
+
+    fn count(self) -> u64 {
+        self.first.abs_diff(self.end)
+    }
+
+    /// The number that comes after so many. Downwards the end counts and the first doesn't.
+    fn get(self, index: u64) -> u64 {
+        if self.first <= self.end {
+            self.first.saturating_add(index)
+        } else {
+            self.first.saturating_sub(index).saturating_sub(1)
+        }
+    }
+}
+
+/// Adds a line for each number, with it in the place of each `#`, and with its four hexadecimal digits in the place of
+/// each `%`: `1000 f# 1`, `128..200 0x7f% #`.
 fn add_numbered(text: &str, bytes: &mut Vec<u8>) -> Result<(), Wrong> {
-    let (count, text) = number_and_text(text)?;
-    for number in 0..count {
-        add_with_number(text, number, bytes)?;
+    let (numbers, text) = text.split_once(' ').ok_or(Wrong::Line)?;
+    let numbers = Numbers::read(numbers)?;
+    for index in 0..numbers.count() {
+        add_with_number(text, numbers.get(index), bytes)?;
         bytes.push(b'\n')?;
     }
     Ok(())
 }
 
 fn add_with_number(text: &str, number: u64, bytes: &mut Vec<u8>) -> Result<(), Wrong> {
-    let mut is_first = true;
-    for piece in text.split('#') {
-        if !is_first {
-            add_number(number, bytes)?;
+    for byte in text.bytes() {
+        match byte {
+            b'#' => write!(bytes, "{number}").ok().ok_or(Wrong::NoMemory)?,
+            b'%' => write!(bytes, "{number:04x}").ok().ok_or(Wrong::NoMemory)?,
+            _ => bytes.push(byte)?,
         }
-        bytes.extend_from_slice(piece.as_bytes())?;
-        is_first = false;
     }
     Ok(())
 }
 
-fn add_number(number: u64, bytes: &mut Vec<u8>) -> Result<(), Wrong> {
-    let text = format!(in *bytes.allocator(); "{number}")?;
-    Ok(bytes.extend_from_slice(text.as_bytes())?)
+/// Adds hexadecimal digits for each number, with the two bytes of its varint in the place of `#`, and with the same as
+/// the first two of a longer varint in the place of `+`: `128..200 1202 #`.
+fn add_varints(text: &str, bytes: &mut Vec<u8>) -> Result<(), Wrong> {
+    let (numbers, text) = text.split_once(' ').ok_or(Wrong::Line)?;
+    let numbers = Numbers::read(numbers)?;
+    for index in 0..numbers.count() {
+        add_with_varint(text, numbers.get(index), bytes)?;
+    }
+    Ok(())
+}
+
+fn add_with_varint(text: &str, number: u64, bytes: &mut Vec<u8>) -> Result<(), Wrong> {
+    let low = (number % 128) as u8 | 0x80;
+    let high = (number / 128 % 128) as u8;
+    for word in text.split_whitespace() {
+        match word {
+            "#" => bytes.extend_from_slice(&[low, high])?,
+            "+" => bytes.extend_from_slice(&[low, high | 0x80])?,
+            _ => add_hex(word, bytes)?,
+        }
+    }
+    Ok(())
 }
 
 /// Adds a value as a line.

@@ -10,7 +10,7 @@ use std::process::ExitCode;
 #[derive(Drop)]
 pub(crate) struct Checker {
     pub(crate) alloc: Global,
-    names: Names,
+    pub(crate) names: Names,
     /// The input of the step.
     pub(crate) input: Vec<u8>,
     /// What the step made.
@@ -42,31 +42,49 @@ impl Checker {
         self.names.spell_input(step.lines, &mut self.input)
     }
 
-    /// Gives the input of the step the name that its command has.
-    pub(crate) fn name_input(&mut self, step: &Step) -> Result<(), Wrong> {
-        let name = step.words.word(1)?;
+    /// Gives the input of the step a name.
+    pub(crate) fn name_input(&mut self, name: &str) -> Result<(), Wrong> {
         self.names.add(self.alloc, name, self.input.as_slice())
+    }
+
+    /// Gives what the step made a name. Nothing of it is left.
+    pub(crate) fn name_made(&mut self, name: &str) -> Result<(), Wrong> {
+        self.names.add(self.alloc, name, self.made.as_slice())?;
+        self.made.clear();
+        Ok(())
     }
 
     /// Counts a step that ran to its end, or that couldn't be run.
     pub(crate) fn settle(&mut self, step: &Step, ran: Result<(), Wrong>) -> Result<(), Wrong> {
         let mut wanted = Vec::new(self.alloc);
-        let spelled = self.names.spell_wanted(step.lines, &mut wanted);
-        let ran = ran.and(spelled);
-        if ran.is_ok() && wanted.as_slice() == self.made.as_slice() {
+        let fits = match ran.and(self.names.spell_wanted(step.lines, &mut wanted)) {
+            Ok(()) => self.fits(step, wanted.as_slice()),
+            Err(wrong) => Err(wrong),
+        };
+        if fits == Ok(true) {
             self.passed = self.passed.saturating_add(1);
             return Ok(());
         }
         self.failed = self.failed.saturating_add(1);
         self.has_failed = true;
-        self.tell(step, wanted.as_slice(), ran)
+        self.tell(step, wanted.as_slice(), fits.err())
+    }
+
+    /// Whether a step made what was wanted: all of it, or the parts that lines with `~` want.
+    fn fits(&self, step: &Step, wanted: &[u8]) -> Result<bool, Wrong> {
+        if step.lines.lines().any(|line| line.starts_with('~')) {
+            self.names
+                .has_parts(self.alloc, step.lines, self.made.as_slice())
+        } else {
+            Ok(wanted == self.made.as_slice())
+        }
     }
 
     /// Reports a step that failed.
-    fn tell(&mut self, step: &Step, wanted: &[u8], ran: Result<(), Wrong>) -> Result<(), Wrong> {
+    fn tell(&mut self, step: &Step, wanted: &[u8], wrong: Option<Wrong>) -> Result<(), Wrong> {
         let head = format!(in self.alloc; "{}:{}: {}\n", step.file, step.line, step.words.text)?;
         self.report.extend_from_slice(head.as_bytes())?;
-        if let Err(wrong) = ran {
+        if let Some(wrong) = wrong {
             say(self.alloc, &mut self.report, &format_args!("  {wrong}"))?;
         }
         add_shown(&mut self.report, "wanted", wanted)?;

@@ -2,7 +2,9 @@
 
 use crate::bytes::Wrong;
 use crate::checker::Checker;
+use crate::program::Run;
 use crate::script::{Script, Step, Words};
+use crate::streams::Streams;
 use crate::wire;
 use std::alloc::Global;
 use std::random::RandomSource;
@@ -27,17 +29,18 @@ pub(crate) fn run_script<R: Threads + Wait + RandomSource + Sync>(
     checker.end(file)
 }
 
-/// Runs the steps of a block.
+/// Runs the steps of a block. Their streams behave as the steps before in the block say.
 fn run_block<R: Threads + Wait + RandomSource + Sync>(
     rt: &R,
     checker: &mut Checker,
     script: &mut Script,
 ) -> Result<(), Wrong> {
+    let mut streams = Streams::new();
     for _ in 0..script.most_steps() {
         let Some(step) = script.next_step() else {
             break;
         };
-        run_step(rt, checker, script, &step)?;
+        run_step(rt, checker, script, &mut streams, &step)?;
     }
     Ok(())
 }
@@ -47,12 +50,13 @@ fn run_step<R: Threads + Wait + RandomSource + Sync>(
     rt: &R,
     checker: &mut Checker,
     _script: &mut Script,
+    streams: &mut Streams,
     step: &Step,
 ) -> Result<(), Wrong> {
     match step.words.word(0)? {
         // Scenes: "tree" => trees::run_scene(checker, script, step),
         _ => {
-            let ran = run_command(rt, checker, step);
+            let ran = run_command(rt, checker, streams, step);
             checker.settle(step, ran)
         }
     }
@@ -60,19 +64,56 @@ fn run_step<R: Threads + Wait + RandomSource + Sync>(
 
 /// Runs a command that stands alone.
 fn run_command<R: Threads + Wait + RandomSource + Sync>(
-    _rt: &R,
+    rt: &R,
     checker: &mut Checker,
+    streams: &mut Streams,
     step: &Step,
 ) -> Result<(), Wrong> {
     checker.begin(step)?;
     match step.words.word(0)? {
-        "let" => checker.name_input(step),
+        "let" => checker.name_input(step.words.word(1)?),
+        "into" => {
+            run_program(rt, checker, *streams, step.words.rest(2))?;
+            checker.name_made(step.words.word(1)?)
+        }
+        "reader" | "writer" | "flush" | "limit" | "random" => streams.set(step.words),
+        "flame" | "as" | "both" | "each" | "process" | "read" => run_program(
+            rt, checker, *streams, step.words,
+        ),
         _ => run_call(
             checker.alloc,
             step.words,
             checker.input.as_slice(),
             &mut checker.made,
         ),
+    }
+}
+
+/// Runs a command that runs the program.
+fn run_program<R: Threads + Wait + RandomSource + Sync>(
+    rt: &R,
+    checker: &mut Checker,
+    streams: Streams,
+    words: Words,
+) -> Result<(), Wrong> {
+    let made = &mut checker.made;
+    let run = Run {
+        rt,
+        alloc: checker.alloc,
+        streams,
+        input: checker.input.as_slice(),
+    };
+    match (words.word(0)?, words.word(1).unwrap_or("")) {
+        ("flame", _) => run.once(words.text, made),
+        ("as", _) => run.once(words.rest(1).text, made),
+        ("both", name) => run.both(checker.names.find(name)?, words.rest(2).text, made),
+        ("each", "of") => run.each(checker.names.find_text(words.word(2)?)?, made),
+        ("each", "read") => run.each_read(words.rest(3).text, made),
+        ("each", "write") => run.each_write(words.rest(3).text, made),
+        ("process", "without") => run.without_words(words.word(2)?, made),
+        ("process", _) => run.process(words.rest(1).text, made),
+        ("read", _) => run.read(made),
+        _ => Err(Wrong::Command),
     }
 }
 

@@ -8,7 +8,9 @@
 mod bytes;
 mod checker;
 mod commands;
+mod program;
 mod script;
+mod streams;
 mod wire;
 
 use crate::checker::Checker;

@@ -17,7 +17,7 @@ pub(crate) struct Step<'a> {
     /// The number of the command's line. The first line of a script is 1.
     pub(crate) line: usize,
     pub(crate) words: Words<'a>,
-    /// The lines after it that begin with `>`, `=` or `!`.
+    /// The lines after it that begin with `>`, `=`, `!` or `~`.
     pub(crate) lines: &'a str,
 }
 
@@ -94,7 +94,7 @@ impl<'a> Script<'a> {
 }
 
 fn is_mark(ch: char) -> bool {
-    ch == '>' || ch == '=' || ch == '!'
+    ch == '>' || ch == '=' || ch == '!' || ch == '~'
 }
 
 fn is_blank(line: &str) -> bool {
@@ -119,6 +119,15 @@ impl<'a> Words<'a> {
             .split_whitespace()
             .nth(index)
             .ok_or(Wrong::Command)
+    }
+
+    /// The words from this index on.
+    pub(crate) fn rest(self, index: usize) -> Words<'a> {
+        let mut text = self.text;
+        for _ in 0..index {
+            text = text.split_once(' ').unwrap_or(("", "")).1;
+        }
+        Words { text }
     }
 
     /// A word as a number.

@@ -236,18 +236,19 @@ fn add_hex(text: &str, bytes: &mut Vec<u8>) -> Result<(), Wrong> {
     }
 }
 
-/// A number, and the text after it.
-fn number_and_text(text: &str) -> Result<(u64, &str), Wrong> {
-    let (number, text) = text.split_once(' ').ok_or(Wrong::Line)?;
-    let number = number.parse().ok().ok_or(Wrong::Line)?;
-    Ok((number, text))
+/// Adds a text with escapes so often: `1000 a;`. No line ends there.
+fn add_times(text: &str, bytes: &mut Vec<u8>) -> Result<(), Wrong> {
+    let (count, text) = text.split_once(' ').ok_or(Wrong::Line)?;
+    let count: u64 = count.parse().ok().ok_or(Wrong::Line)?;
+    let mut piece = Vec::new(*bytes.allocator());
+    add_text(text, &mut piece)?;
+    let _line_end = piece.pop();
+    add_pieces(count, piece.as_slice(), bytes)
 }
 
-/// Adds a text so often: `1000 a;`. No line ends there.
-fn add_times(text: &str, bytes: &mut Vec<u8>) -> Result<(), Wrong> {
-    let (count, text) = number_and_text(text)?;
+fn add_pieces(count: u64, piece: &[u8], bytes: &mut Vec<u8>) -> Result<(), Wrong> {
     for _ in 0..count {
-        bytes.extend_from_slice(text.as_bytes())?;
+        bytes.extend_from_slice(piece)?;
     }
     Ok(())
 }

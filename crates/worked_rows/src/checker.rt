@@ -118,8 +118,12 @@ impl Checker {
     }
 }
 
-/// Adds bytes as they are, under a title. Bytes that are no text are shown as a list of numbers.
+/// How many bytes of what was wanted or made are shown.
+const SHOWN: usize = 2_000;
+
+/// Adds the first of some bytes as they are, under a title. Bytes that are no text are shown as a list of numbers.
 fn add_shown(report: &mut Vec<u8>, title: &str, bytes: &[u8]) -> Result<(), Wrong> {
+    let bytes = bytes.get(..SHOWN).unwrap_or(bytes);
     let alloc = *report.allocator();
     let shown = match std::str::from_utf8(bytes) {
         Ok(text) => format!(in alloc; "  {title}:\n{text}")?,

@@ -1,16 +1,20 @@
+#!/usr/bin/env python3
 """Tries a crate's wrong bodies, those of `must-fail/` and of `planted/`, many in one check.
 
-    python3 tools/try_planted.py [CRATE..]
+    python3 tools/try_planted.py [CRATE..]      tries those that weren't seen refused as the sources are now
+    python3 tools/try_planted.py --stale        says of which crates that is so, in a second
 
 An edit is a file with a line 'file: src/NAME.rt' and pairs of lines 'old: TEXT' and 'new: TEXT', as rt reads it. The
-gate tries those of `must-fail/`, each in a check of its own. Most of such a check is loading. Here one check of a copy
-of the crate has all wrong bodies at once, at most one for each function; a wrong body is refused where the check says
-that a goal of its function isn't proved. What isn't refused is tried again without those that are, and at last alone.
-What no check refuses is told, and the exit status is 1.
+gate tries those of `must-fail/`, each in a check of its own. Most of such a check is loading. Here a check of a copy of
+the crate, over the libraries that `./build` keeps of those below it, has all wrong bodies at once, at most one for each
+function; a wrong body is refused where the check says that a goal of its function isn't proved. What isn't refused is
+tried again without those that are, and at last alone. What no check refuses is told, and the exit status is 1.
 
-The crate and those below it should be proved before (`rt check`): what a check kept is taken from there.
+Beside the crate's library stays for which sum of sources each edit was seen refused.
 """
 import argparse
+import hashlib
+import json
 import os
 import pathlib
 import re
@@ -19,7 +23,9 @@ import subprocess
 import sys
 import tempfile
 
-ROOT = pathlib.Path(__file__).resolve().parent.parent
+sys.dont_write_bytecode = True
+from libraries import ROOT, find_kit, is_kept, listed, note_of, over_libraries, read_crates, sums_of
+
 FUNCTION = re.compile(r"^( *)(?:pub(?:\([a-z]+\))? )?(?:const )?fn (\w+)", re.MULTILINE)
 # The head of an `impl`: the last word of its trait, if it has one, and its type.
 IMPL = re.compile(r"^impl(?:<[^>\n]*>)? (?:(?:\w+::)*(\w+)(?:<.*>)? for )?(\w+)", re.MULTILINE)
@@ -52,6 +58,7 @@ class Edit:
             if text.count(old) != 1:
                 sys.exit(f"{path}: its old text stands in {self.file} {text.count(old)} times: {old}")
         self.functions = {function_at(text, text.index(old)) for old, _ in self.pairs}
+        self.sum = hashlib.sha256(path.read_bytes()).hexdigest()
 
     def applied(self, text):
         for old, new in self.pairs:
@@ -123,17 +130,18 @@ def refused(edit, output):
     return any(is_in(path, edit.file, it) for path in paths for it in edit.functions)
 
 
-def checked(room, crate, edits):
+def checked(kit, crate, room, edits):
     """What a check of the copy in the room says with these edits."""
     folder, texts = room / "crates" / crate.name, {}
     shutil.rmtree(folder / "src")
-    shutil.copytree(crate / "src", folder / "src")
+    shutil.copytree(crate.folder() / "src", folder / "src")
     for edit in edits:
-        texts[edit.file] = edit.applied(texts.get(edit.file) or (crate / edit.file).read_text())
+        texts[edit.file] = edit.applied(texts.get(edit.file) or (crate.folder() / edit.file).read_text())
     for file, text in texts.items():
         (folder / file).write_text(text)
+    words = [*over_libraries(kit, crate, "check"), "--incremental", room / "kept", "--jobs", "2"]
     both = {"stdout": subprocess.PIPE, "stderr": subprocess.STDOUT}
-    return subprocess.run(["rt", "check"], cwd=folder, text=True, errors="replace", **both).stdout
+    return subprocess.run(words, cwd=folder, text=True, errors="replace", **both).stdout
 
 
 def apart(edits):
@@ -150,47 +158,80 @@ def apart(edits):
     return chosen
 
 
-def fill(room):
-    """Copies the sources of the repository, and what checks kept."""
-    left_out = shutil.ignore_patterns(".git", "out", "must-fail", "planted")
-    shutil.copytree(ROOT, room, dirs_exist_ok=True, ignore=left_out, symlinks=True)
-    for kept in (ROOT / "crates").glob("*/out"):
-        shutil.copytree(kept, room / kept.relative_to(ROOT), copy_function=os.link, symlinks=True)
+def edits_of(crate):
+    """The crate's edits."""
+    files = (it for part in ("must-fail", "planted") for it in sorted((crate.folder() / part).glob("*.edit")))
+    return [Edit(it, crate.folder()) for it in files]
 
 
-def try_crate(crate, verbose):
-    """Tries the crate's edits, and returns those that no check refused."""
-    left = [Edit(it, crate) for part in ("must-fail", "planted") for it in sorted((crate / part).glob("*.edit"))]
-    count, checks, missed = len(left), 0, []
+class Seen:
+    """Which of a crate's edits were seen refused, as the sources are now."""
+
+    def __init__(self, crate, sum):
+        self.note, self.sum = note_of(crate.name, "refused"), sum
+        kept = json.loads(self.note.read_text()) if self.note.is_file() else {}
+        self.edits = set(kept.get("edits", [])) if kept.get("sum") == sum else set()
+
+    def add(self, edits):
+        self.edits |= {it.sum for it in edits}
+        self.note.parent.mkdir(parents=True, exist_ok=True)
+        self.note.write_text(json.dumps({"sum": self.sum, "edits": sorted(self.edits)}))
+
+
+def try_crate(kit, crate, sum, verbose):
+    """Tries the crate's edits that weren't seen refused, and returns those that no check refuses."""
+    edits, seen = edits_of(crate), Seen(crate, sum)
+    left, checks, missed = [it for it in edits if it.sum not in seen.edits], 0, []
     with tempfile.TemporaryDirectory() as name:
         room = pathlib.Path(name)
-        fill(room)
+        left_out = shutil.ignore_patterns("out", "must-fail", "planted")
+        shutil.copytree(crate.folder(), room / "crates" / crate.name, ignore=left_out)
         many = True
         while left:
             chosen = apart(left) if many else left[:1]
-            output = checked(room, crate, chosen)
+            output = checked(kit, crate, room, chosen)
             checks += 1
             if verbose:
                 print(output)
             shown = [it for it in chosen if refused(it, output)]
+            seen.add(shown)
             if len(chosen) == 1 and not shown:
                 missed += chosen
             left = [it for it in left if it not in shown and it not in missed]
             # (where many show nothing, one may keep the others from being checked)
             many = bool(shown)
-    print(f"{crate.name}: {count - len(missed)} of {count} wrong bodies refused, in {checks} checks", flush=True)
+    print(f"{crate.name}: {len(edits) - len(missed)} of {len(edits)} wrong bodies refused, in {checks} checks", flush=True)
     for edit in missed:
         print(f"{crate.name}: NOT REFUSED: {edit.path.relative_to(ROOT)}", flush=True)
     return missed
 
 
+def is_stale(crate, sum):
+    """Whether some edit of the crate wasn't seen refused as the sources are now. Tells how many."""
+    edits, seen = edits_of(crate), Seen(crate, sum)
+    unseen = [it for it in edits if it.sum not in seen.edits]
+    if unseen:
+        print(f"{crate.name}: {len(unseen)} of {len(edits)} wrong bodies weren't seen refused as the sources are now")
+    return bool(unseen)
+
+
 def main():
     parser = argparse.ArgumentParser(description=__doc__.split("\n")[0])
     parser.add_argument("crates", nargs="*", metavar="CRATE")
+    parser.add_argument("--stale", action="store_true", help="only say which crates have edits to be tried")
     parser.add_argument("--verbose", action="store_true", help="print what each check says")
     words = parser.parse_args()
-    known = sorted(it.parent.name for it in (ROOT / "crates").glob("*/must-fail"))
-    missed = [it for name in words.crates or known for it in try_crate(ROOT / "crates" / name, words.verbose)]
+    kit, all_crates = find_kit(), read_crates(words.crates or listed())
+    sums = sums_of(all_crates, kit)
+    chosen = [it for it in all_crates if not words.crates or it.name in words.crates]
+    if words.stale:
+        sys.exit(1 if any([is_stale(it, sums[it.name]) for it in chosen]) else 0)
+    below = {name for it in chosen for name in it.below}
+    unkept = [it.name for it in all_crates if it.name in below and not is_kept(it, sums)]
+    if unkept:
+        print(f"first: ./build {' '.join(unkept)}", flush=True)
+        subprocess.run([ROOT / "build", *unkept], check=True)
+    missed = [edit for it in chosen for edit in try_crate(kit, it, sums[it.name], words.verbose)]
     sys.exit(1 if missed else 0)
 
 

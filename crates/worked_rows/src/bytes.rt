@@ -23,6 +23,9 @@ pub(crate) enum Wrong {
     /// What the step needs isn't there: a session, a plan, a profile.
     #[error("what the command needs is missing")]
     Missing,
+    /// A call answered otherwise than before, or a profile was not read back.
+    #[error("two answers that have to be equal are not")]
+    Unequal,
 }
 
 impl From<AllocError> for Wrong {
@@ -148,15 +151,19 @@ enum Next {
 /// Adds a text and the end of its line. `\r`, `\t`, `\\` and `\xff` are a byte each, and after a `\` at the end the
 /// line doesn't end.
 fn add_text(text: &str, bytes: &mut Vec<u8>) -> Result<(), Wrong> {
-    let mut next = Next::Plain;
-    for byte in text.bytes() {
-        next = add_byte(next, byte, bytes)?;
-    }
-    match next {
+    match add_escaped(text, bytes)? {
         Next::Plain => Ok(bytes.push(b'\n')?),
         Next::Escape => Ok(()),
         Next::High | Next::Low(_) => Err(Wrong::Line),
     }
+}
+
+fn add_escaped(text: &str, bytes: &mut Vec<u8>) -> Result<Next, Wrong> {
+    let mut next = Next::Plain;
+    for byte in text.bytes() {
+        next = add_byte(next, byte, bytes)?;
+    }
+    Ok(next)
 }
 
 fn add_byte(next: Next, byte: u8, bytes: &mut Vec<u8>) -> Result<Next, Wrong> {
@@ -213,11 +220,13 @@ fn number_and_text(text: &str) -> Result<(u64, &str), Wrong> {
     Ok((number, text))
 }
 
-/// Adds a text so often: `1000 a;`. No line ends there.
+/// Adds a text with escapes so often: `1000 a;`. No line ends there.
 fn add_times(text: &str, bytes: &mut Vec<u8>) -> Result<(), Wrong> {
     let (count, text) = number_and_text(text)?;
+    let mut once = Vec::new(*bytes.allocator());
+    let _next = add_escaped(text, &mut once)?;
     for _ in 0..count {
-        bytes.extend_from_slice(text.as_bytes())?;
+        bytes.extend_from_slice(once.as_slice())?;
     }
     Ok(())
 }

@@ -8,6 +8,9 @@
 mod bytes;
 mod checker;
 mod commands;
+mod drafts;
+mod profiles;
+mod samples;
 mod script;
 mod wire;
 

@@ -79,15 +79,12 @@ fn run_command<R: Threads + Wait + RandomSource + Sync>(
 /// Runs a command that is a call of the library.
 fn run_call(alloc: Global, words: Words, input: &[u8], made: &mut Vec<u8>) -> Result<(), Wrong> {
     match words.word(0)? {
-        "varint" => wire::read_varint(alloc, words, input, made),
+        "varint" => wire::read_varint(words, input, made),
         "packed" => wire::read_packed(alloc, input, made),
         "fields" => wire::read_fields(alloc, input, made),
         "write" => wire::write(words, input, made),
-        "profile" => profiles::read_profile(words, input, made),
-        "items" => profiles::make_items(alloc, words, made),
-        "text" => profiles::make_text(alloc, words, made),
+        "profile" | "samples" => profiles::read_profile(words, input, made),
         "draft" => drafts::make_draft(alloc, input, made),
-        "samples" => samples::read_samples(words, input, made),
         "export" => samples::export(words, input, made),
         "memory" => samples::say_memory_faults(alloc, made),
         _ => Err(Wrong::Command),

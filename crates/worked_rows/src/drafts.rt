@@ -64,8 +64,9 @@ fn add_line(alloc: Global, draft: &mut Draft, words: Words) -> Result<(), Wrong>
         "comment" => draft.comments.push(number?)?,
         "period_type" => draft.period_type = value_type_of(words)?,
         "sample_type" => draft.sample_types.push(value_type_of(words)?)?,
-        "no_strings" => draft.strings.clear(),
-        "string" => draft.strings.push(string_of(alloc, words)?)?,
+        "string" => draft
+            .strings
+            .push(Text::copied(alloc, words.word(1).unwrap_or(""))?)?,
         "sample" => add_sample(alloc, draft, words)?,
         "mapping" => add_mapping(draft, words)?,
         "location" => add_location(alloc, draft, words)?,
@@ -90,42 +91,35 @@ fn value_type_of(words: Words) -> Result<ValueType, Wrong> {
     })
 }
 
-fn string_of(alloc: Global, words: Words) -> Result<Text, Wrong> {
-    Ok(Text::copied(alloc, words.word(1).unwrap_or(""))?)
-}
-
 /// A sample at one location, with values as `values 7,8`, and with a label where it has a `key`.
 fn add_sample(alloc: Global, draft: &mut Draft, words: Words) -> Result<(), Wrong> {
-    let location = words.number_after("location_id", 0)?;
-    let sample = Sample {
-        location_ids: Items::new(Vec::from_slice(alloc, &[location])?),
-        values: values_of(alloc, words)?,
-        labels: labels_of(alloc, words)?,
+    let mut sample = Sample {
+        location_ids: Items::empty(alloc),
+        values: Items::empty(alloc),
+        labels: Items::empty(alloc),
     };
+    fill_sample(&mut sample, words)?;
     Ok(draft.samples.push(&sample)?)
 }
 
-fn values_of(alloc: Global, words: Words) -> Result<Items<i64>, Wrong> {
-    let mut values = Items::empty(alloc);
-    if let Some(list) = words.after("values") {
-        for value in list.split(',') {
-            values.push(value.parse().ok().ok_or(Wrong::Line)?)?;
-        }
-    }
-    Ok(values)
-}
-
-fn labels_of(alloc: Global, words: Words) -> Result<Items<SampleLabel>, Wrong> {
-    let mut labels = Items::empty(alloc);
+fn fill_sample(sample: &mut Sample, words: Words) -> Result<(), Wrong> {
+    let location_id = words.number_after("location_id", 0)?;
+    sample.location_ids.push(location_id)?;
     if words.has("key") {
-        labels.push(SampleLabel {
+        sample.labels.push(SampleLabel {
             key: number_after(words, "key")?,
             text: number_after(words, "text")?,
             num: number_after(words, "num")?,
             num_unit: number_after(words, "num_unit")?,
         })?;
     }
-    Ok(labels)
+    let Some(values) = words.after("values") else {
+        return Ok(());
+    };
+    for value in values.split(',') {
+        sample.values.push(value.parse().ok().ok_or(Wrong::Line)?)?;
+    }
+    Ok(())
 }
 
 fn add_mapping(draft: &mut Draft, words: Words) -> Result<(), Wrong> {

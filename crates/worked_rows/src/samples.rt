@@ -1,26 +1,26 @@
 //! Samples of profiles as rows, and rows as profiles.
 
-use crate::bytes::{Wrong, refuse, say, show, usize_of};
-use crate::profiles::say_profile;
+use crate::bytes::{Wrong, refuse, show, usize_of};
+use crate::profiles::{add_bytes, say_profile};
 use crate::script::Words;
 use profile_store::{
-    Batch, BatchFault, FrameTotals, Hashing, Name, NoMemory, Profile, ProfileFault, Rank,
-    ValueChoice, ValueUnit, batch_of, batch_of_with, decode, export_folded, merge_samples,
-    profile_of, read_folded, sample_totals, top_list, top_text, unfold, write_folded, write_stacks,
+    Batch, BatchFault, Hashing, Name, NoMemory, Profile, ProfileFault, Rank, ValueChoice,
+    ValueUnit, batch_of, batch_of_with, decode, export_folded, merge_samples, profile_of,
+    read_folded, sample_totals, top_list, top_text, unfold, write_folded, write_stacks,
 };
 use std::alloc::Global;
 
 /// `samples`: a profile's samples as folded text. `samples merged` puts equal stacks together, `samples top` is the top
 /// list, `samples unfold 0` the frames of one sample with the leaf first. The value is the profile's own choice, or
-/// `value cpu`, or `all`. With `key 7` hashes begin elsewhere than with 0.
-pub(crate) fn read_samples(words: Words, input: &[u8], made: &mut Vec<u8>) -> Result<(), Wrong> {
-    let alloc = *made.allocator();
-    match (words.word(1).unwrap_or(""), decode(alloc, input)) {
-        (_, Err(fault)) => refuse(alloc, made, &fault),
-        ("merged", Ok(profile)) => say_merged(words, &profile, made),
-        ("top", Ok(profile)) => say_top(words, &profile, made),
-        ("unfold", Ok(profile)) => say_unfolded(words, &profile, made),
-        (_, Ok(profile)) => say_rows(words, &profile, made),
+/// `value cpu`, or `all`. With `key 7` hashes begin elsewhere. `samples export samples/count cpu/ns`: the bytes of the
+/// profile of the rows of all values.
+pub(crate) fn answer(words: Words, profile: &Profile, made: &mut Vec<u8>) -> Result<(), Wrong> {
+    match words.word(1).unwrap_or("") {
+        "merged" => say_merged(words, profile, made),
+        "top" => say_top(words, profile, made),
+        "unfold" => say_unfolded(words, profile, made),
+        "export" => export_samples(words, profile, made),
+        _ => say_rows(words, profile, made),
     }
 }
 
@@ -39,7 +39,7 @@ fn choice_of(words: Words<'_>) -> ValueChoice<'_> {
 fn say_merged(words: Words, profile: &Profile, made: &mut Vec<u8>) -> Result<(), Wrong> {
     let alloc = *made.allocator();
     match merge_samples(alloc, hashing_of(words)?, profile, choice_of(words)) {
-        Ok(stacks) => add_text(write_stacks(alloc, &stacks), made),
+        Ok(stacks) => add_bytes(write_stacks(alloc, &stacks), made),
         Err(fault) => refuse(alloc, made, &fault),
     }
 }
@@ -47,18 +47,9 @@ fn say_merged(words: Words, profile: &Profile, made: &mut Vec<u8>) -> Result<(),
 fn say_top(words: Words, profile: &Profile, made: &mut Vec<u8>) -> Result<(), Wrong> {
     let alloc = *made.allocator();
     match sample_totals(alloc, hashing_of(words)?, profile, choice_of(words)) {
-        Ok(totals) => add_text(text_of_top(alloc, totals), made),
+        Ok(totals) => add_bytes(top_text(alloc, &top_list(totals, Rank::Flat, 20)?), made),
         Err(fault) => refuse(alloc, made, &fault),
     }
-}
-
-fn text_of_top(alloc: Global, totals: FrameTotals) -> Result<Vec<u8>, NoMemory> {
-    let top = top_list(totals, Rank::Flat, 20)?;
-    top_text(alloc, &top)
-}
-
-fn add_text(text: Result<Vec<u8>, NoMemory>, made: &mut Vec<u8>) -> Result<(), Wrong> {
-    Ok(made.extend_from_slice(text?.as_slice())?)
 }
 
 fn say_rows(words: Words, profile: &Profile, made: &mut Vec<u8>) -> Result<(), Wrong> {
@@ -72,7 +63,7 @@ fn say_rows(words: Words, profile: &Profile, made: &mut Vec<u8>) -> Result<(), W
 /// Adds rows by each value, one after the other; of several values the totals too.
 fn say_values(rows: &Batch, made: &mut Vec<u8>) -> Result<(), Wrong> {
     for value in 0..rows.width().get() {
-        add_text(write_folded(*made.allocator(), rows, value), made)?;
+        add_bytes(write_folded(*made.allocator(), rows, value), made)?;
     }
     if rows.width().get() > 1 {
         show(*made.allocator(), made, &rows.total().values())?;
@@ -91,52 +82,30 @@ fn say_unfolded(words: Words, profile: &Profile, made: &mut Vec<u8>) -> Result<(
 
 fn say_names(names: &[Name], made: &mut Vec<u8>) -> Result<(), Wrong> {
     for name in names {
-        say(*made.allocator(), made, &name.text())?;
+        made.extend_from_slice(name.text().as_bytes())?;
+        made.push(b'\n')?;
     }
     Ok(())
-}
-
-/// `export cpu/ns`: the bytes of the profile of folded text. `export rows cpu/ns` makes a batch of it first, and
-/// `export samples samples/count cpu/ns` one of all values of a profile.
-pub(crate) fn export(words: Words, input: &[u8], made: &mut Vec<u8>) -> Result<(), Wrong> {
-    let alloc = *made.allocator();
-    match words.word(1)? {
-        "rows" => match read_folded(alloc, input) {
-            Ok(rows) => say_exported(words, &rows, made),
-            Err(fault) => refuse(alloc, made, &fault),
-        },
-        "samples" => match decode(alloc, input) {
-            Ok(profile) => export_samples(words, &profile, made),
-            Err(fault) => refuse(alloc, made, &fault),
-        },
-        unit => export_text(words, unit, input, made),
-    }
-}
-
-fn export_text(words: Words, unit: &str, input: &[u8], made: &mut Vec<u8>) -> Result<(), Wrong> {
-    let alloc = *made.allocator();
-    let (kind, unit) = unit.split_once('/').ok_or(Wrong::Command)?;
-    match export_folded(alloc, hashing_of(words)?, input, kind, unit) {
-        Ok(bytes) => Ok(made.extend_from_slice(bytes.as_slice())?),
-        Err(fault) => refuse(alloc, made, &fault),
-    }
 }
 
 fn export_samples(words: Words, profile: &Profile, made: &mut Vec<u8>) -> Result<(), Wrong> {
     let alloc = *made.allocator();
     match batch_of(alloc, profile, ValueChoice::All) {
-        Ok(rows) => say_exported(words, &rows, made),
+        Ok(rows) => export_rows(words, &rows, made),
         Err(fault) => refuse(alloc, made, &fault),
     }
 }
 
-fn say_exported(words: Words, rows: &Batch, made: &mut Vec<u8>) -> Result<(), Wrong> {
-    let alloc = *made.allocator();
-    let units = units_of(alloc, words)?;
+fn export_rows(words: Words, rows: &Batch, made: &mut Vec<u8>) -> Result<(), Wrong> {
+    let units = units_of(*made.allocator(), words)?;
+    export_by(rows, units.as_slice(), made)
+}
+
+fn export_by(rows: &Batch, units: &[ValueUnit], made: &mut Vec<u8>) -> Result<(), Wrong> {
     if units.len() != rows.width().get() as usize {
         return Err(Wrong::Missing);
     }
-    let profile = profile_of(alloc, rows, units.as_slice())?;
+    let profile = profile_of(*made.allocator(), rows, units)?;
     say_profile(&profile, made)
 }
 
@@ -149,6 +118,27 @@ fn units_of(alloc: Global, words: Words<'_>) -> Result<Vec<ValueUnit<'_>>, Wrong
         }
     }
     Ok(units)
+}
+
+/// `export cpu/ns`: the bytes of the profile of folded text. `export rows cpu/ns` makes a batch of it first.
+pub(crate) fn export(words: Words, input: &[u8], made: &mut Vec<u8>) -> Result<(), Wrong> {
+    if words.word(1)? != "rows" {
+        return export_text(words, input, made);
+    }
+    let alloc = *made.allocator();
+    match read_folded(alloc, input) {
+        Ok(rows) => export_rows(words, &rows, made),
+        Err(fault) => refuse(alloc, made, &fault),
+    }
+}
+
+fn export_text(words: Words, input: &[u8], made: &mut Vec<u8>) -> Result<(), Wrong> {
+    let alloc = *made.allocator();
+    let (kind, unit) = words.word(1)?.split_once('/').ok_or(Wrong::Command)?;
+    match export_folded(alloc, hashing_of(words)?, input, kind, unit) {
+        Ok(bytes) => Ok(made.extend_from_slice(bytes.as_slice())?),
+        Err(fault) => refuse(alloc, made, &fault),
+    }
 }
 
 /// `memory faults`: what is answered where memory runs out.

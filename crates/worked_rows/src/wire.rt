@@ -6,12 +6,8 @@ use pprof_wire::{Field, Fields, Value, packed, write_field, write_varint};
 use std::alloc::Global;
 
 /// `varint`, `varint at 3`: the number that the bytes spell there, and where it ends.
-pub(crate) fn read_varint(
-    alloc: Global,
-    words: Words,
-    input: &[u8],
-    made: &mut Vec<u8>,
-) -> Result<(), Wrong> {
+pub(crate) fn read_varint(words: Words, input: &[u8], made: &mut Vec<u8>) -> Result<(), Wrong> {
+    let alloc = *made.allocator();
     let at = usize_of(words.number_after("at", 0)?)?;
     match pprof_wire::read_varint(input, at) {
         Ok((number, end)) => say(alloc, made, &format_args!("{number} to {end}")),

@@ -86,6 +86,7 @@ fn run_call(alloc: Global, words: Words, input: &[u8], made: &mut Vec<u8>) -> Re
         "profile" | "samples" => profiles::read_profile(words, input, made),
         "draft" => drafts::make_draft(alloc, input, made),
         "export" => samples::export(words, input, made),
+        "exported" => samples::read_exported(words, input, made),
         "memory" => samples::say_memory_faults(alloc, made),
         _ => Err(Wrong::Command),
     }

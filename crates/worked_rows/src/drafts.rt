@@ -53,6 +53,7 @@ fn add_lines(alloc: Global, draft: &mut Draft, lines: &str) -> Result<(), Wrong>
 
 fn add_line(alloc: Global, draft: &mut Draft, words: Words) -> Result<(), Wrong> {
     let key = words.word(0)?;
+    let text = words.word(1).unwrap_or("");
     let number = number_after(words, key);
     match key {
         "drop_frames" => draft.drop_frames = number?,
@@ -64,9 +65,7 @@ fn add_line(alloc: Global, draft: &mut Draft, words: Words) -> Result<(), Wrong>
         "comment" => draft.comments.push(number?)?,
         "period_type" => draft.period_type = value_type_of(words)?,
         "sample_type" => draft.sample_types.push(value_type_of(words)?)?,
-        "string" => draft
-            .strings
-            .push(Text::copied(alloc, words.word(1).unwrap_or(""))?)?,
+        "string" => draft.strings.push(Text::copied(alloc, text)?)?,
         "sample" => add_sample(alloc, draft, words)?,
         "mapping" => add_mapping(draft, words)?,
         "location" => add_location(alloc, draft, words)?,
@@ -113,10 +112,8 @@ fn fill_sample(sample: &mut Sample, words: Words) -> Result<(), Wrong> {
             num_unit: number_after(words, "num_unit")?,
         })?;
     }
-    let Some(values) = words.after("values") else {
-        return Ok(());
-    };
-    for value in values.split(',') {
+    let values = words.after("values").unwrap_or("");
+    for value in values.split_terminator(',') {
         sample.values.push(value.parse().ok().ok_or(Wrong::Line)?)?;
     }
     Ok(())

@@ -10,7 +10,6 @@ use std::alloc::{AllocError, Global};
 
 /// `profile`: the canonical bytes of the profile, or its fault. `profile around`: its bytes with another sample.
 /// `profile each cut`, `profile each bit`: what its beginnings answer, and what it answers with one bit changed.
-/// `samples`: see there.
 pub(crate) fn read_profile(words: Words, input: &[u8], made: &mut Vec<u8>) -> Result<(), Wrong> {
     let alloc = *made.allocator();
     if words.has("each") {
@@ -45,11 +44,10 @@ fn add_read_back(profile: &Profile, bytes: &[u8], made: &mut Vec<u8>) -> Result<
 
 fn expect_shown(alloc: Global, bytes: &[u8], wanted: &str) -> Result<(), Wrong> {
     let shown = shown_again(alloc, bytes)?;
-    if shown.as_str() == wanted {
-        Ok(())
-    } else {
-        Err(Wrong::Unequal)
+    if shown.as_str() != wanted {
+        return Err(Wrong::Unequal);
     }
+    Ok(())
 }
 
 fn shown_again(alloc: Global, bytes: &[u8]) -> Result<String, AllocError> {
@@ -65,8 +63,7 @@ fn say_around(profile: &Profile, made: &mut Vec<u8>) -> Result<(), Wrong> {
 }
 
 pub(crate) fn add_bytes(bytes: Result<Vec<u8>, NoMemory>, made: &mut Vec<u8>) -> Result<(), Wrong> {
-    let bytes = bytes?;
-    Ok(made.extend_from_slice(bytes.as_slice())?)
+    Ok(made.extend_from_slice(bytes?.as_slice())?)
 }
 
 /// The fault of bytes. A profile has none.
@@ -130,10 +127,9 @@ fn say_answers(answers: &[Answer], made: &mut Vec<u8>) -> Result<(), Wrong> {
 }
 
 fn say_count(answer: &Answer, count: usize, made: &mut Vec<u8>) -> Result<(), Wrong> {
-    let alloc = *made.allocator();
     let text = match answer {
-        None => format!(in alloc; "{count} profiles")?,
-        Some(fault) => format!(in alloc; "{count} {fault}")?,
+        None => format!(in *made.allocator(); "{count} profiles")?,
+        Some(fault) => format!(in *made.allocator(); "{count} {fault}")?,
     };
     Ok(made.extend_from_slice(text.as_bytes())?)
 }

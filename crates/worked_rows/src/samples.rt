@@ -1,12 +1,12 @@
 //! Samples of profiles as rows, and rows as profiles.
 
 use crate::bytes::{Wrong, refuse, show, usize_of};
-use crate::profiles::{add_bytes, say_profile};
+use crate::profiles::{add_bytes, read_profile, say_profile};
 use crate::script::Words;
 use profile_store::{
     Batch, BatchFault, Hashing, Name, NoMemory, Profile, ProfileFault, Rank, ValueChoice,
-    ValueUnit, batch_of, batch_of_with, decode, export_folded, merge_samples, profile_of,
-    read_folded, sample_totals, top_list, top_text, unfold, write_folded, write_stacks,
+    ValueUnit, batch_of, batch_of_with, export_folded, merge_samples, profile_of, read_folded,
+    sample_totals, top_list, top_text, unfold, write_folded, write_stacks,
 };
 use std::alloc::Global;
 
@@ -76,8 +76,7 @@ fn say_unfolded(words: Words, profile: &Profile, made: &mut Vec<u8>) -> Result<(
     if sample >= profile.draft().samples.len() {
         return Err(Wrong::Missing);
     }
-    let names = unfold(*made.allocator(), profile, sample)?;
-    say_names(names.as_slice(), made)
+    say_names(unfold(*made.allocator(), profile, sample)?.as_slice(), made)
 }
 
 fn say_names(names: &[Name], made: &mut Vec<u8>) -> Result<(), Wrong> {
@@ -98,14 +97,10 @@ fn export_samples(words: Words, profile: &Profile, made: &mut Vec<u8>) -> Result
 
 fn export_rows(words: Words, rows: &Batch, made: &mut Vec<u8>) -> Result<(), Wrong> {
     let units = units_of(*made.allocator(), words)?;
-    export_by(rows, units.as_slice(), made)
-}
-
-fn export_by(rows: &Batch, units: &[ValueUnit], made: &mut Vec<u8>) -> Result<(), Wrong> {
     if units.len() != rows.width().get() as usize {
         return Err(Wrong::Missing);
     }
-    let profile = profile_of(*made.allocator(), rows, units)?;
+    let profile = profile_of(*made.allocator(), rows, units.as_slice())?;
     say_profile(&profile, made)
 }
 
@@ -122,7 +117,7 @@ fn units_of(alloc: Global, words: Words<'_>) -> Result<Vec<ValueUnit<'_>>, Wrong
 
 /// `export cpu/ns`: the bytes of the profile of folded text. `export rows cpu/ns` makes a batch of it first.
 pub(crate) fn export(words: Words, input: &[u8], made: &mut Vec<u8>) -> Result<(), Wrong> {
-    if words.word(1)? != "rows" {
+    if !words.has("rows") {
         return export_text(words, input, made);
     }
     let alloc = *made.allocator();
@@ -139,6 +134,13 @@ fn export_text(words: Words, input: &[u8], made: &mut Vec<u8>) -> Result<(), Wro
         Ok(bytes) => Ok(made.extend_from_slice(bytes.as_slice())?),
         Err(fault) => refuse(alloc, made, &fault),
     }
+}
+
+/// `exported cpu/ns`, `exported top rows cpu/ns`: what `samples` answers of the bytes that `export` makes.
+pub(crate) fn read_exported(words: Words, input: &[u8], made: &mut Vec<u8>) -> Result<(), Wrong> {
+    let mut bytes = Vec::new(*made.allocator());
+    let exported = export(words, input, &mut bytes);
+    exported.and(read_profile(words, bytes.as_slice(), made))
 }
 
 /// `memory faults`: what is answered where memory runs out.

@@ -3,16 +3,14 @@
 
 The reader below is written from profile.proto (google/pprof) and the Protocol Buffers encoding page, with the choices
 of docs/DECISIONS.md, and knows nothing of the crate. For each byte list the crate's answer is compared with its own:
-the canonical bytes of the profile, or the text of the first fault. The lists are the vectors of the crate's tests,
+the canonical bytes of the profile, or the text of the first fault. The lists are the vectors of the worked rows,
 every proper prefix of each, each of their bytes changed to every other value, ids, lengths and indices at their limits,
 a real profile with bytes changed here and there, random splices of fields, and fields that stand in another message.
 
 Run it at the top of the repository: python3 tools/check_profiles.py. It is no part of the gate.
 """
-import ast
 import pathlib
 import random
-import re
 import sys
 
 from profile_program import answers
@@ -239,13 +237,20 @@ def own_answer(data):
 
 
 def vectors():
-    """The byte strings that the tests of messages name, read from their text."""
-    text = (TOP / "crates/library_tests/src/messages.rt").read_text()
-    found = re.findall(r'const [A-Z_]+: &\[u8\] =\s*(b"(?:[^"\\]|\\.)*");', text, re.DOTALL)
-    if not found:
-        raise SystemExit("the tests of messages name no byte strings")
-    for literal in found:
-        yield ast.literal_eval(re.sub(r"\\\n\s*", "", literal))
+    """The bytes that the scripts of worked rows give a name."""
+    named = {}
+    for line in (TOP / "crates/worked_rows/data/vectors.rows").read_text().splitlines():
+        word, _, rest = line.partition(" ")
+        if word == "let":
+            name = rest
+            named[name] = b""
+        elif word == ">hex":
+            named[name] += bytes.fromhex(rest)
+        elif word == ">of":
+            named[name] += named[rest]
+    if not named:
+        raise SystemExit("the scripts name no bytes")
+    yield from named.values()
 
 
 def limits(base):

@@ -3,29 +3,19 @@
 #![tactic(auto)]
 
 #[cfg(test)]
-mod changed_drafts;
-#[cfg(test)]
-mod drafts;
-#[cfg(test)]
 mod folded_lines;
 #[cfg(test)]
 mod hashing;
 #[cfg(test)]
 mod helpers;
 #[cfg(test)]
-mod hostile_messages;
+mod items;
 #[cfg(test)]
 mod many_rows;
-#[cfg(test)]
-mod message_faults;
-#[cfg(test)]
-mod messages;
 #[cfg(test)]
 mod ordered_rows;
 #[cfg(test)]
 mod reports;
-#[cfg(test)]
-mod samples;
 #[cfg(test)]
 mod shared_trees;
 #[cfg(test)]
@@ -38,8 +28,6 @@ mod stacks;
 mod summed_lines;
 #[cfg(test)]
 mod trees;
-#[cfg(test)]
-mod values;
 #[cfg(test)]
 mod widths;
 #[cfg(test)]

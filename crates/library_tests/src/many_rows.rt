@@ -4,12 +4,11 @@
 use crate::folded_lines::aggregated;
 use crate::helpers::{add, rows_of, with_rows};
 use crate::reports::{flame, kept_answered, top};
-use crate::samples::{exported_text, read, read_merged};
 use crate::stacks::shared_text;
 use crate::trees::rows_text;
 use call_tree::Grower;
 use flame_report::{Kind, Rank};
-use stack_text::{Batch, ValueChoice, Width};
+use stack_text::{Batch, Width};
 use std::alloc::{AllocError, Global};
 use std::test::Fail;
 use test_support::expect_text;
@@ -91,13 +90,4 @@ fn many_rows_are_added_to_a_tree(rt: HostRuntime) -> Result<(), Fail> {
     let rows = rows_of(rt.alloc(), lines(rt.alloc(), 1)?.as_str())?;
     let want = lines(rt.alloc(), 2)?;
     expect_text(added_twice(rt.alloc(), &rows), want.as_str())
-}
-
-#[test]
-fn many_rows_are_samples_of_a_profile(rt: HostRuntime) -> Result<(), Fail> {
-    let text = lines(rt.alloc(), 1)?;
-    let bytes = exported_text(rt.alloc(), text.as_str())?;
-    let bytes = bytes.as_slice();
-    expect_text(read(rt.alloc(), bytes, ValueChoice::Default), text.as_str())?;
-    expect_text(read_merged(rt.alloc(), bytes), text.as_str())
 }

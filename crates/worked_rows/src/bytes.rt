@@ -5,7 +5,6 @@ use bstr::ByteSlice;
 use profile_store::NoMemory;
 use std::alloc::{AllocError, AllocFailed, Global};
 use std::fmt::{Debug, Display};
-use std::io::Write;
 use thiserror::Error;
 
 /// Why a step can't be run.
@@ -25,6 +24,9 @@ pub(crate) enum Wrong {
     /// What the step needs isn't there: a session, a plan, a profile.
     #[error("what the command needs is missing")]
     Missing,
+    /// A call answered otherwise than before, or a profile was not read back.
+    #[error("two answers that have to be equal are not")]
+    Unequal,
 }
 
 impl From<AllocError> for Wrong {
@@ -178,15 +180,19 @@ enum Next {
 /// Adds a text and the end of its line. `\r`, `\t`, `\\` and `\xff` are a byte each, and after a `\` at the end the
 /// line doesn't end.
 fn add_text(text: &str, bytes: &mut Vec<u8>) -> Result<(), Wrong> {
-    let mut next = Next::Plain;
-    for byte in text.bytes() {
-        next = add_byte(next, byte, bytes)?;
-    }
-    match next {
+    match add_escaped(text, bytes)? {
         Next::Plain => Ok(bytes.push(b'\n')?),
         Next::Escape => Ok(()),
         Next::High | Next::Low(_) => Err(Wrong::Line),
     }
+}
+
+fn add_escaped(text: &str, bytes: &mut Vec<u8>) -> Result<Next, Wrong> {
+    let mut next = Next::Plain;
+    for byte in text.bytes() {
+        next = add_byte(next, byte, bytes)?;
+    }
+    Ok(next)
 }
 
 fn add_byte(next: Next, byte: u8, bytes: &mut Vec<u8>) -> Result<Next, Wrong> {
@@ -240,15 +246,10 @@ fn add_hex(text: &str, bytes: &mut Vec<u8>) -> Result<(), Wrong> {
 fn add_times(text: &str, bytes: &mut Vec<u8>) -> Result<(), Wrong> {
     let (count, text) = text.split_once(' ').ok_or(Wrong::Line)?;
     let count: u64 = count.parse().ok().ok_or(Wrong::Line)?;
-    let mut piece = Vec::new(*bytes.allocator());
-    add_text(text, &mut piece)?;
-    let _line_end = piece.pop();
-    add_pieces(count, piece.as_slice(), bytes)
-}
-
-fn add_pieces(count: u64, piece: &[u8], bytes: &mut Vec<u8>) -> Result<(), Wrong> {
+    let mut once = Vec::new(*bytes.allocator());
+    let _next = add_escaped(text, &mut once)?;
     for _ in 0..count {
-        bytes.extend_from_slice(piece)?;
+        bytes.extend_from_slice(once.as_slice())?;
     }
     Ok(())
 }
@@ -298,8 +299,8 @@ fn add_numbered(text: &str, bytes: &mut Vec<u8>) -> Result<(), Wrong> {
 fn add_with_number(text: &str, number: u64, bytes: &mut Vec<u8>) -> Result<(), Wrong> {
     for byte in text.bytes() {
         match byte {
-            b'#' => write!(bytes, "{number}").ok().ok_or(Wrong::NoMemory)?,
-            b'%' => write!(bytes, "{number:04x}").ok().ok_or(Wrong::NoMemory)?,
+            b'#' => print(bytes, &number)?,
+            b'%' => print(bytes, &format_args!("{number:04x}"))?,
             _ => bytes.push(byte)?,
         }
     }
@@ -328,6 +329,12 @@ fn add_with_varint(text: &str, number: u64, bytes: &mut Vec<u8>) -> Result<(), W
         }
     }
     Ok(())
+}
+
+/// Adds what a value is printed as.
+pub(crate) fn print<D: Display>(made: &mut Vec<u8>, value: &D) -> Result<(), Wrong> {
+    let text = format!(in *made.allocator(); "{value}")?;
+    Ok(made.extend_from_slice(text.as_bytes())?)
 }
 
 /// Adds a value as a line.

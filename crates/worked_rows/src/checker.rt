@@ -1,6 +1,6 @@
 //! What a script's steps made, compared with what they have to make.
 
-use crate::bytes::{Names, Wrong, say};
+use crate::bytes::{Names, Wrong, print};
 use crate::script::Step;
 use std::alloc::Global;
 use std::mem;
@@ -82,10 +82,10 @@ impl Checker {
 
     /// Reports a step that failed.
     fn tell(&mut self, step: &Step, wanted: &[u8], wrong: Option<Wrong>) -> Result<(), Wrong> {
-        let head = format!(in self.alloc; "{}:{}: {}\n", step.file, step.line, step.words.text)?;
-        self.report.extend_from_slice(head.as_bytes())?;
+        let head = format_args!("{}:{}: {}\n", step.file, step.line, step.words.text);
+        print(&mut self.report, &head)?;
         if let Some(wrong) = wrong {
-            say(self.alloc, &mut self.report, &format_args!("  {wrong}"))?;
+            print(&mut self.report, &format_args!("  {wrong}\n"))?;
         }
         add_shown(&mut self.report, "wanted", wanted)?;
         add_shown(&mut self.report, "made", self.made.as_slice())
@@ -93,11 +93,9 @@ impl Checker {
 
     /// Ends a script: its counts are reported, and begin again.
     pub(crate) fn end(&mut self, file: &str) -> Result<(), Wrong> {
-        let line = format!(in self.alloc;
-            "{file}: {} passed, {} failed\n",
-            self.passed, self.failed
-        )?;
-        self.report.extend_from_slice(line.as_bytes())?;
+        let (passed, failed) = (self.passed, self.failed);
+        let counts = format_args!("{file}: {passed} passed, {failed} failed\n");
+        print(&mut self.report, &counts)?;
         self.passed = 0;
         self.failed = 0;
         Ok(())
@@ -124,10 +122,8 @@ const SHOWN: usize = 2_000;
 /// Adds the first of some bytes as they are, under a title. Bytes that are no text are shown as a list of numbers.
 fn add_shown(report: &mut Vec<u8>, title: &str, bytes: &[u8]) -> Result<(), Wrong> {
     let bytes = bytes.get(..SHOWN).unwrap_or(bytes);
-    let alloc = *report.allocator();
-    let shown = match std::str::from_utf8(bytes) {
-        Ok(text) => format!(in alloc; "  {title}:\n{text}")?,
-        Err(_) => format!(in alloc; "  {title}: {bytes:?}\n")?,
-    };
-    Ok(report.extend_from_slice(shown.as_bytes())?)
+    match std::str::from_utf8(bytes) {
+        Ok(text) => print(report, &format_args!("  {title}:\n{text}")),
+        Err(_) => print(report, &format_args!("  {title}: {bytes:?}\n")),
+    }
 }

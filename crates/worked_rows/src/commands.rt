@@ -5,7 +5,7 @@ use crate::checker::Checker;
 use crate::program::Run;
 use crate::script::{Script, Step, Words};
 use crate::streams::Streams;
-use crate::wire;
+use crate::{drafts, profiles, samples, wire};
 use std::alloc::Global;
 use std::random::RandomSource;
 use std::sync::Wait;
@@ -120,7 +120,15 @@ fn run_program<R: Threads + Wait + RandomSource + Sync>(
 /// Runs a command that is a call of the library.
 fn run_call(alloc: Global, words: Words, input: &[u8], made: &mut Vec<u8>) -> Result<(), Wrong> {
     match words.word(0)? {
-        "varint" => wire::read_varint(alloc, words, input, made),
+        "varint" => wire::read_varint(words, input, made),
+        "packed" => wire::read_packed(alloc, input, made),
+        "fields" => wire::read_fields(alloc, input, made),
+        "write" => wire::write(words, input, made),
+        "profile" | "samples" => profiles::read_profile(words, input, made),
+        "draft" => drafts::make_draft(alloc, input, made),
+        "export" => samples::export(words, input, made),
+        "exported" => samples::read_exported(words, input, made),
+        "memory" => samples::say_memory_faults(alloc, made),
         _ => Err(Wrong::Command),
     }
 }

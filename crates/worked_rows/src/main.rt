@@ -8,7 +8,10 @@
 mod bytes;
 mod checker;
 mod commands;
+mod drafts;
+mod profiles;
 mod program;
+mod samples;
 mod script;
 mod streams;
 mod wire;

@@ -152,14 +152,17 @@ impl Names {
         }
     }
 
-    /// Adds the bytes of a name: `NAME`, `NAME cut 3`, `NAME from 3`.
+    /// Adds the bytes of a name: `NAME`, `NAME cut 3`, `NAME from 3`, `NAME times 3`.
     fn add_named(&self, text: &str, bytes: &mut Vec<u8>) -> Result<(), Wrong> {
         let words = Words { text };
         let all = self.find(words.word(0)?)?;
         let start = usize_of(words.number_after("from", 0)?)?;
         let end = usize_of(words.number_after("cut", all.len() as u64)?)?;
         let part = all.get(start..end).ok_or(Wrong::Line)?;
-        Ok(bytes.extend_from_slice(part)?)
+        for _ in 0..words.number_after("times", 1)? {
+            bytes.extend_from_slice(part)?;
+        }
+        Ok(())
     }
 }
 

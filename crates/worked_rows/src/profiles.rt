@@ -11,13 +11,12 @@ use std::alloc::{AllocError, Global};
 /// `profile`: the canonical bytes of the profile, or its fault. `profile around`: its bytes with another sample.
 /// `profile each cut`, `profile each bit`: what its beginnings answer, and what it answers with one bit changed.
 pub(crate) fn read_profile(words: Words, input: &[u8], made: &mut Vec<u8>) -> Result<(), Wrong> {
-    let alloc = *made.allocator();
     if words.has("each") {
         return try_each(words, input, made);
     }
-    match decode(alloc, input) {
+    match decode(*made.allocator(), input) {
         Ok(profile) => answer_by(words, &profile, made),
-        Err(fault) => refuse(alloc, made, &fault),
+        Err(fault) => refuse(*made.allocator(), made, &fault),
     }
 }
 

@@ -120,10 +120,9 @@ pub(crate) fn export(words: Words, input: &[u8], made: &mut Vec<u8>) -> Result<(
     if !words.has("rows") {
         return export_text(words, input, made);
     }
-    let alloc = *made.allocator();
-    match read_folded(alloc, input) {
+    match read_folded(*made.allocator(), input) {
         Ok(rows) => export_rows(words, &rows, made),
-        Err(fault) => refuse(alloc, made, &fault),
+        Err(fault) => refuse(*made.allocator(), made, &fault),
     }
 }
 

@@ -52,8 +52,8 @@ pub(crate) fn read_fields(alloc: Global, input: &[u8], made: &mut Vec<u8>) -> Re
 }
 
 fn say_field(alloc: Global, field: Field, made: &mut Vec<u8>) -> Result<(), Wrong> {
-    let number = field.number;
-    match field.value {
+    let Field { number, value } = field;
+    match value {
         Value::Varint(value) => say(alloc, made, &format_args!("{number} varint {value}")),
         Value::Fixed64(value) => say(alloc, made, &format_args!("{number} fixed64 {value}")),
         Value::Fixed32(value) => say(alloc, made, &format_args!("{number} fixed32 {value}")),
@@ -74,12 +74,11 @@ pub(crate) fn write(words: Words, input: &[u8], made: &mut Vec<u8>) -> Result<()
 }
 
 fn write_value(made: &mut Vec<u8>, number: u32, words: Words) -> Result<(), Wrong> {
-    let value = words.word(3)?;
     let value = match words.word(2)? {
         "varint" => Value::Varint(words.number(3)?),
         "fixed64" => Value::Fixed64(words.number(3)?),
-        "fixed32" => Value::Fixed32(value.parse().ok().ok_or(Wrong::Command)?),
-        _ => Value::Bytes(value.as_bytes()),
+        "fixed32" => Value::Fixed32(words.word(3)?.parse().ok().ok_or(Wrong::Command)?),
+        _ => Value::Bytes(words.word(3)?.as_bytes()),
     };
     match number {
         1..=536_870_911 => Ok(write_field(made, number, value)?),

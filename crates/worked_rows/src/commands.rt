@@ -1,9 +1,11 @@
 //! The commands by their first words.
 
+use crate::batches::Asked;
 use crate::bytes::Wrong;
 use crate::checker::Checker;
 use crate::script::{Script, Step, Words};
-use crate::wire;
+use crate::{batches, names, trees, wire};
+use profile_store::Hashing;
 use std::alloc::Global;
 use std::random::RandomSource;
 use std::sync::Wait;
@@ -46,11 +48,11 @@ fn run_block<R: Threads + Wait + RandomSource + Sync>(
 fn run_step<R: Threads + Wait + RandomSource + Sync>(
     rt: &R,
     checker: &mut Checker,
-    _script: &mut Script,
+    script: &mut Script,
     step: &Step,
 ) -> Result<(), Wrong> {
     match step.words.word(0)? {
-        // Scenes: "tree" => trees::run_scene(checker, script, step),
+        "tree" => trees::run_scene(checker, script, step),
         _ => {
             let ran = run_command(rt, checker, step);
             checker.settle(step, ran)
@@ -60,13 +62,20 @@ fn run_step<R: Threads + Wait + RandomSource + Sync>(
 
 /// Runs a command that stands alone.
 fn run_command<R: Threads + Wait + RandomSource + Sync>(
-    _rt: &R,
+    rt: &R,
     checker: &mut Checker,
     step: &Step,
 ) -> Result<(), Wrong> {
     checker.begin(step)?;
-    match step.words.word(0)? {
+    let (alloc, words) = (checker.alloc, step.words);
+    let (input, made) = (checker.input.as_slice(), &mut checker.made);
+    match words.word(0)? {
         "let" => checker.name_input(step),
+        "same_hash" => names::same_hash(rt, alloc, words, input, made),
+        "push" | "rows" | "folded" | "aggregate" | "report" => {
+            let random = Hashing::random(rt).ok().ok_or(Wrong::Missing)?;
+            run_rows(alloc, words, input, random, made)
+        }
         _ => run_call(
             checker.alloc,
             step.words,
@@ -76,10 +85,37 @@ fn run_command<R: Threads + Wait + RandomSource + Sync>(
     }
 }
 
+/// Runs a command over rows.
+fn run_rows(
+    alloc: Global,
+    words: Words,
+    input: &[u8],
+    random: Hashing,
+    made: &mut Vec<u8>,
+) -> Result<(), Wrong> {
+    let asked = Asked {
+        alloc,
+        words,
+        input,
+        hashings: [Hashing::fixed(), Hashing::of_key(7), random],
+    };
+    match words.word(0)? {
+        "push" => batches::push(&asked, made),
+        _ => batches::run(&asked, made),
+    }
+}
+
 /// Runs a command that is a call of the library.
 fn run_call(alloc: Global, words: Words, input: &[u8], made: &mut Vec<u8>) -> Result<(), Wrong> {
     match words.word(0)? {
         "varint" => wire::read_varint(alloc, words, input, made),
+        "name" => names::make_name(alloc, input, made),
+        "clean" => names::clean_name(alloc, input, made),
+        "stack" => names::make_stack(alloc, input, made),
+        "compare" => names::compare(alloc, input, made),
+        "width" | "columns" => names::limit(alloc, words, made),
+        "weights" => names::weights(alloc, input, made),
+        "no_memory" => names::print_wants(alloc, made),
         _ => Err(Wrong::Command),
     }
 }

@@ -5,10 +5,16 @@
 //! file. The status is 1 where a step failed.
 #![tactic(auto)]
 
+mod batches;
 mod bytes;
 mod checker;
 mod commands;
+mod names;
+mod reports;
+mod rows;
 mod script;
+mod trees;
+mod ways;
 mod wire;
 
 use crate::checker::Checker;

@@ -1,54 +1,38 @@
 //! Batches: rows that are lent, written, exported and put together, each in every public way.
 
-use crate::bytes::{Wrong, refuse, say, usize_of};
+use crate::bytes::{Wrong, refuse};
+use crate::rows::{self, agree};
 use crate::script::Words;
-use crate::ways::agree;
-use crate::{reports, rows, trees};
+use crate::{reports, trees};
 use profile_store::{
-    Batch, FoldedFault, Hashing, OrderedRows, Profile, ValueChoice, ValueUnit, WeightedStacks,
-    aggregate, aggregate_stacks, batch_of, decode, encode, export_folded, folded_totals,
-    merge_samples, profile_of, read_folded, read_folded_with, read_ordered,
+    Batch, FoldedFault, Hashing, Profile, ValueChoice, ValueUnit, WeightedStacks, aggregate,
+    aggregate_stacks, batch_of, decode, encode, export_folded, folded_totals, merge_samples,
+    profile_of, read_folded, read_folded_with, read_ordered, write_stacks,
 };
 use std::alloc::Global;
 
-/// A command over rows: its words and its input.
+/// A command over rows.
 #[derive(Clone, Copy)]
 pub(crate) struct Asked<'a> {
     pub(crate) alloc: Global,
     pub(crate) words: Words<'a>,
     pub(crate) input: &'a [u8],
-    /// Where hashes begin, in turn. No answer depends on it.
-    pub(crate) hashings: [Hashing; 3],
+    /// Where hashes begin. No answer depends on it.
+    pub(crate) hashings: [Hashing; 2],
 }
 
-impl<'a> Asked<'a> {
+impl Asked<'_> {
     /// Whether the input is folded text. It is rows with values in brackets where the command has a width.
     pub(crate) fn has_folded_text(&self) -> bool {
         !self.words.has("width")
     }
 }
 
-/// `push`, `push width 2`, `push width 2 room 100`: why rows are refused, and those that aren't. Without a width they
-/// are rows of one value.
-pub(crate) fn push(asked: &Asked, made: &mut Vec<u8>) -> Result<(), Wrong> {
-    let text = rows::text_of(asked.input)?;
-    let room = usize_of(asked.words.number_after("room", 0)?)?;
-    if asked.has_folded_text() {
-        let mut stacks = WeightedStacks::with_capacity(asked.alloc, room)?;
-        rows::push_stacks(&mut stacks, text, made)?;
-        return rows::add_folded_stacks(asked.alloc, &stacks, made);
-    }
-    let width = rows::width_of(asked.words)?;
-    let mut batch = Batch::with_capacity(asked.alloc, width, room)?;
-    rows::push_rows(&mut batch, text, made)?;
-    rows::add_rows(asked.alloc, &batch, made)
-}
-
 /// Runs a command over the batch of the input.
 pub(crate) fn run(asked: &Asked, made: &mut Vec<u8>) -> Result<(), Wrong> {
     if !asked.has_folded_text() {
-        let width = rows::width_of(asked.words)?;
-        let batch = rows::batch_of(asked.alloc, width, rows::text_of(asked.input)?)?;
+        let mut batch = Batch::new(asked.alloc, rows::width_of(asked.words)?);
+        rows::push_rows(&mut batch, rows::text_of(asked.input)?, made)?;
         return run_batch(asked, &batch, made);
     }
     match read_folded(asked.alloc, asked.input) {
@@ -62,237 +46,191 @@ fn run_batch(asked: &Asked, batch: &Batch, made: &mut Vec<u8>) -> Result<(), Wro
         "rows" => lend(asked.alloc, batch, made),
         "folded" => write(asked, batch, made),
         "aggregate" => put_together(asked, batch, made),
-        "report" => reports::run(asked, batch, made),
-        _ => Err(Wrong::Command),
+        _ => reports::run(asked, batch, made),
     }
 }
 
-/// The fault of folded text, which each way of reading it has.
+/// The first fault of folded text, which each way to read it has.
 fn refuse_text(asked: &Asked, fault: FoldedFault, made: &mut Vec<u8>) -> Result<(), Wrong> {
     let (alloc, text) = (asked.alloc, asked.input);
     refuse(alloc, made, &fault)?;
     for hashing in asked.hashings {
-        let with_hashing = read_folded_with(alloc, hashing, text);
-        agree_on_fault("read_folded_with", with_hashing.err(), made)?;
-        agree_on_fault(
-            "read_ordered",
+        let faults = [
+            read_folded_with(alloc, hashing, text).err(),
             read_ordered(alloc, hashing, text).err(),
-            made,
-        )?;
-        agree_on_fault(
-            "folded_totals",
             folded_totals(alloc, hashing, text).err(),
-            made,
-        )?;
-        let exported = export_folded(alloc, hashing, text, "cpu", "ns");
-        agree_on_fault("export_folded", exported.err(), made)?;
+            export_folded(alloc, hashing, text, "cpu", "ns").err(),
+        ];
+        agree(made, "another way to read", faults == [Some(fault); 4])?;
     }
     Ok(())
 }
 
-fn agree_on_fault(way: &str, fault: Option<FoldedFault>, made: &mut Vec<u8>) -> Result<(), Wrong> {
-    let alloc = *made.allocator();
-    let mut other = Vec::new(alloc);
-    refuse(alloc, &mut other, &fault.ok_or(Wrong::Missing)?)?;
-    agree(made, way, other.as_slice())
-}
-
-/// `rows`, `rows width 2`: the rows that a batch lends, and those that it gives away.
+/// `rows`, `rows width 2`: why rows are refused, and those that aren't, which the batch lends, shares and gives away.
 fn lend(alloc: Global, batch: &Batch, made: &mut Vec<u8>) -> Result<(), Wrong> {
     rows::add_rows(alloc, batch, made)?;
-    agree_given_away(alloc, batch, made)?;
-    if batch.width().get() == 1 {
-        agree_stacks_given_away(alloc, batch.first(), made)?;
+    let is_same = given_back(alloc, batch)? == *batch;
+    agree(made, "Batch::into_rows", is_same)?;
+    let is_same = stacks_given_back(alloc, batch.first())? == *batch.first();
+    agree(made, "WeightedStacks::into_rows", is_same)
+}
+
+/// A batch of the rows that a share gives away.
+fn given_back(alloc: Global, batch: &Batch) -> Result<Batch, Wrong> {
+    let mut again = Batch::with_capacity(alloc, batch.width(), batch.len())?;
+    for row in batch.share()?.into_rows(alloc)? {
+        again
+            .push(row.stack, row.weights)
+            .ok()
+            .ok_or(Wrong::Missing)?;
     }
-    Ok(())
+    Ok(again)
 }
 
-fn agree_given_away(alloc: Global, batch: &Batch, made: &mut Vec<u8>) -> Result<(), Wrong> {
-    let given = batch.share()?.into_rows(alloc)?;
-    let mut other = Vec::new(alloc);
-    rows::add_owned_rows(alloc, given.as_slice(), &mut other)?;
-    rows::add_total(alloc, &batch.total(), &mut other)?;
-    agree(made, "Batch::into_rows", other.as_slice())
-}
-
-fn agree_stacks_given_away(
-    alloc: Global,
-    stacks: &WeightedStacks,
-    made: &mut Vec<u8>,
-) -> Result<(), Wrong> {
-    let given = stacks.share()?.into_rows();
-    let mut other = Vec::new(alloc);
-    rows::add_stacks(alloc, given.as_slice(), stacks.total(), &mut other)?;
-    agree(made, "WeightedStacks::into_rows", other.as_slice())
-}
-
-/// Whether a batch is written as the first was.
-pub(crate) fn agree_batch(
-    alloc: Global,
-    way: &str,
-    batch: &Batch,
-    made: &mut Vec<u8>,
-) -> Result<(), Wrong> {
-    let mut other = Vec::new(alloc);
-    rows::add_folded(alloc, batch, &mut other)?;
-    agree(made, way, other.as_slice())
-}
-
-/// Whether rows of one value are written as the first were.
-fn agree_stacks(
-    alloc: Global,
-    way: &str,
-    stacks: &WeightedStacks,
-    made: &mut Vec<u8>,
-) -> Result<(), Wrong> {
-    let mut other = Vec::new(alloc);
-    rows::add_folded_stacks(alloc, stacks, &mut other)?;
-    agree(made, way, other.as_slice())
+fn stacks_given_back(alloc: Global, stacks: &WeightedStacks) -> Result<WeightedStacks, Wrong> {
+    let mut again = WeightedStacks::with_capacity(alloc, stacks.rows().len())?;
+    for row in stacks.share()?.into_rows() {
+        again
+            .push(row.stack, row.weight)
+            .ok()
+            .ok_or(Wrong::Missing)?;
+    }
+    Ok(again)
 }
 
 /// `folded`, `folded width 2`: the rows as folded text by each value, and the totals. Samples of a profile have the same
 /// rows.
 fn write(asked: &Asked, batch: &Batch, made: &mut Vec<u8>) -> Result<(), Wrong> {
-    let alloc = asked.alloc;
-    rows::add_folded(alloc, batch, made)?;
-    agree_batch(alloc, "Batch::share", &batch.share()?, made)?;
-    agree_profile(alloc, &profile_of_rows(alloc, batch)?, made)?;
-    if batch.width().get() == 1 {
-        let shared = batch.first().share()?;
-        agree_stacks(alloc, "WeightedStacks::share", &shared, made)?;
-    }
+    rows::add_folded(asked.alloc, batch, made)?;
+    agree_profile(
+        asked.alloc,
+        &profile_of_rows(asked.alloc, batch)?,
+        batch,
+        made,
+    )?;
     if asked.has_folded_text() {
-        agree_readings(asked, made)?;
+        return agree_readings(asked, batch, made);
     }
     Ok(())
 }
 
-const UNITS: [ValueUnit; 4] = [
-    ValueUnit {
-        kind: "samples",
-        unit: "count",
-    },
-    ValueUnit {
-        kind: "cpu",
-        unit: "ns",
-    },
-    ValueUnit {
-        kind: "objects",
-        unit: "count",
-    },
-    ValueUnit {
-        kind: "space",
-        unit: "bytes",
-    },
-];
+const fn unit_of(kind: &'static str, unit: &'static str) -> ValueUnit<'static> {
+    ValueUnit { kind, unit }
+}
 
 /// The profile of a batch.
 fn profile_of_rows(alloc: Global, batch: &Batch) -> Result<Profile, Wrong> {
-    let units = UNITS.get(..batch.width().get() as usize);
-    let units = units.ok_or(Wrong::Missing)?;
+    let units = [
+        unit_of("samples", "count"),
+        unit_of("cpu", "ns"),
+        unit_of("objects", "count"),
+        unit_of("space", "bytes"),
+    ];
+    let units = units
+        .get(..batch.width().get() as usize)
+        .ok_or(Wrong::Missing)?;
     if units.len() != batch.width().get() as usize {
         return Err(Wrong::Missing);
     }
     Ok(profile_of(alloc, batch, units)?)
 }
 
-fn agree_profile(alloc: Global, profile: &Profile, made: &mut Vec<u8>) -> Result<(), Wrong> {
-    let batch = batch_of(alloc, profile, ValueChoice::All);
-    agree_batch(
-        alloc,
-        "profile_of",
-        &batch.ok().ok_or(Wrong::Missing)?,
-        made,
-    )?;
-    let bytes = encode(alloc, profile)?;
-    agree_message(alloc, ValueChoice::All, "encode", bytes.as_slice(), made)
-}
-
-/// Whether the samples of a message are written as the rows were.
-fn agree_message(
+fn agree_profile(
     alloc: Global,
-    choice: ValueChoice,
-    way: &str,
-    bytes: &[u8],
+    profile: &Profile,
+    batch: &Batch,
     made: &mut Vec<u8>,
 ) -> Result<(), Wrong> {
-    let profile = decode(alloc, bytes).ok().ok_or(Wrong::Missing)?;
-    let batch = batch_of(alloc, &profile, choice);
-    agree_batch(alloc, way, &batch.ok().ok_or(Wrong::Missing)?, made)
+    let is_same = batch_of(alloc, profile, ValueChoice::All)
+        .ok()
+        .ok_or(Wrong::Missing)?
+        == *batch;
+    agree(made, "profile_of", is_same)?;
+    let bytes = encode(alloc, profile)?;
+    let is_same = sampled(alloc, bytes.as_slice(), ValueChoice::All)? == *batch;
+    agree(made, "encode", is_same)
 }
 
-/// The other ways to read folded text.
-fn agree_readings(asked: &Asked, made: &mut Vec<u8>) -> Result<(), Wrong> {
+/// The batch of a message.
+fn sampled(alloc: Global, bytes: &[u8], choice: ValueChoice) -> Result<Batch, Wrong> {
+    let profile = decode(alloc, bytes).ok().ok_or(Wrong::Missing)?;
+    batch_of(alloc, &profile, choice).ok().ok_or(Wrong::Missing)
+}
+
+/// The other ways to read folded text, with the profile that is written from it.
+fn agree_readings(asked: &Asked, batch: &Batch, made: &mut Vec<u8>) -> Result<(), Wrong> {
     let (alloc, text) = (asked.alloc, asked.input);
     for hashing in asked.hashings {
-        let batch = read_folded_with(alloc, hashing, text);
-        agree_batch(
-            alloc,
-            "read_folded_with",
-            &batch.ok().ok_or(Wrong::Missing)?,
-            made,
-        )?;
-        let bytes = export_folded(alloc, hashing, text, "cpu", "ns");
-        let bytes = bytes.ok().ok_or(Wrong::Missing)?;
-        agree_message(
-            alloc,
-            ValueChoice::Default,
-            "export_folded",
-            bytes.as_slice(),
-            made,
-        )?;
+        let is_same = read_folded_with(alloc, hashing, text)
+            .ok()
+            .ok_or(Wrong::Missing)?
+            == *batch;
+        agree(made, "read_folded_with", is_same)?;
+        let bytes = export_folded(alloc, hashing, text, "cpu", "ns")
+            .ok()
+            .ok_or(Wrong::Missing)?;
+        let is_same = sampled(alloc, bytes.as_slice(), ValueChoice::Default)? == *batch;
+        agree(made, "export_folded", is_same)?;
     }
     Ok(())
 }
 
 /// `aggregate`, `aggregate width 2`: each stack once, with its sum of each value. The tree of the rows has the same.
+/// `aggregate alone` goes no other way.
 fn put_together(asked: &Asked, batch: &Batch, made: &mut Vec<u8>) -> Result<(), Wrong> {
     let sums = aggregate(asked.alloc, batch)?;
     rows::add_folded(asked.alloc, &sums, made)?;
-    trees::agree_on_rows(asked.alloc, batch, made)?;
+    if asked.words.has("alone") {
+        return Ok(());
+    }
+    trees::agree_on_rows(asked.alloc, batch, &sums, made)?;
     if batch.width().get() == 1 {
-        agree_sums(asked.alloc, batch.first(), made)?;
-        agree_merged(asked, &profile_of_rows(asked.alloc, batch)?, made)?;
+        agree_stacks(
+            asked,
+            &profile_of_rows(asked.alloc, batch)?,
+            batch.first(),
+            sums.first(),
+            made,
+        )?;
     }
     if asked.has_folded_text() {
-        agree_ordered(asked, made)?;
+        return agree_ordered(asked, sums.first(), made);
     }
     Ok(())
 }
 
-fn agree_sums(alloc: Global, stacks: &WeightedStacks, made: &mut Vec<u8>) -> Result<(), Wrong> {
-    let sums = aggregate_stacks(alloc, stacks.share()?)?;
-    agree_stacks(alloc, "aggregate_stacks", &sums, made)
-}
-
-/// Whether samples whose equal stacks were merged have the same sums.
-fn agree_merged(asked: &Asked, profile: &Profile, made: &mut Vec<u8>) -> Result<(), Wrong> {
-    for hashing in asked.hashings {
-        let merged = merge_samples(asked.alloc, hashing, profile, ValueChoice::Default);
-        agree_sums(asked.alloc, &merged.ok().ok_or(Wrong::Missing)?, made)?;
-    }
-    Ok(())
-}
-
-/// Whether folded text that is read in order has the same sums.
-fn agree_ordered(asked: &Asked, made: &mut Vec<u8>) -> Result<(), Wrong> {
-    for hashing in asked.hashings {
-        let ordered = read_ordered(asked.alloc, hashing, asked.input);
-        agree_ordered_rows(asked.alloc, &ordered.ok().ok_or(Wrong::Missing)?, made)?;
-    }
-    Ok(())
-}
-
-fn agree_ordered_rows(
-    alloc: Global,
-    ordered: &OrderedRows,
+/// Whether rows of one value, and samples whose equal stacks were merged, have these sums.
+fn agree_stacks(
+    asked: &Asked,
+    profile: &Profile,
+    stacks: &WeightedStacks,
+    sums: &WeightedStacks,
     made: &mut Vec<u8>,
 ) -> Result<(), Wrong> {
-    let mut other = ordered.write(alloc)?;
-    say(
-        alloc,
-        &mut other,
-        &format_args!("total [{}]", ordered.total()),
-    )?;
-    agree(made, "read_ordered", other.as_slice())
+    let is_same = aggregate_stacks(asked.alloc, stacks.share()?)? == *sums;
+    agree(made, "aggregate_stacks", is_same)?;
+    for hashing in asked.hashings {
+        let merged = merge_samples(asked.alloc, hashing, profile, ValueChoice::Default);
+        let merged = merged.ok().ok_or(Wrong::Missing)?;
+        let is_same = aggregate_stacks(asked.alloc, merged)? == *sums;
+        agree(made, "merge_samples", is_same)?;
+    }
+    Ok(())
+}
+
+/// Whether folded text that is read in order has these sums.
+fn agree_ordered(asked: &Asked, sums: &WeightedStacks, made: &mut Vec<u8>) -> Result<(), Wrong> {
+    let wanted = write_stacks(asked.alloc, sums)?;
+    for hashing in asked.hashings {
+        let ordered = read_ordered(asked.alloc, hashing, asked.input)
+            .ok()
+            .ok_or(Wrong::Missing)?;
+        let is_same = ordered.write(asked.alloc)?.as_slice() == wanted.as_slice();
+        agree(
+            made,
+            "read_ordered",
+            is_same && ordered.total() == sums.total(),
+        )?;
+    }
+    Ok(())
 }

@@ -1,5 +1,4 @@
-//! What the lines of a step spell: `> text`, `>hex 0aff`, `>of NAME cut 3`, `>times 1000 a;`, `>numbered 10 f# 1`,
-//! `>padded 10 f# 1`.
+//! What the lines of a step spell: `> text`, `>hex 0aff`, `>of NAME cut 3`, `>times 1000 a;`, `>numbered 10 f# 1`.
 
 use crate::script::Words;
 use profile_store::NoMemory;
@@ -116,8 +115,7 @@ impl Names {
             "hex" => add_hex(text, bytes),
             "of" => self.add_named(text, bytes),
             "times" => add_times(text, bytes),
-            "numbered" => add_numbered(text, 0, bytes),
-            "padded" => add_padded(text, bytes),
+            "numbered" => add_numbered(text, bytes),
             _ => Err(Wrong::Line),
         }
     }
@@ -224,41 +222,36 @@ fn add_times(text: &str, bytes: &mut Vec<u8>) -> Result<(), Wrong> {
     Ok(())
 }
 
-/// Adds so many lines, each with its number, from 0 on, in the place of each `#`: `1000 f# 1`. Zeros before a number
-/// make it so many digits long.
-fn add_numbered(text: &str, digits: usize, bytes: &mut Vec<u8>) -> Result<(), Wrong> {
+/// Adds so many lines, each with its number, from 0 on, in the place of each `#`: `1000 f# 1`. Where there are several,
+/// as in `f###`, zeros make it as long.
+fn add_numbered(text: &str, bytes: &mut Vec<u8>) -> Result<(), Wrong> {
     let (count, text) = number_and_text(text)?;
     for number in 0..count {
-        add_with_number(text, number, digits, bytes)?;
+        add_with_number(text, number, bytes)?;
         bytes.push(b'\n')?;
     }
     Ok(())
 }
 
-/// The same, and each number has as many digits as the count.
-fn add_padded(text: &str, bytes: &mut Vec<u8>) -> Result<(), Wrong> {
-    let (count, _) = text.split_once(' ').ok_or(Wrong::Line)?;
-    add_numbered(text, count.len(), bytes)
-}
-
-fn add_with_number(
-    text: &str,
-    number: u64,
-    digits: usize,
-    bytes: &mut Vec<u8>,
-) -> Result<(), Wrong> {
-    let mut is_first = true;
-    for piece in text.split('#') {
-        if !is_first {
-            add_number(number, digits, bytes)?;
+fn add_with_number(text: &str, number: u64, bytes: &mut Vec<u8>) -> Result<(), Wrong> {
+    let mut digits = 0usize;
+    for byte in text.bytes() {
+        if byte == b'#' {
+            digits = digits.saturating_add(1);
+            continue;
         }
-        bytes.extend_from_slice(piece.as_bytes())?;
-        is_first = false;
+        add_number(number, digits, bytes)?;
+        digits = 0;
+        bytes.push(byte)?;
     }
-    Ok(())
+    add_number(number, digits, bytes)
 }
 
+/// Adds a number of at least so many digits, or nothing where none are wanted.
 fn add_number(number: u64, digits: usize, bytes: &mut Vec<u8>) -> Result<(), Wrong> {
+    if digits == 0 {
+        return Ok(());
+    }
     let text = format!(in *bytes.allocator(); "{number}")?;
     for _ in text.len()..digits {
         bytes.push(b'0')?;

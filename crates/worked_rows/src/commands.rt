@@ -71,10 +71,16 @@ fn run_command<R: Threads + Wait + RandomSource + Sync>(
     let (input, made) = (checker.input.as_slice(), &mut checker.made);
     match words.word(0)? {
         "let" => checker.name_input(step),
-        "same_hash" => names::same_hash(rt, alloc, words, input, made),
-        "push" | "rows" | "folded" | "aggregate" | "report" => {
+        "rows" | "folded" | "aggregate" | "report" => {
             let random = Hashing::random(rt).ok().ok_or(Wrong::Missing)?;
-            run_rows(alloc, words, input, random, made)
+            let hashings = [Hashing::of_key(7), random];
+            let asked = Asked {
+                alloc,
+                words,
+                input,
+                hashings,
+            };
+            batches::run(&asked, made)
         }
         _ => run_call(
             checker.alloc,
@@ -82,26 +88,6 @@ fn run_command<R: Threads + Wait + RandomSource + Sync>(
             checker.input.as_slice(),
             &mut checker.made,
         ),
-    }
-}
-
-/// Runs a command over rows.
-fn run_rows(
-    alloc: Global,
-    words: Words,
-    input: &[u8],
-    random: Hashing,
-    made: &mut Vec<u8>,
-) -> Result<(), Wrong> {
-    let asked = Asked {
-        alloc,
-        words,
-        input,
-        hashings: [Hashing::fixed(), Hashing::of_key(7), random],
-    };
-    match words.word(0)? {
-        "push" => batches::push(&asked, made),
-        _ => batches::run(&asked, made),
     }
 }
 

@@ -14,7 +14,6 @@ mod reports;
 mod rows;
 mod script;
 mod trees;
-mod ways;
 mod wire;
 
 use crate::checker::Checker;

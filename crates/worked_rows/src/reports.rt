@@ -2,80 +2,57 @@
 
 use crate::batches::Asked;
 use crate::bytes::{Wrong, say};
-use crate::rows::u32_of;
+use crate::rows::{agree, u32_after};
 use crate::script::Words;
 use crate::trees;
-use crate::ways::agree;
 use profile_store::{
-    Answer, Batch, CallTree, Columns, Flame, FrameTotals, Hashing, Kind, Name, OrderedRows, Query,
-    Rank, WeightedStacks, aggregate_stacks, flame_json, folded_totals, kept_totals, read_ordered,
-    report, report_in_order, report_of, report_of_stacks, top_list, top_text,
+    Answer, Batch, Columns, Flame, FrameTotals, Hashing, Kind, Name, Query, Rank, WeightedStacks,
+    flame_json, folded_totals, kept_totals, read_ordered, report_in_order, report_of,
+    report_of_stacks, top_list, top_text,
 };
 use std::alloc::Global;
 
-/// How a flame graph is told.
-#[derive(Clone, Copy)]
-pub(crate) enum Shape {
-    Json,
-    /// A line for each rectangle: depth, x, weight, left, how many columns, name.
-    Lines,
-}
-
-/// A query, and how its answer is told.
-#[derive(Clone, Copy)]
-pub(crate) struct Question<'a> {
-    pub(crate) alloc: Global,
-    query: &'a Query,
-    shape: Shape,
-}
-
-/// `report total`, `report top by cum count 2`, `report folded`, `report flame columns 5`, `report layout columns 5`,
-/// and `report each columns 5` for all of them; `focus a`, `ignore b` and `value 1` where they are wanted.
+/// `report total`, `report top by cum count 2`, `report folded`, `report flame columns 5`, `report layout columns 5`, and
+/// `report each columns 5`; with `focus a`, `ignore b` and `value 1` where they are wanted.
 pub(crate) fn run(asked: &Asked, batch: &Batch, made: &mut Vec<u8>) -> Result<(), Wrong> {
     let words = asked.words;
     match words.word(1)? {
         "total" => answer(asked, batch, Kind::Total, made),
-        "top" => answer(asked, batch, top_of(words, rank_of(words)?)?, made),
+        "top" if words.after("by") == Some("cum") => answer(
+            asked,
+            batch,
+            top(words, Rank::Cum)?,
+            made,
+        ),
+        "top" => answer(asked, batch, top(words, Rank::Flat)?, made),
         "folded" => answer(asked, batch, Kind::Folded, made),
-        "flame" | "layout" => answer(asked, batch, flame_of(words)?, made),
+        "flame" | "layout" => answer(asked, batch, flame(words)?, made),
         "each" => answer_each(asked, batch, made),
         _ => Err(Wrong::Command),
     }
 }
 
-fn rank_of(words: Words) -> Result<Rank, Wrong> {
-    match words.after("by") {
-        None | Some("flat") => Ok(Rank::Flat),
-        Some("cum") => Ok(Rank::Cum),
-        Some(_) => Err(Wrong::Command),
-    }
-}
-
-fn top_of(words: Words, rank: Rank) -> Result<Kind, Wrong> {
-    let count = u32_of(words.number_after("count", 20)?)?;
+fn top(words: Words, rank: Rank) -> Result<Kind, Wrong> {
+    let count = u32_after(words, "count", 20)?;
     Ok(Kind::Top { rank, count })
 }
 
-fn flame_of(words: Words) -> Result<Kind, Wrong> {
-    let count = u32_of(words.number_after("columns", 100)?)?;
-    let columns = Columns::new(count).ok_or(Wrong::Command)?;
+fn flame(words: Words) -> Result<Kind, Wrong> {
+    let columns = Columns::new(u32_after(words, "columns", 100)?).ok_or(Wrong::Command)?;
     Ok(Kind::Flame { columns })
 }
 
-/// The answers of each kind, one after the other.
+/// The answer of each kind, one after the other.
 fn answer_each(asked: &Asked, batch: &Batch, made: &mut Vec<u8>) -> Result<(), Wrong> {
-    let words = asked.words;
-    let kinds = [
+    let (by_flat, by_cum) = (top(asked.words, Rank::Flat)?, top(asked.words, Rank::Cum)?);
+    for kind in [
         Kind::Total,
-        top_of(words, Rank::Flat)?,
-        top_of(words, Rank::Cum)?,
+        by_flat,
+        by_cum,
         Kind::Folded,
-        flame_of(words)?,
-    ];
-    for kind in kinds {
-        let mut one = Vec::new(asked.alloc);
-        answer(asked, batch, kind, &mut one)?;
-        made.extend_from_slice(one.as_slice())?;
+        flame(asked.words)?,
+    ] {
+        answer(asked, batch, kind, made)?;
     }
     Ok(())
 }
@@ -87,50 +64,80 @@ fn name_after(alloc: Global, words: Words, key: &str) -> Result<Option<Name>, Wr
     }
 }
 
-fn query_of(alloc: Global, words: Words, kind: Kind) -> Result<Query, Wrong> {
-    let value = u32_of(words.number_after("value", 0)?)?;
-    Ok(Query {
-        focus: name_after(alloc, words, "focus")?,
-        ignore: name_after(alloc, words, "ignore")?,
-        value,
+/// The answer to a query of this kind.
+fn answer(asked: &Asked, batch: &Batch, kind: Kind, made: &mut Vec<u8>) -> Result<(), Wrong> {
+    let query = Query {
+        focus: name_after(asked.alloc, asked.words, "focus")?,
+        ignore: name_after(asked.alloc, asked.words, "ignore")?,
+        value: u32_after(asked.words, "value", 0)?,
         kind,
-    })
+    };
+    answer_query(asked, batch, &query, made)
 }
 
-fn answer(asked: &Asked, batch: &Batch, kind: Kind, made: &mut Vec<u8>) -> Result<(), Wrong> {
-    let query = query_of(asked.alloc, asked.words, kind)?;
-    let shape = match asked.words.word(1)? {
-        "layout" => Shape::Lines,
-        _ => Shape::Json,
-    };
-    let question = Question {
-        alloc: asked.alloc,
-        query: &query,
-        shape,
-    };
-    answer_first(&question, batch, made)?;
-    agree_rows(asked, &question, batch, made)?;
-    trees::agree_on_report(&question, batch, made)
+fn answer_query(
+    asked: &Asked,
+    batch: &Batch,
+    query: &Query,
+    made: &mut Vec<u8>,
+) -> Result<(), Wrong> {
+    let answer = answer_of(asked.alloc, Hashing::fixed(), batch, query)?;
+    add_answer(asked, &answer, made)?;
+    agree_counted(
+        asked,
+        &stacks_of(asked.alloc, batch, query)?,
+        query,
+        &answer,
+        made,
+    )?;
+    if asked.words.has("alone") {
+        return Ok(());
+    }
+    agree_rows(asked, batch, query, &answer, made)?;
+    trees::agree_on_report(asked.alloc, batch, query, &answer, made)
+}
+
+fn answer_of(
+    alloc: Global,
+    hashing: Hashing,
+    batch: &Batch,
+    query: &Query,
+) -> Result<Answer, Wrong> {
+    if query.value >= batch.width().get() {
+        return Err(Wrong::Missing);
+    }
+    Ok(report_of(alloc, hashing, batch, query)?)
+}
+
+/// The stacks with the weights that a query asks for.
+fn stacks_of(alloc: Global, batch: &Batch, query: &Query) -> Result<WeightedStacks, Wrong> {
+    if query.value >= batch.width().get() {
+        return Err(Wrong::Missing);
+    }
+    Ok(batch.weighted_stacks(alloc, query.value)?)
 }
 
 /// Adds an answer as text. A folded report is followed by how many lines it has.
-fn add_answer(question: &Question, answer: &Answer, made: &mut Vec<u8>) -> Result<(), Wrong> {
-    let alloc = question.alloc;
-    match (answer, question.shape) {
-        (Answer::Total(total), _) => say(alloc, made, total),
-        (Answer::Top(top), _) => Ok(made.extend_from_slice(top_text(alloc, top)?.as_slice())?),
-        (Answer::Flame(flame), Shape::Json) => say(alloc, made, &flame_json(alloc, flame)?),
-        (Answer::Flame(flame), Shape::Lines) => add_layout(alloc, flame, made),
-        (Answer::Folded(text), _) => add_folded(alloc, text.as_slice(), made),
+fn add_answer(asked: &Asked, answer: &Answer, made: &mut Vec<u8>) -> Result<(), Wrong> {
+    let alloc = asked.alloc;
+    match answer {
+        Answer::Total(total) => say(alloc, made, total),
+        Answer::Top(top) => Ok(made.extend_from_slice(top_text(alloc, top)?.as_slice())?),
+        Answer::Flame(flame) if asked.words.has("layout") => add_layout(alloc, flame, made),
+        Answer::Flame(flame) => say(alloc, made, &flame_json(alloc, flame)?),
+        Answer::Folded(text) => {
+            made.extend_from_slice(text.as_slice())?;
+            let lines = text
+                .as_slice()
+                .iter()
+                .filter(|byte| **byte == b'\n')
+                .count();
+            say(alloc, made, &format_args!("{lines} rows"))
+        }
     }
 }
 
-fn add_folded(alloc: Global, text: &[u8], made: &mut Vec<u8>) -> Result<(), Wrong> {
-    made.extend_from_slice(text)?;
-    let lines = text.iter().filter(|byte| **byte == b'\n').count();
-    say(alloc, made, &format_args!("{lines} rows"))
-}
-
+/// Adds a line for each rectangle: depth, x, weight, left, how many columns, name.
 fn add_layout(alloc: Global, flame: &Flame, made: &mut Vec<u8>) -> Result<(), Wrong> {
     say(
         alloc,
@@ -138,137 +145,77 @@ fn add_layout(alloc: Global, flame: &Flame, made: &mut Vec<u8>) -> Result<(), Wr
         &format_args!("total {} in {}", flame.total, flame.columns.get()),
     )?;
     for rect in flame.rects.as_slice() {
-        let columns = rect.right.saturating_sub(rect.left);
         let (depth, x, weight, left) = (rect.depth, rect.x, rect.weight, rect.left);
-        let name = rect.name.text();
+        let (columns, name) = (rect.right.saturating_sub(left), rect.name.text());
         say(
             alloc,
             made,
-            &format_args!("{depth} {x} {weight} {left} {columns} {name}"),
+            &format_args!("{depth} {x} {weight} {left} {columns} {name:?}"),
         )?;
     }
     Ok(())
 }
 
-/// Whether another way answers as the first did.
-fn agree_answer(
-    question: &Question,
-    way: &str,
+/// The ways that count names without a report, where a top list is asked for.
+fn agree_counted(
+    asked: &Asked,
+    stacks: &WeightedStacks,
+    query: &Query,
     answer: &Answer,
     made: &mut Vec<u8>,
 ) -> Result<(), Wrong> {
-    let mut other = Vec::new(question.alloc);
-    add_answer(question, answer, &mut other)?;
-    agree(made, way, other.as_slice())
-}
-
-/// The answer over the rows of a batch.
-fn answer_of(question: &Question, hashing: Hashing, batch: &Batch) -> Result<Answer, Wrong> {
-    if question.query.value >= batch.width().get() {
-        return Err(Wrong::Missing);
-    }
-    Ok(report_of(question.alloc, hashing, batch, question.query)?)
-}
-
-fn answer_first(question: &Question, batch: &Batch, made: &mut Vec<u8>) -> Result<(), Wrong> {
-    let answer = answer_of(question, Hashing::fixed(), batch)?;
-    add_answer(question, &answer, made)
-}
-
-/// The stacks of a batch with the weights that the query asks for.
-fn stacks_of(question: &Question, batch: &Batch) -> Result<WeightedStacks, Wrong> {
-    if question.query.value >= batch.width().get() {
-        return Err(Wrong::Missing);
-    }
-    Ok(batch.weighted_stacks(question.alloc, question.query.value)?)
-}
-
-/// The ways that make no tree.
-fn agree_rows(
-    asked: &Asked,
-    question: &Question,
-    batch: &Batch,
-    made: &mut Vec<u8>,
-) -> Result<(), Wrong> {
-    let stacks = stacks_of(question, batch)?;
+    let alloc = asked.alloc;
+    let (focus, ignored) = (query.focus.as_ref(), query.ignore.as_ref());
     for hashing in asked.hashings {
-        agree_answer(
-            question,
-            "report_of",
-            &answer_of(question, hashing, batch)?,
-            made,
-        )?;
-        agree_stacks(question, hashing, &stacks, made)?;
-        if asked.has_folded_text() {
-            agree_text(question, hashing, asked.input, made)?;
+        let totals = kept_totals(alloc, hashing, stacks, focus, ignored)?;
+        agree_totals(totals, query, answer, made)?;
+        if asked.has_folded_text() && query.keeps_all() {
+            let totals = folded_totals(alloc, hashing, asked.input)
+                .ok()
+                .ok_or(Wrong::Missing)?;
+            agree_totals(totals, query, answer, made)?;
         }
     }
     Ok(())
 }
 
-/// The ways over rows of one value. They don't look at which value the query names.
-fn agree_stacks(
-    question: &Question,
-    hashing: Hashing,
-    stacks: &WeightedStacks,
-    made: &mut Vec<u8>,
-) -> Result<(), Wrong> {
-    let (alloc, query) = (question.alloc, question.query);
-    let answer = report_of_stacks(alloc, hashing, stacks.share()?, query)?;
-    agree_answer(question, "report_of_stacks", &answer, made)?;
-    let (focus, ignored) = (query.focus.as_ref(), query.ignore.as_ref());
-    let totals = kept_totals(alloc, hashing, stacks, focus, ignored)?;
-    agree_totals(question, "kept_totals", totals, made)
-}
-
-/// Whether what names weigh makes the same top list, where one is asked for.
 fn agree_totals(
-    question: &Question,
-    way: &str,
     totals: FrameTotals,
+    query: &Query,
+    answer: &Answer,
     made: &mut Vec<u8>,
 ) -> Result<(), Wrong> {
-    match question.query.kind {
+    match query.kind {
         Kind::Top { rank, count } => {
-            let top = Answer::Top(top_list(totals, rank, count)?);
-            agree_answer(question, way, &top, made)
+            let is_same = Answer::Top(top_list(totals, rank, count)?) == *answer;
+            agree(made, "top_list", is_same)
         }
         _ => Ok(()),
     }
 }
 
-/// The ways over folded text.
-fn agree_text(
-    question: &Question,
-    hashing: Hashing,
-    text: &[u8],
+/// The ways that make no tree. Those over rows of one value don't look at which value the query names.
+fn agree_rows(
+    asked: &Asked,
+    batch: &Batch,
+    query: &Query,
+    answer: &Answer,
     made: &mut Vec<u8>,
 ) -> Result<(), Wrong> {
-    let alloc = question.alloc;
-    let ordered = read_ordered(alloc, hashing, text)
-        .ok()
-        .ok_or(Wrong::Missing)?;
-    let answer = report_in_order(alloc, hashing, ordered, question.query)?;
-    agree_answer(question, "report_in_order", &answer, made)?;
-    if question.query.keeps_all() {
-        let totals = folded_totals(alloc, hashing, text)
-            .ok()
-            .ok_or(Wrong::Missing)?;
-        return agree_totals(question, "folded_totals", totals, made);
+    let alloc = asked.alloc;
+    for hashing in asked.hashings {
+        let is_same = answer_of(alloc, hashing, batch, query)? == *answer;
+        agree(made, "report_of", is_same)?;
+        let stacks = stacks_of(alloc, batch, query)?;
+        let is_same = report_of_stacks(alloc, hashing, stacks, query)? == *answer;
+        agree(made, "report_of_stacks", is_same)?;
+        if asked.has_folded_text() {
+            let ordered = read_ordered(alloc, hashing, asked.input)
+                .ok()
+                .ok_or(Wrong::Missing)?;
+            let is_same = report_in_order(alloc, hashing, ordered, query)? == *answer;
+            agree(made, "report_in_order", is_same)?;
+        }
     }
     Ok(())
-}
-
-/// Whether a tree answers as the rows do.
-pub(crate) fn agree_tree(
-    question: &Question,
-    way: &str,
-    tree: &CallTree,
-    made: &mut Vec<u8>,
-) -> Result<(), Wrong> {
-    if question.query.value >= tree.width().get() {
-        return Err(Wrong::Missing);
-    }
-    let answer = report(question.alloc, tree, question.query)?;
-    agree_answer(question, way, &answer, made)
 }

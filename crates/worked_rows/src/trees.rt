@@ -1,17 +1,14 @@
-//! Call trees that grow: `tree width 1`, and the steps of its scene.
+//! Call trees that grow: the scene `tree width 1`.
 
 ghost use Rattle.std.specs.Prelude.{◌≡◌, ◌<◌, IfOk};
 
-use crate::batches::agree_batch;
 use crate::bytes::{Wrong, say};
 use crate::checker::Checker;
-use crate::reports::{Question, agree_tree};
-use crate::rows;
+use crate::rows::{self, agree};
 use crate::script::{Script, Step, Words};
-use crate::ways::agree;
 use profile_store::{
-    Batch, CallTree, Grower, Hashing, OrderedRows, Plan, Width, aggregate_stacks, first_heavy,
-    read_folded, write_stacks,
+    Answer, Batch, CallTree, Grower, Hashing, OrderedRows, Plan, Query, Width, aggregate_stacks,
+    first_heavy, read_folded, report, write_stacks,
 };
 use std::alloc::Global;
 use std::mem;
@@ -54,56 +51,61 @@ fn with_rows(alloc: Global, grower: Grower, rows: &Batch) -> Result<Grower, Wron
     Ok(grower.with_batch(alloc, rows)?)
 }
 
-/// Plans rows and credits them.
-fn credit(alloc: Global, grower: &mut Grower, rows: &Batch) -> Result<(), Wrong> {
-    let plan = plan_of(alloc, grower, rows)?;
-    grower.credit(plan);
-    Ok(())
-}
-
-/// The grower of rows.
+/// A grower to which rows were credited.
 fn grower_of(alloc: Global, rows: &Batch) -> Result<Grower, Wrong> {
     let mut grower = Grower::new(alloc, rows.width())?;
-    credit(alloc, &mut grower, rows)?;
+    let plan = plan_of(alloc, &mut grower, rows)?;
+    grower.credit(plan);
     Ok(grower)
 }
 
-/// The same, where the rows are added at once.
-fn grower_at_once(alloc: Global, rows: &Batch) -> Result<Grower, Wrong> {
-    let mut grower = Grower::new(alloc, rows.width())?;
-    add(alloc, &mut grower, rows)?;
-    Ok(grower)
-}
-
-/// Whether the tree of rows has their sums, however it grows.
-pub(crate) fn agree_on_rows(alloc: Global, rows: &Batch, made: &mut Vec<u8>) -> Result<(), Wrong> {
-    agree_tree_rows(alloc, "Grower::credit", &grower_of(alloc, rows)?, made)?;
-    agree_tree_rows(alloc, "Grower::add", &grower_at_once(alloc, rows)?, made)?;
-    let grower = Grower::new(alloc, rows.width())?;
-    let given = with_rows(alloc, grower, rows)?;
-    agree_tree_rows(alloc, "Grower::with_batch", &given, made)
-}
-
-fn agree_tree_rows(
+/// Whether the tree of rows has these sums, however it grows.
+pub(crate) fn agree_on_rows(
     alloc: Global,
-    way: &str,
-    grower: &Grower,
+    rows: &Batch,
+    sums: &Batch,
     made: &mut Vec<u8>,
 ) -> Result<(), Wrong> {
-    let rows = grower.tree().rows(alloc)?;
-    agree_batch(alloc, way, &rows, made)
+    let mut grower = Grower::new(alloc, rows.width())?;
+    add(alloc, &mut grower, rows)?;
+    agree(made, "Grower::add", grower.tree().rows(alloc)? == *sums)?;
+    let grower = with_rows(alloc, Grower::new(alloc, rows.width())?, rows)?;
+    agree(
+        made,
+        "Grower::with_batch",
+        grower.tree().rows(alloc)? == *sums,
+    )?;
+    let grower = grower_of(alloc, rows)?;
+    agree(made, "Grower::credit", grower.tree().rows(alloc)? == *sums)
 }
 
 /// Whether the tree of rows, and a share of it, answer as the rows do.
 pub(crate) fn agree_on_report(
-    question: &Question,
+    alloc: Global,
     rows: &Batch,
+    query: &Query,
+    answer: &Answer,
     made: &mut Vec<u8>,
 ) -> Result<(), Wrong> {
-    let grower = grower_of(question.alloc, rows)?;
-    agree_tree(question, "report", grower.tree(), made)?;
+    let grower = grower_of(alloc, rows)?;
+    agree(
+        made,
+        "report",
+        answer_of(alloc, grower.tree(), query)? == *answer,
+    )?;
     let shared = grower.tree().share()?;
-    agree_tree(question, "report of a shared tree", &shared, made)
+    agree(
+        made,
+        "report of a share",
+        answer_of(alloc, &shared, query)? == *answer,
+    )
+}
+
+fn answer_of(alloc: Global, tree: &CallTree, query: &Query) -> Result<Answer, Wrong> {
+    if query.value >= tree.width().get() {
+        return Err(Wrong::Missing);
+    }
+    Ok(report(alloc, tree, query)?)
 }
 
 /// A tree that grows, and a share of it as it was.
@@ -113,41 +115,22 @@ struct Scene {
     shared: CallTree,
 }
 
-/// `tree width 1`, `tree width 1 key 7`: an empty tree, and what the steps after it in the block make of it.
+/// `tree width 1`: an empty tree, and what the steps after it in the block make of it.
 pub(crate) fn run_scene(
     checker: &mut Checker,
     script: &mut Script,
     step: &Step,
 ) -> Result<(), Wrong> {
     checker.begin(step)?;
-    match opened(checker.alloc, step.words) {
-        Ok(scene) => run_steps(checker, script, step, scene),
-        Err(wrong) => checker.settle(step, Err(wrong)),
-    }
-}
-
-fn opened(alloc: Global, words: Words) -> Result<Scene, Wrong> {
-    let width = rows::width_of(words)?;
-    let grower = match words.after("key") {
-        None => Grower::new(alloc, width)?,
-        Some(_) => Grower::with_hashing(
-            alloc,
-            Hashing::of_key(words.number_after("key", 0)?),
-            width,
-        )?,
-    };
+    let width = rows::width_of(step.words)?;
+    let grower = Grower::with_hashing(checker.alloc, Hashing::of_key(7), width)?;
     let shared = grower.tree().share()?;
-    Ok(Scene { grower, shared })
+    let ran = rows::add_total(checker.alloc, &shared.total(), &mut checker.made);
+    checker.settle(step, ran)?;
+    run_steps(checker, script, &mut Scene { grower, shared })
 }
 
-fn run_steps(
-    checker: &mut Checker,
-    script: &mut Script,
-    first: &Step,
-    mut scene: Scene,
-) -> Result<(), Wrong> {
-    let ran = add_total(checker.alloc, &scene.shared, &mut checker.made);
-    checker.settle(first, ran)?;
+fn run_steps(checker: &mut Checker, script: &mut Script, scene: &mut Scene) -> Result<(), Wrong> {
     for _ in 0..script.most_steps() {
         let Some(step) = script.next_step() else {
             break;
@@ -160,16 +143,15 @@ fn run_steps(
     Ok(())
 }
 
-fn add_total(alloc: Global, tree: &CallTree, made: &mut Vec<u8>) -> Result<(), Wrong> {
-    rows::add_total(alloc, &tree.total(), made)
-}
-
 /// The rows of a step: folded text, or rows with values in brackets.
-fn rows_of(alloc: Global, width: Width, input: &[u8]) -> Result<Batch, Wrong> {
+fn rows_of(width: Width, input: &[u8], made: &mut Vec<u8>) -> Result<Batch, Wrong> {
+    let alloc = *made.allocator();
     if width.get() == 1 {
         return read_folded(alloc, input).ok().ok_or(Wrong::Line);
     }
-    rows::batch_of(alloc, width, rows::text_of(input)?)
+    let mut rows = Batch::new(alloc, width);
+    rows::push_rows(&mut rows, rows::text_of(input)?, made)?;
+    Ok(rows)
 }
 
 impl Scene {
@@ -180,79 +162,73 @@ impl Scene {
         input: &[u8],
         made: &mut Vec<u8>,
     ) -> Result<(), Wrong> {
-        match words.word(0)? {
-            "share" => self.share(alloc, made),
-            "reset" => reset(alloc, &mut self.grower, true, made),
-            "drop_reset" => reset(alloc, &mut self.grower, false, made),
-            "ask" => ask(alloc, self.tree_of(words), words, made),
-            "weigh" => weigh(alloc, self.tree_of(words), rows::text_of(input)?, made),
-            _ => {
-                let rows = rows_of(alloc, self.grower.tree().width(), input)?;
-                self.grow(alloc, words, &rows, made)
-            }
-        }
-    }
-
-    /// The tree that a step asks: `ask`, `ask shared`.
-    fn tree_of(&self, words: Words) -> &CallTree {
-        if words.has("shared") {
+        let asks_share = words.has("shared");
+        let tree = if asks_share {
             &self.shared
         } else {
             self.grower.tree()
-        }
-    }
-
-    fn share(&mut self, alloc: Global, made: &mut Vec<u8>) -> Result<(), Wrong> {
-        self.shared = self.grower.tree().share()?;
-        add_total(alloc, &self.shared, made)
-    }
-
-    fn grow(
-        &mut self,
-        alloc: Global,
-        words: Words,
-        rows: &Batch,
-        made: &mut Vec<u8>,
-    ) -> Result<(), Wrong> {
+        };
         match words.word(0)? {
-            "credit" => plan(alloc, &mut self.grower, rows, true, made),
-            "drop" => plan(alloc, &mut self.grower, rows, false, made),
-            "add" => {
-                add(alloc, &mut self.grower, rows)?;
-                add_total(alloc, self.grower.tree(), made)
+            "ask" => ask(alloc, tree, rows::u32_after(words, "value", 0)?, made),
+            "weigh" => weigh(alloc, tree, rows::text_of(input)?, made),
+            "share" => {
+                self.shared = tree.share()?;
+                rows::add_total(alloc, &self.shared.total(), made)
             }
-            "give" => {
-                let empty = Grower::new(alloc, rows.width())?;
-                let taken = mem::replace(&mut self.grower, empty);
-                self.grower = with_rows(alloc, taken, rows)?;
-                add_total(alloc, self.grower.tree(), made)
+            "reset" => reset(alloc, &mut self.grower, words.has("dropped"), made),
+            _ => {
+                let rows = rows_of(tree.width(), input, made)?;
+                grow(alloc, &mut self.grower, words, &rows, made)
             }
-            _ => Err(Wrong::Command),
         }
     }
 }
 
-/// `credit`, `drop`: a plan of rows, which is credited or dropped. The total that the next tree has, and that of the tree.
+/// `plan` and `plan dropped`, `add`, `give`: adds rows. It tells the total before and after, or of a plan the next.
+fn grow(
+    alloc: Global,
+    grower: &mut Grower,
+    words: Words,
+    rows: &Batch,
+    made: &mut Vec<u8>,
+) -> Result<(), Wrong> {
+    match words.word(0)? {
+        "plan" => return plan(alloc, grower, rows, words.has("dropped"), made),
+        "add" => add(alloc, grower, rows)?,
+        "give" => {
+            let empty = Grower::new(alloc, rows.width())?;
+            *grower = with_rows(alloc, mem::replace(grower, empty), rows)?;
+        }
+        _ => return Err(Wrong::Command),
+    }
+    rows::add_total(alloc, &grower.tree().total(), made)
+}
+
 fn plan(
     alloc: Global,
     grower: &mut Grower,
     rows: &Batch,
-    kept: bool,
+    is_dropped: bool,
     made: &mut Vec<u8>,
 ) -> Result<(), Wrong> {
     let plan = plan_of(alloc, grower, rows)?;
     add_next(alloc, &plan, grower.tree(), made)?;
-    if kept {
+    if !is_dropped {
         grower.credit(plan);
     }
     Ok(())
 }
 
-/// `reset`, `drop_reset`: a plan of the empty tree, which is credited or dropped.
-fn reset(alloc: Global, grower: &mut Grower, kept: bool, made: &mut Vec<u8>) -> Result<(), Wrong> {
+/// `reset`, `reset dropped`: a plan of the empty tree.
+fn reset(
+    alloc: Global,
+    grower: &mut Grower,
+    is_dropped: bool,
+    made: &mut Vec<u8>,
+) -> Result<(), Wrong> {
     let plan = grower.plan_reset(alloc)?;
     add_next(alloc, &plan, grower.tree(), made)?;
-    if kept {
+    if !is_dropped {
         grower.credit(plan);
     }
     Ok(())
@@ -270,46 +246,42 @@ fn add_next(alloc: Global, plan: &Plan, tree: &CallTree, made: &mut Vec<u8>) -> 
 /// `weigh`, `weigh shared`: what each stack weighs alone.
 fn weigh(alloc: Global, tree: &CallTree, stacks: &str, made: &mut Vec<u8>) -> Result<(), Wrong> {
     for frames in stacks.lines() {
-        let stack = rows::stack_of(alloc, frames)?;
-        let weights = tree.self_weight(&stack);
+        let weights = tree.self_weight(&rows::stack_of(alloc, frames)?);
         say(alloc, made, &format_args!("{:?}", weights.values()))?;
     }
     Ok(())
 }
 
-/// `ask`, `ask shared value 1`: what a tree has of a value: its total, its stacks and its names.
-fn ask(alloc: Global, tree: &CallTree, words: Words, made: &mut Vec<u8>) -> Result<(), Wrong> {
-    let value = rows::u32_of(words.number_after("value", 0)?)?;
-    add_total(alloc, tree, made)?;
-    let mut stacks = stacks_of(alloc, tree, value)?;
-    agree_on_stacks(alloc, tree, value, &mut stacks)?;
-    made.extend_from_slice(stacks.as_slice())?;
-    add_names(alloc, tree, value, made)
+/// `ask`, `ask shared value 1`: what a tree has of a value: its total, its stacks, and the weights of its names.
+fn ask(alloc: Global, tree: &CallTree, value: u32, made: &mut Vec<u8>) -> Result<(), Wrong> {
+    if value >= tree.width().get() {
+        return Err(Wrong::Missing);
+    }
+    rows::add_total(alloc, &tree.total(), made)?;
+    add_stacks(alloc, tree, value, made)?;
+    for total in &tree.frame_totals(alloc, value)? {
+        let (name, flat, cum) = (total.name.text(), total.flat, total.cum);
+        say(alloc, made, &format_args!("{name} {flat}/{cum}"))?;
+    }
+    Ok(())
 }
 
-/// The stacks of a tree as folded text.
-fn stacks_of(alloc: Global, tree: &CallTree, value: u32) -> Result<Vec<u8>, Wrong> {
+/// Adds the stacks of a value, which are the same by their texts and by the rows of the tree.
+fn add_stacks(alloc: Global, tree: &CallTree, value: u32, made: &mut Vec<u8>) -> Result<(), Wrong> {
     if value >= tree.width().get() {
         return Err(Wrong::Missing);
     }
     let stacks = tree.weighted_stacks(alloc, value)?;
-    Ok(write_stacks(alloc, &stacks)?)
-}
-
-/// The other ways to them: by their texts, and by the tree's rows.
-fn agree_on_stacks(
-    alloc: Global,
-    tree: &CallTree,
-    value: u32,
-    stacks: &mut Vec<u8>,
-) -> Result<(), Wrong> {
-    if value >= tree.width().get() {
+    let text = write_stacks(alloc, &stacks)?;
+    made.extend_from_slice(text.as_slice())?;
+    let is_same = folded_by_texts(alloc, tree, value)?.as_slice() == text.as_slice();
+    agree(made, "CallTree::stack_texts", is_same)?;
+    let rows = tree.rows(alloc)?;
+    if value >= rows.width().get() {
         return Err(Wrong::Missing);
     }
-    let by_texts = folded_by_texts(alloc, tree, value)?;
-    agree(stacks, "stack_texts", by_texts.as_slice())?;
-    let by_rows = folded_by_rows(alloc, &tree.rows(alloc)?, value)?;
-    agree(stacks, "rows", by_rows.as_slice())
+    let sums = aggregate_stacks(alloc, rows.weighted_stacks(alloc, value)?)?;
+    agree(made, "CallTree::rows", sums == stacks)
 }
 
 fn folded_by_texts(alloc: Global, tree: &CallTree, value: u32) -> Result<Vec<u8>, Wrong>
@@ -318,27 +290,4 @@ fn folded_by_texts(alloc: Global, tree: &CallTree, value: u32) -> Result<Vec<u8>
     let texts = tree.stack_texts(alloc, value)?;
     let rows = OrderedRows::of_texts(alloc, texts.as_slice())?;
     Ok(rows.write(alloc)?)
-}
-
-fn folded_by_rows(alloc: Global, rows: &Batch, value: u32) -> Result<Vec<u8>, Wrong> {
-    if value >= rows.width().get() {
-        return Err(Wrong::Missing);
-    }
-    let sums = aggregate_stacks(alloc, rows.weighted_stacks(alloc, value)?)?;
-    Ok(write_stacks(alloc, &sums)?)
-}
-
-/// The names of a tree, each with its flat and its cumulative weight.
-fn add_names(alloc: Global, tree: &CallTree, value: u32, made: &mut Vec<u8>) -> Result<(), Wrong> {
-    if value >= tree.width().get() {
-        return Err(Wrong::Missing);
-    }
-    for total in &tree.frame_totals(alloc, value)? {
-        say(
-            alloc,
-            made,
-            &format_args!("{} {}/{}", total.name.text(), total.flat, total.cum),
-        )?;
-    }
-    Ok(())
 }

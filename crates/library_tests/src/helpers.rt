@@ -1,12 +1,8 @@
-//! What the tests are made of: rows, stacks and trees of texts.
+//! What the tests are made of: rows and stacks of texts.
 //!
-//! A proof pays for each way out of a function beside a value that has to be dropped, a profile or a tree above all. So
-//! the tests make such a value in one function and lend it in that function's last call.
+//! A proof pays for each way out of a function beside a value that has to be dropped, a profile above all. So the tests
+//! make such a value in one function and lend it in that function's last call.
 
-ghost use Rattle.std.specs.Prelude.{◌≡◌, IfOk};
-
-use call_tree::{Grower, Plan};
-use profile_rows::first_heavy;
 use stack_text::{Batch, Name, Stack, Weights, Width, read_folded, write_folded};
 use std::alloc::Global;
 use std::test::Fail;
@@ -17,7 +13,7 @@ pub(crate) fn rows_of(alloc: Global, text: &str) -> Result<Batch, Fail> {
 }
 
 /// Rows as folded text, by one value.
-pub(crate) fn value_text(alloc: Global, rows: &Batch, value: u32) -> Result<String, Fail> {
+fn value_text(alloc: Global, rows: &Batch, value: u32) -> Result<String, Fail> {
     if value >= rows.width().get() {
         return Err("no such value".into());
     }
@@ -31,7 +27,7 @@ pub(crate) fn text_of(alloc: Global, rows: &Batch) -> Result<String, Fail> {
 }
 
 /// Weights of these values.
-pub(crate) fn weights_of(values: &[u64]) -> Result<Weights, Fail> {
+fn weights_of(values: &[u64]) -> Result<Weights, Fail> {
     Ok(Weights::make(values).ok_or("no weights")?)
 }
 
@@ -59,22 +55,6 @@ pub(crate) fn pairs_of(alloc: Global, rows: &[(&str, [u64; 2])]) -> Result<Batch
     Ok(batch)
 }
 
-/// Adds rows to a batch, which accepts them.
-fn push_rows(alloc: Global, batch: &mut Batch, rows: &[(&str, &[u64])]) -> Result<(), Fail> {
-    for (frames, values) in rows {
-        push(alloc, batch, frames, values)?;
-    }
-    Ok(())
-}
-
-/// A batch of so many values, of these rows.
-pub(crate) fn batch_of(alloc: Global, width: u32, rows: &[(&str, &[u64])]) -> Result<Batch, Fail> {
-    let width = Width::new(width).ok_or("no width")?;
-    let mut batch = Batch::with_capacity(alloc, width, rows.len())?;
-    push_rows(alloc, &mut batch, rows)?;
-    Ok(batch)
-}
-
 /// Rows as folded text by each of their values, one after the other, and their totals.
 pub(crate) fn all_text(alloc: Global, rows: &Batch) -> Result<String, Fail> {
     let mut text = String::new(alloc);
@@ -85,15 +65,8 @@ pub(crate) fn all_text(alloc: Global, rows: &Batch) -> Result<String, Fail> {
     Ok(text)
 }
 
-/// Rows as folded text by each of two values, and their totals.
-pub(crate) fn pairs_text(alloc: Global, rows: &Batch, totals: &Weights) -> Result<String, Fail> {
-    let first = value_text(alloc, rows, 0)?;
-    let second = value_text(alloc, rows, 1)?;
-    Ok(format!(in alloc; "{first}|{second}|{:?}", totals.values())?)
-}
-
 /// A stack by its frames, joined by semicolons. No text is the empty stack.
-pub(crate) fn stack_of(alloc: Global, frames: &str) -> Result<Stack, Fail> {
+fn stack_of(alloc: Global, frames: &str) -> Result<Stack, Fail> {
     let mut names = Vec::new(alloc);
     for frame in frames.split(';') {
         if !frame.is_empty() {
@@ -101,63 +74,4 @@ pub(crate) fn stack_of(alloc: Global, frames: &str) -> Result<Stack, Fail> {
         }
     }
     Ok(Stack::make(names).ok().ok_or("too deep")?)
-}
-
-/// The plan of rows.
-pub(crate) fn plan_of(alloc: Global, grower: &mut Grower, rows: &Batch) -> Result<Plan, Fail>
-    ensures { IfOk result (λ plan. plan.before ≡ grower.new) }
-{
-    if grower.tree().width() != rows.width() {
-        return Err("another width".into());
-    }
-    let held = grower.tree().total();
-    if let Some(_) = first_heavy(&held, &rows.total()) {
-        return Err("too heavy".into());
-    }
-    Ok(grower.plan(alloc, rows)?)
-}
-
-/// Adds rows at once.
-pub(crate) fn add(alloc: Global, grower: &mut Grower, rows: &Batch) -> Result<(), Fail> {
-    if grower.tree().width() != rows.width() {
-        return Err("another width".into());
-    }
-    let held = grower.tree().total();
-    if let Some(_) = first_heavy(&held, &rows.total()) {
-        return Err("too heavy".into());
-    }
-    Ok(grower.add(alloc, rows)?)
-}
-
-/// The grower with rows added, which it takes and gives.
-pub(crate) fn with_rows(alloc: Global, grower: Grower, rows: &Batch) -> Result<Grower, Fail> {
-    if grower.tree().width() != rows.width() {
-        return Err("another width".into());
-    }
-    let held = grower.tree().total();
-    if let Some(_) = first_heavy(&held, &rows.total()) {
-        return Err("too heavy".into());
-    }
-    Ok(grower.with_batch(alloc, rows)?)
-}
-
-/// Plans rows, and credits them where `kept`.
-pub(crate) fn plan(
-    alloc: Global,
-    grower: &mut Grower,
-    rows: &Batch,
-    kept: bool,
-) -> Result<(), Fail> {
-    let plan = plan_of(alloc, grower, rows)?;
-    if kept {
-        grower.credit(plan);
-    }
-    Ok(())
-}
-
-/// The tree of rows.
-pub(crate) fn grower_of(alloc: Global, rows: &Batch) -> Result<Grower, Fail> {
-    let mut grower = Grower::new(alloc, rows.width())?;
-    plan(alloc, &mut grower, rows, true)?;
-    Ok(grower)
 }

@@ -7,40 +7,18 @@ mod changed_drafts;
 #[cfg(test)]
 mod drafts;
 #[cfg(test)]
-mod folded_lines;
-#[cfg(test)]
 mod hashing;
 #[cfg(test)]
 mod helpers;
 #[cfg(test)]
 mod hostile_messages;
 #[cfg(test)]
-mod many_rows;
-#[cfg(test)]
 mod message_faults;
 #[cfg(test)]
 mod messages;
 #[cfg(test)]
-mod ordered_rows;
-#[cfg(test)]
-mod reports;
-#[cfg(test)]
 mod samples;
 #[cfg(test)]
-mod shared_trees;
-#[cfg(test)]
-mod slow_trees;
-#[cfg(test)]
-mod stack_reports;
-#[cfg(test)]
-mod stacks;
-#[cfg(test)]
-mod summed_lines;
-#[cfg(test)]
-mod trees;
-#[cfg(test)]
 mod values;
-#[cfg(test)]
-mod widths;
 #[cfg(test)]
 mod wire;

@@ -1,7 +1,7 @@
 //! Batches: rows that are lent, written, exported and put together, each in every public way.
 
 use crate::bytes::{Wrong, refuse};
-use crate::rows::{self, agree};
+use crate::rows::{self, agree, done};
 use crate::script::Words;
 use crate::{reports, trees};
 use profile_store::{
@@ -31,8 +31,7 @@ impl Asked<'_> {
 /// Runs a command over the batch of the input.
 pub(crate) fn run(asked: &Asked, made: &mut Vec<u8>) -> Result<(), Wrong> {
     if !asked.has_folded_text() {
-        let mut batch = Batch::new(asked.alloc, rows::width_of(asked.words)?);
-        rows::push_rows(&mut batch, rows::text_of(asked.input)?, made)?;
+        let batch = rows::batch_of(rows::width_of(asked.words)?, asked.input, made)?;
         return run_batch(asked, &batch, made);
     }
     match read_folded(asked.alloc, asked.input) {
@@ -43,8 +42,7 @@ pub(crate) fn run(asked: &Asked, made: &mut Vec<u8>) -> Result<(), Wrong> {
 
 fn run_batch(asked: &Asked, batch: &Batch, made: &mut Vec<u8>) -> Result<(), Wrong> {
     match asked.words.word(0)? {
-        "rows" => lend(asked.alloc, batch, made),
-        "folded" => write(asked, batch, made),
+        "rows" => write(asked, batch, made),
         "aggregate" => put_together(asked, batch, made),
         _ => reports::run(asked, batch, made),
     }
@@ -61,118 +59,81 @@ fn refuse_text(asked: &Asked, fault: FoldedFault, made: &mut Vec<u8>) -> Result<
             folded_totals(alloc, hashing, text).err(),
             export_folded(alloc, hashing, text, "cpu", "ns").err(),
         ];
-        agree(made, "another way to read", faults == [Some(fault); 4])?;
+        agree(made, "another reading", faults == [Some(fault); 4])?;
     }
     Ok(())
 }
 
-/// `rows`, `rows width 2`: why rows are refused, and those that aren't, which the batch lends, shares and gives away.
-fn lend(alloc: Global, batch: &Batch, made: &mut Vec<u8>) -> Result<(), Wrong> {
-    rows::add_rows(alloc, batch, made)?;
-    let is_same = given_back(alloc, batch)? == *batch;
-    agree(made, "Batch::into_rows", is_same)?;
-    let is_same = stacks_given_back(alloc, batch.first())? == *batch.first();
-    agree(made, "WeightedStacks::into_rows", is_same)
-}
-
-/// A batch of the rows that a share gives away.
-fn given_back(alloc: Global, batch: &Batch) -> Result<Batch, Wrong> {
-    let mut again = Batch::with_capacity(alloc, batch.width(), batch.len())?;
-    for row in batch.share()?.into_rows(alloc)? {
-        again
-            .push(row.stack, row.weights)
-            .ok()
-            .ok_or(Wrong::Missing)?;
-    }
-    Ok(again)
-}
-
-fn stacks_given_back(alloc: Global, stacks: &WeightedStacks) -> Result<WeightedStacks, Wrong> {
-    let mut again = WeightedStacks::with_capacity(alloc, stacks.rows().len())?;
-    for row in stacks.share()?.into_rows() {
-        again
-            .push(row.stack, row.weight)
-            .ok()
-            .ok_or(Wrong::Missing)?;
-    }
-    Ok(again)
-}
-
-/// `folded`, `folded width 2`: the rows as folded text by each value, and the totals. Samples of a profile have the same
-/// rows.
+/// `rows`, `rows width 2`: why rows are refused, and those that aren't, as folded text by each value, with their totals. The
+/// samples of their profile are the same.
 fn write(asked: &Asked, batch: &Batch, made: &mut Vec<u8>) -> Result<(), Wrong> {
     rows::add_folded(asked.alloc, batch, made)?;
-    agree_profile(
-        asked.alloc,
-        &profile_of_rows(asked.alloc, batch)?,
-        batch,
-        made,
-    )?;
+    agree_on_lent_rows(asked.alloc, batch, made)?;
+    agree_on_given_rows(asked.alloc, batch, made)?;
+    agree_on_stacks(asked.alloc, batch.first(), made)?;
     if asked.has_folded_text() {
-        return agree_readings(asked, batch, made);
+        for hashing in asked.hashings {
+            let again = done(read_folded_with(asked.alloc, hashing, asked.input))?;
+            agree(made, "read_folded_with", again == *batch)?;
+        }
     }
-    Ok(())
+    let profile = profile_of_rows(asked.alloc, batch)?;
+    agree_on_samples(asked.alloc, &profile, batch, made)
 }
 
-const fn unit_of(kind: &'static str, unit: &'static str) -> ValueUnit<'static> {
-    ValueUnit { kind, unit }
+fn agree_on_lent_rows(alloc: Global, batch: &Batch, made: &mut Vec<u8>) -> Result<(), Wrong> {
+    let mut lent = Batch::with_capacity(alloc, batch.width(), batch.len())?;
+    for row in batch.rows() {
+        done(lent.push(row.stack.clone()?, row.weights))?;
+    }
+    agree(made, "Batch::rows", lent == *batch)
+}
+
+fn agree_on_given_rows(alloc: Global, batch: &Batch, made: &mut Vec<u8>) -> Result<(), Wrong> {
+    let mut given = Batch::new(alloc, batch.width());
+    for row in batch.share()?.into_rows(alloc)? {
+        done(given.push(row.stack, row.weights))?;
+    }
+    agree(made, "Batch::into_rows", given == *batch)
+}
+
+fn agree_on_stacks(
+    alloc: Global,
+    stacks: &WeightedStacks,
+    made: &mut Vec<u8>,
+) -> Result<(), Wrong> {
+    let mut given = WeightedStacks::with_capacity(alloc, stacks.rows().len())?;
+    for row in stacks.share()?.into_rows() {
+        done(given.push(row.stack, row.weight))?;
+    }
+    agree(made, "WeightedStacks::into_rows", given == *stacks)
 }
 
 /// The profile of a batch.
 fn profile_of_rows(alloc: Global, batch: &Batch) -> Result<Profile, Wrong> {
-    let units = [
-        unit_of("samples", "count"),
-        unit_of("cpu", "ns"),
-        unit_of("objects", "count"),
-        unit_of("space", "bytes"),
-    ];
-    let units = units
-        .get(..batch.width().get() as usize)
-        .ok_or(Wrong::Missing)?;
+    let (kind, unit) = ("cpu", "ns");
+    let four = [ValueUnit { kind, unit }; 4];
+    let count = batch.width().get() as usize;
+    let units = four.get(..count).ok_or(Wrong::Missing)?;
     if units.len() != batch.width().get() as usize {
         return Err(Wrong::Missing);
     }
     Ok(profile_of(alloc, batch, units)?)
 }
 
-fn agree_profile(
+/// Whether a profile has the rows of a batch, also once it was written and read.
+fn agree_on_samples(
     alloc: Global,
     profile: &Profile,
     batch: &Batch,
     made: &mut Vec<u8>,
 ) -> Result<(), Wrong> {
-    let is_same = batch_of(alloc, profile, ValueChoice::All)
-        .ok()
-        .ok_or(Wrong::Missing)?
-        == *batch;
-    agree(made, "profile_of", is_same)?;
+    let samples = done(batch_of(alloc, profile, ValueChoice::All))?;
+    agree(made, "profile_of", samples == *batch)?;
     let bytes = encode(alloc, profile)?;
-    let is_same = sampled(alloc, bytes.as_slice(), ValueChoice::All)? == *batch;
-    agree(made, "encode", is_same)
-}
-
-/// The batch of a message.
-fn sampled(alloc: Global, bytes: &[u8], choice: ValueChoice) -> Result<Batch, Wrong> {
-    let profile = decode(alloc, bytes).ok().ok_or(Wrong::Missing)?;
-    batch_of(alloc, &profile, choice).ok().ok_or(Wrong::Missing)
-}
-
-/// The other ways to read folded text, with the profile that is written from it.
-fn agree_readings(asked: &Asked, batch: &Batch, made: &mut Vec<u8>) -> Result<(), Wrong> {
-    let (alloc, text) = (asked.alloc, asked.input);
-    for hashing in asked.hashings {
-        let is_same = read_folded_with(alloc, hashing, text)
-            .ok()
-            .ok_or(Wrong::Missing)?
-            == *batch;
-        agree(made, "read_folded_with", is_same)?;
-        let bytes = export_folded(alloc, hashing, text, "cpu", "ns")
-            .ok()
-            .ok_or(Wrong::Missing)?;
-        let is_same = sampled(alloc, bytes.as_slice(), ValueChoice::Default)? == *batch;
-        agree(made, "export_folded", is_same)?;
-    }
-    Ok(())
+    let again = done(decode(alloc, bytes.as_slice()))?;
+    let samples = done(batch_of(alloc, &again, ValueChoice::All))?;
+    agree(made, "encode", samples == *batch)
 }
 
 /// `aggregate`, `aggregate width 2`: each stack once, with its sum of each value. The tree of the rows has the same.
@@ -183,54 +144,44 @@ fn put_together(asked: &Asked, batch: &Batch, made: &mut Vec<u8>) -> Result<(), 
     if asked.words.has("alone") {
         return Ok(());
     }
-    trees::agree_on_rows(asked.alloc, batch, &sums, made)?;
-    if batch.width().get() == 1 {
-        agree_stacks(
-            asked,
-            &profile_of_rows(asked.alloc, batch)?,
-            batch.first(),
-            sums.first(),
-            made,
-        )?;
-    }
+    trees::agree_on_rows(batch, &sums, made)?;
     if asked.has_folded_text() {
-        return agree_ordered(asked, sums.first(), made);
+        return agree_on_sums(asked, batch, sums.first(), made);
     }
     Ok(())
 }
 
-/// Whether rows of one value, and samples whose equal stacks were merged, have these sums.
-fn agree_stacks(
+/// Whether rows of folded text have these sums, their samples where equal stacks were merged, and the text in order.
+fn agree_on_sums(
     asked: &Asked,
-    profile: &Profile,
-    stacks: &WeightedStacks,
+    batch: &Batch,
     sums: &WeightedStacks,
     made: &mut Vec<u8>,
 ) -> Result<(), Wrong> {
-    let is_same = aggregate_stacks(asked.alloc, stacks.share()?)? == *sums;
-    agree(made, "aggregate_stacks", is_same)?;
+    let again = aggregate_stacks(asked.alloc, batch.first().share()?)?;
+    agree(made, "aggregate_stacks", again == *sums)?;
     for hashing in asked.hashings {
-        let merged = merge_samples(asked.alloc, hashing, profile, ValueChoice::Default);
-        let merged = merged.ok().ok_or(Wrong::Missing)?;
-        let is_same = aggregate_stacks(asked.alloc, merged)? == *sums;
-        agree(made, "merge_samples", is_same)?;
+        let is_same = has_sums_in_order(asked, hashing, sums)?;
+        agree(made, "read_ordered", is_same)?;
+        let merged = merged_stacks(asked.alloc, hashing, batch)?;
+        let again = aggregate_stacks(asked.alloc, merged)?;
+        agree(made, "merge_samples", again == *sums)?;
     }
     Ok(())
 }
 
-/// Whether folded text that is read in order has these sums.
-fn agree_ordered(asked: &Asked, sums: &WeightedStacks, made: &mut Vec<u8>) -> Result<(), Wrong> {
-    let wanted = write_stacks(asked.alloc, sums)?;
-    for hashing in asked.hashings {
-        let ordered = read_ordered(asked.alloc, hashing, asked.input)
-            .ok()
-            .ok_or(Wrong::Missing)?;
-        let is_same = ordered.write(asked.alloc)?.as_slice() == wanted.as_slice();
-        agree(
-            made,
-            "read_ordered",
-            is_same && ordered.total() == sums.total(),
-        )?;
-    }
-    Ok(())
+fn has_sums_in_order(
+    asked: &Asked,
+    hashing: Hashing,
+    sums: &WeightedStacks,
+) -> Result<bool, Wrong> {
+    let ordered = done(read_ordered(asked.alloc, hashing, asked.input))?;
+    let text = ordered.write(asked.alloc)?;
+    Ok(text.as_slice() == write_stacks(asked.alloc, sums)?.as_slice())
+}
+
+/// The samples of a batch's profile, equal stacks merged.
+fn merged_stacks(alloc: Global, hashing: Hashing, batch: &Batch) -> Result<WeightedStacks, Wrong> {
+    let profile = profile_of_rows(alloc, batch)?;
+    done(merge_samples(alloc, hashing, &profile, ValueChoice::Default))
 }

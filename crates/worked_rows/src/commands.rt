@@ -71,7 +71,7 @@ fn run_command<R: Threads + Wait + RandomSource + Sync>(
     let (input, made) = (checker.input.as_slice(), &mut checker.made);
     match words.word(0)? {
         "let" => checker.name_input(step),
-        "rows" | "folded" | "aggregate" | "report" => {
+        "rows" | "aggregate" | "report" => {
             let random = Hashing::random(rt).ok().ok_or(Wrong::Missing)?;
             let hashings = [Hashing::of_key(7), random];
             let asked = Asked {

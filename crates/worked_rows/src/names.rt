@@ -50,8 +50,7 @@ pub(crate) fn make_stack(alloc: Global, input: &[u8], made: &mut Vec<u8>) -> Res
 pub(crate) fn compare(alloc: Global, input: &[u8], made: &mut Vec<u8>) -> Result<(), Wrong> {
     let (left, right) = text_of(input)?.split_once('\n').ok_or(Wrong::Line)?;
     let (left, right) = (stack_of(alloc, left)?, stack_of(alloc, right.trim_end())?);
-    let (order, is_equal) = (left.cmp(&right), left == right);
-    say(alloc, made, &format_args!("{order:?}, equal: {is_equal}"))
+    show(alloc, made, &(left.cmp(&right), left == right))
 }
 
 /// `width 4`, `columns 65535`: a number of values or of columns, where there can be so many.
@@ -67,18 +66,11 @@ pub(crate) fn limit(alloc: Global, words: Words, made: &mut Vec<u8>) -> Result<(
     }
 }
 
-/// `weights`: the values of a row, and how many they are, or none.
+/// `weights`: the values of a row, where it can have so many.
 pub(crate) fn weights(alloc: Global, input: &[u8], made: &mut Vec<u8>) -> Result<(), Wrong> {
     let (_, values) = parts_of(alloc, text_of(input)?)?;
     match Weights::make(values.as_slice()) {
-        Some(weights) => {
-            let width = weights.width().get();
-            say(
-                alloc,
-                made,
-                &format_args!("{:?} width {width}", weights.values()),
-            )
-        }
+        Some(weights) => show(alloc, made, &(weights.values(), weights.width().get())),
         None => say(alloc, made, &"none"),
     }
 }

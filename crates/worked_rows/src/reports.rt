@@ -2,59 +2,46 @@
 
 use crate::batches::Asked;
 use crate::bytes::{Wrong, say};
-use crate::rows::{agree, u32_after};
+use crate::rows::{agree, done, u32_after};
 use crate::script::Words;
 use crate::trees;
 use profile_store::{
-    Answer, Batch, Columns, Flame, FrameTotals, Hashing, Kind, Name, Query, Rank, WeightedStacks,
-    flame_json, folded_totals, kept_totals, read_ordered, report_in_order, report_of,
-    report_of_stacks, top_list, top_text,
+    Answer, Batch, Columns, Flame, Hashing, Kind, Name, Query, Rank, WeightedStacks, flame_json,
+    folded_totals, kept_totals, read_ordered, report_in_order, report_of, report_of_stacks,
+    top_list, top_text,
 };
 use std::alloc::Global;
 
 /// `report total`, `report top by cum count 2`, `report folded`, `report flame columns 5`, `report layout columns 5`, and
 /// `report each columns 5`; with `focus a`, `ignore b` and `value 1` where they are wanted.
 pub(crate) fn run(asked: &Asked, batch: &Batch, made: &mut Vec<u8>) -> Result<(), Wrong> {
-    let words = asked.words;
-    match words.word(1)? {
-        "total" => answer(asked, batch, Kind::Total, made),
-        "top" if words.after("by") == Some("cum") => answer(
-            asked,
-            batch,
-            top(words, Rank::Cum)?,
-            made,
-        ),
-        "top" => answer(asked, batch, top(words, Rank::Flat)?, made),
-        "folded" => answer(asked, batch, Kind::Folded, made),
-        "flame" | "layout" => answer(asked, batch, flame(words)?, made),
-        "each" => answer_each(asked, batch, made),
-        _ => Err(Wrong::Command),
+    let kind = match asked.words.after("by") {
+        Some(rank) => rank,
+        None => asked.words.word(1)?,
+    };
+    if kind != "each" {
+        return answer(asked, batch, kind, made);
     }
-}
-
-fn top(words: Words, rank: Rank) -> Result<Kind, Wrong> {
-    let count = u32_after(words, "count", 20)?;
-    Ok(Kind::Top { rank, count })
-}
-
-fn flame(words: Words) -> Result<Kind, Wrong> {
-    let columns = Columns::new(u32_after(words, "columns", 100)?).ok_or(Wrong::Command)?;
-    Ok(Kind::Flame { columns })
-}
-
-/// The answer of each kind, one after the other.
-fn answer_each(asked: &Asked, batch: &Batch, made: &mut Vec<u8>) -> Result<(), Wrong> {
-    let (by_flat, by_cum) = (top(asked.words, Rank::Flat)?, top(asked.words, Rank::Cum)?);
-    for kind in [
-        Kind::Total,
-        by_flat,
-        by_cum,
-        Kind::Folded,
-        flame(asked.words)?,
-    ] {
+    for kind in ["total", "flat", "cum", "folded", "flame"] {
         answer(asked, batch, kind, made)?;
     }
     Ok(())
+}
+
+fn kind_of(words: Words, kind: &str) -> Result<Kind, Wrong> {
+    let count = u32_after(words, "count", 20)?;
+    let (flat, cum) = (Rank::Flat, Rank::Cum);
+    match kind {
+        "total" => Ok(Kind::Total),
+        "folded" => Ok(Kind::Folded),
+        "flat" => Ok(Kind::Top { rank: flat, count }),
+        "cum" => Ok(Kind::Top { rank: cum, count }),
+        _ => {
+            let columns = Columns::new(u32_after(words, "columns", 100)?);
+            let columns = columns.ok_or(Wrong::Command)?;
+            Ok(Kind::Flame { columns })
+        }
+    }
 }
 
 fn name_after(alloc: Global, words: Words, key: &str) -> Result<Option<Name>, Wrong> {
@@ -64,57 +51,79 @@ fn name_after(alloc: Global, words: Words, key: &str) -> Result<Option<Name>, Wr
     }
 }
 
-/// The answer to a query of this kind.
-fn answer(asked: &Asked, batch: &Batch, kind: Kind, made: &mut Vec<u8>) -> Result<(), Wrong> {
+/// A query, the rows that it is over, and the answer that each way has to give.
+#[derive(Clone, Copy)]
+pub(crate) struct Given<'a> {
+    asked: &'a Asked<'a>,
+    pub(crate) batch: &'a Batch,
+    /// The rows by the value that the query names.
+    stacks: &'a WeightedStacks,
+    pub(crate) query: &'a Query,
+    pub(crate) answer: &'a Answer,
+}
+
+fn answer(asked: &Asked, batch: &Batch, kind: &str, made: &mut Vec<u8>) -> Result<(), Wrong> {
     let query = Query {
         focus: name_after(asked.alloc, asked.words, "focus")?,
         ignore: name_after(asked.alloc, asked.words, "ignore")?,
         value: u32_after(asked.words, "value", 0)?,
-        kind,
+        kind: kind_of(asked.words, kind)?,
     };
-    answer_query(asked, batch, &query, made)
+    agree_all(asked, batch, &query, made)
 }
 
-fn answer_query(
-    asked: &Asked,
-    batch: &Batch,
-    query: &Query,
-    made: &mut Vec<u8>,
-) -> Result<(), Wrong> {
-    let answer = answer_of(asked.alloc, Hashing::fixed(), batch, query)?;
+/// Adds the answer, and tells of the ways that answer otherwise.
+fn agree_all(asked: &Asked, batch: &Batch, query: &Query, made: &mut Vec<u8>) -> Result<(), Wrong> {
+    if query.value >= batch.width().get() {
+        return Err(Wrong::Missing);
+    }
+    let answer = report_of(asked.alloc, Hashing::fixed(), batch, query)?;
     add_answer(asked, &answer, made)?;
-    agree_counted(
+    let stacks = batch.weighted_stacks(asked.alloc, query.value)?;
+    let given = Given {
         asked,
-        &stacks_of(asked.alloc, batch, query)?,
+        batch,
+        stacks: &stacks,
         query,
-        &answer,
-        made,
-    )?;
-    if asked.words.has("alone") {
+        answer: &answer,
+    };
+    agree_on_all_ways(&given, made)
+}
+
+fn agree_on_all_ways(given: &Given, made: &mut Vec<u8>) -> Result<(), Wrong> {
+    for hashing in given.asked.hashings {
+        agree_on_batch(given, hashing, made)?;
+        agree_on_names(given, hashing, made)?;
+        agree_on_stacks(given, hashing, made)?;
+        agree_on_text(given, hashing, made)?;
+    }
+    trees::agree_on_report(given, made)
+}
+
+fn agree_on_batch(given: &Given, hashing: Hashing, made: &mut Vec<u8>) -> Result<(), Wrong> {
+    if given.query.value >= given.batch.width().get() {
+        return Err(Wrong::Missing);
+    }
+    let again = report_of(given.asked.alloc, hashing, given.batch, given.query)?;
+    agree(made, "report_of", again == *given.answer)
+}
+
+/// The answer over rows of one value, whichever value the query names.
+fn agree_on_stacks(given: &Given, hashing: Hashing, made: &mut Vec<u8>) -> Result<(), Wrong> {
+    let stacks = given.stacks.share()?;
+    let again = report_of_stacks(given.asked.alloc, hashing, stacks, given.query)?;
+    agree(made, "report_of_stacks", again == *given.answer)
+}
+
+/// The answer over folded text that is read in order.
+fn agree_on_text(given: &Given, hashing: Hashing, made: &mut Vec<u8>) -> Result<(), Wrong> {
+    let asked = given.asked;
+    if !asked.has_folded_text() {
         return Ok(());
     }
-    agree_rows(asked, batch, query, &answer, made)?;
-    trees::agree_on_report(asked.alloc, batch, query, &answer, made)
-}
-
-fn answer_of(
-    alloc: Global,
-    hashing: Hashing,
-    batch: &Batch,
-    query: &Query,
-) -> Result<Answer, Wrong> {
-    if query.value >= batch.width().get() {
-        return Err(Wrong::Missing);
-    }
-    Ok(report_of(alloc, hashing, batch, query)?)
-}
-
-/// The stacks with the weights that a query asks for.
-fn stacks_of(alloc: Global, batch: &Batch, query: &Query) -> Result<WeightedStacks, Wrong> {
-    if query.value >= batch.width().get() {
-        return Err(Wrong::Missing);
-    }
-    Ok(batch.weighted_stacks(alloc, query.value)?)
+    let ordered = done(read_ordered(asked.alloc, hashing, asked.input))?;
+    let again = report_in_order(asked.alloc, hashing, ordered, given.query)?;
+    agree(made, "report_in_order", again == *given.answer)
 }
 
 /// Adds an answer as text. A folded report is followed by how many lines it has.
@@ -127,95 +136,45 @@ fn add_answer(asked: &Asked, answer: &Answer, made: &mut Vec<u8>) -> Result<(), 
         Answer::Flame(flame) => say(alloc, made, &flame_json(alloc, flame)?),
         Answer::Folded(text) => {
             made.extend_from_slice(text.as_slice())?;
-            let lines = text
-                .as_slice()
-                .iter()
-                .filter(|byte| **byte == b'\n')
-                .count();
-            say(alloc, made, &format_args!("{lines} rows"))
+            let count = text.as_slice().split(|byte| *byte == b'\n').count();
+            say(
+                alloc,
+                made,
+                &format_args!("{} rows", count.saturating_sub(1)),
+            )
         }
     }
 }
 
 /// Adds a line for each rectangle: depth, x, weight, left, how many columns, name.
 fn add_layout(alloc: Global, flame: &Flame, made: &mut Vec<u8>) -> Result<(), Wrong> {
-    say(
-        alloc,
-        made,
-        &format_args!("total {} in {}", flame.total, flame.columns.get()),
-    )?;
+    say(alloc, made, &format_args!("total {}", flame.total))?;
     for rect in flame.rects.as_slice() {
-        let (depth, x, weight, left) = (rect.depth, rect.x, rect.weight, rect.left);
+        let (d, x, w, left) = (rect.depth, rect.x, rect.weight, rect.left);
         let (columns, name) = (rect.right.saturating_sub(left), rect.name.text());
         say(
             alloc,
             made,
-            &format_args!("{depth} {x} {weight} {left} {columns} {name:?}"),
+            &format_args!("{d} {x} {w} {left} {columns} {name:?}"),
         )?;
     }
     Ok(())
 }
 
-/// The ways that count names without a report, where a top list is asked for.
-fn agree_counted(
-    asked: &Asked,
-    stacks: &WeightedStacks,
-    query: &Query,
-    answer: &Answer,
-    made: &mut Vec<u8>,
-) -> Result<(), Wrong> {
-    let alloc = asked.alloc;
+/// The ways that count names, where a top list is asked for.
+fn agree_on_names(given: &Given, hashing: Hashing, made: &mut Vec<u8>) -> Result<(), Wrong> {
+    let (asked, query, answer) = (given.asked, given.query, given.answer);
+    let Kind::Top { rank, count } = query.kind else {
+        return Ok(());
+    };
     let (focus, ignored) = (query.focus.as_ref(), query.ignore.as_ref());
-    for hashing in asked.hashings {
-        let totals = kept_totals(alloc, hashing, stacks, focus, ignored)?;
-        agree_totals(totals, query, answer, made)?;
-        if asked.has_folded_text() && query.keeps_all() {
-            let totals = folded_totals(alloc, hashing, asked.input)
-                .ok()
-                .ok_or(Wrong::Missing)?;
-            agree_totals(totals, query, answer, made)?;
-        }
-    }
-    Ok(())
-}
-
-fn agree_totals(
-    totals: FrameTotals,
-    query: &Query,
-    answer: &Answer,
-    made: &mut Vec<u8>,
-) -> Result<(), Wrong> {
-    match query.kind {
-        Kind::Top { rank, count } => {
-            let is_same = Answer::Top(top_list(totals, rank, count)?) == *answer;
-            agree(made, "top_list", is_same)
-        }
-        _ => Ok(()),
-    }
-}
-
-/// The ways that make no tree. Those over rows of one value don't look at which value the query names.
-fn agree_rows(
-    asked: &Asked,
-    batch: &Batch,
-    query: &Query,
-    answer: &Answer,
-    made: &mut Vec<u8>,
-) -> Result<(), Wrong> {
-    let alloc = asked.alloc;
-    for hashing in asked.hashings {
-        let is_same = answer_of(alloc, hashing, batch, query)? == *answer;
-        agree(made, "report_of", is_same)?;
-        let stacks = stacks_of(alloc, batch, query)?;
-        let is_same = report_of_stacks(alloc, hashing, stacks, query)? == *answer;
-        agree(made, "report_of_stacks", is_same)?;
-        if asked.has_folded_text() {
-            let ordered = read_ordered(alloc, hashing, asked.input)
-                .ok()
-                .ok_or(Wrong::Missing)?;
-            let is_same = report_in_order(alloc, hashing, ordered, query)? == *answer;
-            agree(made, "report_in_order", is_same)?;
-        }
+    let totals = kept_totals(asked.alloc, hashing, given.stacks, focus, ignored)?;
+    let top = Answer::Top(top_list(totals, rank, count)?);
+    agree(made, "kept_totals", top == *answer)?;
+    if asked.has_folded_text() && query.keeps_all() {
+        let totals = done(folded_totals(asked.alloc, hashing, asked.input))?;
+        let top = Answer::Top(top_list(totals, rank, count)?);
+        agree(made, "folded_totals", top == *answer)?;
     }
     Ok(())
 }

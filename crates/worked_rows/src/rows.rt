@@ -17,6 +17,11 @@ pub(crate) fn agree(made: &mut Vec<u8>, way: &str, is_same: bool) -> Result<(), 
     )
 }
 
+/// What a call makes that has to succeed.
+pub(crate) fn done<T, E: Drop>(made: Result<T, E>) -> Result<T, Wrong> {
+    made.ok().ok_or(Wrong::Missing)
+}
+
 /// The text of an input.
 pub(crate) fn text_of(input: &[u8]) -> Result<&str, Wrong> {
     std::str::from_utf8(input).ok().ok_or(Wrong::Line)
@@ -86,38 +91,22 @@ fn push_row(batch: &mut Batch, line: &str, made: &mut Vec<u8>) -> Result<(), Wro
     }
 }
 
-/// Adds rows to a batch, and tells of those that it refuses.
-pub(crate) fn push_rows(batch: &mut Batch, rows: &str, made: &mut Vec<u8>) -> Result<(), Wrong> {
+fn push_rows(batch: &mut Batch, rows: &str, made: &mut Vec<u8>) -> Result<(), Wrong> {
     for line in rows.lines() {
         push_row(batch, line, made)?;
     }
     Ok(())
 }
 
-/// Adds the names of a stack, with a semicolon between each two.
-fn add_frames(stack: &Stack, made: &mut Vec<u8>) -> Result<(), Wrong> {
-    let mut is_first = true;
-    for name in stack.names() {
-        if !is_first {
-            made.push(b';')?;
-        }
-        made.extend_from_slice(name.text().as_bytes())?;
-        is_first = false;
-    }
-    Ok(())
+/// The batch of rows with values in brackets. It tells of those that the batch refuses.
+pub(crate) fn batch_of(width: Width, input: &[u8], made: &mut Vec<u8>) -> Result<Batch, Wrong> {
+    let mut batch = Batch::new(*made.allocator(), width);
+    push_rows(&mut batch, text_of(input)?, made)?;
+    Ok(batch)
 }
 
 pub(crate) fn add_total(alloc: Global, total: &Weights, made: &mut Vec<u8>) -> Result<(), Wrong> {
     say(alloc, made, &format_args!("total {:?}", total.values()))
-}
-
-/// Adds the rows that a batch lends, and its total.
-pub(crate) fn add_rows(alloc: Global, batch: &Batch, made: &mut Vec<u8>) -> Result<(), Wrong> {
-    for row in batch.rows() {
-        add_frames(row.stack, made)?;
-        say(alloc, made, &format_args!(" {:?}", row.weights.values()))?;
-    }
-    add_total(alloc, &batch.total(), made)
 }
 
 /// A batch as folded text by one of its values.

@@ -4,10 +4,11 @@ ghost use Rattle.std.specs.Prelude.{◌≡◌, ◌<◌, IfOk};
 
 use crate::bytes::{Wrong, say};
 use crate::checker::Checker;
-use crate::rows::{self, agree};
+use crate::reports::Given;
+use crate::rows::{self, agree, done};
 use crate::script::{Script, Step, Words};
 use profile_store::{
-    Answer, Batch, CallTree, Grower, Hashing, OrderedRows, Plan, Query, Width, aggregate_stacks,
+    Batch, CallTree, Grower, Hashing, OrderedRows, Plan, WeightedStacks, Width, aggregate_stacks,
     first_heavy, read_folded, report, write_stacks,
 };
 use std::alloc::Global;
@@ -59,53 +60,45 @@ fn grower_of(alloc: Global, rows: &Batch) -> Result<Grower, Wrong> {
     Ok(grower)
 }
 
-/// Whether the tree of rows has these sums, however it grows.
-pub(crate) fn agree_on_rows(
-    alloc: Global,
-    rows: &Batch,
-    sums: &Batch,
-    made: &mut Vec<u8>,
-) -> Result<(), Wrong> {
+/// The same, where they were added at once.
+fn grower_at_once(alloc: Global, rows: &Batch) -> Result<Grower, Wrong> {
     let mut grower = Grower::new(alloc, rows.width())?;
     add(alloc, &mut grower, rows)?;
-    agree(made, "Grower::add", grower.tree().rows(alloc)? == *sums)?;
+    Ok(grower)
+}
+
+/// Whether the tree of rows has these sums, however it grows.
+pub(crate) fn agree_on_rows(rows: &Batch, sums: &Batch, made: &mut Vec<u8>) -> Result<(), Wrong> {
+    let alloc = *made.allocator();
+    agree_on_tree(grower_of(alloc, rows)?, sums, "Grower::credit", made)?;
+    agree_on_tree(grower_at_once(alloc, rows)?, sums, "Grower::add", made)?;
     let grower = with_rows(alloc, Grower::new(alloc, rows.width())?, rows)?;
-    agree(
-        made,
-        "Grower::with_batch",
-        grower.tree().rows(alloc)? == *sums,
-    )?;
-    let grower = grower_of(alloc, rows)?;
-    agree(made, "Grower::credit", grower.tree().rows(alloc)? == *sums)
+    agree_on_tree(grower, sums, "Grower::with_batch", made)
+}
+
+fn agree_on_tree(grower: Grower, sums: &Batch, way: &str, made: &mut Vec<u8>) -> Result<(), Wrong> {
+    let rows = grower.tree().rows(*made.allocator())?;
+    agree(made, way, rows == *sums)
 }
 
 /// Whether the tree of rows, and a share of it, answer as the rows do.
-pub(crate) fn agree_on_report(
-    alloc: Global,
-    rows: &Batch,
-    query: &Query,
-    answer: &Answer,
-    made: &mut Vec<u8>,
-) -> Result<(), Wrong> {
-    let grower = grower_of(alloc, rows)?;
-    agree(
-        made,
-        "report",
-        answer_of(alloc, grower.tree(), query)? == *answer,
-    )?;
-    let shared = grower.tree().share()?;
-    agree(
-        made,
-        "report of a share",
-        answer_of(alloc, &shared, query)? == *answer,
-    )
+pub(crate) fn agree_on_report(given: &Given, made: &mut Vec<u8>) -> Result<(), Wrong> {
+    let grower = grower_of(*made.allocator(), given.batch)?;
+    agree_on_answer(grower.tree(), given, "report", made)?;
+    agree_on_answer(&grower.tree().share()?, given, "report of a share", made)
 }
 
-fn answer_of(alloc: Global, tree: &CallTree, query: &Query) -> Result<Answer, Wrong> {
-    if query.value >= tree.width().get() {
+fn agree_on_answer(
+    tree: &CallTree,
+    given: &Given,
+    way: &str,
+    made: &mut Vec<u8>,
+) -> Result<(), Wrong> {
+    if given.query.value >= tree.width().get() {
         return Err(Wrong::Missing);
     }
-    Ok(report(alloc, tree, query)?)
+    let answer = report(*made.allocator(), tree, given.query)?;
+    agree(made, way, answer == *given.answer)
 }
 
 /// A tree that grows, and a share of it as it was.
@@ -121,79 +114,68 @@ pub(crate) fn run_scene(
     script: &mut Script,
     step: &Step,
 ) -> Result<(), Wrong> {
-    checker.begin(step)?;
     let width = rows::width_of(step.words)?;
-    let grower = Grower::with_hashing(checker.alloc, Hashing::of_key(7), width)?;
-    let shared = grower.tree().share()?;
-    let ran = rows::add_total(checker.alloc, &shared.total(), &mut checker.made);
-    checker.settle(step, ran)?;
-    run_steps(checker, script, &mut Scene { grower, shared })
+    let mut scene = Scene::open(checker.alloc, width)?;
+    run_steps(checker, script, step, &mut scene)
 }
 
-fn run_steps(checker: &mut Checker, script: &mut Script, scene: &mut Scene) -> Result<(), Wrong> {
+fn run_steps(
+    checker: &mut Checker,
+    script: &mut Script,
+    first: &Step,
+    scene: &mut Scene,
+) -> Result<(), Wrong> {
+    checker.begin(first)?;
+    let ran = add_total(&scene.shared, &mut checker.made);
+    checker.settle(first, ran)?;
     for _ in 0..script.most_steps() {
         let Some(step) = script.next_step() else {
             break;
         };
         checker.begin(&step)?;
-        let (input, made) = (checker.input.as_slice(), &mut checker.made);
-        let ran = scene.run(checker.alloc, step.words, input, made);
+        let ran = scene.run(step.words, checker.input.as_slice(), &mut checker.made);
         checker.settle(&step, ran)?;
     }
     Ok(())
 }
 
-/// The rows of a step: folded text, or rows with values in brackets.
-fn rows_of(width: Width, input: &[u8], made: &mut Vec<u8>) -> Result<Batch, Wrong> {
-    let alloc = *made.allocator();
-    if width.get() == 1 {
-        return read_folded(alloc, input).ok().ok_or(Wrong::Line);
-    }
-    let mut rows = Batch::new(alloc, width);
-    rows::push_rows(&mut rows, rows::text_of(input)?, made)?;
-    Ok(rows)
-}
-
 impl Scene {
-    fn run(
-        &mut self,
-        alloc: Global,
-        words: Words,
-        input: &[u8],
-        made: &mut Vec<u8>,
-    ) -> Result<(), Wrong> {
-        let asks_share = words.has("shared");
-        let tree = if asks_share {
-            &self.shared
-        } else {
-            self.grower.tree()
+    fn open(alloc: Global, width: Width) -> Result<Scene, Wrong> {
+        let grower = Grower::with_hashing(alloc, Hashing::of_key(7), width)?;
+        let shared = grower.tree().share()?;
+        Ok(Scene { grower, shared })
+    }
+
+    fn run(&mut self, words: Words, input: &[u8], made: &mut Vec<u8>) -> Result<(), Wrong> {
+        let tree = match words.after("of") {
+            Some("share") => &self.shared,
+            _ => self.grower.tree(),
         };
         match words.word(0)? {
-            "ask" => ask(alloc, tree, rows::u32_after(words, "value", 0)?, made),
-            "weigh" => weigh(alloc, tree, rows::text_of(input)?, made),
+            "ask" => ask(tree, rows::u32_after(words, "value", 0)?, made),
+            "weigh" => weigh(tree, rows::text_of(input)?, made),
             "share" => {
                 self.shared = tree.share()?;
-                rows::add_total(alloc, &self.shared.total(), made)
+                add_total(&self.shared, made)
             }
-            "reset" => reset(alloc, &mut self.grower, words.has("dropped"), made),
+            "reset" => reset(&mut self.grower, words, made),
+            _ if tree.width().get() > 1 => {
+                let rows = rows::batch_of(tree.width(), input, made)?;
+                grow(&mut self.grower, words, &rows, made)
+            }
             _ => {
-                let rows = rows_of(tree.width(), input, made)?;
-                grow(alloc, &mut self.grower, words, &rows, made)
+                let rows = done(read_folded(*made.allocator(), input))?;
+                grow(&mut self.grower, words, &rows, made)
             }
         }
     }
 }
 
-/// `plan` and `plan dropped`, `add`, `give`: adds rows. It tells the total before and after, or of a plan the next.
-fn grow(
-    alloc: Global,
-    grower: &mut Grower,
-    words: Words,
-    rows: &Batch,
-    made: &mut Vec<u8>,
-) -> Result<(), Wrong> {
+/// `plan`, `plan dropped`, `add`, `give`: adds rows.
+fn grow(grower: &mut Grower, words: Words, rows: &Batch, made: &mut Vec<u8>) -> Result<(), Wrong> {
+    let alloc = *made.allocator();
     match words.word(0)? {
-        "plan" => return plan(alloc, grower, rows, words.has("dropped"), made),
+        "plan" => return plan(grower, rows, words, made),
         "add" => add(alloc, grower, rows)?,
         "give" => {
             let empty = Grower::new(alloc, rows.width())?;
@@ -201,50 +183,42 @@ fn grow(
         }
         _ => return Err(Wrong::Command),
     }
-    rows::add_total(alloc, &grower.tree().total(), made)
+    add_total(grower.tree(), made)
 }
 
-fn plan(
-    alloc: Global,
-    grower: &mut Grower,
-    rows: &Batch,
-    is_dropped: bool,
-    made: &mut Vec<u8>,
-) -> Result<(), Wrong> {
-    let plan = plan_of(alloc, grower, rows)?;
-    add_next(alloc, &plan, grower.tree(), made)?;
-    if !is_dropped {
+/// Plans rows and credits them, or drops the plan. It tells the total that the tree would have, and the one that it has.
+fn plan(grower: &mut Grower, rows: &Batch, words: Words, made: &mut Vec<u8>) -> Result<(), Wrong> {
+    let plan = plan_of(*made.allocator(), grower, rows)?;
+    add_next(&plan, grower.tree(), made)?;
+    if !words.has("dropped") {
         grower.credit(plan);
     }
     Ok(())
 }
 
-/// `reset`, `reset dropped`: a plan of the empty tree.
-fn reset(
-    alloc: Global,
-    grower: &mut Grower,
-    is_dropped: bool,
-    made: &mut Vec<u8>,
-) -> Result<(), Wrong> {
-    let plan = grower.plan_reset(alloc)?;
-    add_next(alloc, &plan, grower.tree(), made)?;
-    if !is_dropped {
+/// `reset`, `reset dropped`: the same of the empty tree.
+fn reset(grower: &mut Grower, words: Words, made: &mut Vec<u8>) -> Result<(), Wrong> {
+    let plan = grower.plan_reset(*made.allocator())?;
+    add_next(&plan, grower.tree(), made)?;
+    if !words.has("dropped") {
         grower.credit(plan);
     }
     Ok(())
 }
 
-fn add_next(alloc: Global, plan: &Plan, tree: &CallTree, made: &mut Vec<u8>) -> Result<(), Wrong> {
+fn add_next(plan: &Plan, tree: &CallTree, made: &mut Vec<u8>) -> Result<(), Wrong> {
     let (next, now) = (plan.next().total(), tree.total());
-    say(
-        alloc,
-        made,
-        &format_args!("next {:?}, now {:?}", next.values(), now.values()),
-    )
+    let told = format_args!("next {:?}, now {:?}", next.values(), now.values());
+    say(*made.allocator(), made, &told)
 }
 
-/// `weigh`, `weigh shared`: what each stack weighs alone.
-fn weigh(alloc: Global, tree: &CallTree, stacks: &str, made: &mut Vec<u8>) -> Result<(), Wrong> {
+fn add_total(tree: &CallTree, made: &mut Vec<u8>) -> Result<(), Wrong> {
+    rows::add_total(*made.allocator(), &tree.total(), made)
+}
+
+/// `weigh`, `weigh of share`: what each stack weighs alone.
+fn weigh(tree: &CallTree, stacks: &str, made: &mut Vec<u8>) -> Result<(), Wrong> {
+    let alloc = *made.allocator();
     for frames in stacks.lines() {
         let weights = tree.self_weight(&rows::stack_of(alloc, frames)?);
         say(alloc, made, &format_args!("{:?}", weights.values()))?;
@@ -252,13 +226,14 @@ fn weigh(alloc: Global, tree: &CallTree, stacks: &str, made: &mut Vec<u8>) -> Re
     Ok(())
 }
 
-/// `ask`, `ask shared value 1`: what a tree has of a value: its total, its stacks, and the weights of its names.
-fn ask(alloc: Global, tree: &CallTree, value: u32, made: &mut Vec<u8>) -> Result<(), Wrong> {
+/// `ask`, `ask of share value 1`: what a tree has of a value: its total, its stacks, and the weights of its names.
+fn ask(tree: &CallTree, value: u32, made: &mut Vec<u8>) -> Result<(), Wrong> {
     if value >= tree.width().get() {
         return Err(Wrong::Missing);
     }
-    rows::add_total(alloc, &tree.total(), made)?;
-    add_stacks(alloc, tree, value, made)?;
+    let alloc = *made.allocator();
+    add_total(tree, made)?;
+    add_stacks(tree, value, made)?;
     for total in &tree.frame_totals(alloc, value)? {
         let (name, flat, cum) = (total.name.text(), total.flat, total.cum);
         say(alloc, made, &format_args!("{name} {flat}/{cum}"))?;
@@ -267,21 +242,38 @@ fn ask(alloc: Global, tree: &CallTree, value: u32, made: &mut Vec<u8>) -> Result
 }
 
 /// Adds the stacks of a value, which are the same by their texts and by the rows of the tree.
-fn add_stacks(alloc: Global, tree: &CallTree, value: u32, made: &mut Vec<u8>) -> Result<(), Wrong> {
+fn add_stacks(tree: &CallTree, value: u32, made: &mut Vec<u8>) -> Result<(), Wrong> {
     if value >= tree.width().get() {
         return Err(Wrong::Missing);
     }
-    let stacks = tree.weighted_stacks(alloc, value)?;
-    let text = write_stacks(alloc, &stacks)?;
-    made.extend_from_slice(text.as_slice())?;
+    let stacks = tree.weighted_stacks(*made.allocator(), value)?;
+    agree_on_stacks(tree, value, &stacks, made)
+}
+
+fn agree_on_stacks(
+    tree: &CallTree,
+    value: u32,
+    stacks: &WeightedStacks,
+    made: &mut Vec<u8>,
+) -> Result<(), Wrong> {
+    if value >= tree.width().get() {
+        return Err(Wrong::Missing);
+    }
+    let alloc = *made.allocator();
+    let text = write_stacks(alloc, stacks)?;
     let is_same = folded_by_texts(alloc, tree, value)?.as_slice() == text.as_slice();
+    made.extend_from_slice(text.as_slice())?;
     agree(made, "CallTree::stack_texts", is_same)?;
-    let rows = tree.rows(alloc)?;
+    let is_same = sums_of(alloc, &tree.rows(alloc)?, value)? == *stacks;
+    agree(made, "CallTree::rows", is_same)
+}
+
+fn sums_of(alloc: Global, rows: &Batch, value: u32) -> Result<WeightedStacks, Wrong> {
     if value >= rows.width().get() {
         return Err(Wrong::Missing);
     }
-    let sums = aggregate_stacks(alloc, rows.weighted_stacks(alloc, value)?)?;
-    agree(made, "CallTree::rows", sums == stacks)
+    let stacks = rows.weighted_stacks(alloc, value)?;
+    Ok(aggregate_stacks(alloc, stacks)?)
 }
 
 fn folded_by_texts(alloc: Global, tree: &CallTree, value: u32) -> Result<Vec<u8>, Wrong>

@@ -17,8 +17,8 @@ pub(crate) struct Asked<'a> {
     pub(crate) alloc: Global,
     pub(crate) words: Words<'a>,
     pub(crate) input: &'a [u8],
-    /// Where hashes begin. No answer depends on it.
-    pub(crate) hashings: [Hashing; 2],
+    /// Where hashes begin, at random. No answer depends on it.
+    pub(crate) hashing: Hashing,
 }
 
 impl Asked<'_> {
@@ -50,18 +50,15 @@ fn run_batch(asked: &Asked, batch: &Batch, made: &mut Vec<u8>) -> Result<(), Wro
 
 /// The first fault of folded text, which each way to read it has.
 fn refuse_text(asked: &Asked, fault: FoldedFault, made: &mut Vec<u8>) -> Result<(), Wrong> {
-    let (alloc, text) = (asked.alloc, asked.input);
+    let (alloc, hashing, text) = (asked.alloc, asked.hashing, asked.input);
     refuse(alloc, made, &fault)?;
-    for hashing in asked.hashings {
-        let faults = [
-            read_folded_with(alloc, hashing, text).err(),
-            read_ordered(alloc, hashing, text).err(),
-            folded_totals(alloc, hashing, text).err(),
-            export_folded(alloc, hashing, text, "cpu", "ns").err(),
-        ];
-        agree(made, "another reading", faults == [Some(fault); 4])?;
-    }
-    Ok(())
+    let faults = [
+        read_folded_with(alloc, hashing, text).err(),
+        read_ordered(alloc, hashing, text).err(),
+        folded_totals(alloc, hashing, text).err(),
+        export_folded(alloc, hashing, text, "cpu", "ns").err(),
+    ];
+    agree(made, "another reading", faults == [Some(fault); 4])
 }
 
 /// `rows`, `rows width 2`: why rows are refused, and those that aren't, as folded text by each value, with their totals. The
@@ -72,10 +69,8 @@ fn write(asked: &Asked, batch: &Batch, made: &mut Vec<u8>) -> Result<(), Wrong> 
     agree_on_given_rows(asked.alloc, batch, made)?;
     agree_on_stacks(asked.alloc, batch.first(), made)?;
     if asked.has_folded_text() {
-        for hashing in asked.hashings {
-            let again = done(read_folded_with(asked.alloc, hashing, asked.input))?;
-            agree(made, "read_folded_with", again == *batch)?;
-        }
+        let again = done(read_folded_with(asked.alloc, asked.hashing, asked.input))?;
+        agree(made, "read_folded_with", again == *batch)?;
     }
     let profile = profile_of_rows(asked.alloc, batch)?;
     agree_on_samples(asked.alloc, &profile, batch, made)
@@ -151,7 +146,7 @@ fn put_together(asked: &Asked, batch: &Batch, made: &mut Vec<u8>) -> Result<(), 
     Ok(())
 }
 
-/// Whether rows of folded text have these sums, their samples where equal stacks were merged, and the text in order.
+/// Whether rows of folded text have these sums, their samples where equal stacks are merged, and the text in order.
 fn agree_on_sums(
     asked: &Asked,
     batch: &Batch,
@@ -160,28 +155,21 @@ fn agree_on_sums(
 ) -> Result<(), Wrong> {
     let again = aggregate_stacks(asked.alloc, batch.first().share()?)?;
     agree(made, "aggregate_stacks", again == *sums)?;
-    for hashing in asked.hashings {
-        let is_same = has_sums_in_order(asked, hashing, sums)?;
-        agree(made, "read_ordered", is_same)?;
-        let merged = merged_stacks(asked.alloc, hashing, batch)?;
-        let again = aggregate_stacks(asked.alloc, merged)?;
-        agree(made, "merge_samples", again == *sums)?;
-    }
-    Ok(())
-}
-
-fn has_sums_in_order(
-    asked: &Asked,
-    hashing: Hashing,
-    sums: &WeightedStacks,
-) -> Result<bool, Wrong> {
-    let ordered = done(read_ordered(asked.alloc, hashing, asked.input))?;
-    let text = ordered.write(asked.alloc)?;
-    Ok(text.as_slice() == write_stacks(asked.alloc, sums)?.as_slice())
+    let again = aggregate_stacks(asked.alloc, merged_samples(asked, batch)?)?;
+    agree(made, "merge_samples", again == *sums)?;
+    let is_same = has_sums_in_order(asked, sums)?;
+    agree(made, "read_ordered", is_same)
 }
 
 /// The samples of a batch's profile, equal stacks merged.
-fn merged_stacks(alloc: Global, hashing: Hashing, batch: &Batch) -> Result<WeightedStacks, Wrong> {
+fn merged_samples(asked: &Asked, batch: &Batch) -> Result<WeightedStacks, Wrong> {
+    let (alloc, choice) = (asked.alloc, ValueChoice::Default);
     let profile = profile_of_rows(alloc, batch)?;
-    done(merge_samples(alloc, hashing, &profile, ValueChoice::Default))
+    done(merge_samples(alloc, asked.hashing, &profile, choice))
+}
+
+fn has_sums_in_order(asked: &Asked, sums: &WeightedStacks) -> Result<bool, Wrong> {
+    let ordered = done(read_ordered(asked.alloc, asked.hashing, asked.input))?;
+    let text = ordered.write(asked.alloc)?;
+    Ok(text.as_slice() == write_stacks(asked.alloc, sums)?.as_slice())
 }

@@ -72,13 +72,11 @@ fn run_command<R: Threads + Wait + RandomSource + Sync>(
     match words.word(0)? {
         "let" => checker.name_input(step),
         "rows" | "aggregate" | "report" => {
-            let random = Hashing::random(rt).ok().ok_or(Wrong::Missing)?;
-            let hashings = [Hashing::of_key(7), random];
             let asked = Asked {
                 alloc,
                 words,
                 input,
-                hashings,
+                hashing: Hashing::random(rt).ok().ok_or(Wrong::Missing)?,
             };
             batches::run(&asked, made)
         }

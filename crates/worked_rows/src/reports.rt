@@ -13,7 +13,8 @@ use profile_store::{
 use std::alloc::Global;
 
 /// `report total`, `report top by cum count 2`, `report folded`, `report flame columns 5`, `report layout columns 5`, and
-/// `report each columns 5`; with `focus a`, `ignore b` and `value 1` where they are wanted.
+/// `report each columns 5`; with `focus a`, `ignore b` and `value 1` where they are wanted. With `alone` it goes only the
+/// ways that count names.
 pub(crate) fn run(asked: &Asked, batch: &Batch, made: &mut Vec<u8>) -> Result<(), Wrong> {
     let kind = match asked.words.after("by") {
         Some(rank) => rank,
@@ -91,38 +92,40 @@ fn agree_all(asked: &Asked, batch: &Batch, query: &Query, made: &mut Vec<u8>) ->
 }
 
 fn agree_on_all_ways(given: &Given, made: &mut Vec<u8>) -> Result<(), Wrong> {
-    for hashing in given.asked.hashings {
-        agree_on_batch(given, hashing, made)?;
-        agree_on_names(given, hashing, made)?;
-        agree_on_stacks(given, hashing, made)?;
-        agree_on_text(given, hashing, made)?;
+    agree_on_names(given, made)?;
+    if given.asked.words.has("alone") {
+        return Ok(());
     }
+    agree_on_batch(given, made)?;
+    agree_on_stacks(given, made)?;
+    agree_on_text(given, made)?;
     trees::agree_on_report(given, made)
 }
 
-fn agree_on_batch(given: &Given, hashing: Hashing, made: &mut Vec<u8>) -> Result<(), Wrong> {
-    if given.query.value >= given.batch.width().get() {
+fn agree_on_batch(given: &Given, made: &mut Vec<u8>) -> Result<(), Wrong> {
+    let (asked, batch, query) = (given.asked, given.batch, given.query);
+    if query.value >= batch.width().get() {
         return Err(Wrong::Missing);
     }
-    let again = report_of(given.asked.alloc, hashing, given.batch, given.query)?;
+    let again = report_of(asked.alloc, asked.hashing, batch, query)?;
     agree(made, "report_of", again == *given.answer)
 }
 
 /// The answer over rows of one value, whichever value the query names.
-fn agree_on_stacks(given: &Given, hashing: Hashing, made: &mut Vec<u8>) -> Result<(), Wrong> {
-    let stacks = given.stacks.share()?;
-    let again = report_of_stacks(given.asked.alloc, hashing, stacks, given.query)?;
+fn agree_on_stacks(given: &Given, made: &mut Vec<u8>) -> Result<(), Wrong> {
+    let (asked, stacks) = (given.asked, given.stacks.share()?);
+    let again = report_of_stacks(asked.alloc, asked.hashing, stacks, given.query)?;
     agree(made, "report_of_stacks", again == *given.answer)
 }
 
 /// The answer over folded text that is read in order.
-fn agree_on_text(given: &Given, hashing: Hashing, made: &mut Vec<u8>) -> Result<(), Wrong> {
-    let asked = given.asked;
-    if !asked.has_folded_text() {
+fn agree_on_text(given: &Given, made: &mut Vec<u8>) -> Result<(), Wrong> {
+    let (alloc, hashing) = (given.asked.alloc, given.asked.hashing);
+    if !given.asked.has_folded_text() {
         return Ok(());
     }
-    let ordered = done(read_ordered(asked.alloc, hashing, asked.input))?;
-    let again = report_in_order(asked.alloc, hashing, ordered, given.query)?;
+    let ordered = done(read_ordered(alloc, hashing, given.asked.input))?;
+    let again = report_in_order(alloc, hashing, ordered, given.query)?;
     agree(made, "report_in_order", again == *given.answer)
 }
 
@@ -162,17 +165,17 @@ fn add_layout(alloc: Global, flame: &Flame, made: &mut Vec<u8>) -> Result<(), Wr
 }
 
 /// The ways that count names, where a top list is asked for.
-fn agree_on_names(given: &Given, hashing: Hashing, made: &mut Vec<u8>) -> Result<(), Wrong> {
+fn agree_on_names(given: &Given, made: &mut Vec<u8>) -> Result<(), Wrong> {
     let (asked, query, answer) = (given.asked, given.query, given.answer);
     let Kind::Top { rank, count } = query.kind else {
         return Ok(());
     };
     let (focus, ignored) = (query.focus.as_ref(), query.ignore.as_ref());
-    let totals = kept_totals(asked.alloc, hashing, given.stacks, focus, ignored)?;
+    let totals = kept_totals(asked.alloc, asked.hashing, given.stacks, focus, ignored)?;
     let top = Answer::Top(top_list(totals, rank, count)?);
     agree(made, "kept_totals", top == *answer)?;
     if asked.has_folded_text() && query.keeps_all() {
-        let totals = done(folded_totals(asked.alloc, hashing, asked.input))?;
+        let totals = done(folded_totals(asked.alloc, asked.hashing, asked.input))?;
         let top = Answer::Top(top_list(totals, rank, count)?);
         agree(made, "folded_totals", top == *answer)?;
     }

@@ -1,6 +1,7 @@
 //! Batches: rows that are lent, written, exported and put together, each in every public way.
 
 use crate::bytes::{Wrong, refuse};
+use crate::checker::Checker;
 use crate::rows::{self, agree, done};
 use crate::script::Words;
 use crate::{reports, trees};
@@ -10,6 +11,7 @@ use profile_store::{
     profile_of, read_folded, read_folded_with, read_ordered, write_stacks,
 };
 use std::alloc::Global;
+use std::random::RandomSource;
 
 /// A command over rows.
 #[derive(Clone, Copy)]
@@ -28,8 +30,22 @@ impl Asked<'_> {
     }
 }
 
-/// Runs a command over the batch of the input.
-pub(crate) fn run(asked: &Asked, made: &mut Vec<u8>) -> Result<(), Wrong> {
+/// Runs a command over rows.
+pub(crate) fn run<R: RandomSource>(
+    rt: &R,
+    checker: &mut Checker,
+    words: Words,
+) -> Result<(), Wrong> {
+    let asked = Asked {
+        alloc: checker.alloc,
+        words,
+        input: checker.input.as_slice(),
+        hashing: done(Hashing::random(rt))?,
+    };
+    run_rows(&asked, &mut checker.made)
+}
+
+fn run_rows(asked: &Asked, made: &mut Vec<u8>) -> Result<(), Wrong> {
     if !asked.has_folded_text() {
         let batch = rows::batch_of(rows::width_of(asked.words)?, asked.input, made)?;
         return run_batch(asked, &batch, made);

@@ -5,7 +5,6 @@ use crate::bytes::Wrong;
 use crate::checker::Checker;
 use crate::script::{Script, Step, Words};
 use crate::{batches, names, trees, wire};
-use profile_store::Hashing;
 use std::alloc::Global;
 use std::random::RandomSource;
 use std::sync::Wait;
@@ -67,19 +66,9 @@ fn run_command<R: Threads + Wait + RandomSource + Sync>(
     step: &Step,
 ) -> Result<(), Wrong> {
     checker.begin(step)?;
-    let (alloc, words) = (checker.alloc, step.words);
-    let (input, made) = (checker.input.as_slice(), &mut checker.made);
-    match words.word(0)? {
+    match step.words.word(0)? {
         "let" => checker.name_input(step),
-        "rows" | "aggregate" | "report" => {
-            let asked = Asked {
-                alloc,
-                words,
-                input,
-                hashing: Hashing::random(rt).ok().ok_or(Wrong::Missing)?,
-            };
-            batches::run(&asked, made)
-        }
+        "rows" | "aggregate" | "report" => batches::run(rt, checker, step.words),
         _ => run_call(
             checker.alloc,
             step.words,

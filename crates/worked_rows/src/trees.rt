@@ -8,7 +8,7 @@ use crate::reports::Given;
 use crate::rows::{self, agree, done};
 use crate::script::{Script, Step, Words};
 use profile_store::{
-    Batch, CallTree, Grower, Hashing, OrderedRows, Plan, WeightedStacks, Width, aggregate_stacks,
+    Batch, CallTree, Grower, Hashing, OrderedRows, Plan, WeightedStacks, aggregate_stacks,
     first_heavy, read_folded, report, write_stacks,
 };
 use std::alloc::Global;
@@ -60,25 +60,12 @@ fn grower_of(alloc: Global, rows: &Batch) -> Result<Grower, Wrong> {
     Ok(grower)
 }
 
-/// The same, where they were added at once.
-fn grower_at_once(alloc: Global, rows: &Batch) -> Result<Grower, Wrong> {
-    let mut grower = Grower::new(alloc, rows.width())?;
-    add(alloc, &mut grower, rows)?;
-    Ok(grower)
-}
-
-/// Whether the tree of rows has these sums, however it grows.
+/// Whether the tree of rows has these sums.
 pub(crate) fn agree_on_rows(rows: &Batch, sums: &Batch, made: &mut Vec<u8>) -> Result<(), Wrong> {
     let alloc = *made.allocator();
-    agree_on_tree(grower_of(alloc, rows)?, sums, "Grower::credit", made)?;
-    agree_on_tree(grower_at_once(alloc, rows)?, sums, "Grower::add", made)?;
-    let grower = with_rows(alloc, Grower::new(alloc, rows.width())?, rows)?;
-    agree_on_tree(grower, sums, "Grower::with_batch", made)
-}
-
-fn agree_on_tree(grower: Grower, sums: &Batch, way: &str, made: &mut Vec<u8>) -> Result<(), Wrong> {
-    let rows = grower.tree().rows(*made.allocator())?;
-    agree(made, way, rows == *sums)
+    let grower = grower_of(alloc, rows)?;
+    let is_same = grower.tree().rows(alloc)? == *sums;
+    agree(made, "CallTree::rows", is_same)
 }
 
 /// Whether the tree of rows, and a share of it, answer as the rows do.
@@ -114,9 +101,10 @@ pub(crate) fn run_scene(
     script: &mut Script,
     step: &Step,
 ) -> Result<(), Wrong> {
-    let width = rows::width_of(step.words)?;
-    let mut scene = Scene::open(checker.alloc, width)?;
-    run_steps(checker, script, step, &mut scene)
+    match Scene::open(checker.alloc, step.words) {
+        Ok(mut scene) => run_steps(checker, script, step, &mut scene),
+        Err(wrong) => checker.settle(step, Err(wrong)),
+    }
 }
 
 fn run_steps(
@@ -140,8 +128,9 @@ fn run_steps(
 }
 
 impl Scene {
-    fn open(alloc: Global, width: Width) -> Result<Scene, Wrong> {
-        let grower = Grower::with_hashing(alloc, Hashing::of_key(7), width)?;
+    fn open(alloc: Global, words: Words) -> Result<Scene, Wrong> {
+        let hashing = Hashing::of_key(7);
+        let grower = Grower::with_hashing(alloc, hashing, rows::width_of(words)?)?;
         let shared = grower.tree().share()?;
         Ok(Scene { grower, shared })
     }
@@ -247,10 +236,10 @@ fn add_stacks(tree: &CallTree, value: u32, made: &mut Vec<u8>) -> Result<(), Wro
         return Err(Wrong::Missing);
     }
     let stacks = tree.weighted_stacks(*made.allocator(), value)?;
-    agree_on_stacks(tree, value, &stacks, made)
+    add_agreed_stacks(tree, value, &stacks, made)
 }
 
-fn agree_on_stacks(
+fn add_agreed_stacks(
     tree: &CallTree,
     value: u32,
     stacks: &WeightedStacks,

@@ -1,7 +1,7 @@
 //! Names, stacks and numbers with limits.
 
 use crate::bytes::{Wrong, refuse, say, show};
-use crate::rows::{agree, names_of, parts_of, stack_of, text_of};
+use crate::rows::{agree, names_of, stack_of, text_of, values_of};
 use crate::script::{Words, first_line};
 use profile_store::{
     Columns, FoldedFault, Label, Name, NameFault, PushFault, Stack, Weights, Width,
@@ -11,18 +11,19 @@ use std::alloc::Global;
 /// `name`: the input as a name. A copy of it, one that is kept, and a label have its text.
 pub(crate) fn make_name(alloc: Global, input: &[u8], made: &mut Vec<u8>) -> Result<(), Wrong> {
     match Name::make(alloc, text_of(input)?) {
-        Ok(name) => {
-            say(alloc, made, &name.text())?;
-            let is_same = name.clone()? == name && Name::keep(alloc, name.text())? == name;
-            agree(made, "Name::keep", is_same)?;
-            agree(
-                made,
-                "Label::of",
-                Label::of(name.clone()?).text() == name.text(),
-            )
-        }
+        Ok(name) => add_name(alloc, &name, made),
         Err(fault) => refuse(alloc, made, &fault),
     }
+}
+
+fn add_name(alloc: Global, name: &Name, made: &mut Vec<u8>) -> Result<(), Wrong> {
+    say(alloc, made, &name.text())?;
+    let kept = Name::keep(alloc, name.text())?;
+    agree(made, "Name::keep", kept == *name)?;
+    let copy = name.clone()?;
+    agree(made, "Name::clone", copy == *name)?;
+    let label = Label::of(copy);
+    agree(made, "Label::of", label.text() == name.text())
 }
 
 /// `clean`: the name of a text of a profile, or none.
@@ -68,7 +69,7 @@ pub(crate) fn limit(alloc: Global, words: Words, made: &mut Vec<u8>) -> Result<(
 
 /// `weights`: the values of a row, where it can have so many.
 pub(crate) fn weights(alloc: Global, input: &[u8], made: &mut Vec<u8>) -> Result<(), Wrong> {
-    let (_, values) = parts_of(alloc, text_of(input)?)?;
+    let values = values_of(alloc, text_of(input)?)?;
     match Weights::make(values.as_slice()) {
         Some(weights) => show(alloc, made, &(weights.values(), weights.width().get())),
         None => say(alloc, made, &"none"),

@@ -58,16 +58,21 @@ fn ends_number(ch: char) -> bool {
     !ch.is_ascii_digit()
 }
 
-/// The frames of a row, and its values.
-pub(crate) fn parts_of(alloc: Global, line: &str) -> Result<(&str, Vec<u64>), Wrong> {
-    let (frames, list) = line.rsplit_once('[').ok_or(Wrong::Line)?;
+/// The frames of a row, and the list of its values.
+fn halves_of(line: &str) -> Result<(&str, &str), Wrong> {
+    line.rsplit_once('[').ok_or(Wrong::Line)
+}
+
+/// The values of a row.
+pub(crate) fn values_of(alloc: Global, line: &str) -> Result<Vec<u64>, Wrong> {
+    let (_, list) = halves_of(line)?;
     let mut values = Vec::new(alloc);
     for value in list.split(ends_number) {
         if !value.is_empty() {
             values.push(value.parse().ok().ok_or(Wrong::Line)?)?;
         }
     }
-    Ok((frames.trim_end(), values))
+    Ok(values)
 }
 
 /// Tells why a row is refused, and how many frames come back.
@@ -82,9 +87,9 @@ fn tell_refusal(alloc: Global, refused: &Refused<Stack>, made: &mut Vec<u8>) -> 
 
 fn push_row(batch: &mut Batch, line: &str, made: &mut Vec<u8>) -> Result<(), Wrong> {
     let alloc = *made.allocator();
-    let (frames, values) = parts_of(alloc, line)?;
-    let weights = Weights::make(values.as_slice()).ok_or(Wrong::Line)?;
-    let stack = stack_of(alloc, frames)?;
+    let (frames, _) = halves_of(line)?;
+    let weights = Weights::make(values_of(alloc, line)?.as_slice()).ok_or(Wrong::Line)?;
+    let stack = stack_of(alloc, frames.trim_end())?;
     match batch.push(stack, weights) {
         Ok(()) => Ok(()),
         Err(refused) => tell_refusal(alloc, &refused, made),

@@ -8,7 +8,7 @@ use crate::reports::Given;
 use crate::rows::{self, agree, done};
 use crate::script::{Script, Step, Words};
 use profile_store::{
-    Batch, CallTree, Grower, Hashing, OrderedRows, Plan, WeightedStacks, aggregate_stacks,
+    Batch, CallTree, Grower, Hashing, OrderedRows, Plan, WeightedStacks, Width, aggregate_stacks,
     first_heavy, read_folded, report, write_stacks,
 };
 use std::alloc::Global;
@@ -135,28 +135,40 @@ impl Scene {
         Ok(Scene { grower, shared })
     }
 
-    fn run(&mut self, words: Words, input: &[u8], made: &mut Vec<u8>) -> Result<(), Wrong> {
-        let tree = match words.after("of") {
+    /// The tree that a step asks: its own, or the share.
+    fn tree_of(&self, words: Words) -> &CallTree {
+        match words.after("of") {
             Some("share") => &self.shared,
             _ => self.grower.tree(),
-        };
+        }
+    }
+
+    fn run(&mut self, words: Words, input: &[u8], made: &mut Vec<u8>) -> Result<(), Wrong> {
         match words.word(0)? {
-            "ask" => ask(tree, rows::u32_after(words, "value", 0)?, made),
-            "weigh" => weigh(tree, rows::text_of(input)?, made),
+            "ask" => ask(
+                self.tree_of(words),
+                rows::u32_after(words, "value", 0)?,
+                made,
+            ),
+            "weigh" => weigh(self.tree_of(words), rows::text_of(input)?, made),
             "share" => {
-                self.shared = tree.share()?;
+                self.shared = self.grower.tree().share()?;
                 add_total(&self.shared, made)
             }
             "reset" => reset(&mut self.grower, words, made),
-            _ if tree.width().get() > 1 => {
-                let rows = rows::batch_of(tree.width(), input, made)?;
-                grow(&mut self.grower, words, &rows, made)
-            }
             _ => {
-                let rows = done(read_folded(*made.allocator(), input))?;
+                let rows = rows_of(self.shared.width(), input, made)?;
                 grow(&mut self.grower, words, &rows, made)
             }
         }
+    }
+}
+
+/// The rows of a step: folded text where they have one value.
+fn rows_of(width: Width, input: &[u8], made: &mut Vec<u8>) -> Result<Batch, Wrong> {
+    match width.get() {
+        1 => done(read_folded(*made.allocator(), input)),
+        _ => rows::batch_of(width, input, made),
     }
 }
 

@@ -77,8 +77,8 @@ fn refuse_text(asked: &Asked, fault: FoldedFault, made: &mut Vec<u8>) -> Result<
     agree(made, "another reading", faults == [Some(fault); 4])
 }
 
-/// `rows`, `rows width 2`: why rows are refused, and those that aren't, as folded text by each value, with their totals. The
-/// samples of their profile are the same.
+/// `rows`, `rows width 2`: why rows are refused, and those that aren't, as folded text by each value, with their totals.
+/// The samples of their profile are the same.
 fn write(asked: &Asked, batch: &Batch, made: &mut Vec<u8>) -> Result<(), Wrong> {
     rows::add_folded(asked.alloc, batch, made)?;
     agree_on_lent_rows(asked.alloc, batch, made)?;
@@ -89,7 +89,7 @@ fn write(asked: &Asked, batch: &Batch, made: &mut Vec<u8>) -> Result<(), Wrong> 
         agree(made, "read_folded_with", again == *batch)?;
     }
     let profile = profile_of_rows(asked.alloc, batch)?;
-    agree_on_samples(asked.alloc, &profile, batch, made)
+    agree_on_profile(&profile, batch, made)
 }
 
 fn agree_on_lent_rows(alloc: Global, batch: &Batch, made: &mut Vec<u8>) -> Result<(), Wrong> {
@@ -133,18 +133,26 @@ fn profile_of_rows(alloc: Global, batch: &Batch) -> Result<Profile, Wrong> {
 }
 
 /// Whether a profile has the rows of a batch, also once it was written and read.
+fn agree_on_profile(profile: &Profile, batch: &Batch, made: &mut Vec<u8>) -> Result<(), Wrong> {
+    let alloc = *made.allocator();
+    agree_on_samples(profile, ValueChoice::All, batch, made)?;
+    let bytes = encode(alloc, profile)?;
+    let again = done(decode(alloc, bytes.as_slice()))?;
+    let choice = match batch.width().get() {
+        1 => ValueChoice::Default,
+        _ => ValueChoice::All,
+    };
+    agree_on_samples(&again, choice, batch, made)
+}
+
 fn agree_on_samples(
-    alloc: Global,
     profile: &Profile,
+    choice: ValueChoice,
     batch: &Batch,
     made: &mut Vec<u8>,
 ) -> Result<(), Wrong> {
-    let samples = done(batch_of(alloc, profile, ValueChoice::All))?;
-    agree(made, "profile_of", samples == *batch)?;
-    let bytes = encode(alloc, profile)?;
-    let again = done(decode(alloc, bytes.as_slice()))?;
-    let samples = done(batch_of(alloc, &again, ValueChoice::All))?;
-    agree(made, "encode", samples == *batch)
+    let samples = done(batch_of(*made.allocator(), profile, choice))?;
+    agree(made, "batch_of", samples == *batch)
 }
 
 /// `aggregate`, `aggregate width 2`: each stack once, with its sum of each value. The tree of the rows has the same.

@@ -12,9 +12,9 @@ use profile_store::{
 };
 use std::alloc::Global;
 
-/// `report total`, `report top by cum count 2`, `report folded`, `report flame columns 5`, `report layout columns 5`, and
-/// `report each columns 5`; with `focus a`, `ignore b` and `value 1` where they are wanted. With `alone` it goes only the
-/// ways that count names.
+/// `report total`, `report top by cum count 2`, `report folded`, `report flame columns 5`, `report layout columns 5`,
+/// and `report each columns 5`; with `focus a`, `ignore b` and `value 1` where they are wanted. With `alone` it goes
+/// only the ways that count names.
 pub(crate) fn run(asked: &Asked, batch: &Batch, made: &mut Vec<u8>) -> Result<(), Wrong> {
     let kind = match asked.words.after("by") {
         Some(rank) => rank,
@@ -149,7 +149,7 @@ fn add_answer(asked: &Asked, answer: &Answer, made: &mut Vec<u8>) -> Result<(), 
     }
 }
 
-/// Adds a line for each rectangle: depth, x, weight, left, how many columns, name.
+/// Adds a line for each rectangle: depth, x, weight, left, how many columns, name. The JSON text has as many.
 fn add_layout(alloc: Global, flame: &Flame, made: &mut Vec<u8>) -> Result<(), Wrong> {
     say(alloc, made, &format_args!("total {}", flame.total))?;
     for rect in flame.rects.as_slice() {
@@ -161,7 +161,9 @@ fn add_layout(alloc: Global, flame: &Flame, made: &mut Vec<u8>) -> Result<(), Wr
             &format_args!("{d} {x} {w} {left} {columns} {name:?}"),
         )?;
     }
-    Ok(())
+    let json = flame_json(alloc, flame)?;
+    let count = json.matches("\"depth\":").count();
+    agree(made, "flame_json", count == flame.rects.as_slice().len())
 }
 
 /// The ways that count names, where a top list is asked for.

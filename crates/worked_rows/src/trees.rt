@@ -187,7 +187,7 @@ fn grow(grower: &mut Grower, words: Words, rows: &Batch, made: &mut Vec<u8>) -> 
     add_total(grower.tree(), made)
 }
 
-/// Plans rows and credits them, or drops the plan. It tells the total that the tree would have, and the one that it has.
+/// Plans rows and credits the plan, or drops it. It tells the total that the tree would have, and the one that it has.
 fn plan(grower: &mut Grower, rows: &Batch, words: Words, made: &mut Vec<u8>) -> Result<(), Wrong> {
     let plan = plan_of(*made.allocator(), grower, rows)?;
     add_next(&plan, grower.tree(), made)?;

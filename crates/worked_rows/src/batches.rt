@@ -77,7 +77,7 @@ fn refuse_text(asked: &Asked, fault: FoldedFault, made: &mut Vec<u8>) -> Result<
     agree(made, "another reading", faults == [Some(fault); 4])
 }
 
-/// `rows`, `rows width 2`: why rows are refused, and those that aren't, as folded text by each value, with their totals.
+/// `rows`, `rows width 2`: why rows are refused, and those that aren't, as folded text by each value, with the totals.
 /// The samples of their profile are the same.
 fn write(asked: &Asked, batch: &Batch, made: &mut Vec<u8>) -> Result<(), Wrong> {
     rows::add_folded(asked.alloc, batch, made)?;

@@ -101,6 +101,7 @@ pub(crate) fn run_scene(
     script: &mut Script,
     step: &Step,
 ) -> Result<(), Wrong> {
+    checker.begin(step)?;
     match Scene::open(checker.alloc, step.words) {
         Ok(mut scene) => run_steps(checker, script, step, &mut scene),
         Err(wrong) => checker.settle(step, Err(wrong)),
@@ -113,7 +114,6 @@ fn run_steps(
     first: &Step,
     scene: &mut Scene,
 ) -> Result<(), Wrong> {
-    checker.begin(first)?;
     let ran = add_total(&scene.shared, &mut checker.made);
     checker.settle(first, ran)?;
     for _ in 0..script.most_steps() {

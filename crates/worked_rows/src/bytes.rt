@@ -288,7 +288,7 @@ impl Numbers {
 }
 
 /// Adds a line for each number, with it in the place of each `#`, and with its four hexadecimal digits in the place of
-/// each `%`: `1000 f# 1`, `128..200 0x7f% #`.
+/// each `%`: `1000 f# 1`, `128..200 0x7f% #`. Where there are several `#`, as in `f###`, zeros make it as long.
 fn add_numbered(text: &str, bytes: &mut Vec<u8>) -> Result<(), Wrong> {
     let (numbers, text) = text.split_once(' ').ok_or(Wrong::Line)?;
     let numbers = Numbers::read(numbers)?;
@@ -300,14 +300,32 @@ fn add_numbered(text: &str, bytes: &mut Vec<u8>) -> Result<(), Wrong> {
 }
 
 fn add_with_number(text: &str, number: u64, bytes: &mut Vec<u8>) -> Result<(), Wrong> {
+    let mut digits = 0usize;
     for byte in text.bytes() {
+        if byte == b'#' {
+            digits = digits.saturating_add(1);
+            continue;
+        }
+        add_number(number, digits, bytes)?;
+        digits = 0;
         match byte {
-            b'#' => print(bytes, &number)?,
             b'%' => print(bytes, &format_args!("{number:04x}"))?,
             _ => bytes.push(byte)?,
         }
     }
-    Ok(())
+    add_number(number, digits, bytes)
+}
+
+/// Adds a number of at least so many digits, or nothing where none are wanted.
+fn add_number(number: u64, digits: usize, bytes: &mut Vec<u8>) -> Result<(), Wrong> {
+    if digits == 0 {
+        return Ok(());
+    }
+    let text = format!(in *bytes.allocator(); "{number}")?;
+    for _ in text.len()..digits {
+        bytes.push(b'0')?;
+    }
+    Ok(bytes.extend_from_slice(text.as_bytes())?)
 }
 
 /// Adds hexadecimal digits for each number, with the two bytes of its varint in the place of `#`, and with the same as

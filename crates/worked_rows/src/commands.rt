@@ -5,7 +5,7 @@ use crate::checker::Checker;
 use crate::program::Run;
 use crate::script::{Script, Step, Words};
 use crate::streams::Streams;
-use crate::{drafts, profiles, samples, wire};
+use crate::{batches, drafts, names, profiles, samples, trees, wire};
 use std::alloc::Global;
 use std::random::RandomSource;
 use std::sync::Wait;
@@ -49,12 +49,12 @@ fn run_block<R: Threads + Wait + RandomSource + Sync>(
 fn run_step<R: Threads + Wait + RandomSource + Sync>(
     rt: &R,
     checker: &mut Checker,
-    _script: &mut Script,
+    script: &mut Script,
     streams: &mut Streams,
     step: &Step,
 ) -> Result<(), Wrong> {
     match step.words.word(0)? {
-        // Scenes: "tree" => trees::run_scene(checker, script, step),
+        "tree" => trees::run_scene(checker, script, step),
         _ => {
             let ran = run_command(rt, checker, streams, step);
             checker.settle(step, ran)
@@ -80,6 +80,7 @@ fn run_command<R: Threads + Wait + RandomSource + Sync>(
         "flame" | "as" | "both" | "each" | "process" | "read" => run_program(
             rt, checker, *streams, step.words,
         ),
+        "rows" | "aggregate" | "report" => batches::run(rt, checker, step.words),
         _ => run_call(
             checker.alloc,
             step.words,
@@ -129,6 +130,13 @@ fn run_call(alloc: Global, words: Words, input: &[u8], made: &mut Vec<u8>) -> Re
         "export" => samples::export(words, input, made),
         "exported" => samples::read_exported(words, input, made),
         "memory" => samples::say_memory_faults(alloc, made),
+        "name" => names::make_name(alloc, input, made),
+        "clean" => names::clean_name(alloc, input, made),
+        "stack" => names::make_stack(alloc, input, made),
+        "compare" => names::compare(alloc, input, made),
+        "width" | "columns" => names::limit(alloc, words, made),
+        "weights" => names::weights(alloc, input, made),
+        "no_memory" => names::print_wants(alloc, made),
         _ => Err(Wrong::Command),
     }
 }

@@ -5,15 +5,21 @@
 //! file. The status is 1 where a step failed.
 #![tactic(auto)]
 
+mod batches;
 mod bytes;
 mod checker;
 mod commands;
 mod drafts;
+mod names;
 mod profiles;
 mod program;
+mod reports;
+mod rows;
 mod samples;
 mod script;
+mod script;
 mod streams;
+mod trees;
 mod wire;
 
 use crate::checker::Checker;

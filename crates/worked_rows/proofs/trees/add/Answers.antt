@@ -1,6 +1,6 @@
 -- What the tree holds of each value keeps the limit.
 use Rattle.std.proofs.Common.{◌<◌, ◌^◌, sym, subst}
-use Rattle.library_tests.proofs.helpers.plan_of.Goals as goal
+use Rattle.worked_rows.proofs.trees.add.Goals as goal
 
 pub first_heavy-requires-clause-fits : goal.first_heavy-requires-clause-fits
 first_heavy-requires-clause-fits c =

@@ -1,7 +1,7 @@
 -- What the tree holds of each value keeps the limit, and with the rows it does.
 use Rattle.std.proofs.Common.{◌≡◌, ◌<◌, ◌^◌, ap, arith, sym, subst}
 use Rattle.call_tree.specs.State.{TreeState, total_in, weights_of}
-use Rattle.library_tests.proofs.helpers.with_rows.Goals as goal
+use Rattle.worked_rows.proofs.trees.with_rows.Goals as goal
 
 pub first_heavy-requires-clause-fits : goal.first_heavy-requires-clause-fits
 first_heavy-requires-clause-fits c =

@@ -1,0 +1,185 @@
+//! Reports: one query over one list of rows, answered in each public way.
+
+use crate::batches::Asked;
+use crate::bytes::{Wrong, say};
+use crate::rows::{agree, done, u32_after};
+use crate::script::Words;
+use crate::trees;
+use profile_store::{
+    Answer, Batch, Columns, Flame, Hashing, Kind, Name, Query, Rank, WeightedStacks, flame_json,
+    folded_totals, kept_totals, read_ordered, report_in_order, report_of, report_of_stacks,
+    top_list, top_text,
+};
+use std::alloc::Global;
+
+/// `report total`, `report top by cum count 2`, `report folded`, `report flame columns 5`, `report layout columns 5`,
+/// and `report each columns 5`; with `focus a`, `ignore b` and `value 1` where they are wanted. With `alone` it goes
+/// only the ways that count names.
+pub(crate) fn run(asked: &Asked, batch: &Batch, made: &mut Vec<u8>) -> Result<(), Wrong> {
+    let kind = match asked.words.after("by") {
+        Some(rank) => rank,
+        None => asked.words.word(1)?,
+    };
+    if kind != "each" {
+        return answer(asked, batch, kind, made);
+    }
+    for kind in ["total", "flat", "cum", "folded", "flame"] {
+        answer(asked, batch, kind, made)?;
+    }
+    Ok(())
+}
+
+fn kind_of(words: Words, kind: &str) -> Result<Kind, Wrong> {
+    let count = u32_after(words, "count", 20)?;
+    let (flat, cum) = (Rank::Flat, Rank::Cum);
+    match kind {
+        "total" => Ok(Kind::Total),
+        "folded" => Ok(Kind::Folded),
+        "flat" => Ok(Kind::Top { rank: flat, count }),
+        "cum" => Ok(Kind::Top { rank: cum, count }),
+        _ => {
+            let columns = Columns::new(u32_after(words, "columns", 100)?);
+            let columns = columns.ok_or(Wrong::Command)?;
+            Ok(Kind::Flame { columns })
+        }
+    }
+}
+
+fn name_after(alloc: Global, words: Words, key: &str) -> Result<Option<Name>, Wrong> {
+    match words.after(key) {
+        None => Ok(None),
+        Some(text) => Ok(Some(Name::make(alloc, text).ok().ok_or(Wrong::Command)?)),
+    }
+}
+
+/// A query, the rows that it is over, and the answer that each way has to give.
+#[derive(Clone, Copy)]
+pub(crate) struct Given<'a> {
+    asked: &'a Asked<'a>,
+    pub(crate) batch: &'a Batch,
+    /// The rows by the value that the query names.
+    stacks: &'a WeightedStacks,
+    pub(crate) query: &'a Query,
+    pub(crate) answer: &'a Answer,
+}
+
+fn answer(asked: &Asked, batch: &Batch, kind: &str, made: &mut Vec<u8>) -> Result<(), Wrong> {
+    let query = Query {
+        focus: name_after(asked.alloc, asked.words, "focus")?,
+        ignore: name_after(asked.alloc, asked.words, "ignore")?,
+        value: u32_after(asked.words, "value", 0)?,
+        kind: kind_of(asked.words, kind)?,
+    };
+    agree_all(asked, batch, &query, made)
+}
+
+/// Adds the answer, and tells of the ways that answer otherwise.
+fn agree_all(asked: &Asked, batch: &Batch, query: &Query, made: &mut Vec<u8>) -> Result<(), Wrong> {
+    if query.value >= batch.width().get() {
+        return Err(Wrong::Missing);
+    }
+    let answer = report_of(asked.alloc, Hashing::fixed(), batch, query)?;
+    add_answer(asked, &answer, made)?;
+    let stacks = batch.weighted_stacks(asked.alloc, query.value)?;
+    let given = Given {
+        asked,
+        batch,
+        stacks: &stacks,
+        query,
+        answer: &answer,
+    };
+    agree_on_all_ways(&given, made)
+}
+
+fn agree_on_all_ways(given: &Given, made: &mut Vec<u8>) -> Result<(), Wrong> {
+    agree_on_names(given, made)?;
+    if given.asked.words.has("alone") {
+        return Ok(());
+    }
+    agree_on_batch(given, made)?;
+    agree_on_stacks(given, made)?;
+    agree_on_text(given, made)?;
+    trees::agree_on_report(given, made)
+}
+
+fn agree_on_batch(given: &Given, made: &mut Vec<u8>) -> Result<(), Wrong> {
+    let (asked, batch, query) = (given.asked, given.batch, given.query);
+    if query.value >= batch.width().get() {
+        return Err(Wrong::Missing);
+    }
+    let again = report_of(asked.alloc, asked.hashing, batch, query)?;
+    agree(made, "report_of", again == *given.answer)
+}
+
+/// The answer over rows of one value, whichever value the query names.
+fn agree_on_stacks(given: &Given, made: &mut Vec<u8>) -> Result<(), Wrong> {
+    let (asked, stacks) = (given.asked, given.stacks.share()?);
+    let again = report_of_stacks(asked.alloc, asked.hashing, stacks, given.query)?;
+    agree(made, "report_of_stacks", again == *given.answer)
+}
+
+/// The answer over folded text that is read in order.
+fn agree_on_text(given: &Given, made: &mut Vec<u8>) -> Result<(), Wrong> {
+    let (alloc, hashing) = (given.asked.alloc, given.asked.hashing);
+    if !given.asked.has_folded_text() {
+        return Ok(());
+    }
+    let ordered = done(read_ordered(alloc, hashing, given.asked.input))?;
+    let again = report_in_order(alloc, hashing, ordered, given.query)?;
+    agree(made, "report_in_order", again == *given.answer)
+}
+
+/// Adds an answer as text. A folded report is followed by how many lines it has.
+fn add_answer(asked: &Asked, answer: &Answer, made: &mut Vec<u8>) -> Result<(), Wrong> {
+    let alloc = asked.alloc;
+    match answer {
+        Answer::Total(total) => say(alloc, made, total),
+        Answer::Top(top) => Ok(made.extend_from_slice(top_text(alloc, top)?.as_slice())?),
+        Answer::Flame(flame) if asked.words.has("layout") => add_layout(alloc, flame, made),
+        Answer::Flame(flame) => say(alloc, made, &flame_json(alloc, flame)?),
+        Answer::Folded(text) => {
+            made.extend_from_slice(text.as_slice())?;
+            let count = text.as_slice().split(|byte| *byte == b'\n').count();
+            say(
+                alloc,
+                made,
+                &format_args!("{} rows", count.saturating_sub(1)),
+            )
+        }
+    }
+}
+
+/// Adds a line for each rectangle: depth, x, weight, left, how many columns, name. The JSON text has as many.
+fn add_layout(alloc: Global, flame: &Flame, made: &mut Vec<u8>) -> Result<(), Wrong> {
+    say(alloc, made, &format_args!("total {}", flame.total))?;
+    for rect in flame.rects.as_slice() {
+        let (d, x, w, left) = (rect.depth, rect.x, rect.weight, rect.left);
+        let (columns, name) = (rect.right.saturating_sub(left), rect.name.text());
+        say(
+            alloc,
+            made,
+            &format_args!("{d} {x} {w} {left} {columns} {name:?}"),
+        )?;
+    }
+    let json = flame_json(alloc, flame)?;
+    let count = json.matches("\"depth\":").count();
+    agree(made, "flame_json", count == flame.rects.as_slice().len())
+}
+
+/// The ways that count names, where a top list is asked for.
+fn agree_on_names(given: &Given, made: &mut Vec<u8>) -> Result<(), Wrong> {
+    let (asked, query, answer) = (given.asked, given.query, given.answer);
+    let Kind::Top { rank, count } = query.kind else {
+        return Ok(());
+    };
+    let (focus, ignored) = (query.focus.as_ref(), query.ignore.as_ref());
+    let totals = kept_totals(asked.alloc, asked.hashing, given.stacks, focus, ignored)?;
+    let top = Answer::Top(top_list(totals, rank, count)?);
+    agree(made, "kept_totals", top == *answer)?;
+    if asked.has_folded_text() && query.keeps_all() {
+        let totals = done(folded_totals(asked.alloc, asked.hashing, asked.input))?;
+        let top = Answer::Top(top_list(totals, rank, count)?);
+        agree(made, "folded_totals", top == *answer)?;
+    }
+    Ok(())
+}

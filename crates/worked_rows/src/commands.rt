@@ -3,7 +3,7 @@
 use crate::bytes::Wrong;
 use crate::checker::Checker;
 use crate::script::{Script, Step, Words};
-use crate::wire;
+use crate::{books, journals, live, stores, wire, workers};
 use std::alloc::Global;
 use std::random::RandomSource;
 use std::sync::Wait;
@@ -46,11 +46,13 @@ fn run_block<R: Threads + Wait + RandomSource + Sync>(
 fn run_step<R: Threads + Wait + RandomSource + Sync>(
     rt: &R,
     checker: &mut Checker,
-    _script: &mut Script,
+    script: &mut Script,
     step: &Step,
 ) -> Result<(), Wrong> {
     match step.words.word(0)? {
         // Scenes: "tree" => trees::run_scene(checker, script, step),
+        "book" => books::run_scene(checker, script, step),
+        "store" => stores::run_scene(rt, checker, script, step),
         _ => {
             let ran = run_command(rt, checker, step);
             checker.settle(step, ran)
@@ -60,13 +62,27 @@ fn run_step<R: Threads + Wait + RandomSource + Sync>(
 
 /// Runs a command that stands alone.
 fn run_command<R: Threads + Wait + RandomSource + Sync>(
-    _rt: &R,
+    rt: &R,
     checker: &mut Checker,
     step: &Step,
 ) -> Result<(), Wrong> {
     checker.begin(step)?;
     match step.words.word(0)? {
         "let" => checker.name_input(step),
+        "workers" => workers::run_lists(
+            rt,
+            checker.alloc,
+            step.words,
+            checker.input.as_slice(),
+            &mut checker.made,
+        ),
+        "live" => live::run_live(
+            rt,
+            checker.alloc,
+            step.words,
+            checker.input.as_slice(),
+            &mut checker.made,
+        ),
         _ => run_call(
             checker.alloc,
             step.words,
@@ -80,6 +96,7 @@ fn run_command<R: Threads + Wait + RandomSource + Sync>(
 fn run_call(alloc: Global, words: Words, input: &[u8], made: &mut Vec<u8>) -> Result<(), Wrong> {
     match words.word(0)? {
         "varint" => wire::read_varint(alloc, words, input, made),
+        "same" => journals::compare_receipts(alloc, input, made),
         _ => Err(Wrong::Command),
     }
 }

@@ -5,11 +5,17 @@
 //! file. The status is 1 where a step failed.
 #![tactic(auto)]
 
+mod books;
 mod bytes;
 mod checker;
 mod commands;
+mod journals;
+mod live;
+mod operations;
 mod script;
+mod stores;
 mod wire;
+mod workers;
 
 use crate::checker::Checker;
 use crate::commands::run_script;

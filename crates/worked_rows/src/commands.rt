@@ -71,18 +71,11 @@ fn run_command<R: Threads + Wait + RandomSource + Sync>(
         "let" => checker.name_input(step),
         "workers" => workers::run_lists(
             rt,
-            checker.alloc,
             step.words,
             checker.input.as_slice(),
             &mut checker.made,
         ),
-        "live" => live::run_live(
-            rt,
-            checker.alloc,
-            step.words,
-            checker.input.as_slice(),
-            &mut checker.made,
-        ),
+        "live" => live::run_live(rt, step.words, checker.input.as_slice(), &mut checker.made),
         _ => run_call(
             checker.alloc,
             step.words,

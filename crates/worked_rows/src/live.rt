@@ -1,13 +1,13 @@
-//! What `live` writes: `live sessions 2 warm`.
+//! What `live` writes: `live sessions 2 all warm`.
 
-use crate::bytes::{Wrong, refuse, say};
-use crate::operations::{Spelling, batch_of};
+use crate::bytes::Wrong;
+use crate::operations::{batch_of, small_after};
+use crate::scenes::{Ran, tell, tell_fault};
 use crate::script::Words;
 use live_report::{LiveOptions, Progress, live_text};
-use profile_store::{Batch, Hashing};
-use std::alloc::Global;
+use profile_store::Hashing;
+use std::sync::Wait;
 use std::sync::atomic::{AtomicU64, Ordering};
-use std::sync::{Arc, Wait};
 use std::thread::Threads;
 
 /// How many rows were heard of.
@@ -22,43 +22,27 @@ impl Progress for Heard {
     }
 }
 
-/// `live sessions 2 all warm`: what is written of the rows of the input, and of how many rows is told. With `of a 1 2` at its
-/// end it is of this row.
+/// Adds what is written of the rows of the input, and of how many rows is told. With `of a 1 2` at the end of the
+/// command it is of this row.
 pub(crate) fn run_live<R: Threads + Wait + Sync>(
     rt: &R,
-    alloc: Global,
     words: Words,
     input: &[u8],
     made: &mut Vec<u8>,
-) -> Result<(), Wrong> {
+) -> Ran {
+    let alloc = *made.allocator();
     let (_, row) = words.text.split_once(" of ").unwrap_or(("", ""));
-    let options = options_of(words)?;
-    let words = Words { text: row };
-    let batch = batch_of(alloc, Spelling { words, input })?;
+    let sessions = small_after(words, "sessions", 2)?;
+    let options = LiveOptions::new(sessions, words.has("all"), words.has("warm"));
+    let options = options.ok_or(Wrong::Command)?;
     let heard = Heard {
         rows: AtomicU64::new(0),
     };
-    write_live(rt, alloc, &heard, batch, options, made)
-}
-
-fn options_of(words: Words) -> Result<LiveOptions, Wrong> {
-    let sessions = u32::try_from(words.number_after("sessions", 2)?).ok();
-    let sessions = sessions.ok_or(Wrong::Command)?;
-    LiveOptions::new(sessions, words.has("all"), words.has("warm")).ok_or(Wrong::Command)
-}
-
-fn write_live<R: Threads + Wait + Sync>(
-    rt: &R,
-    alloc: Global,
-    heard: &Heard,
-    batch: Arc<Batch>,
-    options: LiveOptions,
-    made: &mut Vec<u8>,
-) -> Result<(), Wrong> {
-    match live_text(rt, alloc, Hashing::fixed(), heard, batch, options) {
+    let batch = batch_of(alloc, Words { text: row }, input)?;
+    match live_text(rt, alloc, Hashing::fixed(), &heard, batch, options) {
         Ok(text) => made.extend_from_slice(text.as_slice())?,
-        Err(fault) => return refuse(alloc, made, &fault),
+        Err(fault) => return tell_fault(made, &fault),
     }
     let rows = heard.rows.load(Ordering::SeqCst);
-    say(alloc, made, &format_args!("heard of {rows} rows"))
+    tell(made, &format_args!("heard of {rows} rows"))
 }

@@ -12,6 +12,7 @@ mod commands;
 mod journals;
 mod live;
 mod operations;
+mod scenes;
 mod script;
 mod stores;
 mod wire;

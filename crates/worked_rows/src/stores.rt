@@ -2,18 +2,28 @@
 
 ghost use Rattle.std.specs.Prelude.{◌≡◌};
 
-use crate::bytes::{Wrong, refuse, say, usize_of};
+use crate::bytes::{Wrong, usize_of};
 use crate::checker::Checker;
 use crate::journals::run_closed;
-use crate::operations::{Size, Spelling, add_answer, batch_of, op_of, query_of, say_receipt};
-use crate::script::{Script, Step};
+use crate::operations::{batch_of, behind, op_of, query_of, small_after, tell_answer};
+use crate::scenes::{Ran, Scene, run_opened, tell, tell_fault};
+use crate::script::{Script, Step, Words};
 use profile_store::{
-    Batch, Blank, BookFault, Journal, Op, Placed, Query, Session, SessionLog, Store, StoreName,
-    Told,
+    Batch, Blank, BookFault, Hashing, Journal, MakeFault, Op, Placed, Query, Reply, Session,
+    SessionLog, Store, StoreName, Told, Width,
 };
 use std::alloc::Global;
 use std::marker::Brand;
 use std::sync::{Arc, Wait};
+
+/// A store, its sessions, and what they told of changes.
+#[derive(Drop)]
+struct Room<'a, N: StoreName, R: Wait> {
+    rt: &'a R,
+    store: &'a Store<N>,
+    sessions: Vec<Session<'a, N>>,
+    told: Vec<Told<N>>,
+}
 
 /// Opens a store, and runs the steps of its sessions.
 pub(crate) fn run_scene<R: Wait>(
@@ -21,42 +31,28 @@ pub(crate) fn run_scene<R: Wait>(
     checker: &mut Checker,
     script: &mut Script,
     step: &Step,
-) -> Result<(), Wrong> {
+) -> Ran {
     checker.begin(step)?;
-    match Size::new(step.words) {
-        Ok(size) => run_sized(rt, checker, script, step, size),
+    match blank_of(checker.alloc, step.words) {
+        Ok(Ok(blank)) => run_store::<Brand, R>(rt, checker, script, step, blank),
+        Ok(Err(fault)) => {
+            let ran = tell_fault(&mut checker.made, &fault);
+            checker.settle(step, ran)
+        }
         Err(wrong) => checker.settle(step, Err(wrong)),
     }
 }
 
-fn run_sized<R: Wait>(
-    rt: &R,
-    checker: &mut Checker,
-    script: &mut Script,
-    step: &Step,
-    size: Size,
-) -> Result<(), Wrong> {
-    let Size {
-        limit,
-        sessions,
-        width,
-        opened,
-        hashing,
-    } = size;
-    match Blank::make_with(checker.alloc, hashing, limit, sessions, width) {
-        Ok(blank) => run_store::<Brand, R>(rt, checker, script, step, blank, opened),
-        Err(fault) => {
-            let ran = refuse(checker.alloc, &mut checker.made, &fault);
-            checker.settle(step, ran)
-        }
-    }
-}
-
-/// What the sessions of a store leave: their logs, and the step that closes the store.
-#[derive(Drop)]
-struct Left<'s> {
-    logs: Vec<SessionLog>,
-    close: Option<Step<'s>>,
+/// An empty store. With `hashing 7` it hashes names from that start.
+pub(crate) fn blank_of(alloc: Global, words: Words) -> Result<Result<Blank, MakeFault>, Wrong> {
+    let limit = small_after(words, "limit", 10)?;
+    let sessions = small_after(words, "sessions", 1)?;
+    let width = Width::new(small_after(words, "width", 1)?).ok_or(Wrong::Command)?;
+    let hashing = match words.after("hashing") {
+        Some(_) => Hashing::of_key(words.number_after("hashing", 0)?),
+        None => Hashing::fixed(),
+    };
+    Ok(Blank::make_with(alloc, hashing, limit, sessions, width))
 }
 
 fn run_store<N: StoreName, R: Wait>(
@@ -65,68 +61,47 @@ fn run_store<N: StoreName, R: Wait>(
     script: &mut Script,
     step: &Step,
     blank: Blank,
-    opened: u64,
-) -> Result<(), Wrong>
+) -> Ran
     requires { blank
         ≡ record { limit = N.limit; sessions = N.sessions; width = N.width; history = N.history } }
 {
     let store = Store::<N>::start(blank);
-    let left = run_sessions(rt, checker, script, step, &store, opened);
+    let logs = run_sessions(rt, checker, script, step, &store);
     let journal = store.close(rt);
-    end(checker, script, &journal, left)
+    end(checker, script, &journal, logs)
 }
 
 fn end(
     checker: &mut Checker,
     script: &mut Script,
     journal: &Journal,
-    left: Result<Left<'_>, Wrong>,
-) -> Result<(), Wrong> {
-    let Left { logs, close } = left?;
-    run_closed(checker, script, journal, logs.as_slice(), close)
+    logs: Result<Vec<SessionLog>, Wrong>,
+) -> Ran {
+    let logs = logs?;
+    run_closed(checker, script, Ok(()), journal, logs.as_slice())
 }
 
-fn run_sessions<'s, N: StoreName, R: Wait>(
+/// Opens the sessions, fewer than there are with `open 1`, and gives their logs.
+fn run_sessions<N: StoreName, R: Wait>(
     rt: &R,
     checker: &mut Checker,
-    script: &mut Script<'s>,
-    opening: &Step,
+    script: &mut Script,
+    step: &Step,
     store: &Store<N>,
-    opened: u64,
-) -> Result<Left<'s>, Wrong> {
+) -> Result<Vec<SessionLog>, Wrong> {
     let alloc = checker.alloc;
-    let mut sessions = open(rt, alloc, store, opened)?;
-    let mut told = Vec::new(alloc);
-    match run_steps(
+    let sessions = step.words.number_after("sessions", 1)?;
+    let mut room = Room {
         rt,
-        checker,
-        script,
-        opening,
         store,
-        &mut sessions,
-        &mut told,
-    ) {
-        Ok(close) => Ok(Left {
-            logs: logs_of(alloc, sessions)?,
-            close,
-        }),
+        sessions: Vec::new(alloc),
+        told: Vec::new(alloc),
+    };
+    let ran = room.open(alloc, step.words.number_after("open", sessions)?);
+    match ran.and(run_opened(checker, script, step, &mut room)) {
+        Ok(()) => logs_of(alloc, room.sessions),
         Err(wrong) => Err(wrong),
     }
-}
-
-/// So many sessions of a store.
-fn open<'a, N: StoreName, R: Wait>(
-    rt: &R,
-    alloc: Global,
-    store: &'a Store<N>,
-    count: u64,
-) -> Result<Vec<Session<'a, N>>, Wrong> {
-    let mut sessions = Vec::new(alloc);
-    for _ in 0..count {
-        let session = store.session(rt, alloc).ok().ok_or(Wrong::Missing)?;
-        sessions.push(session).ok().ok_or(Wrong::NoMemory)?;
-    }
-    Ok(sessions)
 }
 
 /// The logs of sessions, which end.
@@ -136,150 +111,115 @@ fn logs_of<N: StoreName>(
 ) -> Result<Vec<SessionLog>, Wrong> {
     let mut logs = Vec::new(alloc);
     for session in sessions {
-        logs.push(session.close()).ok().ok_or(Wrong::NoMemory)?;
+        logs.push(session.close())?;
     }
     Ok(logs)
 }
 
-/// Runs the steps up to `close`, which it gives.
-fn run_steps<'s, N: StoreName, R: Wait>(
-    rt: &R,
-    checker: &mut Checker,
-    script: &mut Script<'s>,
-    opening: &Step,
-    store: &Store<N>,
-    sessions: &mut [Session<'_, N>],
-    told: &mut Vec<Told<N>>,
-) -> Result<Option<Step<'s>>, Wrong> {
-    checker.settle(opening, Ok(()))?;
-    for _ in 0..script.most_steps() {
-        let Some(step) = script.next_step() else {
-            break;
-        };
-        if step.words.text == "close" {
-            return Ok(Some(step));
-        }
-        checker.begin(&step)?;
-        let ran = run_step(rt, checker, &step, store, sessions, told);
-        checker.settle(&step, ran)?;
-    }
-    Ok(None)
-}
-
-/// `0 add a 1`: an operation of session 0. With `each` all sessions take it in turn, and with `once` the next session
-/// of the store, which then ends.
-fn run_step<N: StoreName, R: Wait>(
-    rt: &R,
-    checker: &mut Checker,
-    step: &Step,
-    store: &Store<N>,
-    sessions: &mut [Session<'_, N>],
-    told: &mut Vec<Told<N>>,
-) -> Result<(), Wrong> {
-    let (alloc, made) = (checker.alloc, &mut checker.made);
-    let spelling = Spelling {
-        words: step.words,
-        input: checker.input.as_slice(),
-    };
-    let deed = spelling.behind(1);
-    match step.words.word(0)? {
-        "each" => take_each(rt, alloc, sessions, told, deed, made),
-        "once" => take_once(rt, alloc, store, told, deed, made),
-        "hold" => hold(rt, alloc, sessions, deed, made),
-        _ => {
-            let number = usize_of(step.words.number(0)?)?;
-            let session = sessions.get_mut(number).ok_or(Wrong::Missing)?;
-            take(rt, alloc, session, told, deed, made)
+impl<N: StoreName, R: Wait> Scene for Room<'_, N, R> {
+    /// `0 add a 1`: an operation of session 0. With `each` all sessions take it in turn, and with `once` the next
+    /// session of the store, which then ends.
+    fn run(&mut self, words: Words, input: &[u8], made: &mut Vec<u8>) -> Ran {
+        let deed = behind(words, 1);
+        match words.word(0)? {
+            "each" => self.take_each(made, deed, input),
+            "once" => self.take_once(made, deed, input),
+            "hold" => self.hold(made, deed, input),
+            _ => self.take(made, usize_of(words.number(0)?)?, deed, input),
         }
     }
 }
 
-fn take_each<N: StoreName, R: Wait>(
-    rt: &R,
-    alloc: Global,
-    sessions: &mut [Session<'_, N>],
-    told: &mut Vec<Told<N>>,
-    deed: Spelling,
-    made: &mut Vec<u8>,
-) -> Result<(), Wrong> {
-    for session in sessions {
-        take(rt, alloc, session, told, deed, made)?;
+impl<N: StoreName, R: Wait> Room<'_, N, R> {
+    fn open(&mut self, alloc: Global, count: u64) -> Ran {
+        for _ in 0..count {
+            let session = self
+                .store
+                .session(self.rt, alloc)
+                .ok()
+                .ok_or(Wrong::Missing)?;
+            self.sessions.push(session)?;
+        }
+        Ok(())
     }
-    Ok(())
-}
 
-fn take_once<N: StoreName, R: Wait>(
-    rt: &R,
-    alloc: Global,
-    store: &Store<N>,
-    told: &mut Vec<Told<N>>,
-    deed: Spelling,
-    made: &mut Vec<u8>,
-) -> Result<(), Wrong> {
-    match store.session(rt, alloc) {
-        Ok(session) => {
-            let mut session = session;
-            take_new(rt, alloc, &mut session, told, deed, made)
+    fn take_each(&mut self, made: &mut Vec<u8>, deed: Words, input: &[u8]) -> Ran {
+        for number in 0..self.sessions.len() {
+            self.take(made, number, deed, input)?;
         }
-        Err(fault) => refuse(alloc, made, &fault),
+        Ok(())
     }
-}
 
-fn take_new<N: StoreName, R: Wait>(
-    rt: &R,
-    alloc: Global,
-    session: &mut Session<'_, N>,
-    told: &mut Vec<Told<N>>,
-    deed: Spelling,
-    made: &mut Vec<u8>,
-) -> Result<(), Wrong> {
-    say(alloc, made, &format_args!("session {}", session.number()))?;
-    take(rt, alloc, session, told, deed, made)
-}
+    fn take_once(&mut self, made: &mut Vec<u8>, deed: Words, input: &[u8]) -> Ran {
+        let number = self.sessions.len();
+        match self.store.session(self.rt, *made.allocator()) {
+            Ok(session) => self.sessions.push(session)?,
+            Err(fault) => return tell_fault(made, &fault),
+        }
+        self.take(made, number, Words { text: "number" }, input)?;
+        let ran = self.take(made, number, deed, input);
+        let _ended = self.sessions.pop();
+        ran
+    }
 
-/// `number`, `hear 1` of the second change that was told, `times 50 add a 1`, or an operation.
-fn take<N: StoreName, R: Wait>(
-    rt: &R,
-    alloc: Global,
-    session: &mut Session<'_, N>,
-    told: &mut Vec<Told<N>>,
-    deed: Spelling,
-    made: &mut Vec<u8>,
-) -> Result<(), Wrong> {
-    match deed.words.word(0)? {
-        "number" => say(alloc, made, &format_args!("session {}", session.number())),
-        "hear" => {
-            let place = usize_of(deed.words.number(1)?)?;
-            session.hear(told.get(place).ok_or(Wrong::Missing)?);
-            say(alloc, made, &"heard")
-        }
-        "receipt" => {
-            let place = usize_of(deed.words.number(1)?)?;
-            let receipt = session.log().get(place).ok_or(Wrong::Missing)?;
-            say_receipt(alloc, receipt, made)
-        }
-        "times" => {
-            let (times, deed) = (deed.words.number(1)?, deed.behind(3));
-            let batch = batch_of(alloc, deed)?;
-            add_often(rt, alloc, session, &batch, times);
-            say(
-                alloc,
+    /// `number`, `hear 1`, `receipt 1`, `times 50 add a 1`, or an operation.
+    fn take(&mut self, made: &mut Vec<u8>, number: usize, deed: Words, input: &[u8]) -> Ran {
+        let alloc = *made.allocator();
+        let session = self.sessions.get_mut(number).ok_or(Wrong::Missing)?;
+        match deed.word(0)? {
+            "number" => tell(made, &format_args!("session {}", session.number())),
+            "hear" => {
+                let told = self.told.get(usize_of(deed.number(1)?)?);
+                session.hear(told.ok_or(Wrong::Missing)?);
+                tell(made, &"heard")
+            }
+            "receipt" => tell_receipt(made, session, usize_of(deed.number(1)?)?),
+            "times" => {
+                let batch = batch_of(alloc, behind(deed, 3), input)?;
+                let receipts = add_often(self.rt, alloc, session, &batch, deed.number(1)?);
+                tell(made, &format_args!("{receipts} receipts"))
+            }
+            _ => operate(
+                self.rt,
                 made,
-                &format_args!("{} receipts", session.log().len()),
-            )
+                session,
+                &mut self.told,
+                op_of(alloc, deed, input)?,
+            ),
         }
-        _ => operate(rt, alloc, session, told, op_of(alloc, deed)?, made),
+    }
+
+    /// `hold 300 ask folded`: the first session's answer, while the second adds the rows of the input so often.
+    fn hold(&mut self, made: &mut Vec<u8>, deed: Words, input: &[u8]) -> Ran {
+        let (alloc, times) = (*made.allocator(), deed.number(0)?);
+        let (first, others) = self.sessions.split_first_mut().ok_or(Wrong::Missing)?;
+        let second = others.first_mut().ok_or(Wrong::Missing)?;
+        let batch = batch_of(alloc, behind(deed, 3), input)?;
+        let query = query_of(alloc, behind(deed, 1))?;
+        let answer = first.ask(alloc, &query).ok().ok_or(Wrong::Missing)?;
+        let receipts = add_often(self.rt, alloc, second, &batch, times);
+        tell_answer(made, answer)?;
+        tell(made, &format_args!("{receipts} receipts"))
     }
 }
 
-/// A session adds a batch so often, as long as it isn't refused.
+/// Adds what a receipt tells of a report.
+fn tell_receipt<N: StoreName>(made: &mut Vec<u8>, session: &Session<'_, N>, place: usize) -> Ran {
+    let receipt = session.log().get(place).ok_or(Wrong::Missing)?;
+    if let Reply::Answered(answer) = &receipt.reply {
+        tell_answer(made, answer)?;
+    }
+    tell(made, &format_args!("at {}", receipt.at))
+}
+
+/// A session adds a batch so often, as long as it isn't refused. It gives how many receipts it then has.
 fn add_often<N: StoreName, R: Wait>(
     rt: &R,
     alloc: Global,
     session: &mut Session<'_, N>,
     batch: &Arc<Batch>,
     times: u64,
-) {
+) -> usize {
     for _ in 0..times {
         let Ok(shared) = Arc::try_clone(batch) else {
             break;
@@ -288,92 +228,48 @@ fn add_often<N: StoreName, R: Wait>(
             break;
         }
     }
+    session.log().len()
 }
 
 fn operate<N: StoreName, R: Wait>(
     rt: &R,
-    alloc: Global,
+    made: &mut Vec<u8>,
     session: &mut Session<'_, N>,
     told: &mut Vec<Told<N>>,
     op: Op,
-    made: &mut Vec<u8>,
-) -> Result<(), Wrong> {
+) -> Ran {
+    let alloc = *made.allocator();
     match op {
         Op::Add(batch) => match session.add(rt, alloc, batch) {
-            Ok(placed) => keep(alloc, told, Ok(placed), made),
-            Err(refused) => keep(alloc, told, Err(refused.fault), made),
+            Ok(placed) => keep(made, told, Ok(placed)),
+            Err(refused) => keep(made, told, Err(refused.fault)),
         },
-        Op::Reset => keep(alloc, told, session.reset(rt, alloc), made),
-        Op::Ask(query) => ask(alloc, session, &query, made),
+        Op::Reset => keep(made, told, session.reset(rt, alloc)),
+        Op::Ask(query) => ask(made, session, &query),
     }
 }
 
 /// Adds the place of a change. What it tells is kept.
 fn keep<N: StoreName>(
-    alloc: Global,
+    made: &mut Vec<u8>,
     told: &mut Vec<Told<N>>,
     change: Result<Placed<N>, BookFault>,
-    made: &mut Vec<u8>,
-) -> Result<(), Wrong> {
+) -> Ran {
     match change {
         Ok(placed) => {
-            told.push(placed.told).ok().ok_or(Wrong::NoMemory)?;
-            say(alloc, made, &format_args!("place {}", placed.place))
+            told.push(placed.told)?;
+            tell(made, &format_args!("place {}", placed.place))
         }
-        Err(fault) => refuse(alloc, made, &fault),
+        Err(fault) => tell_fault(made, &fault),
     }
 }
 
 /// Adds an answer, and after how many changes it is.
-fn ask<N: StoreName>(
-    alloc: Global,
-    session: &mut Session<'_, N>,
-    query: &Arc<Query>,
-    made: &mut Vec<u8>,
-) -> Result<(), Wrong> {
-    match session.ask(alloc, query) {
-        Ok(answer) => add_answer(alloc, answer, made)?,
-        Err(fault) => return refuse(alloc, made, &fault),
+fn ask<N: StoreName>(made: &mut Vec<u8>, session: &mut Session<'_, N>, query: &Arc<Query>) -> Ran {
+    match session.ask(*made.allocator(), query) {
+        Ok(answer) => tell_answer(made, answer)?,
+        Err(fault) => return tell_fault(made, &fault),
     }
     let receipt = session.log().last().ok_or(Wrong::Missing)?;
-    say(alloc, made, &format_args!("at {}", receipt.at))
-}
-
-/// `hold 300 ask folded`: the first session's answer, while the second adds the rows of the input so often.
-fn hold<N: StoreName, R: Wait>(
-    rt: &R,
-    alloc: Global,
-    sessions: &mut [Session<'_, N>],
-    deed: Spelling,
-    made: &mut Vec<u8>,
-) -> Result<(), Wrong> {
-    let times = deed.words.number(0)?;
-    let batch = batch_of(alloc, deed.behind(3))?;
-    let query = query_of(alloc, deed.behind(1).words)?;
-    hold_answer(rt, alloc, sessions, &query, &batch, times, made)
-}
-
-fn hold_answer<N: StoreName, R: Wait>(
-    rt: &R,
-    alloc: Global,
-    sessions: &mut [Session<'_, N>],
-    query: &Arc<Query>,
-    batch: &Arc<Batch>,
-    times: u64,
-    made: &mut Vec<u8>,
-) -> Result<(), Wrong> {
-    let (first, others) = sessions.split_first_mut().ok_or(Wrong::Missing)?;
-    let second = others.first_mut().ok_or(Wrong::Missing)?;
-    match first.ask(alloc, query) {
-        Ok(answer) => {
-            add_often(rt, alloc, second, batch, times);
-            add_answer(alloc, answer, made)?;
-            say(
-                alloc,
-                made,
-                &format_args!("{} receipts", second.log().len()),
-            )
-        }
-        Err(fault) => refuse(alloc, made, &fault),
-    }
+    tell(made, &format_args!("at {}", receipt.at))
 }

@@ -2,13 +2,14 @@
 
 ghost use Rattle.std.specs.Prelude.{◌≡◌};
 
-use crate::bytes::{Wrong, refuse, say};
-use crate::journals::say_verdict;
-use crate::operations::{Size, Spelling, op_of};
+use crate::bytes::Wrong;
+use crate::journals::tell_verdict;
+use crate::operations::op_of;
+use crate::scenes::{Ran, tell, tell_fault};
 use crate::script::Words;
+use crate::stores::blank_of;
 use profile_store::{
-    Blank, FinishedWorker, Gate, Journal, Op, SessionFault, SessionLog, Store, StoreName,
-    WorkersFault, audit, run_workers,
+    Blank, FinishedWorker, Gate, Journal, Op, Store, StoreName, WorkersFault, audit, run_workers,
 };
 use std::alloc::Global;
 use std::marker::Brand;
@@ -35,13 +36,6 @@ impl Counting {
             }
         }
     }
-
-    fn say<R: Wait>(&self, rt: &R, alloc: Global, made: &mut Vec<u8>) -> Result<(), Wrong> {
-        let wrong = self.wrong.load(Ordering::SeqCst);
-        let calls = self.calls.lock(rt);
-        let calls = calls.as_slice();
-        say(alloc, made, &format_args!("calls {calls:?}, {wrong} wrong"))
-    }
 }
 
 impl Gate for Counting {
@@ -54,32 +48,39 @@ impl Gate for Counting {
     }
 }
 
-/// `workers limit 10 sessions 5 width 1`: a worker for each line of the input, whose operations are parted by commas.
+/// Runs a worker for each line of the input, whose operations are parted by commas.
 pub(crate) fn run_lists<R: Threads + Wait + Sync>(
     rt: &R,
-    alloc: Global,
     words: Words,
     input: &[u8],
     made: &mut Vec<u8>,
-) -> Result<(), Wrong> {
+) -> Ran {
     let text = std::str::from_utf8(input).ok().ok_or(Wrong::Line)?;
     let gate = Counting {
-        calls: Mutex::new(vec![in alloc; 0; text.lines().count()]?),
+        calls: Mutex::new(vec![in *made.allocator(); 0; text.lines().count()]?),
         wrong: AtomicU64::new(0),
     };
-    run_counted(rt, alloc, words, text, &gate, made)
+    run_counted(rt, words, text, &gate, made)
 }
 
 fn run_counted<R: Threads + Wait + Sync>(
     rt: &R,
-    alloc: Global,
     words: Words,
     text: &str,
     gate: &Counting,
     made: &mut Vec<u8>,
-) -> Result<(), Wrong> {
-    run_sized(rt, alloc, words, text, gate, made)?;
-    gate.say(rt, alloc, made)
+) -> Ran {
+    let lists = lists_of(*made.allocator(), text)?;
+    match blank_of(*made.allocator(), words)? {
+        Ok(blank) => work::<Brand, R>(rt, words, blank, lists, gate, made)?,
+        Err(fault) => return tell_fault(made, &fault),
+    }
+    let wrong = gate.wrong.load(Ordering::SeqCst);
+    let calls = gate.calls.lock(rt);
+    tell(
+        made,
+        &format_args!("calls {:?}, {wrong} wrong", calls.as_slice()),
+    )
 }
 
 fn lists_of(alloc: Global, text: &str) -> Result<Vec<Vec<Op>>, Wrong> {
@@ -94,120 +95,75 @@ fn list_of(alloc: Global, line: &str) -> Result<Vec<Op>, Wrong> {
     let mut list = Vec::new(alloc);
     for part in line.split(',') {
         if !part.is_empty() {
-            list.push(op_of(alloc, Spelling::new(part.trim()))?)?;
+            let words = Words { text: part.trim() };
+            list.push(op_of(alloc, words, b"")?)?;
         }
     }
     Ok(list)
 }
 
-fn run_sized<R: Threads + Wait + Sync>(
-    rt: &R,
-    alloc: Global,
-    words: Words,
-    text: &str,
-    gate: &Counting,
-    made: &mut Vec<u8>,
-) -> Result<(), Wrong> {
-    let size = Size::new(words)?;
-    let lists = lists_of(alloc, text)?;
-    match Blank::make(alloc, size.limit, size.sessions, size.width) {
-        Ok(blank) => work::<Brand, R>(rt, alloc, words, blank, lists, gate, made),
-        Err(fault) => refuse(alloc, made, &fault),
-    }
-}
-
 fn work<N: StoreName, R: Threads + Wait + Sync>(
     rt: &R,
-    alloc: Global,
     words: Words,
     blank: Blank,
     lists: Vec<Vec<Op>>,
     gate: &Counting,
     made: &mut Vec<u8>,
-) -> Result<(), Wrong>
+) -> Ran
     requires { blank
         ≡ record { limit = N.limit; sessions = N.sessions; width = N.width; history = N.history } }
 {
     let store = Store::<N>::start(blank);
-    let all = run_workers(rt, alloc, &store, lists, gate);
-    let next = next_number(rt, alloc, &store);
+    let all = run_workers(rt, *made.allocator(), &store, lists, gate);
+    let told = tell_next(rt, made, &store);
     let journal = store.close(rt);
-    say_end(alloc, words, &journal, all, next, made)
+    told.and(tell_work(made, words, &journal, all))
 }
 
-/// The number of the next session, which ends with that.
-fn next_number<N: StoreName, R: Wait>(
-    rt: &R,
-    alloc: Global,
-    store: &Store<N>,
-) -> Result<u32, SessionFault> {
-    Ok(store.session(rt, alloc)?.number())
-}
-
-fn say_end(
-    alloc: Global,
-    words: Words,
-    journal: &Journal,
-    all: Result<Vec<FinishedWorker>, WorkersFault>,
-    next: Result<u32, SessionFault>,
-    made: &mut Vec<u8>,
-) -> Result<(), Wrong> {
-    say_work(alloc, words, journal, all, made)?;
-    say_next(alloc, next, made)
-}
-
-fn say_next(
-    alloc: Global,
-    next: Result<u32, SessionFault>,
-    made: &mut Vec<u8>,
-) -> Result<(), Wrong> {
-    match next {
-        Ok(number) => say(alloc, made, &format_args!("next session {number}")),
-        Err(fault) => refuse(alloc, made, &fault),
+/// Adds the number of the next session, which ends with that.
+fn tell_next<N: StoreName, R: Wait>(rt: &R, made: &mut Vec<u8>, store: &Store<N>) -> Ran {
+    match store.session(rt, *made.allocator()) {
+        Ok(session) => tell(made, &format_args!("next session {}", session.number())),
+        Err(fault) => tell_fault(made, &fault),
     }
 }
 
-/// Adds how many receipts each session has and why it stopped, and what an audit says; or why no worker started.
-fn say_work(
-    alloc: Global,
+/// Adds how many receipts each worker has and why it stopped, and what an audit says; or why no worker started.
+fn tell_work(
+    made: &mut Vec<u8>,
     words: Words,
     journal: &Journal,
     all: Result<Vec<FinishedWorker>, WorkersFault>,
-    made: &mut Vec<u8>,
-) -> Result<(), Wrong> {
+) -> Ran {
     match all {
-        Ok(all) => say_all(alloc, words, journal, all, made),
-        Err(fault) => refuse(alloc, made, &fault),
+        Ok(all) => tell_workers(made, words, journal, all),
+        Err(fault) => tell_fault(made, &fault),
     }
 }
 
-fn say_all(
-    alloc: Global,
+fn tell_workers(
+    made: &mut Vec<u8>,
     words: Words,
     journal: &Journal,
     all: Vec<FinishedWorker>,
-    made: &mut Vec<u8>,
-) -> Result<(), Wrong> {
+) -> Ran {
+    let alloc = *made.allocator();
     let mut logs = Vec::new(alloc);
     for one in all {
-        say_worker(alloc, &one, made)?;
+        tell_worker(made, &one)?;
         logs.push(one.log)?;
     }
-    say_verdict(alloc, words, &audit(alloc, journal, logs.as_slice()), made)
+    tell_verdict(made, words, &audit(alloc, journal, logs.as_slice()))
 }
 
-fn say_worker(alloc: Global, one: &FinishedWorker, made: &mut Vec<u8>) -> Result<(), Wrong> {
+fn tell_worker(made: &mut Vec<u8>, one: &FinishedWorker) -> Ran {
     let (session, receipts) = (one.log.session, one.log.receipts.as_slice().len());
+    tell(
+        made,
+        &format_args!("session {session}: {receipts} receipts"),
+    )?;
     match one.stopped {
-        Some(stop) => say(
-            alloc,
-            made,
-            &format_args!("session {session}: {receipts} receipts, {stop}"),
-        ),
-        None => say(
-            alloc,
-            made,
-            &format_args!("session {session}: {receipts} receipts"),
-        ),
+        Some(stop) => tell_fault(made, &stop),
+        None => Ok(()),
     }
 }

@@ -45,11 +45,6 @@ fn two_threads<N: StoreName, R: Threads + Wait + Sync>(
     ))
 }
 
-// How many entries a journal has, and what they weigh.
-fn weight_of(journal: &Journal) -> (usize, u64) {
-    (journal.entries().len(), journal.tree().total().values()[0])
-}
-
 // What two threads at once leave in a store.
 fn threaded<N: StoreName, R: Threads + Wait + Sync>(
     rt: &R,
@@ -62,7 +57,8 @@ fn threaded<N: StoreName, R: Threads + Wait + Sync>(
 {
     let store = Store::<N>::start(blank);
     let counts = two_threads(rt, alloc, &store, batch);
-    let (count, total) = weight_of(&store.close(rt));
+    let journal = store.close(rt);
+    let (count, total) = (journal.entries().len(), journal.tree().total().values()[0]);
     let (a, b) = counts?;
     Ok(format!(in alloc; "{a} {b}; {count} {total}")?)
 }
@@ -315,7 +311,7 @@ fn tally(alloc: Global, journal: &Journal, all: Vec<Walked>) -> Result<String, F
     for one in all {
         wrong = wrong.saturating_add(one.wrong);
         heard = heard.saturating_add(one.heard);
-        logs.push(one.log).ok().ok_or("no memory")?;
+        logs.push(one.log)?;
     }
     let steps = audit(alloc, journal, &logs)?.steps().len();
     let entries = journal.entries().len();
@@ -355,7 +351,7 @@ fn batches(alloc: Global) -> Result<Vec<Arc<Batch>>, Fail> {
     ] {
         text.push_str(row)?;
         let batch = batch_of(alloc, text.as_str())?;
-        batches.push(batch).ok().ok_or("no memory")?;
+        batches.push(batch)?;
     }
     Ok(batches)
 }
@@ -364,14 +360,8 @@ fn batches(alloc: Global) -> Result<Vec<Arc<Batch>>, Fail> {
 fn queries(alloc: Global) -> Result<Vec<Arc<Query>>, Fail> {
     let mut queries = Vec::new(alloc);
     for kind in kinds()? {
-        queries
-            .push(query_of(alloc, kind)?)
-            .ok()
-            .ok_or("no memory")?;
-        queries
-            .push(kept_query(alloc, kind)?)
-            .ok()
-            .ok_or("no memory")?;
+        queries.push(query_of(alloc, kind)?)?;
+        queries.push(kept_query(alloc, kind)?)?;
     }
     Ok(queries)
 }

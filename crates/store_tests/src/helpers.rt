@@ -84,8 +84,7 @@ pub(crate) fn open<'a, N: StoreName, R: Wait>(
 ) -> Result<Vec<Session<'a, N>>, Fail> {
     let mut sessions = Vec::new(alloc);
     for _ in 0..count {
-        let session = store.session(rt, alloc)?;
-        sessions.push(session)?;
+        sessions.push(store.session(rt, alloc)?)?;
     }
     Ok(sessions)
 }

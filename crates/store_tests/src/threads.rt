@@ -45,6 +45,11 @@ fn two_threads<N: StoreName, R: Threads + Wait + Sync>(
     ))
 }
 
+// How many entries a journal has, and what they weigh.
+fn weight_of(journal: &Journal) -> (usize, u64) {
+    (journal.entries().len(), journal.tree().total().values()[0])
+}
+
 // What two threads at once leave in a store.
 fn threaded<N: StoreName, R: Threads + Wait + Sync>(
     rt: &R,
@@ -57,8 +62,7 @@ fn threaded<N: StoreName, R: Threads + Wait + Sync>(
 {
     let store = Store::<N>::start(blank);
     let counts = two_threads(rt, alloc, &store, batch);
-    let journal = store.close(rt);
-    let (count, total) = (journal.entries().len(), journal.tree().total().values()[0]);
+    let (count, total) = weight_of(&store.close(rt));
     let (a, b) = counts?;
     Ok(format!(in alloc; "{a} {b}; {count} {total}")?)
 }
@@ -350,8 +354,7 @@ fn batches(alloc: Global) -> Result<Vec<Arc<Batch>>, Fail> {
         "d 5\n",
     ] {
         text.push_str(row)?;
-        let batch = batch_of(alloc, text.as_str())?;
-        batches.push(batch)?;
+        batches.push(batch_of(alloc, text.as_str())?)?;
     }
     Ok(batches)
 }

@@ -69,8 +69,7 @@ impl Gate for Holding {
 pub(crate) fn totals(alloc: Global, count: usize) -> Result<Vec<Op>, Fail> {
     let mut list = Vec::new(alloc);
     for _ in 0..count {
-        let query = query_of(alloc, Kind::Total)?;
-        list.push(Op::Ask(query))?;
+        list.push(Op::Ask(query_of(alloc, Kind::Total)?))?;
     }
     Ok(list)
 }

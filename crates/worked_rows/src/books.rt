@@ -32,8 +32,9 @@ fn book_of(alloc: Global, words: Words) -> Result<Book, Wrong> {
 
 fn run_book(checker: &mut Checker, script: &mut Script, step: &Step, book: Book) -> Ran {
     let mut book = book;
-    let ran = run_opened(checker, script, step, &mut book);
-    run_closed(checker, script, ran, &book.into_journal(), &[])
+    let ran = run_opened(checker, script, step, Ok(()), &mut book);
+    let no_logs = ran.and(Ok(Vec::new(checker.alloc)));
+    run_closed(checker, script, &book.into_journal(), no_logs)
 }
 
 impl Scene for Book {
@@ -46,8 +47,20 @@ impl Scene for Book {
         }
         let turn = turn_of(first)?;
         match words.word(1)? {
-            "prepare" => prepare(made, self, turn, &op_of(alloc, behind(words, 2), input)?),
-            "drop" => let_go(made, self, turn, &op_of(alloc, behind(words, 2), input)?),
+            "prepare" => prepare(
+                made,
+                self,
+                turn,
+                &op_of(alloc, behind(words, 2), input)?,
+                true,
+            ),
+            "drop" => prepare(
+                made,
+                self,
+                turn,
+                &op_of(alloc, behind(words, 2), input)?,
+                false,
+            ),
             _ => change(made, self, turn, op_of(alloc, behind(words, 1), input)?),
         }
     }
@@ -86,18 +99,16 @@ fn tell_receipt(made: &mut Vec<u8>, receipt: &Receipt) -> Ran {
     tell(made, &format_args!("place {place} at {at}"))
 }
 
-fn change_of(op: &Op) -> Result<Change<'_>, Wrong> {
-    match op {
-        Op::Add(batch) => Ok(Change::Add(batch)),
-        Op::Reset => Ok(Change::Reset),
-        Op::Ask(_) => Err(Wrong::Command),
-    }
-}
-
-fn prepare(made: &mut Vec<u8>, book: &mut Book, turn: (u32, u64), op: &Op) -> Ran {
-    let change = change_of(op)?;
+/// Prepares a change, and makes it or lets it go.
+fn prepare(made: &mut Vec<u8>, book: &mut Book, turn: (u32, u64), op: &Op, is_made: bool) -> Ran {
+    let change = match op {
+        Op::Add(batch) => Change::Add(batch),
+        Op::Reset => Change::Reset,
+        Op::Ask(_) => return Err(Wrong::Command),
+    };
     match book.prepare(*made.allocator(), turn.0, turn.1, change) {
-        Ok(ready) => settle(made, book, ready),
+        Ok(ready) if is_made => settle(made, book, ready),
+        Ok(ready) => tell(made, &format_args!("ready {}", total_of(ready.next()))),
         Err(fault) => tell_fault(made, &fault),
     }
 }
@@ -117,12 +128,4 @@ fn settle(made: &mut Vec<u8>, book: &mut Book, ready: Ready) -> Ran
 
 fn total_of(tree: &CallTree) -> u64 {
     tree.total().values()[0]
-}
-
-fn let_go(made: &mut Vec<u8>, book: &mut Book, turn: (u32, u64), op: &Op) -> Ran {
-    let change = change_of(op)?;
-    match book.prepare(*made.allocator(), turn.0, turn.1, change) {
-        Ok(ready) => tell(made, &format_args!("ready {}", total_of(ready.next()))),
-        Err(fault) => tell_fault(made, &fault),
-    }
 }

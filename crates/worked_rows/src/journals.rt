@@ -15,29 +15,28 @@ use std::alloc::Global;
 #[derive(Drop)]
 struct Closed<'a> {
     journal: &'a Journal,
-    logs: &'a [SessionLog],
+    logs: Vec<SessionLog>,
 }
 
 /// Runs the steps behind `close`, where those before it could be run.
 pub(crate) fn run_closed(
     checker: &mut Checker,
     script: &mut Script,
-    ran: Ran,
     journal: &Journal,
-    logs: &[SessionLog],
+    logs: Result<Vec<SessionLog>, Wrong>,
 ) -> Ran {
-    ran?;
+    let logs = logs?;
     run_steps(checker, script, &mut Closed { journal, logs })
 }
 
 impl Scene for Closed<'_> {
     fn run(&mut self, words: Words, input: &[u8], made: &mut Vec<u8>) -> Ran {
-        let (journal, logs) = (self.journal, self.logs);
+        let journal = self.journal;
         match words.word(0)? {
             "state" => tell_state(made, journal),
             "journal" => tell_entries(made, journal.entries()),
             "tree" => tell_tree(made, journal),
-            "audit" if input.is_empty() => audit_logs(made, words, journal, logs),
+            "audit" if input.is_empty() => audit_logs(made, words, journal, &self.logs),
             "audit" => audit_logs(made, words, journal, &logs_of(*made.allocator(), input)?),
             _ => Err(Wrong::Command),
         }

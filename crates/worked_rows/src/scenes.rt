@@ -13,14 +13,15 @@ pub(crate) trait Scene {
     fn run(&mut self, words: Words, input: &[u8], made: &mut Vec<u8>) -> Ran;
 }
 
-/// Ends the step that opened a scene, and runs the steps behind it.
+/// Settles the step that opened a scene, and runs the steps behind it.
 pub(crate) fn run_opened<S: Scene>(
     checker: &mut Checker,
     script: &mut Script,
     opening: &Step,
+    opened: Ran,
     scene: &mut S,
 ) -> Ran {
-    checker.settle(opening, Ok(()))?;
+    checker.settle(opening, opened)?;
     run_steps(checker, script, scene)
 }
 

@@ -9,8 +9,8 @@ use crate::operations::{batch_of, behind, op_of, query_of, small_after, tell_ans
 use crate::scenes::{Ran, Scene, run_opened, tell, tell_fault};
 use crate::script::{Script, Step, Words};
 use profile_store::{
-    Batch, Blank, BookFault, Hashing, Journal, MakeFault, Op, Placed, Query, Reply, Session,
-    SessionLog, Store, StoreName, Told, Width,
+    Batch, Blank, Hashing, MakeFault, Op, Placed, Query, Reply, Session, SessionLog, Store,
+    StoreName, Told, Width,
 };
 use std::alloc::Global;
 use std::marker::Brand;
@@ -67,18 +67,7 @@ fn run_store<N: StoreName, R: Wait>(
 {
     let store = Store::<N>::start(blank);
     let logs = run_sessions(rt, checker, script, step, &store);
-    let journal = store.close(rt);
-    end(checker, script, &journal, logs)
-}
-
-fn end(
-    checker: &mut Checker,
-    script: &mut Script,
-    journal: &Journal,
-    logs: Result<Vec<SessionLog>, Wrong>,
-) -> Ran {
-    let logs = logs?;
-    run_closed(checker, script, Ok(()), journal, logs.as_slice())
+    run_closed(checker, script, &store.close(rt), logs)
 }
 
 /// Opens the sessions, fewer than there are with `open 1`, and gives their logs.
@@ -91,14 +80,15 @@ fn run_sessions<N: StoreName, R: Wait>(
 ) -> Result<Vec<SessionLog>, Wrong> {
     let alloc = checker.alloc;
     let sessions = step.words.number_after("sessions", 1)?;
+    let count = step.words.number_after("open", sessions)?;
     let mut room = Room {
         rt,
         store,
         sessions: Vec::new(alloc),
         told: Vec::new(alloc),
     };
-    let ran = room.open(alloc, step.words.number_after("open", sessions)?);
-    match ran.and(run_opened(checker, script, step, &mut room)) {
+    let opened = room.open(alloc, count);
+    match run_opened(checker, script, step, opened, &mut room) {
         Ok(()) => logs_of(alloc, room.sessions),
         Err(wrong) => Err(wrong),
     }
@@ -179,14 +169,30 @@ impl<N: StoreName, R: Wait> Room<'_, N, R> {
                 let receipts = add_often(self.rt, alloc, session, &batch, deed.number(1)?);
                 tell(made, &format_args!("{receipts} receipts"))
             }
-            _ => operate(
-                self.rt,
-                made,
-                session,
-                &mut self.told,
-                op_of(alloc, deed, input)?,
-            ),
+            _ => self.operate(made, number, op_of(alloc, deed, input)?),
         }
+    }
+
+    fn operate(&mut self, made: &mut Vec<u8>, number: usize, op: Op) -> Ran {
+        let (rt, alloc) = (self.rt, *made.allocator());
+        let session = self.sessions.get_mut(number).ok_or(Wrong::Missing)?;
+        match op {
+            Op::Add(batch) => match session.add(rt, alloc, batch) {
+                Ok(placed) => self.keep(made, placed),
+                Err(refused) => tell_fault(made, &refused.fault),
+            },
+            Op::Reset => match session.reset(rt, alloc) {
+                Ok(placed) => self.keep(made, placed),
+                Err(fault) => tell_fault(made, &fault),
+            },
+            Op::Ask(query) => ask(made, session, &query),
+        }
+    }
+
+    /// Adds the place of a change. What it tells is kept.
+    fn keep(&mut self, made: &mut Vec<u8>, placed: Placed<N>) -> Ran {
+        self.told.push(placed.told)?;
+        tell(made, &format_args!("place {}", placed.place))
     }
 
     /// `hold 300 ask folded`: the first session's answer, while the second adds the rows of the input so often.
@@ -229,39 +235,6 @@ fn add_often<N: StoreName, R: Wait>(
         }
     }
     session.log().len()
-}
-
-fn operate<N: StoreName, R: Wait>(
-    rt: &R,
-    made: &mut Vec<u8>,
-    session: &mut Session<'_, N>,
-    told: &mut Vec<Told<N>>,
-    op: Op,
-) -> Ran {
-    let alloc = *made.allocator();
-    match op {
-        Op::Add(batch) => match session.add(rt, alloc, batch) {
-            Ok(placed) => keep(made, told, Ok(placed)),
-            Err(refused) => keep(made, told, Err(refused.fault)),
-        },
-        Op::Reset => keep(made, told, session.reset(rt, alloc)),
-        Op::Ask(query) => ask(made, session, &query),
-    }
-}
-
-/// Adds the place of a change. What it tells is kept.
-fn keep<N: StoreName>(
-    made: &mut Vec<u8>,
-    told: &mut Vec<Told<N>>,
-    change: Result<Placed<N>, BookFault>,
-) -> Ran {
-    match change {
-        Ok(placed) => {
-            told.push(placed.told)?;
-            tell(made, &format_args!("place {}", placed.place))
-        }
-        Err(fault) => tell_fault(made, &fault),
-    }
 }
 
 /// Adds an answer, and after how many changes it is.

@@ -9,7 +9,8 @@ use crate::scenes::{Ran, tell, tell_fault};
 use crate::script::Words;
 use crate::stores::blank_of;
 use profile_store::{
-    Blank, FinishedWorker, Gate, Journal, Op, Store, StoreName, WorkersFault, audit, run_workers,
+    Blank, FinishedWorker, Gate, Journal, Op, SessionLog, Store, StoreName, WorkersFault, audit,
+    run_workers,
 };
 use std::alloc::Global;
 use std::marker::Brand;
@@ -135,25 +136,20 @@ fn tell_work(
     journal: &Journal,
     all: Result<Vec<FinishedWorker>, WorkersFault>,
 ) -> Ran {
+    let mut logs = Vec::new(*made.allocator());
     match all {
-        Ok(all) => tell_workers(made, words, journal, all),
-        Err(fault) => tell_fault(made, &fault),
+        Ok(all) => push_logs(made, all, &mut logs)?,
+        Err(fault) => return tell_fault(made, &fault),
     }
+    tell_verdict(made, words, &audit(*made.allocator(), journal, &logs))
 }
 
-fn tell_workers(
-    made: &mut Vec<u8>,
-    words: Words,
-    journal: &Journal,
-    all: Vec<FinishedWorker>,
-) -> Ran {
-    let alloc = *made.allocator();
-    let mut logs = Vec::new(alloc);
+fn push_logs(made: &mut Vec<u8>, all: Vec<FinishedWorker>, logs: &mut Vec<SessionLog>) -> Ran {
     for one in all {
         tell_worker(made, &one)?;
         logs.push(one.log)?;
     }
-    tell_verdict(made, words, &audit(alloc, journal, logs.as_slice()))
+    Ok(())
 }
 
 fn tell_worker(made: &mut Vec<u8>, one: &FinishedWorker) -> Ran {

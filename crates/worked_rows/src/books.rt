@@ -45,23 +45,14 @@ impl Scene for Book {
         if first == "state" {
             return tell_state(made, self);
         }
-        let turn = turn_of(first)?;
-        match words.word(1)? {
-            "prepare" => prepare(
-                made,
-                self,
-                turn,
-                &op_of(alloc, behind(words, 2), input)?,
-                true,
-            ),
-            "drop" => prepare(
-                made,
-                self,
-                turn,
-                &op_of(alloc, behind(words, 2), input)?,
-                false,
-            ),
-            _ => change(made, self, turn, op_of(alloc, behind(words, 1), input)?),
+        let (turn, verb) = (turn_of(first)?, words.word(1)?);
+        let is_prepared = verb == "prepare" || verb == "drop";
+        let skipped = if is_prepared { 2 } else { 1 };
+        let op = op_of(alloc, behind(words, skipped), input)?;
+        if is_prepared {
+            prepare(made, self, turn, &op, verb == "prepare")
+        } else {
+            change(made, self, turn, op)
         }
     }
 }
@@ -73,14 +64,22 @@ fn tell_state(made: &mut Vec<u8>, book: &Book) -> Ran {
 }
 
 /// A session, and how many changes it made before.
-fn turn_of(word: &str) -> Result<(u32, u64), Wrong> {
-    let (session, turn) = word.split_once('.').ok_or(Wrong::Command)?;
-    let session = session.parse().ok().ok_or(Wrong::Command)?;
-    Ok((session, turn.parse().ok().ok_or(Wrong::Command)?))
+#[derive(Clone, Copy)]
+struct Turn {
+    session: u32,
+    turn: u64,
 }
 
-fn change(made: &mut Vec<u8>, book: &mut Book, turn: (u32, u64), op: Op) -> Ran {
-    let (alloc, (session, turn)) = (*made.allocator(), turn);
+fn turn_of(word: &str) -> Result<Turn, Wrong> {
+    let (session, turn) = word.split_once('.').ok_or(Wrong::Command)?;
+    Ok(Turn {
+        session: session.parse().ok().ok_or(Wrong::Command)?,
+        turn: turn.parse().ok().ok_or(Wrong::Command)?,
+    })
+}
+
+fn change(made: &mut Vec<u8>, book: &mut Book, turn: Turn, op: Op) -> Ran {
+    let (alloc, Turn { session, turn }) = (*made.allocator(), turn);
     match op {
         Op::Add(batch) => match book.add(alloc, session, turn, batch) {
             Ok(receipt) => tell_receipt(made, &receipt),
@@ -99,14 +98,14 @@ fn tell_receipt(made: &mut Vec<u8>, receipt: &Receipt) -> Ran {
     tell(made, &format_args!("place {place} at {at}"))
 }
 
-/// Prepares a change, and makes it or lets it go.
-fn prepare(made: &mut Vec<u8>, book: &mut Book, turn: (u32, u64), op: &Op, is_made: bool) -> Ran {
+/// Prepares a change, which is then made or let go.
+fn prepare(made: &mut Vec<u8>, book: &mut Book, turn: Turn, op: &Op, is_made: bool) -> Ran {
     let change = match op {
         Op::Add(batch) => Change::Add(batch),
         Op::Reset => Change::Reset,
         Op::Ask(_) => return Err(Wrong::Command),
     };
-    match book.prepare(*made.allocator(), turn.0, turn.1, change) {
+    match book.prepare(*made.allocator(), turn.session, turn.turn, change) {
         Ok(ready) if is_made => settle(made, book, ready),
         Ok(ready) => tell(made, &format_args!("ready {}", total_of(ready.next()))),
         Err(fault) => tell_fault(made, &fault),

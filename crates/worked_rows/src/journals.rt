@@ -87,13 +87,16 @@ fn logs_of(alloc: Global, input: &[u8]) -> Result<Vec<SessionLog>, Wrong> {
     let text = std::str::from_utf8(input).ok().ok_or(Wrong::Line)?;
     let mut logs = Vec::new(alloc);
     for line in text.lines() {
-        let (session, receipts) = line.split_once(':').ok_or(Wrong::Line)?;
-        logs.push(SessionLog {
-            session: session.parse().ok().ok_or(Wrong::Line)?,
-            receipts: Items::new(receipts_of(alloc, receipts)?),
-        })?;
+        logs.push(log_of(alloc, line)?)?;
     }
     Ok(logs)
+}
+
+fn log_of(alloc: Global, line: &str) -> Result<SessionLog, Wrong> {
+    let (session, receipts) = line.split_once(':').ok_or(Wrong::Line)?;
+    let session = session.parse().ok().ok_or(Wrong::Line)?;
+    let receipts = Items::new(receipts_of(alloc, receipts)?);
+    Ok(SessionLog { session, receipts })
 }
 
 fn receipts_of(alloc: Global, text: &str) -> Result<Vec<Receipt>, Wrong> {
@@ -106,11 +109,14 @@ fn receipts_of(alloc: Global, text: &str) -> Result<Vec<Receipt>, Wrong> {
     Ok(receipts)
 }
 
-/// Adds what audits say of logs: one, two that hash names from the same start, and one that does from another. What is
-/// said again isn't added.
+/// Adds what an audit says of logs. Where its steps aren't only counted, two more audits hash names from the same start,
+/// and one from another: what these say is added where it differs.
 fn audit_logs(made: &mut Vec<u8>, words: Words, journal: &Journal, logs: &[SessionLog]) -> Ran {
     let alloc = *made.allocator();
     tell_verdict(made, words, &audit(alloc, journal, logs))?;
+    if words.has("counted") {
+        return Ok(());
+    }
     let len = made.len();
     for key in [7, 7, 8] {
         let hashing = Hashing::of_key(key);

@@ -123,12 +123,8 @@ impl<N: StoreName, R: Wait> Scene for Room<'_, N, R> {
 impl<N: StoreName, R: Wait> Room<'_, N, R> {
     fn open(&mut self, alloc: Global, count: u64) -> Ran {
         for _ in 0..count {
-            let session = self
-                .store
-                .session(self.rt, alloc)
-                .ok()
-                .ok_or(Wrong::Missing)?;
-            self.sessions.push(session)?;
+            let session = self.store.session(self.rt, alloc).ok();
+            self.sessions.push(session.ok_or(Wrong::Missing)?)?;
         }
         Ok(())
     }
@@ -165,8 +161,9 @@ impl<N: StoreName, R: Wait> Room<'_, N, R> {
             }
             "receipt" => tell_receipt(made, session, usize_of(deed.number(1)?)?),
             "times" => {
+                let times = deed.number(1)?;
                 let batch = batch_of(alloc, behind(deed, 3), input)?;
-                let receipts = add_often(self.rt, alloc, session, &batch, deed.number(1)?);
+                let receipts = add_often(self.rt, alloc, session, &batch, times);
                 tell(made, &format_args!("{receipts} receipts"))
             }
             _ => self.operate(made, number, op_of(alloc, deed, input)?),
@@ -202,10 +199,14 @@ impl<N: StoreName, R: Wait> Room<'_, N, R> {
         let second = others.first_mut().ok_or(Wrong::Missing)?;
         let batch = batch_of(alloc, behind(deed, 3), input)?;
         let query = query_of(alloc, behind(deed, 1))?;
-        let answer = first.ask(alloc, &query).ok().ok_or(Wrong::Missing)?;
-        let receipts = add_often(self.rt, alloc, second, &batch, times);
-        tell_answer(made, answer)?;
-        tell(made, &format_args!("{receipts} receipts"))
+        match first.ask(alloc, &query) {
+            Ok(answer) => {
+                let receipts = add_often(self.rt, alloc, second, &batch, times);
+                tell_answer(made, answer)?;
+                tell(made, &format_args!("{receipts} receipts"))
+            }
+            Err(fault) => tell_fault(made, &fault),
+        }
     }
 }
 

@@ -1,6 +1,6 @@
 //! What a closed book or store leaves: its journal, the tree of what counts, and audits of logs against it.
 
-use crate::bytes::Wrong;
+use crate::bytes::{Wrong, usize_of};
 use crate::checker::Checker;
 use crate::operations::{place_of, receipt_of};
 use crate::scenes::{Ran, Scene, run_steps, tell, tell_fault};
@@ -36,6 +36,7 @@ impl Scene for Closed<'_> {
             "state" => tell_state(made, journal),
             "journal" => tell_entries(made, journal.entries()),
             "tree" => tell_tree(made, journal),
+            "share" => share_log(made, &mut self.logs, usize_of(words.number(1)?)?),
             "audit" if input.is_empty() => audit_logs(made, words, journal, &self.logs),
             "audit" => audit_logs(made, words, journal, &logs_of(*made.allocator(), input)?),
             _ => Err(Wrong::Command),
@@ -82,6 +83,13 @@ fn tell_tree(made: &mut Vec<u8>, journal: &Journal) -> Ran {
     Ok(made.extend_from_slice(text.as_slice())?)
 }
 
+/// `share 0`: the first log stands once more behind all others.
+fn share_log(made: &mut Vec<u8>, logs: &mut Vec<SessionLog>, place: usize) -> Ran {
+    let log = logs.get(place).ok_or(Wrong::Missing)?;
+    logs.push(log.share(*made.allocator())?)?;
+    tell(made, &format_args!("{} logs", logs.len()))
+}
+
 /// The logs that the input spells, one in each line: `1: add b 2 at 1, ask total says 3 at 2`.
 fn logs_of(alloc: Global, input: &[u8]) -> Result<Vec<SessionLog>, Wrong> {
     let text = std::str::from_utf8(input).ok().ok_or(Wrong::Line)?;
@@ -109,8 +117,8 @@ fn receipts_of(alloc: Global, text: &str) -> Result<Vec<Receipt>, Wrong> {
     Ok(receipts)
 }
 
-/// Adds what an audit says of logs. Where its steps aren't only counted, two more audits hash names from the same start,
-/// and one from another: what these say is added where it differs.
+/// Adds what an audit says of logs. Where its steps aren't only counted, two more audits hash names from one start, and
+/// a third from another: what these say is added where it differs.
 fn audit_logs(made: &mut Vec<u8>, words: Words, journal: &Journal, logs: &[SessionLog]) -> Ran {
     let alloc = *made.allocator();
     tell_verdict(made, words, &audit(alloc, journal, logs))?;

@@ -93,19 +93,26 @@ pub(crate) fn query_of(alloc: Global, words: Words) -> Result<Arc<Query>, Wrong>
 }
 
 fn kind_of(words: Words) -> Result<Kind, Wrong> {
+    match words.word(1)? {
+        "total" => Ok(Kind::Total),
+        "top" => top_of(words),
+        "flame" => {
+            let columns = Columns::new(small_after(words, "columns", 100)?);
+            let columns = columns.ok_or(Wrong::Command)?;
+            Ok(Kind::Flame { columns })
+        }
+        "folded" => Ok(Kind::Folded),
+        _ => Err(Wrong::Command),
+    }
+}
+
+fn top_of(words: Words) -> Result<Kind, Wrong> {
     let rank = match words.after("by") {
         Some("cum") => Rank::Cum,
         _ => Rank::Flat,
     };
     let count = small_after(words, "count", 20)?;
-    let columns = Columns::new(small_after(words, "columns", 100)?).ok_or(Wrong::Command)?;
-    match words.word(1)? {
-        "total" => Ok(Kind::Total),
-        "top" => Ok(Kind::Top { rank, count }),
-        "flame" => Ok(Kind::Flame { columns }),
-        "folded" => Ok(Kind::Folded),
-        _ => Err(Wrong::Command),
-    }
+    Ok(Kind::Top { rank, count })
 }
 
 fn name_after(alloc: Global, words: Words, key: &str) -> Result<Option<Name>, Wrong> {
@@ -126,11 +133,11 @@ pub(crate) fn receipt_of(alloc: Global, text: &str) -> Result<Receipt, Wrong> {
 
 /// The total that `says` gives, or else the place of a change.
 fn reply_of(alloc: Global, words: Words, place: u64) -> Result<Reply, Wrong> {
-    if !words.has("says") {
+    let Some(total) = words.after("says") else {
         return Ok(Reply::Placed(place));
-    }
-    let answer = Answer::Total(words.number_after("says", 0)?);
-    Ok(Reply::Answered(Arc::new(alloc, answer)?))
+    };
+    let total = total.parse().ok().ok_or(Wrong::Line)?;
+    Ok(Reply::Answered(Arc::new(alloc, Answer::Total(total))?))
 }
 
 /// The place that a change is told.

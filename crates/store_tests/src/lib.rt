@@ -1,5 +1,5 @@
-//! Tests of the libraries of journals and stores, of what no clause says: what needs several threads, and faults that no
-//! script meets. The other rows are scripts of `worked_rows`.
+//! Tests of the libraries of journals and stores, of what no clause says: what needs several threads, and the faults
+//! that no script meets. The other rows are scripts of `worked_rows`.
 #![tactic(auto)]
 
 #[cfg(test)]

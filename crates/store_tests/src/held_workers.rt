@@ -2,13 +2,14 @@
 
 ghost use Rattle.std.specs.Prelude.{◌≡◌};
 
-use crate::helpers::{audit_text, batch_of, come, query_of, reply_text, width_of};
-use crate::workers::{Deed, lists_of, told};
-use flame_report::Kind;
+use crate::helpers::{audit_text, batch_of, come, query_of};
+use crate::workers::totals;
+use flame_report::{Answer, Kind};
 use live_store::{
     Blank, FinishedWorker, Gate, Session, Store, StoreName, WorkersFault, run_workers,
 };
 use op_book::{Journal, Op, SessionLog};
+use stack_text::Width;
 use std::alloc::Global;
 use std::marker::Brand;
 use std::sync::Wait;
@@ -44,7 +45,7 @@ impl Gate for Held {
     fn after<R: Wait>(&self, _rt: &R, _worker: usize, _step: usize) {}
 }
 
-// A session that adds and asks, and another that hears of it and asks: what they are told.
+// A session that adds and asks, and another that hears of it and asks: where it is placed, and whether the total is 1.
 fn other_hears<N: StoreName, R: Wait>(
     rt: &R,
     alloc: Global,
@@ -54,9 +55,9 @@ fn other_hears<N: StoreName, R: Wait>(
     let batch = batch_of(alloc, "a 1\n")?;
     let query = query_of(alloc, Kind::Total)?;
     let placed = first.add(rt, alloc, batch).ok().ok_or("refused")?;
-    let own = reply_text(alloc, first, &query)?;
+    let own = matches!(first.ask(alloc, &query)?, Answer::Total(1));
     second.hear(&placed.told);
-    let other = reply_text(alloc, second, &query)?;
+    let other = matches!(second.ask(alloc, &query)?, Answer::Total(1));
     Ok(format!(in alloc; "{} {own} {other}", placed.place)?)
 }
 
@@ -75,21 +76,7 @@ fn told_beside<N: StoreName, R: Wait>(
     Ok(format!(in alloc; "{is_held} {} {gone}", told?)?)
 }
 
-// The logs of two sessions and of workers.
-fn logs_of(
-    alloc: Global,
-    first: SessionLog,
-    second: SessionLog,
-    all: Vec<FinishedWorker>,
-) -> Result<Vec<SessionLog>, Fail> {
-    let mut logs = vec![in alloc; first, second]?;
-    for one in all {
-        logs.push(one.log).ok().ok_or("no memory")?;
-    }
-    Ok(logs)
-}
-
-// The same beside what was told.
+// The logs of two sessions and of workers, beside what was told.
 fn with_logs(
     alloc: Global,
     told: Result<String, Fail>,
@@ -98,8 +85,11 @@ fn with_logs(
     all: Option<Result<Vec<FinishedWorker>, WorkersFault>>,
 ) -> Result<Logs, Fail> {
     let told = told?;
-    let all = all.ok_or("no thread")??;
-    Ok((logs_of(alloc, first, second, all)?, told))
+    let mut logs = vec![in alloc; first, second]?;
+    for one in all.ok_or("no thread")?? {
+        logs.push(one.log)?;
+    }
+    Ok((logs, told))
 }
 
 // What two sessions are told beside a worker that is held, and the logs of all.
@@ -152,10 +142,10 @@ fn held_worker<N: StoreName, R: Threads + Wait + Sync>(
 #[test]
 fn addition_seen_by_other_session(rt: HostRuntime) -> Result<(), Fail> {
     let alloc = rt.alloc();
-    let lists = lists_of(alloc, &[&[Deed::Total(0)]])?;
-    let blank = Blank::make(alloc, 10, 3, width_of(1)?)?;
+    let lists = vec![in alloc; totals(alloc, 1)?]?;
+    let blank = Blank::make(alloc, 10, 3, Width::one())?;
     expect_text(
         held_worker::<Brand, HostRuntime>(&rt, alloc, blank, lists),
-        "true 0 1 1 0| 0.0 0.1 1.0 2.0 ",
+        "true 0 true true 0| 0.0 0.1 1.0 2.0 ",
     )
 }

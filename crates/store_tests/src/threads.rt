@@ -315,7 +315,7 @@ fn tally(alloc: Global, journal: &Journal, all: Vec<Walked>) -> Result<String, F
     for one in all {
         wrong = wrong.saturating_add(one.wrong);
         heard = heard.saturating_add(one.heard);
-        logs.push(one.log).ok().ok_or("no memory")?;
+        logs.push(one.log)?;
     }
     let steps = audit(alloc, journal, &logs)?.steps().len();
     let entries = journal.entries().len();
@@ -354,8 +354,7 @@ fn batches(alloc: Global) -> Result<Vec<Arc<Batch>>, Fail> {
         "d 5\n",
     ] {
         text.push_str(row)?;
-        let batch = batch_of(alloc, text.as_str())?;
-        batches.push(batch).ok().ok_or("no memory")?;
+        batches.push(batch_of(alloc, text.as_str())?)?;
     }
     Ok(batches)
 }
@@ -364,14 +363,8 @@ fn batches(alloc: Global) -> Result<Vec<Arc<Batch>>, Fail> {
 fn queries(alloc: Global) -> Result<Vec<Arc<Query>>, Fail> {
     let mut queries = Vec::new(alloc);
     for kind in kinds()? {
-        queries
-            .push(query_of(alloc, kind)?)
-            .ok()
-            .ok_or("no memory")?;
-        queries
-            .push(kept_query(alloc, kind)?)
-            .ok()
-            .ok_or("no memory")?;
+        queries.push(query_of(alloc, kind)?)?;
+        queries.push(kept_query(alloc, kind)?)?;
     }
     Ok(queries)
 }

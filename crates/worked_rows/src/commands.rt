@@ -5,7 +5,9 @@ use crate::checker::Checker;
 use crate::program::Run;
 use crate::script::{Script, Step, Words};
 use crate::streams::Streams;
-use crate::{batches, drafts, names, profiles, samples, trees, wire};
+use crate::{
+    batches, books, drafts, journals, live, names, profiles, samples, stores, trees, wire, workers,
+};
 use std::alloc::Global;
 use std::random::RandomSource;
 use std::sync::Wait;
@@ -55,6 +57,8 @@ fn run_step<R: Threads + Wait + RandomSource + Sync>(
 ) -> Result<(), Wrong> {
     match step.words.word(0)? {
         "tree" => trees::run_scene(checker, script, step),
+        "book" => books::run_scene(checker, script, step),
+        "store" => stores::run_scene(rt, checker, script, step),
         _ => {
             let ran = run_command(rt, checker, streams, step);
             checker.settle(step, ran)
@@ -81,6 +85,13 @@ fn run_command<R: Threads + Wait + RandomSource + Sync>(
             rt, checker, *streams, step.words,
         ),
         "rows" | "aggregate" | "report" => batches::run(rt, checker, step.words),
+        "workers" => workers::run_lists(
+            rt,
+            step.words,
+            checker.input.as_slice(),
+            &mut checker.made,
+        ),
+        "live" => live::run_live(rt, step.words, checker.input.as_slice(), &mut checker.made),
         _ => run_call(
             checker.alloc,
             step.words,
@@ -137,6 +148,7 @@ fn run_call(alloc: Global, words: Words, input: &[u8], made: &mut Vec<u8>) -> Re
         "width" | "columns" => names::limit(alloc, words, made),
         "weights" => names::weights(alloc, input, made),
         "no_memory" => names::print_wants(alloc, made),
+        "same" => journals::compare_receipts(alloc, input, made),
         _ => Err(Wrong::Command),
     }
 }

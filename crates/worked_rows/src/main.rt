@@ -6,21 +6,27 @@
 #![tactic(auto)]
 
 mod batches;
+mod books;
 mod bytes;
 mod checker;
 mod commands;
 mod drafts;
+mod journals;
+mod live;
 mod names;
+mod operations;
 mod profiles;
 mod program;
 mod reports;
 mod rows;
 mod samples;
+mod scenes;
 mod script;
-mod script;
+mod stores;
 mod streams;
 mod trees;
 mod wire;
+mod workers;
 
 use crate::checker::Checker;
 use crate::commands::run_script;

@@ -1,0 +1,163 @@
+//! What is asked of a book, a store or a worker, as a script spells it: `add main;a 3`, `reset`, `ask total`.
+
+use crate::bytes::Wrong;
+use crate::scenes::{Ran, tell};
+use crate::script::Words;
+use profile_store::{
+    Answer, Batch, Columns, Kind, Name, Op, Query, Rank, Receipt, Reply, Stack, Weights,
+    flame_json, read_folded, top_text,
+};
+use std::alloc::Global;
+use std::sync::Arc;
+
+/// What stands behind so many words.
+pub(crate) fn behind(words: Words, count: usize) -> Words {
+    let mut text = words.text;
+    for _ in 0..count {
+        let (_, rest) = text.split_once(' ').unwrap_or((text, ""));
+        text = rest;
+    }
+    Words { text }
+}
+
+/// The number of 32 bits after a word, or another where the word isn't there.
+pub(crate) fn small_after(words: Words, key: &str, other: u64) -> Result<u32, Wrong> {
+    let number = words.number_after(key, other)?;
+    u32::try_from(number).ok().ok_or(Wrong::Command)
+}
+
+/// `add main;a 3`, `add a 1 0` of two values, `add` of the folded text in the input, `reset`, `ask total`.
+pub(crate) fn op_of(alloc: Global, words: Words, input: &[u8]) -> Result<Op, Wrong> {
+    match words.word(0)? {
+        "add" => Ok(Op::Add(batch_of(alloc, behind(words, 1), input)?)),
+        "reset" => Ok(Op::Reset),
+        "ask" => Ok(Op::Ask(query_of(alloc, words)?)),
+        _ => Err(Wrong::Command),
+    }
+}
+
+/// The row that the words spell, or where there are none the rows of the input.
+pub(crate) fn batch_of(alloc: Global, words: Words, input: &[u8]) -> Result<Arc<Batch>, Wrong> {
+    let batch = match words.text {
+        "" => read_folded(alloc, input).ok().ok_or(Wrong::Line),
+        _ => row_of(alloc, words),
+    };
+    Ok(Arc::new(alloc, batch?)?)
+}
+
+/// The batch of one row, whose frames are joined by semicolons.
+fn row_of(alloc: Global, words: Words) -> Result<Batch, Wrong> {
+    let weights = weights_of(alloc, words)?;
+    let mut batch = Batch::new(alloc, weights.width());
+    push_row(alloc, words, weights, &mut batch)?;
+    Ok(batch)
+}
+
+fn push_row(alloc: Global, words: Words, weights: Weights, batch: &mut Batch) -> Ran {
+    let stack = stack_of(alloc, words.word(0)?)?;
+    batch.push(stack, weights).ok().ok_or(Wrong::Line)
+}
+
+fn stack_of(alloc: Global, frames: &str) -> Result<Stack, Wrong> {
+    let mut names = Vec::new(alloc);
+    for frame in frames.split(';') {
+        names.push(name_of(alloc, frame)?)?;
+    }
+    Stack::make(names).ok().ok_or(Wrong::Line)
+}
+
+fn name_of(alloc: Global, text: &str) -> Result<Name, Wrong> {
+    Name::make(alloc, text).ok().ok_or(Wrong::Line)
+}
+
+fn weights_of(alloc: Global, words: Words) -> Result<Weights, Wrong> {
+    let mut values = Vec::new(alloc);
+    for word in words.text.split_whitespace().skip(1) {
+        values.push(word.parse().ok().ok_or(Wrong::Line)?)?;
+    }
+    Weights::make(values.as_slice()).ok_or(Wrong::Line)
+}
+
+/// `ask total`, `ask top by cum count 3`, `ask flame columns 5`, `ask folded focus main ignore b value 1`.
+pub(crate) fn query_of(alloc: Global, words: Words) -> Result<Arc<Query>, Wrong> {
+    let (kind, value) = (kind_of(words)?, small_after(words, "value", 0)?);
+    let focus = name_after(alloc, words, "focus")?;
+    let ignore = name_after(alloc, words, "ignore")?;
+    let query = Query {
+        focus,
+        ignore,
+        value,
+        kind,
+    };
+    Ok(Arc::new(alloc, query)?)
+}
+
+fn kind_of(words: Words) -> Result<Kind, Wrong> {
+    match words.word(1)? {
+        "total" => Ok(Kind::Total),
+        "top" => top_of(words),
+        "flame" => {
+            let columns = Columns::new(small_after(words, "columns", 100)?);
+            let columns = columns.ok_or(Wrong::Command)?;
+            Ok(Kind::Flame { columns })
+        }
+        "folded" => Ok(Kind::Folded),
+        _ => Err(Wrong::Command),
+    }
+}
+
+fn top_of(words: Words) -> Result<Kind, Wrong> {
+    let rank = match words.after("by") {
+        Some("cum") => Rank::Cum,
+        _ => Rank::Flat,
+    };
+    let count = small_after(words, "count", 20)?;
+    Ok(Kind::Top { rank, count })
+}
+
+fn name_after(alloc: Global, words: Words, key: &str) -> Result<Option<Name>, Wrong> {
+    match words.after(key) {
+        Some(text) => Ok(Some(name_of(alloc, text)?)),
+        None => Ok(None),
+    }
+}
+
+/// What a session was told: `add a 1 at 0`, `reset at 1`, `ask total says 3 at 2`.
+pub(crate) fn receipt_of(alloc: Global, text: &str) -> Result<Receipt, Wrong> {
+    let (text, at) = text.rsplit_once(" at ").ok_or(Wrong::Line)?;
+    let at = at.parse().ok().ok_or(Wrong::Line)?;
+    let reply = reply_of(alloc, Words { text }, at)?;
+    let op = op_of(alloc, Words { text }, b"")?;
+    Ok(Receipt { op, reply, at })
+}
+
+/// The total that `says` gives, or else the place of a change.
+fn reply_of(alloc: Global, words: Words, place: u64) -> Result<Reply, Wrong> {
+    let Some(total) = words.after("says") else {
+        return Ok(Reply::Placed(place));
+    };
+    let total = total.parse().ok().ok_or(Wrong::Line)?;
+    Ok(Reply::Answered(Arc::new(alloc, Answer::Total(total))?))
+}
+
+/// The place that a change is told.
+pub(crate) fn place_of(reply: &Reply) -> Result<u64, Wrong> {
+    match reply {
+        Reply::Placed(place) => Ok(*place),
+        Reply::Answered(_) => Err(Wrong::Missing),
+    }
+}
+
+/// Adds the lines of an answer, or a total and a space.
+pub(crate) fn tell_answer(made: &mut Vec<u8>, answer: &Answer) -> Ran {
+    let alloc = *made.allocator();
+    match answer {
+        Answer::Total(total) => {
+            let text = format!(in alloc; "{total} ")?;
+            Ok(made.extend_from_slice(text.as_bytes())?)
+        }
+        Answer::Top(top) => Ok(made.extend_from_slice(top_text(alloc, top)?.as_slice())?),
+        Answer::Flame(flame) => tell(made, &flame_json(alloc, flame)?.as_str()),
+        Answer::Folded(text) => Ok(made.extend_from_slice(text.as_slice())?),
+    }
+}

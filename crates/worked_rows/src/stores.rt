@@ -1,0 +1,249 @@
+//! A store on one thread: `store limit 10 sessions 2 width 1`, and a step for each operation of a session.
+
+ghost use Rattle.std.specs.Prelude.{◌≡◌};
+
+use crate::bytes::{Wrong, usize_of};
+use crate::checker::Checker;
+use crate::journals::run_closed;
+use crate::operations::{batch_of, behind, op_of, query_of, small_after, tell_answer};
+use crate::scenes::{Ran, Scene, run_opened, tell, tell_fault};
+use crate::script::{Script, Step, Words};
+use profile_store::{
+    Batch, Blank, Hashing, MakeFault, Op, Placed, Query, Reply, Session, SessionLog, Store,
+    StoreName, Told, Width,
+};
+use std::alloc::Global;
+use std::marker::Brand;
+use std::sync::{Arc, Wait};
+
+/// A store, its sessions, and what they told of changes.
+#[derive(Drop)]
+struct Room<'a, N: StoreName, R: Wait> {
+    rt: &'a R,
+    store: &'a Store<N>,
+    sessions: Vec<Session<'a, N>>,
+    told: Vec<Told<N>>,
+}
+
+/// Opens a store, and runs the steps of its sessions.
+pub(crate) fn run_scene<R: Wait>(
+    rt: &R,
+    checker: &mut Checker,
+    script: &mut Script,
+    step: &Step,
+) -> Ran {
+    checker.begin(step)?;
+    match blank_of(checker.alloc, step.words) {
+        Ok(Ok(blank)) => run_store::<Brand, R>(rt, checker, script, step, blank),
+        Ok(Err(fault)) => {
+            let ran = tell_fault(&mut checker.made, &fault);
+            checker.settle(step, ran)
+        }
+        Err(wrong) => checker.settle(step, Err(wrong)),
+    }
+}
+
+/// An empty store. With `hashing 7` it hashes names from that start.
+pub(crate) fn blank_of(alloc: Global, words: Words) -> Result<Result<Blank, MakeFault>, Wrong> {
+    let limit = small_after(words, "limit", 10)?;
+    let sessions = small_after(words, "sessions", 1)?;
+    let width = Width::new(small_after(words, "width", 1)?).ok_or(Wrong::Command)?;
+    let hashing = match words.after("hashing") {
+        Some(_) => Hashing::of_key(words.number_after("hashing", 0)?),
+        None => Hashing::fixed(),
+    };
+    Ok(Blank::make_with(alloc, hashing, limit, sessions, width))
+}
+
+fn run_store<N: StoreName, R: Wait>(
+    rt: &R,
+    checker: &mut Checker,
+    script: &mut Script,
+    step: &Step,
+    blank: Blank,
+) -> Ran
+    requires { blank
+        ≡ record { limit = N.limit; sessions = N.sessions; width = N.width; history = N.history } }
+{
+    let store = Store::<N>::start(blank);
+    let logs = run_sessions(rt, checker, script, step, &store);
+    run_closed(checker, script, &store.close(rt), logs)
+}
+
+/// Opens the sessions, fewer than there are with `open 1`, and gives their logs.
+fn run_sessions<N: StoreName, R: Wait>(
+    rt: &R,
+    checker: &mut Checker,
+    script: &mut Script,
+    step: &Step,
+    store: &Store<N>,
+) -> Result<Vec<SessionLog>, Wrong> {
+    let alloc = checker.alloc;
+    let sessions = step.words.number_after("sessions", 1)?;
+    let count = step.words.number_after("open", sessions)?;
+    let mut room = Room {
+        rt,
+        store,
+        sessions: Vec::new(alloc),
+        told: Vec::new(alloc),
+    };
+    let opened = room.open(alloc, count);
+    match run_opened(checker, script, step, opened, &mut room) {
+        Ok(()) => logs_of(alloc, room.sessions),
+        Err(wrong) => Err(wrong),
+    }
+}
+
+/// The logs of sessions, which end.
+fn logs_of<N: StoreName>(
+    alloc: Global,
+    sessions: Vec<Session<'_, N>>,
+) -> Result<Vec<SessionLog>, Wrong> {
+    let mut logs = Vec::new(alloc);
+    for session in sessions {
+        logs.push(session.close())?;
+    }
+    Ok(logs)
+}
+
+impl<N: StoreName, R: Wait> Scene for Room<'_, N, R> {
+    /// `0 add a 1`: an operation of session 0. With `each` all sessions take it in turn, and with `once` the next
+    /// session of the store, which then ends.
+    fn run(&mut self, words: Words, input: &[u8], made: &mut Vec<u8>) -> Ran {
+        let deed = behind(words, 1);
+        match words.word(0)? {
+            "each" => self.take_each(made, deed, input),
+            "once" => self.take_once(made, deed, input),
+            "hold" => self.hold(made, deed, input),
+            _ => self.take(made, usize_of(words.number(0)?)?, deed, input),
+        }
+    }
+}
+
+impl<N: StoreName, R: Wait> Room<'_, N, R> {
+    fn open(&mut self, alloc: Global, count: u64) -> Ran {
+        for _ in 0..count {
+            let session = self.store.session(self.rt, alloc).ok();
+            self.sessions.push(session.ok_or(Wrong::Missing)?)?;
+        }
+        Ok(())
+    }
+
+    fn take_each(&mut self, made: &mut Vec<u8>, deed: Words, input: &[u8]) -> Ran {
+        for number in 0..self.sessions.len() {
+            self.take(made, number, deed, input)?;
+        }
+        Ok(())
+    }
+
+    fn take_once(&mut self, made: &mut Vec<u8>, deed: Words, input: &[u8]) -> Ran {
+        let number = self.sessions.len();
+        match self.store.session(self.rt, *made.allocator()) {
+            Ok(session) => self.sessions.push(session)?,
+            Err(fault) => return tell_fault(made, &fault),
+        }
+        self.take(made, number, Words { text: "number" }, input)?;
+        let ran = self.take(made, number, deed, input);
+        let _ended = self.sessions.pop();
+        ran
+    }
+
+    /// `number`, `hear 1`, `receipt 1`, `times 50 add a 1`, or an operation.
+    fn take(&mut self, made: &mut Vec<u8>, number: usize, deed: Words, input: &[u8]) -> Ran {
+        let alloc = *made.allocator();
+        let session = self.sessions.get_mut(number).ok_or(Wrong::Missing)?;
+        match deed.word(0)? {
+            "number" => tell(made, &format_args!("session {}", session.number())),
+            "hear" => {
+                let told = self.told.get(usize_of(deed.number(1)?)?);
+                session.hear(told.ok_or(Wrong::Missing)?);
+                tell(made, &"heard")
+            }
+            "receipt" => tell_receipt(made, session, usize_of(deed.number(1)?)?),
+            "times" => {
+                let times = deed.number(1)?;
+                let batch = batch_of(alloc, behind(deed, 3), input)?;
+                let receipts = add_often(self.rt, alloc, session, &batch, times);
+                tell(made, &format_args!("{receipts} receipts"))
+            }
+            _ => self.operate(made, number, op_of(alloc, deed, input)?),
+        }
+    }
+
+    fn operate(&mut self, made: &mut Vec<u8>, number: usize, op: Op) -> Ran {
+        let (rt, alloc) = (self.rt, *made.allocator());
+        let session = self.sessions.get_mut(number).ok_or(Wrong::Missing)?;
+        match op {
+            Op::Add(batch) => match session.add(rt, alloc, batch) {
+                Ok(placed) => self.keep(made, placed),
+                Err(refused) => tell_fault(made, &refused.fault),
+            },
+            Op::Reset => match session.reset(rt, alloc) {
+                Ok(placed) => self.keep(made, placed),
+                Err(fault) => tell_fault(made, &fault),
+            },
+            Op::Ask(query) => ask(made, session, &query),
+        }
+    }
+
+    /// Adds the place of a change. What it tells is kept.
+    fn keep(&mut self, made: &mut Vec<u8>, placed: Placed<N>) -> Ran {
+        self.told.push(placed.told)?;
+        tell(made, &format_args!("place {}", placed.place))
+    }
+
+    /// `hold 300 ask folded`: the first session's answer, while the second adds the rows of the input so often.
+    fn hold(&mut self, made: &mut Vec<u8>, deed: Words, input: &[u8]) -> Ran {
+        let (alloc, times) = (*made.allocator(), deed.number(0)?);
+        let (first, others) = self.sessions.split_first_mut().ok_or(Wrong::Missing)?;
+        let second = others.first_mut().ok_or(Wrong::Missing)?;
+        let batch = batch_of(alloc, behind(deed, 3), input)?;
+        let query = query_of(alloc, behind(deed, 1))?;
+        match first.ask(alloc, &query) {
+            Ok(answer) => {
+                let receipts = add_often(self.rt, alloc, second, &batch, times);
+                tell_answer(made, answer)?;
+                tell(made, &format_args!("{receipts} receipts"))
+            }
+            Err(fault) => tell_fault(made, &fault),
+        }
+    }
+}
+
+/// Adds what a receipt tells of a report.
+fn tell_receipt<N: StoreName>(made: &mut Vec<u8>, session: &Session<'_, N>, place: usize) -> Ran {
+    let receipt = session.log().get(place).ok_or(Wrong::Missing)?;
+    if let Reply::Answered(answer) = &receipt.reply {
+        tell_answer(made, answer)?;
+    }
+    tell(made, &format_args!("at {}", receipt.at))
+}
+
+/// A session adds a batch so often, as long as it isn't refused. It gives how many receipts it then has.
+fn add_often<N: StoreName, R: Wait>(
+    rt: &R,
+    alloc: Global,
+    session: &mut Session<'_, N>,
+    batch: &Arc<Batch>,
+    times: u64,
+) -> usize {
+    for _ in 0..times {
+        let Ok(shared) = Arc::try_clone(batch) else {
+            break;
+        };
+        if session.add(rt, alloc, shared).is_err() {
+            break;
+        }
+    }
+    session.log().len()
+}
+
+/// Adds an answer, and after how many changes it is.
+fn ask<N: StoreName>(made: &mut Vec<u8>, session: &mut Session<'_, N>, query: &Arc<Query>) -> Ran {
+    match session.ask(*made.allocator(), query) {
+        Ok(answer) => tell_answer(made, answer)?,
+        Err(fault) => return tell_fault(made, &fault),
+    }
+    let receipt = session.log().last().ok_or(Wrong::Missing)?;
+    tell(made, &format_args!("at {}", receipt.at))
+}

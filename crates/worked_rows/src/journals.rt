@@ -10,6 +10,7 @@ use profile_store::{
     write_stacks,
 };
 use std::alloc::Global;
+use std::sync::Wait;
 
 /// A journal, and what the sessions were told that had the store.
 #[derive(Drop)]
@@ -19,18 +20,19 @@ struct Closed<'a> {
 }
 
 /// Runs the steps behind `close`, where those before it could be run.
-pub(crate) fn run_closed(
+pub(crate) fn run_closed<R: Wait>(
+    rt: &R,
     checker: &mut Checker,
     script: &mut Script,
     journal: &Journal,
     logs: Result<Vec<SessionLog>, Wrong>,
 ) -> Ran {
     let logs = logs?;
-    run_steps(checker, script, &mut Closed { journal, logs })
+    run_steps(rt, checker, script, &mut Closed { journal, logs })
 }
 
 impl Scene for Closed<'_> {
-    fn run(&mut self, words: Words, input: &[u8], made: &mut Vec<u8>) -> Ran {
+    fn run<R: Wait>(&mut self, _rt: &R, words: Words, input: &[u8], made: &mut Vec<u8>) -> Ran {
         let journal = self.journal;
         match words.word(0)? {
             "state" => tell_state(made, journal),
@@ -86,7 +88,8 @@ fn tell_tree(made: &mut Vec<u8>, journal: &Journal) -> Ran {
 /// `share 0`: the first log stands once more behind all others.
 fn share_log(made: &mut Vec<u8>, logs: &mut Vec<SessionLog>, place: usize) -> Ran {
     let log = logs.get(place).ok_or(Wrong::Missing)?;
-    logs.push(log.share(*made.allocator())?)?;
+    let shared = log.share(*made.allocator())?;
+    logs.push(shared)?;
     tell(made, &format_args!("{} logs", logs.len()))
 }
 

@@ -4,17 +4,20 @@ use crate::bytes::{Wrong, refuse, say};
 use crate::checker::Checker;
 use crate::script::{Script, Step, Words};
 use std::fmt::Display;
+use std::sync::Wait;
 
 /// How a step ran.
 pub(crate) type Ran = Result<(), Wrong>;
 
 /// What the steps of a block share.
 pub(crate) trait Scene {
-    fn run(&mut self, words: Words, input: &[u8], made: &mut Vec<u8>) -> Ran;
+    /// Runs a step.
+    fn run<R: Wait>(&mut self, rt: &R, words: Words, input: &[u8], made: &mut Vec<u8>) -> Ran;
 }
 
-/// Settles the step that opened a scene, and runs the steps behind it.
-pub(crate) fn run_opened<S: Scene>(
+/// Settles the step that opened a scene, and runs the steps after it.
+pub(crate) fn run_opened<R: Wait, S: Scene>(
+    rt: &R,
     checker: &mut Checker,
     script: &mut Script,
     opening: &Step,
@@ -22,11 +25,12 @@ pub(crate) fn run_opened<S: Scene>(
     scene: &mut S,
 ) -> Ran {
     checker.settle(opening, opened)?;
-    run_steps(checker, script, scene)
+    run_steps(rt, checker, script, scene)
 }
 
 /// Runs the steps of a block up to `close`, or to its end.
-pub(crate) fn run_steps<S: Scene>(
+pub(crate) fn run_steps<R: Wait, S: Scene>(
+    rt: &R,
     checker: &mut Checker,
     script: &mut Script,
     scene: &mut S,
@@ -39,7 +43,7 @@ pub(crate) fn run_steps<S: Scene>(
         if step.words.text == "close" {
             return checker.settle(&step, Ok(()));
         }
-        let ran = scene.run(step.words, checker.input.as_slice(), &mut checker.made);
+        let ran = scene.run(rt, step.words, checker.input.as_slice(), &mut checker.made);
         checker.settle(&step, ran)?;
     }
     Ok(())

@@ -18,8 +18,7 @@ use std::sync::{Arc, Wait};
 
 /// A store, its sessions, and what they told of changes.
 #[derive(Drop)]
-struct Room<'a, N: StoreName, R: Wait> {
-    rt: &'a R,
+struct Room<'a, N: StoreName> {
     store: &'a Store<N>,
     sessions: Vec<Session<'a, N>>,
     told: Vec<Told<N>>,
@@ -67,7 +66,7 @@ fn run_store<N: StoreName, R: Wait>(
 {
     let store = Store::<N>::start(blank);
     let logs = run_sessions(rt, checker, script, step, &store);
-    run_closed(checker, script, &store.close(rt), logs)
+    run_closed(rt, checker, script, &store.close(rt), logs)
 }
 
 /// Opens the sessions, fewer than there are with `open 1`, and gives their logs.
@@ -82,13 +81,12 @@ fn run_sessions<N: StoreName, R: Wait>(
     let sessions = step.words.number_after("sessions", 1)?;
     let count = step.words.number_after("open", sessions)?;
     let mut room = Room {
-        rt,
         store,
         sessions: Vec::new(alloc),
         told: Vec::new(alloc),
     };
-    let opened = room.open(alloc, count);
-    match run_opened(checker, script, step, opened, &mut room) {
+    let opened = room.open(rt, alloc, count);
+    match run_opened(rt, checker, script, step, opened, &mut room) {
         Ok(()) => logs_of(alloc, room.sessions),
         Err(wrong) => Err(wrong),
     }
@@ -106,50 +104,57 @@ fn logs_of<N: StoreName>(
     Ok(logs)
 }
 
-impl<N: StoreName, R: Wait> Scene for Room<'_, N, R> {
+impl<N: StoreName> Scene for Room<'_, N> {
     /// `0 add a 1`: an operation of session 0. With `each` all sessions take it in turn, and with `once` the next
     /// session of the store, which then ends.
-    fn run(&mut self, words: Words, input: &[u8], made: &mut Vec<u8>) -> Ran {
+    fn run<R: Wait>(&mut self, rt: &R, words: Words, input: &[u8], made: &mut Vec<u8>) -> Ran {
         let deed = behind(words, 1);
         match words.word(0)? {
-            "each" => self.take_each(made, deed, input),
-            "once" => self.take_once(made, deed, input),
-            "hold" => self.hold(made, deed, input),
-            _ => self.take(made, usize_of(words.number(0)?)?, deed, input),
+            "each" => self.take_each(rt, made, deed, input),
+            "once" => self.take_once(rt, made, deed, input),
+            "hold" => self.hold(rt, made, deed, input),
+            _ => self.take(rt, made, usize_of(words.number(0)?)?, deed, input),
         }
     }
 }
 
-impl<N: StoreName, R: Wait> Room<'_, N, R> {
-    fn open(&mut self, alloc: Global, count: u64) -> Ran {
+impl<N: StoreName> Room<'_, N> {
+    fn open<R: Wait>(&mut self, rt: &R, alloc: Global, count: u64) -> Ran {
         for _ in 0..count {
-            let session = self.store.session(self.rt, alloc).ok();
+            let session = self.store.session(rt, alloc).ok();
             self.sessions.push(session.ok_or(Wrong::Missing)?)?;
         }
         Ok(())
     }
 
-    fn take_each(&mut self, made: &mut Vec<u8>, deed: Words, input: &[u8]) -> Ran {
+    fn take_each<R: Wait>(&mut self, rt: &R, made: &mut Vec<u8>, deed: Words, input: &[u8]) -> Ran {
         for number in 0..self.sessions.len() {
-            self.take(made, number, deed, input)?;
+            self.take(rt, made, number, deed, input)?;
         }
         Ok(())
     }
 
-    fn take_once(&mut self, made: &mut Vec<u8>, deed: Words, input: &[u8]) -> Ran {
+    fn take_once<R: Wait>(&mut self, rt: &R, made: &mut Vec<u8>, deed: Words, input: &[u8]) -> Ran {
         let number = self.sessions.len();
-        match self.store.session(self.rt, *made.allocator()) {
+        match self.store.session(rt, *made.allocator()) {
             Ok(session) => self.sessions.push(session)?,
             Err(fault) => return tell_fault(made, &fault),
         }
-        self.take(made, number, Words { text: "number" }, input)?;
-        let ran = self.take(made, number, deed, input);
+        self.take(rt, made, number, Words { text: "number" }, input)?;
+        let ran = self.take(rt, made, number, deed, input);
         let _ended = self.sessions.pop();
         ran
     }
 
     /// `number`, `hear 1`, `receipt 1`, `times 50 add a 1`, or an operation.
-    fn take(&mut self, made: &mut Vec<u8>, number: usize, deed: Words, input: &[u8]) -> Ran {
+    fn take<R: Wait>(
+        &mut self,
+        rt: &R,
+        made: &mut Vec<u8>,
+        number: usize,
+        deed: Words,
+        input: &[u8],
+    ) -> Ran {
         let alloc = *made.allocator();
         let session = self.sessions.get_mut(number).ok_or(Wrong::Missing)?;
         match deed.word(0)? {
@@ -163,15 +168,15 @@ impl<N: StoreName, R: Wait> Room<'_, N, R> {
             "times" => {
                 let times = deed.number(1)?;
                 let batch = batch_of(alloc, behind(deed, 3), input)?;
-                let receipts = add_often(self.rt, alloc, session, &batch, times);
+                let receipts = add_often(rt, alloc, session, &batch, times);
                 tell(made, &format_args!("{receipts} receipts"))
             }
-            _ => self.operate(made, number, op_of(alloc, deed, input)?),
+            _ => self.operate(rt, made, number, op_of(alloc, deed, input)?),
         }
     }
 
-    fn operate(&mut self, made: &mut Vec<u8>, number: usize, op: Op) -> Ran {
-        let (rt, alloc) = (self.rt, *made.allocator());
+    fn operate<R: Wait>(&mut self, rt: &R, made: &mut Vec<u8>, number: usize, op: Op) -> Ran {
+        let alloc = *made.allocator();
         let session = self.sessions.get_mut(number).ok_or(Wrong::Missing)?;
         match op {
             Op::Add(batch) => match session.add(rt, alloc, batch) {
@@ -193,7 +198,7 @@ impl<N: StoreName, R: Wait> Room<'_, N, R> {
     }
 
     /// `hold 300 ask folded`: the first session's answer, while the second adds the rows of the input so often.
-    fn hold(&mut self, made: &mut Vec<u8>, deed: Words, input: &[u8]) -> Ran {
+    fn hold<R: Wait>(&mut self, rt: &R, made: &mut Vec<u8>, deed: Words, input: &[u8]) -> Ran {
         let (alloc, times) = (*made.allocator(), deed.number(0)?);
         let (first, others) = self.sessions.split_first_mut().ok_or(Wrong::Missing)?;
         let second = others.first_mut().ok_or(Wrong::Missing)?;
@@ -201,7 +206,7 @@ impl<N: StoreName, R: Wait> Room<'_, N, R> {
         let query = query_of(alloc, behind(deed, 1))?;
         match first.ask(alloc, &query) {
             Ok(answer) => {
-                let receipts = add_often(self.rt, alloc, second, &batch, times);
+                let receipts = add_often(rt, alloc, second, &batch, times);
                 tell_answer(made, answer)?;
                 tell(made, &format_args!("{receipts} receipts"))
             }

@@ -6,6 +6,7 @@ use crate::bytes::{Wrong, say};
 use crate::checker::Checker;
 use crate::reports::Given;
 use crate::rows::{self, agree, done};
+use crate::scenes::{Ran, Scene, run_opened};
 use crate::script::{Script, Step, Words};
 use profile_store::{
     Batch, CallTree, Grower, Hashing, OrderedRows, Plan, WeightedStacks, Width, aggregate_stacks,
@@ -13,6 +14,7 @@ use profile_store::{
 };
 use std::alloc::Global;
 use std::mem;
+use std::sync::Wait;
 
 /// The plan of rows.
 fn plan_of(alloc: Global, grower: &mut Grower, rows: &Batch) -> Result<Plan, Wrong>
@@ -90,60 +92,30 @@ fn agree_on_answer(
 
 /// A tree that grows, and a share of it as it was.
 #[derive(Drop)]
-struct Scene {
+struct Growing {
     grower: Grower,
     shared: CallTree,
 }
 
 /// `tree width 1`: an empty tree, and what the steps after it in the block make of it.
-pub(crate) fn run_scene(
+pub(crate) fn run_scene<R: Wait>(
+    rt: &R,
     checker: &mut Checker,
     script: &mut Script,
     step: &Step,
-) -> Result<(), Wrong> {
+) -> Ran {
     checker.begin(step)?;
-    match Scene::open(checker.alloc, step.words) {
-        Ok(mut scene) => run_steps(checker, script, step, &mut scene),
+    match Growing::open(checker.alloc, step.words) {
+        Ok(mut growing) => {
+            let ran = add_total(&growing.shared, &mut checker.made);
+            run_opened(rt, checker, script, step, ran, &mut growing)
+        }
         Err(wrong) => checker.settle(step, Err(wrong)),
     }
 }
 
-fn run_steps(
-    checker: &mut Checker,
-    script: &mut Script,
-    first: &Step,
-    scene: &mut Scene,
-) -> Result<(), Wrong> {
-    let ran = add_total(&scene.shared, &mut checker.made);
-    checker.settle(first, ran)?;
-    for _ in 0..script.most_steps() {
-        let Some(step) = script.next_step() else {
-            break;
-        };
-        checker.begin(&step)?;
-        let ran = scene.run(step.words, checker.input.as_slice(), &mut checker.made);
-        checker.settle(&step, ran)?;
-    }
-    Ok(())
-}
-
-impl Scene {
-    fn open(alloc: Global, words: Words) -> Result<Scene, Wrong> {
-        let hashing = Hashing::of_key(7);
-        let grower = Grower::with_hashing(alloc, hashing, rows::width_of(words)?)?;
-        let shared = grower.tree().share()?;
-        Ok(Scene { grower, shared })
-    }
-
-    /// The tree that a step asks: its own, or the share.
-    fn tree_of(&self, words: Words) -> &CallTree {
-        match words.after("of") {
-            Some("share") => &self.shared,
-            _ => self.grower.tree(),
-        }
-    }
-
-    fn run(&mut self, words: Words, input: &[u8], made: &mut Vec<u8>) -> Result<(), Wrong> {
+impl Scene for Growing {
+    fn run<R: Wait>(&mut self, _rt: &R, words: Words, input: &[u8], made: &mut Vec<u8>) -> Ran {
         match words.word(0)? {
             "ask" => ask(
                 self.tree_of(words),
@@ -160,6 +132,23 @@ impl Scene {
                 let rows = rows_of(self.shared.width(), input, made)?;
                 grow(&mut self.grower, words, &rows, made)
             }
+        }
+    }
+}
+
+impl Growing {
+    fn open(alloc: Global, words: Words) -> Result<Growing, Wrong> {
+        let hashing = Hashing::of_key(7);
+        let grower = Grower::with_hashing(alloc, hashing, rows::width_of(words)?)?;
+        let shared = grower.tree().share()?;
+        Ok(Growing { grower, shared })
+    }
+
+    /// The tree that a step asks: its own, or the share.
+    fn tree_of(&self, words: Words) -> &CallTree {
+        match words.after("of") {
+            Some("share") => &self.shared,
+            _ => self.grower.tree(),
         }
     }
 }

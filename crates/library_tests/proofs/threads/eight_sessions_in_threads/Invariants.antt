@@ -1,4 +1,4 @@
-use Rattle.store_tests.proofs.threads.eight_sessions_in_threads.Given as goal
+use Rattle.library_tests.proofs.threads.eight_sessions_in_threads.Given as goal
 
 abbrev pub ghosts-tallied : goal.ghosts-tallied
 ghosts-tallied g a =

@@ -1,4 +1,4 @@
-use Rattle.store_tests.proofs.workers.story.Given as goal
+use Rattle.library_tests.proofs.workers.story.Given as goal
 
 abbrev pub ghosts-worked : goal.ghosts-worked
 ghosts-worked g a =

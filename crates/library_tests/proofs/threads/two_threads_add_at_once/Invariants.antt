@@ -1,4 +1,4 @@
-use Rattle.store_tests.proofs.threads.two_threads_add_at_once.Given as goal
+use Rattle.library_tests.proofs.threads.two_threads_add_at_once.Given as goal
 
 abbrev pub ghosts-threaded : goal.ghosts-threaded
 ghosts-threaded g a =

@@ -10,18 +10,12 @@ use crate::scenes::{Ran, Scene, run_opened, tell, tell_fault};
 use crate::script::{Script, Step, Words};
 use profile_store::{Book, CallTree, Change, Op, Ready, Receipt, Width};
 use std::alloc::Global;
-use std::sync::Wait;
 
 /// Opens a book, and runs the steps that drive it.
-pub(crate) fn run_scene<R: Wait>(
-    rt: &R,
-    checker: &mut Checker,
-    script: &mut Script,
-    step: &Step,
-) -> Ran {
+pub(crate) fn run_scene(checker: &mut Checker, script: &mut Script, step: &Step) -> Ran {
     checker.begin(step)?;
     match book_of(checker.alloc, step.words) {
-        Ok(book) => run_book(rt, checker, script, step, book),
+        Ok(book) => run_book(checker, script, step, book),
         Err(wrong) => checker.settle(step, Err(wrong)),
     }
 }
@@ -36,23 +30,17 @@ fn book_of(alloc: Global, words: Words) -> Result<Book, Wrong> {
     Ok(Book::new(alloc, limit, sessions, width)?)
 }
 
-fn run_book<R: Wait>(
-    rt: &R,
-    checker: &mut Checker,
-    script: &mut Script,
-    step: &Step,
-    book: Book,
-) -> Ran {
+fn run_book(checker: &mut Checker, script: &mut Script, step: &Step, book: Book) -> Ran {
     let mut book = book;
-    let ran = run_opened(rt, checker, script, step, Ok(()), &mut book);
+    let ran = run_opened(checker, script, step, Ok(()), &mut book);
     let no_logs = ran.and(Ok(Vec::new(checker.alloc)));
-    run_closed(rt, checker, script, &book.into_journal(), no_logs)
+    run_closed(checker, script, &book.into_journal(), no_logs)
 }
 
 impl Scene for Book {
     /// `0.1 add a 1`, `0.1 reset`: the second change of session 0. `prepare` before it tells of the totals around the
     /// change, and `drop` lets a prepared one go.
-    fn run<R: Wait>(&mut self, _rt: &R, words: Words, input: &[u8], made: &mut Vec<u8>) -> Ran {
+    fn run(&mut self, words: Words, input: &[u8], made: &mut Vec<u8>) -> Ran {
         let (alloc, first) = (*made.allocator(), words.word(0)?);
         if first == "state" {
             return tell_state(made, self);

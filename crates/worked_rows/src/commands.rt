@@ -56,8 +56,8 @@ fn run_step<R: Threads + Wait + RandomSource + Sync>(
     step: &Step,
 ) -> Result<(), Wrong> {
     match step.words.word(0)? {
-        "tree" => trees::run_scene(rt, checker, script, step),
-        "book" => books::run_scene(rt, checker, script, step),
+        "tree" => trees::run_scene(checker, script, step),
+        "book" => books::run_scene(checker, script, step),
         "store" => stores::run_scene(rt, checker, script, step),
         _ => {
             let ran = run_command(rt, checker, streams, step);

@@ -10,7 +10,6 @@ use profile_store::{
     write_stacks,
 };
 use std::alloc::Global;
-use std::sync::Wait;
 
 /// A journal, and what the sessions were told that had the store.
 #[derive(Drop)]
@@ -20,19 +19,18 @@ struct Closed<'a> {
 }
 
 /// Runs the steps behind `close`, where those before it could be run.
-pub(crate) fn run_closed<R: Wait>(
-    rt: &R,
+pub(crate) fn run_closed(
     checker: &mut Checker,
     script: &mut Script,
     journal: &Journal,
     logs: Result<Vec<SessionLog>, Wrong>,
 ) -> Ran {
     let logs = logs?;
-    run_steps(rt, checker, script, &mut Closed { journal, logs })
+    run_steps(checker, script, &mut Closed { journal, logs })
 }
 
 impl Scene for Closed<'_> {
-    fn run<R: Wait>(&mut self, _rt: &R, words: Words, input: &[u8], made: &mut Vec<u8>) -> Ran {
+    fn run(&mut self, words: Words, input: &[u8], made: &mut Vec<u8>) -> Ran {
         let journal = self.journal;
         match words.word(0)? {
             "state" => tell_state(made, journal),

@@ -4,7 +4,6 @@ use crate::bytes::{Wrong, refuse, say};
 use crate::checker::Checker;
 use crate::script::{Script, Step, Words};
 use std::fmt::Display;
-use std::sync::Wait;
 
 /// How a step ran.
 pub(crate) type Ran = Result<(), Wrong>;
@@ -12,12 +11,11 @@ pub(crate) type Ran = Result<(), Wrong>;
 /// What the steps of a block share.
 pub(crate) trait Scene {
     /// Runs a step.
-    fn run<R: Wait>(&mut self, rt: &R, words: Words, input: &[u8], made: &mut Vec<u8>) -> Ran;
+    fn run(&mut self, words: Words, input: &[u8], made: &mut Vec<u8>) -> Ran;
 }
 
 /// Settles the step that opened a scene, and runs the steps after it.
-pub(crate) fn run_opened<R: Wait, S: Scene>(
-    rt: &R,
+pub(crate) fn run_opened<S: Scene>(
     checker: &mut Checker,
     script: &mut Script,
     opening: &Step,
@@ -25,28 +23,39 @@ pub(crate) fn run_opened<R: Wait, S: Scene>(
     scene: &mut S,
 ) -> Ran {
     checker.settle(opening, opened)?;
-    run_steps(rt, checker, script, scene)
+    run_steps(checker, script, scene)
 }
 
-/// Runs the steps of a block up to `close`, or to its end.
-pub(crate) fn run_steps<R: Wait, S: Scene>(
-    rt: &R,
+/// Runs the steps of a scene.
+pub(crate) fn run_steps<S: Scene>(
     checker: &mut Checker,
     script: &mut Script,
     scene: &mut S,
 ) -> Ran {
     for _ in 0..script.most_steps() {
-        let Some(step) = script.next_step() else {
+        let Some(step) = next_step(checker, script)? else {
             break;
         };
-        checker.begin(&step)?;
-        if step.words.text == "close" {
-            return checker.settle(&step, Ok(()));
-        }
-        let ran = scene.run(rt, step.words, checker.input.as_slice(), &mut checker.made);
+        let ran = scene.run(step.words, checker.input.as_slice(), &mut checker.made);
         checker.settle(&step, ran)?;
     }
     Ok(())
+}
+
+/// The next step of a scene, with its input. The block's end or `close` ends a scene.
+pub(crate) fn next_step<'a>(
+    checker: &mut Checker,
+    script: &mut Script<'a>,
+) -> Result<Option<Step<'a>>, Wrong> {
+    let Some(step) = script.next_step() else {
+        return Ok(None);
+    };
+    checker.begin(&step)?;
+    if step.words.text == "close" {
+        checker.settle(&step, Ok(()))?;
+        return Ok(None);
+    }
+    Ok(Some(step))
 }
 
 /// Adds a value as a line.

@@ -6,7 +6,7 @@ use crate::bytes::{Wrong, usize_of};
 use crate::checker::Checker;
 use crate::journals::run_closed;
 use crate::operations::{batch_of, behind, op_of, query_of, small_after, tell_answer};
-use crate::scenes::{Ran, Scene, run_opened, tell, tell_fault};
+use crate::scenes::{Ran, next_step, tell, tell_fault};
 use crate::script::{Script, Step, Words};
 use profile_store::{
     Batch, Blank, Hashing, MakeFault, Op, Placed, Query, Reply, Session, SessionLog, Store,
@@ -66,7 +66,7 @@ fn run_store<N: StoreName, R: Wait>(
 {
     let store = Store::<N>::start(blank);
     let logs = run_sessions(rt, checker, script, step, &store);
-    run_closed(rt, checker, script, &store.close(rt), logs)
+    run_closed(checker, script, &store.close(rt), logs)
 }
 
 /// Opens the sessions, fewer than there are with `open 1`, and gives their logs.
@@ -86,7 +86,11 @@ fn run_sessions<N: StoreName, R: Wait>(
         told: Vec::new(alloc),
     };
     let opened = room.open(rt, alloc, count);
-    match run_opened(rt, checker, script, step, opened, &mut room) {
+    let ran = match checker.settle(step, opened) {
+        Ok(()) => room.run_steps(rt, checker, script),
+        Err(wrong) => Err(wrong),
+    };
+    match ran {
         Ok(()) => logs_of(alloc, room.sessions),
         Err(wrong) => Err(wrong),
     }
@@ -104,7 +108,18 @@ fn logs_of<N: StoreName>(
     Ok(logs)
 }
 
-impl<N: StoreName> Scene for Room<'_, N> {
+impl<N: StoreName> Room<'_, N> {
+    fn run_steps<R: Wait>(&mut self, rt: &R, checker: &mut Checker, script: &mut Script) -> Ran {
+        for _ in 0..script.most_steps() {
+            let Some(step) = next_step(checker, script)? else {
+                break;
+            };
+            let ran = self.run(rt, step.words, checker.input.as_slice(), &mut checker.made);
+            checker.settle(&step, ran)?;
+        }
+        Ok(())
+    }
+
     /// `0 add a 1`: an operation of session 0. With `each` all sessions take it in turn, and with `once` the next
     /// session of the store, which then ends.
     fn run<R: Wait>(&mut self, rt: &R, words: Words, input: &[u8], made: &mut Vec<u8>) -> Ran {
@@ -116,9 +131,7 @@ impl<N: StoreName> Scene for Room<'_, N> {
             _ => self.take(rt, made, usize_of(words.number(0)?)?, deed, input),
         }
     }
-}
 
-impl<N: StoreName> Room<'_, N> {
     fn open<R: Wait>(&mut self, rt: &R, alloc: Global, count: u64) -> Ran {
         for _ in 0..count {
             let session = self.store.session(rt, alloc).ok();

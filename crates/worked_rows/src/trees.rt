@@ -14,7 +14,6 @@ use profile_store::{
 };
 use std::alloc::Global;
 use std::mem;
-use std::sync::Wait;
 
 /// The plan of rows.
 fn plan_of(alloc: Global, grower: &mut Grower, rows: &Batch) -> Result<Plan, Wrong>
@@ -98,24 +97,19 @@ struct Growing {
 }
 
 /// `tree width 1`: an empty tree, and what the steps after it in the block make of it.
-pub(crate) fn run_scene<R: Wait>(
-    rt: &R,
-    checker: &mut Checker,
-    script: &mut Script,
-    step: &Step,
-) -> Ran {
+pub(crate) fn run_scene(checker: &mut Checker, script: &mut Script, step: &Step) -> Ran {
     checker.begin(step)?;
     match Growing::open(checker.alloc, step.words) {
         Ok(mut growing) => {
             let ran = add_total(&growing.shared, &mut checker.made);
-            run_opened(rt, checker, script, step, ran, &mut growing)
+            run_opened(checker, script, step, ran, &mut growing)
         }
         Err(wrong) => checker.settle(step, Err(wrong)),
     }
 }
 
 impl Scene for Growing {
-    fn run<R: Wait>(&mut self, _rt: &R, words: Words, input: &[u8], made: &mut Vec<u8>) -> Ran {
+    fn run(&mut self, words: Words, input: &[u8], made: &mut Vec<u8>) -> Ran {
         match words.word(0)? {
             "ask" => ask(
                 self.tree_of(words),

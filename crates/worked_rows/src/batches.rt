@@ -67,7 +67,7 @@ fn run_batch(asked: &Asked, batch: &Batch, made: &mut Vec<u8>) -> Result<(), Wro
 /// The first fault of folded text, which each way to read it has.
 fn refuse_text(asked: &Asked, fault: FoldedFault, made: &mut Vec<u8>) -> Result<(), Wrong> {
     let (alloc, hashing, text) = (asked.alloc, asked.hashing, asked.input);
-    refuse(alloc, made, &fault)?;
+    refuse(made, &fault)?;
     let faults = [
         read_folded_with(alloc, hashing, text).err(),
         read_ordered(alloc, hashing, text).err(),

@@ -2,11 +2,11 @@
 
 ghost use Rattle.std.specs.Prelude.{◌≡◌};
 
-use crate::bytes::Wrong;
+use crate::bytes::{Wrong, refuse, say};
 use crate::checker::Checker;
 use crate::journals::run_closed;
-use crate::operations::{behind, op_of, place_of, small_after};
-use crate::scenes::{Ran, Scene, run_opened, tell, tell_fault};
+use crate::operations::{op_of, place_of, small_after};
+use crate::scenes::{Ran, Scene, run_opened};
 use crate::script::{Script, Step, Words};
 use profile_store::{Book, CallTree, Change, Op, Ready, Receipt, Width};
 use std::alloc::Global;
@@ -48,7 +48,7 @@ impl Scene for Book {
         let (turn, verb) = (turn_of(first)?, words.word(1)?);
         let is_prepared = verb == "prepare" || verb == "drop";
         let skipped = if is_prepared { 2 } else { 1 };
-        let op = op_of(alloc, behind(words, skipped), input)?;
+        let op = op_of(alloc, words.rest(skipped), input)?;
         if is_prepared {
             prepare(made, self, turn, &op, verb == "prepare")
         } else {
@@ -60,7 +60,7 @@ impl Scene for Book {
 fn tell_state(made: &mut Vec<u8>, book: &Book) -> Ran {
     let (entries, total) = (book.entries().len(), book.tree().total());
     let total = total.values();
-    tell(made, &format_args!("{entries} entries, {total:?}"))
+    say(made, &format_args!("{entries} entries, {total:?}"))
 }
 
 /// A session, and how many changes it made before.
@@ -83,11 +83,11 @@ fn change(made: &mut Vec<u8>, book: &mut Book, turn: Turn, op: Op) -> Ran {
     match op {
         Op::Add(batch) => match book.add(alloc, session, turn, batch) {
             Ok(receipt) => tell_receipt(made, &receipt),
-            Err(refused) => tell_fault(made, &refused.fault),
+            Err(refused) => refuse(made, &refused.fault),
         },
         Op::Reset => match book.reset(alloc, session, turn) {
             Ok(receipt) => tell_receipt(made, &receipt),
-            Err(fault) => tell_fault(made, &fault),
+            Err(fault) => refuse(made, &fault),
         },
         Op::Ask(_) => Err(Wrong::Command),
     }
@@ -95,7 +95,7 @@ fn change(made: &mut Vec<u8>, book: &mut Book, turn: Turn, op: Op) -> Ran {
 
 fn tell_receipt(made: &mut Vec<u8>, receipt: &Receipt) -> Ran {
     let (place, at) = (place_of(&receipt.reply)?, receipt.at);
-    tell(made, &format_args!("place {place} at {at}"))
+    say(made, &format_args!("place {place} at {at}"))
 }
 
 /// Prepares a change, which is then made or let go.
@@ -107,8 +107,8 @@ fn prepare(made: &mut Vec<u8>, book: &mut Book, turn: Turn, op: &Op, is_made: bo
     };
     match book.prepare(*made.allocator(), turn.session, turn.turn, change) {
         Ok(ready) if is_made => settle(made, book, ready),
-        Ok(ready) => tell(made, &format_args!("ready {}", total_of(ready.next()))),
-        Err(fault) => tell_fault(made, &fault),
+        Ok(ready) => say(made, &format_args!("ready {}", total_of(ready.next()))),
+        Err(fault) => refuse(made, &fault),
     }
 }
 
@@ -119,7 +119,7 @@ fn settle(made: &mut Vec<u8>, book: &mut Book, ready: Ready) -> Ran
     let (before, next) = (total_of(book.tree()), total_of(ready.next()));
     let at = book.settle(ready).at;
     let after = total_of(book.tree());
-    tell(
+    say(
         made,
         &format_args!("before {before}, ready {next}, after {after}, at {at}"),
     )

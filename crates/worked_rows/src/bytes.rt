@@ -359,23 +359,16 @@ pub(crate) fn print<D: Display>(made: &mut Vec<u8>, value: &D) -> Result<(), Wro
 }
 
 /// Adds a value as a line.
-pub(crate) fn say<D: Display>(alloc: Global, made: &mut Vec<u8>, value: &D) -> Result<(), Wrong> {
-    let text = format!(in alloc; "{value}\n")?;
-    Ok(made.extend_from_slice(text.as_bytes())?)
+pub(crate) fn say<D: Display>(made: &mut Vec<u8>, value: &D) -> Result<(), Wrong> {
+    print(made, &format_args!("{value}\n"))
 }
 
 /// Adds a fault as a line.
-pub(crate) fn refuse<D: Display>(
-    alloc: Global,
-    made: &mut Vec<u8>,
-    fault: &D,
-) -> Result<(), Wrong> {
-    let text = format!(in alloc; "! {fault}\n")?;
-    Ok(made.extend_from_slice(text.as_bytes())?)
+pub(crate) fn refuse<D: Display>(made: &mut Vec<u8>, fault: &D) -> Result<(), Wrong> {
+    print(made, &format_args!("! {fault}\n"))
 }
 
 /// Adds a value as a line, as `{:?}` prints it.
-pub(crate) fn show<D: Debug>(alloc: Global, made: &mut Vec<u8>, value: &D) -> Result<(), Wrong> {
-    let text = format!(in alloc; "{value:?}\n")?;
-    Ok(made.extend_from_slice(text.as_bytes())?)
+pub(crate) fn show<D: Debug>(made: &mut Vec<u8>, value: &D) -> Result<(), Wrong> {
+    print(made, &format_args!("{value:?}\n"))
 }

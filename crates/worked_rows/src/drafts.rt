@@ -40,7 +40,7 @@ pub(crate) fn make_draft(alloc: Global, input: &[u8], made: &mut Vec<u8>) -> Res
 fn checked(alloc: Global, draft: Draft, made: &mut Vec<u8>) -> Result<Draft, Wrong> {
     match check(alloc, draft) {
         Ok(profile) => say_profile(&profile, made).and(Ok(profile.into_draft())),
-        Err(refused) => refuse(alloc, made, &refused.fault).and(Ok(refused.back)),
+        Err(refused) => refuse(made, &refused.fault).and(Ok(refused.back)),
     }
 }
 

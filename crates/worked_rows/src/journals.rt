@@ -1,9 +1,9 @@
 //! What a closed book or store leaves: its journal, the tree of what counts, and audits of logs against it.
 
-use crate::bytes::{Wrong, usize_of};
+use crate::bytes::{Wrong, refuse, say, usize_of};
 use crate::checker::Checker;
 use crate::operations::{place_of, receipt_of};
-use crate::scenes::{Ran, Scene, run_steps, tell, tell_fault};
+use crate::scenes::{Ran, Scene, run_steps};
 use crate::script::{Script, Words};
 use profile_store::{
     AuditFault, Entry, Hashing, Items, Journal, Op, Receipt, Run, SessionLog, audit, audit_with,
@@ -49,7 +49,7 @@ fn tell_state(made: &mut Vec<u8>, journal: &Journal) -> Ran {
     let (entries, sessions) = (journal.entries().len(), journal.sessions());
     let total = journal.tree().total();
     let total = total.values();
-    tell(
+    say(
         made,
         &format_args!("{entries} entries, {total:?}, {sessions} sessions"),
     )
@@ -59,7 +59,7 @@ fn tell_state(made: &mut Vec<u8>, journal: &Journal) -> Ran {
 fn tell_entries(made: &mut Vec<u8>, entries: &[Entry]) -> Ran {
     for entry in entries {
         let (session, turn, place) = (entry.session, entry.turn, place_of(&entry.reply)?);
-        tell(made, &format_args!("{session}.{turn} place {place}"))?;
+        say(made, &format_args!("{session}.{turn} place {place}"))?;
         tell_change(made, &entry.op)?;
     }
     Ok(())
@@ -71,8 +71,8 @@ fn tell_change(made: &mut Vec<u8>, op: &Op) -> Ran {
             let text = write_stacks(*made.allocator(), batch.first())?;
             Ok(made.extend_from_slice(text.as_slice())?)
         }
-        Op::Reset => tell(made, &"reset"),
-        Op::Ask(_) => tell(made, &"ask"),
+        Op::Reset => say(made, &"reset"),
+        Op::Ask(_) => say(made, &"ask"),
     }
 }
 
@@ -88,7 +88,7 @@ fn share_log(made: &mut Vec<u8>, logs: &mut Vec<SessionLog>, place: usize) -> Ra
     let log = logs.get(place).ok_or(Wrong::Missing)?;
     let shared = log.share(*made.allocator())?;
     logs.push(shared)?;
-    tell(made, &format_args!("{} logs", logs.len()))
+    say(made, &format_args!("{} logs", logs.len()))
 }
 
 /// The logs that the input spells, one in each line: `1: add b 2 at 1, ask total says 3 at 2`.
@@ -144,10 +144,10 @@ pub(crate) fn tell_verdict(
     verdict: &Result<Run, AuditFault>,
 ) -> Ran {
     match verdict {
-        Ok(run) if words.has("counted") => tell(made, &format_args!("{} steps", run.steps().len())),
+        Ok(run) if words.has("counted") => say(made, &format_args!("{} steps", run.steps().len())),
         Ok(run) if words.has("listed") => tell_steps(made, run, '\n'),
         Ok(run) => tell_steps(made, run, ' '),
-        Err(fault) => tell_fault(made, fault),
+        Err(fault) => refuse(made, fault),
     }
 }
 
@@ -171,5 +171,5 @@ pub(crate) fn compare_receipts(alloc: Global, input: &[u8], made: &mut Vec<u8>) 
         return Err(Wrong::Line);
     };
     let (op, reply) = (first.op == second.op, first.reply == second.reply);
-    tell(made, &format_args!("operation {op}, reply {reply}"))
+    say(made, &format_args!("operation {op}, reply {reply}"))
 }

@@ -1,8 +1,8 @@
 //! What `live` writes: `live sessions 2 all warm`.
 
-use crate::bytes::Wrong;
+use crate::bytes::{Wrong, refuse, say};
 use crate::operations::{batch_of, small_after};
-use crate::scenes::{Ran, tell, tell_fault};
+use crate::scenes::Ran;
 use crate::script::Words;
 use live_report::{LiveOptions, Progress, live_text};
 use profile_store::Hashing;
@@ -41,8 +41,8 @@ pub(crate) fn run_live<R: Threads + Wait + Sync>(
     let batch = batch_of(alloc, Words { text: row }, input)?;
     match live_text(rt, alloc, Hashing::fixed(), &heard, batch, options) {
         Ok(text) => made.extend_from_slice(text.as_slice())?,
-        Err(fault) => return tell_fault(made, &fault),
+        Err(fault) => return refuse(made, &fault),
     }
     let rows = heard.rows.load(Ordering::SeqCst);
-    tell(made, &format_args!("heard of {rows} rows"))
+    say(made, &format_args!("heard of {rows} rows"))
 }

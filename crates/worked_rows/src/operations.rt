@@ -1,7 +1,7 @@
 //! What is asked of a book, a store or a worker, as a script spells it: `add main;a 3`, `reset`, `ask total`.
 
-use crate::bytes::Wrong;
-use crate::scenes::{Ran, tell};
+use crate::bytes::{Wrong, say};
+use crate::scenes::Ran;
 use crate::script::Words;
 use profile_store::{
     Answer, Batch, Columns, Kind, Name, Op, Query, Rank, Receipt, Reply, Stack, Weights,
@@ -9,16 +9,6 @@ use profile_store::{
 };
 use std::alloc::Global;
 use std::sync::Arc;
-
-/// What stands behind so many words.
-pub(crate) fn behind(words: Words, count: usize) -> Words {
-    let mut text = words.text;
-    for _ in 0..count {
-        let (_, rest) = text.split_once(' ').unwrap_or((text, ""));
-        text = rest;
-    }
-    Words { text }
-}
 
 /// The number of 32 bits after a word, or another where the word isn't there.
 pub(crate) fn small_after(words: Words, key: &str, other: u64) -> Result<u32, Wrong> {
@@ -29,7 +19,7 @@ pub(crate) fn small_after(words: Words, key: &str, other: u64) -> Result<u32, Wr
 /// `add main;a 3`, `add a 1 0` of two values, `add` of the folded text in the input, `reset`, `ask total`.
 pub(crate) fn op_of(alloc: Global, words: Words, input: &[u8]) -> Result<Op, Wrong> {
     match words.word(0)? {
-        "add" => Ok(Op::Add(batch_of(alloc, behind(words, 1), input)?)),
+        "add" => Ok(Op::Add(batch_of(alloc, words.rest(1), input)?)),
         "reset" => Ok(Op::Reset),
         "ask" => Ok(Op::Ask(query_of(alloc, words)?)),
         _ => Err(Wrong::Command),
@@ -157,7 +147,7 @@ pub(crate) fn tell_answer(made: &mut Vec<u8>, answer: &Answer) -> Ran {
             Ok(made.extend_from_slice(text.as_bytes())?)
         }
         Answer::Top(top) => Ok(made.extend_from_slice(top_text(alloc, top)?.as_slice())?),
-        Answer::Flame(flame) => tell(made, &flame_json(alloc, flame)?.as_str()),
+        Answer::Flame(flame) => say(made, &flame_json(alloc, flame)?.as_str()),
         Answer::Folded(text) => Ok(made.extend_from_slice(text.as_slice())?),
     }
 }

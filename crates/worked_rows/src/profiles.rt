@@ -16,7 +16,7 @@ pub(crate) fn read_profile(words: Words, input: &[u8], made: &mut Vec<u8>) -> Re
     }
     match decode(*made.allocator(), input) {
         Ok(profile) => answer_by(words, &profile, made),
-        Err(fault) => refuse(*made.allocator(), made, &fault),
+        Err(fault) => refuse(made, &fault),
     }
 }
 

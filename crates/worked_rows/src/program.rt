@@ -88,11 +88,7 @@ impl<'a, T: Threads + Wait + RandomSource + Sync> Run<'a, T> {
     ) -> Result<(), Wrong> {
         made.extend_from_slice(writer.taken.as_slice())?;
         if writer.is_flushed != (status.code == 0) {
-            say(
-                self.alloc,
-                made,
-                &format_args!("flushed: {}", writer.is_flushed),
-            )?;
+            say(made, &format_args!("flushed: {}", writer.is_flushed))?;
         }
         if status.code == 0 {
             return Ok(());
@@ -277,14 +273,10 @@ impl<'a, T: Threads + Wait + RandomSource + Sync> Run<'a, T> {
     pub(crate) fn read(self, made: &mut Vec<u8>) -> Result<(), Wrong> {
         let mut reader = self.streams.reader(self.input);
         match read_input(self.alloc, &mut reader, self.streams.limit.min(MAX_INPUT)) {
-            Ok(input) => say(self.alloc, made, &format_args!("{} bytes", input.len()))?,
-            Err(fault) => refuse(self.alloc, made, &fault)?,
+            Ok(input) => say(made, &format_args!("{} bytes", input.len()))?,
+            Err(fault) => refuse(made, &fault)?,
         }
-        say(
-            self.alloc,
-            made,
-            &format_args!("{} left", reader.rest.len()),
-        )
+        say(made, &format_args!("{} left", reader.rest.len()))
     }
 }
 
@@ -299,14 +291,10 @@ fn args_of(alloc: Global, command: &str) -> Result<Args, Wrong> {
 
 /// Adds a process's exit status, what it said, and whether that was said whole.
 fn add_process(alloc: Global, end: &End, said: &[u8], made: &mut Vec<u8>) -> Result<(), Wrong> {
-    say(
-        alloc,
-        made,
-        &format_args!("status {}", status_of(&end.code)),
-    )?;
+    say(made, &format_args!("status {}", status_of(&end.code)))?;
     made.extend_from_slice(said)?;
     if end.said.is_err() {
-        say(alloc, made, &"\nnot said")?;
+        say(made, &"\nnot said")?;
     }
     Ok(())
 }
@@ -357,7 +345,7 @@ impl Ends {
     /// Tells the last end, and how often it came.
     fn tell(&mut self, alloc: Global, made: &mut Vec<u8>) -> Result<(), Wrong> {
         if self.times > 0 {
-            say(alloc, made, &format_args!("{} times", self.times))?;
+            say(made, &format_args!("{} times", self.times))?;
         }
         self.times = 0;
         Ok(made.extend_from_slice(self.last.as_slice())?)

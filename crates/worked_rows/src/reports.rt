@@ -133,33 +133,25 @@ fn agree_on_text(given: &Given, made: &mut Vec<u8>) -> Result<(), Wrong> {
 fn add_answer(asked: &Asked, answer: &Answer, made: &mut Vec<u8>) -> Result<(), Wrong> {
     let alloc = asked.alloc;
     match answer {
-        Answer::Total(total) => say(alloc, made, total),
+        Answer::Total(total) => say(made, total),
         Answer::Top(top) => Ok(made.extend_from_slice(top_text(alloc, top)?.as_slice())?),
         Answer::Flame(flame) if asked.words.has("layout") => add_layout(alloc, flame, made),
-        Answer::Flame(flame) => say(alloc, made, &flame_json(alloc, flame)?),
+        Answer::Flame(flame) => say(made, &flame_json(alloc, flame)?),
         Answer::Folded(text) => {
             made.extend_from_slice(text.as_slice())?;
             let count = text.as_slice().split(|byte| *byte == b'\n').count();
-            say(
-                alloc,
-                made,
-                &format_args!("{} rows", count.saturating_sub(1)),
-            )
+            say(made, &format_args!("{} rows", count.saturating_sub(1)))
         }
     }
 }
 
 /// Adds a line for each rectangle: depth, x, weight, left, how many columns, name. The JSON text has as many.
 fn add_layout(alloc: Global, flame: &Flame, made: &mut Vec<u8>) -> Result<(), Wrong> {
-    say(alloc, made, &format_args!("total {}", flame.total))?;
+    say(made, &format_args!("total {}", flame.total))?;
     for rect in flame.rects.as_slice() {
         let (d, x, w, left) = (rect.depth, rect.x, rect.weight, rect.left);
         let (columns, name) = (rect.right.saturating_sub(left), rect.name.text());
-        say(
-            alloc,
-            made,
-            &format_args!("{d} {x} {w} {left} {columns} {name:?}"),
-        )?;
+        say(made, &format_args!("{d} {x} {w} {left} {columns} {name:?}"))?;
     }
     let json = flame_json(alloc, flame)?;
     let count = json.matches("\"depth\":").count();

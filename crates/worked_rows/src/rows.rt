@@ -10,11 +10,7 @@ pub(crate) fn agree(made: &mut Vec<u8>, way: &str, is_same: bool) -> Result<(), 
     if is_same {
         return Ok(());
     }
-    say(
-        *made.allocator(),
-        made,
-        &format_args!("{way} answers otherwise"),
-    )
+    say(made, &format_args!("{way} answers otherwise"))
 }
 
 /// What a call makes that has to succeed.
@@ -77,9 +73,8 @@ pub(crate) fn values_of(alloc: Global, line: &str) -> Result<Vec<u64>, Wrong> {
 
 /// Tells why a row is refused, and how many frames come back.
 fn tell_refusal(alloc: Global, refused: &Refused<Stack>, made: &mut Vec<u8>) -> Result<(), Wrong> {
-    refuse(alloc, made, &refused.fault)?;
+    refuse(made, &refused.fault)?;
     say(
-        alloc,
         made,
         &format_args!("back {} frames", refused.back.names().len()),
     )
@@ -111,7 +106,7 @@ pub(crate) fn batch_of(width: Width, input: &[u8], made: &mut Vec<u8>) -> Result
 }
 
 pub(crate) fn add_total(alloc: Global, total: &Weights, made: &mut Vec<u8>) -> Result<(), Wrong> {
-    say(alloc, made, &format_args!("total {:?}", total.values()))
+    say(made, &format_args!("total {:?}", total.values()))
 }
 
 /// A batch as folded text by one of its values.

@@ -4,9 +4,9 @@ use crate::bytes::{Wrong, refuse, show, usize_of};
 use crate::profiles::{add_bytes, read_profile, say_profile};
 use crate::script::Words;
 use profile_store::{
-    Batch, BatchFault, Hashing, Name, NoMemory, Profile, ProfileFault, Rank, ValueChoice,
-    ValueUnit, batch_of, batch_of_with, export_folded, merge_samples, profile_of, read_folded,
-    sample_totals, top_list, top_text, unfold, write_folded, write_stacks,
+    Batch, BatchFault, FoldedFault, Hashing, Name, NameFault, NoMemory, Profile, ProfileFault,
+    PushFault, Rank, ValueChoice, ValueUnit, batch_of, batch_of_with, export_folded, merge_samples,
+    profile_of, read_folded, sample_totals, top_list, top_text, unfold, write_folded, write_stacks,
 };
 use std::alloc::Global;
 
@@ -40,7 +40,7 @@ fn say_merged(words: Words, profile: &Profile, made: &mut Vec<u8>) -> Result<(),
     let alloc = *made.allocator();
     match merge_samples(alloc, hashing_of(words)?, profile, choice_of(words)) {
         Ok(stacks) => add_bytes(write_stacks(alloc, &stacks), made),
-        Err(fault) => refuse(alloc, made, &fault),
+        Err(fault) => refuse(made, &fault),
     }
 }
 
@@ -48,7 +48,7 @@ fn say_top(words: Words, profile: &Profile, made: &mut Vec<u8>) -> Result<(), Wr
     let alloc = *made.allocator();
     match sample_totals(alloc, hashing_of(words)?, profile, choice_of(words)) {
         Ok(totals) => add_bytes(top_text(alloc, &top_list(totals, Rank::Flat, 20)?), made),
-        Err(fault) => refuse(alloc, made, &fault),
+        Err(fault) => refuse(made, &fault),
     }
 }
 
@@ -56,7 +56,7 @@ fn say_rows(words: Words, profile: &Profile, made: &mut Vec<u8>) -> Result<(), W
     let alloc = *made.allocator();
     match batch_of_with(alloc, hashing_of(words)?, profile, choice_of(words)) {
         Ok(rows) => say_values(&rows, made),
-        Err(fault) => refuse(alloc, made, &fault),
+        Err(fault) => refuse(made, &fault),
     }
 }
 
@@ -66,7 +66,7 @@ fn say_values(rows: &Batch, made: &mut Vec<u8>) -> Result<(), Wrong> {
         add_bytes(write_folded(*made.allocator(), rows, value), made)?;
     }
     if rows.width().get() > 1 {
-        show(*made.allocator(), made, &rows.total().values())?;
+        show(made, &rows.total().values())?;
     }
     Ok(())
 }
@@ -91,7 +91,7 @@ fn export_samples(words: Words, profile: &Profile, made: &mut Vec<u8>) -> Result
     let alloc = *made.allocator();
     match batch_of(alloc, profile, ValueChoice::All) {
         Ok(rows) => export_rows(words, &rows, made),
-        Err(fault) => refuse(alloc, made, &fault),
+        Err(fault) => refuse(made, &fault),
     }
 }
 
@@ -122,7 +122,7 @@ pub(crate) fn export(words: Words, input: &[u8], made: &mut Vec<u8>) -> Result<(
     }
     match read_folded(*made.allocator(), input) {
         Ok(rows) => export_rows(words, &rows, made),
-        Err(fault) => refuse(*made.allocator(), made, &fault),
+        Err(fault) => refuse(made, &fault),
     }
 }
 
@@ -131,7 +131,7 @@ fn export_text(words: Words, input: &[u8], made: &mut Vec<u8>) -> Result<(), Wro
     let (kind, unit) = words.word(1)?.split_once('/').ok_or(Wrong::Command)?;
     match export_folded(alloc, hashing_of(words)?, input, kind, unit) {
         Ok(bytes) => Ok(made.extend_from_slice(bytes.as_slice())?),
-        Err(fault) => refuse(alloc, made, &fault),
+        Err(fault) => refuse(made, &fault),
     }
 }
 
@@ -142,9 +142,12 @@ pub(crate) fn read_exported(words: Words, input: &[u8], made: &mut Vec<u8>) -> R
     exported.and(read_profile(words, bytes.as_slice(), made))
 }
 
-/// `memory faults`: what is answered where memory runs out.
-pub(crate) fn say_memory_faults(alloc: Global, made: &mut Vec<u8>) -> Result<(), Wrong> {
-    refuse(alloc, made, &NoMemory)?;
-    refuse(alloc, made, &ProfileFault::NoMemory)?;
-    refuse(alloc, made, &BatchFault::NoMemory)
+/// `memory faults`: what calls answer that are out of memory.
+pub(crate) fn say_memory_faults(made: &mut Vec<u8>) -> Result<(), Wrong> {
+    refuse(made, &NoMemory)?;
+    refuse(made, &FoldedFault::NoMemory)?;
+    refuse(made, &PushFault::NoMemory)?;
+    refuse(made, &NameFault::NoMemory)?;
+    refuse(made, &ProfileFault::NoMemory)?;
+    refuse(made, &BatchFault::NoMemory)
 }

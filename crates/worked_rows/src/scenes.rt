@@ -1,9 +1,8 @@
 //! Scenes: blocks whose steps share a value, as a book or a store.
 
-use crate::bytes::{Wrong, refuse, say};
+use crate::bytes::Wrong;
 use crate::checker::Checker;
 use crate::script::{Script, Step, Words};
-use std::fmt::Display;
 
 /// How a step ran.
 pub(crate) type Ran = Result<(), Wrong>;
@@ -56,14 +55,4 @@ pub(crate) fn next_step<'a>(
         return Ok(None);
     }
     Ok(Some(step))
-}
-
-/// Adds a value as a line.
-pub(crate) fn tell<D: Display>(made: &mut Vec<u8>, value: &D) -> Ran {
-    say(*made.allocator(), made, value)
-}
-
-/// Adds a fault as a line.
-pub(crate) fn tell_fault<D: Display>(made: &mut Vec<u8>, fault: &D) -> Ran {
-    refuse(*made.allocator(), made, fault)
 }

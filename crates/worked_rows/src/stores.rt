@@ -2,11 +2,11 @@
 
 ghost use Rattle.std.specs.Prelude.{◌≡◌};
 
-use crate::bytes::{Wrong, usize_of};
+use crate::bytes::{Wrong, refuse, say, usize_of};
 use crate::checker::Checker;
 use crate::journals::run_closed;
-use crate::operations::{batch_of, behind, op_of, query_of, small_after, tell_answer};
-use crate::scenes::{Ran, next_step, tell, tell_fault};
+use crate::operations::{batch_of, op_of, query_of, small_after, tell_answer};
+use crate::scenes::{Ran, next_step};
 use crate::script::{Script, Step, Words};
 use profile_store::{
     Batch, Blank, Hashing, MakeFault, Op, Placed, Query, Reply, Session, SessionLog, Store,
@@ -35,7 +35,7 @@ pub(crate) fn run_scene<R: Wait>(
     match blank_of(checker.alloc, step.words) {
         Ok(Ok(blank)) => run_store::<Brand, R>(rt, checker, script, step, blank),
         Ok(Err(fault)) => {
-            let ran = tell_fault(&mut checker.made, &fault);
+            let ran = refuse(&mut checker.made, &fault);
             checker.settle(step, ran)
         }
         Err(wrong) => checker.settle(step, Err(wrong)),
@@ -123,7 +123,7 @@ impl<N: StoreName> Room<'_, N> {
     /// `0 add a 1`: an operation of session 0. With `each` all sessions take it in turn, and with `once` the next
     /// session of the store, which then ends.
     fn run<R: Wait>(&mut self, rt: &R, words: Words, input: &[u8], made: &mut Vec<u8>) -> Ran {
-        let deed = behind(words, 1);
+        let deed = words.rest(1);
         match words.word(0)? {
             "each" => self.take_each(rt, made, deed, input),
             "once" => self.take_once(rt, made, deed, input),
@@ -151,7 +151,7 @@ impl<N: StoreName> Room<'_, N> {
         let number = self.sessions.len();
         match self.store.session(rt, *made.allocator()) {
             Ok(session) => self.sessions.push(session)?,
-            Err(fault) => return tell_fault(made, &fault),
+            Err(fault) => return refuse(made, &fault),
         }
         self.take(rt, made, number, Words { text: "number" }, input)?;
         let ran = self.take(rt, made, number, deed, input);
@@ -171,18 +171,18 @@ impl<N: StoreName> Room<'_, N> {
         let alloc = *made.allocator();
         let session = self.sessions.get_mut(number).ok_or(Wrong::Missing)?;
         match deed.word(0)? {
-            "number" => tell(made, &format_args!("session {}", session.number())),
+            "number" => say(made, &format_args!("session {}", session.number())),
             "hear" => {
                 let told = self.told.get(usize_of(deed.number(1)?)?);
                 session.hear(told.ok_or(Wrong::Missing)?);
-                tell(made, &"heard")
+                say(made, &"heard")
             }
             "receipt" => tell_receipt(made, session, usize_of(deed.number(1)?)?),
             "times" => {
                 let times = deed.number(1)?;
-                let batch = batch_of(alloc, behind(deed, 3), input)?;
+                let batch = batch_of(alloc, deed.rest(3), input)?;
                 let receipts = add_often(rt, alloc, session, &batch, times);
-                tell(made, &format_args!("{receipts} receipts"))
+                say(made, &format_args!("{receipts} receipts"))
             }
             _ => self.operate(rt, made, number, op_of(alloc, deed, input)?),
         }
@@ -194,11 +194,11 @@ impl<N: StoreName> Room<'_, N> {
         match op {
             Op::Add(batch) => match session.add(rt, alloc, batch) {
                 Ok(placed) => self.keep(made, placed),
-                Err(refused) => tell_fault(made, &refused.fault),
+                Err(refused) => refuse(made, &refused.fault),
             },
             Op::Reset => match session.reset(rt, alloc) {
                 Ok(placed) => self.keep(made, placed),
-                Err(fault) => tell_fault(made, &fault),
+                Err(fault) => refuse(made, &fault),
             },
             Op::Ask(query) => ask(made, session, &query),
         }
@@ -207,7 +207,7 @@ impl<N: StoreName> Room<'_, N> {
     /// Adds the place of a change. What it tells is kept.
     fn keep(&mut self, made: &mut Vec<u8>, placed: Placed<N>) -> Ran {
         self.told.push(placed.told)?;
-        tell(made, &format_args!("place {}", placed.place))
+        say(made, &format_args!("place {}", placed.place))
     }
 
     /// `hold 300 ask folded`: the first session's answer, while the second adds the rows of the input so often.
@@ -215,15 +215,15 @@ impl<N: StoreName> Room<'_, N> {
         let (alloc, times) = (*made.allocator(), deed.number(0)?);
         let (first, others) = self.sessions.split_first_mut().ok_or(Wrong::Missing)?;
         let second = others.first_mut().ok_or(Wrong::Missing)?;
-        let batch = batch_of(alloc, behind(deed, 3), input)?;
-        let query = query_of(alloc, behind(deed, 1))?;
+        let batch = batch_of(alloc, deed.rest(3), input)?;
+        let query = query_of(alloc, deed.rest(1))?;
         match first.ask(alloc, &query) {
             Ok(answer) => {
                 let receipts = add_often(rt, alloc, second, &batch, times);
                 tell_answer(made, answer)?;
-                tell(made, &format_args!("{receipts} receipts"))
+                say(made, &format_args!("{receipts} receipts"))
             }
-            Err(fault) => tell_fault(made, &fault),
+            Err(fault) => refuse(made, &fault),
         }
     }
 }
@@ -234,7 +234,7 @@ fn tell_receipt<N: StoreName>(made: &mut Vec<u8>, session: &Session<'_, N>, plac
     if let Reply::Answered(answer) = &receipt.reply {
         tell_answer(made, answer)?;
     }
-    tell(made, &format_args!("at {}", receipt.at))
+    say(made, &format_args!("at {}", receipt.at))
 }
 
 /// A session adds a batch so often, as long as it isn't refused. It gives how many receipts it then has.
@@ -260,8 +260,8 @@ fn add_often<N: StoreName, R: Wait>(
 fn ask<N: StoreName>(made: &mut Vec<u8>, session: &mut Session<'_, N>, query: &Arc<Query>) -> Ran {
     match session.ask(*made.allocator(), query) {
         Ok(answer) => tell_answer(made, answer)?,
-        Err(fault) => return tell_fault(made, &fault),
+        Err(fault) => return refuse(made, &fault),
     }
     let receipt = session.log().last().ok_or(Wrong::Missing)?;
-    tell(made, &format_args!("at {}", receipt.at))
+    say(made, &format_args!("at {}", receipt.at))
 }

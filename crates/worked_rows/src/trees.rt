@@ -193,7 +193,7 @@ fn reset(grower: &mut Grower, words: Words, made: &mut Vec<u8>) -> Result<(), Wr
 fn add_next(plan: &Plan, tree: &CallTree, made: &mut Vec<u8>) -> Result<(), Wrong> {
     let (next, now) = (plan.next().total(), tree.total());
     let told = format_args!("next {:?}, now {:?}", next.values(), now.values());
-    say(*made.allocator(), made, &told)
+    say(made, &told)
 }
 
 fn add_total(tree: &CallTree, made: &mut Vec<u8>) -> Result<(), Wrong> {
@@ -205,7 +205,7 @@ fn weigh(tree: &CallTree, stacks: &str, made: &mut Vec<u8>) -> Result<(), Wrong>
     let alloc = *made.allocator();
     for frames in stacks.lines() {
         let weights = tree.self_weight(&rows::stack_of(alloc, frames)?);
-        say(alloc, made, &format_args!("{:?}", weights.values()))?;
+        say(made, &format_args!("{:?}", weights.values()))?;
     }
     Ok(())
 }
@@ -220,7 +220,7 @@ fn ask(tree: &CallTree, value: u32, made: &mut Vec<u8>) -> Result<(), Wrong> {
     add_stacks(tree, value, made)?;
     for total in &tree.frame_totals(alloc, value)? {
         let (name, flat, cum) = (total.name.text(), total.flat, total.cum);
-        say(alloc, made, &format_args!("{name} {flat}/{cum}"))?;
+        say(made, &format_args!("{name} {flat}/{cum}"))?;
     }
     Ok(())
 }

@@ -2,10 +2,10 @@
 
 ghost use Rattle.std.specs.Prelude.{◌≡◌};
 
-use crate::bytes::Wrong;
+use crate::bytes::{Wrong, refuse, say};
 use crate::journals::tell_verdict;
 use crate::operations::op_of;
-use crate::scenes::{Ran, tell, tell_fault};
+use crate::scenes::Ran;
 use crate::script::Words;
 use crate::stores::blank_of;
 use profile_store::{
@@ -18,7 +18,7 @@ use std::sync::atomic::{AtomicU64, Ordering};
 use std::sync::{Mutex, Wait};
 use std::thread::Threads;
 
-/// How often each worker called. A call is wrong where it isn't the worker's next: before its first step, behind it,
+/// How often each worker called. A call is wrong where it isn't the worker's next: before its first step it,
 /// before its second step, and so on.
 #[derive(Drop)]
 struct Counting {
@@ -74,11 +74,11 @@ fn run_counted<R: Threads + Wait + Sync>(
     let lists = lists_of(*made.allocator(), text)?;
     match blank_of(*made.allocator(), words)? {
         Ok(blank) => work::<Brand, R>(rt, words, blank, lists, gate, made)?,
-        Err(fault) => return tell_fault(made, &fault),
+        Err(fault) => return refuse(made, &fault),
     }
     let wrong = gate.wrong.load(Ordering::SeqCst);
     let calls = gate.calls.lock(rt);
-    tell(
+    say(
         made,
         &format_args!("calls {:?}, {wrong} wrong", calls.as_slice()),
     )
@@ -124,8 +124,8 @@ fn work<N: StoreName, R: Threads + Wait + Sync>(
 /// Adds the number of the next session, which ends with that.
 fn tell_next<N: StoreName, R: Wait>(rt: &R, made: &mut Vec<u8>, store: &Store<N>) -> Ran {
     match store.session(rt, *made.allocator()) {
-        Ok(session) => tell(made, &format_args!("next session {}", session.number())),
-        Err(fault) => tell_fault(made, &fault),
+        Ok(session) => say(made, &format_args!("next session {}", session.number())),
+        Err(fault) => refuse(made, &fault),
     }
 }
 
@@ -139,7 +139,7 @@ fn tell_work(
     let mut logs = Vec::new(*made.allocator());
     match all {
         Ok(all) => push_logs(made, all, &mut logs)?,
-        Err(fault) => return tell_fault(made, &fault),
+        Err(fault) => return refuse(made, &fault),
     }
     tell_verdict(made, words, &audit(*made.allocator(), journal, &logs))
 }
@@ -154,12 +154,12 @@ fn push_logs(made: &mut Vec<u8>, all: Vec<FinishedWorker>, logs: &mut Vec<Sessio
 
 fn tell_worker(made: &mut Vec<u8>, one: &FinishedWorker) -> Ran {
     let (session, receipts) = (one.log.session, one.log.receipts.as_slice().len());
-    tell(
+    say(
         made,
         &format_args!("session {session}: {receipts} receipts"),
     )?;
     match one.stopped {
-        Some(stop) => tell_fault(made, &stop),
+        Some(stop) => refuse(made, &stop),
         None => Ok(()),
     }
 }

@@ -92,9 +92,9 @@ def places_in(path):
 
 
 def sources():
-    """The sources of the crates, but for those of tests."""
+    """The sources of the crates, but for those of tests and of worked rows."""
     for path in sorted((ROOT / "crates").glob("*/src/**/*.rt")):
-        if not path.relative_to(ROOT / "crates").parts[0].endswith("_tests"):
+        if path.relative_to(ROOT / "crates").parts[0] not in ("library_tests", "worked_rows"):
             yield path
 
 

@@ -6,7 +6,6 @@ use pprof_wire::{Field, Fields, Value, packed, write_field, write_varint};
 
 /// `varint`, `varint at 3`: the number that the bytes spell there, and where it ends.
 pub(crate) fn read_varint(words: Words, input: &[u8], made: &mut Vec<u8>) -> Result<(), Wrong> {
-    let alloc = *made.allocator();
     let at = usize_of(words.number_after("at", 0)?)?;
     match pprof_wire::read_varint(input, at) {
         Ok((number, end)) => say(made, &format_args!("{number} to {end}")),

@@ -51,35 +51,34 @@ impl<'a, T: Threads + Wait + RandomSource + Sync> Run<'a, T> {
     /// Runs the program on these words, and adds what it wrote and how it ended where it failed:
     /// `! 1 flame: F2 NoCount line 1`.
     fn run(self, words: &[&str], made: &mut Vec<u8>) -> Result<(), Wrong> {
+        if self.streams.has_random_bytes {
+            self.run_on(self.rt, words, made)
+        } else {
+            self.run_on(&Unrandom { rt: self.rt }, words, made)
+        }
+    }
+
+    fn run_on<H: Threads + Wait + RandomSource + Sync>(
+        self,
+        host: &H,
+        words: &[&str],
+        made: &mut Vec<u8>,
+    ) -> Result<(), Wrong> {
         let mut reader = self.streams.reader(self.input);
         let mut writer = self.streams.writer(self.alloc);
-        let limit = self.streams.limit.min(MAX_INPUT);
-        let status = if self.streams.has_random_bytes {
-            run(
-                self.rt,
-                self.alloc,
-                &NoProgress,
-                words,
-                &mut reader,
-                &mut writer,
-                limit,
-            )
-        } else {
-            let rt = Unrandom { rt: self.rt };
-            run(
-                &rt,
-                self.alloc,
-                &NoProgress,
-                words,
-                &mut reader,
-                &mut writer,
-                limit,
-            )
-        };
+        let status = run(
+            host,
+            self.alloc,
+            &NoProgress,
+            words,
+            &mut reader,
+            &mut writer,
+            self.streams.limit.min(MAX_INPUT),
+        );
         self.add_end(&status, &writer, made)
     }
 
-    /// Adds what a run wrote, how it ended, and whether it was flushed where it shouldn't be, or wasn't where it should.
+    /// Adds what a run wrote, how it ended, and whether it was flushed where that isn't as it should be.
     fn add_end(
         self,
         status: &Status,
@@ -111,8 +110,7 @@ impl<'a, T: Threads + Wait + RandomSource + Sync> Run<'a, T> {
         self.run(words.as_slice(), made)
     }
 
-    /// `both NAME flame top`: on the input, which is folded text, and on a profile. Where both make the same, it is told
-    /// once.
+    /// `both NAME flame top`: on the input, which is folded text, and on a profile. What both make is told once.
     pub(crate) fn both(
         self,
         profile: &[u8],

@@ -1,32 +1,66 @@
 #!/usr/bin/env python3
-"""slow_proofs.py CRATE [SECONDS]: which parts of a crate's last check took longest, by when its files were kept.
+"""Says which functions cost their proofs most.
 
-A part is a module of the prover: FUNCTION.Lts is what the function's borrows and drops cost, FUNCTION.Proof its
-clauses. What stands between two files is taken for the later one's time, so the check has to have had one job
-(rt check --jobs 1), and to have begun with nothing kept (rm -r out/incremental).
+    tools/slow_proofs.py [CRATE..]
+
+Each crate, or every crate, is checked from nothing by one process, over the libraries that `./build` keeps of those below
+it. A part of a proof is kept in a file as it is done, so what passes between two files is the later one's time: X.Lts is
+what the function's borrows and drops cost, X.Proof its clauses. The dearest functions of all these crates are listed,
+with their share of their crate's time.
 """
+import collections
 import pathlib
+import re
+import subprocess
 import sys
+import tempfile
 
-ROOT = pathlib.Path(__file__).resolve().parent.parent
+sys.dont_write_bytecode = True
+from libraries import find_kit, is_kept, listed, over_libraries, read_crates, sums_of
+
+SHOWN = 40
+# A part's file: the function with its module, and the part's kind.
+PART = re.compile(r"-proofs\.((?!TheLinks)[^-]+?)(?:\.[A-Z][\w-]*)?$")
 
 
-def kept_files(crate):
-    """The files that checks of the crate kept, as (time in nanoseconds, name), in order."""
-    files = (ROOT / "crates" / crate / "out" / "incremental").rglob("*.oantt")
-    return sorted((file.stat().st_mtime_ns, file.name) for file in files)
+def parts_of(folder):
+    """The parts of proofs in a folder, each with the seconds since the one before, in order."""
+    files = sorted((file.stat().st_mtime_ns, file.name) for file in folder.rglob("*.oantt"))
+    for (before, _), (after, name) in zip(files, files[1:]):
+        yield name.removesuffix(".oantt").removesuffix(".decls"), (after - before) / 1e9
+
+
+def seconds_of(kit, crate):
+    """The seconds that each function of a crate took, and what is no function's under the crate's own name."""
+    seconds = collections.Counter()
+    with tempfile.TemporaryDirectory() as name:
+        words = [*over_libraries(kit, crate, "check"), "--incremental", name, "--jobs", "1"]
+        checked = subprocess.run(words, cwd=crate.folder(), stdout=subprocess.PIPE, stderr=subprocess.STDOUT, text=True)
+        if checked.returncode:
+            sys.exit(f"{checked.stdout}slow_proofs: {crate.name} is not proved")
+        for part, took in parts_of(pathlib.Path(name)):
+            found = PART.search(part)
+            seconds[found[1] if found else crate.name] += took
+    return seconds
 
 
 def main():
-    crate = sys.argv[1]
-    least = float(sys.argv[2]) if len(sys.argv) > 2 else 4
-    files = kept_files(crate)
-    if not files:
-        sys.exit(f"slow_proofs: nothing of {crate} is kept: run rt check --jobs 1 in its folder")
-    waits = [((after - before) / 1e9, name) for (before, _), (after, name) in zip(files, files[1:])]
-    for seconds, name in sorted(waits, reverse=True):
-        if seconds >= least:
-            print(f"{seconds:6.0f} {name.removesuffix('.oantt').removesuffix('.decls').split('-', 1)[-1]}")
+    kit, names = find_kit(), sys.argv[1:] or list(listed())
+    crates = read_crates(names)
+    sums = sums_of(crates, kit)
+    below = {name for crate in crates if crate.name in names for name in crate.below}
+    unkept = [crate.name for crate in crates if crate.name in below and not is_kept(crate, sums)]
+    if unkept:
+        sys.exit(f"slow_proofs: first ./build {' '.join(unkept)}")
+    rows = []
+    for crate in crates:
+        if crate.name in names:
+            seconds = seconds_of(kit, crate)
+            whole = sum(seconds.values())
+            print(f"{crate.name}: {whole:.0f} seconds", flush=True)
+            rows += [(took, took / whole, crate.name, function) for function, took in seconds.items()]
+    for took, share, crate, function in sorted(rows, reverse=True)[:SHOWN]:
+        print(f"{took:6.1f} {share:4.0%} {crate} {function}")
 
 
 if __name__ == "__main__":

@@ -20,7 +20,7 @@ from libraries import find_kit, is_kept, listed, over_libraries, read_crates, su
 
 SHOWN = 40
 # A part's file: the function with its module, and the part's kind.
-PART = re.compile(r"-proofs\.((?!TheLinks)[^-]+?)(?:\.[A-Z][\w-]*)?$")
+PART = re.compile(r"-proofs\.((?!TheLinks)[^-]+?)(?:\.[A-Z][\w-]*)*$")
 
 
 def parts_of(folder):

@@ -85,10 +85,13 @@ fn tell_tree(made: &mut Vec<u8>, journal: &Journal) -> Ran {
 
 /// `share 0`: the first log stands once more behind all others.
 fn share_log(made: &mut Vec<u8>, logs: &mut Vec<SessionLog>, place: usize) -> Ran {
-    let log = logs.get(place).ok_or(Wrong::Missing)?;
-    let shared = log.share(*made.allocator())?;
-    logs.push(shared)?;
+    let log = shared_log(*made.allocator(), logs, place)?;
+    logs.push(log).ok().ok_or(Wrong::NoMemory)?;
     say(made, &format_args!("{} logs", logs.len()))
+}
+
+fn shared_log(alloc: Global, logs: &[SessionLog], place: usize) -> Result<SessionLog, Wrong> {
+    Ok(logs.get(place).ok_or(Wrong::Missing)?.share(alloc)?)
 }
 
 /// The logs that the input spells, one in each line: `1: add b 2 at 1, ask total says 3 at 2`.

@@ -45,7 +45,10 @@ fn row_of(alloc: Global, words: Words) -> Result<Batch, Wrong> {
 
 fn push_row(alloc: Global, words: Words, weights: Weights, batch: &mut Batch) -> Ran {
     let stack = stack_of(alloc, words.word(0)?)?;
-    batch.push(stack, weights).ok().ok_or(Wrong::Line)
+    match batch.push(stack, weights) {
+        Ok(()) => Ok(()),
+        Err(_) => Err(Wrong::Line),
+    }
 }
 
 fn stack_of(alloc: Global, frames: &str) -> Result<Stack, Wrong> {
@@ -61,9 +64,10 @@ fn name_of(alloc: Global, text: &str) -> Result<Name, Wrong> {
 }
 
 fn weights_of(alloc: Global, words: Words) -> Result<Weights, Wrong> {
-    let mut values = Vec::new(alloc);
-    for word in words.text.split_whitespace().skip(1) {
-        values.push(word.parse().ok().ok_or(Wrong::Line)?)?;
+    let mut values: Vec<u64> = Vec::new(alloc);
+    for word in words.rest(1).text.split_whitespace() {
+        let value = word.parse().ok().ok_or(Wrong::Line)?;
+        values.push(value).ok().ok_or(Wrong::NoMemory)?;
     }
     Weights::make(values.as_slice()).ok_or(Wrong::Line)
 }

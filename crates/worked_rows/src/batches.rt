@@ -151,8 +151,10 @@ fn agree_on_samples(
     batch: &Batch,
     made: &mut Vec<u8>,
 ) -> Result<(), Wrong> {
-    let samples = done(batch_of(*made.allocator(), profile, choice))?;
-    agree(made, "batch_of", samples == *batch)
+    match batch_of(*made.allocator(), profile, choice) {
+        Ok(samples) => agree(made, "batch_of", samples == *batch),
+        Err(fault) => refuse(made, &fault),
+    }
 }
 
 /// `aggregate`, `aggregate width 2`: each stack once, with its sum of each value. The tree of the rows has the same.

@@ -1,17 +1,19 @@
 -- A line's row put to the row of its stack.
 use Rattle.std.proofs.lemmas.Grind.{common_steps}
-use Rattle.std.proofs.Common.{arith, ◌≡◌, ℕ, ◌+◌, ◌^◌, ◌<◌, ◌≤◌, List, refl}
-use Rattle.std.specs.Prelude.{Result, Ok, Err, OnOk, IfErr}
+use Rattle.std.proofs.Common.{arith, ◌≡◌, ℕ, ◌+◌, ◌^◌, ◌<◌, ◌≤◌, List, ap, ◌∙◌, inl, inr, refl}
+use Rattle.std.specs.Prelude.{Result, Ok, Err, OnOk, IfErr, MatchResult}
 use Rattle.std.specs.Str.{IsUtf8}
 use Rattle.std.specs.Str.Parse.{digits_value}
 use Rattle.profile_rows.specs.declared.weighted_stacks.WeightedStack.{WeightedStack}
 use Rattle.folded_text.specs.declared.folded.FoldedFault.{FoldedFault}
-use Rattle.folded_text.specs.declared.folded.FoldedFault.TheVariants.{Heavy}
+use Rattle.folded_text.specs.declared.folded.FoldedFault.TheVariants.{Heavy, NoMemory}
+use Rattle.profile_rows.specs.Aggregate.{aggregate_of}
 use Rattle.profile_rows.specs.Rows.{total_of}
-use Rattle.folded_text.specs.FoldedText.{HasCount, IsLineFault, IsRowLine, frames_of}
+use Rattle.folded_text.specs.FoldedText.{HasCount, IsFoldedText, IsLineFault, IsRowLine, IsWorkFault, frames_of}
 use Rattle.profile_rows.specs.Merging.{AddsRow, IsStackAt, with_added_at}
 use Rattle.profile_rows.proofs.MergedRows.{AddsRow-added}
-use Rattle.folded_text.proofs.Reading.{IsLineFault-fitting, IsRowLine-read}
+use Rattle.folded_text.specs.TextSums.{AreMergedLines}
+use Rattle.folded_text.proofs.Reading.{IsFirstFault-folded, IsFoldedText-same, IsLineFault-fitting, IsRowLine-read}
 
 -- a row of the line's stack, which weighs more now
 pub added_to : (at weight : ℕ)
@@ -39,3 +41,15 @@ refused_at at weight number earlier line text digits merged (Ok done) utf8 count
 refused_at at weight number earlier line text digits merged (Err found) utf8 count value small there fault =
     rw fault.0 (IsLineFault-fitting earlier number line text digits weight (Heavy number) utf8 small count value
     (refl, there.2, fault.1))
+
+-- what reading a text answers decides what its merged lines add up to
+pub only_merged_lines : (text : List ℕ) (outcome : Result (List WeightedStack) FoldedFault)
+    → MatchResult outcome (AreMergedLines text) (IsWorkFault text)
+    → (rows : List WeightedStack) → IsFoldedText text rows
+    → MatchResult outcome (λ merged. aggregate_of merged ≡ aggregate_of rows) (λ fault. fault ≡ NoMemory)
+only_merged_lines text (Ok merged) read rows this =
+    read.same ∙ ap aggregate_of (IsFoldedText-same text read.rows rows read.folded this)
+only_merged_lines text (Err fault) read rows this = elim read [
+  | inl first ↦ IsFirstFault-folded text rows fault this first
+  | inr late ↦ late.0
+]

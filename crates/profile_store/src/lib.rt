@@ -135,6 +135,7 @@ pub use stack_text::first_heavy;
 pub use stack_text::folded_totals;
 pub use stack_text::keeps;
 pub use stack_text::kept_totals;
+pub use stack_text::merge_lines;
 pub use stack_text::merge_samples;
 pub use stack_text::profile_of;
 pub use stack_text::read_folded;

@@ -1,0 +1,68 @@
+//! Where rows come from.
+
+use std::alloc::{AllocError, Global};
+use std::sync::Arc;
+use std::sync::atomic::{AtomicBool, AtomicU64, Ordering};
+
+/// A file, a named pipe or the standard input, from when it is opened until it is read to its end.
+#[derive(Drop)]
+pub(crate) struct Origin {
+    name: String,
+    is_profile: bool,
+    /// It lies in a folder that is a source.
+    is_in_folder: bool,
+    /// A window with some of its rows couldn't be written.
+    is_lost: AtomicBool,
+    /// Nothing more of it is read.
+    is_over: AtomicBool,
+    /// How many of its lines were read into rows.
+    lines: AtomicU64,
+}
+
+impl Origin {
+    /// An origin of this name, of which nothing was read. What ends with `.pb` is a profile, all else is folded text.
+    pub(crate) fn new(alloc: Global, name: &str, is_in_folder: bool) -> Result<Arc<Origin>, AllocError> {
+        let origin = Origin {
+            name: String::from_str(alloc, name)?,
+            is_profile: name.ends_with(".pb"),
+            is_in_folder,
+            is_lost: AtomicBool::new(false),
+            is_over: AtomicBool::new(false),
+            lines: AtomicU64::new(0),
+        };
+        Ok(Arc::new(alloc, origin)?)
+    }
+
+    pub(crate) fn name(&self) -> &str {
+        self.name.as_str()
+    }
+
+    pub(crate) fn is_profile(&self) -> bool {
+        self.is_profile
+    }
+
+    /// A window with some of its rows couldn't be written.
+    pub(crate) fn lose(&self) {
+        self.is_lost.store(true, Ordering::SeqCst);
+    }
+
+    /// Whether who fills the folder is told when all its rows are in written windows.
+    pub(crate) fn is_told(&self) -> bool {
+        self.is_in_folder && !self.is_lost.load(Ordering::SeqCst)
+    }
+
+    /// Whether nothing more of it is read.
+    pub(crate) fn is_over(&self) -> bool {
+        self.is_over.load(Ordering::SeqCst)
+    }
+
+    /// From now on nothing more of it is read.
+    pub(crate) fn end(&self) {
+        self.is_over.store(true, Ordering::SeqCst);
+    }
+
+    /// Counts lines that were read into rows, and gives how many there were before.
+    pub(crate) fn count_lines(&self, lines: u64) -> u64 {
+        self.lines.fetch_add(lines, Ordering::SeqCst)
+    }
+}

@@ -1,0 +1,101 @@
+//! One window of time, as those who fill it share it.
+
+use profile_store::BookFault;
+use std::sync::atomic::{AtomicBool, AtomicU64, Ordering};
+use std::sync::{Mutex, MutexGuard, Wait};
+use std::time::{Clock, Instant};
+use thiserror::Error;
+
+/// Why a window ended before its time and its rows.
+#[derive(Clone, Copy, PartialEq, Eq, Debug, Error)]
+pub(crate) enum EarlyEnd {
+    #[error("memory ran out")]
+    NoMemory,
+    #[error("its store takes no more changes")]
+    Full,
+    #[error("its weights are above 2^63 - 1 together")]
+    Heavy,
+}
+
+impl EarlyEnd {
+    /// Why a store takes no more of a window.
+    pub(crate) fn of(fault: BookFault) -> EarlyEnd {
+        match fault {
+            BookFault::Full { .. } => EarlyEnd::Full,
+            BookFault::Heavy { .. } => EarlyEnd::Heavy,
+            _ => EarlyEnd::NoMemory,
+        }
+    }
+}
+
+/// When a window ends.
+#[derive(Drop)]
+pub(crate) struct Window {
+    until: Option<Instant>,
+    rows_left: Mutex<u64>,
+    is_over: AtomicBool,
+    ended_early: Mutex<Option<EarlyEnd>>,
+    /// How many adders are at work.
+    working: AtomicU64,
+}
+
+impl Window {
+    /// A window until this time, where there is one, of at most so many rows, that so many adders fill.
+    pub(crate) fn new(until: Option<Instant>, rows: u64, adders: u64) -> Window {
+        Window {
+            until,
+            rows_left: Mutex::new(rows),
+            is_over: AtomicBool::new(false),
+            ended_early: Mutex::new(None),
+            working: AtomicU64::new(adders),
+        }
+    }
+
+    /// Whether nothing more is added.
+    pub(crate) fn is_over<R: Clock>(&self, rt: &R) -> bool {
+        self.is_over.load(Ordering::SeqCst) || self.is_late(rt)
+    }
+
+    fn is_late<R: Clock>(&self, rt: &R) -> bool {
+        match (self.until, Instant::now(rt)) {
+            (Some(until), Ok(now)) => until <= now,
+            _ => false,
+        }
+    }
+
+    /// How many of so many rows have room. Where that leaves none, the window is over with them.
+    pub(crate) fn take_rows<R: Wait>(&self, rt: &R, rows: u64) -> u64 {
+        let mut left = self.rows_left.lock(rt);
+        let taken = rows.min(*left);
+        *left = left.saturating_sub(taken);
+        let is_over = *left == 0;
+        MutexGuard::unlock(left);
+        if is_over {
+            self.is_over.store(true, Ordering::SeqCst);
+        }
+        taken
+    }
+
+    /// Ends the window before its time.
+    pub(crate) fn end_early<R: Wait>(&self, rt: &R, cause: EarlyEnd) {
+        let mut ended_early = self.ended_early.lock(rt);
+        *ended_early = Some(cause);
+        MutexGuard::unlock(ended_early);
+        self.is_over.store(true, Ordering::SeqCst);
+    }
+
+    /// Why it ended before its time, where it did.
+    pub(crate) fn ended_early(self) -> Option<EarlyEnd> {
+        self.ended_early.into_inner()
+    }
+
+    /// An adder is done.
+    pub(crate) fn leave(&self) {
+        self.working.fetch_sub(1, Ordering::SeqCst);
+    }
+
+    /// Whether an adder is at work.
+    pub(crate) fn has_adders(&self) -> bool {
+        self.working.load(Ordering::SeqCst) > 0
+    }
+}

@@ -4,7 +4,7 @@ use crate::messages::Messages;
 use crate::origin::Origin;
 use crate::profile::{Unread, read_profile};
 use crate::reading::{Content, Piece};
-use crate::text::{Front, count_lines, line_start, read_front};
+use crate::text::{Front, count_lines, first_lines, read_front};
 use crate::window::{EarlyEnd, Window};
 use crossbeam_channel::Receiver;
 use profile_store::{Batch, FoldedFault, Hashing, NoMemory, Session, SessionLog, StoreName};
@@ -188,7 +188,10 @@ impl<'a> Adder<'a> {
     /// Notes that an origin ended.
     fn end(&mut self, origin: Arc<Origin>) {
         if self.read.reserve(1).is_err() {
-            self.next = Some(Piece { origin, content: Content::End });
+            self.next = Some(Piece {
+                origin,
+                content: Content::End,
+            });
             return;
         }
         let _ = self.read.push(origin);
@@ -216,9 +219,9 @@ impl<'a> Adder<'a> {
     /// The rows of a text's next lines. What follows them stays.
     fn read_text<R: Wait>(&mut self, rt: &R, window: &Window, text: Text) -> Option<Arc<Batch>> {
         let rest = text.bytes.get(text.from..).unwrap_or(&[]);
-        let count = count_lines(rest);
-        let until = line_start(rest, window.take_rows(rt, count));
-        match self.read_noted(&text.origin, &rest[..until]) {
+        let lines = first_lines(rest, window.rows_left(rt));
+        let lines = first_lines(lines, window.take_rows(rt, count_lines(lines)));
+        match self.read_noted(&text.origin, lines) {
             Ok(front) => Some(self.pass(text, front)),
             Err(_) => {
                 self.text = Some(text);
@@ -323,11 +326,21 @@ fn is_split_by(fault: FoldedFault, len: usize) -> bool {
 /// A fault so many lines later.
 fn moved(fault: FoldedFault, lines: u64) -> FoldedFault {
     match fault {
-        FoldedFault::NotUtf8 { line } => FoldedFault::NotUtf8 { line: line.saturating_add(lines) },
-        FoldedFault::NoCount { line } => FoldedFault::NoCount { line: line.saturating_add(lines) },
-        FoldedFault::Count { line } => FoldedFault::Count { line: line.saturating_add(lines) },
-        FoldedFault::Depth { line } => FoldedFault::Depth { line: line.saturating_add(lines) },
-        FoldedFault::Heavy { line } => FoldedFault::Heavy { line: line.saturating_add(lines) },
+        FoldedFault::NotUtf8 { line } => FoldedFault::NotUtf8 {
+            line: line.saturating_add(lines),
+        },
+        FoldedFault::NoCount { line } => FoldedFault::NoCount {
+            line: line.saturating_add(lines),
+        },
+        FoldedFault::Count { line } => FoldedFault::Count {
+            line: line.saturating_add(lines),
+        },
+        FoldedFault::Depth { line } => FoldedFault::Depth {
+            line: line.saturating_add(lines),
+        },
+        FoldedFault::Heavy { line } => FoldedFault::Heavy {
+            line: line.saturating_add(lines),
+        },
         FoldedFault::NoMemory => FoldedFault::NoMemory,
     }
 }

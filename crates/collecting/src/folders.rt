@@ -5,10 +5,9 @@ use crate::reading::Opened;
 use crate::sources::open;
 use crossbeam_channel::Sender;
 use std::alloc::Global;
-use std::fs;
 use std::fs::File;
-use std::io;
 use std::sync::Wait;
+use std::{fs, io};
 
 /// A folder as a source, and where its files go once they are open.
 #[derive(Drop)]
@@ -55,7 +54,9 @@ impl<'a> Inbox<'a> {
     }
 
     fn has_taken(&self, name: &str) -> bool {
-        self.taken.binary_search_by(|taken| taken.as_str().cmp(name)).is_ok()
+        self.taken
+            .binary_search_by(|taken| taken.as_str().cmp(name))
+            .is_ok()
     }
 
     /// Whether a file needn't be looked at again: it goes to its reader, or can't be opened.

@@ -11,15 +11,22 @@ pub(crate) const ABOUT: &str = "\
 const SOURCE: &str = "\
     A file or a named pipe with folded stacks, - for the standard input, a profile (NAME.pb), or a folder in which \
     files of both kinds come (NAME.folded, NAME.pb)";
+
 const WINDOW: &str = "How many seconds a window lasts at most";
+
 const ROWS: &str = "How many rows a window has at most; without it there is no limit";
+
 const OUT: &str = "\
     The folder in which each window's folded report becomes a file, 1.folded and so on; without it only the last \
     window's is written, to the standard output";
+
 const TOP: &str = "How many names the list has that is shown while a window fills";
+
 const EVERY: &str = "\
     Every how many seconds that list is shown, on the standard error; without it every second, where that is a terminal";
+
 const BY: &str = "What the names are ordered by: flat or cum";
+
 const VALUE: &str = "\
     The sample type whose values are taken of profiles, by its name; without it each profile's own choice";
 

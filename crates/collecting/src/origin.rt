@@ -21,7 +21,11 @@ pub(crate) struct Origin {
 
 impl Origin {
     /// An origin of this name, of which nothing was read. What ends with `.pb` is a profile, all else is folded text.
-    pub(crate) fn new(alloc: Global, name: &str, is_in_folder: bool) -> Result<Arc<Origin>, AllocError> {
+    pub(crate) fn new(
+        alloc: Global,
+        name: &str,
+        is_in_folder: bool,
+    ) -> Result<Arc<Origin>, AllocError> {
         let origin = Origin {
             name: String::from_str(alloc, name)?,
             is_profile: name.ends_with(".pb"),

@@ -10,11 +10,10 @@ use anyhow::Result;
 use crossbeam_channel::Receiver;
 use std::alloc::Global;
 use std::fmt::Display;
-use std::io;
 use std::io::Write;
-use std::mem;
 use std::sync::{Arc, Wait};
 use std::time::{Clock, Duration};
+use std::{io, mem};
 
 /// After how many milliseconds folders are looked at again.
 const POLL: u64 = 250;
@@ -68,7 +67,8 @@ impl<'a> Output<'a> {
     /// Writes a window, or says why it is lost.
     fn take(&mut self, rt: HostRuntime, closed: Closed) {
         if let Some(cause) = closed.ended_early {
-            self.messages.say(&format_args!("a window ended early, since {cause}"));
+            self.messages
+                .say(&format_args!("a window ended early, since {cause}"));
         }
         match self.write(rt, &closed) {
             Ok(()) => self.tell(rt, closed.read.as_slice()),
@@ -99,7 +99,8 @@ impl<'a> Output<'a> {
         }
         for origin in read.iter().filter(|origin| origin.is_told()) {
             if let Err(error) = tell_name(rt, origin.name()) {
-                self.messages.say(&format_args!("the standard output: {error}"));
+                self.messages
+                    .say(&format_args!("the standard output: {error}"));
             }
         }
     }

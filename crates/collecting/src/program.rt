@@ -9,21 +9,19 @@ use crate::reading::{Opened, Piece, Reader};
 use crate::sources::open;
 use crate::watching::Watch;
 use crate::windows::{Closed, Windows};
-use anyhow::Result;
+use anyhow::{Result, bail};
 use clap::error::ErrorKind;
 use crossbeam_channel::{Sender, bounded};
 use profile_store::{Hashing, Kind, Query};
 use std::alloc::Global;
-use std::env;
-use std::fs;
 use std::fs::File;
 use std::io::{IsTerminal, Write};
 use std::process::ExitCode;
 use std::random::RandomSource;
-use std::sync::{Arc, Wait};
-use std::thread;
+use std::sync::{Arc, Mutex, Wait};
 use std::thread::Threads;
 use std::time::{Clock, Duration};
+use std::{env, fs, thread};
 
 /// How many adders there are at most: a store has 64 sessions, and one watches.
 const MOST_ADDERS: usize = 63;
@@ -35,7 +33,10 @@ const WAITING_PIECES: usize = 64;
 const OPEN_FILES: usize = 16;
 
 /// The whole of `main`.
-pub fn run<T: Threads + Wait + Clock + RandomSource + Sync>(threads: &T, rt: HostRuntime) -> ExitCode {
+pub fn run<T: Threads + Wait + Clock + RandomSource + Sync>(
+    threads: &T,
+    rt: HostRuntime,
+) -> ExitCode {
     match try_run(threads, rt) {
         Ok(status) => ExitCode::from(status),
         Err(error) => {
@@ -46,7 +47,10 @@ pub fn run<T: Threads + Wait + Clock + RandomSource + Sync>(threads: &T, rt: Hos
 }
 
 /// Runs on the arguments, and gives the exit status.
-fn try_run<T: Threads + Wait + Clock + RandomSource + Sync>(threads: &T, rt: HostRuntime) -> Result<u8> {
+fn try_run<T: Threads + Wait + Clock + RandomSource + Sync>(
+    threads: &T,
+    rt: HostRuntime,
+) -> Result<u8> {
     let alloc = rt.alloc();
     let words: Vec<String> = env::args(&rt)?.collect(alloc)?;
     let texts: Vec<&str> = words.iter().map(|word| word.as_str()).collect(alloc)?;
@@ -55,7 +59,11 @@ fn try_run<T: Threads + Wait + Clock + RandomSource + Sync>(threads: &T, rt: Hos
         Err(error) => {
             let mut errors = rt.stderr();
             write!(errors, "{error}")?;
-            Ok(if error.kind() == ErrorKind::DisplayHelp { 0 } else { 2 })
+            Ok(if error.kind() == ErrorKind::DisplayHelp {
+                0
+            } else {
+                2
+            })
         }
     }
 }
@@ -90,7 +98,11 @@ fn windows_of<'a>(
         value: 0,
         kind: Kind::Top { rank, count },
     };
-    let shown = if rt.stderr().is_terminal() { Some(1) } else { None };
+    let shown = if rt.stderr().is_terminal() {
+        Some(1)
+    } else {
+        None
+    };
     let watch = Watch {
         messages,
         query: Arc::new(rt.alloc(), query)?,
@@ -123,8 +135,7 @@ fn run_threads<T: Threads + Wait + Clock + Sync>(
         let mut inboxes = Vec::new(alloc);
         for (at, name) in sources.iter().enumerate() {
             let (files, opened) = bounded::<Opened<File>, Global>(alloc, OPEN_FILES)?;
-            let to = senders[at % senders.len()].clone()?;
-            let reader = Reader::new(alloc, messages, to);
+            let reader = Reader::new(alloc, messages, sender_for(senders.as_slice(), at)?);
             let _reading = scope.spawn(move || reader.read_all(threads, opened))?;
             if let Some(inbox) = begin(threads, rt, messages, *name, files) {
                 inboxes.push(inbox)?;
@@ -142,15 +153,25 @@ fn adders_for<'a>(
     windows: &Windows<'a>,
     value: Option<&'a str>,
     sources: usize,
-) -> Result<(Vec<Sender<Piece>>, Vec<Adder<'a>>)> {
+) -> Result<(Vec<Sender<Piece>>, Vec<Mutex<Adder<'a>>>)> {
     let alloc = windows.alloc;
     let (mut senders, mut adders) = (Vec::new(alloc), Vec::new(alloc));
     for _ in 0..sources.min(MOST_ADDERS) {
         let (to, pieces) = bounded::<Piece, Global>(alloc, WAITING_PIECES)?;
-        adders.push(Adder::new(alloc, windows.messages, windows.hashing, value, pieces))?;
+        let adder = Adder::new(alloc, windows.messages, windows.hashing, value, pieces);
+        adders.push(Mutex::new(adder))?;
         senders.push(to)?;
     }
     Ok((senders, adders))
+}
+
+/// Where the pieces of the source of this number go: sources share adders where there are more of them.
+fn sender_for(senders: &[Sender<Piece>], source: usize) -> Result<Sender<Piece>> {
+    let slot = source.checked_rem(senders.len()).unwrap_or(0);
+    match senders.get(slot) {
+        Some(sender) => Ok(sender.clone()?),
+        None => bail!("there is no adder"),
+    }
 }
 
 /// Opens a source for its reader. A folder gives an inbox, which is to be looked at again and again.

@@ -6,10 +6,9 @@ use crossbeam_channel::{Receiver, Sender};
 use memchr::memrchr;
 use std::alloc::Global;
 use std::io::Read;
-use std::mem;
 use std::sync::{Arc, Wait};
-use std::thread;
 use std::time::{Clock, Duration};
+use std::{mem, thread};
 
 /// How many bytes are read at once: as many as a pipe holds.
 const ROOM: usize = 65_536;
@@ -57,11 +56,19 @@ pub(crate) struct Unwanted;
 
 impl<'a> Reader<'a> {
     pub(crate) fn new(alloc: Global, messages: &'a Messages, to: Sender<Piece>) -> Reader<'a> {
-        Reader { alloc, messages, to }
+        Reader {
+            alloc,
+            messages,
+            to,
+        }
     }
 
     /// Reads each origin that comes to its end, and sends what it brings.
-    pub(crate) fn read_all<F: Read + Drop, R: Wait + Clock>(self, rt: &R, opened: Receiver<Opened<F>>) {
+    pub(crate) fn read_all<F: Read + Drop, R: Wait + Clock>(
+        self,
+        rt: &R,
+        opened: Receiver<Opened<F>>,
+    ) {
         for _ in rt.forever() {
             let Ok(next) = opened.recv(rt) else {
                 break;
@@ -143,7 +150,12 @@ impl<'a> Reader<'a> {
     }
 
     /// Sends what an origin ends with.
-    fn finish<R: Wait>(&self, rt: &R, origin: &Arc<Origin>, begun: Vec<u8>) -> Result<(), Unwanted> {
+    fn finish<R: Wait>(
+        &self,
+        rt: &R,
+        origin: &Arc<Origin>,
+        begun: Vec<u8>,
+    ) -> Result<(), Unwanted> {
         match (origin.is_profile(), origin.is_over()) {
             (false, _) if begun.is_empty() => {}
             (false, _) => self.send(rt, origin, Content::Lines(begun))?,
@@ -153,7 +165,12 @@ impl<'a> Reader<'a> {
         self.send(rt, origin, Content::End)
     }
 
-    fn send<R: Wait>(&self, rt: &R, origin: &Arc<Origin>, content: Content) -> Result<(), Unwanted> {
+    fn send<R: Wait>(
+        &self,
+        rt: &R,
+        origin: &Arc<Origin>,
+        content: Content,
+    ) -> Result<(), Unwanted> {
         let Ok(origin) = Arc::try_clone(origin) else {
             return Err(Unwanted);
         };

@@ -2,10 +2,10 @@
 
 ghost use Rattle.std.specs.Prelude.{◌≤◌, IfOk, length, take};
 ghost use Rattle.std.specs.Arc.{arc_value};
-ghost use Rattle.profile_store.specs.TextSums.{IsSumOfText};
+ghost use Rattle.collecting.specs.Added.{IsMergedBatch};
 
-use memchr::memchr_iter;
-use profile_store::{Batch, FoldedFault, Hashing, NoMemory, read_summed};
+use memchr::memchr;
+use profile_store::{Batch, FoldedFault, Hashing, NoMemory, merge_lines};
 use std::alloc::Global;
 use std::sync::Arc;
 
@@ -21,23 +21,31 @@ pub(crate) struct Front {
 
 /// How many lines a text has. The last may lack its end.
 pub(crate) fn count_lines(text: &[u8]) -> u64 {
-    let ends = memchr_iter(b'\n', text).count() as u64;
+    let ends = text.iter().filter(|byte| **byte == b'\n').count() as u64;
     let is_begun = text.last().is_some_and(|byte| *byte != b'\n');
     ends.saturating_add(u64::from(is_begun))
+}
+
+/// The first lines of a text, at most so many.
+pub(crate) fn first_lines(text: &[u8], most: u64) -> &[u8] {
+    if most == u64::MAX {
+        return text;
+    }
+    &text[..line_start(text, most)]
 }
 
 /// Where a text's line of this number, from 0, begins; the text's end where it has no such line.
 pub(crate) fn line_start(text: &[u8], number: u64) -> usize
     ensures { result ≤ length text.now }
 {
-    if number == 0 {
-        return 0;
+    let mut start = 0;
+    for _ in 0..number {
+        match memchr(b'\n', &text[start..]) {
+            Some(end) => start += end + 1,
+            None => return text.len(),
+        }
     }
-    let before = usize::try_from(number).unwrap_or(usize::MAX) - 1;
-    match memchr_iter(b'\n', text).nth(before) {
-        Some(at) => at + 1,
-        None => text.len(),
-    }
+    start
 }
 
 /// The line that a fault names, from 0; nothing where memory ran out.
@@ -52,6 +60,17 @@ fn line_of(fault: FoldedFault) -> Option<u64> {
     }
 }
 
+/// The rows of a text, lines of one stack merged.
+fn merged_batch(alloc: Global, hashing: Hashing, text: &[u8]) -> Result<Arc<Batch>, FoldedFault>
+    ensures { IfOk result (λ batch. IsMergedBatch text.now (arc_value batch)) }
+{
+    let merged = merge_lines(alloc, hashing, text)?;
+    match Arc::new(alloc, Batch::single(alloc, merged)) {
+        Ok(batch) => Ok(batch),
+        Err(_) => Err(FoldedFault::NoMemory),
+    }
+}
+
 /// Reads a text up to its first fault, and adds up lines of one stack.
 ///
 /// # Errors
@@ -59,11 +78,11 @@ fn line_of(fault: FoldedFault) -> Option<u64> {
 /// `NoMemory`.
 pub(crate) fn read_front(alloc: Global, hashing: Hashing, text: &[u8]) -> Result<Front, NoMemory>
     ensures inside { IfOk result (λ front. front.len ≤ length text.now) }
-    ensures rows { IfOk result (λ front. IsSumOfText (take front.len text.now) (arc_value front.batch)) }
+    ensures rows { IfOk result (λ front. IsMergedBatch (take front.len text.now) (arc_value front.batch)) }
 {
-    match read_summed(alloc, hashing, text) {
+    match merged_batch(alloc, hashing, text) {
         Ok(batch) => Ok(Front {
-            batch: Arc::new(alloc, batch)?,
+            batch,
             len: text.len(),
             fault: None,
         }),
@@ -79,13 +98,13 @@ fn read_before(
     fault: FoldedFault,
 ) -> Result<Front, NoMemory>
     ensures inside { IfOk result (λ front. front.len ≤ length text.now) }
-    ensures rows { IfOk result (λ front. IsSumOfText (take front.len text.now) (arc_value front.batch)) }
+    ensures rows { IfOk result (λ front. IsMergedBatch (take front.len text.now) (arc_value front.batch)) }
 {
     let line = line_of(fault).ok_or(NoMemory)?;
     let len = line_start(text, line);
-    match read_summed(alloc, hashing, &text[..len]) {
+    match merged_batch(alloc, hashing, &text[..len]) {
         Ok(batch) => Ok(Front {
-            batch: Arc::new(alloc, batch)?,
+            batch,
             len,
             fault: Some(fault),
         }),

@@ -63,6 +63,14 @@ impl Window {
         }
     }
 
+    /// How many rows have room.
+    pub(crate) fn rows_left<R: Wait>(&self, rt: &R) -> u64 {
+        let left = self.rows_left.lock(rt);
+        let rows = *left;
+        MutexGuard::unlock(left);
+        rows
+    }
+
     /// How many of so many rows have room. Where that leaves none, the window is over with them.
     pub(crate) fn take_rows<R: Wait>(&self, rt: &R, rows: u64) -> u64 {
         let mut left = self.rows_left.lock(rt);

@@ -1,5 +1,7 @@
 //! Windows of time, each with a store of its own.
 
+ghost use Rattle.std.specs.Prelude.{◌≡◌};
+
 use crate::adding::{Adder, Told};
 use crate::messages::Messages;
 use crate::origin::Origin;
@@ -7,10 +9,10 @@ use crate::watching::Watch;
 use crate::window::{EarlyEnd, Window};
 use anyhow::Result;
 use crossbeam_channel::Sender;
-use profile_store::{Blank, Hashing, Journal, SessionLog, Store, StoreName, Width};
+use profile_store::{Blank, Hashing, Journal, Session, SessionLog, Store, StoreName, Width};
 use std::alloc::Global;
 use std::marker::Brand;
-use std::sync::{Arc, Wait};
+use std::sync::{Arc, Mutex, MutexGuard, Wait};
 use std::thread;
 use std::thread::Threads;
 use std::time::{Clock, Duration, Instant};
@@ -34,12 +36,16 @@ pub(crate) struct Closed {
 impl Closed {
     /// Takes what an adder has to tell.
     fn take(&mut self, told: Told) -> Result<()> {
-        let mut told = told;
-        if let Some(log) = told.log {
+        let Told {
+            log,
+            mut added,
+            mut read,
+        } = told;
+        if let Some(log) = log {
             self.logs.push(log)?;
         }
-        self.added.append(&mut told.added)?;
-        self.read.append(&mut told.read)?;
+        self.added.append(&mut added)?;
+        self.read.append(&mut read)?;
         Ok(())
     }
 
@@ -65,12 +71,11 @@ impl<'a> Windows<'a> {
     pub(crate) fn run<R: Threads + Wait + Clock + Sync>(
         self,
         rt: &R,
-        adders: Vec<Adder<'a>>,
+        adders: Vec<Mutex<Adder<'a>>>,
         to: Sender<Closed>,
     ) {
-        let mut adders = adders;
         for _ in rt.forever() {
-            match self.fill(rt, adders.as_mut_slice()) {
+            match self.fill(rt, adders.as_slice()) {
                 Ok(closed) => {
                     self.rest_after(rt, &closed);
                     if to.send(rt, closed).is_err() {
@@ -78,11 +83,12 @@ impl<'a> Windows<'a> {
                     }
                 }
                 Err(error) => {
-                    self.messages.say(&format_args!("no window could be opened: {error}"));
+                    self.messages
+                        .say(&format_args!("no window could be opened: {error}"));
                     thread::sleep(rt, Duration::from_millis(PAUSE));
                 }
             }
-            if adders.iter().all(|adder| adder.has_ended()) {
+            if have_ended(rt, adders.as_slice()) {
                 break;
             }
         }
@@ -96,7 +102,11 @@ impl<'a> Windows<'a> {
     }
 
     /// Fills a window.
-    fn fill<R: Threads + Wait + Clock + Sync>(&self, rt: &R, adders: &mut [Adder<'a>]) -> Result<Closed> {
+    fn fill<R: Threads + Wait + Clock + Sync>(
+        &self,
+        rt: &R,
+        adders: &[Mutex<Adder<'a>>],
+    ) -> Result<Closed> {
         let until = Instant::now(rt)?.checked_add(self.length);
         let window = Window::new(until, self.rows, adders.len() as u64);
         let sessions = u32::try_from(adders.len().saturating_add(1)).unwrap_or(u32::MAX);
@@ -110,7 +120,7 @@ impl<'a> Windows<'a> {
         rt: &R,
         blank: Blank,
         window: Window,
-        adders: &mut [Adder<'a>],
+        adders: &[Mutex<Adder<'a>>],
     ) -> Result<Closed>
         requires { blank
             ≡ record { limit = N.limit; sessions = N.sessions; width = N.width; history = N.history } }
@@ -128,8 +138,11 @@ impl<'a> Windows<'a> {
             read: Vec::new(self.alloc),
             ended_early: window.ended_early(),
         };
-        for adder in adders {
-            closed.take(adder.take_told())?;
+        for slot in adders {
+            let mut adder = slot.lock(rt);
+            let told = adder.take_told();
+            MutexGuard::unlock(adder);
+            closed.take(told)?;
         }
         Ok(closed)
     }
@@ -140,14 +153,39 @@ impl<'a> Windows<'a> {
         rt: &R,
         store: &Store<N>,
         window: &Window,
-        adders: &mut [Adder<'a>],
+        adders: &[Mutex<Adder<'a>>],
     ) -> Result<()> {
         thread::scope(thread::scope_env(), rt, |scope| -> Result<()> {
-            for adder in adders {
+            for slot in adders {
                 let session = store.session(rt, self.alloc)?;
-                let _adding = scope.spawn(move || adder.fill(rt, window, session))?;
+                let _adding = scope.spawn(move || fill_with(rt, slot, window, session))?;
             }
             self.watch.run(rt, self.alloc, store, window)
         })
     }
+}
+
+/// Has an adder fill a window. Nobody else has it meanwhile.
+fn fill_with<N: StoreName, R: Wait + Clock>(
+    rt: &R,
+    slot: &Mutex<Adder>,
+    window: &Window,
+    session: Session<'_, N>,
+) {
+    let mut adder = slot.lock(rt);
+    adder.fill(rt, window, session);
+    MutexGuard::unlock(adder);
+}
+
+/// Whether all adders have added everything.
+fn have_ended<R: Wait>(rt: &R, adders: &[Mutex<Adder>]) -> bool {
+    for slot in adders {
+        let adder = slot.lock(rt);
+        let has_ended = adder.has_ended();
+        MutexGuard::unlock(adder);
+        if !has_ended {
+            return false;
+        }
+    }
+    true
 }

@@ -1,8 +1,7 @@
 //! The folder in which each window's report becomes a file.
 
-use std::fs;
-use std::io;
 use std::io::Write;
+use std::{fs, io};
 
 /// A folder with a file for each window, numbered on from those that it has.
 #[derive(Drop)]

@@ -1,10 +1,17 @@
 //! What one thread adds to windows.
 
+ghost use Rattle.std.specs.Prelude.{◌≡◌, ◌+◌, ◌≤◌, ◌⊎◌, ◌++◌, ◌∷◌, [], ℕ, IfOk, IfSome, None, Some, drop, length, take};
+ghost use Rattle.std.specs.Arc.{arc_value};
+ghost use Rattle.profile_store.specs.Books.{change_told};
+ghost use Rattle.profile_store.specs.Operations.{add};
+ghost use Rattle.collecting.specs.Added.{GoesOn, IsMergedBatch};
+
+use crate::held_text::Text;
 use crate::messages::Messages;
 use crate::origin::Origin;
 use crate::profile::{Unread, read_profile};
 use crate::reading::{Content, Piece};
-use crate::text::{Front, count_lines, first_lines, read_front};
+use crate::text::{Front, read_front};
 use crate::window::{EarlyEnd, Window};
 use crossbeam_channel::Receiver;
 use profile_store::{Batch, FoldedFault, Hashing, NoMemory, Session, SessionLog, StoreName};
@@ -13,19 +20,14 @@ use std::mem;
 use std::sync::{Arc, Wait};
 use std::time::{Clock, Duration};
 
-/// How many bytes of folded text are added at once, where so many have come.
-const MOST: usize = 4_194_304;
+/// How many bytes of folded text all adders together add at once, where so many come in time.
+const MOST: usize = 134_217_728;
+
+/// For how many milliseconds an adder takes more lines before it adds what it has.
+const GATHER: u64 = 100;
 
 /// How many milliseconds an adder waits for a piece before it looks whether its window is over.
 const PAUSE: u64 = 10;
-
-/// Lines of one origin. Those before `from` are in a window.
-#[derive(Drop)]
-struct Text {
-    origin: Arc<Origin>,
-    bytes: Vec<u8>,
-    from: usize,
-}
 
 /// What an adder has to tell of a window.
 #[derive(Drop)]
@@ -47,6 +49,8 @@ pub(crate) struct Adder<'a> {
     /// The name of the sample type that is taken of profiles.
     value: Option<&'a str>,
     pieces: Receiver<Piece>,
+    /// How many bytes of text are added at once at most, but for one piece.
+    most: usize,
     /// What was received and isn't in a window yet, in this order.
     refused: Option<Arc<Batch>>,
     text: Option<Text>,
@@ -68,6 +72,7 @@ impl<'a> Adder<'a> {
         hashing: Hashing,
         value: Option<&'a str>,
         pieces: Receiver<Piece>,
+        adders: usize,
     ) -> Adder<'a> {
         Adder {
             alloc,
@@ -75,6 +80,7 @@ impl<'a> Adder<'a> {
             hashing,
             value,
             pieces,
+            most: MOST.checked_div(adders).unwrap_or(0),
             refused: None,
             text: None,
             next: None,
@@ -126,7 +132,11 @@ impl<'a> Adder<'a> {
         window: &Window,
         session: &mut Session<'_, N>,
         batch: Arc<Batch>,
-    ) {
+    )
+        // It is in the log, once, or it is kept.
+        ensures { ((place : ℕ) × (session.new.log ≡ session.old.log ++ change_told (add (arc_value batch)) place ∷ []))
+            ⊎ ((session.new.log ≡ session.old.log) × (self.new.refused ≡ Some batch)) }
+    {
         if let Err(refused) = session.add(rt, self.alloc, batch) {
             window.end_early(rt, EarlyEnd::of(refused.fault));
             self.refused = Some(refused.back);
@@ -174,7 +184,7 @@ impl<'a> Adder<'a> {
         }
         match content {
             Content::Lines(bytes) => {
-                let text = self.gather(rt, origin, bytes);
+                let text = self.gather(rt, window, origin, bytes);
                 self.read_text(rt, window, text)
             }
             Content::Profile(bytes) => self.take_profile(rt, window, origin, bytes),
@@ -197,18 +207,23 @@ impl<'a> Adder<'a> {
         let _ = self.read.push(origin);
     }
 
-    /// Lines with those of the same origin that have come since.
-    fn gather<R: Wait>(&mut self, rt: &R, origin: Arc<Origin>, bytes: Vec<u8>) -> Text {
-        let mut text = Text {
-            origin,
-            bytes,
-            from: 0,
+    /// Lines with those of the same origin that come soon: lines of one stack are merged, so many at once cost less.
+    fn gather<R: Wait + Clock>(
+        &mut self,
+        rt: &R,
+        window: &Window,
+        origin: Arc<Origin>,
+        bytes: Vec<u8>,
+    ) -> Text {
+        let mut text = Text::new(origin, bytes);
+        let Some(until) = window.soon(rt, Duration::from_millis(GATHER)) else {
+            return text;
         };
         for _ in rt.forever() {
-            if self.next.is_some() || text.bytes.len() >= MOST {
+            if self.next.is_some() || text.len() >= self.most {
                 break;
             }
-            match self.pieces.try_recv(rt) {
+            match self.pieces.recv_deadline(rt, until) {
                 Ok(piece) => self.next = text.join(piece),
                 Err(_) => break,
             }
@@ -217,12 +232,13 @@ impl<'a> Adder<'a> {
     }
 
     /// The rows of a text's next lines. What follows them stays.
-    fn read_text<R: Wait>(&mut self, rt: &R, window: &Window, text: Text) -> Option<Arc<Batch>> {
-        let rest = text.bytes.get(text.from..).unwrap_or(&[]);
-        let lines = first_lines(rest, window.rows_left(rt));
-        let lines = first_lines(lines, window.take_rows(rt, count_lines(lines)));
-        match self.read_noted(&text.origin, lines) {
-            Ok(front) => Some(self.pass(text, front)),
+    fn read_text<R: Wait>(&mut self, rt: &R, window: &Window, text: Text) -> Option<Arc<Batch>>
+        ensures { IfSome result (λ batch. (len : ℕ)
+            × IsMergedBatch (take len (drop text.from text.bytes.items)) (arc_value batch)
+            × GoesOn text len self.new.text) }
+    {
+        match self.read_noted(text.origin(), window.first_rows(rt, text.rest())) {
+            Ok(front) => self.pass(text, front),
             Err(_) => {
                 self.text = Some(text);
                 window.end_early(rt, EarlyEnd::NoMemory);
@@ -232,7 +248,10 @@ impl<'a> Adder<'a> {
     }
 
     /// Reads lines, and notes of which origin they are.
-    fn read_noted(&mut self, origin: &Arc<Origin>, lines: &[u8]) -> Result<Front, NoMemory> {
+    fn read_noted(&mut self, origin: &Arc<Origin>, lines: &[u8]) -> Result<Front, NoMemory>
+        ensures inside { IfOk result (λ front. front.len ≤ length lines.now) }
+        ensures rows { IfOk result (λ front. IsMergedBatch (take front.len lines.now) (arc_value front.batch)) }
+    {
         let front = read_front(self.alloc, self.hashing, lines)?;
         self.note(origin)?;
         Ok(front)
@@ -248,21 +267,29 @@ impl<'a> Adder<'a> {
     }
 
     /// Goes on after lines that were read, and gives their rows.
-    fn pass(&mut self, text: Text, front: Front) -> Arc<Batch> {
+    fn pass(&mut self, text: Text, front: Front) -> Option<Arc<Batch>>
+        requires { text.from + front.len ≤ length text.bytes.items }
+        ensures batch { IfSome result (λ batch. batch ≡ front.batch) }
+        ensures goes_on { GoesOn text front.len self.new.text }
+    {
         let Front { batch, len, fault } = front;
         let mut text = text;
         let before = text.skip(len);
-        match fault {
+        self.text = match fault {
             Some(fault) if !is_split_by(fault, len) => {
-                text.origin.end();
-                let fault = moved(fault, before);
-                let told = format_args!("{fault}, and nothing after it is read");
-                self.messages.blame(text.origin.name(), &told);
+                self.end_faulty(text.origin(), moved(fault, before));
+                None
             }
-            _ if text.from < text.bytes.len() => self.text = Some(text),
-            _ => {}
-        }
-        batch
+            _ => text.unread(),
+        };
+        if batch.len() > 0 { Some(batch) } else { None }
+    }
+
+    /// Ends an origin at a fault.
+    fn end_faulty(&self, origin: &Origin, fault: FoldedFault) {
+        origin.end();
+        let told = format_args!("{fault}, and nothing after it is read");
+        self.messages.blame(origin.name(), &told);
     }
 
     /// The rows of a profile.
@@ -294,31 +321,7 @@ impl<'a> Adder<'a> {
     }
 }
 
-impl Text {
-    /// Adds lines of the same origin, or gives back what is something else.
-    fn join(&mut self, piece: Piece) -> Option<Piece> {
-        match &piece.content {
-            Content::Lines(bytes) if self.takes(&piece.origin, bytes.as_slice()) => None,
-            _ => Some(piece),
-        }
-    }
-
-    /// Adds lines where they are of the same origin and there is memory for them.
-    fn takes(&mut self, origin: &Origin, lines: &[u8]) -> bool {
-        self.origin.name() == origin.name() && self.bytes.extend_from_slice(lines).is_ok()
-    }
-
-    /// Goes on behind so many bytes, and gives how many lines of the origin come before them.
-    fn skip(&mut self, len: usize) -> u64 {
-        let until = self.from.saturating_add(len);
-        let lines = self.bytes.get(self.from..until).unwrap_or(&[]);
-        let count = count_lines(lines);
-        self.from = until;
-        self.origin.count_lines(count)
-    }
-}
-
-/// Whether the lines behind so many bytes are to be read anew, since they are too heavy together with those before.
+/// Whether the lines after so many bytes are to be read anew, since they are too heavy together with those before.
 fn is_split_by(fault: FoldedFault, len: usize) -> bool {
     matches!(fault, FoldedFault::Heavy { .. }) && len > 0
 }

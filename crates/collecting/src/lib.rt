@@ -8,6 +8,7 @@
 
 mod adding;
 mod folders;
+mod held_text;
 mod messages;
 mod options;
 mod origin;

@@ -34,7 +34,7 @@ const VALUE: &str = "\
 #[derive(Drop)]
 pub(crate) struct Options<'a> {
     pub(crate) seconds: u64,
-    pub(crate) rows: u64,
+    pub(crate) rows: Option<u64>,
     pub(crate) out: Option<&'a str>,
     pub(crate) top: u32,
     pub(crate) every: Option<u64>,
@@ -54,7 +54,7 @@ fn options_in<'a>(alloc: Global, matches: &ArgMatches<'a>) -> Result<Options<'a>
     sources.extend_from_slice(matches.get_strs("SOURCE").unwrap_or(&[]))?;
     Ok(Options {
         seconds: matches.get_one("window").unwrap_or(60),
-        rows: matches.get_one("rows").unwrap_or(u64::MAX),
+        rows: matches.get_one("rows"),
         out: matches.get_str("out"),
         top: matches.get_one("top").unwrap_or(10),
         every: matches.get_one("every"),

@@ -156,9 +156,17 @@ fn adders_for<'a>(
 ) -> Result<(Vec<Sender<Piece>>, Vec<Mutex<Adder<'a>>>)> {
     let alloc = windows.alloc;
     let (mut senders, mut adders) = (Vec::new(alloc), Vec::new(alloc));
-    for _ in 0..sources.min(MOST_ADDERS) {
+    let count = sources.min(MOST_ADDERS);
+    for _ in 0..count {
         let (to, pieces) = bounded::<Piece, Global>(alloc, WAITING_PIECES)?;
-        let adder = Adder::new(alloc, windows.messages, windows.hashing, value, pieces);
+        let adder = Adder::new(
+            alloc,
+            windows.messages,
+            windows.hashing,
+            value,
+            pieces,
+            count,
+        );
         adders.push(Mutex::new(adder))?;
         senders.push(to)?;
     }

@@ -1,6 +1,6 @@
 //! Lines of folded text, read into the rows of a batch.
 
-ghost use Rattle.std.specs.Prelude.{◌≤◌, IfOk, length, take};
+ghost use Rattle.std.specs.Prelude.{ℕ, ◌≡◌, ◌≤◌, IfOk, length, take};
 ghost use Rattle.std.specs.Arc.{arc_value};
 ghost use Rattle.collecting.specs.Added.{IsMergedBatch};
 
@@ -21,16 +21,27 @@ pub(crate) struct Front {
 
 /// How many lines a text has. The last may lack its end.
 pub(crate) fn count_lines(text: &[u8]) -> u64 {
-    let ends = text.iter().filter(|byte| **byte == b'\n').count() as u64;
     let is_begun = text.last().is_some_and(|byte| *byte != b'\n');
-    ends.saturating_add(u64::from(is_begun))
+    let mut lines = u64::from(is_begun);
+    for few in text.chunks(128) {
+        lines = lines.saturating_add(u64::from(count_ends(few)));
+    }
+    lines
+}
+
+/// How many of a few bytes end a line, fewer than 256.
+fn count_ends(few: &[u8]) -> u8 {
+    let mut ends = 0u8;
+    for byte in few {
+        ends = ends.wrapping_add(u8::from(*byte == b'\n'));
+    }
+    ends
 }
 
 /// The first lines of a text, at most so many.
-pub(crate) fn first_lines(text: &[u8], most: u64) -> &[u8] {
-    if most == u64::MAX {
-        return text;
-    }
+pub(crate) fn first_lines(text: &[u8], most: u64) -> &[u8]
+    ensures { (count : ℕ) × (result.now ≡ take count text.entry.now) }
+{
     &text[..line_start(text, most)]
 }
 

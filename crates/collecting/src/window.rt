@@ -1,9 +1,12 @@
 //! One window of time, as those who fill it share it.
 
+ghost use Rattle.std.specs.Prelude.{◌≡◌, ℕ, take};
+
+use crate::text::{count_lines, first_lines};
 use profile_store::BookFault;
 use std::sync::atomic::{AtomicBool, AtomicU64, Ordering};
 use std::sync::{Mutex, MutexGuard, Wait};
-use std::time::{Clock, Instant};
+use std::time::{Clock, Duration, Instant};
 use thiserror::Error;
 
 /// Why a window ended before its time and its rows.
@@ -32,6 +35,7 @@ impl EarlyEnd {
 #[derive(Drop)]
 pub(crate) struct Window {
     until: Option<Instant>,
+    has_limit: bool,
     rows_left: Mutex<u64>,
     is_over: AtomicBool,
     ended_early: Mutex<Option<EarlyEnd>>,
@@ -40,11 +44,12 @@ pub(crate) struct Window {
 }
 
 impl Window {
-    /// A window until this time, where there is one, of at most so many rows, that so many adders fill.
-    pub(crate) fn new(until: Option<Instant>, rows: u64, adders: u64) -> Window {
+    /// A window until this time and of at most so many rows, where there is one, that so many adders fill.
+    pub(crate) fn new(until: Option<Instant>, rows: Option<u64>, adders: u64) -> Window {
         Window {
             until,
-            rows_left: Mutex::new(rows),
+            has_limit: rows.is_some(),
+            rows_left: Mutex::new(rows.unwrap_or(u64::MAX)),
             is_over: AtomicBool::new(false),
             ended_early: Mutex::new(None),
             working: AtomicU64::new(adders),
@@ -63,8 +68,25 @@ impl Window {
         }
     }
 
+    /// The time after a pause, or the end of the window where it comes first.
+    pub(crate) fn soon<R: Clock>(&self, rt: &R, pause: Duration) -> Option<Instant> {
+        let later = Instant::now(rt).ok()?.checked_add(pause)?;
+        Some(self.until.map_or(later, |until| until.min(later)))
+    }
+
+    /// The first lines of a text, as many as have room.
+    pub(crate) fn first_rows<'t, R: Wait>(&self, rt: &R, text: &'t [u8]) -> &'t [u8]
+        ensures { (count : ℕ) × (result.now ≡ take count text.entry.now) }
+    {
+        if !self.has_limit {
+            return text;
+        }
+        let lines = first_lines(text, self.rows_left(rt));
+        first_lines(lines, self.take_rows(rt, count_lines(lines)))
+    }
+
     /// How many rows have room.
-    pub(crate) fn rows_left<R: Wait>(&self, rt: &R) -> u64 {
+    fn rows_left<R: Wait>(&self, rt: &R) -> u64 {
         let left = self.rows_left.lock(rt);
         let rows = *left;
         MutexGuard::unlock(left);

@@ -62,7 +62,8 @@ pub(crate) struct Windows<'a> {
     pub(crate) messages: &'a Messages,
     pub(crate) hashing: Hashing,
     pub(crate) length: Duration,
-    pub(crate) rows: u64,
+    /// Without a limit, where there is none.
+    pub(crate) rows: Option<u64>,
     pub(crate) watch: Watch<'a>,
 }
 

@@ -1,0 +1,79 @@
+//! Lines that were received and aren't all in a window yet.
+
+ghost use Rattle.std.specs.Prelude.{◌≡◌, ◌+◌, ◌≤◌, IfSome, drop, length};
+
+use crate::origin::Origin;
+use crate::reading::{Content, Piece};
+use crate::text::count_lines;
+use std::sync::Arc;
+
+/// Lines of one origin. Those before `from` are in a window.
+#[derive(Drop)]
+pub(crate) struct Text {
+    origin: Arc<Origin>,
+    bytes: Vec<u8>,
+    from: usize,
+    ghost within: { from ≤ length bytes.items },
+}
+
+impl Text {
+    pub(crate) fn new(origin: Arc<Origin>, bytes: Vec<u8>) -> Text {
+        Text {
+            origin,
+            bytes,
+            from: 0,
+        }
+    }
+
+    pub(crate) fn origin(&self) -> &Arc<Origin> {
+        &self.origin
+    }
+
+    /// How many bytes it has.
+    pub(crate) fn len(&self) -> usize {
+        self.bytes.len()
+    }
+
+    /// The lines that aren't in a window.
+    pub(crate) fn rest(&self) -> &[u8]
+        ensures { result.now ≡ drop self.now.from self.now.bytes.items }
+    {
+        &self.bytes[self.from..]
+    }
+
+    /// Adds lines of the same origin, or gives back what is something else.
+    pub(crate) fn join(&mut self, piece: Piece) -> Option<Piece> {
+        match &piece.content {
+            Content::Lines(bytes) if self.takes(&piece.origin, bytes.as_slice()) => None,
+            _ => Some(piece),
+        }
+    }
+
+    /// Adds lines where they are of the same origin and there is memory for them.
+    fn takes(&mut self, origin: &Origin, lines: &[u8]) -> bool {
+        self.origin.name() == origin.name() && self.bytes.extend_from_slice(lines).is_ok()
+    }
+
+    /// Goes on after so many bytes, and gives how many lines of the origin come before them.
+    pub(crate) fn skip(&mut self, len: usize) -> u64
+        requires { self.old.from + len ≤ length self.old.bytes.items }
+        ensures bytes { self.new.bytes ≡ self.old.bytes }
+        ensures from { self.new.from ≡ self.old.from + len }
+    {
+        let until = self.from + len;
+        let count = count_lines(&self.bytes[self.from..until]);
+        self.from = until;
+        self.origin.count_lines(count)
+    }
+
+    /// The text, where not all of it is in windows.
+    pub(crate) fn unread(self) -> Option<Text>
+        ensures { IfSome result (λ text. text ≡ self) }
+    {
+        if self.from < self.bytes.len() {
+            Some(self)
+        } else {
+            None
+        }
+    }
+}

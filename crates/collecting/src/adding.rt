@@ -24,7 +24,7 @@ use std::time::{Clock, Duration};
 const MOST: usize = 134_217_728;
 
 /// For how many milliseconds an adder takes more lines before it adds what it has.
-const GATHER: u64 = 100;
+const GATHER: u64 = 250;
 
 /// How many milliseconds an adder waits for a piece before it looks whether its window is over.
 const PAUSE: u64 = 10;
@@ -51,6 +51,8 @@ pub(crate) struct Adder<'a> {
     pieces: Receiver<Piece>,
     /// How many bytes of text are added at once at most, but for one piece.
     most: usize,
+    /// Room for the bytes of the next text.
+    room: Vec<u8>,
     /// What was received and isn't in a window yet, in this order.
     refused: Option<Arc<Batch>>,
     text: Option<Text>,
@@ -81,6 +83,7 @@ impl<'a> Adder<'a> {
             value,
             pieces,
             most: MOST.checked_div(adders).unwrap_or(0),
+            room: Vec::new(alloc),
             refused: None,
             text: None,
             next: None,
@@ -215,7 +218,8 @@ impl<'a> Adder<'a> {
         origin: Arc<Origin>,
         bytes: Vec<u8>,
     ) -> Text {
-        let mut text = Text::new(origin, bytes);
+        let room = mem::replace(&mut self.room, Vec::new(self.alloc));
+        let mut text = Text::new(origin, bytes, room);
         let Some(until) = window.soon(rt, Duration::from_millis(GATHER)) else {
             return text;
         };
@@ -280,9 +284,20 @@ impl<'a> Adder<'a> {
                 self.end_faulty(text.origin(), moved(fault, before));
                 None
             }
-            _ => text.unread(),
+            _ => self.unread(text),
         };
         if batch.len() > 0 { Some(batch) } else { None }
+    }
+
+    /// The text, where not all of it is in windows. Else its room is for the next one.
+    fn unread(&mut self, text: Text) -> Option<Text>
+        ensures { IfSome result (λ left. left ≡ text) }
+    {
+        if text.rest().is_empty() {
+            self.room = text.into_room();
+            return None;
+        }
+        Some(text)
     }
 
     /// Ends an origin at a fault.

@@ -1,6 +1,6 @@
 //! Lines that were received and aren't all in a window yet.
 
-ghost use Rattle.std.specs.Prelude.{◌≡◌, ◌+◌, ◌≤◌, IfSome, drop, length};
+ghost use Rattle.std.specs.Prelude.{◌≡◌, ◌+◌, ◌≤◌, drop, length};
 
 use crate::origin::Origin;
 use crate::reading::{Content, Piece};
@@ -17,12 +17,24 @@ pub(crate) struct Text {
 }
 
 impl Text {
-    pub(crate) fn new(origin: Arc<Origin>, bytes: Vec<u8>) -> Text {
+    /// Lines of an origin, in this room where there is memory for that.
+    pub(crate) fn new(origin: Arc<Origin>, lines: Vec<u8>, room: Vec<u8>) -> Text {
+        let mut room = room;
+        room.clear();
+        let bytes = match room.extend_from_slice(lines.as_slice()) {
+            Ok(()) => room,
+            Err(_) => lines,
+        };
         Text {
             origin,
             bytes,
             from: 0,
         }
+    }
+
+    /// The room that its bytes take.
+    pub(crate) fn into_room(self) -> Vec<u8> {
+        self.bytes
     }
 
     pub(crate) fn origin(&self) -> &Arc<Origin> {
@@ -64,16 +76,5 @@ impl Text {
         let count = count_lines(&self.bytes[self.from..until]);
         self.from = until;
         self.origin.count_lines(count)
-    }
-
-    /// The text, where not all of it is in windows.
-    pub(crate) fn unread(self) -> Option<Text>
-        ensures { IfSome result (λ text. text ≡ self) }
-    {
-        if self.from < self.bytes.len() {
-            Some(self)
-        } else {
-            None
-        }
     }
 }

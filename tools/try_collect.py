@@ -109,18 +109,20 @@ def peak(run):
 
 
 def ten_thousand_windows(folder, _):
-    text = stacks(100_000, 500, 3)
+    text = stacks(10_000, 500, 3)
     pipes = make_pipes(folder, 1)
-    run = Run(folder, "--rows", 10, "--out", "out", *pipes)
-    write_pipe(pipes[0], text, pause=0.005, parts=1000)
-    peaks, until = {}, time.time() + LIMIT
-    while run.process.poll() is None and time.time() < until:
+    run = Run(folder, "--rows", 100, "--out", "out", *pipes)
+    write_pipe(pipes[0], text * 100, pause=0.001, parts=10_000)
+    peaks = {}
+    while run.process.poll() is None:
         for count in (1000, 9900):
             if count not in peaks and (run.out / f"{count}.folded").exists():
                 peaks[count] = peak(run)
-        time.sleep(0.01)
+        time.sleep(0.005)
     run.end()
-    good = run.folded() == fold(text) and len(run.windows()) == 10_000 and peaks[9900] <= 1.05 * peaks[1000]
+    windows = run.windows()
+    last = fold(b"".join(file.read_bytes() for file in windows[-100:]))
+    good = len(windows) == 10_000 and last == fold(text) and peaks[9900] <= 1.05 * peaks[1000]
     return good, f"10,000 windows: peak of {peaks[1000]} KB after 1,000, of {peaks[9900]} KB after 9,900"
 
 

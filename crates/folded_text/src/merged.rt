@@ -1,19 +1,35 @@
 //! Folded text read into fewer rows than it has lines.
 
-ghost use Rattle.std.specs.Prelude.{◌≡◌, List, MatchResult};
+ghost use Rattle.std.specs.Prelude.{◌≡◌, ◌^◌, ◌<◌, All, IfOk, List, MatchResult};
 ghost use Rattle.profile_rows.specs.declared.weighted_stacks.WeightedStack.{WeightedStack};
 ghost use Rattle.profile_rows.specs.Aggregate.{aggregate_of};
+ghost use Rattle.profile_rows.specs.Rows.{total_of};
 ghost use Rattle.folded_text.specs.FoldedText.{IsFoldedText, IsWorkFault};
+ghost use Rattle.folded_text.specs.TextRows.{IsStackText, spelled_rows};
 ghost use Rattle.folded_text.specs.TextSums.{AreMergedLines};
 
 use crate::folded::FoldedFault;
-use crate::text_rows::{read_text_rows, stacks_of_texts};
+use crate::text_row::TextRow;
+use crate::text_rows::{TextRows, read_text_rows, stacks_of_texts};
+use basics::NoMemory;
 use profile_rows::{Hashing, WeightedStacks};
 use std::alloc::Global;
 
+/// Rows in the order of their texts. Neighbours then begin with the same frames, and less is looked up.
+fn sorted_rows<'a>(sums: TextRows<'a>) -> Result<Vec<TextRow<'a>>, NoMemory>
+    ensures same { IfOk result
+        (λ rows. aggregate_of (spelled_rows rows.items) ≡ aggregate_of (spelled_rows sums.entry)) }
+    ensures spelled { IfOk result (λ rows. All (λ row. IsStackText row.text) rows.items) }
+    ensures fits { IfOk result (λ rows. total_of (spelled_rows rows.items) < 2 ^ 63) }
+{
+    let (mut rows, _total, _are_joined) = sums.into_rows();
+    rows.sort_by(|left, right| left.cmp_text(right))?;
+    Ok(rows)
+}
+
 /// The rows of folded text, those of one stack text merged and their weights summed: as
-/// [`read_folded`](crate::read_folded), and every report on them is the same, in fewer rows. `hashing` says how stack
-/// texts and names are hashed.
+/// [`read_folded`](crate::read_folded), and every report on them is the same, in fewer rows. They are in the order of
+/// their texts. `hashing` says how stack texts and names are hashed.
 ///
 /// # Errors
 ///
@@ -29,5 +45,6 @@ pub fn merge_lines(
         (λ fault. fault ≡ FoldedFault.NoMemory) }
 {
     let sums = read_text_rows(alloc, hashing, text)?;
-    Ok(stacks_of_texts(alloc, hashing, sums.rows())?)
+    let rows = sorted_rows(sums)?;
+    Ok(stacks_of_texts(alloc, hashing, rows.as_slice())?)
 }

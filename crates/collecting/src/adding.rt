@@ -1,9 +1,7 @@
 //! What one thread adds to windows.
 
-ghost use Rattle.std.specs.Prelude.{◌≡◌, ◌+◌, ◌≤◌, ◌⊎◌, ◌++◌, ◌∷◌, [], ℕ, IfOk, IfSome, None, Some, drop, length, take};
+ghost use Rattle.std.specs.Prelude.{◌≡◌, ◌+◌, ◌≤◌, ℕ, IfOk, IfSome, Some, drop, length, take};
 ghost use Rattle.std.specs.Arc.{arc_value};
-ghost use Rattle.profile_store.specs.Books.{change_told};
-ghost use Rattle.profile_store.specs.Operations.{add};
 ghost use Rattle.collecting.specs.Added.{GoesOn, IsMergedBatch};
 
 use crate::held_text::Text;
@@ -14,11 +12,12 @@ use crate::reading::{Content, Piece};
 use crate::text::{Front, read_front};
 use crate::window::{EarlyEnd, Window};
 use crossbeam_channel::Receiver;
-use profile_store::{Batch, FoldedFault, Hashing, NoMemory, Session, SessionLog, StoreName};
+use profile_store::{Batch, BookFault, FoldedFault, Hashing, NoMemory};
 use std::alloc::Global;
 use std::mem;
 use std::sync::{Arc, Wait};
 use std::time::{Clock, Duration};
+use store_window::Source;
 
 /// How many bytes of folded text all adders together add at once, where so many come in time.
 const MOST: usize = 134_217_728;
@@ -32,8 +31,6 @@ const PAUSE: u64 = 10;
 /// What an adder has to tell of a window.
 #[derive(Drop)]
 pub(crate) struct Told {
-    /// What its session was told.
-    pub(crate) log: Option<SessionLog>,
     /// The origins with rows in the window.
     pub(crate) added: Vec<Arc<Origin>>,
     /// The origins that ended in it, without a fault.
@@ -59,8 +56,7 @@ pub(crate) struct Adder<'a> {
     next: Option<Piece>,
     /// Nothing more comes.
     has_ended: bool,
-    /// What the session of the last window was told.
-    log: Option<SessionLog>,
+    window: Option<Arc<Window>>,
     /// The origins with rows in the last window.
     added: Vec<Arc<Origin>>,
     /// The origins that ended in it, without a fault.
@@ -88,7 +84,7 @@ impl<'a> Adder<'a> {
             text: None,
             next: None,
             has_ended: false,
-            log: None,
+            window: None,
             added: Vec::new(alloc),
             read: Vec::new(alloc),
         }
@@ -102,52 +98,30 @@ impl<'a> Adder<'a> {
     /// What it has to tell of the last window.
     pub(crate) fn take_told(&mut self) -> Told {
         Told {
-            log: self.log.take(),
             added: mem::replace(&mut self.added, Vec::new(self.alloc)),
             read: mem::replace(&mut self.read, Vec::new(self.alloc)),
         }
     }
 
-    /// Adds what comes until the window is over, or nothing more comes.
-    pub(crate) fn fill<N: StoreName, R: Wait + Clock>(
-        &mut self,
-        rt: &R,
-        window: &Window,
-        session: Session<'_, N>,
-    ) {
-        let mut session = session;
-        for _ in rt.forever() {
-            if self.has_ended || window.is_over(rt) {
-                break;
-            }
-            if let Some(batch) = self.next_batch(rt, window) {
-                self.add(rt, window, &mut session, batch);
-            }
-        }
-        self.log = Some(session.close());
-        window.leave();
+    /// Takes part in a window.
+    pub(crate) fn begin(&mut self, window: Arc<Window>) {
+        self.window = Some(window);
     }
 
-    /// Adds a batch, or keeps it for the next window where this one refuses it.
-    fn add<N: StoreName, R: Wait>(
-        &mut self,
-        rt: &R,
-        window: &Window,
-        session: &mut Session<'_, N>,
-        batch: Arc<Batch>,
-    )
-        // It is in the log, once, or it is kept.
-        ensures { ((place : ℕ) × (session.new.log ≡ session.old.log ++ change_told (add (arc_value batch)) place ∷ []))
-            ⊎ ((session.new.log ≡ session.old.log) × (self.new.refused ≡ Some batch)) }
+    /// Keeps a batch for the next window.
+    fn keep(&mut self, batch: Arc<Batch>)
+        ensures { self.new.refused ≡ Some batch }
     {
-        if let Err(refused) = session.add(rt, self.alloc, batch) {
-            window.end_early(rt, EarlyEnd::of(refused.fault));
-            self.refused = Some(refused.back);
-        }
+        self.refused = Some(batch);
+    }
+
+    /// The window that it takes part in.
+    fn window(&self) -> Option<Arc<Window>> {
+        Arc::try_clone(self.window.as_ref()?).ok()
     }
 
     /// The batch that is added next; nothing where nothing came for a while.
-    fn next_batch<R: Wait + Clock>(&mut self, rt: &R, window: &Window) -> Option<Arc<Batch>> {
+    fn try_next<R: Wait + Clock>(&mut self, rt: &R, window: &Window) -> Option<Arc<Batch>> {
         if let Some(batch) = self.refused.take() {
             return Some(batch);
         }
@@ -332,6 +306,34 @@ impl<'a> Adder<'a> {
                 self.messages.blame(origin.name(), &fault);
                 None
             }
+        }
+    }
+}
+
+impl Source for Adder<'_> {
+    fn next_batch<R: Wait + Clock>(&mut self, rt: &R) -> Option<Arc<Batch>> {
+        let window = self.window()?;
+        for _ in rt.forever() {
+            if self.has_ended || window.is_over(rt) {
+                break;
+            }
+            if let Some(batch) = self.try_next(rt, &window) {
+                return Some(batch);
+            }
+        }
+        None
+    }
+
+    fn take_back<R: Wait>(&mut self, rt: &R, batch: Arc<Batch>, fault: BookFault) {
+        if let Some(window) = &self.window {
+            window.end_early(rt, EarlyEnd::of(fault));
+        }
+        self.keep(batch);
+    }
+
+    fn leave(&mut self) {
+        if let Some(window) = &self.window {
+            window.leave();
         }
     }
 }

@@ -3,7 +3,7 @@
 use crate::folders::Inbox;
 use crate::messages::Messages;
 use crate::origin::Origin;
-use crate::reporting::report_of_logs;
+use crate::reporting::report_of;
 use crate::windows::Closed;
 use crate::written::Folder;
 use anyhow::Result;
@@ -81,10 +81,10 @@ impl<'a> Output<'a> {
 
     /// Writes the report of a window to which something was added.
     fn write(&mut self, rt: HostRuntime, closed: &Closed) -> Result<()> {
-        if closed.is_empty() {
+        if closed.window.is_empty() {
             return Ok(());
         }
-        let report = report_of_logs(rt.alloc(), &closed.journal, closed.logs.as_slice())?;
+        let report = report_of(rt.alloc(), &closed.window)?;
         match &mut self.folder {
             Some(folder) => folder.write(rt, report.as_slice())?,
             None => self.last = report,

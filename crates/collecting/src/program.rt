@@ -7,7 +7,6 @@ use crate::options::{Options, read_options};
 use crate::output::Output;
 use crate::reading::{Opened, Piece, Reader};
 use crate::sources::open;
-use crate::watching::Watch;
 use crate::windows::{Closed, Windows};
 use anyhow::{Result, bail};
 use clap::error::ErrorKind;
@@ -22,6 +21,7 @@ use std::sync::{Arc, Mutex, Wait};
 use std::thread::Threads;
 use std::time::{Clock, Duration};
 use std::{env, fs, thread};
+use store_window::Slot;
 
 /// How many adders there are at most: a store has 64 sessions, and one watches.
 const MOST_ADDERS: usize = 63;
@@ -103,18 +103,14 @@ fn windows_of<'a>(
     } else {
         None
     };
-    let watch = Watch {
-        messages,
-        query: Arc::new(rt.alloc(), query)?,
-        every: options.every.or(shown).map(Duration::from_secs),
-    };
     Ok(Windows {
         alloc: rt.alloc(),
         messages,
         hashing,
         length: Duration::from_secs(options.seconds),
         rows: options.rows,
-        watch,
+        query: Arc::new(rt.alloc(), query)?,
+        every: options.every.or(shown).map(Duration::from_secs),
     })
 }
 
@@ -153,7 +149,7 @@ fn adders_for<'a>(
     windows: &Windows<'a>,
     value: Option<&'a str>,
     sources: usize,
-) -> Result<(Vec<Sender<Piece>>, Vec<Mutex<Adder<'a>>>)> {
+) -> Result<(Vec<Sender<Piece>>, Vec<Mutex<Slot<Adder<'a>>>>)> {
     let alloc = windows.alloc;
     let (mut senders, mut adders) = (Vec::new(alloc), Vec::new(alloc));
     let count = sources.min(MOST_ADDERS);
@@ -167,7 +163,7 @@ fn adders_for<'a>(
             pieces,
             count,
         );
-        adders.push(Mutex::new(adder))?;
+        adders.push(Mutex::new(Slot::new(adder)))?;
         senders.push(to)?;
     }
     Ok((senders, adders))

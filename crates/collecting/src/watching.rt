@@ -2,66 +2,62 @@
 
 use crate::messages::Messages;
 use crate::window::Window;
-use anyhow::Result;
-use profile_store::{Answer, Query, Session, Store, StoreName, top_text};
+use profile_store::{Answer, BookFault, Query, top_text};
 use std::alloc::Global;
 use std::sync::{Arc, Wait};
 use std::thread;
 use std::time::{Clock, Duration};
+use store_window::Watcher;
 
 /// How many milliseconds a watcher sleeps before it looks whether the window is over.
 const PAUSE: u64 = 10;
 
-/// What is shown, and how often.
+/// What is shown of a window, and how often.
 #[derive(Drop)]
 pub(crate) struct Watch<'a> {
+    pub(crate) alloc: Global,
     pub(crate) messages: &'a Messages,
-    pub(crate) query: Arc<Query>,
+    pub(crate) query: &'a Arc<Query>,
     /// Never, where there is none.
     pub(crate) every: Option<Duration>,
+    pub(crate) window: Arc<Window>,
 }
 
 impl Watch<'_> {
-    /// Shows the top list now and then, as long as the window takes something.
-    pub(crate) fn run<N: StoreName, R: Wait + Clock>(
-        &self,
-        rt: &R,
-        alloc: Global,
-        store: &Store<N>,
-        window: &Window,
-    ) -> Result<()> {
-        let Some(every) = self.every else {
-            return Ok(());
-        };
-        let mut session = store.session(rt, alloc)?;
+    /// Sleeps for so long. Whether the window takes something then.
+    fn sleep<R: Wait + Clock>(&self, rt: &R, every: Duration) -> bool {
         let pause = Duration::from_millis(PAUSE);
         let mut slept = Duration::ZERO;
         for _ in rt.forever() {
-            if window.is_over(rt) || !window.has_adders() {
+            if self.window.is_over(rt) || !self.window.has_adders() {
+                return false;
+            }
+            if slept >= every {
                 break;
             }
             thread::sleep(rt, pause);
             slept = slept.saturating_add(pause);
-            if slept >= every {
-                slept = Duration::ZERO;
-                self.show(alloc, &mut session);
-            }
         }
-        let _ = session.close();
-        Ok(())
+        true
+    }
+}
+
+impl Watcher for Watch<'_> {
+    fn next_query<R: Wait + Clock>(&self, rt: &R) -> Option<&Arc<Query>> {
+        if self.sleep(rt, self.every?) {
+            return Some(self.query);
+        }
+        None
     }
 
-    /// Asks once, and shows the list. Where that can't be done, the next list comes soon.
-    fn show<N: StoreName>(&self, alloc: Global, session: &mut Session<'_, N>) {
-        if let Err(error) = self.try_show(alloc, session) {
-            self.messages.say(&error);
+    fn show(&self, answer: Result<&Answer, BookFault>) {
+        match answer {
+            Ok(Answer::Top(top)) => match top_text(self.alloc, top) {
+                Ok(text) => self.messages.show(text.as_slice()),
+                Err(fault) => self.messages.say(&fault),
+            },
+            Ok(_) => {}
+            Err(fault) => self.messages.say(&fault),
         }
-    }
-
-    fn try_show<N: StoreName>(&self, alloc: Global, session: &mut Session<'_, N>) -> Result<()> {
-        if let Answer::Top(top) = session.ask(alloc, &self.query)? {
-            self.messages.show(top_text(alloc, top)?.as_slice());
-        }
-        Ok(())
     }
 }

@@ -115,8 +115,11 @@ impl Window {
     }
 
     /// Why it ended before its time, where it did.
-    pub(crate) fn ended_early(self) -> Option<EarlyEnd> {
-        self.ended_early.into_inner()
+    pub(crate) fn ended_early<R: Wait>(&self, rt: &R) -> Option<EarlyEnd> {
+        let ended_early = self.ended_early.lock(rt);
+        let cause = *ended_early;
+        MutexGuard::unlock(ended_early);
+        cause
     }
 
     /// An adder is done.

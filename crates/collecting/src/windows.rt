@@ -1,6 +1,4 @@
-//! Windows of time, each with a store of its own.
-
-ghost use Rattle.std.specs.Prelude.{◌≡◌};
+//! Windows of time, one after the other.
 
 use crate::adding::{Adder, Told};
 use crate::messages::Messages;
@@ -9,22 +7,21 @@ use crate::watching::Watch;
 use crate::window::{EarlyEnd, Window};
 use anyhow::Result;
 use crossbeam_channel::Sender;
-use profile_store::{Blank, Hashing, Journal, Session, SessionLog, Store, StoreName, Width};
+use profile_store::{Hashing, Query};
 use std::alloc::Global;
-use std::marker::Brand;
 use std::sync::{Arc, Mutex, MutexGuard, Wait};
 use std::thread;
 use std::thread::Threads;
 use std::time::{Clock, Duration, Instant};
+use store_window::{ClosedWindow, Slot, fill_window};
 
 /// How many milliseconds the next window waits where one could take nothing.
 const PAUSE: u64 = 1_000;
 
-/// What a window's store and its sessions have to tell.
+/// A window that is over.
 #[derive(Drop)]
 pub(crate) struct Closed {
-    pub(crate) journal: Journal,
-    pub(crate) logs: Vec<SessionLog>,
+    pub(crate) window: ClosedWindow,
     /// The origins with rows in the window.
     pub(crate) added: Vec<Arc<Origin>>,
     /// The origins that ended in it, without a fault.
@@ -37,21 +34,12 @@ impl Closed {
     /// Takes what an adder has to tell.
     fn take(&mut self, told: Told) -> Result<()> {
         let Told {
-            log,
             mut added,
             mut read,
         } = told;
-        if let Some(log) = log {
-            self.logs.push(log)?;
-        }
         self.added.append(&mut added)?;
         self.read.append(&mut read)?;
         Ok(())
-    }
-
-    /// Whether nothing was added.
-    pub(crate) fn is_empty(&self) -> bool {
-        self.journal.entries().is_empty()
     }
 }
 
@@ -64,7 +52,10 @@ pub(crate) struct Windows<'a> {
     pub(crate) length: Duration,
     /// Without a limit, where there is none.
     pub(crate) rows: Option<u64>,
-    pub(crate) watch: Watch<'a>,
+    /// What is shown of a window while it fills.
+    pub(crate) query: Arc<Query>,
+    /// How often it is shown: never, where there is none.
+    pub(crate) every: Option<Duration>,
 }
 
 impl<'a> Windows<'a> {
@@ -72,7 +63,7 @@ impl<'a> Windows<'a> {
     pub(crate) fn run<R: Threads + Wait + Clock + Sync>(
         self,
         rt: &R,
-        adders: Vec<Mutex<Adder<'a>>>,
+        adders: Vec<Mutex<Slot<Adder<'a>>>>,
         to: Sender<Closed>,
     ) {
         for _ in rt.forever() {
@@ -84,8 +75,8 @@ impl<'a> Windows<'a> {
                     }
                 }
                 Err(error) => {
-                    self.messages
-                        .say(&format_args!("no window could be opened: {error}"));
+                    let told = format_args!("no window could be opened: {error}");
+                    self.messages.say(&told);
                     thread::sleep(rt, Duration::from_millis(PAUSE));
                 }
             }
@@ -97,7 +88,7 @@ impl<'a> Windows<'a> {
 
     /// Waits where a window could take nothing.
     fn rest_after<R: Clock>(&self, rt: &R, closed: &Closed) {
-        if closed.is_empty() && closed.ended_early.is_some() {
+        if closed.window.is_empty() && closed.ended_early.is_some() {
             thread::sleep(rt, Duration::from_millis(PAUSE));
         }
     }
@@ -106,84 +97,70 @@ impl<'a> Windows<'a> {
     fn fill<R: Threads + Wait + Clock + Sync>(
         &self,
         rt: &R,
-        adders: &[Mutex<Adder<'a>>],
+        adders: &[Mutex<Slot<Adder<'a>>>],
     ) -> Result<Closed> {
         let until = Instant::now(rt)?.checked_add(self.length);
         let window = Window::new(until, self.rows, adders.len() as u64);
-        let sessions = u32::try_from(adders.len().saturating_add(1)).unwrap_or(u32::MAX);
-        let blank = Blank::make_with(self.alloc, self.hashing, u32::MAX, sessions, Width::one())?;
-        self.fill_blank::<Brand, R>(rt, blank, window, adders)
-    }
-
-    /// Fills a window in the store of a blank.
-    fn fill_blank<N: StoreName, R: Threads + Wait + Clock + Sync>(
-        &self,
-        rt: &R,
-        blank: Blank,
-        window: Window,
-        adders: &[Mutex<Adder<'a>>],
-    ) -> Result<Closed>
-        requires { blank
-            ≡ record { limit = N.limit; sessions = N.sessions; width = N.width; history = N.history } }
-    {
-        let store = Store::<N>::start(blank);
-        let filled = self.fill_store(rt, &store, &window, adders);
-        let journal = store.close(rt);
-        if let Err(error) = filled {
-            self.messages.say(&format_args!("not all sources take part in a window: {error}"));
-        }
-        let mut closed = Closed {
-            journal,
-            logs: Vec::new(self.alloc),
-            added: Vec::new(self.alloc),
-            read: Vec::new(self.alloc),
-            ended_early: window.ended_early(),
+        let watch = Watch {
+            alloc: self.alloc,
+            messages: self.messages,
+            query: &self.query,
+            every: self.every,
+            window: Arc::new(self.alloc, window)?,
         };
         for slot in adders {
-            let mut adder = slot.lock(rt);
-            let told = adder.take_told();
-            MutexGuard::unlock(adder);
-            closed.take(told)?;
+            begin(rt, slot, Arc::try_clone(&watch.window)?);
+        }
+        let filled = fill_window(rt, self.alloc, self.hashing, adders, &watch)?;
+        self.close(rt, filled, adders, &watch.window)
+    }
+
+    /// A window that is over, with what its adders have to tell.
+    fn close<R: Wait>(
+        &self,
+        rt: &R,
+        filled: ClosedWindow,
+        adders: &[Mutex<Slot<Adder<'a>>>],
+        window: &Window,
+    ) -> Result<Closed> {
+        if let Some(fault) = &filled.missing {
+            let told = format_args!("not all sources take part in a window: {fault}");
+            self.messages.say(&told);
+        }
+        let mut closed = Closed {
+            window: filled,
+            added: Vec::new(self.alloc),
+            read: Vec::new(self.alloc),
+            ended_early: window.ended_early(rt),
+        };
+        for slot in adders {
+            closed.take(told_by(rt, slot))?;
         }
         Ok(closed)
     }
-
-    /// Runs the adders, each with a session of its own, and watches meanwhile.
-    fn fill_store<N: StoreName, R: Threads + Wait + Clock + Sync>(
-        &self,
-        rt: &R,
-        store: &Store<N>,
-        window: &Window,
-        adders: &[Mutex<Adder<'a>>],
-    ) -> Result<()> {
-        thread::scope(thread::scope_env(), rt, |scope| -> Result<()> {
-            for slot in adders {
-                let session = store.session(rt, self.alloc)?;
-                let _adding = scope.spawn(move || fill_with(rt, slot, window, session))?;
-            }
-            self.watch.run(rt, self.alloc, store, window)
-        })
-    }
 }
 
-/// Has an adder fill a window. Nobody else has it meanwhile.
-fn fill_with<N: StoreName, R: Wait + Clock>(
-    rt: &R,
-    slot: &Mutex<Adder>,
-    window: &Window,
-    session: Session<'_, N>,
-) {
-    let mut adder = slot.lock(rt);
-    adder.fill(rt, window, session);
-    MutexGuard::unlock(adder);
+/// Has an adder take part in a window.
+fn begin<R: Wait>(rt: &R, slot: &Mutex<Slot<Adder>>, window: Arc<Window>) {
+    let mut slot = slot.lock(rt);
+    slot.source.begin(window);
+    MutexGuard::unlock(slot);
+}
+
+/// What an adder has to tell of the last window.
+fn told_by<R: Wait>(rt: &R, slot: &Mutex<Slot<Adder>>) -> Told {
+    let mut slot = slot.lock(rt);
+    let told = slot.source.take_told();
+    MutexGuard::unlock(slot);
+    told
 }
 
 /// Whether all adders have added everything.
-fn have_ended<R: Wait>(rt: &R, adders: &[Mutex<Adder>]) -> bool {
+fn have_ended<R: Wait>(rt: &R, adders: &[Mutex<Slot<Adder>>]) -> bool {
     for slot in adders {
-        let adder = slot.lock(rt);
-        let has_ended = adder.has_ended();
-        MutexGuard::unlock(adder);
+        let slot = slot.lock(rt);
+        let has_ended = slot.source.has_ended();
+        MutexGuard::unlock(slot);
         if !has_ended {
             return false;
         }

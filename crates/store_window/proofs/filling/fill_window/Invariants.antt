@@ -1,4 +1,4 @@
-use Rattle.collecting.proofs.windows.Windows.fill.Given as goal
+use Rattle.store_window.proofs.filling.fill_window.Given as goal
 
 abbrev pub ghosts-fill_blank : goal.ghosts-fill_blank
 ghosts-fill_blank g a =

@@ -12,7 +12,7 @@ const SOURCE: &str = "\
     A file or a named pipe with folded stacks, - for the standard input, a profile (NAME.pb), or a folder in which \
     files of both kinds come (NAME.folded, NAME.pb)";
 
-const WINDOW: &str = "How many seconds a window lasts at most";
+const WINDOW: &str = "How many seconds a window lasts at most; 60 without it";
 
 const ROWS: &str = "How many rows a window has at most; without it there is no limit";
 
@@ -20,12 +20,13 @@ const OUT: &str = "\
     The folder in which each window's folded report becomes a file, 1.folded and so on; without it only the last \
     window's is written, to the standard output";
 
-const TOP: &str = "How many names the list has that is shown while a window fills";
+const TOP: &str = "How many names the list has that is shown while a window fills; 10 without it";
 
 const EVERY: &str = "\
-    Every how many seconds that list is shown, on the standard error; without it every second, where that is a terminal";
+    Every how many seconds that list is shown, on the standard error; without it every second at a terminal, and never \
+    elsewhere";
 
-const BY: &str = "What the names are ordered by: flat or cum";
+const BY: &str = "What the names are ordered by; flat without it";
 
 const VALUE: &str = "\
     The sample type whose values are taken of profiles, by its name; without it each profile's own choice";

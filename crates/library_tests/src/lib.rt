@@ -16,6 +16,8 @@ mod items;
 #[cfg(test)]
 mod threads;
 #[cfg(test)]
+mod windows;
+#[cfg(test)]
 mod wire;
 #[cfg(test)]
 mod workers;

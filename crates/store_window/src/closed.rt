@@ -27,8 +27,8 @@ impl ClosedWindow {
         self.journal.entries().is_empty()
     }
 
-    /// The tree of all that the sources added, once the audit has found their logs to be one history: for every schedule
-    /// of their threads it is the aggregate of exactly the rows that the logs tell of.
+    /// The tree of all that the sources added, once the audit has found their logs to be one history. For every
+    /// schedule of their threads it is the aggregate of exactly the rows that the logs tell of.
     ///
     /// # Errors
     ///

@@ -66,9 +66,9 @@ impl From<NoMemory> for WindowFault {
     }
 }
 
-/// Makes a store, lets each source fill it in a thread of its own while the watcher asks, and closes it once all sources
-/// have left. `hashing` says how names are hashed: draw it from [`Hashing::random`] where strangers choose them. There
-/// are at most 63 sources.
+/// Makes a store, lets each source fill it in a thread of its own while the watcher asks, and closes it once all
+/// sources have left. `hashing` says how names are hashed: draw it from [`Hashing::random`] where strangers choose
+/// them. There are at most 63 sources.
 ///
 /// # Errors
 ///

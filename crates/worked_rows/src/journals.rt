@@ -18,7 +18,7 @@ struct Closed<'a> {
     logs: Vec<SessionLog>,
 }
 
-/// Runs the steps behind `close`, where those before it could be run.
+/// Runs the steps after `close`, where those before it could be run.
 pub(crate) fn run_closed(
     checker: &mut Checker,
     script: &mut Script,
@@ -83,7 +83,7 @@ fn tell_tree(made: &mut Vec<u8>, journal: &Journal) -> Ran {
     Ok(made.extend_from_slice(text.as_slice())?)
 }
 
-/// `share 0`: the first log stands once more behind all others.
+/// `share 0`: the first log stands once more, after all others.
 fn share_log(made: &mut Vec<u8>, logs: &mut Vec<SessionLog>, place: usize) -> Ran {
     let log = shared_log(*made.allocator(), logs, place)?;
     logs.push(log).ok().ok_or(Wrong::NoMemory)?;

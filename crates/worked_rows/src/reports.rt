@@ -7,8 +7,8 @@ use crate::script::Words;
 use crate::trees;
 use profile_store::{
     Answer, Batch, Columns, Flame, Hashing, Kind, Name, Query, Rank, WeightedStacks, flame_json,
-    folded_totals, kept_totals, read_ordered, report_in_order, report_of, report_of_stacks,
-    top_list, top_text,
+    folded_totals, kept_totals, merge_lines, read_ordered, report_in_order, report_of,
+    report_of_stacks, top_list, top_text,
 };
 use std::alloc::Global;
 
@@ -118,7 +118,7 @@ fn agree_on_stacks(given: &Given, made: &mut Vec<u8>) -> Result<(), Wrong> {
     agree(made, "report_of_stacks", again == *given.answer)
 }
 
-/// The answer over folded text that is read in order.
+/// The answer over folded text that is read in order, and over its merged lines.
 fn agree_on_text(given: &Given, made: &mut Vec<u8>) -> Result<(), Wrong> {
     let (alloc, hashing) = (given.asked.alloc, given.asked.hashing);
     if !given.asked.has_folded_text() {
@@ -126,7 +126,10 @@ fn agree_on_text(given: &Given, made: &mut Vec<u8>) -> Result<(), Wrong> {
     }
     let ordered = done(read_ordered(alloc, hashing, given.asked.input))?;
     let again = report_in_order(alloc, hashing, ordered, given.query)?;
-    agree(made, "report_in_order", again == *given.answer)
+    agree(made, "report_in_order", again == *given.answer)?;
+    let merged = done(merge_lines(alloc, hashing, given.asked.input))?;
+    let again = report_of_stacks(alloc, hashing, merged, given.query)?;
+    agree(made, "merge_lines", again == *given.answer)
 }
 
 /// Adds an answer as text. A folded report is followed by how many lines it has.

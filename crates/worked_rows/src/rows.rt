@@ -23,7 +23,7 @@ pub(crate) fn text_of(input: &[u8]) -> Result<&str, Wrong> {
     std::str::from_utf8(input).ok().ok_or(Wrong::Line)
 }
 
-/// The number behind a word, or another where the word isn't there.
+/// The number after a word, or another where the word isn't there.
 pub(crate) fn u32_after(words: Words, key: &str, other: u32) -> Result<u32, Wrong> {
     let number = words.number_after(key, u64::from(other))?;
     u32::try_from(number).ok().ok_or(Wrong::Command)
@@ -72,7 +72,7 @@ pub(crate) fn values_of(alloc: Global, line: &str) -> Result<Vec<u64>, Wrong> {
 }
 
 /// Tells why a row is refused, and how many frames come back.
-fn tell_refusal(alloc: Global, refused: &Refused<Stack>, made: &mut Vec<u8>) -> Result<(), Wrong> {
+fn tell_refusal(refused: &Refused<Stack>, made: &mut Vec<u8>) -> Result<(), Wrong> {
     refuse(made, &refused.fault)?;
     say(
         made,
@@ -87,7 +87,7 @@ fn push_row(batch: &mut Batch, line: &str, made: &mut Vec<u8>) -> Result<(), Wro
     let stack = stack_of(alloc, frames.trim_end())?;
     match batch.push(stack, weights) {
         Ok(()) => Ok(()),
-        Err(refused) => tell_refusal(alloc, &refused, made),
+        Err(refused) => tell_refusal(&refused, made),
     }
 }
 
@@ -105,7 +105,7 @@ pub(crate) fn batch_of(width: Width, input: &[u8], made: &mut Vec<u8>) -> Result
     Ok(batch)
 }
 
-pub(crate) fn add_total(alloc: Global, total: &Weights, made: &mut Vec<u8>) -> Result<(), Wrong> {
+pub(crate) fn add_total(total: &Weights, made: &mut Vec<u8>) -> Result<(), Wrong> {
     say(made, &format_args!("total {:?}", total.values()))
 }
 
@@ -122,5 +122,5 @@ pub(crate) fn add_folded(alloc: Global, batch: &Batch, made: &mut Vec<u8>) -> Re
     for value in 0..batch.width().get() {
         made.extend_from_slice(folded_by(alloc, batch, value)?.as_slice())?;
     }
-    add_total(alloc, &batch.total(), made)
+    add_total(&batch.total(), made)
 }

@@ -197,7 +197,7 @@ fn add_next(plan: &Plan, tree: &CallTree, made: &mut Vec<u8>) -> Result<(), Wron
 }
 
 fn add_total(tree: &CallTree, made: &mut Vec<u8>) -> Result<(), Wrong> {
-    rows::add_total(*made.allocator(), &tree.total(), made)
+    rows::add_total(&tree.total(), made)
 }
 
 /// `weigh`, `weigh of share`: what each stack weighs alone.

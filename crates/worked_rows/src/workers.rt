@@ -18,7 +18,7 @@ use std::sync::atomic::{AtomicU64, Ordering};
 use std::sync::{Mutex, Wait};
 use std::thread::Threads;
 
-/// How often each worker called. A call is wrong where it isn't the worker's next: before its first step it,
+/// How often each worker called. A call is wrong where it isn't the worker's next: before its first step, after it,
 /// before its second step, and so on.
 #[derive(Drop)]
 struct Counting {

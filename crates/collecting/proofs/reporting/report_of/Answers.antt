@@ -1,5 +1,4 @@
 -- The texts are those of the tree's weights, and these add up to what the logs tell of.
-use Rattle.std.proofs.Common.{sym, rules}
 use Rattle.profile_store.specs.State.{weights_of}
 use Rattle.collecting.proofs.reporting.report_of.Goals as goal
 

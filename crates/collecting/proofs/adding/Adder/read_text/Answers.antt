@@ -1,6 +1,6 @@
 -- The lines are the first of what isn't in a window.
 use Rattle.std.proofs.lemmas.Grind.{common_steps}
-use Rattle.std.proofs.Common.{◌≡◌, ◌≤◌, ◌+◌, arith, drop, length, take}
+use Rattle.std.proofs.Common.{arith}
 use Rattle.std.proofs.lemmas.List.{length-drop, length-take, take-take}
 use Rattle.collecting.proofs.adding.Adder.read_text.Goals as goal
 

@@ -1,0 +1,74 @@
+//! A small service: `small_service FILE..` adds up folded text, a thread for each file, and writes the top list.
+#![tactic(auto)]
+
+ghost use Rattle.std.specs.Prelude.{◌≡◌};
+
+use anyhow::{Result, bail};
+use profile_store::{
+    Answer, Batch, BookFault, Hashing, Kind, Query, Rank, merge_lines, report, top_text,
+};
+use std::alloc::Global;
+use std::io::Write;
+use std::sync::{Arc, Mutex, Wait};
+use std::time::Clock;
+use std::{env, fs, io};
+use store_window::{NoWatcher, Slot, Source, fill_window};
+
+/// The rows of a file, until they are added.
+#[derive(Drop)]
+struct Rows {
+    batch: Option<Arc<Batch>>,
+}
+
+impl Source for Rows {
+    fn next_batch<R: Wait + Clock>(&mut self, _rt: &R) -> Option<Arc<Batch>> {
+        self.batch.take()
+    }
+
+    fn take_back<R: Wait>(&mut self, _rt: &R, batch: Arc<Batch>, _fault: BookFault) {
+        self.batch = Some(batch);
+    }
+
+    fn leave(&mut self) {}
+}
+
+/// The rows of folded text, lines of one stack merged.
+fn rows_of(alloc: Global, hashing: Hashing, text: &[u8]) -> Result<Mutex<Slot<Rows>>> {
+    let merged = merge_lines(alloc, hashing, text)?;
+    let batch = Arc::new(alloc, Batch::single(alloc, merged))?;
+    Ok(Mutex::new(Slot::new(Rows { batch: Some(batch) })))
+}
+
+/// The names that weigh most by themselves.
+fn top_query() -> Query
+    ensures { result.value ≡ 0 }
+{
+    Query {
+        focus: None,
+        ignore: None,
+        value: 0,
+        kind: Kind::Top {
+            rank: Rank::Flat,
+            count: 10,
+        },
+    }
+}
+
+fn main(rt: HostRuntime) -> Result<()> {
+    let alloc = rt.alloc();
+    let hashing = Hashing::random(&rt)?;
+    let mut files = Vec::new(alloc);
+    for name in env::args(&rt)?.skip(1) {
+        let text = fs::read(&rt, name.as_str())?;
+        files.push(rows_of(alloc, hashing, text.as_slice())?)?;
+    }
+    let window = fill_window(&rt, alloc, hashing, files.as_slice(), &NoWatcher)?;
+    if let Some(fault) = window.missing {
+        bail!("not all files were added: {fault}");
+    }
+    let answer = report(alloc, window.audited_tree(alloc)?, &top_query())?;
+    if let Answer::Top(top) = &answer {
+        io::writer(&rt).write_all(top_text(alloc, top)?.as_slice())?;
+    }
+    Ok(())
+}

@@ -202,7 +202,7 @@ impl<'a> Adder<'a> {
                 break;
             }
             match self.pieces.recv_deadline(rt, until) {
-                Ok(piece) => self.next = text.join(piece),
+                Ok(piece) => self.next = text.join(rt, piece),
                 Err(_) => break,
             }
         }

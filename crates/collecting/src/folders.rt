@@ -17,6 +17,8 @@ pub(crate) struct Inbox<'a> {
     /// The names in it that were taken, in order.
     taken: Vec<String>,
     to: Sender<Opened<File>>,
+    /// It couldn't be read when it was looked at last.
+    is_blamed: bool,
 }
 
 impl<'a> Inbox<'a> {
@@ -31,13 +33,19 @@ impl<'a> Inbox<'a> {
             path,
             taken: Vec::new(alloc),
             to,
+            is_blamed: false,
         }
     }
 
     /// Takes the files that have come, in the order of their names.
     pub(crate) fn poll<R: Wait>(&mut self, threads: &R, rt: HostRuntime) {
-        if let Err(error) = self.try_poll(threads, rt) {
-            self.messages.blame(self.path, &error);
+        match self.try_poll(threads, rt) {
+            Ok(()) => self.is_blamed = false,
+            Err(error) if !self.is_blamed => {
+                self.is_blamed = true;
+                self.messages.blame(self.path, &error);
+            }
+            Err(_) => {}
         }
     }
 

@@ -5,7 +5,7 @@ ghost use Rattle.std.specs.Prelude.{◌≡◌, ◌+◌, ◌≤◌, drop, length}
 use crate::origin::Origin;
 use crate::reading::{Content, Piece};
 use crate::text::count_lines;
-use std::sync::Arc;
+use std::sync::{Arc, Wait};
 
 /// Lines of one origin. Those before `from` are in a window.
 #[derive(Drop)]
@@ -54,11 +54,18 @@ impl Text {
     }
 
     /// Adds lines of the same origin, or gives back what is something else.
-    pub(crate) fn join(&mut self, piece: Piece) -> Option<Piece> {
-        match &piece.content {
-            Content::Lines(bytes) if self.takes(&piece.origin, bytes.as_slice()) => None,
-            _ => Some(piece),
+    pub(crate) fn join<R: Wait>(&mut self, rt: &R, piece: Piece) -> Option<Piece> {
+        let Piece { origin, content } = piece;
+        let lines = match content {
+            Content::Lines(lines) => lines,
+            Content::Profile(_) | Content::End => return Some(Piece { origin, content }),
+        };
+        if self.takes(&origin, lines.as_slice()) {
+            origin.give_back(rt, lines);
+            return None;
         }
+        let content = Content::Lines(lines);
+        Some(Piece { origin, content })
     }
 
     /// Adds lines where they are of the same origin and there is memory for them.

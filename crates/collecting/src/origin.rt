@@ -1,8 +1,8 @@
 //! Where rows come from.
 
 use std::alloc::{AllocError, Global};
-use std::sync::Arc;
 use std::sync::atomic::{AtomicBool, AtomicU64, Ordering};
+use std::sync::{Arc, Mutex, MutexGuard, Wait};
 
 /// A file, a named pipe or the standard input, from when it is opened until it is read to its end.
 #[derive(Drop)]
@@ -11,12 +11,14 @@ pub(crate) struct Origin {
     is_profile: bool,
     /// It lies in a folder that is a source.
     is_in_folder: bool,
-    /// A window with some of its rows couldn't be written.
+    /// Some of its rows are in no written window.
     is_lost: AtomicBool,
     /// Nothing more of it is read.
     is_over: AtomicBool,
     /// How many of its lines were read into rows.
     lines: AtomicU64,
+    /// Room of pieces whose bytes stand elsewhere, for the next ones.
+    spare: Mutex<Vec<Vec<u8>>>,
 }
 
 impl Origin {
@@ -33,6 +35,7 @@ impl Origin {
             is_lost: AtomicBool::new(false),
             is_over: AtomicBool::new(false),
             lines: AtomicU64::new(0),
+            spare: Mutex::new(Vec::new(alloc)),
         };
         Ok(Arc::new(alloc, origin)?)
     }
@@ -45,7 +48,7 @@ impl Origin {
         self.is_profile
     }
 
-    /// A window with some of its rows couldn't be written.
+    /// Some of its rows are in no written window.
     pub(crate) fn lose(&self) {
         self.is_lost.store(true, Ordering::SeqCst);
     }
@@ -63,6 +66,24 @@ impl Origin {
     /// From now on nothing more of it is read.
     pub(crate) fn end(&self) {
         self.is_over.store(true, Ordering::SeqCst);
+    }
+
+    /// Takes the room of a piece whose bytes stand elsewhere.
+    pub(crate) fn give_back<R: Wait>(&self, rt: &R, room: Vec<u8>) {
+        let mut spare = self.spare.lock(rt);
+        // Where there is no memory for it, it is let go.
+        let _ = spare.push(room);
+        MutexGuard::unlock(spare);
+    }
+
+    /// Room for a piece, empty.
+    pub(crate) fn room<R: Wait>(&self, rt: &R, alloc: Global) -> Vec<u8> {
+        let mut spare = self.spare.lock(rt);
+        let room = spare.pop();
+        MutexGuard::unlock(spare);
+        let mut room = room.unwrap_or(Vec::new(alloc));
+        room.clear();
+        room
     }
 
     /// Counts lines that were read into rows, and gives how many there were before.

@@ -56,14 +56,13 @@ fn try_run<T: Threads + Wait + Clock + RandomSource + Sync>(
     let texts: Vec<&str> = words.iter().map(|word| word.as_str()).collect(alloc)?;
     match read_options(alloc, texts.as_slice()) {
         Ok(options) => collect(threads, rt, &options),
+        Err(error) if error.kind() == ErrorKind::DisplayHelp => {
+            write!(rt.stdout(), "{error}")?;
+            Ok(0)
+        }
         Err(error) => {
-            let mut errors = rt.stderr();
-            write!(errors, "{error}")?;
-            Ok(if error.kind() == ErrorKind::DisplayHelp {
-                0
-            } else {
-                2
-            })
+            write!(rt.stderr(), "{error}")?;
+            Ok(2)
         }
     }
 }

@@ -91,28 +91,38 @@ impl<'a> Reader<'a> {
         } = opened;
         let mut begun = Vec::new(self.alloc);
         let mut room = [0; ROOM];
+        let mut is_whole = false;
         for _ in rt.forever() {
-            let count = self.read_some(&origin, &mut file, &mut room);
-            if count == 0 {
-                break;
+            match self.read_some(&origin, &mut file, &mut room) {
+                Some(0) => {
+                    is_whole = true;
+                    break;
+                }
+                Some(count) => {
+                    drop(mem::take(&mut kept_open));
+                    let bytes = room.get(..count).unwrap_or(&[]);
+                    self.take(rt, &origin, &mut begun, bytes)?;
+                }
+                None => break,
             }
-            drop(mem::take(&mut kept_open));
-            self.take(rt, &origin, &mut begun, room.get(..count).unwrap_or(&[]))?;
         }
-        self.finish(rt, &origin, begun)
+        if is_whole {
+            self.finish(rt, &origin, begun)?;
+        }
+        self.send(rt, &origin, Content::End)
     }
 
-    /// Reads some bytes; none at the end, or where nothing more is read.
-    fn read_some<F: Read>(&self, origin: &Origin, file: &mut F, room: &mut [u8]) -> usize {
+    /// How many bytes are read: none at the end. Nothing where the origin is over, or can't be read.
+    fn read_some<F: Read>(&self, origin: &Origin, file: &mut F, room: &mut [u8]) -> Option<usize> {
         if origin.is_over() {
-            return 0;
+            return None;
         }
         match file.read(room) {
-            Ok(count) => count,
+            Ok(count) => Some(count),
             Err(error) => {
-                origin.end();
+                origin.lose();
                 self.messages.blame(origin.name(), &error);
-                0
+                None
             }
         }
     }
@@ -132,7 +142,7 @@ impl<'a> Reader<'a> {
         let (lines, rest) = bytes.split_at_checked(end).unwrap_or((&[], bytes));
         if !lines.is_empty() {
             self.append(rt, begun, lines);
-            let lines = mem::replace(begun, Vec::new(self.alloc));
+            let lines = mem::replace(begun, origin.room(rt, self.alloc));
             self.send(rt, origin, Content::Lines(lines))?;
         }
         self.append(rt, begun, rest);
@@ -156,13 +166,13 @@ impl<'a> Reader<'a> {
         origin: &Arc<Origin>,
         begun: Vec<u8>,
     ) -> Result<(), Unwanted> {
-        match (origin.is_profile(), origin.is_over()) {
-            (false, _) if begun.is_empty() => {}
-            (false, _) => self.send(rt, origin, Content::Lines(begun))?,
-            (true, false) => self.send(rt, origin, Content::Profile(begun))?,
-            (true, true) => {}
+        if origin.is_profile() {
+            return self.send(rt, origin, Content::Profile(begun));
         }
-        self.send(rt, origin, Content::End)
+        if begun.is_empty() {
+            return Ok(());
+        }
+        self.send(rt, origin, Content::Lines(begun))
     }
 
     fn send<R: Wait>(

@@ -25,8 +25,8 @@ const MOST: usize = 134_217_728;
 /// For how many milliseconds an adder takes more lines before it adds what it has.
 const GATHER: u64 = 250;
 
-/// How many milliseconds an adder waits for a piece before it looks whether its window is over.
-const PAUSE: u64 = 10;
+/// How many milliseconds an adder waits for a piece before it looks whether another has ended the window.
+const PAUSE: u64 = 50;
 
 /// What an adder has to tell of a window.
 #[derive(Drop)]
@@ -131,15 +131,16 @@ impl<'a> Adder<'a> {
         match self.next.take() {
             Some(piece) => self.take_piece(rt, window, piece),
             None => {
-                self.next = self.wait(rt);
+                self.next = self.wait(rt, window);
                 None
             }
         }
     }
 
-    /// The next piece, where one comes soon.
-    fn wait<R: Wait + Clock>(&mut self, rt: &R) -> Option<Piece> {
-        match self.pieces.recv_timeout(rt, Duration::from_millis(PAUSE)) {
+    /// The next piece, where one comes soon and before the window is over.
+    fn wait<R: Wait + Clock>(&mut self, rt: &R, window: &Window) -> Option<Piece> {
+        let until = window.soon(rt, Duration::from_millis(PAUSE))?;
+        match self.pieces.recv_deadline(rt, until) {
             Ok(piece) => Some(piece),
             Err(error) => {
                 self.has_ended = error.is_disconnected();

@@ -10,7 +10,7 @@ use std::time::{Clock, Duration};
 use store_window::Watcher;
 
 /// How many milliseconds a watcher sleeps before it looks whether the window is over.
-const PAUSE: u64 = 10;
+const PAUSE: u64 = 50;
 
 /// What is shown of a window, and how often.
 #[derive(Drop)]

@@ -85,7 +85,7 @@ def four_pipes(folder, megabytes):
     for writer in writers:
         writer.join()
     seconds, size = time.time() - began, sum(map(len, texts))
-    good = run.status == 0 and run.folded() == fold(b"".join(texts))
+    good = run.status == 0 and run.folded() == fold(b"".join(fold(text) for text in texts))
     return good, f"{len(run.windows())} windows add up to the fold of {size // 10**6} MB, {size / seconds / 1e6:.0f} MB/s"
 
 
@@ -160,6 +160,15 @@ def faulty(folder, _):
     return good and run.status == 1, "a faulty line and a source that isn't there: a line for each, all others count"
 
 
+def heavy(folder, _):
+    for number in range(3):
+        (folder / f"{number}.folded").write_bytes(b"a;b 9223372036854775807\n")
+    run = Run(folder, "--out", "out", "0.folded", "1.folded", "2.folded").end()
+    good = [file.read_bytes() for file in run.windows()] == [b"a;b 9223372036854775807\n"] * 3 and run.status == 0
+    early = run.said.count("a window ended early, since its weights are above 2^63 - 1 together")
+    return good and early == 2, "windows that would weigh too much end early, and the next ones have what they refused"
+
+
 def refused(folder, _):
     (folder / "packed.pb").write_bytes(b"\x1f\x8b\x08\x00")
     cases = [
@@ -225,7 +234,7 @@ def full_disk(folder, _):
 
 
 CASES = [
-    four_pipes, killed, ten_thousand_windows, stalled, cut, faulty, refused, many_sources, spool, full_disk]
+    four_pipes, killed, ten_thousand_windows, stalled, cut, faulty, heavy, refused, many_sources, spool, full_disk]
 
 
 def main(words):

@@ -9,7 +9,7 @@ use profile_store::{
 };
 use std::alloc::Global;
 use std::io::Write;
-use std::sync::{Arc, Mutex, Wait};
+use std::sync::{Arc, Mutex, MutexGuard, Wait};
 use std::time::Clock;
 use std::{env, fs, io};
 use store_window::{NoWatcher, Slot, Source, fill_window};
@@ -18,6 +18,8 @@ use store_window::{NoWatcher, Slot, Source, fill_window};
 #[derive(Drop)]
 struct Rows {
     batch: Option<Arc<Batch>>,
+    /// Why the window refused them, where it did.
+    refused: Option<BookFault>,
 }
 
 impl Source for Rows {
@@ -25,8 +27,8 @@ impl Source for Rows {
         self.batch.take()
     }
 
-    fn take_back<R: Wait>(&mut self, _rt: &R, batch: Arc<Batch>, _fault: BookFault) {
-        self.batch = Some(batch);
+    fn take_back<R: Wait>(&mut self, _rt: &R, _batch: Arc<Batch>, fault: BookFault) {
+        self.refused = Some(fault);
     }
 
     fn leave(&mut self) {}
@@ -36,7 +38,21 @@ impl Source for Rows {
 fn rows_of(alloc: Global, hashing: Hashing, text: &[u8]) -> Result<Mutex<Slot<Rows>>> {
     let merged = merge_lines(alloc, hashing, text)?;
     let batch = Arc::new(alloc, Batch::single(alloc, merged))?;
-    Ok(Mutex::new(Slot::new(Rows { batch: Some(batch) })))
+    Ok(Mutex::new(Slot::new(Rows {
+        batch: Some(batch),
+        refused: None,
+    })))
+}
+
+/// An error where the window refused a file's rows.
+fn check_added<R: Wait>(rt: &R, file: &Mutex<Slot<Rows>>) -> Result<()> {
+    let slot = file.lock(rt);
+    let refused = slot.source.refused;
+    MutexGuard::unlock(slot);
+    match refused {
+        Some(fault) => bail!("not all rows were added: {fault}"),
+        None => Ok(()),
+    }
 }
 
 /// The names that weigh most by themselves.
@@ -65,6 +81,9 @@ fn main(rt: HostRuntime) -> Result<()> {
     let window = fill_window(&rt, alloc, hashing, files.as_slice(), &NoWatcher)?;
     if let Some(fault) = window.missing {
         bail!("not all files were added: {fault}");
+    }
+    for file in files.as_slice() {
+        check_added(&rt, file)?;
     }
     let answer = report(alloc, window.audited_tree(alloc)?, &top_query())?;
     if let Answer::Top(top) = &answer {

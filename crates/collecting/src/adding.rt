@@ -291,12 +291,11 @@ impl<'a> Adder<'a> {
         bytes: Vec<u8>,
     ) -> Option<Arc<Batch>> {
         match read_profile(self.alloc, self.hashing, self.value, bytes.as_slice()) {
-            Ok(batch) => {
+            Ok(batch) if self.note(&origin).is_ok() => {
                 let _ = window.take_rows(rt, batch.len() as u64);
-                let _ = self.note(&origin);
                 Some(batch)
             }
-            Err(Unread::NoMemory) => {
+            Ok(_) | Err(Unread::NoMemory) => {
                 let content = Content::Profile(bytes);
                 self.next = Some(Piece { origin, content });
                 window.end_early(rt, EarlyEnd::NoMemory);

@@ -1,5 +1,6 @@
 //! The windows that are closed, as they are written.
 
+use crate::adding::Told;
 use crate::folders::Inbox;
 use crate::messages::Messages;
 use crate::origin::Origin;
@@ -71,10 +72,21 @@ impl<'a> Output<'a> {
                 .say(&format_args!("a window ended early, since {cause}"));
         }
         match self.write(rt, &closed) {
-            Ok(()) => self.tell(rt, closed.read.as_slice()),
+            Ok(()) => self.tell_all(rt, closed.told.as_slice()),
             Err(error) => {
                 self.messages.lose_window(&error);
-                closed.added.iter().for_each(|origin| origin.lose());
+                for told in closed.told.as_slice() {
+                    told.added.iter().for_each(|origin| origin.lose());
+                }
+            }
+        }
+    }
+
+    /// Tells which files of folders are in written windows with all their rows, where windows are written.
+    fn tell_all(&self, rt: HostRuntime, told: &[Told]) {
+        if self.folder.is_some() {
+            for one in told {
+                self.tell(rt, one.read.as_slice());
             }
         }
     }
@@ -92,11 +104,8 @@ impl<'a> Output<'a> {
         Ok(())
     }
 
-    /// Tells which files of folders are in written windows with all their rows.
+    /// Tells which of these are files of folders, all of whose rows are in written windows.
     fn tell(&self, rt: HostRuntime, read: &[Arc<Origin>]) {
-        if self.folder.is_none() {
-            return;
-        }
         for origin in read.iter().filter(|origin| origin.is_told()) {
             if let Err(error) = tell_name(rt, origin.name()) {
                 self.messages

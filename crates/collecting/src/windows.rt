@@ -2,7 +2,6 @@
 
 use crate::adding::{Adder, Told};
 use crate::messages::Messages;
-use crate::origin::Origin;
 use crate::watching::Watch;
 use crate::window::{EarlyEnd, Window};
 use anyhow::Result;
@@ -22,25 +21,10 @@ const PAUSE: u64 = 1_000;
 #[derive(Drop)]
 pub(crate) struct Closed {
     pub(crate) window: ClosedWindow,
-    /// The origins with rows in the window.
-    pub(crate) added: Vec<Arc<Origin>>,
-    /// The origins that ended in it, without a fault.
-    pub(crate) read: Vec<Arc<Origin>>,
+    /// What its adders have to tell.
+    pub(crate) told: Vec<Told>,
     /// Why it ended before its time, where it did.
     pub(crate) ended_early: Option<EarlyEnd>,
-}
-
-impl Closed {
-    /// Takes what an adder has to tell.
-    fn take(&mut self, told: Told) -> Result<()> {
-        let Told {
-            mut added,
-            mut read,
-        } = told;
-        self.added.append(&mut added)?;
-        self.read.append(&mut read)?;
-        Ok(())
-    }
 }
 
 /// How windows are filled.
@@ -88,7 +72,8 @@ impl<'a> Windows<'a> {
 
     /// Waits where a window could take nothing.
     fn rest_after<R: Clock>(&self, rt: &R, closed: &Closed) {
-        if closed.window.is_empty() && closed.ended_early.is_some() {
+        let is_stopped = closed.ended_early.is_some() || closed.window.missing.is_some();
+        if closed.window.is_empty() && is_stopped {
             thread::sleep(rt, Duration::from_millis(PAUSE));
         }
     }
@@ -108,35 +93,36 @@ impl<'a> Windows<'a> {
             every: self.every,
             window: Arc::new(self.alloc, window)?,
         };
+        // Room for all that is told of a window comes before it: what was added isn't lost where there is none.
+        let told = Vec::with_capacity(self.alloc, adders.len())?;
         for slot in adders {
             begin(rt, slot, Arc::try_clone(&watch.window)?);
         }
         let filled = fill_window(rt, self.alloc, self.hashing, adders, &watch)?;
-        self.close(rt, filled, adders, &watch.window)
+        let ended_early = watch.window.ended_early(rt);
+        let mut closed = self.closed(filled, told, ended_early);
+        for slot in adders {
+            let _ = closed.told.push(told_by(rt, slot));
+        }
+        Ok(closed)
     }
 
-    /// A window that is over, with what its adders have to tell.
-    fn close<R: Wait>(
+    /// A window that is over. It says so where not all sources took part.
+    fn closed(
         &self,
-        rt: &R,
-        filled: ClosedWindow,
-        adders: &[Mutex<Slot<Adder<'a>>>],
-        window: &Window,
-    ) -> Result<Closed> {
-        if let Some(fault) = &filled.missing {
+        window: ClosedWindow,
+        told: Vec<Told>,
+        ended_early: Option<EarlyEnd>,
+    ) -> Closed {
+        if let Some(fault) = &window.missing {
             let told = format_args!("not all sources take part in a window: {fault}");
             self.messages.say(&told);
         }
-        let mut closed = Closed {
-            window: filled,
-            added: Vec::new(self.alloc),
-            read: Vec::new(self.alloc),
-            ended_early: window.ended_early(rt),
-        };
-        for slot in adders {
-            closed.take(told_by(rt, slot))?;
+        Closed {
+            window,
+            told,
+            ended_early,
         }
-        Ok(closed)
     }
 }
 

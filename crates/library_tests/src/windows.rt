@@ -1,5 +1,5 @@
-//! What no clause says of a window as a call: that each source has a thread, that a watcher is asked meanwhile, and that
-//! a batch which the store refuses goes back to its source.
+//! What no clause says of a window as a call: that each source has a thread, that a watcher is asked meanwhile, and
+//! that a batch which the store refuses goes back to its source.
 
 use crate::helpers::{batch_of, query_of};
 use flame_report::{Answer, Kind, Query};

@@ -233,6 +233,8 @@ STORES = {
     "session_add_of_another_width": f"K6 Width held 1, total 1; {STORED}1",
     "session_reset": f"place 4, total 0; {STORED}0.0 reset 4, 0",
     "session_reset_where_it_is_full": f"K3 Full held 4, total 1; {STORED}1",
+    "session_take": f"place 4, window a;b 1\n|[1]|a 0/1 b 1/1 , total 0; {STORED}0.0 reset 4, 0",
+    "session_take_where_it_is_full": f"K3 Full held 4, total 1; {STORED}1",
     "session_ask": f"1, log ask 1 at 4, next 4, total 3; {STORED}1.4 add 4, 3",
     "session_ask_for_a_layout":
         f"{ONE_LINE}, log ask {ONE_LINE} at 4, next 4, total 3; {STORED}1.4 add 4, 3",

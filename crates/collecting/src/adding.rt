@@ -95,12 +95,18 @@ impl<'a> Adder<'a> {
         self.has_ended
     }
 
-    /// What it has to tell of the last window.
+    /// What it has to tell of the last window. A batch that was refused there is one of the next.
     pub(crate) fn take_told(&mut self) -> Told {
-        Told {
+        let told = Told {
             added: mem::replace(&mut self.added, Vec::new(self.alloc)),
             read: mem::replace(&mut self.read, Vec::new(self.alloc)),
+        };
+        if let (Some(_), Some(origin)) = (&self.refused, told.added.last()) {
+            if self.note(origin).is_err() {
+                origin.lose();
+            }
         }
+        told
     }
 
     /// Takes part in a window.

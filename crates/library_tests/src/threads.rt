@@ -18,39 +18,59 @@ use std::thread;
 use std::thread::Threads;
 use test_support::expect_text;
 
-// A session that adds a batch a hundred times. It gives how many receipts it has.
+// A session that adds a batch a hundred times, once the other is there. It gives how many receipts it has.
 fn add_hundred<N: StoreName, R: Wait>(
     rt: &R,
     alloc: Global,
     session: Session<'_, N>,
+    there: &AtomicU64,
     batch: &Arc<Batch>,
 ) -> usize {
     let mut session = session;
+    let _ = there.fetch_add(1, Ordering::SeqCst);
+    let _ = come(there, 2);
     add_often(rt, alloc, &mut session, batch, 100)
 }
 
-// Two threads with a session each.
+// A session that takes a hundred windows, once the other is there. It gives how many receipts it has, and what the
+// windows weigh.
+fn take_hundred<N: StoreName, R: Wait>(
+    rt: &R,
+    alloc: Global,
+    session: Session<'_, N>,
+    there: &AtomicU64,
+) -> (usize, u64) {
+    let mut session = session;
+    let _ = there.fetch_add(1, Ordering::SeqCst);
+    let _ = come(there, 2);
+    let mut weight = 0_u64;
+    for _ in 0..100 {
+        let Ok(window) = session.take(rt, alloc) else {
+            break;
+        };
+        weight = weight.saturating_add(window.tree.total().values()[0]);
+    }
+    (session.log().len(), weight)
+}
+
+// One thread adds, and another takes windows.
 fn two_threads<N: StoreName, R: Threads + Wait + Sync>(
     rt: &R,
     alloc: Global,
     store: &Store<N>,
     batch: &Arc<Batch>,
-) -> Result<(usize, usize), Fail> {
+) -> Result<(usize, (usize, u64)), Fail> {
     let first = store.session(rt, alloc)?;
     let second = store.session(rt, alloc)?;
+    let there = AtomicU64::new(0);
     Ok(thread::join(
         rt,
-        || add_hundred(rt, alloc, first, batch),
-        || add_hundred(rt, alloc, second, batch),
+        || add_hundred(rt, alloc, first, &there, batch),
+        || take_hundred(rt, alloc, second, &there),
     ))
 }
 
-// How many entries a journal has, and what they weigh.
-fn weight_of(journal: &Journal) -> (usize, u64) {
-    (journal.entries().len(), journal.tree().total().values()[0])
-}
-
-// What two threads at once leave in a store.
+// How many changes each of two threads made, and what all windows and what is left weigh.
 fn threaded<N: StoreName, R: Threads + Wait + Sync>(
     rt: &R,
     alloc: Global,
@@ -62,19 +82,20 @@ fn threaded<N: StoreName, R: Threads + Wait + Sync>(
 {
     let store = Store::<N>::start(blank);
     let counts = two_threads(rt, alloc, &store, batch);
-    let (count, total) = weight_of(&store.close(rt));
-    let (a, b) = counts?;
-    Ok(format!(in alloc; "{a} {b}; {count} {total}")?)
+    let left = store.close(rt).tree().total().values()[0];
+    let (added, (taken, weight)) = counts?;
+    let weight = weight.saturating_add(left);
+    Ok(format!(in alloc; "{added} added, {taken} taken, weight {weight}")?)
 }
 
 #[test]
-fn two_threads_add_at_once(rt: HostRuntime) -> Result<(), Fail> {
+fn windows_hold_each_addition_once(rt: HostRuntime) -> Result<(), Fail> {
     let alloc = rt.alloc();
     let batch = batch_of(alloc, "main;a 1\n")?;
     let blank = Blank::make(alloc, 200, 2, Width::one())?;
     expect_text(
         threaded::<Brand, HostRuntime>(&rt, alloc, blank, &batch),
-        "100 100; 200 200",
+        "100 added, 100 taken, weight 100",
     )
 }
 

@@ -2,7 +2,7 @@
 use Rattle.std.proofs.Common.{◌≡◌, ℕ, zero, suc, ◌+◌, ◌*◌, ◌==◌, ◌<◌, ◌≤◌, ◌⊎◌, inl, inr, Bool, true, false, List, []}
 use Rattle.std.proofs.Common.{◌∷◌, ◌++◌, length, take, map, get_or, slice_get, Option, Some, None, All, AllPairs, refl}
 use Rattle.std.proofs.Common.{sym, ap, ◌∙◌, subst, arith, length-append}
-use Rattle.std.specs.Prelude.{MatchBool, IsSomeAnd, Result, Ok, Err, IfOk, OnOk, OnErr}
+use Rattle.std.specs.Prelude.{MatchBool, MatchResult, IsSomeAnd, Result, Ok, Err, OnOk}
 use Rattle.std.specs.List.{filter}
 use Rattle.std.proofs.lemmas.List.{map-append, append-nil, length-map, take_all}
 use Rattle.std.proofs.lemmas.List.Elements.{All-weaker, All-push, All-nil, filter-append}
@@ -21,8 +21,9 @@ use Rattle.op_book.specs.declared.book.changing.Change.TheVariants as change
 use Rattle.op_book.specs.declared.fault.BookFault.{BookFault}
 use Rattle.op_book.specs.declared.fault.BookFault.TheVariants as book
 use Rattle.flame_report.specs.declared.query.Query.{Query}
+use Rattle.live_store.specs.Changes.{HasChanged, IsRefused}
 use Rattle.live_store.specs.Sessions.{IsBorneOut, IsPlaced, IsSound, changes_by, changes_of}
-use Rattle.live_store.specs.Stores.{IsShownBy, changes_told}
+use Rattle.live_store.specs.Stores.{IsShownBy, SessionState, ShowsCause, changes_told}
 
 pub prefix_map : {A B : Type 0} (f : A → B) (xs ys : List A) → IsPrefix xs ys → IsPrefix (map f xs) (map f ys)
 prefix_map f xs ys p = (map f p.0, sym (map-append f xs p.0) ∙ ap (map f) p.1)
@@ -186,18 +187,47 @@ pub is_change-change_op : (asked : Change) → is_change (change_op asked) ≡ t
 is_change-change_op (change.Add batch) = refl
 is_change-change_op change.Reset = refl
 
-pub borne_either : {P F : Type 0} (result : Result P F) (place : P → ℕ)
-    (n : ℕ) (op : PlainOp) (log more : List PlainReceipt) (old new : List PlainEntry) → is_change op ≡ true
-    → IfOk result (λ p. IsPlaced old n (changes_told log) op (place p) new)
-    → IfOk result (λ p. more ≡ log ++ change_told op (place p) ∷ []) → OnErr result (more ≡ log) → IsPrefix old new
-    → IsBorneOut n log old → IsBorneOut n more new × OnOk result (changes_by n new ≡ changes_of more)
-borne_either (Ok p) place n op log more old new changes is logged same begins h =
-    rw logged (borne_changed n (changes_told log) (place p) op log old new changes refl is h)
-borne_either (Err f) place n op log more old new changes is logged same begins h =
-    rw same (borne_more n log old new begins h, tt)
+-- once a session made a change or was refused one, it has its number, and the changes that it knows of bear out its log
+pub borne_either : {P : Type 0} (result : Result P BookFault) (place : P → ℕ) (told : P → List PlainEntry)
+    (limit sessions width : ℕ) (before after : SessionState) (op : PlainOp) → is_change op ≡ true
+    → MatchResult result (λ p. HasChanged before op (place p) (told p) after)
+    (IsRefused limit sessions width before op after) → IsBorneOut before.number before.log before.seen
+    → (after.number ≡ before.number) × IsBorneOut after.number after.log after.seen
+    × OnOk result (changes_by after.number after.seen ≡ changes_of after.log)
+borne_either (Ok p) place told limit sessions width before after op changes did h =
+    let both : IsBorneOut after.number after.log after.seen
+    × (changes_by after.number after.seen ≡ changes_of after.log) =
+    rw (did.number, did.log) (borne_changed before.number
+    (changes_told before.log) (place p) op before.log before.seen after.seen changes refl did.placed h) in
+    (did.number, both.0, both.1)
+borne_either (Err f) place told limit sessions width before after op changes did h =
+    (did.number, rw (did.number, did.log) (borne_more before.number before.log before.seen after.seen did.seen h), tt)
+
+-- what is known here begins with what was known before
+pub caught_up : (old here own : List PlainEntry) → (here ≡ own) × IsPrefix old own → IsPrefix old here
+caught_up old here own caught = subst (λ (l : List PlainEntry). IsPrefix old l) (sym caught.0) caught.1
+
+-- a change after what is known stands after what was known before
+pub changed_since : (before after : SessionState) (old : List PlainEntry) (op : PlainOp) (place : ℕ)
+    (told : List PlainEntry) → IsPrefix old before.seen → HasChanged before op place told after
+    → HasChanged (record { number = before.number; log = before.log; seen = old }) op place told after
+changed_since before after old op place told begins did = record {
+  number = did.number;
+  seen = prefix_trans old before.seen after.seen begins did.seen;
+  placed = let was = did.placed in record {
+    before = was.before;
+    begins = prefix_trans old before.seen was.before begins was.begins;
+    turn_is = was.turn_is;
+    place_is = was.place_is;
+    reply_is = was.reply_is;
+    seen_is = was.seen_is;
+  };
+  told_is = did.told_is;
+  log = did.log;
+}
 
 -- who knows the changes of a book knows the cause of its refusal
-pub shown_first : (state : BookState) (seen : List PlainEntry) (session turn : ℕ) (op : PlainOp) → seen ≡ state.entries
+shown_first : (state : BookState) (seen : List PlainEntry) (session turn : ℕ) (op : PlainOp) → seen ≡ state.entries
     → (fault : BookFault) → IsFirstBookFault state session turn op fault → IsShownBy seen session fault
 shown_first state seen session turn op same book.Session first = tt
 shown_first state seen session turn op same (book.Turn held) first = rw same first.1
@@ -207,20 +237,46 @@ shown_first state seen session turn op same (book.Heavy value held) first = let 
 shown_first state seen session turn op same book.NoMemory first = tt
 shown_first state seen session turn op same book.Version first = tt
 
--- what is known here begins with what was known before
-pub caught_up : (old here own : List PlainEntry) → (here ≡ own) × IsPrefix old own → IsPrefix old here
-caught_up old here own caught = subst (λ (l : List PlainEntry). IsPrefix old l) (sym caught.0) caught.1
+-- what the first fault of a book tells of its cause
+cause_first : (state : BookState) (session turn : ℕ) (op : PlainOp) → session < state.sessions
+    → length state.entries ≤ state.limit → is_change op ≡ true
+    → (fault : BookFault) → IsFirstBookFault state session turn op fault → ShowsCause state.limit state.width turn op fault
+cause_first state session turn op known few changes book.Session first = absurd (omega (arith, first, known))
+cause_first state session turn op known few changes (book.Turn held) first = (changes, λ same. first.2 (sym same))
+cause_first state session turn op known few changes (book.Full held) first =
+    (changes, omega (arith, first.2, first.3, few))
+cause_first state session turn op known few changes (book.Width held) first = (first.1, first.2)
+cause_first state session turn op known few changes (book.Heavy value held) first =
+    let heavy = first.1 in (heavy.within, heavy.light, heavy.heavy)
+cause_first state session turn op known few changes book.NoMemory first = tt
+cause_first state session turn op known few changes book.Version first = tt
 
--- a change that stands behind what is known stands behind what was known before
-pub placed_behind : (old known own : List PlainEntry) (session turn : ℕ) (op made : PlainOp) (place : ℕ)
-    (seen : List PlainEntry) → (known ≡ own) × IsPrefix old own → made ≡ op
-    → IsPlaced known session turn made place seen → IsPlaced old session turn op place seen
-placed_behind old known own session turn op made place seen caught is was =
-    subst (λ (o : PlainOp). IsPlaced old session turn o place seen) is (record {
-      before = was.before;
-      begins = prefix_trans old known was.before (caught_up old known own caught) was.begins;
-      turn_is = was.turn_is;
-      place_is = was.place_is;
-      reply_is = was.reply_is;
-      seen_is = was.seen_is;
+-- a session that knows all changes of a book is refused by its first fault
+pub refused_first : (state : BookState) (limit sessions width number turn : ℕ) (before after : SessionState)
+    (op : PlainOp) → state.limit ≡ limit → state.sessions ≡ sessions → state.width ≡ width
+    → number ≡ before.number → turn ≡ changes_told before.log
+    → before.number < sessions → length state.entries ≤ state.limit → is_change op ≡ true
+    → after.number ≡ before.number → IsPrefix before.seen after.seen → after.log ≡ before.log
+    → after.seen ≡ state.entries
+    → (fault : BookFault) → IsFirstBookFault state number turn op fault
+    → IsRefused limit sessions width before op after fault
+refused_first state limit sessions width number turn before after op limit_is sessions_are width_is mine taken known few
+    changes same_number seen log same fault told =
+    let first : IsFirstBookFault state before.number (changes_told before.log) op fault =
+    rw (← mine, ← taken) told in
+    rw (← limit_is, ← sessions_are, ← width_is) (record {
+      number = same_number;
+      seen = seen;
+      log = log;
+      cause = cause_first state before.number (changes_told before.log) op (rw sessions_are known) few changes fault
+          first;
+      shown = shown_first state after.seen before.number (changes_told before.log) op same fault first;
+      first = inr (record {
+        book = state;
+        entries_are = sym same;
+        limit_is = refl;
+        sessions_are = refl;
+        width_is = refl;
+        first = first;
+      });
     })

@@ -16,5 +16,5 @@ pub use fault::{MakeFault, SessionFault, WorkersFault};
 pub use op_book::{BookFault, Refused};
 pub use session::Session;
 pub use store::Store;
-pub use told::{Placed, Told};
+pub use told::{Placed, Told, Window};
 pub use workers::{Cause, FinishedWorker, Gate, Stop, run_workers};

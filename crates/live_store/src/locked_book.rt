@@ -1,19 +1,17 @@
 //! What a store's lock keeps, and what happens under it.
 
-ghost use Rattle.std.specs.Prelude.{◌≡◌, ◌+◌, ◌<◌, ◌≤◌, ◌++◌, ◌∷◌, [], IfErr, IfOk, MatchResult, OnErr, OnOk, length, true};
+ghost use Rattle.std.specs.Prelude.{◌≡◌, ◌+◌, ◌<◌, ◌≤◌, [], IfErr, IfOk, MatchResult, OnOk, length};
 ghost use Rattle.std.specs.Arc.{arc_value};
-ghost use mathlib.Core.List.{IsPrefix};
 ghost use Rattle.left_right.specs.Sides.{view as known};
-ghost use Rattle.op_book.specs.Books.{IsAppended, IsFirstBookFault, IsSameBook, change_told, receipt_after};
+ghost use Rattle.op_book.specs.Books.{IsAppended, IsFirstBookFault, IsSameBook};
 ghost use Rattle.op_book.specs.Changes.{change_op};
-ghost use Rattle.op_book.specs.Operations.{is_change};
-ghost use Rattle.op_book.specs.Runs.{turns_of};
+ghost use Rattle.op_book.specs.Operations.{reset};
 ghost use Rattle.shown_versions.specs.Views.{IsOf, listed};
-ghost use Rattle.live_store.specs.Sessions.{IsPlaced};
-ghost use Rattle.live_store.specs.Stores.{IsFirstShown, IsGiveFault, IsShownBy, ShowsCause, changes_told};
+ghost use Rattle.live_store.specs.Changes.{HasChanged, IsNextOf, IsRefused, IsWindow, session_of};
+ghost use Rattle.live_store.specs.Stores.{IsGiveFault, changes_told};
 
 use crate::fault::SessionFault;
-use crate::told::{Placed, Told};
+use crate::told::{Placed, Told, Window};
 use call_tree::CallTree;
 use change_history::{Front, HistoryEnd, StoreName};
 use op_book::{Book, BookFault, Change, Journal, Ready};
@@ -136,7 +134,8 @@ impl<N: StoreName> LockedBook<N> {
     }
 
     /// The event of a change: an entry of the book, its version, and its receipt, for which the session's log has
-    /// memory. Afterwards the front has all changes of the book, also where the change is refused.
+    /// memory. Afterwards the front has all changes of the book, also where the change is refused. What may run out of
+    /// memory stands before the history's step.
     pub(crate) fn change<R: Wait>(
         &mut self,
         rt: &R,
@@ -145,75 +144,57 @@ impl<N: StoreName> LockedBook<N> {
         log: &mut Log,
         change: Change<'_>,
     ) -> Result<Placed<N>, BookFault>
-        requires session { log.old.number < N.sessions }
-        requires room { length log.old.receipts.items < log.old.receipts.cap }
-        ensures appended { OnOk result
-            (IsAppended self.old.book log.old.number (changes_told log.old.receipts.items)
-            (change_op change.entry) self.new.book) }
-        ensures receipt { OnOk result (log.new.receipts.items
-            ≡ log.old.receipts.items ++ receipt_after self.old.book.entries (change_op change.entry) ∷ []) }
-        ensures placed { IfOk result (λ placing. IsPlaced front.old log.old.number
-            (changes_told log.old.receipts.items) (change_op change.entry) placing.place front.new) }
-        ensures told { IfOk result (λ placing. placing.told ≡ front.new) }
-        ensures extended { IfOk result (λ placing. log.new.receipts.items
-            ≡ log.old.receipts.items ++ change_told (change_op change.entry) placing.place ∷ []) }
-        ensures unchanged { OnErr result (IsSameBook self.old.book self.new.book) }
-        ensures untold { OnErr result (log.new.receipts.items ≡ log.old.receipts.items) }
-        ensures number { log.new.number ≡ log.old.number }
-        ensures given { self.new.given ≡ self.old.given }
-        ensures seen { IsPrefix front.old front.new }
+        requires log { (log.old.number < N.sessions)
+            × (length log.old.receipts.items < log.old.receipts.cap) }
+        ensures changed { MatchResult result
+            (λ placing. HasChanged (session_of log.old front.old) (change_op change.entry)
+            placing.place placing.told (session_of log.new front.new))
+            (IsRefused N.limit N.sessions N.width (session_of log.old front.old) (change_op change.entry)
+            (session_of log.new front.new)) }
+        ensures book { MatchResult result
+            (λ _. IsAppended self.old.book log.old.number (changes_told log.old.receipts.items)
+            (change_op change.entry) self.new.book) (λ _. IsSameBook self.old.book self.new.book) }
         ensures whole { front.new ≡ self.new.book.entries }
+        ensures given { self.new.given ≡ self.old.given }
         ensures first_fault { IfErr result (IsFirstBookFault self.old.book log.old.number
-            (changes_told log.old.receipts.items) (change_op change.entry)) }
-        ensures cause { IfErr result (ShowsCause N.limit N.width
-            (changes_told log.old.receipts.items) (change_op change.entry)) }
-        ensures shown { IfErr result (IsShownBy front.new log.old.number) }
-        ensures first_shown { IfErr result (IsFirstShown N.limit N.sessions N.width front.new log.old.number
             (changes_told log.old.receipts.items) (change_op change.entry)) }
     {
         let _ = self.book.entries();
         self.end.catch_up(front);
         match self.book.prepare(alloc, log.number(), log.turn(), change) {
-            Ok(ready) => self.make(rt, front, log, ready),
+            Ok(ready) => match ready.share_next() {
+                Ok(tree) => Ok(self.commit(rt, front, log, ready, tree)),
+                Err(_) => Err(BookFault::NoMemory),
+            },
             Err(fault) => Err(fault),
         }
     }
 
-    /// Makes the change that the book is ready for. What may want memory stands here, before the history's step.
-    fn make<R: Wait>(
+    /// The event of a reset, and the tree that is shown until then.
+    pub(crate) fn take<R: Wait>(
         &mut self,
         rt: &R,
+        alloc: Global,
         front: &mut Front<N>,
         log: &mut Log,
-        ready: Ready,
-    ) -> Result<Placed<N>, BookFault>
-        requires before { ready.before ≡ self.old.book }
-        requires known { front.old ≡ self.old.book.entries }
-        requires change { is_change ready.op ≡ true }
-        requires mine { ready.session ≡ log.old.number }
-        requires taken { ready.turn ≡ changes_told log.old.receipts.items }
-        requires turn { ready.turn ≡ turns_of self.old.book.entries ready.session }
-        requires room { length log.old.receipts.items < log.old.receipts.cap }
-        ensures appended { OnOk result
-            (IsAppended self.old.book ready.session ready.turn ready.op self.new.book) }
-        ensures receipt { OnOk result (log.new.receipts.items
-            ≡ log.old.receipts.items ++ receipt_after self.old.book.entries ready.op ∷ []) }
-        ensures placed { IfOk result (λ placing. IsPlaced front.old log.old.number
-            (changes_told log.old.receipts.items) ready.op placing.place front.new) }
-        ensures told { IfOk result (λ placing. placing.told ≡ front.new) }
-        ensures extended { IfOk result
-            (λ placing. log.new.receipts.items
-            ≡ log.old.receipts.items ++ change_told ready.op placing.place ∷ []) }
-        ensures unchanged { OnErr result (self.new.book ≡ self.old.book) }
-        ensures untold { OnErr result (log.new.receipts.items ≡ log.old.receipts.items) }
-        ensures number { log.new.number ≡ log.old.number }
+    ) -> Result<Window<N>, BookFault>
+        requires log { (log.old.number < N.sessions)
+            × (length log.old.receipts.items < log.old.receipts.cap) }
+        ensures changed { MatchResult result
+            (λ window. HasChanged (session_of log.old front.old) reset window.placed.place window.placed.told
+            (session_of log.new front.new))
+            (IsRefused N.limit N.sessions N.width (session_of log.old front.old) reset
+            (session_of log.new front.new)) }
+        ensures book { MatchResult result
+            (λ _. IsAppended self.old.book log.old.number (changes_told log.old.receipts.items) reset self.new.book)
+            (λ _. IsSameBook self.old.book self.new.book) }
         ensures given { self.new.given ≡ self.old.given }
-        ensures seen { IsPrefix front.old front.new }
-        ensures whole { front.new ≡ self.new.book.entries }
-        ensures fault { IfErr result (λ fault. fault ≡ BookFault.NoMemory) }
+        ensures window { IfOk result
+            (λ window. IsWindow front.new window.placed.place N.width (arc_value window.tree)) }
     {
-        let tree = ready.share_next()?;
-        Ok(self.commit(rt, front, log, ready, tree))
+        let tree = self.versions.published().share_tree()?;
+        let placed = self.change(rt, alloc, front, log, Change::Reset)?;
+        Ok(Window { placed, tree })
     }
 
     /// The step of a change: the history and the book have it, then the version that is shown. It takes no memory, and
@@ -227,25 +208,13 @@ impl<N: StoreName> LockedBook<N> {
         tree: Arc<CallTree>,
     ) -> Placed<N>
         requires tree { arc_value tree ≡ ready.next }
-        requires before { ready.before ≡ self.old.book }
-        requires known { front.old ≡ self.old.book.entries }
-        requires change { is_change ready.op ≡ true }
-        requires mine { ready.session ≡ log.old.number }
-        requires taken { ready.turn ≡ changes_told log.old.receipts.items }
-        requires turn { ready.turn ≡ turns_of self.old.book.entries ready.session }
+        requires next { IsNextOf (session_of log.old front.old) self.old.book ready }
         requires room { length log.old.receipts.items < log.old.receipts.cap }
-        ensures appended { IsAppended self.old.book ready.session ready.turn ready.op self.new.book }
-        ensures receipt { log.new.receipts.items
-            ≡ log.old.receipts.items ++ receipt_after self.old.book.entries ready.op ∷ [] }
-        ensures placed { IsPlaced front.old log.old.number
-            (changes_told log.old.receipts.items) ready.op result.place front.new }
-        ensures told { result.told ≡ front.new }
-        ensures extended { log.new.receipts.items
-            ≡ log.old.receipts.items ++ change_told ready.op result.place ∷ [] }
-        ensures number { log.new.number ≡ log.old.number }
-        ensures given { self.new.given ≡ self.old.given }
-        ensures seen { IsPrefix front.old front.new }
+        ensures changed { HasChanged (session_of log.old front.old) ready.op result.place result.told
+            (session_of log.new front.new) }
+        ensures book { IsAppended self.old.book ready.session ready.turn ready.op self.new.book }
         ensures whole { front.new ≡ self.new.book.entries }
+        ensures given { self.new.given ≡ self.old.given }
     {
         let _ = self.book.entries();
         self.end.add(&ready);

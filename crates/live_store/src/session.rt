@@ -3,17 +3,18 @@
 ghost use Rattle.std.specs.Prelude.{◌≡◌, ◌≢◌, ◌<◌, ◌≤◌, ◌⊎◌, ◌++◌, ◌∷◌, [], ℕ, List, IfErr, IfOk, MatchResult, OnErr, OnOk, length};
 ghost use Rattle.std.specs.Arc.{arc_value};
 ghost use mathlib.Core.List.{IsPrefix};
-ghost use Rattle.op_book.specs.Books.{change_told, receipt_after};
+ghost use Rattle.op_book.specs.Books.{receipt_after};
 ghost use Rattle.op_book.specs.Changes.{change_op};
 ghost use Rattle.op_book.specs.Operations.{PlainOp, PlainReceipt, add, answered, ask, plain_op, reset};
 ghost use Rattle.flame_report.specs.declared.answer.Answer.{Answer};
-ghost use Rattle.live_store.specs.Sessions.{IsBorneOut, IsPlaced, changes_by, changes_of};
-ghost use Rattle.live_store.specs.Stores.{IsFirstShown, IsShownBy, IsUnseen, ShowsCause, changes_told};
+ghost use Rattle.live_store.specs.Changes.{HasChanged, IsRefused, IsWindow};
+ghost use Rattle.live_store.specs.Sessions.{IsBorneOut, changes_by, changes_of};
+ghost use Rattle.live_store.specs.Stores.{IsShownBy, IsUnseen, ShowsCause, changes_told};
 ghost use Rattle.live_store.specs.Workers.{ops_told};
 
 use crate::locked_book::Log;
 use crate::store::Store;
-use crate::told::{Placed, Told};
+use crate::told::{Placed, Told, Window};
 use change_history::{Front, StoreName};
 use flame_report::{Answer, Items, Query};
 use op_book::{BookFault, Change, Op, Receipt, Refused, Reply, SessionLog};
@@ -120,22 +121,11 @@ impl<'a, N: StoreName> Session<'a, N> {
         alloc: Global,
         batch: Arc<Batch>,
     ) -> Result<Placed<N>, Refused<Arc<Batch>>>
-        ensures number { self.new.number ≡ self.old.number }
-        ensures seen { IsPrefix self.old.seen self.new.seen }
-        ensures placed { IfOk result (λ placing. IsPlaced self.old.seen self.old.number
-            (changes_told self.old.log) (add (arc_value batch)) placing.place self.new.seen) }
-        ensures told { IfOk result (λ placing. placing.told ≡ self.new.seen) }
-        ensures extended { IfOk result
-            (λ placing. self.new.log ≡ self.old.log ++ change_told (add (arc_value batch)) placing.place ∷ []) }
+        ensures changed { MatchResult result
+            (λ placing. HasChanged self.old (add (arc_value batch)) placing.place placing.told self.new)
+            (λ refused. IsRefused N.limit N.sessions N.width self.old (add (arc_value batch)) self.new refused.fault) }
         ensures own { OnOk result (changes_by self.new.number self.new.seen ≡ changes_of self.new.log) }
-        ensures unchanged { OnErr result (self.new.log ≡ self.old.log) }
         ensures back { IfErr result (λ refused. refused.back ≡ batch) }
-        ensures cause { IfErr result (λ refused.
-            ShowsCause N.limit N.width (changes_told self.old.log) (add (arc_value batch)) refused.fault) }
-        ensures shown { IfErr result (λ refused. IsShownBy self.new.seen self.old.number refused.fault) }
-        ensures first_fault { IfErr result (λ refused. (refused.fault ≡ BookFault.NoMemory)
-            ⊎ IsFirstShown N.limit N.sessions N.width self.new.seen self.old.number (changes_told self.old.log)
-            (add (arc_value batch)) refused.fault) }
     {
         match self.change(rt, alloc, Change::Add(&batch)) {
             Ok(placed) => Ok(placed),
@@ -150,23 +140,36 @@ impl<'a, N: StoreName> Session<'a, N> {
     /// A [`BookFault`], which is neither `Width`, `Heavy` nor `Version`. The log is then as it was, and the session
     /// knows of the changes that were the cause.
     pub fn reset<R: Wait>(&mut self, rt: &R, alloc: Global) -> Result<Placed<N>, BookFault>
-        ensures number { self.new.number ≡ self.old.number }
-        ensures seen { IsPrefix self.old.seen self.new.seen }
-        ensures placed { IfOk result (λ placing. IsPlaced self.old.seen self.old.number
-            (changes_told self.old.log) reset placing.place self.new.seen) }
-        ensures told { IfOk result (λ placing. placing.told ≡ self.new.seen) }
-        ensures extended { IfOk result
-            (λ placing. self.new.log ≡ self.old.log ++ change_told reset placing.place ∷ []) }
+        ensures changed { MatchResult result
+            (λ placing. HasChanged self.old reset placing.place placing.told self.new)
+            (IsRefused N.limit N.sessions N.width self.old reset self.new) }
         ensures own { OnOk result (changes_by self.new.number self.new.seen ≡ changes_of self.new.log) }
-        ensures unchanged { OnErr result (self.new.log ≡ self.old.log) }
-        ensures cause { IfErr result (ShowsCause N.limit N.width (changes_told self.old.log) reset) }
         ensures light { IfErr result (λ fault. (value held : ℕ) → fault ≢ BookFault.Heavy value held) }
-        ensures shown { IfErr result (IsShownBy self.new.seen self.old.number) }
-        ensures first_fault { IfErr result (λ fault. (fault ≡ BookFault.NoMemory)
-            ⊎ IsFirstShown N.limit N.sessions N.width self.new.seen self.old.number (changes_told self.old.log)
-            reset fault) }
     {
         self.change(rt, alloc, Change::Reset)
+    }
+
+    /// Empties the profile as [`reset`](Session::reset) does, and gives the tree of what it held at that very place:
+    /// the additions since the reset before. It is one event, so each addition is in exactly one such window. The tree
+    /// is shared, not copied. Reports are made over it without the lock, and on any thread.
+    ///
+    /// # Errors
+    ///
+    /// Those of [`reset`](Session::reset). `NoMemory` also where the tree has as many owners as it can have.
+    pub fn take<R: Wait>(&mut self, rt: &R, alloc: Global) -> Result<Window<N>, BookFault>
+        ensures changed { MatchResult result
+            (λ window. HasChanged self.old reset window.placed.place window.placed.told self.new)
+            (IsRefused N.limit N.sessions N.width self.old reset self.new) }
+        ensures own { OnOk result (changes_by self.new.number self.new.seen ≡ changes_of self.new.log) }
+        ensures light { IfErr result (λ fault. (value held : ℕ) → fault ≢ BookFault.Heavy value held) }
+        ensures window { IfOk result
+            (λ window. IsWindow self.new.seen window.placed.place N.width (arc_value window.tree)) }
+    {
+        self.log.make_room()?;
+        let mut book = self.store.lock(rt);
+        let taken = book.take(rt, alloc, &mut self.front, &mut self.log);
+        MutexGuard::unlock(book);
+        taken
     }
 
     /// Makes a change, and keeps the receipt, for which memory is taken before the lock.
@@ -176,21 +179,10 @@ impl<'a, N: StoreName> Session<'a, N> {
         alloc: Global,
         change: Change<'_>,
     ) -> Result<Placed<N>, BookFault>
-        ensures number { self.new.number ≡ self.old.number }
-        ensures seen { IsPrefix self.old.seen self.new.seen }
-        ensures placed { IfOk result (λ placing. IsPlaced self.old.seen self.old.number
-            (changes_told self.old.log) (change_op change.entry) placing.place self.new.seen) }
-        ensures told { IfOk result (λ placing. placing.told ≡ self.new.seen) }
-        ensures extended { IfOk result (λ placing.
-            self.new.log ≡ self.old.log ++ change_told (change_op change.entry) placing.place ∷ []) }
+        ensures changed { MatchResult result
+            (λ placing. HasChanged self.old (change_op change.entry) placing.place placing.told self.new)
+            (IsRefused N.limit N.sessions N.width self.old (change_op change.entry) self.new) }
         ensures own { OnOk result (changes_by self.new.number self.new.seen ≡ changes_of self.new.log) }
-        ensures unchanged { OnErr result (self.new.log ≡ self.old.log) }
-        ensures cause { IfErr result
-            (ShowsCause N.limit N.width (changes_told self.old.log) (change_op change.entry)) }
-        ensures shown { IfErr result (IsShownBy self.new.seen self.old.number) }
-        ensures first_fault { IfErr result (λ fault. (fault ≡ BookFault.NoMemory)
-            ⊎ IsFirstShown N.limit N.sessions N.width self.new.seen self.old.number (changes_told self.old.log)
-            (change_op change.entry) fault) }
     {
         self.log.make_room()?;
         let mut book = self.store.lock(rt);
@@ -218,8 +210,13 @@ impl<'a, N: StoreName> Session<'a, N> {
         Ok(self.last_answer())
     }
 
-    /// Takes an operation, and keeps its receipt.
-    pub(crate) fn take<R: Wait>(&mut self, rt: &R, alloc: Global, op: Op) -> Result<(), BookFault>
+    /// Carries out an operation, and keeps its receipt.
+    pub(crate) fn perform<R: Wait>(
+        &mut self,
+        rt: &R,
+        alloc: Global,
+        op: Op,
+    ) -> Result<(), BookFault>
         ensures taken { OnOk result
             (ops_told self.new.log ≡ ops_told self.old.log ++ plain_op op ∷ []) }
         ensures unchanged { OnErr result (self.new.log ≡ self.old.log) }

@@ -1,8 +1,10 @@
 //! What a session passes on to others: where its change was placed, and what they may be told of it.
 
+use call_tree::CallTree;
 use change_history::{Front, StoreName};
 use std::fmt::{self, Debug, Formatter, Write};
 use std::marker::Model;
+use std::sync::Arc;
 
 /// A list of changes that the store of this name has, as a session told it. Contracts see it as the list of entries.
 /// Whoever hears of it, by [`Session::hear`](crate::Session::hear), knows of these changes. It may be passed to any
@@ -40,6 +42,23 @@ impl<N: StoreName> Debug for Placed<N> {
     fn fmt<W: Write>(&self, f: &mut Formatter<W>) -> fmt::Result {
         f.debug_struct("Placed")
             .field("place", &self.place)
+            .finish_non_exhaustive()
+    }
+}
+
+/// What a reset took: where it was placed, and the tree of what counted there.
+#[derive(Drop)]
+pub struct Window<N: StoreName> {
+    /// The reset's place.
+    pub placed: Placed<N>,
+    /// The tree of the additions before that place, since the last reset before it.
+    pub tree: Arc<CallTree>,
+}
+
+impl<N: StoreName> Debug for Window<N> {
+    fn fmt<W: Write>(&self, f: &mut Formatter<W>) -> fmt::Result {
+        f.debug_struct("Window")
+            .field("placed", &self.placed)
             .finish_non_exhaustive()
     }
 }

@@ -298,7 +298,7 @@ fn take_all<'a, N: StoreName, G: Gate, R: Wait>(
     for op in list {
         let step = session.log().len();
         gate.before(rt, place, step);
-        let taken = session.take(rt, alloc, op);
+        let taken = session.perform(rt, alloc, op);
         gate.after(rt, place, step);
         if let Err(fault) = taken {
             return Some(Stop {

@@ -58,9 +58,21 @@ impl Version {
     {
         Ok(Version {
             count: self.count,
-            tree: Arc::try_clone(&self.tree)?,
+            tree: self.share_tree()?,
             seen: self.seen.again(),
         })
+    }
+
+    /// Another owner of the tree after the changes.
+    ///
+    /// # Errors
+    ///
+    /// `AllocError` where the tree has as many owners as it can have. Takes no memory.
+    pub fn share_tree(&self) -> Result<Arc<CallTree>, AllocError>
+        ensures replay { IfOk result (λ tree. IsReplay self.now.seen.log (arc_value tree)) }
+        ensures width { IfOk result (λ tree. (arc_value tree).width ≡ self.now.width) }
+    {
+        Arc::try_clone(&self.tree)
     }
 
     /// How many changes there are.

@@ -8,9 +8,10 @@ use crate::journals::run_closed;
 use crate::operations::{batch_of, op_of, query_of, small_after, tell_answer};
 use crate::scenes::{Ran, next_step};
 use crate::script::{Script, Step, Words};
+use crate::trees::add_stacks;
 use profile_store::{
     Batch, Blank, Hashing, MakeFault, Op, Placed, Query, Reply, Session, SessionLog, Store,
-    StoreName, Told, Width,
+    StoreName, Told, Width, Window,
 };
 use std::alloc::Global;
 use std::marker::Brand;
@@ -159,7 +160,7 @@ impl<N: StoreName> Room<'_, N> {
         ran
     }
 
-    /// `number`, `hear 1`, `receipt 1`, `times 50 add a 1`, or an operation.
+    /// `number`, `hear 1`, `receipt 1`, `times 50 add a 1`, `take`, or an operation.
     fn take<R: Wait>(
         &mut self,
         rt: &R,
@@ -184,6 +185,7 @@ impl<N: StoreName> Room<'_, N> {
                 let receipts = add_often(rt, alloc, session, &batch, times);
                 say(made, &format_args!("{receipts} receipts"))
             }
+            "take" => self.take_window(rt, made, number),
             _ => self.operate(rt, made, number, op_of(alloc, deed, input)?),
         }
     }
@@ -201,6 +203,18 @@ impl<N: StoreName> Room<'_, N> {
                 Err(fault) => refuse(made, &fault),
             },
             Op::Ask(query) => ask(made, session, &query),
+        }
+    }
+
+    /// Adds the place of a reset, and the rows that counted there.
+    fn take_window<R: Wait>(&mut self, rt: &R, made: &mut Vec<u8>, number: usize) -> Ran {
+        let session = self.sessions.get_mut(number).ok_or(Wrong::Missing)?;
+        match session.take(rt, *made.allocator()) {
+            Ok(Window { placed, tree }) => {
+                self.keep(made, placed)?;
+                add_stacks(&tree, 0, made)
+            }
+            Err(fault) => refuse(made, &fault),
         }
     }
 

@@ -226,7 +226,7 @@ fn ask(tree: &CallTree, value: u32, made: &mut Vec<u8>) -> Result<(), Wrong> {
 }
 
 /// Adds the stacks of a value, which are the same by their texts and by the rows of the tree.
-fn add_stacks(tree: &CallTree, value: u32, made: &mut Vec<u8>) -> Result<(), Wrong> {
+pub(crate) fn add_stacks(tree: &CallTree, value: u32, made: &mut Vec<u8>) -> Result<(), Wrong> {
     if value >= tree.width().get() {
         return Err(Wrong::Missing);
     }

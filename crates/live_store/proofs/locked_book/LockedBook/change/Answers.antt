@@ -1,39 +1,45 @@
-use Rattle.std.proofs.Common.{ℕ, [], ◌∷◌, ◌++◌, ap, subst, ◌∙◌}
-use Rattle.change_history.proofs.Fronts.{prefix_trans}
-use Rattle.op_book.specs.Books.{change_told}
+use Rattle.std.proofs.Common.{◌∙◌, refl, subst}
 use Rattle.op_book.specs.Changes.{change_op}
-use Rattle.call_tree.proofs.Indexing.{if_ok_more}
-use Rattle.live_store.specs.Stores.{IsShownBy, changes_told}
-use Rattle.live_store.proofs.Knowing.{caught_up, placed_behind, shown_first}
+use Rattle.op_book.specs.Operations.{PlainOp}
+use Rattle.op_book.specs.declared.fault.BookFault.TheVariants as book
+use Rattle.live_store.specs.Changes.{HasChanged, session_of}
+use Rattle.live_store.proofs.Knowing.{caught_up, changed_since, is_change-change_op, refused_first}
 use Rattle.live_store.proofs.locked_book.LockedBook.change.Goals as goal
 
-pub returns-in-Ok-clause-seen : goal.returns-in-Ok-clause-seen
-returns-in-Ok-clause-seen g c =
+pub returns-in-Err-clause-changed : goal.returns-in-Err-clause-changed
+returns-in-Err-clause-changed g c =
+    let store = g.N.StoreName in
+    let own = c.args.self.now in
+    let log = c.args.log.now in
+    let here = c.catch_up.new.front in
+    let whole = c.catch_up.ensures.whole in
+    refused_first own.book store.limit store.sessions store.width c.number.result c.turn.result
+    (session_of log c.args.front.now) (session_of log here) (change_op c.args.change) own.limit own.all own.wide
+    c.number.ensures c.turn.ensures c.requires.log.0 c.entries.ensures.orderly.count (is_change-change_op c.args.change) refl
+    (caught_up c.args.front.now here own.end (whole, c.catch_up.ensures.began)) refl (whole ∙ own.whole)
+    c.in-Err.fault c.in-Err.ensures.first_fault
+
+pub returns-in-Err-share_next-clause-changed : goal.returns-in-Err-share_next-clause-changed
+returns-in-Err-share_next-clause-changed g c =
+    let store = g.N.StoreName in
+    let own = c.args.self.now in
+    let log = c.args.log.now in
+    let here = c.catch_up.new.front in
+    let whole = c.catch_up.ensures.whole in
+    refused_first own.book store.limit store.sessions store.width c.number.result c.turn.result
+    (session_of log c.args.front.now) (session_of log here) (change_op c.args.change) own.limit own.all own.wide
+    c.number.ensures c.turn.ensures c.requires.log.0 c.entries.ensures.orderly.count (is_change-change_op c.args.change) refl
+    (caught_up c.args.front.now here own.end (whole, c.catch_up.ensures.began)) refl (whole ∙ own.whole)
+    book.NoMemory c.in-Ok.ensures.taken
+
+pub returns-in-Ok-share_next-clause-changed : goal.returns-in-Ok-share_next-clause-changed
+returns-in-Ok-share_next-clause-changed g c =
     let old = c.args.front.now in
     let here = c.catch_up.new.front in
-    prefix_trans old here c.make.new.front
-    (caught_up old here c.args.self.now.end (c.catch_up.ensures.whole, c.catch_up.ensures.began)) c.make.ensures.seen
-
-pub returns-in-Err-clause-shown : goal.returns-in-Err-clause-shown
-returns-in-Err-clause-shown g c =
-    let here = c.catch_up.new.front in
-    let same = c.catch_up.ensures.whole ∙ c.args.self.now.whole in
-    subst (λ (n : ℕ). IsShownBy here n c.in-Err.fault) c.number.ensures
-    (shown_first c.args.self.now.book here c.number.result c.turn.result
-    (change_op c.args.change) same c.in-Err.fault c.in-Err.ensures.first_fault)
-
-pub returns-in-Ok-clause-placed : goal.returns-in-Ok-clause-placed
-returns-in-Ok-clause-placed g c =
-    let turns = changes_told c.args.log.now.receipts.items in
-    if_ok_more c.make.result _ _
-    (λ placing. placed_behind c.args.front.now c.catch_up.new.front c.args.self.now.end c.args.log.now.number turns
-    (change_op c.args.change) c.in-Ok.ready.op placing.place c.make.new.front
-    (c.catch_up.ensures.whole, c.catch_up.ensures.began) c.in-Ok.ensures.change.2)
-    c.make.ensures.placed
-
-pub returns-in-Ok-clause-extended : goal.returns-in-Ok-clause-extended
-returns-in-Ok-clause-extended g c =
-    if_ok_more c.make.result _ _
-    (λ placing was. was ∙ ap (λ op. c.args.log.now.receipts.items ++ change_told op placing.place ∷ [])
-    c.in-Ok.ensures.change.2)
-    c.make.ensures.extended
+    let made = c.commit.result in
+    let after = session_of c.commit.new.log c.commit.new.front in
+    subst (λ (op : PlainOp). HasChanged (session_of c.args.log.now old) op made.place made.told after)
+    c.in-Ok.ensures.change.2
+    (changed_since (session_of c.args.log.now here) after old c.in-Ok.ready.op made.place made.told
+    (caught_up old here c.args.self.now.end (c.catch_up.ensures.whole, c.catch_up.ensures.began))
+    c.commit.ensures.changed)

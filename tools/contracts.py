@@ -293,15 +293,14 @@ def pages():
 
 INDEX_TEXT = """# Contracts
 
-`tools/contracts.py` makes these pages out of the sources: each public type, and each public call with its comment, its
-clauses, and the names of its edits, the wrong bodies that the prover has to refuse. `OnOk`, `IfOk` and `OnErr`, `IfErr`
-say what holds where the call succeeds or fails; `.old` and `.new` are a value before and after the call, `.now` is what
-a reference leads to. The definitions that clauses cite stand in the `specs/` of their crate, and [MODEL.md](MODEL.md)
-says how they hang together.
+`tools/contracts.py` makes these pages from the sources. They have each public type, and each public call with its
+comment, its clauses, and the names of its edits: wrong bodies that the prover has to refuse. `OnOk`, `IfOk` and
+`OnErr`, `IfErr` say what holds where the call succeeds or fails; `.old` and `.new` are a value before and after the
+call, `.now` is what a reference leads to. [MODEL.md](MODEL.md) says how the definitions that clauses cite hang together.
 
-No clause can say that memory is asked for only where it is wanted, so a body that answers `NoMemory` too early is
-proved, and tests show that calls succeed; nor how long a call takes, or that it hashes by the `Hashing` that it is
-given. `f_with` has the clauses of `f` and takes a `Hashing`; the edits of `f` change its body.
+No clause can say that memory is taken only where it is needed. So a body that answers `NoMemory` too early is proved,
+and tests show that calls succeed. Nor does a clause say how long a call takes, or that it hashes by the `Hashing` that
+it is given. `f_with` has the clauses of `f` and takes a `Hashing`; the edits of `f` change its body.
 
 | crate | public calls | edits |
 |---|---|---|

@@ -296,11 +296,9 @@ INDEX_TEXT = """# Contracts
 `tools/contracts.py` makes these pages from the sources. They have each public type, and each public call with its
 comment, its clauses, and the names of its edits: wrong bodies that the prover has to refuse. `OnOk`, `IfOk` and
 `OnErr`, `IfErr` say what holds where the call succeeds or fails; `.old` and `.new` are a value before and after the
-call, `.now` is what a reference leads to. [MODEL.md](MODEL.md) explains the definitions that clauses cite.
-
-No clause can say that memory is taken only where it is needed. So a body that answers `NoMemory` too early is proved,
-and tests show that calls succeed. Nor does a clause say how long a call takes, or that it hashes by the `Hashing` that
-it is given. `f_with` has the clauses of `f` and takes a `Hashing`; the edits of `f` change its body.
+call, `.now` is what a reference leads to. `f_with` has the clauses of `f` and takes a `Hashing`; the edits of `f`
+change its body. [MODEL.md](MODEL.md) explains the definitions that clauses cite, and [PROVED.md](PROVED.md) has what
+no clause can say.
 
 | crate | public calls | edits |
 |---|---|---|

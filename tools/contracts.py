@@ -286,25 +286,22 @@ def pages():
         text, calls, edits = page_of(ROOT / "crates" / name)
         if text:
             made[FOLDER / f"{name}.md"] = text
-            rows.append(f"| [{name}](contracts/{name}.md) | {calls} | {edits} |")
+            rows.append(f"| [{name}](contracts/{name}.md) | {calls}/{edits} |")
     made[INDEX] = INDEX_TEXT + "\n".join(rows) + "\n"
     return made
 
 
 INDEX_TEXT = """# Contracts
 
-`tools/contracts.py` makes these pages out of the sources: each public type, and each public call with its comment, its
-clauses, and the names of its edits, the wrong bodies that the prover has to refuse. `OnOk`, `IfOk` and `OnErr`, `IfErr`
-say what holds where the call succeeds or fails; `.old` and `.new` are a value before and after the call, `.now` is what
-a reference leads to. The definitions that clauses cite stand in the `specs/` of their crate, and [MODEL.md](MODEL.md)
-says how they hang together.
+`tools/contracts.py` makes these pages from the sources. They have each public type, and each public call with its
+comment, its clauses, and the names of its edits: wrong bodies that the prover has to refuse. `OnOk`, `IfOk` and
+`OnErr`, `IfErr` say what holds where the call succeeds or fails; `.old` and `.new` are a value before and after the
+call, `.now` is what a reference leads to. `f_with` has the clauses of `f` and takes a `Hashing`; the edits of `f`
+change its body. [MODEL.md](MODEL.md) explains the definitions that clauses cite, and [PROVED.md](PROVED.md) has what
+no clause can say.
 
-No clause can say that memory is asked for only where it is wanted, so a body that answers `NoMemory` too early is
-proved, and tests show that calls succeed; nor how long a call takes, or that it hashes by the `Hashing` that it is
-given. `f_with` has the clauses of `f` and takes a `Hashing`; the edits of `f` change its body.
-
-| crate | public calls | edits |
-|---|---|---|
+| crate | public calls/edits |
+|---|---|
 """
 
 

@@ -5,7 +5,7 @@ ghost use Rattle.std.specs.Prelude.{◌≡◌};
 use crate::helpers::{audit_text, batch_of, come, query_of};
 use flame_report::Kind;
 use live_store::{
-    Blank, FinishedWorker, Gate, SessionFault, Store, StoreName, WorkersFault, run_workers,
+    Blank, FinishedWorker, Gate, SessionFault, Store, StoreName, Ungated, WorkersFault, run_workers,
 };
 use op_book::{Journal, Op, SessionLog};
 use stack_text::Width;
@@ -167,5 +167,15 @@ fn a_gate_holds_a_worker_around_its_step(rt: HostRuntime) -> Result<(), Fail> {
     expect_text(
         story(&rt, alloc, lists, &gate),
         "0: 1 None; 1: 3 None; 1.0 0.0 1.1 1.2 | next Ok(2)",
+    )
+}
+
+#[test]
+fn workers_need_no_gate(rt: HostRuntime) -> Result<(), Fail> {
+    let alloc = rt.alloc();
+    let lists = vec![in alloc; addition(alloc, "a 1\n")?]?;
+    expect_text(
+        story(&rt, alloc, lists, &Ungated),
+        "0: 1 None; 0.0 | next Ok(1)",
     )
 }

@@ -240,7 +240,8 @@ shown_first state seen session turn op same book.Version first = tt
 -- what the first fault of a book tells of its cause
 cause_first : (state : BookState) (session turn : ℕ) (op : PlainOp) → session < state.sessions
     → length state.entries ≤ state.limit → is_change op ≡ true
-    → (fault : BookFault) → IsFirstBookFault state session turn op fault → ShowsCause state.limit state.width turn op fault
+    → (fault : BookFault) → IsFirstBookFault state session turn op fault
+    → ShowsCause state.limit state.width turn op fault
 cause_first state session turn op known few changes book.Session first = absurd (omega (arith, first, known))
 cause_first state session turn op known few changes (book.Turn held) first = (changes, λ same. first.2 (sym same))
 cause_first state session turn op known few changes (book.Full held) first =

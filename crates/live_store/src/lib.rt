@@ -17,4 +17,4 @@ pub use op_book::{BookFault, Refused};
 pub use session::Session;
 pub use store::Store;
 pub use told::{Placed, Told, Window};
-pub use workers::{Cause, FinishedWorker, Gate, Stop, run_workers};
+pub use workers::{Cause, FinishedWorker, Gate, Stop, Ungated, run_workers};

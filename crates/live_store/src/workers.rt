@@ -28,6 +28,16 @@ pub trait Gate: Sync {
     fn after<R: Wait>(&self, rt: &R, worker: usize, step: usize);
 }
 
+/// Holds no worker.
+#[derive(Drop)]
+pub struct Ungated;
+
+impl Gate for Ungated {
+    fn before<R: Wait>(&self, _rt: &R, _worker: usize, _step: usize) {}
+
+    fn after<R: Wait>(&self, _rt: &R, _worker: usize, _step: usize) {}
+}
+
 /// Why a worker stopped.
 #[derive(Clone, Copy, Debug, PartialEq, Eq, Error)]
 pub enum Cause {

@@ -60,6 +60,7 @@ pub use live_store::Stop;
 pub use live_store::Store;
 pub use live_store::StoreName;
 pub use live_store::Told;
+pub use live_store::Ungated;
 pub use live_store::Window;
 pub use live_store::WorkersFault;
 pub use live_store::run_workers;

@@ -15,7 +15,8 @@ returns-in-Err-clause-changed g c =
     let whole = c.catch_up.ensures.whole in
     refused_first own.book store.limit store.sessions store.width c.number.result c.turn.result
     (session_of log c.args.front.now) (session_of log here) (change_op c.args.change) own.limit own.all own.wide
-    c.number.ensures c.turn.ensures c.requires.log.0 c.entries.ensures.orderly.count (is_change-change_op c.args.change) refl
+    c.number.ensures c.turn.ensures c.requires.log.0 c.entries.ensures.orderly.count
+    (is_change-change_op c.args.change) refl
     (caught_up c.args.front.now here own.end (whole, c.catch_up.ensures.began)) refl (whole ∙ own.whole)
     c.in-Err.fault c.in-Err.ensures.first_fault
 
@@ -28,7 +29,8 @@ returns-in-Err-share_next-clause-changed g c =
     let whole = c.catch_up.ensures.whole in
     refused_first own.book store.limit store.sessions store.width c.number.result c.turn.result
     (session_of log c.args.front.now) (session_of log here) (change_op c.args.change) own.limit own.all own.wide
-    c.number.ensures c.turn.ensures c.requires.log.0 c.entries.ensures.orderly.count (is_change-change_op c.args.change) refl
+    c.number.ensures c.turn.ensures c.requires.log.0 c.entries.ensures.orderly.count
+    (is_change-change_op c.args.change) refl
     (caught_up c.args.front.now here own.end (whole, c.catch_up.ensures.began)) refl (whole ∙ own.whole)
     book.NoMemory c.in-Ok.ensures.taken
 

@@ -13,7 +13,8 @@ invariant_of-self-2 g c =
     rw (c.make_room.ensures.number, c.make_room.ensures.same) c.self.invariant.1 in
     let either = borne_either made.result (λ p. p.place) (λ p. p.told) g.N.StoreName.limit
     g.N.StoreName.sessions g.N.StoreName.width (session_of log s.front)
-    (session_of made.new.log made.new.front) (change_op c.args.change) (is_change-change_op c.args.change) made.ensures.changed known in
+    (session_of made.new.log made.new.front) (change_op c.args.change)
+    (is_change-change_op c.args.change) made.ensures.changed known in
     (rw (either.0, c.make_room.ensures.number) c.self.invariant.0, either.1)
 
 pub returns-clause-own : goal.returns-clause-own
@@ -25,4 +26,5 @@ returns-clause-own g c =
     rw (c.make_room.ensures.number, c.make_room.ensures.same) c.self.invariant.1 in
     (borne_either made.result (λ p. p.place) (λ p. p.told) g.N.StoreName.limit
     g.N.StoreName.sessions g.N.StoreName.width (session_of log s.front)
-    (session_of made.new.log made.new.front) (change_op c.args.change) (is_change-change_op c.args.change) made.ensures.changed known).2
+    (session_of made.new.log made.new.front) (change_op c.args.change)
+    (is_change-change_op c.args.change) made.ensures.changed known).2

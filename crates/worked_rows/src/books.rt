@@ -5,10 +5,11 @@ ghost use Rattle.std.specs.Prelude.{◌≡◌};
 use crate::bytes::{Wrong, refuse, say};
 use crate::checker::Checker;
 use crate::journals::run_closed;
-use crate::operations::{op_of, place_of, small_after};
+use crate::operations::{op_of, place_of};
+use crate::rows::{u32_after, width_of};
 use crate::scenes::{Ran, Scene, run_opened};
 use crate::script::{Script, Step, Words};
-use profile_store::{Book, CallTree, Change, Op, Ready, Receipt, Width};
+use profile_store::{Book, CallTree, Change, Op, Ready, Receipt};
 use std::alloc::Global;
 
 /// Opens a book, and runs the steps that drive it.
@@ -21,9 +22,9 @@ pub(crate) fn run_scene(checker: &mut Checker, script: &mut Script, step: &Step)
 }
 
 fn book_of(alloc: Global, words: Words) -> Result<Book, Wrong> {
-    let limit = small_after(words, "limit", 10)?;
-    let sessions = small_after(words, "sessions", 1)?;
-    let width = Width::new(small_after(words, "width", 1)?).ok_or(Wrong::Command)?;
+    let limit = u32_after(words, "limit", 10)?;
+    let sessions = u32_after(words, "sessions", 1)?;
+    let width = width_of(words)?;
     if sessions == 0 || sessions > 64 {
         return Err(Wrong::Command);
     }

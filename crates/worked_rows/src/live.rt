@@ -1,7 +1,8 @@
 //! What `live` writes: `live sessions 2 all warm`.
 
 use crate::bytes::{Wrong, refuse, say};
-use crate::operations::{batch_of, small_after};
+use crate::operations::batch_of;
+use crate::rows::u32_after;
 use crate::scenes::Ran;
 use crate::script::Words;
 use live_report::{LiveOptions, Progress, live_text};
@@ -32,7 +33,7 @@ pub(crate) fn run_live<R: Threads + Wait + Sync>(
 ) -> Ran {
     let alloc = *made.allocator();
     let (_, row) = words.text.split_once(" of ").unwrap_or(("", ""));
-    let sessions = small_after(words, "sessions", 2)?;
+    let sessions = u32_after(words, "sessions", 2)?;
     let options = LiveOptions::new(sessions, words.has("all"), words.has("warm"));
     let options = options.ok_or(Wrong::Command)?;
     let heard = Heard {

@@ -17,6 +17,7 @@ mod names;
 mod operations;
 mod profiles;
 mod program;
+mod queries;
 mod reports;
 mod rows;
 mod samples;

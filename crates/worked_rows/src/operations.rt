@@ -1,20 +1,15 @@
 //! What is asked of a book, a store or a worker, as a script spells it: `add main;a 3`, `reset`, `ask total`.
 
 use crate::bytes::{Wrong, say};
+use crate::queries::{self, kind_name};
+use crate::rows::{numbers_of, stack_of};
 use crate::scenes::Ran;
 use crate::script::Words;
 use profile_store::{
-    Answer, Batch, Columns, Kind, Name, Op, Query, Rank, Receipt, Reply, Stack, Weights,
-    flame_json, read_folded, top_text,
+    Answer, Batch, Op, Query, Receipt, Reply, Weights, flame_json, read_folded, top_text,
 };
 use std::alloc::Global;
 use std::sync::Arc;
-
-/// The number of 32 bits after a word, or another where the word isn't there.
-pub(crate) fn small_after(words: Words, key: &str, other: u64) -> Result<u32, Wrong> {
-    let number = words.number_after(key, other)?;
-    u32::try_from(number).ok().ok_or(Wrong::Command)
-}
 
 /// `add main;a 3`, `add a 1 0` of two values, `add` of the folded text in the input, `reset`, `ask total`.
 pub(crate) fn op_of(alloc: Global, words: Words, input: &[u8]) -> Result<Op, Wrong> {
@@ -37,7 +32,8 @@ pub(crate) fn batch_of(alloc: Global, words: Words, input: &[u8]) -> Result<Arc<
 
 /// The batch of one row, whose frames are joined by semicolons.
 fn row_of(alloc: Global, words: Words) -> Result<Batch, Wrong> {
-    let weights = weights_of(alloc, words)?;
+    let values = numbers_of(alloc, words.rest(1).text)?;
+    let weights = Weights::make(values.as_slice()).ok_or(Wrong::Line)?;
     let mut batch = Batch::new(alloc, weights.width());
     push_row(alloc, words, weights, &mut batch)?;
     Ok(batch)
@@ -51,69 +47,10 @@ fn push_row(alloc: Global, words: Words, weights: Weights, batch: &mut Batch) ->
     }
 }
 
-fn stack_of(alloc: Global, frames: &str) -> Result<Stack, Wrong> {
-    let mut names = Vec::new(alloc);
-    for frame in frames.split(';') {
-        names.push(name_of(alloc, frame)?)?;
-    }
-    Stack::make(names).ok().ok_or(Wrong::Line)
-}
-
-fn name_of(alloc: Global, text: &str) -> Result<Name, Wrong> {
-    Name::make(alloc, text).ok().ok_or(Wrong::Line)
-}
-
-fn weights_of(alloc: Global, words: Words) -> Result<Weights, Wrong> {
-    let mut values: Vec<u64> = Vec::new(alloc);
-    for word in words.rest(1).text.split_whitespace() {
-        let value = word.parse().ok().ok_or(Wrong::Line)?;
-        values.push(value).ok().ok_or(Wrong::NoMemory)?;
-    }
-    Weights::make(values.as_slice()).ok_or(Wrong::Line)
-}
-
 /// `ask total`, `ask top by cum count 3`, `ask flame columns 5`, `ask folded focus main ignore b value 1`.
 pub(crate) fn query_of(alloc: Global, words: Words) -> Result<Arc<Query>, Wrong> {
-    let (kind, value) = (kind_of(words)?, small_after(words, "value", 0)?);
-    let focus = name_after(alloc, words, "focus")?;
-    let ignore = name_after(alloc, words, "ignore")?;
-    let query = Query {
-        focus,
-        ignore,
-        value,
-        kind,
-    };
+    let query = queries::query_of(alloc, words, kind_name(words)?)?;
     Ok(Arc::new(alloc, query)?)
-}
-
-fn kind_of(words: Words) -> Result<Kind, Wrong> {
-    match words.word(1)? {
-        "total" => Ok(Kind::Total),
-        "top" => top_of(words),
-        "flame" => {
-            let columns = Columns::new(small_after(words, "columns", 100)?);
-            let columns = columns.ok_or(Wrong::Command)?;
-            Ok(Kind::Flame { columns })
-        }
-        "folded" => Ok(Kind::Folded),
-        _ => Err(Wrong::Command),
-    }
-}
-
-fn top_of(words: Words) -> Result<Kind, Wrong> {
-    let rank = match words.after("by") {
-        Some("cum") => Rank::Cum,
-        _ => Rank::Flat,
-    };
-    let count = small_after(words, "count", 20)?;
-    Ok(Kind::Top { rank, count })
-}
-
-fn name_after(alloc: Global, words: Words, key: &str) -> Result<Option<Name>, Wrong> {
-    match words.after(key) {
-        Some(text) => Ok(Some(name_of(alloc, text)?)),
-        None => Ok(None),
-    }
 }
 
 /// What a session was told: `add a 1 at 0`, `reset at 1`, `ask total says 3 at 2`.

@@ -2,13 +2,13 @@
 
 use crate::batches::Asked;
 use crate::bytes::{Wrong, say};
-use crate::rows::{agree, done, u32_after};
-use crate::script::Words;
+use crate::queries::{kind_name, query_of};
+use crate::rows::{agree, done};
 use crate::trees;
 use profile_store::{
-    Answer, Batch, Columns, Flame, Hashing, Kind, Name, Query, Rank, WeightedStacks, flame_json,
-    folded_totals, kept_totals, merge_lines, read_ordered, report_in_order, report_of,
-    report_of_stacks, top_list, top_text,
+    Answer, Batch, Flame, Hashing, Kind, Query, WeightedStacks, flame_json, folded_totals,
+    kept_totals, merge_lines, read_ordered, report_in_order, report_of, report_of_stacks, top_list,
+    top_text,
 };
 use std::alloc::Global;
 
@@ -16,10 +16,7 @@ use std::alloc::Global;
 /// and `report each columns 5`; with `focus a`, `ignore b` and `value 1` where they are wanted. With `alone` it goes
 /// only the ways that count names.
 pub(crate) fn run(asked: &Asked, batch: &Batch, made: &mut Vec<u8>) -> Result<(), Wrong> {
-    let kind = match asked.words.after("by") {
-        Some(rank) => rank,
-        None => asked.words.word(1)?,
-    };
+    let kind = kind_name(asked.words)?;
     if kind != "each" {
         return answer(asked, batch, kind, made);
     }
@@ -27,29 +24,6 @@ pub(crate) fn run(asked: &Asked, batch: &Batch, made: &mut Vec<u8>) -> Result<()
         answer(asked, batch, kind, made)?;
     }
     Ok(())
-}
-
-fn kind_of(words: Words, kind: &str) -> Result<Kind, Wrong> {
-    let count = u32_after(words, "count", 20)?;
-    let (flat, cum) = (Rank::Flat, Rank::Cum);
-    match kind {
-        "total" => Ok(Kind::Total),
-        "folded" => Ok(Kind::Folded),
-        "flat" => Ok(Kind::Top { rank: flat, count }),
-        "cum" => Ok(Kind::Top { rank: cum, count }),
-        _ => {
-            let columns = Columns::new(u32_after(words, "columns", 100)?);
-            let columns = columns.ok_or(Wrong::Command)?;
-            Ok(Kind::Flame { columns })
-        }
-    }
-}
-
-fn name_after(alloc: Global, words: Words, key: &str) -> Result<Option<Name>, Wrong> {
-    match words.after(key) {
-        None => Ok(None),
-        Some(text) => Ok(Some(Name::make(alloc, text).ok().ok_or(Wrong::Command)?)),
-    }
 }
 
 /// A query, the rows that it is over, and the answer that each way has to give.
@@ -64,12 +38,7 @@ pub(crate) struct Given<'a> {
 }
 
 fn answer(asked: &Asked, batch: &Batch, kind: &str, made: &mut Vec<u8>) -> Result<(), Wrong> {
-    let query = Query {
-        focus: name_after(asked.alloc, asked.words, "focus")?,
-        ignore: name_after(asked.alloc, asked.words, "ignore")?,
-        value: u32_after(asked.words, "value", 0)?,
-        kind: kind_of(asked.words, kind)?,
-    };
+    let query = query_of(asked.alloc, asked.words, kind)?;
     agree_all(asked, batch, &query, made)
 }
 

@@ -62,13 +62,18 @@ fn halves_of(line: &str) -> Result<(&str, &str), Wrong> {
 /// The values of a row.
 pub(crate) fn values_of(alloc: Global, line: &str) -> Result<Vec<u64>, Wrong> {
     let (_, list) = halves_of(line)?;
-    let mut values = Vec::new(alloc);
-    for value in list.split(ends_number) {
-        if !value.is_empty() {
-            values.push(value.parse().ok().ok_or(Wrong::Line)?)?;
+    numbers_of(alloc, list)
+}
+
+/// The numbers in a text, with anything but digits between them.
+pub(crate) fn numbers_of(alloc: Global, text: &str) -> Result<Vec<u64>, Wrong> {
+    let mut numbers = Vec::new(alloc);
+    for number in text.split(ends_number) {
+        if !number.is_empty() {
+            numbers.push(number.parse().ok().ok_or(Wrong::Line)?)?;
         }
     }
-    Ok(values)
+    Ok(numbers)
 }
 
 /// Tells why a row is refused, and how many frames come back.

@@ -5,13 +5,14 @@ ghost use Rattle.std.specs.Prelude.{◌≡◌};
 use crate::bytes::{Wrong, refuse, say, usize_of};
 use crate::checker::Checker;
 use crate::journals::run_closed;
-use crate::operations::{batch_of, op_of, query_of, small_after, tell_answer};
+use crate::operations::{batch_of, op_of, query_of, tell_answer};
+use crate::rows::{u32_after, width_of};
 use crate::scenes::{Ran, next_step};
 use crate::script::{Script, Step, Words};
 use crate::trees::add_stacks;
 use profile_store::{
     Batch, Blank, Hashing, MakeFault, Op, Placed, Query, Reply, Session, SessionLog, Store,
-    StoreName, Told, Width, Window,
+    StoreName, Told, Window,
 };
 use std::alloc::Global;
 use std::marker::Brand;
@@ -45,9 +46,9 @@ pub(crate) fn run_scene<R: Wait>(
 
 /// An empty store. With `hashing 7` it hashes names from that start.
 pub(crate) fn blank_of(alloc: Global, words: Words) -> Result<Result<Blank, MakeFault>, Wrong> {
-    let limit = small_after(words, "limit", 10)?;
-    let sessions = small_after(words, "sessions", 1)?;
-    let width = Width::new(small_after(words, "width", 1)?).ok_or(Wrong::Command)?;
+    let limit = u32_after(words, "limit", 10)?;
+    let sessions = u32_after(words, "sessions", 1)?;
+    let width = width_of(words)?;
     let hashing = match words.after("hashing") {
         Some(_) => Hashing::of_key(words.number_after("hashing", 0)?),
         None => Hashing::fixed(),

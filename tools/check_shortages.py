@@ -1,11 +1,11 @@
-"""Compares the places that make a want of memory with those that are known.
+"""Compares the places that make an out-of-memory fault with those that are known.
 
     python3 tools/check_shortages.py
 
 A contract can't refuse a body that answers `NoMemory` without need. But a call that is out of memory says so by the
-value that it was given: want of memory is made in few places, and elsewhere handed on. This lists each place in the
-sources of the crates that makes it, or a want of a thread or of a place for versions, and compares the list with
-`shortages.txt`, where each stands with its reason. It ends with 1 where a place is new, or one of the list is gone.
+value that it was given: such a fault is made in few places, and elsewhere handed on. This lists each place in the
+sources of the crates that makes one, or a fault for lack of a thread or of a place for versions, and compares the list
+with `shortages.txt`, which has a reason for each. It ends with 1 where a place is new, or one of the list is gone.
 
 A place isn't listed where it hands on the callee's own by its name: an arm `Other::NoMemory => Own::NoMemory`, or a
 `From` of a type that says nothing else. Patterns, types, clauses and the crates of tests aren't listed.
@@ -64,7 +64,7 @@ def code_of(text):
 
 
 def is_made(code, found):
-    """Whether the code makes the want here: it is no type and no pattern, and no arm that hands it on."""
+    """Whether the code makes the fault here: it is no type and no pattern, and no arm that hands it on."""
     before, behind = code[: found.start()], code[found.end() :]
     if PATTERN_BEFORE.search(before) or PATTERN_BEHIND.match(behind):
         return False
@@ -82,7 +82,7 @@ def function_at(text, place):
 
 
 def places_in(path):
-    """Each place of a source that makes a want: its file, its function and its line."""
+    """Each place of a source that makes such a fault: its file, its function and its line."""
     text = path.read_text()
     code = code_of(text)
     for found in WANT.finditer(code):
@@ -118,7 +118,7 @@ def main():
         print(f"new: {place}")
     for place in (known - found).elements():
         print(f"gone: {place}")
-    print(f"{found.total()} places make a want of memory; {known.total()} are known")
+    print(f"{found.total()} places make an out-of-memory fault; {known.total()} are known")
     sys.exit(found != known)
 
 

@@ -202,7 +202,7 @@ BOOKS = {
 # The entries of a store before a step.
 STORED = "1.0 add 0, 1.1 add 1, 1.2 add 2, 1.3 add 3, "
 
-# Calls of which a named fault comes before want of memory.
+# Calls of which a named fault comes before running out of memory.
 NAMED_FAULTS = {
     "book_add_of_no_session": f"K1 Session; {BOOK}",
     "book_add_of_a_wrong_turn": f"K2 Turn held 1; {BOOK}",

@@ -5,11 +5,11 @@
 
 The cases stand in cases/, what each answers in cases.py. A case prepares what a call is lent, and makes the call while
 growths.c counts growths and refuses some: for n = 1, 2, .. until nothing was refused, growth n alone, n and n + 1, and
-n and all after it. Each run of a call ends with its usual answer, or, where a growth was refused, with its want of
-memory. All that it was lent is then as it was, or handed back, and the same call, with memory, gives the usual answer.
-Every block is given back. Calls with a fault that comes before want of memory always tell it, and those that ask for
-no growth ask for none. A call that consumes what it is given is made again with the same, made anew; so is
-`CountedRows::count`, which says that its rows are then of no use.
+n and all after it. Each run of a call ends with its usual answer, or, where a growth was refused, with its
+out-of-memory fault. All that it was lent is then as it was, or handed back, and the same call, with memory, gives the
+usual answer. Every block is given back. Calls with a fault that comes before running out of memory always tell it, and
+those that ask for no growth ask for none. A call that consumes what it is given is made again with the same, made anew;
+so is `CountedRows::count`, which says that its rows are then of no use.
 
 The program is a quick build of the crates' own sources, of which nothing is proved (build.py). --work keeps it, and
 with --built it isn't built again. Building takes two or three minutes, and all runs some five. The exit status is 1
@@ -40,7 +40,7 @@ COUNTS = re.compile(r"^growths (\d+) refused (\d+) kept (-?\d+)$", re.M)
 
 
 class End(NamedTuple):
-    """How a run ended: as usual, with a line that says want of memory, or else with what is wrong of it."""
+    """How a run ended: as usual, with a line that says that memory ran out, or else with what is wrong of it."""
     kind: str
     growths: int
     refused: int
@@ -76,7 +76,7 @@ def judged(case, said, refused):
     if not refused:
         return kind, "no growth was refused"
     if case in NAMED_FAULTS:
-        return kind, "its fault comes before want of memory"
+        return kind, "its fault comes before running out of memory"
     return kind, ""
 
 

@@ -20,10 +20,10 @@ use std::time::{Clock, Duration};
 use store_window::Source;
 
 /// How many bytes of folded text all adders together add at once, where so many come in time.
-const MOST: usize = 134_217_728;
+const MOST: usize = 268_435_456;
 
 /// For how many milliseconds an adder takes more lines before it adds what it has.
-const GATHER: u64 = 250;
+const GATHER: u64 = 500;
 
 /// How many milliseconds an adder waits for a piece before it looks whether another has ended the window.
 const PAUSE: u64 = 50;

@@ -7,12 +7,11 @@ use anyhow::{Result, bail};
 use profile_store::{
     Answer, Batch, BookFault, Hashing, Kind, Query, Rank, merge_lines, report, top_text,
 };
-use std::alloc::Global;
 use std::io::Write;
 use std::sync::{Arc, Mutex, MutexGuard, Wait};
 use std::time::Clock;
 use std::{env, fs, io};
-use store_window::{NoWatcher, Slot, Source, fill_window};
+use store_window::{ClosedWindow, NoWatcher, Slot, Source, fill_window};
 
 /// The rows of a file, until they are added.
 #[derive(Drop)]
@@ -34,9 +33,11 @@ impl Source for Rows {
     fn leave(&mut self) {}
 }
 
-/// The rows of folded text, lines of one stack merged.
-fn rows_of(alloc: Global, hashing: Hashing, text: &[u8]) -> Result<Mutex<Slot<Rows>>> {
-    let merged = merge_lines(alloc, hashing, text)?;
+/// The rows of a file, lines of one stack merged.
+fn read_file(rt: HostRuntime, hashing: Hashing, name: &str) -> Result<Mutex<Slot<Rows>>> {
+    let alloc = rt.alloc();
+    let text = fs::read(&rt, name)?;
+    let merged = merge_lines(alloc, hashing, text.as_slice())?;
     let batch = Arc::new(alloc, Batch::single(alloc, merged))?;
     Ok(Mutex::new(Slot::new(Rows {
         batch: Some(batch),
@@ -70,24 +71,42 @@ fn top_query() -> Query
     }
 }
 
-fn main(rt: HostRuntime) -> Result<()> {
+/// The rows of each file that the arguments name.
+fn read_files(rt: HostRuntime, hashing: Hashing) -> Result<Vec<Mutex<Slot<Rows>>>> {
     let alloc = rt.alloc();
-    let hashing = Hashing::random(&rt)?;
     let mut files = Vec::new(alloc);
     for name in env::args(&rt)?.skip(1) {
-        let text = fs::read(&rt, name.as_str())?;
-        files.push(rows_of(alloc, hashing, text.as_slice())?)?;
+        files.push(read_file(rt, hashing, name.as_str())?)?;
     }
-    let window = fill_window(&rt, alloc, hashing, files.as_slice(), &NoWatcher)?;
+    Ok(files)
+}
+
+/// An error where the window lacks some rows.
+fn check_all<R: Wait>(rt: &R, window: &ClosedWindow, files: &[Mutex<Slot<Rows>>]) -> Result<()> {
     if let Some(fault) = window.missing {
         bail!("not all files were added: {fault}");
     }
-    for file in files.as_slice() {
-        check_added(&rt, file)?;
+    for file in files {
+        check_added(rt, file)?;
     }
+    Ok(())
+}
+
+/// Writes the top list of a window.
+fn write_top(rt: HostRuntime, window: &ClosedWindow) -> Result<()> {
+    let alloc = rt.alloc();
     let answer = report(alloc, window.audited_tree(alloc)?, &top_query())?;
     if let Answer::Top(top) = &answer {
         io::writer(&rt).write_all(top_text(alloc, top)?.as_slice())?;
     }
     Ok(())
+}
+
+fn main(rt: HostRuntime) -> Result<()> {
+    let alloc = rt.alloc();
+    let hashing = Hashing::random(&rt)?;
+    let files = read_files(rt, hashing)?;
+    let window = fill_window(&rt, alloc, hashing, files.as_slice(), &NoWatcher)?;
+    check_all(&rt, &window, files.as_slice())?;
+    write_top(rt, &window)
 }

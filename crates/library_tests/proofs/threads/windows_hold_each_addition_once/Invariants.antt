@@ -1,4 +1,4 @@
-use Rattle.library_tests.proofs.threads.two_threads_add_at_once.Given as goal
+use Rattle.library_tests.proofs.threads.windows_hold_each_addition_once.Given as goal
 
 abbrev pub ghosts-threaded : goal.ghosts-threaded
 ghosts-threaded g a =

@@ -191,7 +191,8 @@ impl<'a> Adder<'a> {
         let _ = self.read.push(origin);
     }
 
-    /// Lines with those of the same origin that come soon: lines of one stack are merged, so many at once cost less.
+    /// Lines with those of the same origin that come soon, if the window has room for many: lines of one stack are
+    /// merged, so many at once cost less.
     fn gather<R: Wait + Clock>(
         &mut self,
         rt: &R,
@@ -201,6 +202,9 @@ impl<'a> Adder<'a> {
     ) -> Text {
         let room = mem::replace(&mut self.room, Vec::new(self.alloc));
         let mut text = Text::new(origin, bytes, room);
+        if window.is_nearly_full(rt) {
+            return text;
+        }
         let Some(until) = window.soon(rt, Duration::from_millis(GATHER)) else {
             return text;
         };

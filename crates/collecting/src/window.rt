@@ -9,6 +9,9 @@ use std::sync::{Mutex, MutexGuard, Wait};
 use std::time::{Clock, Duration, Instant};
 use thiserror::Error;
 
+/// For how many rows a window has to have room, so that an adder waits for more lines before it adds some.
+const MANY_ROWS: u64 = 100_000;
+
 /// Why a window ended before its time and its rows.
 #[derive(Clone, Copy, PartialEq, Eq, Debug, Error)]
 pub(crate) enum EarlyEnd {
@@ -83,6 +86,11 @@ impl Window {
         }
         let lines = first_lines(text, self.rows_left(rt));
         first_lines(lines, self.take_rows(rt, count_lines(lines)))
+    }
+
+    /// Whether so few rows have room that more lines aren't waited for.
+    pub(crate) fn is_nearly_full<R: Wait>(&self, rt: &R) -> bool {
+        self.has_limit && self.rows_left(rt) < MANY_ROWS
     }
 
     /// How many rows have room.

@@ -7,6 +7,7 @@
 #![tactic(auto)]
 
 mod adding;
+mod begun;
 mod folders;
 mod held_text;
 mod messages;

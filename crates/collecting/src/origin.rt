@@ -76,14 +76,12 @@ impl Origin {
         MutexGuard::unlock(spare);
     }
 
-    /// Room for a piece, empty.
+    /// Room for a piece, with bytes of an earlier one.
     pub(crate) fn room<R: Wait>(&self, rt: &R, alloc: Global) -> Vec<u8> {
         let mut spare = self.spare.lock(rt);
         let room = spare.pop();
         MutexGuard::unlock(spare);
-        let mut room = room.unwrap_or(Vec::new(alloc));
-        room.clear();
-        room
+        room.unwrap_or(Vec::new(alloc))
     }
 
     /// Counts lines that were read into rows, and gives how many there were before.

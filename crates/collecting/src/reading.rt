@@ -1,17 +1,14 @@
 //! Sources read as they come, each in a thread of its own.
 
+use crate::begun::Begun;
 use crate::messages::Messages;
 use crate::origin::Origin;
 use crossbeam_channel::{Receiver, Sender};
-use memchr::memrchr;
 use std::alloc::Global;
 use std::io::Read;
 use std::sync::{Arc, Wait};
 use std::time::{Clock, Duration};
 use std::{mem, thread};
-
-/// How many bytes are read at once: as many as a pipe holds.
-const ROOM: usize = 65_536;
 
 /// How many milliseconds a reader waits for memory before it asks again.
 const PAUSE: u64 = 20;
@@ -89,25 +86,24 @@ impl<'a> Reader<'a> {
             mut file,
             mut kept_open,
         } = opened;
-        let mut begun = Vec::new(self.alloc);
-        let mut room = [0; ROOM];
+        let mut begun = Begun::new(self.alloc);
         let mut is_whole = false;
         for _ in rt.forever() {
-            match self.read_some(&origin, &mut file, &mut room) {
+            self.make_room(rt, &mut begun);
+            match self.read_some(&origin, &mut file, begun.room()) {
                 Some(0) => {
                     is_whole = true;
                     break;
                 }
                 Some(count) => {
                     drop(mem::take(&mut kept_open));
-                    let bytes = room.get(..count).unwrap_or(&[]);
-                    self.take(rt, &origin, &mut begun, bytes)?;
+                    self.take(rt, &origin, &mut begun, count)?;
                 }
                 None => break,
             }
         }
         if is_whole {
-            self.finish(rt, &origin, begun)?;
+            self.finish(rt, &origin, begun.into_bytes())?;
         }
         self.send(rt, &origin, Content::End)
     }
@@ -127,36 +123,50 @@ impl<'a> Reader<'a> {
         }
     }
 
-    /// Sends the lines that end in these bytes. What follows them is begun.
+    /// Sends the lines that end in the bytes that were read last, of which there are so many.
     fn take<R: Wait + Clock>(
         &self,
         rt: &R,
         origin: &Arc<Origin>,
-        begun: &mut Vec<u8>,
-        bytes: &[u8],
+        begun: &mut Begun,
+        count: usize,
     ) -> Result<(), Unwanted> {
-        let end = match memrchr(b'\n', bytes) {
-            Some(at) if !origin.is_profile() => at.saturating_add(1),
-            _ => 0,
-        };
-        let (lines, rest) = bytes.split_at_checked(end).unwrap_or((&[], bytes));
-        if !lines.is_empty() {
-            self.append(rt, begun, lines);
-            let lines = mem::replace(begun, origin.room(rt, self.alloc));
-            self.send(rt, origin, Content::Lines(lines))?;
+        match begun.add(count) {
+            Some(end) if !origin.is_profile() => {
+                let lines = self.split(rt, origin, begun, end);
+                self.send(rt, origin, Content::Lines(lines))
+            }
+            _ => Ok(()),
         }
-        self.append(rt, begun, rest);
-        Ok(())
     }
 
-    /// Adds bytes, as soon as there is memory for them.
-    fn append<R: Wait + Clock>(&self, rt: &R, begun: &mut Vec<u8>, bytes: &[u8]) {
+    /// Makes room for what is read next, as soon as there is memory for it.
+    fn make_room<R: Wait + Clock>(&self, rt: &R, begun: &mut Begun) {
         for _ in rt.forever() {
-            if begun.extend_from_slice(bytes).is_ok() {
+            if begun.make_room().is_ok() {
                 break;
             }
             thread::sleep(rt, Duration::from_millis(PAUSE));
         }
+    }
+
+    /// The lines before a place, as soon as there is memory for what follows them.
+    fn split<R: Wait + Clock>(
+        &self,
+        rt: &R,
+        origin: &Origin,
+        begun: &mut Begun,
+        place: usize,
+    ) -> Vec<u8> {
+        let mut room = origin.room(rt, self.alloc);
+        for _ in rt.forever() {
+            match begun.split(place, room) {
+                Ok(lines) => return lines,
+                Err(back) => room = back,
+            }
+            thread::sleep(rt, Duration::from_millis(PAUSE));
+        }
+        unreachable!()
     }
 
     /// Sends what an origin ends with.

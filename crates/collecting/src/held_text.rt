@@ -21,17 +21,18 @@ pub(crate) struct Text {
 impl Text {
     /// Lines of an origin, in this room where there is memory for that.
     pub(crate) fn new(origin: Arc<Origin>, lines: Lines, room: Vec<u8>) -> Text {
+        let Lines { bytes, count } = lines;
         let mut room = room;
         room.clear();
-        let bytes = match room.extend_from_slice(lines.bytes.as_slice()) {
+        let bytes = match room.extend_from_slice(bytes.as_slice()) {
             Ok(()) => room,
-            Err(_) => lines.bytes,
+            Err(_) => bytes,
         };
         Text {
             origin,
             bytes,
             from: 0,
-            left: lines.count,
+            left: count,
         }
     }
 

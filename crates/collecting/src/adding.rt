@@ -8,7 +8,7 @@ use crate::held_text::Text;
 use crate::messages::Messages;
 use crate::origin::Origin;
 use crate::profile::{Unread, read_profile};
-use crate::reading::{Content, Piece};
+use crate::reading::{Content, Lines, Piece};
 use crate::text::{Front, read_front};
 use crate::window::{EarlyEnd, Window};
 use crossbeam_channel::Receiver;
@@ -167,8 +167,8 @@ impl<'a> Adder<'a> {
             return None;
         }
         match content {
-            Content::Lines(bytes) => {
-                let text = self.gather(rt, window, origin, bytes);
+            Content::Lines(lines) => {
+                let text = self.gather(rt, window, origin, lines);
                 self.read_text(rt, window, text)
             }
             Content::Profile(bytes) => self.take_profile(rt, window, origin, bytes),
@@ -198,10 +198,10 @@ impl<'a> Adder<'a> {
         rt: &R,
         window: &Window,
         origin: Arc<Origin>,
-        bytes: Vec<u8>,
+        lines: Lines,
     ) -> Text {
         let room = mem::replace(&mut self.room, Vec::new(self.alloc));
-        let mut text = Text::new(origin, bytes, room);
+        let mut text = Text::new(origin, lines, room);
         if window.is_nearly_full(rt) {
             return text;
         }

@@ -3,7 +3,7 @@
 ghost use Rattle.std.specs.Prelude.{◌≡◌, ◌+◌, ◌≤◌, drop, length};
 
 use crate::origin::Origin;
-use crate::reading::{Content, Piece};
+use crate::reading::{Content, Lines, Piece};
 use crate::text::count_lines;
 use std::sync::{Arc, Wait};
 
@@ -13,22 +13,26 @@ pub(crate) struct Text {
     origin: Arc<Origin>,
     bytes: Vec<u8>,
     from: usize,
+    /// How many lines aren't in a window.
+    left: u64,
     ghost within: { from ≤ length bytes.items },
 }
 
 impl Text {
     /// Lines of an origin, in this room where there is memory for that.
-    pub(crate) fn new(origin: Arc<Origin>, lines: Vec<u8>, room: Vec<u8>) -> Text {
+    pub(crate) fn new(origin: Arc<Origin>, lines: Lines, room: Vec<u8>) -> Text {
+        let Lines { bytes, count } = lines;
         let mut room = room;
         room.clear();
-        let bytes = match room.extend_from_slice(lines.as_slice()) {
+        let bytes = match room.extend_from_slice(bytes.as_slice()) {
             Ok(()) => room,
-            Err(_) => lines,
+            Err(_) => bytes,
         };
         Text {
             origin,
             bytes,
             from: 0,
+            left: count,
         }
     }
 
@@ -60,8 +64,8 @@ impl Text {
             Content::Lines(lines) => lines,
             Content::Profile(_) | Content::End => return Some(Piece { origin, content }),
         };
-        if self.takes(&origin, lines.as_slice()) {
-            origin.give_back(rt, lines);
+        if self.takes(&origin, &lines) {
+            origin.give_back(rt, lines.bytes);
             return None;
         }
         let content = Content::Lines(lines);
@@ -69,8 +73,13 @@ impl Text {
     }
 
     /// Adds lines where they are of the same origin and there is memory for them.
-    fn takes(&mut self, origin: &Origin, lines: &[u8]) -> bool {
-        self.origin.name() == origin.name() && self.bytes.extend_from_slice(lines).is_ok()
+    fn takes(&mut self, origin: &Origin, lines: &Lines) -> bool {
+        let is_taken = self.origin.name() == origin.name()
+            && self.bytes.extend_from_slice(lines.bytes.as_slice()).is_ok();
+        if is_taken {
+            self.left = self.left.saturating_add(lines.count);
+        }
+        is_taken
     }
 
     /// Goes on after so many bytes, and gives how many lines of the origin come before them.
@@ -80,8 +89,13 @@ impl Text {
         ensures from { self.new.from ≡ self.old.from + len }
     {
         let until = self.from + len;
-        let count = count_lines(&self.bytes[self.from..until]);
+        let count = if until == self.bytes.len() {
+            self.left
+        } else {
+            count_lines(&self.bytes[self.from..until])
+        };
         self.from = until;
+        self.left = self.left.saturating_sub(count);
         self.origin.count_lines(count)
     }
 }

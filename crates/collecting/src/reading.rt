@@ -3,6 +3,7 @@
 use crate::begun::Begun;
 use crate::messages::Messages;
 use crate::origin::Origin;
+use crate::text::count_lines;
 use crossbeam_channel::{Receiver, Sender};
 use std::alloc::Global;
 use std::io::Read;
@@ -20,10 +21,25 @@ pub(crate) struct Piece {
     pub(crate) content: Content,
 }
 
+/// Lines of folded text, each with its end but for the last line of an origin.
+#[derive(Drop)]
+pub(crate) struct Lines {
+    pub(crate) bytes: Vec<u8>,
+    /// How many there are.
+    pub(crate) count: u64,
+}
+
+impl Lines {
+    /// Counts lines that were just read, while the processor has them at hand.
+    fn of(bytes: Vec<u8>) -> Lines {
+        let count = count_lines(bytes.as_slice());
+        Lines { bytes, count }
+    }
+}
+
 #[derive(Drop)]
 pub(crate) enum Content {
-    /// Lines of folded text, each with its end but for the last line of an origin.
-    Lines(Vec<u8>),
+    Lines(Lines),
     /// A profile, whole.
     Profile(Vec<u8>),
     /// All of the origin came before this.
@@ -134,7 +150,7 @@ impl<'a> Reader<'a> {
         match begun.add(count) {
             Some(end) if !origin.is_profile() => {
                 let lines = self.split(rt, origin, begun, end);
-                self.send(rt, origin, Content::Lines(lines))
+                self.send(rt, origin, Content::Lines(Lines::of(lines)))
             }
             _ => Ok(()),
         }
@@ -182,7 +198,7 @@ impl<'a> Reader<'a> {
         if begun.is_empty() {
             return Ok(());
         }
-        self.send(rt, origin, Content::Lines(begun))
+        self.send(rt, origin, Content::Lines(Lines::of(begun)))
     }
 
     fn send<R: Wait>(

@@ -286,7 +286,7 @@ def pages():
         text, calls, edits = page_of(ROOT / "crates" / name)
         if text:
             made[FOLDER / f"{name}.md"] = text
-            rows.append(f"| [{name}](contracts/{name}.md) | {calls}/{edits} |")
+            rows.append(f"| [{name}](contracts/{name}.md) | {calls} | {edits} |")
     made[INDEX] = INDEX_TEXT + "\n".join(rows) + "\n"
     return made
 
@@ -300,8 +300,8 @@ call, `.now` is what a reference leads to. `f_with` has the clauses of `f` and t
 change its body. [MODEL.md](MODEL.md) explains the definitions that clauses cite, and [PROVED.md](PROVED.md) has what
 no clause can say.
 
-| crate | public calls/edits |
-|---|---|
+| crate | public calls | edits |
+|---|---|---|
 """
 
 

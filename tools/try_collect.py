@@ -122,8 +122,7 @@ def ten_thousand_windows(folder, _):
     run.end()
     windows = run.windows()
     last = fold(b"".join(file.read_bytes() for file in windows[-100:]))
-    # (each window has new threads, and malloc keeps some memory for as many as ever ran at one time)
-    good = len(windows) == 10_000 and last == fold(text) and peaks[9900] <= max(1.05 * peaks[1000], peaks[1000] + 4096)
+    good = len(windows) == 10_000 and last == fold(text) and peaks[9900] <= 1.05 * peaks[1000]
     return good, f"10,000 windows: peak of {peaks[1000]} KB after 1,000, of {peaks[9900]} KB after 9,900"
 
 

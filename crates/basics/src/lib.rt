@@ -1,4 +1,4 @@
-//! What several layers share: want of memory, and lists that a contract sees as their items.
+//! What several layers share: the fault that memory ran out, and lists that a contract sees as their items.
 #![tactic(auto)]
 
 mod items;

@@ -10,7 +10,7 @@ use std::alloc::AllocError;
 pub struct Span {
     /// The index of its first item.
     pub start: u32,
-    /// The index behind its last item.
+    /// The index after its last item.
     pub end: u32,
 }
 
@@ -31,11 +31,11 @@ fn place_of(place: usize) -> Result<u32, AllocError>
     u32::try_from(place).map_err(|_| AllocError)
 }
 
-/// Adds a list behind the items of others, and says where it stands.
+/// Adds a list after the items of others, and says where it stands.
 ///
 /// # Errors
 ///
-/// `AllocError`, also where there would be 2^32 items; the items are then as they were, or more stand behind them.
+/// `AllocError`, also where there would be 2^32 items; the items are then as they were, or more stand after them.
 pub fn append<T: Copy>(all: &mut Vec<T>, items: &[T]) -> Result<Span, AllocError>
     ensures kept { Grows all.old.items all.new.items }
     ensures within { IfOk result (λ span. IsWithin all.new.items span) }

@@ -6,6 +6,7 @@ use Rattle.std.specs.List.{list_any}
 use Rattle.std.proofs.lemmas.List.{take_more, get_or_append_left, get_or_push, length_push}
 use Rattle.std.proofs.lemmas.List.Folds.{list_any-append}
 use Rattle.std.proofs.lemmas.Bool.{cases_eq, eqb-true, eq-eqb}
+use mathlib.Core.Bool.{or-false}
 use Rattle.profile_rows.specs.Names.{is_same_name}
 use Rattle.profile_rows.specs.Rows.{has_name}
 use Rattle.profile_rows.proofs.SameNames.{same_from_is_same_name, is_same_name-self}
@@ -21,11 +22,7 @@ same_bool false false f g = refl
 pub has_name-next : (name : List ℕ) (stack : List (List ℕ)) (last : List ℕ)
     → has_name name (stack ++ last ∷ []) ≡ (has_name name stack || is_same_name name last)
 has_name-next name stack last = list_any-append (is_same_name name) stack (last ∷ [])
-    ∙ ap (λ b. has_name name stack || b) (or_false (is_same_name name last))
-  where
-    or_false : (b : Bool) → (b || false) ≡ b
-    or_false true = refl
-    or_false false = refl
+    ∙ ap (λ b. has_name name stack || b) (or-false (is_same_name name last))
 
 -- equal numbers are equal names
 has_number-own : (names : List (List ℕ)) (n : ℕ) (numbers : List ℕ)
@@ -83,10 +80,6 @@ module _ (tree named : PlainTree) (seen : List ℕ) (frames : List (List ℕ)) (
   absorbed false true f = f refl
   absorbed false false f = refl
 
-  or_false : (b : Bool) → (b || false) ≡ b
-  or_false true = refl
-  or_false false = refl
-
   after_seen : (there : Bool) → there ≡ list_any (nat_eq number) seen → (name : List ℕ)
       → has_number named.names name (if there then seen else seen ++ number ∷ []) ≡ has_name name (take (i + 1) frames)
   after_seen true e name =
@@ -99,7 +92,7 @@ module _ (tree named : PlainTree) (seen : List ℕ) (frames : List (List ℕ)) (
   after_seen false e name =
       list_any-append (λ m. is_same_name name (name_at named.names m)) seen (number ∷ [])
       ∙ (λ j. seen_now name j
-      || (or_false (is_same_name name (name_at named.names number)) ∙ ap (is_same_name name) number_is) j)
+      || (or-false (is_same_name name (name_at named.names number)) ∙ ap (is_same_name name) number_is) j)
       ∙ sym (last_frame name)
 
   after_below : (there : Bool) (j : ℕ) → j < length (if there then seen else seen ++ number ∷ [])

@@ -7,7 +7,7 @@ use Rattle.std.proofs.Math.Seq.{take-set-lt}
 use Rattle.std.proofs.lemmas.List.{take_all, get_or-set_same, get_or-set_other, get_or-replicate, get_or-take}
 use Rattle.std.proofs.lemmas.List.{length-replicate, length-set, length-take-le}
 use Rattle.std.proofs.lemmas.List.Sums.{sum_by-cons, sum_by_more, sum_by-le-sum_by, get_or-le-sum_by}
-use Rattle.std.proofs.lemmas.Bool.{cases_eq, eqb-true, eq-eqb}
+use Rattle.std.proofs.lemmas.Bool.{cases_eq, eqb-true, eq-eqb, ne_eqb}
 use Rattle.profile_rows.specs.declared.weighted_stacks.WeightedStack.{WeightedStack}
 use Rattle.profile_rows.specs.Names.{is_same_name}
 use Rattle.profile_rows.specs.Rows.{has_name, ends_with_name, total_of, weight_if, weight_where, flat_weight_of}
@@ -138,12 +138,6 @@ and_true false x = refl
 and_false : (b : Bool) (x : ℕ) → cond (b && false) x 0 ≡ 0
 and_false true x = refl
 and_false false x = refl
-
-unequal : (n m : ℕ) → (n ≡ m → ⊥) → nat_eq n m ≡ false
-unequal n m ne = elim (nat_eq n m) as (λ b. nat_eq n m ≡ b → b ≡ false) [
-  | true ↦ λ e. absurd (ne (eqb-true n m e))
-  | false ↦ λ e. refl
-] refl
 
 module _ (names : List (List ℕ)) (nodes : List Node) (tree : IsTree names nodes) where
   own_is : (k : ℕ) → (node_at (node_rows names nodes) k).weight ≡ (at nodes k).own
@@ -345,7 +339,7 @@ module _ (names : List (List ℕ)) (nodes : List Node) (tree : IsTree names node
               omega (arith, last, old, now, was, own))
               (λ ne.
               let now = ap (λ s. s.flat) (get_or-set_other sums node.name n sum no_sums ne) in
-              let own : own_if n node ≡ 0 = ap (λ b. cond b node.own 0) (unequal n node.name ne) in
+              let own : own_if n node ≡ 0 = ap (λ b. cond b node.own 0) (ne_eqb n node.name ne) in
               omega (arith, last, old, now, own))
               (cases_eq n node.name);
           cum = λ n n_lt.
@@ -366,7 +360,7 @@ module _ (names : List (List ℕ)) (nodes : List Node) (tree : IsTree names node
               (λ ne.
               let now = ap (λ s. s.cum) (get_or-set_other sums node.name n sum no_sums ne) in
               let own : cond (node.counts && nat_eq n node.name) weight 0 ≡ 0 =
-              ap (λ b. cond (node.counts && b) weight 0) (unequal n node.name ne) ∙ and_false node.counts weight in
+              ap (λ b. cond (node.counts && b) weight 0) (ne_eqb n node.name ne) ∙ and_false node.counts weight in
               omega (arith, last, old, rest, split, now, own))
               (cases_eq n node.name);
           whole = ap total_of rows_are ∙ total_of-credited

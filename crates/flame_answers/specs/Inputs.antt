@@ -106,14 +106,14 @@ HasSome format wanted input = (got : Got wanted) × IsIn format wanted input got
 abbrev pub HasNone : Format → Wanted → List ℕ → Type 0
 HasNone format wanted input = (got : Got wanted) → IsIn format wanted input got → ⊥
 
--- What keeps an input from an answer: its first fault, where it hasn't what is wanted; or want of memory, which claims
+-- What keeps an input from an answer: its first fault, where it hasn't what is wanted; or `NoMemory`, which claims
 -- nothing of the input.
 abbrev pub IsRefusedIn : Format → Wanted → List ℕ → AnswerFault → Type 0
 IsRefusedIn format wanted input (answer.Input fault) =
     IsFaultIn format wanted input fault × HasNone format wanted input
 IsRefusedIn format wanted input answer.NoMemory = ⊤
 
--- A fault told as one of another type: want of memory stays want of memory, and every other fault is told as it is.
+-- A fault told as one of another type: `NoMemory` stays `NoMemory`, and every other fault is told as it is.
 -- Then the faults of what is read, told as those of an answer.
 abbrev pub IsToldAs : {F T : Type 0} → F → T → (F → T) → F → T → Type 0
 IsToldAs no_memory told_no_memory tell fault told =

@@ -79,12 +79,12 @@ readable (Live source options) input text this = (this.batch, this.spelled)
 
 -- what happens to a store ends a run of `live` with 4 or 5
 abbrev code_where : Bool → ℕ
-code_where wanting = cond wanting 4 5
+code_where missing = cond missing 4 5
 
 live_codes : (fault : LiveFault) → (live_code_of fault ≡ 4) ⊎ (live_code_of fault ≡ 5)
 live_codes fault = by (is_shortage fault)
   where
-    by : (wanting : Bool) → (code_where wanting ≡ 4) ⊎ (code_where wanting ≡ 5)
+    by : (missing : Bool) → (code_where missing ≡ 4) ⊎ (code_where missing ≡ 5)
     by true = inl refl
     by false = inr refl
 

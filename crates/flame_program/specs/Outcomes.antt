@@ -8,7 +8,7 @@ use Rattle.flame_program.specs.declared.outcomes.ToolFault.TheVariants.{Read, Wr
 use Rattle.live_report.specs.declared.fault.LiveFault.{LiveFault}
 use Rattle.live_report.specs.Faults.{is_shortage}
 
--- 4: a thread, memory or a place for versions was wanting. 5: the store refused an operation, or the audit the logs.
+-- 4: a thread, memory or a place for versions was missing. 5: the store refused an operation, or the audit the logs.
 abbrev pub live_code_of : LiveFault → ℕ
 live_code_of fault = cond (is_shortage fault) 4 5
 

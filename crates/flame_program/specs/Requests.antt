@@ -64,7 +64,7 @@ abbrev pub IsStored : Wanted → Type 0
 IsStored (for_report value) = ⊥
 IsStored (for_store all value) = ⊤
 
--- what refuses the input; what happened to the store of an input that has what is wanted; or want of memory
+-- what refuses the input; what happened to the store of an input that has what is wanted; or `NoMemory`
 abbrev pub IsUnanswered : Format → Wanted → List ℕ → ToolFault → Type 0
 IsUnanswered format wanted input (tool.Input fault) = IsRefusedIn format wanted input (answer.Input fault)
 IsUnanswered format wanted input (tool.Live fault) =

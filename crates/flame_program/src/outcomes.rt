@@ -133,7 +133,7 @@ impl Outcome {
     }
 }
 
-// The status of a fault of the store: 4 where a thread, memory or a place for versions was wanting, else 5.
+// The status of a fault of the store: 4 where a thread, memory or a place for versions was missing, else 5.
 fn live_code(fault: LiveFault) -> u8
     ensures { result ≡ live_code_of fault }
 {

@@ -41,7 +41,7 @@ pub fn run<'a, T: Threads + Wait + RandomSource + Sync, P: Progress, R: Read, W:
         (R.remaining reader.old) (R.remaining reader.new) (W.contents writer.old) (W.contents writer.new) }
     // Where the words ask for something, the input alone decides, but where the streams, memory or a store failed.
     ensures decided { InputDecides (texts_of words.entry.now) limit (R.remaining reader.old) result.code }
-    // Words that ask for nothing end with 2, want of memory aside, and no others do.
+    // Arguments that ask for nothing end with 2, unless memory runs out, and no others do.
     ensures refused { result.code ≡ 2
         → IsRefused (texts_of words.entry.now) ⊎ (IsMisnamed (texts_of words.entry.now)
         ⊎ IsCrowded (texts_of words.entry.now)) }

@@ -109,7 +109,7 @@ in_order rows i j up h inside =
     let d : WeightedStack = record { stack = []; weight = 0 } in
     rw (stack_at-get rows i d (omega arith), stack_at-get rows j d inside) (up i j d h inside)
 
--- no row stands after one behind it
+-- a row is not above one that comes after it
 pub not_after : (rows : List WeightedStack) (i j : ℕ)
     → IsAscending rows → i ≤ j → j < length rows → is_gt (stack_cmp (stack_at rows i) (stack_at rows j)) ≡ false
 not_after rows i j up le inside = elim (cases_eq i j) [

@@ -69,7 +69,7 @@ pub selected_first : {X : Type 0} (cmp : X → X → Ordering) → IsTotalOrder 
 selected_first {X} cmp total count all before one after moved size split =
     grind (arith, common_steps, length-append, length_permutation, ranks_by, All-cons)
 
--- the first elements, sorted, are the front of a list of all that is sorted: what is left out is sorted behind them
+-- the first elements, sorted, are the front of a list of all that is sorted: what is left out is sorted after them
 pub ranked_whole : {X : Type 0} (cmp : X → X → Ordering) → IsTotalOrder cmp → (count : ℕ) (all first sorted : List X)
     → AreFirst cmp count all first → IsPermutation first sorted → IsSorted cmp sorted
     → (whole : List X) × IsPermutation all whole × IsSorted cmp whole × (sorted ≡ take count whole)

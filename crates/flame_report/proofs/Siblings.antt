@@ -13,7 +13,7 @@ use Rattle.flame_report.proofs.PathOrder.{name_itself, names_total, not_left_und
 use Rattle.flame_report.proofs.RowSums.{span_end, weight_where-cons, weight_where-either, weight_where-le}
 
 -- A stack by how it stands to a path: whether it lies left of the path, whether it begins with it, and what it has
--- behind it. None of the children that are meant here has it.
+-- after it. None of the children that are meant here has it.
 abbrev NoneHas : (List ℕ → Type 0) → Bool → Path → Type 0
 NoneHas Meant here rest = (n : List ℕ) → Meant n → (here && begins (n ∷ []) rest) ≡ false
 

@@ -25,7 +25,7 @@ pub fn siblings_meet()
         ≡ path_start rows (path ++ child ∷ []) + path_weight rows (path ++ child ∷ []) }
 {}
 
-/// Behind the last child of a path there is the path's own weight, and nothing else; a path without children is its own
+/// After the last child of a path there is the path's own weight, and nothing else; a path without children is its own
 /// weight.
 pub fn own_weight_lies_right()
     ensures last { (rows : List WeightedStack) (path : List (List ℕ)) (child : List ℕ)

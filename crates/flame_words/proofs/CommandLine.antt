@@ -23,7 +23,7 @@ no_reading : (kinds : Kinds) (kind : ErrorKind) (reading : Reading)
 no_reading [] kind reading among = absurd among
 no_reading (first ∷ kinds) kind reading among = refl
 
--- an error of the parse comes from want of memory, or from words that are refused
+-- an error of the parse comes from `NoMemory`, or from words that are refused
 pub refused_at_error : (words : List Text) (error : Error) → HasKind (fault_of program_app words) error
     → (kind_of error ≡ OutOfMemory) ⊎ (reading_of words ≡ refused)
 refused_at_error words error (inl memory) = inl memory

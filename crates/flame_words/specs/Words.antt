@@ -171,7 +171,7 @@ IsMisnamed words = reading_of words ≡ misnamed
 abbrev pub IsCrowded : List Text → Type 0
 IsCrowded words = reading_of words ≡ crowded
 
--- why words weren't read, of which this was made; want of memory claims nothing
+-- why words weren't read, of which this was made; `NoMemory` claims nothing
 abbrev pub IsUnread : Reading → WordsFault → Type 0
 IsUnread reading (Refused text) = reading ≡ refused
 IsUnread reading BadName = reading ≡ misnamed

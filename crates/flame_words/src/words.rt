@@ -50,7 +50,7 @@ impl From<NoMemory> for WordsFault {
 ///
 /// `Refused` exactly where the command refuses the words, an option has a value that it can't have, or the words ask
 /// for help; `BadName` where only a focus or an ignored name is wrong; `Sessions` where only a session for a warm start
-/// is wanting; `NoMemory`.
+/// is missing; `NoMemory`.
 pub fn read_words<'a>(alloc: Global, words: &'a [&'a str]) -> Result<Request, WordsFault>
     ensures { IsReadAs (reading_of (texts_of words.entry.now)) result }
 {

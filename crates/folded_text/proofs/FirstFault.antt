@@ -1,4 +1,4 @@
--- A text has one first fault, want of memory aside.
+-- A text has one first fault, `NoMemory` aside.
 use Rattle.std.proofs.Common.{◌≡◌, ◌≢◌, ◌⊎◌, ℕ, ◌+◌, List, length, refl, sym, ap, ◌∙◌, inl, inr, subst, arith}
 use Rattle.std.specs.Str.Parse.{digits_value}
 use Rattle.std.specs.Prelude.{Result, Ok, Err, MatchResult}
@@ -21,7 +21,7 @@ Count-Depth : (earlier number : ℕ) (line : List ℕ) (x y : ℕ)
 Count-Depth earlier number line x y ha hb =
     omega (arith, ap (digits_value 10) (HasCount-same line ha.2 hb.2 ha.3 hb.3 ha.4 hb.4).1, ha.5, hb.5)
 
--- a line that spells a row has no fault by itself but want of memory
+-- a line that spells a row has no fault by itself but `NoMemory`
 spelled : (number : ℕ) (line : List ℕ) (row : WeightedStack) (fault : FoldedFault)
     → IsRowLine line row → IsLineFault 0 number line fault → fault ≡ NoMemory
 spelled number line row fault this there = faultless 0 number line row fault this (omega (arith, this.fits)) there

@@ -61,7 +61,7 @@ same_digits high (d ∷ digits) (o ∷ others) same are also is =
     let above = lower (high * 512 + o) (high * 512 + d) others digits in
     grind (arith, common_steps, below, above, same_digits (high * 512 + o) digits others)
 
--- texts whose first bytes rank the same compare as what is behind these
+-- texts whose first bytes rank the same compare as what is after these
 past_digits : (count : ℕ) (text other : List ℕ) → digits_of count text ≡ digits_of count other
     → stack_text_cmp text other ≡ stack_text_cmp (drop count text) (drop count other)
 past_digits zero text other same = refl
@@ -71,7 +71,7 @@ past_digits (suc count) (a ∷ text) [] same = absurd (omega (arith, ap (λ digi
 past_digits (suc count) (a ∷ text) (b ∷ other) same =
     grind (arith, common_steps, past_digits count text other (ap (drop 1) same))
 
--- texts of one front compare as what is behind it
+-- texts of one front compare as what is after it
 pub past_fronts : (text other : List ℕ) → AreDigits (digits_of 7 text) → AreDigits (digits_of 7 other)
     → front_of text ≡ front_of other → stack_text_cmp text other ≡ stack_text_cmp (drop 7 text) (drop 7 other)
 past_fronts text other are also same = past_digits 7 text other

@@ -81,7 +81,7 @@ cut_at ((byte ∷ l) ∷ before) line after (r ∷ rows) all some =
     let rest = cut_at before line after rows all.1 some in
     (r ∷ rest.0, rest.1, rest.2, ap (λ z. r ∷ z) rest.3, (all.0, rest.4), rest.5)
 
--- a line that spells a row within the total has no fault but want of memory
+-- a line that spells a row within the total has no fault but `NoMemory`
 pub faultless : (earlier number : ℕ) (line : List ℕ) (row : WeightedStack) (fault : FoldedFault)
     → IsRowLine line row → earlier + row.weight < 2 ^ 63 → IsLineFault earlier number line fault → fault ≡ NoMemory
 faultless earlier number line row (NotUtf8 at) this fits h = absurd (h.1 this.utf8)
@@ -96,7 +96,7 @@ faultless earlier number line row (Heavy at) this fits h =
     absurd (omega (arith, ap (λ (r : WeightedStack). r.weight) (IsRowLine-same line row h.1 this h.2), fits, h.3))
 faultless earlier number line row NoMemory this fits h = refl
 
--- a line among those of rows within the limit has no fault but want of memory
+-- a line among those of rows within the limit has no fault but `NoMemory`
 pub faultless_at : (before : List (List ℕ)) (line : List ℕ) (after : List (List ℕ)) (front rows : List WeightedStack)
     (number : ℕ) (fault : FoldedFault) → AreRowLines (before ++ line ∷ after) rows → total_of rows < 2 ^ 63
     → AreRowLines before front → 0 < length line → IsLineFault (total_of front) number line fault → fault ≡ NoMemory
@@ -106,7 +106,7 @@ faultless_at before line after front rows number fault all fits known some there
     let earlier : total_of front + row.weight < 2 ^ 63 = grind (arith, common_steps, sum_by-append, sum_by-cons) in
     faultless (total_of front) number line row fault this earlier there
 
--- folded text has no first fault but want of memory
+-- folded text has no first fault but `NoMemory`
 pub IsFirstFault-folded : (text : List ℕ) (rows : List WeightedStack) (fault : FoldedFault)
     → IsFoldedText text rows → IsFirstFault text fault → fault ≡ NoMemory
 IsFirstFault-folded text rows fault folded (before, line, after, front, cut, known, fits, some, there) =

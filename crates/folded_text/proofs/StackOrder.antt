@@ -16,7 +16,7 @@ use Rattle.folded_text.specs.StackOrder.{IsJoined, rank_of, stack_text_cmp, text
 use Rattle.folded_text.proofs.FrameNames.{frames_of-plain, frames_of-some}
 use Rattle.std.proofs.lemmas.List.Elements.{recursion_from_All}
 
--- what follows a frame: nothing, or a semicolon and the frames behind it
+-- what follows a frame: nothing, or a semicolon and the frames after it
 abbrev tail : List (List ℕ) → List ℕ
 tail [] = []
 tail (frame ∷ frames) = 59 ∷ join_with_byte 59 (frame ∷ frames)

@@ -197,7 +197,7 @@ apart (row ∷ rows) (suc i) (suc j) d before lt once same =
     apart rows i j d (omega arith) (omega arith)
     (λ text. omega (arith, sum_by-cons (has text) row rows, once text)) same
 
--- a joined text that doesn't come behind another one has the lower stack
+-- a joined text that doesn't come after another one has the lower stack
 before : (text other : List ℕ) → IsJoined text → IsJoined other → is_lt (stack_text_cmp other text) ≡ false
     → (text ≡ other → ⊥) → stack_cmp (frames_of text) (frames_of other) ≡ Less
 before text other joined also low unlike =

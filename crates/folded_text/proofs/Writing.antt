@@ -34,9 +34,9 @@ can_stand row = All IsName row.stack × (length row.stack ≤ 65535)
 abbrev line_of : WeightedStack → List ℕ
 line_of row = join_with_byte 59 row.stack ++ 32 ∷ decimal row.weight
 
--- a text behind a character of ASCII
-utf8_behind : (byte : ℕ) (text : List ℕ) → byte < 128 → IsUtf8 text → IsUtf8 (byte ∷ text)
-utf8_behind byte text ascii utf8 =
+-- a text after a character of ASCII
+utf8_after : (byte : ℕ) (text : List ℕ) → byte < 128 → IsUtf8 text → IsUtf8 (byte ∷ text)
+utf8_after byte text ascii utf8 =
     let first = All-cons (λ byte. byte < 128) byte [] ascii (All-nil (λ byte. byte < 128)) in
     IsUtf8-append (byte ∷ []) text (IsUtf8-from_ascii (byte ∷ []) (IsAscii-from_all (byte ∷ []) first)) utf8
 
@@ -55,7 +55,7 @@ joined_utf8 : (names : List (List ℕ)) → AllByRecursion IsName names → IsUt
 joined_utf8 [] all = IsUtf8-nil
 joined_utf8 (name ∷ []) all = all.0.utf8
 joined_utf8 (name ∷ next ∷ names) all = IsUtf8-append name (59 ∷ join_with_byte 59 (next ∷ names)) all.0.utf8
-    (utf8_behind 59 _ (lit< tt) (joined_utf8 (next ∷ names) all.1))
+    (utf8_after 59 _ (lit< tt) (joined_utf8 (next ∷ names) all.1))
 
 uncut : (name : List ℕ) → IsName name → All (λ byte. eqb byte 59 ≡ false) name
 uncut name is k d lt = ne_eqb _ 59 (is.no_separator k d lt)
@@ -87,7 +87,7 @@ line_utf8 : (row : WeightedStack) → IsBatchRow row → IsUtf8 (line_of row)
 line_utf8 row is =
     IsUtf8-append (join_with_byte 59 row.stack)
     (32 ∷ decimal row.weight) (joined_utf8 row.stack (recursion_from_All IsName row.stack is.names))
-    (utf8_behind 32 _ (lit< tt)
+    (utf8_after 32 _ (lit< tt)
     (IsUtf8-from_ascii (decimal row.weight) (IsAscii-decimal row.weight (let fits = is.fits in omega arith))))
 
 -- the line spells the row
@@ -104,12 +104,12 @@ line_whole : (row : WeightedStack) → IsBatchRow row → strip_carriage_return 
 line_whole row is =
     let (some, digits) = (numeral row is.fits).0 in
     let digit = digit_at (decimal row.weight) (length (decimal row.weight) - 1) digits (omega arith) in
-    behind_digits (join_with_byte 59 row.stack) (decimal row.weight) some digit
+    after_digits (join_with_byte 59 row.stack) (decimal row.weight) some digit
   where
-    behind_digits : (stack digits : List ℕ) → 0 < length digits
+    after_digits : (stack digits : List ℕ) → 0 < length digits
         → IsAsciiDigit (get_or digits (length digits - 1) 0)
         → strip_carriage_return (stack ++ 32 ∷ digits) ≡ stack ++ 32 ∷ digits
-    behind_digits stack digits some digit = grind (arith, common_steps)
+    after_digits stack digits some digit = grind (arith, common_steps)
 
 -- ---- the text
 

@@ -22,7 +22,7 @@ text_byte_cmp byte other = nat_cmp (rank_of byte) (rank_of other)
 abbrev pub stack_text_cmp : List ℕ → List ℕ → Ordering
 stack_text_cmp = slice_cmp text_byte_cmp
 
--- where the first bytes of a text stand, so many: the end of a text, and what is behind it, before each byte
+-- where the first bytes of a text stand, so many: the end of a text, and what is after it, before each byte
 abbrev pub digits_of : ℕ → List ℕ → List ℕ
 digits_of zero text = []
 digits_of (suc count) [] = 0 ∷ digits_of count []
@@ -31,7 +31,7 @@ digits_of (suc count) (byte ∷ text) = (rank_of byte + 1) ∷ digits_of count t
 abbrev pub AreDigits : List ℕ → Type 0
 AreDigits digits = AllByRecursion (λ (digit : ℕ). digit < 512) digits
 
--- the number that digits write behind those of another number
+-- the number that digits write after those of another number
 abbrev pub number_of : ℕ → List ℕ → ℕ
 number_of high [] = high
 number_of high (digit ∷ digits) = number_of (high * 512 + digit) digits

@@ -141,7 +141,7 @@ pub fn read_frames<'a>(
 {
     let (stack, weight) = stack_and_weight(line, number)?;
     let Ok(()) = replace_by_text(frames, stack) else {
-        // a line's own fault comes before want of memory at it
+        // a line's own fault comes before `NoMemory` at it
         fitting(measured(stack).0, weight, earlier, number)?;
         return Err(FoldedFault::NoMemory);
     };

@@ -35,8 +35,8 @@ pub fn stack_texts_are_in_the_order_of_stacks()
         → stack_text_cmp text other ≡ stack_cmp (frames_of text) (frames_of other) }
 {}
 
-/// A text has at most one first fault, want of memory aside (`one`), and folded text has none (`none`). So whatever
-/// reads a text with a fault tells this one or want of memory.
+/// A text has at most one first fault, `NoMemory` aside (`one`), and folded text has none (`none`). So whatever
+/// reads a text with a fault tells this one or `NoMemory`.
 pub fn a_text_has_one_first_fault()
     ensures one { (text : List ℕ) (fault other : FoldedFault) → IsFirstFault text fault → IsFirstFault text other
         → (fault ≡ NoMemory) ⊎ ((other ≡ NoMemory) ⊎ (fault ≡ other)) }

@@ -24,7 +24,7 @@ impl<'a> Model for Frames<'a> {
     ghost view = { λ f. frames_of f.rest.now };
 }
 
-/// A text's first piece, and what stands behind its semicolon: nothing where there is none.
+/// A text's first piece, and what stands after its semicolon: nothing where there is none.
 fn split_piece<'a>(text: &'a str) -> (&'a str, &'a str)
     ensures frames { frames_of text.now ≡ frame_in result.0.now ++ frames_of result.1.now }
     ensures shorter { 0 < length text.now → length result.1.now < length text.now }

@@ -20,15 +20,15 @@ fn past_equal_chunks<'a, const SIZE: usize>(left: &'a [u8], right: &'a [u8]) -> 
     ensures { stack_text_cmp result.0.now result.1.now ≡ stack_text_cmp left.now right.now }
 {
     let (mut rest, mut others) = (left, right);
-    while let Some((chunk, behind)) = rest.split_first_chunk::<SIZE>() {
-        let Some((other, other_behind)) = others.split_first_chunk::<SIZE>() else {
+    while let Some((chunk, after)) = rest.split_first_chunk::<SIZE>() {
+        let Some((other, other_after)) = others.split_first_chunk::<SIZE>() else {
             return (rest, others);
         };
         if *chunk != *other {
             return (rest, others);
         }
-        rest = behind;
-        others = other_behind;
+        rest = after;
+        others = other_after;
     }
     (rest, others)
 }
@@ -38,16 +38,16 @@ fn cmp_bytes(left: &[u8], right: &[u8]) -> Ordering
     ensures { result ≡ stack_text_cmp left.now right.now }
 {
     let (mut rest, mut others) = (left, right);
-    while let Some((byte, behind)) = rest.split_first() {
-        let Some((other, other_behind)) = others.split_first() else {
+    while let Some((byte, after)) = rest.split_first() {
+        let Some((other, other_after)) = others.split_first() else {
             return Ordering::Greater;
         };
         let found = byte_rank(*byte).cmp(&byte_rank(*other));
         if found.is_ne() {
             return found;
         }
-        rest = behind;
-        others = other_behind;
+        rest = after;
+        others = other_after;
     }
     if others.is_empty() {
         Ordering::Equal

@@ -68,12 +68,12 @@ impl<'a> TextRow<'a> {
         if fronts.is_ne() {
             return fronts;
         }
-        cmp_stack_texts(behind_front(self.text), behind_front(other.text))
+        cmp_stack_texts(after_front(self.text), after_front(other.text))
     }
 }
 
-/// What is behind the first seven bytes of a text.
-fn behind_front(text: &str) -> &[u8]
+/// What is after the first seven bytes of a text.
+fn after_front(text: &str) -> &[u8]
     ensures { result.now ≡ drop 7 text.now }
 {
     let bytes = text.as_bytes();
@@ -96,13 +96,13 @@ fn front_of(text: &str) -> u64
     ensures front { result ≡ front_of text.now }
     ensures digits { AreDigits (digits_of 7 text.now) }
 {
-    let (first, behind) = first_rank(text.as_bytes());
-    let (second, behind) = first_rank(behind);
-    let (third, behind) = first_rank(behind);
-    let (fourth, behind) = first_rank(behind);
-    let (fifth, behind) = first_rank(behind);
-    let (sixth, behind) = first_rank(behind);
-    let (seventh, _) = first_rank(behind);
+    let (first, after) = first_rank(text.as_bytes());
+    let (second, after) = first_rank(after);
+    let (third, after) = first_rank(after);
+    let (fourth, after) = first_rank(after);
+    let (fifth, after) = first_rank(after);
+    let (sixth, after) = first_rank(after);
+    let (seventh, _) = first_rank(after);
     let three = (first * 512 + second) * 512 + third;
     let five = (three * 512 + fourth) * 512 + fifth;
     (five * 512 + sixth) * 512 + seventh

@@ -1,4 +1,4 @@
-//! How faults are printed that no script meets: want of memory and of places, and what `live` makes of each cause.
+//! How faults are printed that no script meets: no memory and no places, and what `live` makes of each cause.
 
 use flame_program::{Outcome, Status, ToolFault};
 use live_report::LiveFault;
@@ -8,7 +8,7 @@ use std::alloc::Global;
 use std::test::Fail;
 use test_support::{expect_printed, expect_text};
 
-// How faults are printed, each with whether something was wanting, so that the store refused nothing.
+// How faults are printed, each with whether something was missing, so that the store refused nothing.
 fn printed_faults() -> [(LiveFault, &'static str, bool); 15] {
     let all_given = SessionFault::AllGiven;
     let no_session = WorkersFault::Session {

@@ -195,7 +195,7 @@ impl<'a, N: StoreName> Walk<'a, N> {
         }
     }
 
-    // Whether a change is placed behind all that was known. Others may be told of it.
+    // Whether a change is placed after all that was known. Others may be told of it.
     fn keep<R: Wait>(&mut self, rt: &R, bench: &Bench<N>, placed: Placed<N>) -> bool {
         let is_right = self.known <= placed.place;
         self.known = placed.place.saturating_add(1);
@@ -290,7 +290,7 @@ impl<'a, N: StoreName> Bench<'a, N> {
     }
 }
 
-// A session's steps. Behind its first, it waits for the first of all others.
+// A session's steps. After its first, it waits for the first of all others.
 fn take_steps<N: StoreName, R: Wait>(
     rt: &R,
     alloc: Global,

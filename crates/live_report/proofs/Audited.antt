@@ -158,7 +158,7 @@ additions_add value stack width (row ∷ rows) =
     let alone = sum_by-cons (weight_if (is_same_stack stack)) (weighing value row) [] in
     omega (arith, here, rest, there, alone)
 
--- ---- the entries behind a warm start
+-- ---- the entries after a warm start
 
 -- The entries begin with those of a warm start, where there is one, and none of the others is a reset: these are what
 -- counts.

@@ -28,7 +28,7 @@ warm_lists None = []
 warm_lists (Some batch) = (add batch ∷ total_at 0 ∷ reset ∷ []) ∷ []
 
 -- the reset of a warm start, which is the third receipt of the first log, is the store's second change: it stands
--- behind the addition of that log alone, and before all other changes
+-- after the addition of that log alone, and before all other changes
 abbrev pub IsWarm : List SessionLog → Type 0
 IsWarm logs = IsSomeAnd
     (slice_get logs 0) (λ (log : SessionLog). IsSomeAnd (slice_get log.receipts 2) (λ receipt. receipt.at ≡ 1))
@@ -37,7 +37,7 @@ IsWarm logs = IsSomeAnd
 abbrev pub weigh : (PlainOp → ℕ) → List (List PlainOp) → ℕ
 weigh weight lists = sum_by (sum_by weight) lists
 
--- the rows of a worker: the one behind so many others, and then each that is as many rows further as there are workers
+-- the rows of a worker: the one after so many others, and then each that is as many rows further as there are workers
 abbrev pub turns_of : ℕ → ℕ → List Row → List Row
 turns_of workers before [] = []
 turns_of workers zero (row ∷ rows) = row ∷ turns_of workers (workers - 1) rows
@@ -52,7 +52,7 @@ pub record AreDealt (batch : BatchState) (sessions : ℕ) (lists : List (List Pl
   pub same : (weight : PlainOp → ℕ) → weigh weight lists
       ≡ sum_by weight (map (addition batch.width) batch.rows) + sessions * sum_by weight (totals_from 0 batch.width)
 
--- the logs tell of the operations that a batch was dealt as, behind a warm start where there is one
+-- the logs tell of the operations that a batch was dealt as, after a warm start where there is one
 pub record AreLogsOf (options : PlainOptions) (batch : BatchState) (logs : List SessionLog) : Type 0 where
   pub lists : List (List PlainOp)
   pub dealt : AreDealt batch options.sessions lists

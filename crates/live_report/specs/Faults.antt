@@ -18,7 +18,7 @@ use Rattle.live_store.specs.declared.workers.FinishedWorker.{FinishedWorker}
 use Rattle.live_report.specs.declared.fault.LiveFault.{LiveFault}
 use Rattle.live_report.specs.declared.fault.LiveFault.TheVariants as live
 
--- want of memory is one fault, wherever it comes; every other cause is told as it is
+-- `NoMemory` is one fault, wherever it comes; every other cause is told as it is
 abbrev pub fault_of_make : MakeFault → LiveFault
 fault_of_make make.Sessions = live.Make make.Sessions
 fault_of_make make.Place = live.Make make.Place
@@ -61,33 +61,33 @@ first_stop [] = None
 first_stop (worked ∷ others) = option_or worked.stopped (first_stop others)
 
 -- no place for a reader of versions, or no memory
-abbrev pub is_place_wanting : SessionFault → Bool
-is_place_wanting session.AllGiven = false
-is_place_wanting session.Place = true
-is_place_wanting session.NoMemory = true
+abbrev pub is_place_missing : SessionFault → Bool
+is_place_missing session.AllGiven = false
+is_place_missing session.Place = true
+is_place_missing session.NoMemory = true
 
 -- no memory, or no version that could be entered
-abbrev pub is_version_wanting : BookFault → Bool
-is_version_wanting book.Session = false
-is_version_wanting (book.Turn held) = false
-is_version_wanting (book.Full held) = false
-is_version_wanting (book.Width held) = false
-is_version_wanting (book.Heavy value held) = false
-is_version_wanting book.NoMemory = true
-is_version_wanting book.Version = true
+abbrev pub is_version_missing : BookFault → Bool
+is_version_missing book.Session = false
+is_version_missing (book.Turn held) = false
+is_version_missing (book.Full held) = false
+is_version_missing (book.Width held) = false
+is_version_missing (book.Heavy value held) = false
+is_version_missing book.NoMemory = true
+is_version_missing book.Version = true
 
 -- no place for versions, or no memory
-abbrev pub is_store_wanting : MakeFault → Bool
-is_store_wanting make.Sessions = false
-is_store_wanting make.Place = true
-is_store_wanting make.NoMemory = true
+abbrev pub is_store_missing : MakeFault → Bool
+is_store_missing make.Sessions = false
+is_store_missing make.Place = true
+is_store_missing make.NoMemory = true
 
--- memory, a place for versions or their readers, or a thread was wanting: nothing was refused
+-- memory, a place for versions or their readers, or a thread was missing: nothing was refused
 abbrev pub is_shortage : LiveFault → Bool
 is_shortage live.Start = true
-is_shortage (live.Make fault) = is_store_wanting fault
-is_shortage (live.Session fault) = is_place_wanting fault
-is_shortage (live.Book fault) = is_version_wanting fault
+is_shortage (live.Make fault) = is_store_missing fault
+is_shortage (live.Session fault) = is_place_missing fault
+is_shortage (live.Book fault) = is_version_missing fault
 is_shortage (live.Audit fault) = false
 is_shortage live.Warm = false
 is_shortage live.NoMemory = true

@@ -36,7 +36,7 @@ pub enum LiveFault {
 }
 
 impl LiveFault {
-    /// Whether memory, a place for versions or their readers, or a thread was wanting: nothing was refused.
+    /// Whether memory, a place for versions or their readers, or a thread was missing: nothing was refused.
     pub fn is_shortage(self) -> bool
         ensures { result ≡ is_shortage self }
     {

@@ -108,7 +108,7 @@ fn push_logs(logs: &mut Vec<SessionLog>, worked: Vec<FinishedWorker>) -> Result<
     Ok(())
 }
 
-/// Whether the reset of a warm start is the second change of its store: then it stands behind the addition of the first
+/// Whether the reset of a warm start is the second change of its store: then it stands after the addition of the first
 /// log, and before all others.
 pub(crate) fn is_warm(logs: &[SessionLog]) -> bool
     ensures { MatchBool result (IsWarm logs.now) (IsWarm logs.now → ⊥) }

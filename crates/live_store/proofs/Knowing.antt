@@ -143,7 +143,7 @@ at_end : (xs : List PlainEntry) (x : PlainEntry) → slice_get (xs ++ x ∷ []) 
 at_end [] x = refl
 at_end (y ∷ xs) x = at_end xs x
 
--- a change of this session was placed behind all that is known, in its turn
+-- a change of this session was placed after all that is known, in its turn
 pub borne_changed : (n turn place : ℕ) (op : PlainOp) (log : List PlainReceipt) (seen new : List PlainEntry)
     → is_change op ≡ true → turn ≡ changes_told log → IsPlaced seen n turn op place new → IsBorneOut n log seen
     → IsBorneOut n (log ++ change_told op place ∷ []) new

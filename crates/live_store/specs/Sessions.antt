@@ -30,7 +30,7 @@ pub record IsBorneOut (session : ℕ) (log : List PlainReceipt) (seen : List Pla
   pub rise : AllPairs Precedes log
   pub below : All (λ (receipt : PlainReceipt). key_of receipt ≤ 2 * length seen) log
 
--- a session's change was placed behind all that was known, and is the last of what is known now
+-- a session's change was placed after all that was known, and is the last of what is known now
 pub record IsPlaced (known : List PlainEntry) (session turn : ℕ) (op : PlainOp) (place : ℕ)
     (seen : List PlainEntry) : Type 0 where
   pub before : List PlainEntry

@@ -76,6 +76,6 @@ pub record IsFirstShown (limit sessions width : ℕ) (seen : List PlainEntry) (s
   pub width_is : book.width ≡ width
   pub first : IsFirstBookFault book session turn op fault
 
--- memory was wanting, or no version was shown
+-- memory ran out, or no version was shown
 abbrev pub IsUnseen : BookFault → Type 0
 IsUnseen fault = (fault ≡ book.NoMemory) ⊎ (fault ≡ book.Version)

@@ -1,4 +1,4 @@
--- Receipts in the order of a run, of which each stands behind as many changes as its place says.
+-- Receipts in the order of a run, of which each stands after as many changes as its place says.
 use Rattle.std.proofs.lemmas.Grind.{common_steps}
 use Rattle.std.proofs.Common.{ℕ, zero, suc, ◌≡◌, ◌<◌, ◌≤◌, ◌+◌, ◌*◌, inl, inr, Bool, true, false, cond, List, [], ◌∷◌}
 use Rattle.std.proofs.Common.{◌++◌, length, get_or, take, All, Any, refl, sym, ap, subst, ◌∙◌, arith}
@@ -25,7 +25,7 @@ one_if-le : (b : Bool) → one_if b ≤ 1
 one_if-le true = omega arith
 one_if-le false = omega arith
 
--- places don't fall along a run, and rise behind a change
+-- places don't fall along a run, and rise after a change
 pub Precedes-le : (a b : PlainReceipt) → Precedes a b → a.at + one_if (is_change a.op) ≤ b.at
 Precedes-le a b (inl less) = grind (arith, common_steps, key_by, one_if-le)
 Precedes-le a b (inr (same, report)) = grind (arith, common_steps, key_by, one_if-le)
@@ -131,7 +131,7 @@ missing_before all i done count one rising within lt is counted beyond = record 
               let low = subst (λ (r : LoggedReceipt). is_change r.receipt.op ≡ true → r.receipt.at < done) item
               (counted.below k x (omega (arith, length-take-le i all (omega (arith, lt)), before))) change in
               omega (arith, low, at)
-          | inr behind ↦ elim (cases_eq k i) [
+          | inr after ↦ elim (cases_eq k i) [
             | inl same ↦
                 let item : one ≡ x = is ∙ get_or_default all i one x lt ∙ ap (λ n. get_or all n x) (sym same) ∙ there in
                 let place = ap (λ (r : LoggedReceipt). r.receipt.at) item in
@@ -140,7 +140,7 @@ missing_before all i done count one rising within lt is counted beyond = record 
                 let first : get_or all i x ≡ one = sym (get_or_default all i one x lt) ∙ sym is in
                 let order = Precedes-le one.receipt x.receipt (subst (λ (r : LoggedReceipt). Precedes one.receipt
                 r.receipt) there (subst (λ (r : LoggedReceipt). Precedes r.receipt (get_or all k x).receipt) first
-                (rising i k x (omega (arith, behind, other)) inside))) in
+                (rising i k x (omega (arith, after, other)) inside))) in
                 omega (arith, order, at, beyond)
           ]
         ]

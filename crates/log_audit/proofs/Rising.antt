@@ -1,4 +1,4 @@
--- Receipts in the order of a run: each may stand behind all before it, and each log keeps its order.
+-- Receipts in the order of a run: each may stand after all before it, and each log keeps its order.
 use Rattle.std.proofs.lemmas.Grind.{common_steps}
 use Rattle.std.proofs.Common.{ℕ, suc, ◌≡◌, ◌≢◌, ◌<◌, ◌≤◌, ◌+◌, ◌⊎◌, inl, inr, Option, Some, None, List, [], ◌∷◌, ◌++◌}
 use Rattle.std.proofs.Common.{length, get_or, All, AllPairs, refl, sym, ap, subst, ◌∙◌, arith}
@@ -49,11 +49,11 @@ cons_all {X} P x xs here there = All-append P (x ∷ []) xs first there
 weaker_all : {X : Type 0} (P Q : X → Type 0) (xs : List X) → ((x : X) → P x → Q x) → All P xs → All Q xs
 weaker_all P Q xs f all k d lt = f (get_or xs k d) (all k d lt)
 
-behind : (number session index : ℕ) (earlier : PlainReceipt) (receipts : List PlainReceipt)
+after : (number session index : ℕ) (earlier : PlainReceipt) (receipts : List PlainReceipt)
     → All IsInOrder (logged_from number session index (Some earlier) receipts)
     → All (IsBehind session index earlier) (logged_from number session index (Some earlier) receipts)
-behind number session index earlier [] each = λ k d lt. absurd (omega (arith, lt))
-behind number session index earlier (receipt ∷ later) each =
+after number session index earlier [] each = λ k d lt. absurd (omega (arith, lt))
+after number session index earlier (receipt ∷ later) each =
     let one : LoggedReceipt =
     record { number = number; session = session; index = index; earlier = Some earlier; receipt = receipt } in
     let rest = logged_from (number + 1) session (index + 1) (Some receipt) later in
@@ -61,7 +61,7 @@ behind number session index earlier (receipt ∷ later) each =
     cons_all (IsBehind session index earlier) one rest (refl, omega arith, first)
     (weaker_all (IsBehind session (index + 1) receipt) (IsBehind session index earlier) rest
     (λ x is. let low = is.1 in (is.0, omega (arith, low), Precedes-trans earlier receipt x.receipt first is.2))
-    (behind (number + 1) session (index + 1) receipt later (tail_all IsInOrder one rest each)))
+    (after (number + 1) session (index + 1) receipt later (tail_all IsInOrder one rest each)))
 
 in_log : (number session index : ℕ) (earlier : Option PlainReceipt) (receipts : List PlainReceipt)
     → All IsInOrder (logged_from number session index earlier receipts)
@@ -75,7 +75,7 @@ in_log number session index earlier (receipt ∷ later) each =
     AllPairs-cons InOwnOrder one rest
     (weaker_all (IsBehind session (index + 1) receipt) (InOwnOrder one) rest
     (λ x is. λ same. let low = is.1 in (omega (arith, low), is.2))
-    (behind (number + 1) session (index + 1) receipt later tail))
+    (after (number + 1) session (index + 1) receipt later tail))
     (in_log (number + 1) session (index + 1) (Some receipt) later tail)
 
 -- ---- all logs

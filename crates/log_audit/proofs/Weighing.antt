@@ -110,7 +110,7 @@ counted value stack (ask query ∷ operations) = let rest = counted value stack 
 
 -- ---- what logs tell of the rows that count
 
--- what an operation adds to a stack by a value, where it was told this place or one behind it
+-- what an operation adds to a stack by a value, where it was told this place or one after it
 abbrev added_from : ℕ → ℕ → List (List ℕ) → PlainOp → PlainReply → ℕ
 added_from place value stack op reply = cond (nat_le place (place_told reply)) (added value stack op) 0
 
@@ -179,15 +179,15 @@ report_adds from value stack (ask query) reply report = by_case (nat_le from (pl
 abbrev changes_of : List PlainStep → List PlainOp
 changes_of run = filter is_change (map (λ (step : PlainStep). step.op) run)
 
--- behind the place from which on changes count, each counts
-sums_behind : (from place value : ℕ) (stack : List (List ℕ)) (run : List PlainStep)
+-- after the place from which on changes count, each counts
+sums_after : (from place value : ℕ) (stack : List (List ℕ)) (run : List PlainStep)
     → from ≤ place → AreInPlace place run
     → sum_by (λ (step : PlainStep). added_from from value stack step.op step.reply) run
     ≡ sum_by (added value stack) (changes_of run)
-sums_behind from place value stack [] le legal = refl
-sums_behind from place value stack (step ∷ run) le legal =
+sums_after from place value stack [] le legal = refl
+sums_after from place value stack (step ∷ run) le legal =
     by_case (is_change step.op) refl
-    (sums_behind from (place + cond (is_change step.op) 1 0) value stack run (omega (arith, le)) legal.1)
+    (sums_after from (place + cond (is_change step.op) 1 0) value stack run (omega (arith, le)) legal.1)
   where
     by_case : (b : Bool) → is_change step.op ≡ b
         → sum_by (λ (step : PlainStep). added_from from value stack step.op step.reply) run
@@ -213,7 +213,7 @@ sums : (gap from place value : ℕ) (stack : List (List ℕ)) (run : List PlainS
     → from ≡ place + gap → AreInPlace place run
     → sum_by (λ (step : PlainStep). added_from from value stack step.op step.reply) run
     ≡ sum_by (added value stack) (drop gap (changes_of run))
-sums zero from place value stack run is legal = sums_behind from place value stack run (omega (arith, is)) legal
+sums zero from place value stack run is legal = sums_after from place value stack run (omega (arith, is)) legal
 sums (suc gap) from place value stack [] is legal = refl
 sums (suc gap) from place value stack (step ∷ run) is legal =
     by_case (is_change step.op) refl
@@ -227,16 +227,16 @@ sums (suc gap) from place value stack (step ∷ run) is legal =
         run ≡ sum_by (added value stack) (drop (suc gap) (changes_of run)))
         → sum_by (λ (step : PlainStep). added_from from value stack step.op step.reply) (step ∷ run)
         ≡ sum_by (added value stack) (drop (suc gap) (changes_of (step ∷ run)))
-    by_case true change behind before =
+    by_case true change after before =
         let kept = ap (λ b. sum_by
         (added value stack) (drop (suc gap) (cond b (step.op ∷ changes_of run) (changes_of run)))) change in
         let there = sum_by-cons (λ (step : PlainStep). added_from from value stack step.op step.reply) step run in
         let one : added_from from value stack step.op step.reply ≡ 0 =
         ap (λ reply. added_from from value stack step.op reply) (legal.0 change)
         ∙ ap (λ b. cond b (added value stack step.op) 0) (lt-leb from place (omega (arith, is))) in
-        let rest = behind (subst (λ b. AreInPlace (place + cond b 1 0) run) change legal.1) in
+        let rest = after (subst (λ b. AreInPlace (place + cond b 1 0) run) change legal.1) in
         omega (arith, kept, there, one, rest)
-    by_case false report behind before =
+    by_case false report after before =
         let kept = ap (λ b. sum_by
         (added value stack) (drop (suc gap) (cond b (step.op ∷ changes_of run) (changes_of run)))) report in
         let there = sum_by-cons (λ (step : PlainStep). added_from from value stack step.op step.reply) step run in
@@ -252,7 +252,7 @@ none_before (reset ∷ operations) none = absurd (cc)
 none_before (add batch ∷ operations) none = ap (λ b. cond b (suc (counting_from operations)) 0) none
 none_before (ask query ∷ operations) none = ap (λ b. cond b (suc (counting_from operations)) 0) none
 
--- an operation behind which no reset stands
+-- an operation after which no reset stands
 count_first : (later : List PlainOp) (op : PlainOp)
     → addition_of op ++ flat_map addition_of later ≡ flat_map addition_of (drop (cond (is_reset op) 1 0) (op ∷ later))
 count_first later (add batch) = refl
@@ -268,11 +268,11 @@ batches_from (op ∷ later) = by_case (list_any is_reset later) refl (batches_fr
     by_case : (b : Bool) → list_any is_reset later ≡ b
         → batches_after later ≡ flat_map addition_of (drop (counting_from later) later) → (op : PlainOp)
         → batches_after (op ∷ later) ≡ flat_map addition_of (drop (counting_from (op ∷ later)) (op ∷ later))
-    by_case true behind rest op =
-        ap (λ b. cond b (batches_after later) (addition_of op ++ batches_after later)) behind
+    by_case true after rest op =
+        ap (λ b. cond b (batches_after later) (addition_of op ++ batches_after later)) after
         ∙ rest
         ∙ ap (λ b. flat_map addition_of
-        (drop (cond b (suc (counting_from later)) (cond (is_reset op) 1 0)) (op ∷ later))) (sym behind)
+        (drop (cond b (suc (counting_from later)) (cond (is_reset op) 1 0)) (op ∷ later))) (sym after)
     by_case false none rest op =
         let all : batches_after later ≡ flat_map addition_of later = rest
         ∙ ap (λ n. flat_map addition_of (drop n later)) (none_before later none) in

@@ -10,7 +10,7 @@ abbrev pub place_told : PlainReply → ℕ
 place_told (placed place) = place
 place_told (answered answer) = 0
 
--- the rows that a receipt tells of, where its change stands at this place or behind it
+-- the rows that a receipt tells of, where its change stands at this place or after it
 abbrev pub rows_from : ℕ → PlainReceipt → List Row
 rows_from place receipt = cond (nat_le place (place_told receipt.reply)) (rows_added receipt.op) []
 

@@ -55,7 +55,7 @@ IsOfJournal journal session receipt (ask query) =
 abbrev pub IsKnown : JournalState → LoggedReceipt → Type 0
 IsKnown journal one = (one.session < journal.sessions) × IsOfJournal journal one.session one.receipt one.receipt.op
 
--- the receipt may stand behind the one before it in its log
+-- the receipt may stand after the one before it in its log
 abbrev pub IsInOrder : LoggedReceipt → Type 0
 IsInOrder one = IfSome one.earlier (λ earlier. Precedes earlier one.receipt)
 

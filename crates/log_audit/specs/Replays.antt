@@ -16,7 +16,7 @@ use Rattle.log_audit.specs.declared.replay.Wrong.{Wrong}
 abbrev pub ops_in : List LoggedReceipt → List PlainOp
 ops_in all = map (λ (one : LoggedReceipt). one.receipt.op) all
 
--- each receipt may stand behind all before it
+-- each receipt may stand after all before it
 abbrev pub AreRising : List LoggedReceipt → Type 0
 AreRising all = AllPairs (λ earlier later. Precedes earlier.receipt later.receipt) all
 

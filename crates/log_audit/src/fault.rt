@@ -15,7 +15,7 @@ pub enum AuditFault {
     /// or the report is over more changes than it has, or by a value that it hasn't.
     #[error("A2 Stranger session {session} index {index}")]
     Stranger { session: u32, index: u64 },
-    /// The receipt can't stand behind the one before it: a run has it earlier, or it is a change at the same place.
+    /// The receipt can't stand after the one before it: a run has it earlier, or it is a change at the same place.
     #[error("A3 Order session {session} index {index}")]
     Order { session: u32, index: u64 },
     /// No log has a receipt of the journal's entry.

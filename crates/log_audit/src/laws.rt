@@ -13,7 +13,7 @@ ghost use Rattle.log_audit.specs.Matching.{PlainStep, steps_in};
 use profile_rows::laws::aggregate_is_by_weights;
 
 /// What logs tell of is what counts: where an audit gave a run of them, the rows of their additions, from the place on
-/// that is behind the journal's last reset, add up to its profile, log after log. So a service knows from what its
+/// that is after the journal's last reset, add up to its profile, log after log. So a service knows from what its
 /// sessions were told what the store has in the end, whatever the order was in which they came to it.
 pub fn logs_add_up()
     ensures { (logs : List SessionLog) (run : List PlainStep) (operations : List PlainOp)

@@ -58,7 +58,7 @@ pub(crate) fn all_receipts<'a>(
     Ok(all)
 }
 
-/// The receipts of a log behind those of the logs before it.
+/// The receipts of a log after those of the logs before it.
 fn push_log<'a>(all: &mut Vec<Logged<'a>>, log: &'a SessionLog) -> Result<(), NoMemory>
     ensures { OnOk result (all.new.items
         ≡ all.old.items ++ logged_from (length all.old.items) log.now.session 0 None log.now.receipts) }
@@ -136,7 +136,7 @@ fn has_entry(entries: &[Entry], session: u32, receipt: &Receipt) -> bool
     }
 }
 
-/// The first receipt that can't stand behind the one before it in its log.
+/// The first receipt that can't stand after the one before it in its log.
 pub(crate) fn first_out_of_order(all: &[Logged]) -> Option<Place>
     ensures { MatchOption result (All IsInOrder all.now)
         (λ place. IsFirstWithout IsInOrder all.now place.session place.index) }
@@ -152,7 +152,7 @@ pub(crate) fn first_out_of_order(all: &[Logged]) -> Option<Place>
     None
 }
 
-/// Whether a receipt can stand behind the one before it in its log.
+/// Whether a receipt can stand after the one before it in its log.
 fn is_in_order(one: &Logged) -> bool
     ensures { IsTrue result ↔ IsInOrder one.now }
 {
@@ -162,7 +162,7 @@ fn is_in_order(one: &Logged) -> bool
     }
 }
 
-/// Whether a receipt may follow another in a log: it stands behind it in each run, or both are reports at one place.
+/// Whether a receipt may follow another in a log: it stands after it in each run, or both are reports at one place.
 fn precedes(earlier: &Receipt, later: &Receipt) -> bool
     ensures { IsTrue result ↔ Precedes earlier.now later.now }
 {

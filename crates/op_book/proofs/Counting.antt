@@ -4,6 +4,7 @@ use Rattle.std.proofs.Common.{ℕ, suc, ◌≡◌, ◌<◌, ◌+◌, Bool, true,
 use Rattle.std.proofs.Common.{get_or, take, refl, ap, sym, ◌∙◌, arith}
 use Rattle.std.proofs.lemmas.List.{length-map, length-take-le, take_more}
 use Rattle.std.proofs.lemmas.List.Folds.{list_any-append, list_any_none}
+use mathlib.Core.Bool.{or-false}
 use Rattle.std.specs.List.{flat_map, list_any}
 use Rattle.flame_report.specs.declared.query.Query.{Query}
 use Rattle.profile_rows.specs.Values.{BatchState}
@@ -20,7 +21,7 @@ batches_after-all (op ∷ operations) none =
     ap (λ b. cond b (batches_after operations) (addition_of op ++ batches_after operations)) any
     ∙ ap (λ l. addition_of op ++ l) rest
 
--- whether a reset stands behind
+-- whether a reset stands after
 either : (b : Bool) → (b || true) ≡ true
 either true = refl
 either false = refl
@@ -41,12 +42,7 @@ batches_after-report [] after query = same_either_way (list_any is_reset after) 
 batches_after-report (op ∷ before) after query =
     grind (arith, common_steps, list_any-append, batches_after-report before after query)
 
--- a test that is false changes nothing
-neither : (b : Bool) → (b || false) ≡ b
-neither true = refl
-neither false = refl
-
--- counting begins behind a reset that is the last of operations
+-- counting begins after a reset that is the last of operations
 pub counting_from-reset : (operations : List PlainOp)
     → counting_from (operations ++ reset ∷ []) ≡ suc (length operations)
 counting_from-reset [] = refl
@@ -58,14 +54,14 @@ pub counting_from-other : (operations : List PlainOp) (op : PlainOp)
     → is_reset op ≡ false → counting_from (operations ++ op ∷ []) ≡ counting_from operations
 counting_from-other [] op other = ap (λ b. cond b 1 0) other
 counting_from-other (first ∷ operations) op other =
-    grind (arith, common_steps, list_any-append, neither, counting_from-other operations op other)
+    grind (arith, common_steps, list_any-append, or-false, counting_from-other operations op other)
 
 -- where counting begins after one entry more
-pub counting_from-more : (entries : List PlainEntry) (i behind : ℕ) (entry : PlainEntry)
+pub counting_from-more : (entries : List PlainEntry) (i after : ℕ) (entry : PlainEntry)
     → i < length entries → entry ≡ get_or entries i entry
-    → behind ≡ cond (is_reset entry.op) (i + 1) (counting_from (operations_of (take i entries)))
-    → behind ≡ counting_from (operations_of (take (i + 1) entries))
-counting_from-more entries i behind entry lt is told =
+    → after ≡ cond (is_reset entry.op) (i + 1) (counting_from (operations_of (take i entries)))
+    → after ≡ counting_from (operations_of (take (i + 1) entries))
+counting_from-more entries i after entry lt is told =
     told ∙ by_case (is_reset entry.op) refl ∙ ap counting_from (sym (ap operations_of (take_more entries i entry lt
     ∙ ap (λ e. take i entries ++ e ∷ []) (sym is)) ∙ operations_of-push (take i entries) entry))
   where

@@ -7,6 +7,7 @@ use Rattle.std.proofs.lemmas.Bool.{cases_lt}
 use Rattle.std.proofs.lemmas.List.{append-nil, append_assoc, flat_map_more, get_or_push, length-append, map-append}
 use Rattle.std.proofs.lemmas.List.{map_push, take-append-le, take_all}
 use Rattle.std.proofs.lemmas.List.Folds.{list_any-append}
+use mathlib.Core.Bool.{or-false, or-true}
 use Rattle.std.proofs.lemmas.List.Sums.{sum_by-cons, sum_by_push, sum_by-append}
 use Rattle.std.specs.Prelude.{◌==◌}
 use Rattle.std.specs.List.{flat_map, list_any}
@@ -26,7 +27,7 @@ pub operations_of-push : (entries : List PlainEntry) (last : PlainEntry)
     → operations_of (entries ++ last ∷ []) ≡ operations_of entries ++ last.op ∷ []
 operations_of-push entries last = map_push (λ (entry : PlainEntry). entry.op) entries last
 
--- a reset behind these operations makes none of them count
+-- a reset after these operations makes none of them count
 pub batches_after-reset : (operations : List PlainOp) → batches_after (operations ++ reset ∷ []) ≡ []
 batches_after-reset [] = refl
 batches_after-reset (op ∷ operations) =
@@ -34,10 +35,6 @@ batches_after-reset (op ∷ operations) =
     ∙ or-true (list_any is_reset operations) in
     ap (λ b. cond b (batches_after (operations ++ reset ∷ []))
     (addition_of op ++ batches_after (operations ++ reset ∷ []))) any ∙ batches_after-reset operations
-  where
-    or-true : (b : Bool) → (b || true) ≡ true
-    or-true true = refl
-    or-true false = refl
 
 -- what another operation adds counts too
 pub batches_after-push : (operations : List PlainOp) (op : PlainOp)
@@ -53,10 +50,6 @@ batches_after-push (first ∷ operations) op kept =
     ∙ ap (λ l. cond (list_any is_reset operations) l (addition_of first ++ l)) rest
     ∙ either (list_any is_reset operations) (addition_of first) (batches_after operations) (addition_of op)
   where
-    or-false : (b : Bool) → (b || (false || false)) ≡ b
-    or-false true = refl
-    or-false false = refl
-
     either : (b : Bool) (one more last : List BatchState)
         → cond b (more ++ last) (one ++ (more ++ last)) ≡ cond b more (one ++ more) ++ last
     either true one more last = refl

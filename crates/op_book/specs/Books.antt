@@ -105,7 +105,7 @@ weight_so_far book value = total_of (rows_at value (profile_after (operations_of
 abbrev pub HasRoomFor : BookState → PlainOp → ℕ → Type 0
 HasRoomFor book op value = weight_so_far book value + total_of (rows_at value (rows_added op)) < 2 ^ 63
 
--- nothing but want of memory keeps the book from the operation
+-- nothing but `NoMemory` keeps the book from the operation
 pub record IsTaken (book : BookState) (session turn : ℕ) (op : PlainOp) : Type 0 where
   pub turn_is : HasTurn book.entries book.limit book.sessions session turn
   pub width : FitsWidth book.width op
@@ -126,15 +126,15 @@ pub record HasSpaceFor (book : BookState) (op : PlainOp) : Type 0 where
   pub fits : (value : ℕ) → HasRoomFor book op value
 
 -- what keeps an operation from the book, whose turn it is: another width, or the limit of a value, the lowest such;
--- memory is wanting only where there is no other cause
+-- `NoMemory` only where there is no other cause
 abbrev pub IsSpaceFault : BookState → PlainOp → BookFault → Type 0
 IsSpaceFault book op (Width held) = (held ≡ book.width) × MissesWidth book.width op
 IsSpaceFault book op (Heavy value held) = IsHeavyFor book op value held
 IsSpaceFault book op NoMemory = HasSpaceFor book op
 IsSpaceFault book op fault = ⊥
 
--- the first cause to refuse an operation: those of its turn, then its width, then its weights; memory is wanting only
--- where there is no other
+-- the first cause to refuse an operation: those of its turn, then its width, then its weights; `NoMemory` only where
+-- there is no other
 abbrev pub IsFirstBookFault : BookState → ℕ → ℕ → PlainOp → BookFault → Type 0
 IsFirstBookFault book session turn op (Width held) = HasTurn book.entries book.limit book.sessions session turn
     × (held ≡ book.width) × MissesWidth book.width op

@@ -54,7 +54,7 @@ addition_of (add batch) = batch ∷ []
 addition_of reset = []
 addition_of (ask query) = []
 
--- the batches that count after these operations, in order: an addition counts where no reset stands behind it
+-- the batches that count after these operations, in order: an addition counts where no reset stands after it
 abbrev pub batches_after : List PlainOp → List BatchState
 batches_after [] = []
 batches_after (op ∷ later) =
@@ -64,7 +64,7 @@ batches_after (op ∷ later) =
 abbrev pub profile_after : List PlainOp → List Row
 profile_after operations = flat_map (λ batch. batch.rows) (batches_after operations)
 
--- the place behind the last reset of changes, 0 where there is none: the additions that count stand at it and behind it
+-- the place after the last reset of changes, 0 where there is none: the additions that count stand at it and after it
 abbrev pub counting_from : List PlainOp → ℕ
 counting_from [] = 0
 counting_from (op ∷ later) = if list_any is_reset later then suc (counting_from later) else cond (is_reset op) 1 0

@@ -1,4 +1,4 @@
--- Where the receipt of a change has its entry, and how the receipts of a log stand behind each other.
+-- Where the receipt of a change has its entry, and how the receipts of a log stand after each other.
 use Rattle.std.specs.Prelude.{ℕ, ◌≡◌, ◌<◌, ◌+◌, ◌*◌, ◌⊎◌, IsSomeAnd, false, cond, slice_get, List}
 use Rattle.op_book.specs.Operations.{PlainEntry, PlainReceipt, is_change}
 
@@ -7,7 +7,7 @@ abbrev pub HasEntry : List PlainEntry → ℕ → PlainReceipt → Type 0
 HasEntry entries session receipt = IsSomeAnd (slice_get entries receipt.at)
     (λ entry. (entry.session ≡ session) × (entry.op ≡ receipt.op) × (entry.reply ≡ receipt.reply))
 
--- a receipt's place in a run: a report stands before the change at its place, and behind the one before that
+-- a receipt's place in a run: a report stands before the change at its place, and after the one before that
 abbrev pub key_of : PlainReceipt → ℕ
 key_of receipt = cond (is_change receipt.op) (2 * receipt.at + 1) (2 * receipt.at)
 

@@ -58,11 +58,11 @@ impl Journal {
         self.book.tree()
     }
 
-    /// The place behind the last reset, 0 where there is none: the additions that count stand at it and behind it.
+    /// The place after the last reset, 0 where there is none: the additions that count stand at it and after it.
     pub fn counting_from(&self) -> usize
         ensures { result ≡ counting_from (operations_of self.now.entries) }
     {
-        place_behind_reset(self.entries())
+        place_after_reset(self.entries())
     }
 
     /// How many sessions the book had, whose numbers are from 0.
@@ -84,15 +84,15 @@ impl Journal {
     }
 }
 
-/// The place behind the last reset among entries, 0 where there is none.
-fn place_behind_reset(entries: &[Entry]) -> usize
+/// The place after the last reset among entries, 0 where there is none.
+fn place_after_reset(entries: &[Entry]) -> usize
     ensures { result ≡ counting_from (operations_of entries.now) }
 {
-    let mut behind = 0;
+    let mut after = 0;
     for (place, entry) in entries.iter().enumerate() {
         if entry.op.is_reset() {
-            behind = place + 1;
+            after = place + 1;
         }
     }
-    behind
+    after
 }

@@ -5,7 +5,7 @@ ghost use Rattle.std.specs.List.{flat_map};
 ghost use Rattle.flame_report.specs.declared.query.Query.{Query};
 ghost use Rattle.op_book.specs.Operations.{PlainOp, addition_of, ask, batches_after, is_reset, reset};
 
-/// The additions that count are those behind the last reset, and all where there is no reset. Reports change nothing.
+/// The additions that count are those after the last reset, and all where there is no reset. Reports change nothing.
 pub fn additions_count_since_the_last_reset()
     ensures last { (before after : List PlainOp) → All (λ op. is_reset op ≡ false) after
         → batches_after (before ++ reset ∷ after) ≡ flat_map addition_of after }

@@ -1,4 +1,4 @@
--- One more field, and one more number, behind those that were read.
+-- One more field, and one more number, after those that were read.
 use Rattle.std.proofs.Common.{◌≡◌, ℕ, List, [], ◌∷◌, ◌++◌, refl, sym, ap, ◌∙◌, subst, append_assoc, map, Ok}
 use Rattle.pprof_wire.specs.Varints.{IsVarint}
 use Rattle.pprof_wire.specs.Fields.{PlainField, IsFieldSpelling}

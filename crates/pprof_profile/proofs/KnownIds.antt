@@ -3,15 +3,9 @@ use Rattle.std.proofs.Common.{◌≡◌, ℕ, ◌+◌, ◌<◌, Bool, true, fals
 use Rattle.std.proofs.Common.{get_or, refl, sym, ap, ◌∙◌, arith, nat_eq, subst, append_assoc, take-append-drop}
 use Rattle.std.proofs.lemmas.List.{map-append, take_more}
 use Rattle.std.proofs.lemmas.List.Folds.{list_any-append}
+use Rattle.std.proofs.lemmas.Bool.{or_parts}
+use mathlib.Core.Bool.{or-true}
 use Rattle.pprof_profile.specs.Valid.{is_known, has_double}
-
-or_false : (a b : Bool) → (a || b) ≡ false → (a ≡ false) × (b ≡ false)
-or_false true b h = absurd cc
-or_false false b h = (refl, h)
-
-or_true_right : (a : Bool) → (a || true) ≡ true
-or_true_right true = refl
-or_true_right false = refl
 
 eq_turned : (a b : ℕ) → nat_eq a b ≡ false → nat_eq b a ≡ false
 eq_turned a b h = grind arith
@@ -24,13 +18,13 @@ pub single_more : (ids : List ℕ) (id : ℕ)
     → has_double ids ≡ false → is_known ids id ≡ false → has_double (ids ++ id ∷ []) ≡ false
 single_more [] id single new = refl
 single_more (x ∷ ids) id single new =
-    let (x-new, ids-single) = or_false (is_known ids x) (has_double ids) single in
-    let (apart, id-new) = or_false (nat_eq id x) (is_known ids id) new in
+    let (x-new, ids-single) = or_parts (is_known ids x) (has_double ids) single in
+    let (apart, id-new) = or_parts (nat_eq id x) (is_known ids id) new in
     rw (known_more ids id x x-new (eq_turned id x apart)) (single_more ids id ids-single id-new)
 
 known_inside : (front back : List ℕ) (id : ℕ) → is_known (front ++ id ∷ back) id ≡ true
 known_inside [] back id = grind arith
-known_inside (x ∷ front) back id = rw (known_inside front back id) (or_true_right (nat_eq id x))
+known_inside (x ∷ front) back id = rw (known_inside front back id) (or-true (nat_eq id x))
 
 double_first : (same : Bool) (x : ℕ) (front back : List ℕ) (id : ℕ) → nat_eq id x ≡ same
     → (is_known front id ≡ true → has_double (front ++ id ∷ back) ≡ true)
@@ -39,7 +33,7 @@ double_first true x front back id here later known =
     let e : id ≡ x = grind (arith, here) in
     ap (λ (b : Bool). b || has_double (front ++ id ∷ back))
     (subst (λ (y : ℕ). is_known (front ++ id ∷ back) y ≡ true) e (known_inside front back id))
-double_first false x front back id here later known = rw (later known) (or_true_right (is_known (front ++ id ∷ back) x))
+double_first false x front back id here later known = rw (later known) (or-true (is_known (front ++ id ∷ back) x))
 
 pub double_inside : (front back : List ℕ) (id : ℕ) → is_known front id ≡ true → has_double (front ++ id ∷ back) ≡ true
 double_inside [] back id known = absurd cc

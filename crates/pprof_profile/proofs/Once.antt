@@ -140,16 +140,16 @@ stops_once {M = M} table once (x ∷ xs) [] old mid end bytes front back rest le
     (parts ∙ ap (λ (ys : List ℕ). ys ++ rest) split ∙ append_assoc first after rest) spelled step)
 stops_once {M = M} table once (x ∷ xs) (y ∷ ys) old mid end bytes front back rest left a b
     parts (first, after, split, spelled, others) (next, step, more) ending
-    pieces (one, behind, cut, written, rows) (then, move, yet) stop =
-    let whole : first ++ (after ++ rest) ≡ one ++ (behind ++ left) =
+    pieces (one, past, cut, written, rows) (then, move, yet) stop =
+    let whole : first ++ (after ++ rest) ≡ one ++ (past ++ left) =
     sym (parts ∙ ap (λ (zs : List ℕ). zs ++ rest) split ∙ append_assoc first after rest)
-    ∙ (pieces ∙ ap (λ (zs : List ℕ). zs ++ left) cut ∙ append_assoc one behind left) in
-    let here = field_once first one (after ++ rest) (behind ++ left) x y spelled written whole in
+    ∙ (pieces ∙ ap (λ (zs : List ℕ). zs ++ left) cut ∙ append_assoc one past left) in
+    let here = field_once first one (after ++ rest) (past ++ left) x y spelled written whole in
     let moved : table old x.number x.value (Ok then) =
     subst (λ (z : PlainField). table old z.number z.value (Ok then)) (sym here.2) move in
     let both : Ok next ≡ Ok then = once old x.number x.value (Ok next) (Ok then) step moved in
     let same : next ≡ then = cc both in
-    stops_once table once xs ys next mid end (after ++ rest) after behind rest left a b refl others more ending
+    stops_once table once xs ys next mid end (after ++ rest) after past rest left a b refl others more ending
     here.1 rows (subst (λ (m : M). Gathers table m ys end) (sym same) yet) stop
 
 pub reads_once : {M : Type 0} (table : Table M)

@@ -82,15 +82,15 @@ unit_listed = (
 kind_spelled : Spells value_type_table no_value_type (8 ∷ 1 ∷ []) kind_alone
 kind_spelled = record { fields = kind_piece; listed = kind_listed; gathered = (kind_alone, (refl, refl), refl) }
 
-unit_spelled_behind : Spells value_type_table kind_alone (16 ∷ 2 ∷ []) kind_and_unit
-unit_spelled_behind =
+unit_spelled_after : Spells value_type_table kind_alone (16 ∷ 2 ∷ []) kind_and_unit
+unit_spelled_after =
     record { fields = unit_piece; listed = unit_listed; gathered = (kind_and_unit, (refl, refl), refl) }
 
 pieces_are_taken_together : Gathers draft_table no_draft two_pieces (record no_draft { period_type = kind_and_unit })
 pieces_are_taken_together = (
   record no_draft { period_type = kind_alone },
   (kind_spelled, refl),
-  (record no_draft { period_type = kind_and_unit }, (unit_spelled_behind, refl), refl),
+  (record no_draft { period_type = kind_and_unit }, (unit_spelled_after, refl), refl),
 )
 
 -- the same, by the whole list

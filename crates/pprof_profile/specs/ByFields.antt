@@ -72,7 +72,7 @@ pub record AreAllMessages {M : Type 0} (Is : List PlainField → M → Type 0) (
   pub listed : ArePaired AreFieldsOf values lists
   pub each : ArePaired Is lists items
 
--- A single message: that of the fields of all the values together, one value's behind the other's.
+-- A single message: that of the fields of all the values together, one value's after the other's.
 pub record IsOneMessage {M : Type 0} (Is : List PlainField → M → Type 0) (values : List FieldValue)
     (item : M) : Type 0 where
   pub lists : List (List PlainField)

@@ -37,7 +37,7 @@ pub fn canonical_bytes_spell_the_draft()
 /// What a spelled draft is, said of the whole list of its fields and not field by field: a single number is that of the
 /// last field of its number, or of 0 where there is none; repeated numbers, texts and messages are those of all the
 /// fields of their number, in order; `period_type` is the message of all the fields that its occurrences have, one
-/// behind the other.
+/// after the other.
 pub fn draft_by_its_fields()
     ensures { (bytes : List ℕ) → (draft : Draft) → SpellsDraft bytes draft ↔ HasFieldsOf bytes draft }
 {}

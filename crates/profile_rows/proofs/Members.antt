@@ -8,6 +8,7 @@ use Rattle.std.specs.Cmp.{IsTotalOrder}
 use Rattle.std.specs.FinMap.{IsAntisymmetric}
 use Rattle.std.proofs.lemmas.Cmp.{tied_itself}
 use Rattle.profile_rows.specs.Order.{with_member, in_order}
+use Rattle.profile_rows.proofs.StackLaws.{is_equal}
 
 module _ {K : Type 0} (cmp : K → K → Ordering) (total : IsTotalOrder cmp) (apart : IsAntisymmetric cmp) where
   abbrev is_member : K → List K → Bool
@@ -103,11 +104,6 @@ module _ {K : Type 0} (cmp : K → K → Ordering) (total : IsTotalOrder cmp) (a
     where
       clash : true ≡ false → ⊥
       clash e = cc
-
-  is_equal : (o : Ordering) → is_eq o ≡ true → o ≡ Equal
-  is_equal Less e = cc
-  is_equal Equal e = refl
-  is_equal Greater e = cc
 
   -- two rising lists with the same members are one
   pub same_members : (xs ys : List K) → Rises xs → Rises ys → ((q : K) → is_member q xs ≡ is_member q ys) → xs ≡ ys

@@ -42,7 +42,7 @@ nothing_counted zero (suc number) = refl
 nothing_counted (suc count) zero = refl
 nothing_counted (suc count) (suc number) = nothing_counted count number
 
--- names behind others have tallies of no row
+-- names after others have tallies of no row
 tally_of-more : (names more : List (List ℕ)) (tallies : List Tally) (count : ℕ) (q : List ℕ)
     → length tallies ≡ length names
     → tally_of (names ++ more) (tallies ++ replicate count zero_tally) q ≡ tally_of names tallies q
@@ -52,15 +52,15 @@ tally_of-more (first ∷ names) more [] count q same = absurd (omega (arith, sam
 tally_of-more (first ∷ names) more (tally ∷ tallies) count q same =
     grind (arith, zero_tally, tally_of-more names more tallies count q (omega (arith, same)))
 
--- texts that are added stand behind those that are there
-texts_behind : (names more : List (List ℕ)) → (behind : List (List ℕ)) × (with_texts names more ≡ names ++ behind)
-texts_behind names [] = ([], sym (append-nil names))
-texts_behind names (name ∷ more) = elim (list_any (bytes_eq name) names) as (λ b. (behind : List (List ℕ))
-    × (with_texts (cond b names (names ++ name ∷ [])) more ≡ names ++ behind)) [
-      | true ↦ texts_behind names more
+-- texts that are added stand after those that are there
+texts_after : (names more : List (List ℕ)) → (after : List (List ℕ)) × (with_texts names more ≡ names ++ after)
+texts_after names [] = ([], sym (append-nil names))
+texts_after names (name ∷ more) = elim (list_any (bytes_eq name) names) as (λ b. (after : List (List ℕ))
+    × (with_texts (cond b names (names ++ name ∷ [])) more ≡ names ++ after)) [
+      | true ↦ texts_after names more
       | false ↦
-          let (behind, is) = texts_behind (names ++ name ∷ []) more in
-          (name ∷ behind, is ∙ append_assoc names (name ∷ []) behind)
+          let (after, is) = texts_after (names ++ name ∷ []) more in
+          (name ∷ after, is ∙ append_assoc names (name ∷ []) after)
     ]
 
 pub single_with : (names more : List (List ℕ)) → AreSingle names → AreSingle (with_texts names more)
@@ -74,19 +74,19 @@ pub names-new : (rows : List WeightedStack) (names more : List (List ℕ)) (old 
     → AreTalliesOf rows names old → AreTalliesOf rows (with_texts names more) new
 names-new rows names more old new total grown are =
     let many = are.many in
-    let (behind, is) = texts_behind names more in
+    let (after, is) = texts_after names more in
     let count = length (with_texts names more) - length names in
     record {
       single = single_with names more are.single;
       many =
           let tallies = ap length grown ∙ length-append old.names.items (replicate count zero_tally) in
           let grew = length-replicate count zero_tally in
-          let texts = ap length is ∙ length-append names behind in
+          let texts = ap length is ∙ length-append names after in
           omega (arith, tallies, grew, texts, many);
       each = λ q.
           let same : tally_of (with_texts names more) new.names.items q ≡ tally_of names old.names.items q =
-          ap (λ ns. tally_of ns new.names.items q) is ∙ ap (λ ts. tally_of (names ++ behind) ts q) grown
-          ∙ tally_of-more names behind old.names.items count q many in
+          ap (λ ns. tally_of ns new.names.items q) is ∙ ap (λ ts. tally_of (names ++ after) ts q) grown
+          ∙ tally_of-more names after old.names.items count q many in
           subst (λ n. IsTallyOf rows n q (tally_of (with_texts names more) new.names.items q))
           (sym total) (subst (IsTallyOf rows old.total q) (sym same) (are.each q));
       total = total ∙ are.total;

@@ -24,7 +24,7 @@ no_row = record { stack = []; weight = 0 }
 abbrev lower : WeightedStack → WeightedStack → Bool
 lower row other = is_lt (by_stack row other)
 
--- ---- a row behind the last
+-- ---- a row after the last
 
 strictly : (o p : Ordering) → p ≡ ordering_reverse o → is_lt o ≡ false → (o ≡ Equal → ⊥) → p ≡ Less
 strictly Less p e low apart = cc
@@ -34,7 +34,7 @@ strictly Greater p e low apart = e
 abbrev pub IsNew : List (List ℕ) → List WeightedStack → Type 0
 IsNew stack rows = (at : ℕ) → at + 1 ≡ length rows → (row_at rows at).stack ≡ stack → ⊥
 
--- a stack that is behind none of the rows, and not that of the last, is before none of them
+-- a stack that is after none of the rows, and not that of the last, is before none of them
 before_new : (stack : List (List ℕ)) (rows : List WeightedStack)
     → IsAscending rows → AreUpTo stack rows → IsNew stack rows
     → (k : ℕ) → k < length rows → stack_cmp (row_at rows k).stack stack ≡ Less
@@ -94,9 +94,9 @@ rest_sorted row rest sorted = λ k d low lt.
     subst (λ m. is_lt (by_stack (get_or (row ∷ rest) m d) (get_or rest k d)) ≡ false) next
     (sorted (suc k) d (omega arith) (omega arith))
 
-behind : (row : WeightedStack) (rest : List WeightedStack)
+after : (row : WeightedStack) (rest : List WeightedStack)
     → IsSorted by_stack (row ∷ rest) → All (λ (next : WeightedStack). lower next row ≡ false) rest
-behind row rest sorted = λ k d lt. sorted_far lower (ranks_by stack_cmp_total (λ (row : WeightedStack). row.stack))
+after row rest sorted = λ k d lt. sorted_far lower (ranks_by stack_cmp_total (λ (row : WeightedStack). row.stack))
     (row ∷ rest) sorted 0 (suc k) d (omega arith) (omega arith)
 
 module _ (all sums new left rest : List WeightedStack)
@@ -123,7 +123,7 @@ module _ (all sums new left rest : List WeightedStack)
     sorted = rest_sorted row rest sorted_left;
     reached = λ k d lt i e short.
         (ranks_by stack_cmp_total (λ (row : WeightedStack). row.stack)).chain (get_or rest k d) row (get_or new i e)
-        (behind row rest sorted_left k d lt) (reached i e short);
+        (after row rest sorted_left k d lt) (reached i e short);
   }
 
   pub IsPuttingTogether-weightless : row.weight ≡ 0 → new ≡ sums → IsPuttingTogether all new rest

@@ -163,10 +163,10 @@ module _ (rows : List WeightedStack) (ranking : Ranking) where
   names_again (x ∷ xs) is = ap (λ y. y ∷ map (sums_at rows) (names_of xs)) (sym is.0)
       ∙ ap (λ ys. x ∷ ys) (names_again xs is.1)
 
-  -- what isn't below an element of another name stands behind it
-  behind : (x y : FrameTotal) → IsOf x → IsOf y
+  -- what isn't below an element of another name stands after it
+  after : (x y : FrameTotal) → IsOf x → IsOf y
       → is_lt (top_cmp ranking y x) ≡ false → mark x.name y ≡ 0 → by_sums x.name y.name ≡ Less
-  behind x y is_x is_y far other =
+  after x y is_x is_y far other =
       let same : by_sums x.name y.name ≡ top_cmp ranking x y =
       ap (λ z. top_cmp ranking z (sums_at rows y.name)) (sym is_x) ∙ ap (top_cmp ranking x) (sym is_y) in
       same ∙ elim (top_cmp ranking x y) as (λ o. top_cmp ranking x y ≡ o → o ≡ Less) [
@@ -180,13 +180,13 @@ module _ (rows : List WeightedStack) (ranking : Ranking) where
             absurd (both_ways _ far less)
       ] refl
 
-  all_behind : (x : FrameTotal) (ys : List FrameTotal) → IsOf x → AllByRecursion IsOf ys
+  all_after : (x : FrameTotal) (ys : List FrameTotal) → IsOf x → AllByRecursion IsOf ys
       → AllByRecursion (λ y. is_lt (top_cmp ranking y x) ≡ false) ys → occurrences x.name ys ≡ 0
       → AllByRecursion (λ name. by_sums x.name name ≡ Less) (names_of ys)
-  all_behind x [] is_x is far none = tt
-  all_behind x (y ∷ ys) is_x is far none =
+  all_after x [] is_x is far none = tt
+  all_after x (y ∷ ys) is_x is far none =
       let cons = occurrences-cons x.name y ys in
-      (behind x y is_x is.0 far.0 (omega arith), all_behind x ys is_x is.1 far.1 (omega arith))
+      (after x y is_x is.0 far.0 (omega arith), all_after x ys is_x is.1 far.1 (omega arith))
 
   rising : (xs : List FrameTotal) → AllByRecursion IsOf xs
       → ((i j : ℕ) (d : FrameTotal) → i ≤ j
@@ -197,7 +197,7 @@ module _ (rows : List WeightedStack) (ranking : Ranking) where
       let cons = occurrences-cons x.name x xs in
       let here = mark-self x in
       let one = once x.name in (
-        all_behind x xs is.0 is.1 (recursion_from_All (λ y. is_lt (top_cmp ranking y x) ≡ false) xs
+        all_after x xs is.0 is.1 (recursion_from_All (λ y. is_lt (top_cmp ranking y x) ≡ false) xs
             (λ k d lt. far 0 (suc k) d (omega arith) (omega arith))) (omega arith),
         rising xs is.1 (λ i j d le lt. far (suc i) (suc j) d (omega arith) (omega arith))
             (λ name. let more = occurrences-cons name x xs in let few = once name in omega arith),

@@ -15,7 +15,7 @@ stack_cmp_total = lists_total nat_list_cmp_total
 pub stack_cmp_apart : IsAntisymmetric stack_cmp
 stack_cmp_apart = slice_cmp-IsAntisymmetric (slice_cmp-IsAntisymmetric nat_cmp-IsAntisymmetric)
 
-is_equal : (o : Ordering) → is_eq o ≡ true → o ≡ Equal
+pub is_equal : (o : Ordering) → is_eq o ≡ true → o ≡ Equal
 is_equal Less e = cc
 is_equal Equal e = refl
 is_equal Greater e = cc

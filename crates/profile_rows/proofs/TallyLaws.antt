@@ -4,7 +4,8 @@ use Rattle.std.proofs.Common.{◌≡◌, ◌≢◌, ℕ, zero, suc, ◌+◌, ◌
 use Rattle.std.proofs.Common.{◌∷◌, ◌++◌, length, set, Some, None, refl, sym, ap, ◌∙◌, subst, arith, All}
 use Rattle.std.specs.Prelude.{if◌then◌else◌, slice_index_or}
 use Rattle.std.specs.List.{AllByRecursion, IsDistinct}
-use Rattle.std.proofs.lemmas.Bool.{eqb-true, eq-eqb, false≢true, ne_eqb}
+use Rattle.std.proofs.lemmas.Bool.{eqb-true, eq-eqb, false≢true, ne_eqb, or_right}
+use mathlib.Core.Bool.{or-false}
 use Rattle.std.proofs.lemmas.List.{get_or-set_other, get_or-set_same}
 use Rattle.std.proofs.lemmas.List.Elements.{recursion_from_All}
 use Rattle.std.proofs.lemmas.List.Folds.{list_any-append}
@@ -67,13 +68,9 @@ one_more true false row weight t = refl
 one_more false true row weight t = refl
 one_more false false row weight t = refl
 
-or_false : (b : Bool) → (b || false) ≡ b
-or_false true = refl
-or_false false = refl
-
 pub has_number-push : (numbers : List ℕ) (number other : ℕ)
     → has_number other (numbers ++ number ∷ []) ≡ (has_number other numbers || eqb number other)
-has_number-push numbers number other = grind (arith, common_steps, list_any-append, or_false)
+has_number-push numbers number other = grind (arith, common_steps, list_any-append, or-false)
 
 pub numbers_counted-flat : (numbers : List ℕ) (row weight number : ℕ) (t : Tally)
     → (numbers_counted numbers row weight number t).flat ≡ t.flat
@@ -144,10 +141,6 @@ ends_with_name-push : (name : List ℕ) (callers : List (List ℕ)) (leaf : List
 ends_with_name-push name [] leaf = refl
 ends_with_name-push name (caller ∷ []) leaf = refl
 ends_with_name-push name (caller ∷ next ∷ callers) leaf = ends_with_name-push name (next ∷ callers) leaf
-
-or_right : (a b : Bool) → b ≡ true → (a || b) ≡ true
-or_right true b e = refl
-or_right false b e = e
 
 -- a row more, for the tally of one name
 abbrev row_counted : WeightedStack → ℕ → List ℕ → Tally → Tally

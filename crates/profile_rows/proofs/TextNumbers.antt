@@ -10,6 +10,7 @@ use Rattle.indexmap.specs.IndexSet.{insert_key}
 use Rattle.std.proofs.lemmas.Bool.{false≢true}
 use Rattle.std.proofs.lemmas.List.{take_more, length-map, map-append}
 use denote.Ref.{Bor}
+use mathlib.Core.Bool.{or-false}
 use Rattle.profile_rows.specs.TextTables.{number_in, with_text, with_texts}
 use Rattle.profile_rows.proofs.SameNames.{same_from_is_same_name, is_same_name-self}
 
@@ -42,7 +43,7 @@ text_of_number (first ∷ texts) text lt = search (rules, same_from_is_same_name
 
 pub any_push : (texts : List (List ℕ)) (text q : List ℕ)
     → list_any (bytes_eq q) (texts ++ text ∷ []) ≡ (list_any (bytes_eq q) texts || bytes_eq q text)
-any_push [] text q = elim (bytes_eq q text) as (λ b. (b || false) ≡ b) [ true ↦ refl | false ↦ refl ]
+any_push [] text q = or-false (bytes_eq q text)
 any_push (first ∷ texts) text q = grind (arith, common_steps, any_push texts text q)
 
 number_at_end : (texts : List (List ℕ)) (text : List ℕ)

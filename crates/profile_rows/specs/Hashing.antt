@@ -4,6 +4,6 @@ use Rattle.std.specs.Hash as fed
 use Rattle.std.specs.Hash.FoldHasher as folding
 use Rattle.std.specs.declared.hash.FoldHasher.{FoldHasher}
 
--- behind a key, as if each hashed text had it in front
+-- after a key, as if each hashed text had it in front
 abbrev pub start_of_key : ℕ → FoldHasher
 start_of_key key = fold folding.write folding.initial (fed.u64 key)

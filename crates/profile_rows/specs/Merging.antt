@@ -19,7 +19,7 @@ with_added_at rows at weight =
 abbrev pub by_stack : WeightedStack → WeightedStack → Ordering
 by_stack row after = stack_cmp row.stack after.stack
 
--- no row has a stack behind this one
+-- no row has a stack after this one
 abbrev pub AreUpTo : List (List ℕ) → List WeightedStack → Type 0
 AreUpTo stack rows = All (λ (row : WeightedStack). is_lt (stack_cmp stack row.stack) ≡ false) rows
 

@@ -245,7 +245,7 @@ impl Batch {
     ///
     /// # Errors
     ///
-    /// The first [`PushFault`]: memory is wanting only where there is no other. The batch is then as it was, and the
+    /// The first [`PushFault`]: `NoMemory` only where there is no other. The batch is then as it was, and the
     /// stack is handed back.
     pub fn push(&mut self, stack: Stack, weights: Weights) -> Result<(), Refused<Stack>>
         ensures pushed { OnOk result (self.new ≡ record

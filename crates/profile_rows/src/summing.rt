@@ -24,7 +24,7 @@ fn last_of_stack(rows: &[WeightedStack], stack: &Stack) -> Option<usize>
     }
 }
 
-/// Adds a row that weighs something to sums, of which none has a stack behind the row's.
+/// Adds a row that weighs something to sums, of which none has a stack after the row's.
 fn add_sum(sums: &mut WeightedStacks, row: WeightedStack) -> Result<(), NoMemory>
     requires ascending { IsAscending sums.old }
     requires weighty { AreWeighty sums.old }

@@ -175,7 +175,7 @@ ids_known names (text ∷ stack) whole all =
 abbrev pub frames_in : List Row → List (List ℕ)
 frames_in rows = flat_map (λ row. row.stack) rows
 
--- of texts that stand, those in front and those behind do
+-- of texts that stand, those in front and those after do
 pub stand_parts : (names front back : List (List ℕ))
     → AllStand names (front ++ back) → AllStand names front × AllStand names back
 stand_parts names [] back all = (tt, all)

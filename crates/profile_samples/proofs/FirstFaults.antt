@@ -1,4 +1,4 @@
--- A profile has one first fault of its samples, want of memory aside.
+-- A profile has one first fault of its samples, `NoMemory` aside.
 use Rattle.std.proofs.lemmas.Grind.{common_steps, same_number_lists}
 use Rattle.std.proofs.Common.{◌≡◌, ◌≢◌, ◌⊎◌, ℕ, ◌+◌, ◌<◌, ◌≤◌, List, ◌∷◌, ◌++◌, length, refl, sym, ap, ◌∙◌, inl, inr}
 use Rattle.std.proofs.Common.{subst, arith}
@@ -66,7 +66,7 @@ one_sample_fault draft first totals number sample fault other named known ha hb 
 
 -- ---- the first sample with a fault
 
--- where one index lies before another, the fault there is want of memory
+-- where one index lies before another, the fault there is `NoMemory`
 earlier_fault : (most : ℕ) (draft : Draft) (choice : ValueChoice) (fault other : BatchFault)
     (a : StandsAtSample most draft choice fault) (b : StandsAtSample most draft choice other) (rest : List Sample)
     → b.before ≡ a.before ++ a.sample ∷ rest → fault ≡ NoMemory

@@ -23,7 +23,7 @@ use Rattle.profile_rows.specs.Merging.{IsStackAt, with_added_at}
 use Rattle.profile_rows.proofs.TextNumbers.{no_text, position_found, shown_at, text_of_number}
 use Rattle.profile_samples.proofs.SampleBatches.{AreStacksOf-same, IsFirstFault-batch}
 
--- a profile that gives rows of one value has no first fault but want of memory
+-- a profile that gives rows of one value has no first fault but `NoMemory`
 no_fault : (draft : Draft) (choice : ValueChoice) (rows : List WeightedStack) (fault : BatchFault)
     → AreStacksOf draft choice rows → IsFirstStacksFault draft choice fault → fault ≡ batch.NoMemory
 no_fault draft choice rows fault this first =

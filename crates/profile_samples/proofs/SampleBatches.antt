@@ -41,7 +41,7 @@ room_in : (value : ℕ) (front : List Row) (row : Row) (back rows : List Row) �
     → total_of (rows_at value rows) < 2 ^ 63 → total_of (rows_at value front) + value_of value row.weights < 2 ^ 63
 room_in value front row back rows cut fits = grind (arith, common_steps, map-append, sum_by-append, sum_by-cons)
 
--- a sample among those of rows within the limit has no fault but want of memory
+-- a sample among those of rows within the limit has no fault but `NoMemory`
 pub faultless_among : (draft : Draft) (first : ℕ) (batch : BatchState) (totals : List ℕ) (number : ℕ)
     (before : List Sample) (sample : Sample) (after : List Sample) (rows : List Row) (fault : BatchFault)
     → AreTotals batch totals → AreRowsOfSamples draft first batch.width before batch.rows
@@ -63,7 +63,7 @@ pub rows_of_choice : (draft : Draft) (choice : ValueChoice) (first width other m
 rows_of_choice draft choice first width other more samples rows one two all =
     grind (arith, common_steps, same_count, same_first)
 
--- a profile that gives a batch has no first fault but want of memory
+-- a profile that gives a batch has no first fault but `NoMemory`
 stands_nowhere : (most : ℕ) (draft : Draft) (choice : ValueChoice) (batch : BatchState) (fault : BatchFault)
     → IsBatchOf draft choice batch → StandsAtSample most draft choice fault → fault ≡ faults.NoMemory
 stands_nowhere most draft choice batch fault this stands = grind (arith, common_steps, faultless_among, rows_of_choice)
@@ -82,7 +82,7 @@ abbrev pub IsNamed : ℕ → Draft → ValueChoice → BatchFault → Type 0
 IsNamed most draft choice fault = ((fault ≡ faults.NoValue) × (chosen_types_of draft choice ≡ None))
     ⊎ (IsTooWide most draft choice fault ⊎ StandsAtSample most draft choice fault)
 
--- a first fault is want of memory or one of these
+-- a first fault is `NoMemory` or one of these
 pub as_named : (most : ℕ) (draft : Draft) (choice : ValueChoice) (fault : BatchFault)
     → fault ≢ faults.NoMemory → IsFirstFault most draft choice fault → IsNamed most draft choice fault
 as_named most draft choice faults.NoValue named h = inl (refl, h)
@@ -92,7 +92,7 @@ as_named most draft choice (faults.Depth at) named h = inr (inr h)
 as_named most draft choice (faults.Heavy at) named h = inr (inr h)
 as_named most draft choice faults.NoMemory named h = absurd (named refl)
 
--- a fault is want of memory or another
+-- a fault is `NoMemory` or another
 pub memory_or_named : (fault : BatchFault) → (fault ≡ faults.NoMemory) ⊎ (fault ≢ faults.NoMemory)
 memory_or_named faults.NoValue = inr (λ e. cc)
 memory_or_named (faults.Width count) = inr (λ e. cc)

@@ -167,7 +167,7 @@ too_deep draft ids fit decides none = grind (arith, common_steps, cases_lt, leng
 
 -- ---- faults of a sample
 
--- a sample that gives a row within the totals has no fault but want of memory
+-- a sample that gives a row within the totals has no fault but `NoMemory`
 pub faultless : (draft : Draft) (first : ℕ) (totals : List ℕ) (number : ℕ) (sample : Sample) (row : Row)
     (fault : BatchFault) → IsRowOfSample draft first (length totals) sample row
     → ((value : ℕ) → value_of value totals + value_of value row.weights < 2 ^ 63)

@@ -70,7 +70,7 @@ abbrev pub IsFirstStacksFault : Draft → ValueChoice → BatchFault → Type 0
 IsFirstStacksFault draft choice fault = IsFirstFault 1 draft choice fault
 
 -- Why work on a profile's rows of one value has no result, once it has begun: a fault stands at a sample, or memory
--- runs out behind the last one.
+-- runs out after the last one.
 abbrev pub IsStacksWorkFault : Draft → ValueChoice → BatchFault → Type 0
 IsStacksWorkFault draft choice fault = StandsAtSample 1 draft choice fault
     ⊎ ((fault ≡ NoMemory) × (rows : List WeightedStack) × AreStacksOf draft choice rows)

@@ -32,7 +32,7 @@ pub fn rows_of_one_value()
         → batch.width ≡ 1 → AreStacksOf draft choice (rows_at 0 batch.rows) }
 {}
 
-/// A profile has at most one first fault of its samples, want of memory aside: by any choice (`batch`), and by one of
+/// A profile has at most one first fault of its samples, `NoMemory` aside: by any choice (`batch`), and by one of
 /// one value (`stacks`).
 pub fn one_first_fault()
     ensures batch { (draft : Draft) (choice : ValueChoice) (one other : BatchFault)

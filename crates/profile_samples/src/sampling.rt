@@ -103,8 +103,8 @@ fn type_by_strings(kinds: &[ValueType], equal: &[bool], text: &str) -> Option<us
         .position(|kind| is_equal_at(equal, kind.kind, text))
 }
 
-/// The first sample type of this name. Many types can name one long string: each string is compared once. Where memory
-/// is wanting, it is compared for each type.
+/// The first sample type of this name. Many types can name one long string: each string is compared once, and for each
+/// type where memory runs out.
 fn type_named(alloc: Global, draft: &Draft, text: &str) -> Option<usize>
     ensures { result ≡ type_named draft.now text.now }
 {

@@ -38,7 +38,7 @@ module _ {X : Type 0} where
       with_item-in at item (xs ++ ys) (omega (arith, lt, size)) ∙ set-append_left xs ys at item lt
       ∙ ap (λ zs. zs ++ ys) (sym (with_item-in at item xs lt))
 
-  -- an item put into the second of two lists, or behind it
+  -- an item put into the second of two lists, or after it
   with_item-right : (at past : ℕ) (item : X) (xs ys : List X)
       → at ≡ length xs + past → with_item at item (xs ++ ys) ≡ xs ++ with_item past item ys
   with_item-right at past item xs ys at_is =
@@ -150,7 +150,7 @@ module _ {X : Type 0} where
         | inr le ↦ absurd (omega (arith, within, at_is, all_few chunks are, mul-le-mul_right size le))
       ]
 
-      -- an item's place in its chunk, or just behind the last
+      -- an item's place in its chunk, or just after the last
       pub place_le : k < length chunks → at ≤ length (joined chunks) → j ≤ length (chunk_at chunks k)
       place_le lt within = elim (cases_lt (k + 1) (length chunks)) [
         | inl more ↦ omega (arith, are.full k more, short)
@@ -163,7 +163,7 @@ module _ {X : Type 0} where
         | inr le ↦ omega (arith, last_chunk chunks k are (omega (arith, le, lt)), within, at_is)
       ]
 
-      -- where there is no such chunk, the place is just behind all
+      -- where there is no such chunk, the place is just after all
       past_all : length chunks ≤ k → length (joined chunks) ≤ at
       past_all le = omega (arith, at_is, all_few chunks are, mul-le-mul_right size le)
 

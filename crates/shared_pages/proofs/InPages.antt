@@ -1,4 +1,4 @@
--- Items on shelves, and the last ones behind them.
+-- Items on shelves, and the last ones after them.
 use Rattle.std.proofs.Common.{◌≡◌, ℕ, suc, ◌+◌, ◌<◌, ◌≤◌, ◌-◌, List, [], ◌∷◌, ◌++◌, length, get_or, take, sym, ap, ◌∙◌}
 use Rattle.std.proofs.Common.{subst, arith, inl, inr}
 use Rattle.std.proofs.Math.ListN.{set}
@@ -23,9 +23,9 @@ module _ {X : Type 0} (shelves : List X) (shelved : ℕ) (last : List X) (len at
       ∙ sym (set-append_left (take shelved shelves) (last) at item (omega (arith, lt, length-first)))
 
   -- one of the last items is replaced
-  pub put_behind : (next : List X) → shelved ≤ at → at < len → next ≡ with_item (at - shelved) item (last)
+  pub put_after : (next : List X) → shelved ≤ at → at < len → next ≡ with_item (at - shelved) item (last)
       → take shelved shelves ++ next ≡ set (take shelved shelves ++ last) at item
-  put_behind next past within next_is =
+  put_after next past within next_is =
       ap (λ list. take shelved shelves ++ list)
       (next_is ∙ with_item-in (at - shelved) item (last) (omega (arith, past, within, are.count)))
       ∙ sym (set-append_right (take shelved shelves) (last) shelved at item length-first past)

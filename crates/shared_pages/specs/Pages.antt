@@ -17,7 +17,7 @@ module _ {X : Type 0} where
   abbrev pub items_in : List (List (List X)) → List X
   items_in groups = joined (map joined groups)
 
-  -- the list with an item at a place: in place of the one there, or behind the last
+  -- the list with an item at a place: in place of the one there, or after the last
   abbrev pub with_item : ℕ → X → List X → List X
   with_item at item list = if nat_lt at (length list) then slice_set list at item else list ++ item ∷ []
 
@@ -39,7 +39,7 @@ module _ {X : Type 0} where
     pub shelves : AreChunks 65536 all
 
   -- a list, of which some items stand on shelves, perhaps before others that don't count, and the last ones, 64 at
-  -- most, behind them
+  -- most, after them
   pub record IsInPages (shelves : List X) (shelved : ℕ) (last : List X) (len : ℕ) : Type 0 where
     pub within : shelved ≤ length shelves
     pub count : len ≡ shelved + length last

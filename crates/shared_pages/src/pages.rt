@@ -226,7 +226,7 @@ fn shelve_full<T: Clone + Drop>(
     Ok(len)
 }
 
-/// Puts an item on shelves, in place of another or behind the last. Their table is copied before where it has other
+/// Puts an item on shelves, in place of another or after the last. Their table is copied before where it has other
 /// owners.
 fn put_shelved<T: Clone + Drop>(
     shelves: &mut Arc<Shelves<T>>,

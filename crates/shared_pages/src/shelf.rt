@@ -58,7 +58,7 @@ impl<T> Shelf<T> {
 }
 
 impl<T: Clone + Drop> Shelf<T> {
-    /// Puts an item in place of another, or behind the last. What other owners hold stays.
+    /// Puts an item in place of another, or after the last. What other owners hold stays.
     pub(crate) fn put(&mut self, at: usize, item: T) -> Result<(), AllocError>
         requires exact { (x y : T) → T.is_clone x y → y ≡ x }
         requires within { at ≤ length self.old }
@@ -90,7 +90,7 @@ impl<T: Drop> Clone for Shelf<T> {
     }
 }
 
-/// Puts an item at its place in its group, or in a new group behind the last.
+/// Puts an item at its place in its group, or in a new group after the last.
 fn put_in_groups<T: Clone + Drop>(
     alloc: Global,
     groups: &mut Vec<Arc<Vec<Arc<Vec<T>>>>>,
@@ -167,7 +167,7 @@ pub(crate) fn copy_of<T: Clone + Drop>(
     Ok(copy)
 }
 
-/// Puts an item at its place in its page, which is copied before where it has other owners, or in a new page behind
+/// Puts an item at its place in its page, which is copied before where it has other owners, or in a new page after
 /// the last.
 fn put_in_pages<T: Clone + Drop>(
     alloc: Global,
@@ -194,7 +194,7 @@ fn put_in_pages<T: Clone + Drop>(
     Ok(())
 }
 
-/// Puts an item at its place in a page: in place of another, or behind the last.
+/// Puts an item at its place in a page: in place of another, or after the last.
 pub(crate) fn put_in_page<T: Drop>(page: &mut Vec<T>, at: usize, item: T) -> Result<(), AllocError>
     requires { at ≤ length page.old.items }
     ensures ok { OnOk result (page.new.items ≡ with_item at item page.old.items) }

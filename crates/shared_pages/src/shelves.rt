@@ -69,7 +69,7 @@ impl<T: Drop> Clone for Shelves<T> {
 }
 
 impl<T: Clone + Drop> Shelves<T> {
-    /// Puts an item in place of another, or behind the last. What other owners hold stays.
+    /// Puts an item in place of another, or after the last. What other owners hold stays.
     pub(crate) fn put(&mut self, at: usize, item: T) -> Result<(), AllocError>
         requires exact { (x y : T) → T.is_clone x y → y ≡ x }
         requires within { at ≤ length self.old }
@@ -87,7 +87,7 @@ impl<T: Clone + Drop> Shelves<T> {
     }
 }
 
-/// Puts an item at its place on its shelf, or on a new shelf behind the last.
+/// Puts an item at its place on its shelf, or on a new shelf after the last.
 fn put_on_shelves<T: Clone + Drop>(
     alloc: Global,
     shelves: &mut Vec<Arc<Shelf<T>>>,

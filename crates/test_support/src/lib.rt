@@ -27,7 +27,7 @@ pub fn expect_text(made: Result<String, Fail>, wanted: &str) -> Result<(), Fail>
 ///
 /// # Errors
 ///
-/// A test's failure: want of memory, or both texts.
+/// A test's failure: no memory, or both texts.
 pub fn expect_printed<D: Display>(alloc: Global, value: &D, wanted: &str) -> Result<(), Fail>
     ensures { OnOk result (IfSome (D.output value.now) (λ printed. printed ≡ wanted.now)) }
 {

@@ -47,8 +47,8 @@ impl Book {
     ///
     /// # Errors
     ///
-    /// The first [`BookFault`]: memory is wanting only where there is no other. The book is then as it was, and the
-    /// batch is handed back.
+    /// The first [`BookFault`]: `NoMemory` only where there is no other. The book is then as it was, and the batch is
+    /// handed back.
     pub fn add(
         &mut self,
         alloc: Global,
@@ -81,8 +81,8 @@ impl Book {
     ///
     /// # Errors
     ///
-    /// The first [`BookFault`], which is neither `Width` nor `Heavy`: memory is wanting only where there is no other.
-    /// The book is then as it was.
+    /// The first [`BookFault`], which is neither `Width` nor `Heavy`: `NoMemory` only where there is no other. The book
+    /// is then as it was.
     pub fn reset(&mut self, alloc: Global, session: u32, turn: u64) -> Result<Receipt, BookFault>
         ensures appended { OnOk result (IsAppended self.old session turn reset self.new) }
         ensures receipt { IfOk result (λ receipt. receipt ≡ receipt_after self.old.entries reset) }
@@ -152,8 +152,8 @@ impl Book {
         receipt
     }
 
-    /// Adds the rows of a batch. All memory for the journal is taken before the tree grows, and the entry is made after
-    /// it, so that a change that is refused shows in neither.
+    /// Adds the rows of a batch. All memory for the journal is taken, and the entry made, before the tree grows, so that
+    /// a change that is refused shows in neither.
     fn add_rows(
         &mut self,
         alloc: Global,

@@ -26,9 +26,9 @@ last_back {A = A} from values item is =
     (subst (λ (x : A). Takes (SetsNumber from) (from 0) (map varint is.numbers) x)
     (sym is.last) (last_back_from from 0 is.numbers))
 
--- the rest is appended behind what comes first
-behind : {A : Type 0} (old first rest new : List A) → new ≡ old ++ (first ++ rest) → new ≡ (old ++ first) ++ rest
-behind old first rest new same = same ∙ sym (append_assoc old first rest)
+-- the rest is appended after what comes first
+after : {A : Type 0} (old first rest new : List A) → new ≡ old ++ (first ++ rest) → new ≡ (old ++ first) ++ rest
+after old first rest new same = same ∙ sym (append_assoc old first rest)
 
 numbers_back_from : {A : Type 0}
     (from : ℕ → A) (old : List A) (values : List FieldValue) (numbers : List (List ℕ)) (new : List A)
@@ -44,7 +44,7 @@ numbers_back_from {A = A} from old (varint number ∷ values) (part ∷ numbers)
       old ++ from number ∷ [],
       refl,
       numbers_back_from from (old ++ from number ∷ []) values numbers new others
-          (behind old (from number ∷ []) (map from rest) new joined),
+          (after old (from number ∷ []) (map from rest) new joined),
     )
 numbers_back_from from old (fixed64 number ∷ values) (part ∷ numbers) new paired same = absurd paired.0
 numbers_back_from from old (fixed32 number ∷ values) (part ∷ numbers) new paired same = absurd paired.0
@@ -55,7 +55,7 @@ numbers_back_from {A = A} from old (content bytes ∷ values) (part ∷ numbers)
       old ++ map from part,
       record { numbers = part; listed = here; appended = refl },
       numbers_back_from from
-          (old ++ map from part) values numbers new others (behind old (map from part) (map from rest) new joined),
+          (old ++ map from part) values numbers new others (after old (map from part) (map from rest) new joined),
     )
 
 pub all_numbers_back : {A : Type 0} (from : ℕ → A) (values : List FieldValue) (items : List A)
@@ -69,7 +69,7 @@ texts_back_from old [] new utf8 same = same ∙ append-nil old
 texts_back_from old (text ∷ texts) new utf8 same = (
   old ++ text ∷ [],
   (utf8.0, refl),
-  texts_back_from (old ++ text ∷ []) texts new utf8.1 (behind old (text ∷ []) texts new same),
+  texts_back_from (old ++ text ∷ []) texts new utf8.1 (after old (text ∷ []) texts new same),
 )
 
 pub all_texts_back : (values : List FieldValue) (texts : List (List ℕ))
@@ -104,7 +104,7 @@ messages_back_from table empty Is back old (content bytes ∷ values) (list ∷ 
         appended = refl;
       },
       messages_back_from table empty Is back
-          (old ++ item ∷ []) values lists items new listed.1 each.1 (behind old (item ∷ []) items new same),
+          (old ++ item ∷ []) values lists items new listed.1 each.1 (after old (item ∷ []) items new same),
     )
 
 pub all_messages_back : {M : Type 0} (table : Table M) (empty : M) (Is : List PlainField → M → Type 0)

@@ -53,12 +53,12 @@ all_numbers from old (fixed64 number ∷ values) new (next, step, more) = absurd
 all_numbers from old (fixed32 number ∷ values) new (next, step, more) = absurd cc
 all_numbers {A = A} from old (content bytes ∷ values) new (next, step, more) =
     let rest = all_numbers from next values new more in
-    let behind = flat_map (λ part. part) rest.0 in (
+    let after = flat_map (λ part. part) rest.0 in (
       step.numbers ∷ rest.0,
       (step.listed, rest.1),
-      rest.2 ∙ ap (λ (xs : List A). xs ++ map from behind) step.appended
-          ∙ append_assoc old (map from step.numbers) (map from behind)
-          ∙ ap (λ (xs : List A). old ++ xs) (sym (map_joined from step.numbers behind)),
+      rest.2 ∙ ap (λ (xs : List A). xs ++ map from after) step.appended
+          ∙ append_assoc old (map from step.numbers) (map from after)
+          ∙ ap (λ (xs : List A). old ++ xs) (sym (map_joined from step.numbers after)),
     )
 
 pub are_all_numbers : {A : Type 0} (from : ℕ → A) (values : List FieldValue) (new : List A)
@@ -100,12 +100,12 @@ all_messages table empty Is by old (varint number ∷ values) new (next, step, m
 all_messages table empty Is by old (fixed64 number ∷ values) new (next, step, more) = absurd cc
 all_messages table empty Is by old (fixed32 number ∷ values) new (next, step, more) = absurd cc
 all_messages {M = M} table empty Is by old (content bytes ∷ values) new (next, step, more) =
-    let (lists, items, listed, each, behind) = all_messages table empty Is by next values new more in (
+    let (lists, items, listed, each, after) = all_messages table empty Is by next values new more in (
       step.spelled.fields ∷ lists,
       step.item ∷ items,
       (step.spelled.listed, listed),
       (by step.spelled.fields step.item step.spelled.gathered, each),
-      behind ∙ ap (λ (xs : List M). xs ++ items) step.appended ∙ append_assoc old (step.item ∷ []) items,
+      after ∙ ap (λ (xs : List M). xs ++ items) step.appended ∙ append_assoc old (step.item ∷ []) items,
     )
 
 pub are_all_messages : {M : Type 0} (table : Table M) (empty : M) (Is : List PlainField → M → Type 0)

@@ -1,4 +1,4 @@
--- The law of sorted top lists, by all names in their order: the chosen ones and, behind them, those left out.
+-- The law of sorted top lists, by all names in their order: the chosen ones and, after them, those left out.
 use Rattle.std.proofs.Common.{◌∙◌}
 use Rattle.profile_rows.specs.TopList.{top_cmp}
 use Rattle.flame_report.specs.Answers.{ranking_of}

@@ -1,4 +1,4 @@
--- Where the first semicolon stands, the pieces are what stands before it, and those behind it.
+-- Where the first semicolon stands, the pieces are what stands before it, and those after it.
 use Rattle.std.specs.List.{after_first, before_first, position_or_len, slice_split}
 use Rattle.std.proofs.lemmas.List.Sums.{position_or_len_is}
 use Rattle.std.proofs.lemmas.List.Splits.{slice_split_first}

@@ -1,4 +1,4 @@
--- Equal chunks leave the order to what is behind them.
+-- Equal chunks leave the order to what is after them.
 use Rattle.std.proofs.lemmas.Grind.{common_steps}
 use Rattle.std.proofs.Common.{arith}
 use Rattle.profile_rows.proofs.SameNames.{same_from_is_same_name}

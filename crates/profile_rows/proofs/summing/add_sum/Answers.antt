@@ -1,4 +1,4 @@
--- The row stands behind the last, or the last weighs more.
+-- The row stands after the last, or the last weighs more.
 use Rattle.std.proofs.Common.{rules}
 use Rattle.profile_rows.proofs.PuttingTogether.{AreUpTo-push, AreWeighty-push, IsAscending-push}
 use Rattle.profile_rows.proofs.summing.add_sum.Goals as goal

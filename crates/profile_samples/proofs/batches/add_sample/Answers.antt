@@ -1,4 +1,4 @@
--- A sample with a value below 0, one that is too deep, one that is too heavy, and want of memory at one that fits.
+-- A sample with a value below 0, one that is too deep, one that is too heavy, and `NoMemory` at one that fits.
 use Rattle.std.proofs.Common.{refl, sym, ◌∙◌}
 use Rattle.std.proofs.lemmas.Result.{err_from_is_err_and}
 use Rattle.profile_samples.proofs.SampleRows.{fits_in, IsSampleFault-heavy, IsSampleFault-memory}

@@ -1,4 +1,4 @@
--- The samples before stand where they stood, and the new one behind them.
+-- The samples before stand where they stood, and the new one after them.
 use Rattle.std.proofs.Common.{◌∙◌, ◌++◌, ◌∷◌, [], Result, Ok, Err, OnErr, ap, map, subst, All, sym}
 use Rattle.std.proofs.lemmas.List.{map-append}
 use Rattle.std.proofs.lemmas.List.Elements.{All-push, All-weaker}

@@ -1,4 +1,4 @@
--- A row more: its first value goes with its stack, the others behind those of the rows before.
+-- A row more: its first value goes with its stack, the others after those of the rows before.
 use Rattle.std.proofs.Common.{arith, ◌≡◌, ℕ, [], ◌∷◌, ◌++◌, ap, sym, ◌∙◌, length, drop, subst}
 use Rattle.profile_rows.specs.Values.{AreParts, BatchState, HasRoom, batch_with, value_of}
 use Rattle.profile_rows.proofs.RowValues.{batch_with-push, pushed-AreParts}

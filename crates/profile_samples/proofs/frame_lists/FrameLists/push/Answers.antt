@@ -1,4 +1,4 @@
--- The lists before stand where they stood, and the new one behind them.
+-- The lists before stand where they stood, and the new one after them.
 use Rattle.std.proofs.lemmas.Grind.{common_steps}
 use Rattle.std.proofs.Common.{arith, length, max}
 use Rattle.std.proofs.lemmas.List.{map-append}

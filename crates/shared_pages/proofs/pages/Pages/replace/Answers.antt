@@ -4,7 +4,7 @@ use Rattle.std.proofs.lemmas.List.{length-append, length-take-le}
 use Rattle.std.proofs.lemmas.Result.{on_ok_weaker}
 use Rattle.std.specs.Arc.{arc_value}
 use Rattle.shared_pages.specs.Pages.{last_items}
-use Rattle.shared_pages.proofs.InPages.{put_first, put_behind}
+use Rattle.shared_pages.proofs.InPages.{put_first, put_after}
 use Rattle.shared_pages.proofs.pages.Pages.replace.Goals as goal
 
 pub returns-then-at-self-clause-ok : goal.returns-then-at-self-clause-ok
@@ -31,7 +31,7 @@ returns-else-at-self-clause-ok g c =
       c.self.invariant.count,
     ) in
     on_ok_weaker c.put_last.result
-    (λ e. put_behind (arc_value inside.shelves) inside.shelved
+    (λ e. put_after (arc_value inside.shelves) inside.shelved
     (last_items inside.last) inside.len c.args.at c.args.item c.self.invariant
     (last_items c.put_last.new.last) (omega (arith, c.if-at-self.false)) short e
     ∙ ap (λ all. set all c.args.at c.args.item) c.self.view_is)

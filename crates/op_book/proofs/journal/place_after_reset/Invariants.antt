@@ -1,7 +1,7 @@
 use Rattle.std.proofs.Common.{◌≡◌, take}
 use Rattle.op_book.specs.Operations.{counting_from, operations_of}
-use Rattle.op_book.proofs.journal.place_behind_reset.Given as goal
+use Rattle.op_book.proofs.journal.place_after_reset.Given as goal
 
 -- where counting begins after the entries so far
 abbrev pub invariant-loop-place : goal.invariant-loop-place
-invariant-loop-place l = l.behind ≡ counting_from (operations_of (take l.place l.entries))
+invariant-loop-place l = l.after ≡ counting_from (operations_of (take l.place l.entries))

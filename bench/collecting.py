@@ -1,8 +1,8 @@
 """Measures `collect` beside the same in careful Rust: python3 bench/collecting.py FILE [TIMES] [ROUNDS]
 
-Four named pipes bring the file, folded text, so many times each. For each of them, in turn, it prints the least of some
-rounds: seconds by the wall, processor seconds of user and kernel mode, and peak memory; then the ratios. Where `flame`
-takes so much, `cat` and `flame fold` on the same pipes stand beside them. It needs `out/collect`, `out/flame` and rustc.
+Four named pipes bring the file, folded text, so many times each. For both, in turn, it prints the least of some rounds:
+seconds by the wall, processor seconds of user and kernel mode, and peak memory; then the ratios. Where `flame` takes so
+much, `cat` and `flame fold` on the same pipes stand beside them. It needs `out/collect`, `out/flame` and rustc.
 """
 import os
 import pathlib
@@ -58,7 +58,8 @@ def main(file, times=1, rounds=5):
                 least[name] = min(least.get(name, took), took, key=lambda it: it[1] + it[2])
     ours = least["collect"]
     for name, (wall, user, kernel, memory) in least.items():
-        print(f"{name}: {wall:.2f} s, {size / wall / 1e6:.0f} MB/s, {user:.2f} + {kernel:.2f} s of processor, {memory} KB")
+        rate = size / wall / 1e6
+        print(f"{name}: {wall:.2f} s, {rate:.0f} MB/s, {user:.2f} + {kernel:.2f} s of processor, {memory} KB")
         if name != "collect":
             print(f"  `collect` takes {ours[0] / wall:.2f} of it by the wall, "
                   f"{(ours[1] + ours[2]) / (user + kernel):.2f} of processor time")

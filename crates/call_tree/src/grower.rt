@@ -148,9 +148,9 @@ impl Grower {
         })
     }
 
-    /// Adds the rows of a batch, as wide as the tree. By each value its total and the tree's are together at most
-    /// [`profile_rows::MAX_TOTAL`]. A row alone, of one value, changes pages that nobody else owns in place, so that an
-    /// addition copies none where the tree was never shared.
+    /// Adds the rows of a batch, of as many values as the tree has. By each value its total and the tree's are together
+    /// at most [`profile_rows::MAX_TOTAL`]. A row alone, of one value, changes pages that nobody else owns in place, so
+    /// that an addition copies none where the tree was never shared.
     ///
     /// # Errors
     ///
@@ -172,8 +172,8 @@ impl Grower {
         Ok(())
     }
 
-    /// Makes room for the rows of a batch, as wide as the tree. By each value its total and the tree's are together at
-    /// most [`profile_rows::MAX_TOTAL`]. Each stack keeps its weights, also where the plan is refused.
+    /// Makes room for the rows of a batch, of as many values as the tree has. By each value its total and the tree's
+    /// are together at most [`profile_rows::MAX_TOTAL`]. Each stack keeps its weights, also where the plan is refused.
     ///
     /// # Errors
     ///
@@ -195,8 +195,8 @@ impl Grower {
         planned
     }
 
-    /// This grower with the rows of a batch in its tree, as wide as the tree. By each value its total and the tree's
-    /// are together at most [`profile_rows::MAX_TOTAL`]. Pages that nobody else owns change in place, so that an
+    /// This grower with the rows of a batch in its tree, of as many values as it has. By each value its total and the
+    /// tree's are together at most [`profile_rows::MAX_TOTAL`]. Pages that nobody else owns change in place, so that an
     /// addition copies none where the tree was never shared.
     ///
     /// # Errors

@@ -7,7 +7,7 @@ use crate::name::StoreName;
 use crate::reached::Reached;
 use std::marker::{Model, PhantomData};
 
-/// A list of changes that the history of a store has reached: a beginning of all later ones. Contracts see it as the
+/// A list of changes that the history of a store has reached: a prefix of all later ones. Contracts see it as the
 /// list of entries; what is kept is how many they are.
 #[derive(Drop)]
 pub struct Front<N: StoreName> {
@@ -67,7 +67,7 @@ impl<N: StoreName> Front<N> {
         }
     }
 
-    /// The longer of two lists, which begins with the other: both are beginnings of one history.
+    /// The longer of two lists, which begins with the other: both are prefixes of one history.
     pub fn longer(&self, other: &Front<N>) -> Front<N>
         ensures other { length self.now < length other.now → result ≡ other.now }
         ensures same { length other.now ≤ length self.now → result ≡ self.now }

@@ -33,6 +33,6 @@ LeavesAfterFault limit unread left Read = TakesAtMost limit unread left
 LeavesAfterFault limit unread left TooLong = TakesExactly (limit + 1) unread left
 LeavesAfterFault limit unread left NoMemory = TakesAtMost limit unread left
 
--- a beginning of the text was appended
+-- a prefix of the text was appended
 abbrev pub AppendsBeginning : Option (List ℕ) → Option (List ℕ) → List ℕ → Type 0
 AppendsBeginning before after text = (count : ℕ) × (count ≤ length text) × Appends before after (take count text)

@@ -96,8 +96,8 @@ fn read_part<R: Read>(
 ///
 /// # Errors
 ///
-/// Any error of a write or of the flush, also where a write was interrupted, and a write that takes no byte. A
-/// beginning of the text was then written.
+/// Any error of a write or of the flush, also where a write was interrupted, and a write that takes no byte. A prefix
+/// of the text was then written.
 pub fn write_text<W: Write>(writer: &mut W, text: &[u8]) -> Result<(), WriteFault>
     ensures done { OnOk result (Appends (W.contents writer.old) (W.contents writer.new) text.now) }
     ensures cut { OnErr result (AppendsBeginning (W.contents writer.old) (W.contents writer.new) text.now) }

@@ -36,7 +36,7 @@ abbrev pub IsDone : List (List ℕ) → ℕ → Option (List ℕ) → Option (Li
 IsDone words limit unread left before after =
     (text : List ℕ) × IsAnswered words limit unread left text × Appends before after text
 
--- a beginning of the report was written
+-- a prefix of the report was written
 abbrev pub IsCut : List (List ℕ) → ℕ → Option (List ℕ) → Option (List ℕ) → Option (List ℕ)
     → Option (List ℕ) → Type 0
 IsCut words limit unread left before after =

@@ -46,7 +46,7 @@ pub fn run<'a, T: Threads + Wait + RandomSource + Sync, P: Progress, R: Read, W:
         → IsRefused (texts_of words.entry.now) ⊎ (IsMisnamed (texts_of words.entry.now)
         ⊎ IsCrowded (texts_of words.entry.now)) }
     ensures unasked { request_of (texts_of words.entry.now) ≡ None → result.code ≢ 4 → result.code ≡ 2 }
-    // Nothing is written, but at 0 and at a fault of writing: then a beginning of the report.
+    // Nothing is written, but at 0 and at a fault of writing: then a prefix of the report.
     ensures silent { result.code ≢ 0 → result.cause ≢ Outcome.Fault ToolFault.Write
         → Keeps (W.contents writer.old) (W.contents writer.new) }
     ensures cut { result.cause ≡ Outcome.Fault ToolFault.Write → IsCut (texts_of words.entry.now) limit

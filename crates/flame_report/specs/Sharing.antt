@@ -42,11 +42,11 @@ pub record IsPlan (plan : Plan) : Type 0 where
   pub shapes : AreShapes plan.shapes.items plan.rows.now
   pub fits : total_of plan.rows.now < 2 ^ 63
 
--- the weight of the rows before an index whose stacks are beginnings of the path: their own weight lies right of it
+-- the weight of the rows before an index whose stacks are prefixes of the path: their own weight lies right of it
 abbrev pub held_weight : List WeightedStack → ℕ → List (List ℕ) → ℕ
 held_weight rows n path = weight_where (λ stack. begins_with name_cmp stack path) (take n rows)
 
--- for each path of the last row before an index, the weight of the rows before it that are beginnings of it
+-- for each path of the last row before an index, the weight of the rows before it that are prefixes of it
 abbrev pub AreHeld : List ℕ → List WeightedStack → ℕ → Type 0
 AreHeld held rows zero = ⊤
 AreHeld held rows (suc n) = (length held ≡ length (stack_at rows n) + 1)

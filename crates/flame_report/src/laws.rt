@@ -63,7 +63,7 @@ pub fn columns_keep_order()
 {}
 
 /// The rectangles have that of every path that takes a column, and with a path's rectangle that of each of its
-/// beginnings.
+/// prefixes.
 pub fn parents_are_shown()
     ensures shown { (columns : ℕ) (rows : List WeightedStack) (path : List (List ℕ))
         → is_shown (rectangle_at columns rows path) ≡ true

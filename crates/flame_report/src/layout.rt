@@ -203,7 +203,7 @@ impl<'a> Plan<'a> {
         Ok(())
     }
 
-    /// The weight of the rows so far that are beginnings of a row.
+    /// The weight of the rows so far that are prefixes of a row.
     fn held_above(&self, held: &[u64], at: usize) -> u64
         requires plan { IsPlan self.now }
         requires at { at < length self.now.rows.now }
@@ -214,7 +214,7 @@ impl<'a> Plan<'a> {
         if known == 0 { 0 } else { held[known - 1] }
     }
 
-    /// Keeps, for each path of a row, the weight of the rows so far that are beginnings of it.
+    /// Keeps, for each path of a row, the weight of the rows so far that are prefixes of it.
     fn hold(&self, held: &mut Vec<u64>, at: usize, above: u64) -> Result<(), AllocError>
         requires plan { IsPlan self.now }
         requires at { at < length self.now.rows.now }

@@ -69,7 +69,7 @@ Examples:
   $ gunzip -c cpu.pb.gz | flame top --format pprof --by cum --count 10 --focus main.work";
 
 pub const AFTER_FLAME: &str = "\
-As flamegraph.pl draws it: a rectangle for each beginning of a stack that is a column wide or
+As flamegraph.pl draws it: a rectangle for each prefix of a stack that is a column wide or
 more, siblings in the order of names, from the left edge of what they stand on. depth is how many
 frames it has, x and weight where it starts and how wide it is in the input's unit, left and right
 the columns that it takes.

@@ -22,7 +22,7 @@ IsSound session seen receipt = MatchBool (is_change receipt.op) (HasEntry seen s
     ((receipt.at ≤ length seen)
     × (receipt.reply ≡ plain_answer (operations_of (take receipt.at seen)) receipt.op))
 
--- the changes that a session knows of bear out its log: its own changes are a beginning of those of its number, each
+-- the changes that a session knows of bear out its log: its own changes are a prefix of those of its number, each
 -- change stands at its place, each report is the plain answer at its place, and the keys rise
 pub record IsBorneOut (session : ℕ) (log : List PlainReceipt) (seen : List PlainEntry) : Type 0 where
   pub own : IsPrefix (changes_of log) (changes_by session seen)

@@ -150,8 +150,9 @@ impl<'a, N: StoreName> Session<'a, N> {
     }
 
     /// Empties the profile as [`reset`](Session::reset) does, and gives the tree of what it held at that very place:
-    /// the additions since the reset before. It is one event, so each addition is in exactly one such window. The tree
-    /// is shared, not copied. Reports are made over it without the lock, and on any thread.
+    /// the additions since the reset before. It is one event: where nobody else calls `reset`, each addition is in
+    /// exactly one such window. The tree is shared, not copied. Reports are made over it without the lock, and on any
+    /// thread.
     ///
     /// # Errors
     ///

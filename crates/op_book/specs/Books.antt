@@ -111,6 +111,15 @@ pub record IsTaken (book : BookState) (session turn : ℕ) (op : PlainOp) : Type
   pub width : FitsWidth book.width op
   pub fits : (value : ℕ) → HasRoomFor book op value
 
+-- a change was made as the turn of a session: the book could take it, its entry is the journal's last, and this receipt
+-- tells of it
+pub record IsMade (before : BookState) (session turn : ℕ) (op : PlainOp) (after : BookState)
+    (receipt : PlainReceipt) : Type 0 where
+  pub taken : IsTaken before session turn op
+  pub appended : IsAppended before session turn op after
+  pub receipt_is : receipt ≡ receipt_after before.entries op
+  pub told : receipt ≡ change_told op (length before.entries)
+
 -- the limit of this value, the lowest such, keeps the book from the operation
 pub record IsHeavyFor (book : BookState) (op : PlainOp) (value held : ℕ) : Type 0 where
   pub width : FitsWidth book.width op

@@ -17,13 +17,13 @@ newcomer = record { known = None }
 abbrev pub knower : KnownVersion → View
 knower version = record { known = Some version }
 
--- the version shown is of the history that the view knows of, has its list and more, and rows as wide
+-- the version shown is of the history that the view knows of, has its list and more, and rows of as many values
 abbrev pub Covers : KnownVersion → View → Type 0
 Covers version view = IfSome view.known (λ known. (version.seen.book ≡ known.seen.book)
     × (version.width ≡ known.width)
     × IsPrefix known.seen.log version.seen.log)
 
--- whoever knows of a version knows a beginning of the list of the one that is shown
+-- whoever knows of a version knows a prefix of the list of the one that is shown
 abbrev pub Keeps : KnownVersion → List View → Type 0
 Keeps version views = (seat : ℕ) (view : View) → get_elem? views seat ≡ some view → Covers version view
 

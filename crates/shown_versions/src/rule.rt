@@ -32,7 +32,7 @@ pub struct View {
     pub known: Option<KnownVersion>,
 }
 
-/// The rule of what is shown: whoever knows of a version knows a beginning of the list of the one that is shown.
+/// The rule of what is shown: whoever knows of a version knows a prefix of the list of the one that is shown.
 pub struct Published;
 
 impl Protocol<Version, View> for Published {

@@ -9,7 +9,7 @@ use profile_store::{
 use std::alloc::{AllocError, Global};
 
 /// `profile`: the canonical bytes of the profile, or its fault. `profile around`: its bytes with another sample.
-/// `profile each cut`, `profile each bit`: what its beginnings answer, and what it answers with one bit changed.
+/// `profile each cut`, `profile each bit`: what its prefixes answer, and what it answers with one bit changed.
 pub(crate) fn read_profile(words: Words, input: &[u8], made: &mut Vec<u8>) -> Result<(), Wrong> {
     if words.has("each") {
         return try_each(words, input, made);

@@ -3,7 +3,7 @@
 ghost use Rattle.std.specs.Prelude.{◌≡◌, ◌≢◌, ◌+◌, ◌<◌, ◌^◌, ℕ, length, IfErr, IfOk, OnErr, OnOk};
 ghost use Rattle.std.specs.Arc.{arc_value};
 ghost use Rattle.call_tree.specs.State.{total_in, weights_of};
-ghost use Rattle.op_book.specs.Books.{HasSpaceFor, IsAppended, IsFirstBookFault, IsOrderly, IsReplay, IsSameBook, IsSpaceFault, IsTaken, IsTreeAfter, change_told, receipt_after};
+ghost use Rattle.op_book.specs.Books.{HasSpaceFor, IsFirstBookFault, IsMade, IsOrderly, IsReplay, IsSameBook, IsSpaceFault, IsTaken, IsTreeAfter, change_told};
 ghost use Rattle.op_book.specs.Changes.{change_op};
 ghost use Rattle.op_book.specs.Operations.{add, placed, plain_op, reset};
 ghost use Rattle.profile_rows.specs.Rows.{total_of};
@@ -56,11 +56,7 @@ impl Book {
         turn: u64,
         batch: Arc<Batch>,
     ) -> Result<Receipt, Refused<Arc<Batch>>>
-        ensures appended { OnOk result (IsAppended self.old session turn (add (arc_value batch)) self.new) }
-        ensures receipt { IfOk result (λ receipt. receipt ≡ receipt_after self.old.entries (add (arc_value batch))) }
-        ensures told { IfOk result
-            (λ receipt. receipt ≡ change_told (add (arc_value batch)) (length self.old.entries)) }
-        ensures taken { OnOk result (IsTaken self.old session turn (add (arc_value batch))) }
+        ensures made { IfOk result (IsMade self.old session turn (add (arc_value batch)) self.new) }
         ensures unchanged { OnErr result (IsSameBook self.old self.new) }
         ensures back { IfErr result (λ refused. refused.back ≡ batch) }
         ensures first_fault { IfErr result
@@ -84,10 +80,7 @@ impl Book {
     /// The first [`BookFault`], which is neither `Width` nor `Heavy`: `NoMemory` only where there is no other. The book
     /// is then as it was.
     pub fn reset(&mut self, alloc: Global, session: u32, turn: u64) -> Result<Receipt, BookFault>
-        ensures appended { OnOk result (IsAppended self.old session turn reset self.new) }
-        ensures receipt { IfOk result (λ receipt. receipt ≡ receipt_after self.old.entries reset) }
-        ensures told { IfOk result (λ receipt. receipt ≡ change_told reset (length self.old.entries)) }
-        ensures taken { OnOk result (IsTaken self.old session turn reset) }
+        ensures made { IfOk result (IsMade self.old session turn reset self.new) }
         ensures unchanged { OnErr result (IsSameBook self.old self.new) }
         ensures first_fault { IfErr result (λ fault. IsFirstBookFault self.old session turn reset fault) }
         ensures light { IfErr result (λ fault. (value held : ℕ) → fault ≢ BookFault.Heavy value held) }
@@ -132,10 +125,7 @@ impl Book {
     /// the receipt tells. Takes no memory.
     pub fn settle(&mut self, ready: Ready) -> Receipt
         requires { ready.before ≡ self.old }
-        ensures appended { IsAppended self.old ready.session ready.turn ready.op self.new }
-        ensures receipt { result ≡ receipt_after self.old.entries ready.op }
-        ensures told { result ≡ change_told ready.op (length self.old.entries) }
-        ensures taken { IsTaken self.old ready.session ready.turn ready.op }
+        ensures made { IsMade self.old ready.session ready.turn ready.op self.new result }
         ensures tree { self.new.tree ≡ ready.next }
         ensures replay { IsReplay self.new.entries self.new.tree }
         ensures orderly { IsOrderly self.new }
@@ -152,8 +142,8 @@ impl Book {
         receipt
     }
 
-    /// Adds the rows of a batch. All memory for the journal is taken, and the entry made, before the tree grows, so that
-    /// a change that is refused shows in neither.
+    /// Adds the rows of a batch. All memory for the journal is taken, and the entry made, before the tree grows, so
+    /// that a change that is refused shows in neither.
     fn add_rows(
         &mut self,
         alloc: Global,
@@ -161,12 +151,7 @@ impl Book {
         turn: u64,
         batch: &Arc<Batch>,
     ) -> Result<Receipt, BookFault>
-        ensures appended { OnOk result (IsAppended self.old session turn (add (arc_value batch.now)) self.new) }
-        ensures receipt { IfOk result
-            (λ receipt. receipt ≡ receipt_after self.old.entries (add (arc_value batch.now))) }
-        ensures told { IfOk result
-            (λ receipt. receipt ≡ change_told (add (arc_value batch.now)) (length self.old.entries)) }
-        ensures taken { OnOk result (IsTaken self.old session turn (add (arc_value batch.now))) }
+        ensures made { IfOk result (IsMade self.old session turn (add (arc_value batch.now)) self.new) }
         ensures unchanged { OnErr result (IsSameBook self.old self.new) }
         ensures first_fault { IfErr result
             (λ fault. IsFirstBookFault self.old session turn (add (arc_value batch.now)) fault) }

@@ -16,9 +16,9 @@ returns-clause-changed g c =
     let turn = changes_told log in
     let next = c.requires.next in
     let op = c.args.ready.op in
-    let place_is = c.keep_change-place.ensures.placed ∙ ap (λ (r : PlainReceipt). r.at) c.settle-receipt.ensures.told in
-    let reply =
-    ap (λ (r : PlainReceipt). r.reply) (sym c.settle-receipt.ensures.receipt ∙ c.settle-receipt.ensures.told) in
+    let settled = c.settle-receipt.ensures.made in
+    let place_is = c.keep_change-place.ensures.placed ∙ ap (λ (r : PlainReceipt). r.at) settled.told in
+    let reply = ap (λ (r : PlainReceipt). r.reply) (sym settled.receipt_is ∙ settled.told) in
     let made : entry_made c.args.ready ≡ entry_after entries n turn op =
     λ i. entry_after (next.before i).entries (next.mine i) (next.taken i) op in
     let began = subst (λ (l : List PlainEntry). IsPrefix l entries) (sym next.known) (prefix_self entries) in
@@ -38,5 +38,5 @@ returns-clause-changed g c =
       };
       told_is = c.front-3.ensures ∙ sym c.front-2.ensures;
       log = c.keep_change-place.ensures.log
-          ∙ ap (λ r. log ++ r ∷ []) (c.settle-receipt.ensures.told ∙ ap (change_told op) (sym place_is));
+          ∙ ap (λ r. log ++ r ∷ []) (settled.told ∙ ap (change_told op) (sym place_is));
     }

@@ -5,7 +5,7 @@ use Rattle.std.specs.Arc.{arc_value}
 use Rattle.profile_rows.specs.Values.{BatchState, rows_at}
 use Rattle.profile_rows.specs.Aggregate.{aggregates_of, with_rows}
 use Rattle.call_tree.specs.State.{TreeState, weights_of}
-use Rattle.op_book.specs.Books.{BookState, entry_after}
+use Rattle.op_book.specs.Books.{BookState, change_told, entry_after}
 use Rattle.op_book.specs.Ledgers.{LedgerState}
 use Rattle.op_book.specs.Operations.{PlainEntry, add, operations_of, profile_after}
 use Rattle.op_book.proofs.EntryLaws.{operations_of-push, profile_at-le}
@@ -49,8 +49,8 @@ invariant_of-self-2 c =
       λ value. after.aggregate value ∙ ap (λ ops. aggregates_of (profile_after ops) value) (sym operations),
     )
 
-pub returns-clause-appended : goal.returns-clause-appended
-returns-clause-appended c =
+pub returns-clause-made : goal.returns-clause-made
+returns-clause-made c =
     let batch = arc_value c.args.batch.now in
     let same : c.append.new.self ≡ record c.reserve.new.self {
       entries =
@@ -65,19 +65,16 @@ returns-clause-appended c =
     c.in_ok-entry.ensures.entry
     ∙ (λ i. record { session = c.args.session; turn = c.args.turn; op = add batch; reply = (told i).reply }) in
     record {
-      entries = ap (λ (l : LedgerState). l.entries) same ∙ (λ i. entries i ++ entry_is i ∷ []);
-      limit = ap (λ (l : LedgerState). l.limit) same ∙ ap (λ (l : LedgerState). l.limit) c.in_ok-reserve.ensures.same
-          ∙ ap (λ (b : BookState). b.limit) c.self.view_is;
-      sessions = ap (λ (l : LedgerState). l.sessions) same ∙ ap (λ (l : LedgerState). l.sessions)
-          c.in_ok-reserve.ensures.same ∙ ap (λ (b : BookState). b.sessions) c.self.view_is;
-      width = ap (λ (l : LedgerState). l.width) same ∙ ap (λ (l : LedgerState). l.width) c.in_ok-reserve.ensures.same
-          ∙ ap (λ (b : BookState). b.width) c.self.view_is;
+      taken = grind (arith, common_steps);
+      appended = record {
+        entries = ap (λ (l : LedgerState). l.entries) same ∙ (λ i. entries i ++ entry_is i ∷ []);
+        limit = ap (λ (l : LedgerState). l.limit) same ∙ ap (λ (l : LedgerState). l.limit)
+            c.in_ok-reserve.ensures.same ∙ ap (λ (b : BookState). b.limit) c.self.view_is;
+        sessions = ap (λ (l : LedgerState). l.sessions) same ∙ ap (λ (l : LedgerState). l.sessions)
+            c.in_ok-reserve.ensures.same ∙ ap (λ (b : BookState). b.sessions) c.self.view_is;
+        width = ap (λ (l : LedgerState). l.width) same ∙ ap (λ (l : LedgerState). l.width)
+            c.in_ok-reserve.ensures.same ∙ ap (λ (b : BookState). b.width) c.self.view_is;
+      };
+      receipt_is = c.in_ok-entry.ensures.receipt ∙ told;
+      told = c.in_ok-entry.ensures.receipt ∙ ap (change_told (add batch)) place;
     }
-
-pub returns-clause-receipt : goal.returns-clause-receipt
-returns-clause-receipt c =
-    let entries : c.reserve.new.self.entries ≡ c.args.self.now.entries = ap (λ (l : LedgerState). l.entries)
-    c.in_ok-reserve.ensures.same ∙ ap (λ (b : BookState). b.entries) c.self.view_is in
-    let place : c.len-place.result ≡ length c.args.self.now.entries = c.len-place.ensures ∙ ap length entries in
-    c.in_ok-entry.ensures.receipt ∙ told_after c.args.self.now.entries
-    (add (arc_value c.args.batch.now)) c.len-place.result c.facts.ensures.orderly.changes refl place

@@ -254,7 +254,7 @@ def vectors():
 
 
 def limits(base):
-    """A vector with a field behind it whose number, length or index is at a limit."""
+    """A vector with a field after it whose number, length or index is at a limit."""
     numbers = [0, 1, 2, 3, 4, 127, 128, 2**31 - 1, 2**31, 2**32 - 1, 2**32, 2**63 - 1, 2**63, 2**64 - 2, 2**64 - 1]
     for field, (_, kind) in PROFILE.items():
         for number in numbers:

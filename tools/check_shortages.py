@@ -27,9 +27,9 @@ CLAUSE = re.compile(r"\b(?:ensures|requires|struct|enum)\b[^{;]*\{")
 FROM = re.compile(r"impl(?:<[^\n]*>)? From<(?:NoMemory|AllocError|AllocFailed<T>)> for \w+ \{")
 # What stands around a type, and around a pattern or a function's name.
 TYPE_BEFORE = re.compile(r"(?:, |<|\w: |for )$")
-TYPE_BEHIND = re.compile(r"> |>\)|>,?$|>>|\)? -> |\)\s+(?:ensures|\{)", re.MULTILINE)
+TYPE_AFTER = re.compile(r"> |>\)|>,?$|>>|\)? -> |\)\s+(?:ensures|\{)", re.MULTILINE)
 PATTERN_BEFORE = re.compile(r" \| $|\bfn $")
-PATTERN_BEHIND = re.compile(r"\)*(?: =>| \| | if )")
+PATTERN_AFTER = re.compile(r"\)*(?: =>| \| | if )")
 # The arm that hands on what it met.
 ARM = re.compile(
     r"^\s*(?:Err\()?(?:\w+::)+(NoMemory|OutOfMemory|Place|Start|Version)\)? => (?:[\w:]+\()*$", re.MULTILINE
@@ -39,12 +39,12 @@ FUNCTION = re.compile(r"^( *)(?:pub(?:\([a-z]+\))? )?(?:const )?fn (\w+)", re.MU
 
 
 def blanked(text):
-    """A piece of source as white space, so that places behind it stay where they are."""
+    """A piece of source as white space, so that places after it stay where they are."""
     return re.sub(r"[^\n]", " ", text)
 
 
 def closing(text, start):
-    """The place behind the brace that closes the one in front of `start`."""
+    """The place after the brace that closes the one before `start`."""
     depth, at = 1, start
     while depth:
         depth += {"{": 1, "}": -1}.get(text[at], 0)
@@ -65,10 +65,10 @@ def code_of(text):
 
 def is_made(code, found):
     """Whether the code makes the fault here: it is no type and no pattern, and no arm that hands it on."""
-    before, behind = code[: found.start()], code[found.end() :]
-    if PATTERN_BEFORE.search(before) or PATTERN_BEHIND.match(behind):
+    before, after = code[: found.start()], code[found.end() :]
+    if PATTERN_BEFORE.search(before) or PATTERN_AFTER.match(after):
         return False
-    if TYPE_BEFORE.search(before) and TYPE_BEHIND.match(behind):
+    if TYPE_BEFORE.search(before) and TYPE_AFTER.match(after):
         return False
     arm = ARM.search(before)
     return not (arm and found[0].endswith("NoMemory" if arm[1] == "OutOfMemory" else arm[1]))

@@ -1,8 +1,8 @@
 """Runs pprof_profile's `decode` and `encode` on byte lists, for compare_profiles.py and check_profiles.py.
 
 The program is profile_answers.rattle, in a quick build of the crates' own sources (tools/quick_program). It reads
-lists, each behind its length in four bytes, and answers each: 1 and the bytes that `encode` writes of the profile, or 0
-and the fault's text, behind their length in eight.
+lists, each after its length in four bytes, and answers each: 1 and the bytes that `encode` writes of the profile, or 0
+and the fault's text, after their length in eight.
 """
 import pathlib
 import subprocess

@@ -128,7 +128,7 @@ def with_imports(text, names):
 
 
 def end_of_equation(lines, start):
-    """The line behind the equation that begins at a line: its others are indented, or close what it opened."""
+    """The line after the equation that begins at a line: its others are indented, or close what it opened."""
     end = start + 1
     while end < len(lines) and lines[end][:1] in (" ", ")", "]", "}") and lines[end]:
         end += 1

@@ -86,7 +86,7 @@ def stands_in(parts, module, function):
     inside = parts[len(module) :]
     if parts[: len(module)] != module or not inside:
         return False
-    # (behind the trait's name may stand what it is of, as in `FromAllocError`)
+    # (after the trait's name may stand what it is of, as in `FromAllocError`)
     return inside[0] == name if not kind else inside[0].startswith(kind) and inside[1:2] == [name]
 
 

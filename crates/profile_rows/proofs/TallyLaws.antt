@@ -162,7 +162,7 @@ row_counted-leaf row names numbers leaf number q t single this fresh =
       common_steps,
       recursion_from_All,
       list_any-append,
-      or_false,
+      or-false,
       same_number,
       has_numbers,
       leaf_after,

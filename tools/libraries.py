@@ -103,13 +103,30 @@ def is_kept(crate, sums):
     return note.is_file() and note.read_text() == sums[crate.name]
 
 
+def prover(kit, crate, command, words):
+    """A command of the prover on the crate, with words that say what stands below it."""
+    return [
+        kit / "bin" / "rattle", command, "--crate-name", crate.name, crate.root(), *words,
+        "--antt-project", kit / "rattle" / "logic" / "antt-project.json", "--logic-built", kit / "logic_built"]
+
+
+def extern(places):
+    """The words for libraries that stand at these places, by their names."""
+    return [word for name, place in places.items() for word in ("--extern", f"{name}={place}")]
+
+
+def found_in(folders):
+    """The words for folders that have libraries which others name."""
+    return [word for folder in folders for word in ("-L", f"dependency={folder}")]
+
+
+def of_kit(kit, names):
+    """Where these libraries of the kit stand."""
+    return {name: kit / "rlibs" / f"{name}.rlib" for name in names}
+
+
 def over_libraries(kit, crate, command):
     """A command of the prover on the crate, over the libraries of those below it."""
-    places = {name: kit / "rlibs" / f"{name}.rlib" for name in crate.of_kit}
-    places |= {name: library_of(name) for name in crate.named}
-    below = [kit / "rlibs", *(library_of(name).parent for name in crate.below)]
-    return [
-        kit / "bin" / "rattle", command, "--crate-name", crate.name, crate.root(),
-        *(word for name, place in places.items() for word in ("--extern", f"{name}={place}")),
-        *(word for place in below for word in ("-L", f"dependency={place}")),
-        "--antt-project", kit / "rattle" / "logic" / "antt-project.json", "--logic-built", kit / "logic_built"]
+    places = of_kit(kit, crate.of_kit) | {name: library_of(name) for name in crate.named}
+    folders = [kit / "rlibs", *(library_of(name).parent for name in crate.below)]
+    return prover(kit, crate, command, [*extern(places), *found_in(folders)])

@@ -23,12 +23,12 @@ def build_peer(folder):
     return peer
 
 
-def measure(folder, text, words):
+def measure(folder, files, words):
     """What a run takes: the wall, both kinds of processor time, and kilobytes."""
     pipes = [folder / f"pipe{number}" for number in range(4)]
     for pipe in pipes:
         os.mkfifo(pipe)
-    writers = [subprocess.Popen(f"exec cat {text} > '{pipe}'", shell=True) for pipe in pipes]
+    writers = [subprocess.Popen(f"exec cat {files} > '{pipe}'", shell=True) for pipe in pipes]
     began = time.time()
     process = subprocess.Popen([*words, *pipes], stdin=subprocess.DEVNULL)
     _, status, used = os.wait4(process.pid, 0)

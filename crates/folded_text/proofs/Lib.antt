@@ -1,9 +1,11 @@
+pub mod AddingLines
 pub mod Counting
 pub mod Counts
 pub mod Cuts
 pub mod FirstFault
 pub mod FrameNames
 pub mod Fronts
+pub mod KeptTexts
 pub mod Lines
 pub mod MergedLines
 pub mod OrderedTexts

@@ -1,13 +1,13 @@
 -- The pieces of a list that is cut at some of its elements.
 use Rattle.std.proofs.lemmas.Grind.{common_steps}
-use Rattle.std.proofs.Common.{◌≡◌, ℕ, ◌+◌, ◌<◌, ◌≤◌, Bool, false, eqb, eqb-true, List, [], ◌∷◌, length, length-drop}
+use Rattle.std.proofs.Common.{◌≡◌, ℕ, ◌+◌, ◌<◌, ◌≤◌, Bool, false, true, eqb, eqb-true, get_or, List, [], ◌∷◌, length, length-drop}
 use Rattle.std.proofs.Common.{sym, subst, arith, inl, inr}
 use Rattle.std.specs.List.{All, AllByRecursion, after_first, before_first, onto_first, position_or_len, slice_split}
 use Rattle.std.specs.Str.{IsUtf8}
-use Rattle.std.proofs.lemmas.Bool.{cases_lt}
+use Rattle.std.proofs.lemmas.Bool.{cases_lt, false_from_ne_true}
 use Rattle.std.proofs.lemmas.List.Elements.{All-cons, All-nil}
 use Rattle.std.proofs.lemmas.List.Splits.{slice_split_first, slice_split_none}
-use Rattle.std.proofs.lemmas.List.Sums.{fails_before_first, passes_at_first}
+use Rattle.std.proofs.lemmas.List.Sums.{fails_before_first, passes_at_first, position_or_len_is}
 use Rattle.std.proofs.lemmas.Str.{IsUtf8-take, IsUtf8-drop, IsCharBoundary-before_ascii, IsCharBoundary-after_ascii}
 use Prim.Native.Nat.{zero, suc}
 
@@ -62,3 +62,10 @@ utf8_pieces (suc n) c text ascii small utf8 =
 pub pieces-IsUtf8 : (c : ℕ) (text : List ℕ)
     → c < 128 → IsUtf8 text → AllByRecursion IsUtf8 (slice_split (λ byte. eqb byte c) text)
 pieces-IsUtf8 c text ascii utf8 = utf8_pieces (length text + 1) c text ascii (omega arith) utf8
+
+-- the first byte that passes a test
+pub first_passing : (p : ℕ → Bool) (text : List ℕ) (at : ℕ) → at ≤ length text
+    → ((k : ℕ) → k < at → p (get_or text k 0) ≡ true → ⊥) → (at < length text → p (get_or text at 0) ≡ true)
+    → position_or_len p text ≡ at
+first_passing p text at lt none is =
+    position_or_len_is p text at 0 lt (λ k below. false_from_ne_true (p (get_or text k 0)) (none k below)) is

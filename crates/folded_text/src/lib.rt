@@ -4,6 +4,7 @@
 mod folded;
 mod known_names;
 pub mod laws;
+mod line_sums;
 mod merged;
 mod ordered_rows;
 mod stack_frames;
@@ -17,6 +18,7 @@ mod written;
 
 pub use folded::{FoldedFault, read_folded, read_folded_with, read_frames};
 pub use known_names::KnownNames;
+pub use line_sums::{AddedLines, LineSums};
 pub use merged::merge_lines;
 pub use ordered_rows::{OrderedRows, read_ordered};
 pub use taking::{LineTaker, take_lines};

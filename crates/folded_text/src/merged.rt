@@ -10,21 +10,24 @@ ghost use Rattle.folded_text.specs.TextSums.{AreMergedLines};
 
 use crate::folded::FoldedFault;
 use crate::text_row::TextRow;
-use crate::text_rows::{TextRows, read_text_rows, stacks_of_texts};
+use crate::text_rows::{read_text_rows, stacks_of_texts};
 use basics::NoMemory;
 use profile_rows::{Hashing, WeightedStacks};
 use std::alloc::Global;
 
-/// Rows in the order of their texts. Neighbours then begin with the same frames, and less is looked up.
-fn sorted_rows<'a>(sums: TextRows<'a>) -> Result<Vec<TextRow<'a>>, NoMemory>
-    ensures same { IfOk result
-        (λ rows. aggregate_of (spelled_rows rows.items) ≡ aggregate_of (spelled_rows sums.entry)) }
-    ensures spelled { IfOk result (λ rows. All (λ row. IsStackText row.text) rows.items) }
-    ensures fits { IfOk result (λ rows. total_of (spelled_rows rows.items) < 2 ^ 63) }
+/// Rows of stack texts, in the order of these. Neighbours then begin with the same frames, and less is looked up.
+pub(crate) fn sorted_stacks(
+    alloc: Global,
+    hashing: Hashing,
+    rows: Vec<TextRow>,
+) -> Result<WeightedStacks, NoMemory>
+    requires spelled { All (λ row. IsStackText row.text) rows.items }
+    requires fits { total_of (spelled_rows rows.items) < 2 ^ 63 }
+    ensures { IfOk result (λ stacks. aggregate_of stacks ≡ aggregate_of (spelled_rows rows.entry.items)) }
 {
-    let (mut rows, _total, _are_joined) = sums.into_rows();
+    let mut rows = rows;
     rows.sort_by(|left, right| left.cmp_text(right))?;
-    Ok(rows)
+    stacks_of_texts(alloc, hashing, rows.as_slice())
 }
 
 /// The rows of folded text, those of one stack text merged and their weights summed: as
@@ -45,6 +48,6 @@ pub fn merge_lines(
         (λ fault. fault ≡ FoldedFault.NoMemory) }
 {
     let sums = read_text_rows(alloc, hashing, text)?;
-    let rows = sorted_rows(sums)?;
-    Ok(stacks_of_texts(alloc, hashing, rows.as_slice())?)
+    let (rows, _total, _are_joined) = sums.into_rows();
+    Ok(sorted_stacks(alloc, hashing, rows)?)
 }

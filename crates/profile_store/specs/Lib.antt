@@ -4,7 +4,9 @@ pub use Rattle.flame_report.specs.Answers
 pub use Rattle.flame_report.specs.Json
 pub use Rattle.flame_report.specs.Labels
 pub use Rattle.folded_text.specs.FoldedText
+pub use Rattle.folded_text.specs.LineSums
 pub use Rattle.folded_text.specs.OrderedRows
+pub use Rattle.folded_text.specs.TextRows
 pub use Rattle.folded_text.specs.TextSums
 pub use Rattle.live_store.specs.Sessions
 pub use Rattle.live_store.specs.Stores

@@ -1,4 +1,6 @@
 pub use Rattle.folded_text.specs.FoldedText
+pub use Rattle.folded_text.specs.LineSums
+pub use Rattle.folded_text.specs.TextRows
 pub use Rattle.folded_text.specs.TextSums
 pub use Rattle.profile_rows.specs.Aggregate
 pub use Rattle.profile_rows.specs.Equality

@@ -6,8 +6,8 @@
 pub mod laws;
 
 pub use folded_text::{
-    FoldedFault, KnownNames, OrderedRows, folded_totals, merge_lines, read_folded,
-    read_folded_with, read_ordered, write_folded, write_stacks,
+    AddedLines, FoldedFault, KnownNames, LineSums, OrderedRows, folded_totals, merge_lines,
+    read_folded, read_folded_with, read_ordered, write_folded, write_stacks,
 };
 pub use profile_rows::{
     Batch, FrameTotal, FrameTotals, Hashing, MAX_DEPTH, MAX_TOTAL, MAX_WIDTH, Name, NameFault,

@@ -1,13 +1,12 @@
 -- Where the first semicolon stands, the pieces are what stands before it, and those after it.
-use Rattle.std.specs.List.{after_first, before_first, position_or_len, slice_split}
-use Rattle.std.proofs.lemmas.List.Sums.{position_or_len_is}
+use Rattle.std.specs.List.{after_first, before_first, slice_split}
 use Rattle.std.proofs.lemmas.List.Splits.{slice_split_first}
-use Rattle.folded_text.proofs.Pieces.{slice_split-whole}
-use Rattle.std.proofs.Common.{◌≤◌, subst, ◌≡◌, ℕ, ◌+◌, ◌<◌, Bool, true, List, [], ◌∷◌, ◌++◌, length, take, drop, get_or}
+use Rattle.folded_text.proofs.Pieces.{first_passing, slice_split-whole}
+use Rattle.std.proofs.Common.{subst, ◌≡◌, ℕ, ◌+◌, ◌<◌, Bool, true, List, [], ◌∷◌, ◌++◌, length, take, drop, get_or}
 use Rattle.std.proofs.Common.{filter, sym, ap, ◌∙◌, arith}
 use Rattle.std.proofs.lemmas.Grind.{common_steps}
 use Rattle.std.specs.Prelude.{◌==◌, not}
-use Rattle.std.proofs.lemmas.Bool.{eqb-true, false_from_ne_true}
+use Rattle.std.proofs.lemmas.Bool.{eqb-true}
 use Rattle.std.proofs.lemmas.List.{append-nil}
 use Rattle.std.proofs.lemmas.List.Elements.{filter-append}
 use Rattle.std.proofs.lemmas.Str.{IsCharBoundary-after_ascii}
@@ -17,18 +16,12 @@ use Rattle.folded_text.proofs.stack_frames.split_piece.Goals as goal
 abbrev IsEnd : ℕ → Bool
 IsEnd byte = byte == 59
 
--- the first semicolon
-first : (text : List ℕ) (at : ℕ) → at ≤ length text → ((k : ℕ) → k < at → IsEnd (get_or text k 0) ≡ true → ⊥)
-    → (at < length text → IsEnd (get_or text at 0) ≡ true) → position_or_len IsEnd text ≡ at
-first text at lt none is =
-    position_or_len_is IsEnd text at 0 lt (λ k below. false_from_ne_true (IsEnd (get_or text k 0)) (none k below)) is
-
 -- a text cut at its first semicolon
 cut : (text : List ℕ) (at : ℕ)
     → at < length text → ((k : ℕ) → k < at → IsEnd (get_or text k 0) ≡ true → ⊥) → IsEnd (get_or text at 0) ≡ true
     → frames_of text ≡ frame_in (take at text) ++ frames_of (drop (at + 1) text)
 cut text at lt none is =
-    let here = first text at (omega arith) none (λ _. is) in
+    let here = first_passing IsEnd text at (omega arith) none (λ _. is) in
     subst (λ at. frames_of text ≡ frame_in (take at text) ++ frames_of (drop (at + 1) text)) here
     (ap (filter (λ piece. not (length piece == 0))) (slice_split_first IsEnd text 0 (omega arith))
     ∙ filter-append (λ piece. not (length piece == 0)) (before_first IsEnd text ∷ [])
@@ -44,7 +37,7 @@ returns-in-Some c = grind (arith, common_steps, cut)
 whole_piece : (text : List ℕ)
     → ((k : ℕ) → k < length text → IsEnd (get_or text k 0) ≡ true → ⊥) → frames_of text ≡ frame_in text ++ frames_of []
 whole_piece text none =
-    let past = first text (length text) (omega arith) none (λ lt. absurd (omega arith)) in
+    let past = first_passing IsEnd text (length text) (omega arith) none (λ lt. absurd (omega arith)) in
     ap (filter (λ piece. not (length piece == 0))) (slice_split-whole IsEnd text (omega arith))
     ∙ sym (append-nil (frame_in text))
 

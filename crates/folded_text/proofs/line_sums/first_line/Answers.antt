@@ -30,7 +30,7 @@ whole text some none =
 -- no line holds a line feed
 one_line : (text line : List ℕ) (after : List (List ℕ)) → lines text ≡ line ∷ after → All (λ byte. byte ≢ 10) line
 one_line text line after is =
-    All-head (All (λ (byte : ℕ). byte ≢ 10)) line after 
+    All-head (All (λ (byte : ℕ). byte ≢ 10)) line after
     (subst (All (All (λ (byte : ℕ). byte ≢ 10))) is (lines-one_line text))
 
 pub returns-in-Some-clause-lines : goal.returns-in-Some-clause-lines

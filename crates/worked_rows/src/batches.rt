@@ -6,9 +6,10 @@ use crate::rows::{self, agree, done};
 use crate::script::Words;
 use crate::{reports, trees};
 use profile_store::{
-    Batch, FoldedFault, Hashing, Profile, ValueChoice, ValueUnit, WeightedStacks, aggregate,
-    aggregate_stacks, batch_of, decode, encode, export_folded, folded_totals, merge_samples,
-    profile_of, read_folded, read_folded_with, read_ordered, write_stacks,
+    Batch, FoldedFault, Hashing, LineSums, Profile, ValueChoice, ValueUnit, WeightedStacks,
+    aggregate, aggregate_stacks, batch_of, decode, encode, export_folded, folded_totals,
+    merge_lines, merge_samples, profile_of, read_folded, read_folded_with, read_ordered,
+    write_stacks,
 };
 use std::alloc::Global;
 use std::random::RandomSource;
@@ -64,7 +65,7 @@ fn run_batch(asked: &Asked, batch: &Batch, made: &mut Vec<u8>) -> Result<(), Wro
     }
 }
 
-/// The first fault of folded text, which each way to read it has.
+/// The first fault of folded text, which each way to read it has. What adds up lines has those before it.
 fn refuse_text(asked: &Asked, fault: FoldedFault, made: &mut Vec<u8>) -> Result<(), Wrong> {
     let (alloc, hashing, text) = (asked.alloc, asked.hashing, asked.input);
     refuse(made, &fault)?;
@@ -74,7 +75,13 @@ fn refuse_text(asked: &Asked, fault: FoldedFault, made: &mut Vec<u8>) -> Result<
         folded_totals(alloc, hashing, text).err(),
         export_folded(alloc, hashing, text, "cpu", "ns").err(),
     ];
-    agree(made, "another reading", faults == [Some(fault); 4])
+    agree(made, "another reading", faults == [Some(fault); 4])?;
+    let mut sums = LineSums::new(alloc, hashing);
+    let added = sums.add(text);
+    agree(made, "LineSums::add", added.fault == Some(fault))?;
+    let before = text.get(..added.len).ok_or(Wrong::Missing)?;
+    let merged = done(merge_lines(alloc, hashing, before))?;
+    agree(made, "LineSums::stacks", sums.stacks()? == merged)
 }
 
 /// `rows`, `rows width 2`: why rows are refused, and those that aren't, as folded text by each value, with the totals.

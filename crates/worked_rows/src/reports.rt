@@ -6,9 +6,9 @@ use crate::queries::{kind_name, query_of};
 use crate::rows::{agree, done};
 use crate::trees;
 use profile_store::{
-    Answer, Batch, Flame, Hashing, Kind, Query, WeightedStacks, flame_json, folded_totals,
-    kept_totals, merge_lines, read_ordered, report_in_order, report_of, report_of_stacks, top_list,
-    top_text,
+    Answer, Batch, Flame, Hashing, Kind, LineSums, Query, WeightedStacks, flame_json,
+    folded_totals, kept_totals, merge_lines, read_ordered, report_in_order, report_of,
+    report_of_stacks, top_list, top_text,
 };
 use std::alloc::Global;
 
@@ -87,7 +87,7 @@ fn agree_on_stacks(given: &Given, made: &mut Vec<u8>) -> Result<(), Wrong> {
     agree(made, "report_of_stacks", again == *given.answer)
 }
 
-/// The answer over folded text that is read in order, and over its merged lines.
+/// The answer over folded text that is read in order, and over its merged lines, also of two pieces.
 fn agree_on_text(given: &Given, made: &mut Vec<u8>) -> Result<(), Wrong> {
     let (alloc, hashing) = (given.asked.alloc, given.asked.hashing);
     if !given.asked.has_folded_text() {
@@ -98,7 +98,21 @@ fn agree_on_text(given: &Given, made: &mut Vec<u8>) -> Result<(), Wrong> {
     agree(made, "report_in_order", again == *given.answer)?;
     let merged = done(merge_lines(alloc, hashing, given.asked.input))?;
     let again = report_of_stacks(alloc, hashing, merged, given.query)?;
-    agree(made, "merge_lines", again == *given.answer)
+    agree(made, "merge_lines", again == *given.answer)?;
+    let sums = sums_of_pieces(alloc, hashing, given.asked.input);
+    let again = report_of_stacks(alloc, hashing, sums.stacks()?, given.query)?;
+    agree(made, "LineSums", again == *given.answer)
+}
+
+/// The sums of folded text that comes in two pieces.
+fn sums_of_pieces(alloc: Global, hashing: Hashing, text: &[u8]) -> LineSums {
+    let mut sums = LineSums::new(alloc, hashing);
+    let end = text.iter().position(|byte| *byte == b'\n');
+    let (first, second) = text.split_at(end.map_or(0, |end| end + 1));
+    for piece in [first, second] {
+        sums.add(piece);
+    }
+    sums
 }
 
 /// Adds an answer as text. A folded report is followed by how many lines it has.

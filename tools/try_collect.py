@@ -31,14 +31,14 @@ def fold(text):
 
 
 class Run:
-    """A run of `collect` in a folder of its own, with what it says. It may add variables to the environment."""
+    """A run of `collect` in a folder of its own, with what it says."""
 
-    def __init__(self, folder, *words, **variables):
+    def __init__(self, folder, *words):
         self.out = folder / "out"
         self.out.mkdir(exist_ok=True)
         self.process = subprocess.Popen(
             [COLLECT, *map(str, words)], cwd=folder, stdin=subprocess.DEVNULL, stdout=subprocess.PIPE,
-            stderr=subprocess.PIPE, env=os.environ | variables)
+            stderr=subprocess.PIPE)
 
     def end(self):
         self.printed, said = self.process.communicate(timeout=LIMIT)
@@ -108,10 +108,10 @@ def peak(run):
     return int(re.search(r"VmHWM:\s+(\d+)", status)[1])
 
 
-def ten_thousand_windows(folder, _, **variables):
+def ten_thousand_windows(folder, _):
     text = stacks(10_000, 500, 3)
     pipes = make_pipes(folder, 1)
-    run = Run(folder, "--rows", 100, "--out", "out", *pipes, **variables)
+    run = Run(folder, "--rows", 100, "--out", "out", *pipes)
     write_pipe(pipes[0], text * 100, pause=0.001, parts=10_000)
     peaks = {}
     while run.process.poll() is None:
@@ -123,13 +123,7 @@ def ten_thousand_windows(folder, _, **variables):
     windows = run.windows()
     last = fold(b"".join(file.read_bytes() for file in windows[-100:]))
     good = len(windows) == 10_000 and last == fold(text) and peaks[9900] <= 1.05 * peaks[1000]
-    given = " ".join(f"{name}={value}" for name, value in variables.items())
-    return good, f"10,000 windows: peak of {peaks[1000]} KB after 1,000, of {peaks[9900]} KB after 9,900 {given}"
-
-
-def one_arena(folder, size):
-    """As docs/COLLECTING.md advises for months: malloc keeps no memory for each thread."""
-    return ten_thousand_windows(folder, size, MALLOC_ARENA_MAX="1")
+    return good, f"10,000 windows: peak of {peaks[1000]} KB after 1,000, of {peaks[9900]} KB after 9,900"
 
 
 def stalled(folder, _):
@@ -240,8 +234,7 @@ def full_disk(folder, _):
 
 
 CASES = [
-    four_pipes, killed, ten_thousand_windows, one_arena, stalled, cut, faulty, heavy, refused, many_sources, spool,
-    full_disk]
+    four_pipes, killed, ten_thousand_windows, stalled, cut, faulty, heavy, refused, many_sources, spool, full_disk]
 
 
 def main(words):

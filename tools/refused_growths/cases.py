@@ -108,6 +108,8 @@ ROWS = {
     "ordered_rows_write": " 4\nmain;a 2\nmain;a;b 3\nmain;c 6\n",
     "ordered_rows_write_by_names": "b 4\nb;a 3\n",
     "folded_totals": BY_CUM + "3 3 b\n",
+    "line_sums_add": " 13\na;b 1\na b;c d 7\nmain;a 4\nmain;a;b 6\nmain;c 12\n",
+    "line_sums_stacks": " 4\nmain;a 2\nmain;a;b 3\nmain;c 6\n",
     "write_folded": "main;a 2\nb 4\n",
     "write_folded_of_odd_lines": " 5\na;b 1\na b;c d 7\n",
     "write_stacks": "a 1\nb;c 2\n",

@@ -1,28 +1,27 @@
 //! What one thread adds to windows.
 
-ghost use Rattle.std.specs.Prelude.{◌≡◌, ◌+◌, ◌≤◌, ℕ, IfOk, IfSome, Some, drop, length, take};
+ghost use Rattle.std.specs.Prelude.{◌≡◌, ◌+◌, ◌≤◌, [], IfOk, IfSome, MatchOption, Some, length};
 ghost use Rattle.std.specs.Arc.{arc_value};
-ghost use Rattle.collecting.specs.Added.{GoesOn, IsMergedBatch};
+ghost use Rattle.collecting.specs.Added.{GoesOn, HasAdded, IsBatchOf};
 
 use crate::held_text::Text;
 use crate::messages::Messages;
 use crate::origin::Origin;
 use crate::profile::{Unread, read_profile};
 use crate::reading::{Content, Lines, Piece};
-use crate::text::{Front, read_front};
 use crate::window::{EarlyEnd, Window};
 use crossbeam_channel::Receiver;
-use profile_store::{Batch, BookFault, FoldedFault, Hashing, NoMemory};
+use profile_store::{AddedLines, Batch, BookFault, FoldedFault, Hashing, LineSums, NoMemory};
 use std::alloc::Global;
 use std::mem;
 use std::sync::{Arc, Wait};
 use std::time::{Clock, Duration};
 use store_window::Source;
 
-/// How many bytes of folded text all adders together add at once, where so many come in time.
+/// How many bytes of stack texts all adders together gather, where so many come in time.
 const MOST: usize = 268_435_456;
 
-/// For how many milliseconds an adder takes more lines before it adds what it has.
+/// For how many milliseconds an adder gathers lines before it adds them.
 const GATHER: u64 = 500;
 
 /// How many milliseconds an adder waits for a piece before it looks whether another has ended the window.
@@ -46,12 +45,11 @@ pub(crate) struct Adder<'a> {
     /// The name of the sample type that is taken of profiles.
     value: Option<&'a str>,
     pieces: Receiver<Piece>,
-    /// How many bytes of text are added at once at most, but for one piece.
+    /// How many bytes of stack texts are gathered at most, but for one piece.
     most: usize,
-    /// Room for the bytes of the next text.
-    room: Vec<u8>,
     /// What was received and isn't in a window yet, in this order.
     refused: Option<Arc<Batch>>,
+    sums: LineSums,
     text: Option<Text>,
     next: Option<Piece>,
     /// Nothing more comes.
@@ -79,8 +77,8 @@ impl<'a> Adder<'a> {
             value,
             pieces,
             most: MOST.checked_div(adders).unwrap_or(0),
-            room: Vec::new(alloc),
             refused: None,
+            sums: LineSums::new(alloc, hashing),
             text: None,
             next: None,
             has_ended: false,
@@ -95,18 +93,23 @@ impl<'a> Adder<'a> {
         self.has_ended
     }
 
-    /// What it has to tell of the last window. A batch that was refused there is one of the next.
+    /// What it has to tell of the last window. What isn't in it yet is in the next one.
     pub(crate) fn take_told(&mut self) -> Told {
         let told = Told {
             added: mem::replace(&mut self.added, Vec::new(self.alloc)),
             read: mem::replace(&mut self.read, Vec::new(self.alloc)),
         };
-        if let (Some(_), Some(origin)) = (&self.refused, told.added.last()) {
+        if let (true, Some(origin)) = (self.has_waiting(), told.added.last()) {
             if self.note(origin).is_err() {
                 origin.lose();
             }
         }
         told
+    }
+
+    /// Whether rows wait that were counted as those of the last window.
+    fn has_waiting(&self) -> bool {
+        self.refused.is_some() || !self.sums.is_empty()
     }
 
     /// Takes part in a window.
@@ -131,8 +134,12 @@ impl<'a> Adder<'a> {
         if let Some(batch) = self.refused.take() {
             return Some(batch);
         }
+        if !self.sums.is_empty() {
+            return self.give(rt, window);
+        }
         if let Some(text) = self.text.take() {
-            return self.read_text(rt, window, text);
+            self.gather(rt, window, text);
+            return self.give(rt, window);
         }
         match self.next.take() {
             Some(piece) => self.take_piece(rt, window, piece),
@@ -168,8 +175,8 @@ impl<'a> Adder<'a> {
         }
         match content {
             Content::Lines(lines) => {
-                let text = self.gather(rt, window, origin, lines);
-                self.read_text(rt, window, text)
+                self.gather(rt, window, Text::new(origin, lines));
+                self.give(rt, window)
             }
             Content::Profile(bytes) => self.take_profile(rt, window, origin, bytes),
             Content::End => {
@@ -191,59 +198,76 @@ impl<'a> Adder<'a> {
         let _ = self.read.push(origin);
     }
 
-    /// Lines with those of the same origin that come soon, if the window has room for many: lines of one stack are
-    /// merged, so many at once cost less.
-    fn gather<R: Wait + Clock>(
-        &mut self,
-        rt: &R,
-        window: &Window,
-        origin: Arc<Origin>,
-        lines: Lines,
-    ) -> Text {
-        let room = mem::replace(&mut self.room, Vec::new(self.alloc));
-        let mut text = Text::new(origin, lines, room);
-        if window.is_nearly_full(rt) {
-            return text;
-        }
+    /// Adds lines to the sums, with those of the same origin that come soon, if the window has room for many: lines of
+    /// one stack are one row, so many at once cost less.
+    fn gather<R: Wait + Clock>(&mut self, rt: &R, window: &Window, text: Text) {
+        let Ok(origin) = Arc::try_clone(text.origin()) else {
+            self.stop(rt, window, text);
+            return;
+        };
+        self.add_text(rt, window, text);
         let Some(until) = window.soon(rt, Duration::from_millis(GATHER)) else {
-            return text;
+            return;
         };
         for _ in rt.forever() {
-            if self.next.is_some() || text.len() >= self.most {
+            if origin.is_over() || self.is_full(rt, window) {
                 break;
             }
             match self.pieces.recv_deadline(rt, until) {
-                Ok(piece) => self.next = text.join(rt, piece),
+                Ok(piece) => self.add_piece(rt, window, &origin, piece),
                 Err(_) => break,
             }
         }
-        text
     }
 
-    /// The rows of a text's next lines. What follows them stays.
-    fn read_text<R: Wait>(&mut self, rt: &R, window: &Window, text: Text) -> Option<Arc<Batch>>
-        ensures { IfSome result (λ batch. (len : ℕ)
-            × IsMergedBatch (take len (drop text.from text.bytes.items)) (arc_value batch)
-            × GoesOn text len self.new.text) }
-    {
-        match self.read_noted(text.origin(), window.first_rows(rt, text.rest())) {
-            Ok(front) => self.pass(text, front),
-            Err(_) => {
-                self.text = Some(text);
-                window.end_early(rt, EarlyEnd::NoMemory);
-                None
+    /// Whether no more lines are gathered.
+    fn is_full<R: Wait + Clock>(&self, rt: &R, window: &Window) -> bool {
+        let is_waiting = self.text.is_some() || self.next.is_some();
+        let has_many = self.sums.bytes() >= self.most;
+        is_waiting || has_many || window.is_nearly_full(rt) || window.is_over(rt)
+    }
+
+    /// Adds the lines of a piece to the sums if it is of this origin. Else it is the next one.
+    fn add_piece<R: Wait>(&mut self, rt: &R, window: &Window, origin: &Origin, piece: Piece) {
+        let Piece {
+            origin: from,
+            content,
+        } = piece;
+        match content {
+            Content::Lines(lines) if from.name() == origin.name() => {
+                self.add_text(rt, window, Text::new(from, lines));
+            }
+            content => {
+                let origin = from;
+                self.next = Some(Piece { origin, content });
             }
         }
     }
 
-    /// Reads lines, and notes of which origin they are.
-    fn read_noted(&mut self, origin: &Arc<Origin>, lines: &[u8]) -> Result<Front, NoMemory>
-        ensures inside { IfOk result (λ front. front.len ≤ length lines.now) }
-        ensures rows { IfOk result (λ front. IsMergedBatch (take front.len lines.now) (arc_value front.batch)) }
+    /// Adds a text's next lines to the sums, and notes of which origin they are. What follows them stays.
+    fn add_text<R: Wait>(&mut self, rt: &R, window: &Window, text: Text) {
+        match self.note(text.origin()) {
+            Ok(()) => self.sum_lines(rt, window, text),
+            Err(_) => self.stop(rt, window, text),
+        }
+    }
+
+    /// Adds as many of a text's next lines to the sums as the window has room for. What follows them stays.
+    fn sum_lines<R: Wait>(&mut self, rt: &R, window: &Window, text: Text)
+        ensures { HasAdded text self.old.sums self.new.sums self.new.text }
     {
-        let front = read_front(self.alloc, self.hashing, lines)?;
-        self.note(origin)?;
-        Ok(front)
+        let lines = window.first_rows(rt, text.rest());
+        let AddedLines { len, fault } = self.sums.add(lines);
+        self.pass(rt, window, text, len, fault);
+    }
+
+    /// Ends a window since memory ran out before a text was added.
+    fn stop<R: Wait>(&mut self, rt: &R, window: &Window, text: Text)
+        ensures text { self.new.text ≡ Some text }
+        ensures sums { self.new.sums ≡ self.old.sums }
+    {
+        self.text = Some(text);
+        window.end_early(rt, EarlyEnd::NoMemory);
     }
 
     /// Notes that an origin has rows in the window.
@@ -255,34 +279,54 @@ impl<'a> Adder<'a> {
         Ok(())
     }
 
-    /// Goes on after lines that were read, and gives their rows.
-    fn pass(&mut self, text: Text, front: Front) -> Option<Arc<Batch>>
-        requires { text.from + front.len ≤ length text.bytes.items }
-        ensures batch { IfSome result (λ batch. batch ≡ front.batch) }
-        ensures goes_on { GoesOn text front.len self.new.text }
+    /// Goes on after lines that were added, up to a fault where there is one.
+    fn pass<R: Wait>(
+        &mut self,
+        rt: &R,
+        window: &Window,
+        text: Text,
+        len: usize,
+        fault: Option<FoldedFault>,
+    )
+        requires { text.from + len ≤ length text.bytes.items }
+        ensures goes_on { GoesOn text len self.new.text }
+        ensures sums { self.new.sums ≡ self.old.sums }
     {
-        let Front { batch, len, fault } = front;
         let mut text = text;
         let before = text.skip(len);
-        self.text = match fault {
-            Some(fault) if !is_split_by(fault, len) => {
-                self.end_faulty(text.origin(), moved(fault, before));
-                None
+        match fault {
+            None if text.rest().is_empty() => {
+                text.let_go(rt);
+                self.text = None;
             }
-            _ => self.unread(text),
-        };
-        if batch.len() > 0 { Some(batch) } else { None }
+            // Together with the lines before, the next is too heavy: it comes after these are added.
+            None | Some(FoldedFault::Heavy { .. }) => self.text = Some(text),
+            Some(FoldedFault::NoMemory) => self.stop(rt, window, text),
+            Some(fault) => {
+                self.text = None;
+                self.end_faulty(text.origin(), moved(fault, before));
+            }
+        }
     }
 
-    /// The text, where not all of it is in windows. Else its room is for the next one.
-    fn unread(&mut self, text: Text) -> Option<Text>
-        ensures { IfSome result (λ left. left ≡ text) }
+    /// Gives the rows that were gathered, as one batch.
+    fn give<R: Wait>(&mut self, rt: &R, window: &Window) -> Option<Arc<Batch>>
+        ensures { MatchOption result (self.new.sums ≡ self.old.sums)
+            (λ batch. IsBatchOf self.old.sums (arc_value batch) × (self.new.sums ≡ [])) }
     {
-        if text.rest().is_empty() {
-            self.room = text.into_room();
+        if self.sums.is_empty() {
             return None;
         }
-        Some(text)
+        match batch_of(self.alloc, &self.sums) {
+            Ok(batch) => {
+                self.sums = LineSums::new(self.alloc, self.hashing);
+                Some(batch)
+            }
+            Err(_) => {
+                window.end_early(rt, EarlyEnd::NoMemory);
+                None
+            }
+        }
     }
 
     /// Ends an origin at a fault.
@@ -348,9 +392,11 @@ impl Source for Adder<'_> {
     }
 }
 
-/// Whether the lines after so many bytes are to be read anew, since they are too heavy together with those before.
-fn is_split_by(fault: FoldedFault, len: usize) -> bool {
-    matches!(fault, FoldedFault::Heavy { .. }) && len > 0
+/// The rows of sums, as a batch.
+fn batch_of(alloc: Global, sums: &LineSums) -> Result<Arc<Batch>, NoMemory>
+    ensures { IfOk result (λ batch. IsBatchOf sums.now (arc_value batch)) }
+{
+    Ok(Arc::new(alloc, Batch::single(alloc, sums.stacks()?))?)
 }
 
 /// A fault so many lines later.

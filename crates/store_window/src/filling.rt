@@ -15,7 +15,7 @@ use std::alloc::Global;
 use std::marker::Brand;
 use std::sync::{Mutex, MutexGuard, Wait};
 use std::thread;
-use std::thread::Threads;
+use std::thread::{Scope, Threads};
 use std::time::Clock;
 use thiserror::Error;
 
@@ -134,17 +134,50 @@ fn fill_store<N: StoreName, S: Source + Drop + Send, W: Watcher, R: Threads + Wa
         thread::scope_env(),
         rt,
         |scope| -> Result<(), WindowFault> {
-            for slot in slots {
-                let session = store.session(rt, alloc)?;
-                let spawned = scope.spawn(move || fill_from(rt, alloc, slot, session));
-                if spawned.is_err() {
-                    return Err(WindowFault::Start);
-                }
-            }
-            watch(rt, alloc, watching, watcher);
-            Ok(())
+            let filling = Filling {
+                rt,
+                alloc,
+                store,
+                watcher,
+            };
+            filling.fill_slots(scope, slots, watching)
         },
     )
+}
+
+/// What the threads of a window share.
+#[derive(Drop)]
+struct Filling<'s, N: StoreName, W: Watcher, R: Threads + Wait + Clock + Sync> {
+    rt: &'s R,
+    alloc: Global,
+    store: &'s Store<N>,
+    watcher: &'s W,
+}
+
+impl<'s, N: StoreName, W: Watcher, R: Threads + Wait + Clock + Sync> Filling<'s, N, W, R> {
+    /// Runs a thread for each source, and watches meanwhile. Each thread is gone when it returns, and not only done: the
+    /// C library keeps memory for a thread, and gives it to a new one only then.
+    fn fill_slots<E, S: Source + Drop + Send>(
+        &self,
+        scope: &Scope<'s, E>,
+        slots: &'s [Mutex<Slot<S>>],
+        watching: Session<'s, N>,
+    ) -> Result<(), WindowFault> {
+        let (rt, alloc) = (self.rt, self.alloc);
+        let Some((slot, rest)) = slots.split_first() else {
+            watch(rt, alloc, watching, self.watcher);
+            return Ok(());
+        };
+        let session = self.store.session(rt, alloc)?;
+        match scope.spawn(move || fill_from(rt, alloc, slot, session)) {
+            Ok(thread) => {
+                let filled = self.fill_slots(scope, rest, watching);
+                thread.join(rt);
+                filled
+            }
+            Err(_) => Err(WindowFault::Start),
+        }
+    }
 }
 
 /// Adds what a source gives. Nobody else has it meanwhile.

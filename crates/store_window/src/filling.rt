@@ -1,5 +1,6 @@
 //! Threads that fill a store.
 
+ghost use Rattle.std.specs.Thread.{IsSend, IsSync};
 ghost use Rattle.std.specs.Prelude.{◌≡◌, ◌++◌, ◌∷◌, [], ℕ, IsTrue, MatchBool, ⊤};
 ghost use Rattle.profile_store.specs.Books.{change_told};
 ghost use Rattle.profile_store.specs.Operations.{add};
@@ -133,50 +134,44 @@ fn fill_store<N: StoreName, S: Source + Drop + Send, W: Watcher, R: Threads + Wa
     thread::scope(
         thread::scope_env(),
         rt,
-        |scope| -> Result<(), WindowFault> {
-            let filling = Filling {
-                rt,
-                alloc,
-                store,
-                watcher,
-            };
-            filling.fill_slots(scope, slots, watching)
-        },
+        |scope| -> Result<(), WindowFault>
+            requires { IsSend N.row × IsSync N.row × IsSend S.row × IsSync R.row }
+        { fill_slots(scope, rt, alloc, store, slots, watching, watcher) },
     )
 }
 
-/// What the threads of a window share.
-#[derive(Drop)]
-struct Filling<'s, N: StoreName, W: Watcher, R: Threads + Wait + Clock + Sync> {
+/// Runs a thread for each source, and watches meanwhile. Each thread is gone when it returns, and not only done: the C
+/// library keeps memory for a thread, and gives it to a new one only then.
+fn fill_slots<
+    's,
+    N: StoreName,
+    S: Source + Drop + Send,
+    W: Watcher,
+    R: Threads + Wait + Clock + Sync,
+    E,
+>(
+    scope: &Scope<'s, E>,
     rt: &'s R,
     alloc: Global,
     store: &'s Store<N>,
-    watcher: &'s W,
-}
-
-impl<'s, N: StoreName, W: Watcher, R: Threads + Wait + Clock + Sync> Filling<'s, N, W, R> {
-    /// Runs a thread for each source, and watches meanwhile. Each thread is gone when it returns, and not only done: the
-    /// C library keeps memory for a thread, and gives it to a new one only then.
-    fn fill_slots<E, S: Source + Drop + Send>(
-        &self,
-        scope: &Scope<'s, E>,
-        slots: &'s [Mutex<Slot<S>>],
-        watching: Session<'s, N>,
-    ) -> Result<(), WindowFault> {
-        let (rt, alloc) = (self.rt, self.alloc);
-        let Some((slot, rest)) = slots.split_first() else {
-            watch(rt, alloc, watching, self.watcher);
-            return Ok(());
-        };
-        let session = self.store.session(rt, alloc)?;
-        match scope.spawn(move || fill_from(rt, alloc, slot, session)) {
-            Ok(thread) => {
-                let filled = self.fill_slots(scope, rest, watching);
-                thread.join(rt);
-                filled
-            }
-            Err(_) => Err(WindowFault::Start),
+    slots: &'s [Mutex<Slot<S>>],
+    watching: Session<'s, N>,
+    watcher: &W,
+) -> Result<(), WindowFault>
+    requires { IsSend N.row × IsSync N.row × IsSend S.row × IsSync R.row }
+{
+    let Some((slot, rest)) = slots.split_first() else {
+        watch(rt, alloc, watching, watcher);
+        return Ok(());
+    };
+    let session = store.session(rt, alloc)?;
+    match scope.spawn(move || fill_from(rt, alloc, slot, session)) {
+        Ok(thread) => {
+            let filled = fill_slots(scope, rt, alloc, store, rest, watching, watcher);
+            thread.join(rt);
+            filled
         }
+        Err(_) => Err(WindowFault::Start),
     }
 }
 

@@ -289,7 +289,7 @@ impl<'a> Adder<'a> {
         fault: Option<FoldedFault>,
     )
         requires { text.from + len ≤ length text.bytes.items }
-        ensures goes_on { GoesOn text len self.new.text }
+        ensures goes_on { GoesOn text len fault self.new.text }
         ensures sums { self.new.sums ≡ self.old.sums }
     {
         let mut text = text;

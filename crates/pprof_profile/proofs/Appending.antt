@@ -4,7 +4,8 @@ use Rattle.std.proofs.lemmas.List.{append-nil, map-append}
 use Rattle.std.proofs.lemmas.List.Concat.{flat_map-append}
 use Rattle.pprof_wire.specs.Fields.{PlainField, content, field_bytes_of}
 use Rattle.pprof_profile.specs.declared.messages.Sample.{Sample}
-use Rattle.pprof_profile.specs.Canonical.{bytes_of_fields, each_field, sample_bytes, samples_bytes}
+use Rattle.pprof_profile.specs.Canonical.{sample_bytes, samples_bytes}
+use Rattle.pprof_profile.specs.Writing.{bytes_of_fields, each_field}
 
 pub joined : (old mid new : List ℕ) (fs gs : List PlainField)
     → mid ≡ old ++ bytes_of_fields fs → new ≡ mid ++ bytes_of_fields gs → new ≡ old ++ bytes_of_fields (fs ++ gs)

@@ -13,7 +13,7 @@ use Rattle.pprof_profile.specs.declared.faults.ProfileFault.{ProfileFault}
 use Rattle.pprof_profile.specs.declared.faults.ProfileFault.TheVariants.{Wire}
 use Rattle.pprof_profile.specs.Reading.{Rule, Table, Gathers, IsFieldFault, IsEndFault, Reads, SetsNumber}
 use Rattle.pprof_profile.specs.Reading.{IsPackedFault, AddsPacked, AddsNumbers, AddsUtf8, AddsText, AddsItem}
-use Rattle.pprof_profile.specs.Reading.{AddsMessage, MergesMessage, At, Where, IsSkipped}
+use Rattle.pprof_profile.specs.Reading.{AddsMessage, MergesMessage, Where, IsSkipped}
 
 -- at most one outcome is allowed
 abbrev pub Once : {O : Type 0} → (O → Type 0) → Type 0
@@ -246,22 +246,6 @@ merge_once table once old (fixed32 number) a b left right = left ∙ sym right
 merge_once table once old (content bytes) a b left right = reads_once table once old bytes a b left right
 
 -- ---- the rows of a table
-
-pub at_once : {M A : Type 0} (rule : Rule A)
-    → RuleOnce rule → (get : M → A) (put : M → A → M) (old : M) (value : FieldValue) → Once (At rule get put old value)
-at_once {A = A} rule once get put old value (Ok x) (Ok y) left right =
-    let both : Ok (get x) ≡ Ok (get y) = once (get old) value (Ok (get x)) (Ok (get y)) left.0 right.0 in
-    let same : get x ≡ get y = cc both in
-    ap Ok (left.1 ∙ ap (put old) same ∙ sym right.1)
-at_once rule once get put old value (Ok x) (Err f) left right =
-    let both : Ok (get x) ≡ Err f = once (get old) value (Ok (get x)) (Err f) left.0 right in absurd cc
-at_once rule once get put old value (Err f) (Ok x) left right =
-    let both : Ok (get x) ≡ Err f = once (get old) value (Ok (get x)) (Err f) right.0 left in absurd cc
-at_once {A = A} rule once get put old value (Err f) (Err g) left right =
-    let one : Result A ProfileFault = Err f in
-    let other : Result A ProfileFault = Err g in
-    let both : one ≡ other = once (get old) value one other left right in
-    let same : f ≡ g = cc both in ap Err same
 
 pub where_once : {O : Type 0} (here : Bool) (row others : O → Type 0)
     → Once row → Once others → Once (Where here row others)

@@ -1,5 +1,6 @@
 -- Lists as far as an index, and the item there.
-use Rattle.std.proofs.Common.{ℕ, List, Bool, true, false, ◌≡◌, ◌+◌, ◌++◌, ◌∷◌, [], Some, ap, ◌∙◌, take, slice_get, slice_index_or, ◌&&◌}
+use Rattle.std.proofs.Common.{ℕ, List, Bool, true, false, ◌≡◌, ◌+◌, ◌++◌, ◌∷◌, [], Some, ap, ◌∙◌, take, slice_get}
+use Rattle.std.proofs.Common.{slice_index_or, ◌&&◌}
 use Rattle.std.specs.List.{list_all}
 use Rattle.std.proofs.lemmas.List.Folds.{list_all_at, list_all_more}
 use Rattle.std.proofs.lemmas.Option.{get_or_from_slice_get, slice_get_within}

@@ -7,7 +7,9 @@ use Rattle.pprof_profile.specs.declared.messages.Draft.{Draft}
 use Rattle.pprof_profile.specs.Valid.{IsValidDraft}
 use Rattle.pprof_profile.specs.Profiles.{BeginsAsGzip, SpellsDraft, IsProfile}
 use Rattle.pprof_profile.specs.Canonical.{canonical_bytes_of, FitsDraft}
-use Rattle.pprof_profile.proofs.MessagesBack.Drafts.{draft_back}
+use Rattle.pprof_profile.specs.Messages.{draft_form}
+use Rattle.pprof_profile.proofs.Forms.{form_back}
+use Rattle.pprof_profile.proofs.LawfulForms.{draft_lawful}
 
 small_type : (value : FieldValue) → wire_type_of value ≤ 5
 small_type (varint number) = omega arith
@@ -36,6 +38,9 @@ list_not_gzip bytes rest (field ∷ fields) (front, after, parts, spelled, other
 
 pub spelled_plain : (bytes : List ℕ) (draft : Draft) → SpellsDraft bytes draft → BeginsAsGzip bytes → ⊥
 spelled_plain bytes draft spelled (rest, same) = list_not_gzip bytes rest spelled.fields spelled.listed same
+
+pub draft_back : (draft : Draft) → FitsDraft draft → SpellsDraft (canonical_bytes_of draft) draft
+draft_back draft fits = form_back draft_form draft_lawful draft fits
 
 pub canonical_profile : (draft : Draft)
     → FitsDraft draft → IsValidDraft draft → IsProfile (canonical_bytes_of draft) draft

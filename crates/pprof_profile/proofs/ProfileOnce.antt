@@ -4,30 +4,36 @@ use Rattle.std.proofs.Common.{IfErr, MatchResult}
 use Rattle.pprof_profile.specs.declared.faults.ProfileFault.{ProfileFault}
 use Rattle.pprof_profile.specs.declared.faults.ProfileFault.TheVariants.{NoMemory}
 use Rattle.pprof_profile.specs.declared.messages.Draft.{Draft}
-use Rattle.pprof_profile.specs.Messages.{no_draft, draft_table}
+use Rattle.pprof_profile.specs.Forms.{table_of}
+use Rattle.pprof_profile.specs.Reading.{Reads}
+use Rattle.pprof_profile.specs.Messages.{no_draft, draft_form}
 use Rattle.pprof_profile.specs.Valid.{validity_fault}
 use Rattle.pprof_profile.specs.Profiles.{SpellsDraft, IsProfile, IsReadingFault, IsProfileFault}
-use Rattle.pprof_profile.proofs.Once.{reads_once}
-use Rattle.pprof_profile.proofs.MessagesOnce.{draft_once}
+use Rattle.pprof_profile.proofs.Once.{Once, reads_once}
+use Rattle.pprof_profile.proofs.Forms.{form_once}
+use Rattle.pprof_profile.proofs.LawfulForms.{draft_lawful}
+
+draft_once : (bytes : List ℕ) → Once (Reads (table_of draft_form) no_draft bytes)
+draft_once bytes = reads_once (table_of draft_form) (form_once draft_form draft_lawful) no_draft bytes
 
 pub draft_spelled_once : (bytes : List ℕ) (a b : Draft) → SpellsDraft bytes a → SpellsDraft bytes b → a ≡ b
 draft_spelled_once bytes a b left right =
     let one : Result Draft ProfileFault = Ok a in
     let other : Result Draft ProfileFault = Ok b in
-    let both : one ≡ other = reads_once draft_table draft_once no_draft bytes one other left right in cc both
+    let both : one ≡ other = draft_once bytes one other left right in cc both
 
 spelled_no_fault : (bytes : List ℕ) (a : Draft) (f : ProfileFault) → SpellsDraft bytes a → IsReadingFault bytes f → ⊥
 spelled_no_fault bytes a f left right =
     let one : Result Draft ProfileFault = Ok a in
     let other : Result Draft ProfileFault = Err f in
-    let both : one ≡ other = reads_once draft_table draft_once no_draft bytes one other left right.first in absurd cc
+    let both : one ≡ other = draft_once bytes one other left right.first in absurd cc
 
 reading_fault_once : (bytes : List ℕ) (f g : ProfileFault) → IsReadingFault bytes f → IsReadingFault bytes g → f ≡ g
 reading_fault_once bytes f g left right =
     let one : Result Draft ProfileFault = Err f in
     let other : Result Draft ProfileFault = Err g in
     let both : one ≡ other =
-    reads_once draft_table draft_once no_draft bytes one other left.first right.first in cc both
+    draft_once bytes one other left.first right.first in cc both
 
 pub profile_no_fault : (bytes : List ℕ) (a : Draft) (f : ProfileFault) → IsProfile bytes a → IsProfileFault bytes f → ⊥
 profile_no_fault bytes a f left (inl gzip) = left.plain gzip.0

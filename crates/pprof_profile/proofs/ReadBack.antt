@@ -1,5 +1,5 @@
 -- What is written is read back.
-use Rattle.std.proofs.Common.{◌≡◌, ℕ, zero, suc, ℤ, pos, ◌<◌, ◌^◌, Bool, true, false, List, [], ◌∷◌, ◌++◌, length, map}
+use Rattle.std.proofs.Common.{◌≡◌, ℕ, zero, suc, ℤ, ◌<◌, ◌^◌, Bool, true, false, List, [], ◌∷◌, ◌++◌, length, map}
 use Rattle.std.proofs.Common.{refl, sym, ap, ◌∙◌, subst, append_assoc, arith, Result, Ok, w64, FitsSigned}
 use Rattle.std.proofs.lemmas.List.{append-nil}
 use Rattle.std.proofs.lemmas.List.Concat.{flat_map-append}
@@ -12,9 +12,9 @@ use Rattle.pprof_wire.proofs.ShortestVarints.{varint_of-spells}
 use Rattle.pprof_wire.proofs.ListLaws.{written_back}
 use Rattle.pprof_profile.specs.declared.faults.ProfileFault.{ProfileFault}
 use Rattle.pprof_profile.specs.Reading.{Table, Spells, IsUnpacked}
-use Rattle.pprof_profile.specs.Messages.{flag_of}
-use Rattle.pprof_profile.specs.Canonical.{bytes_of_fields, number_fields, content_fields, each_field, packed_bytes}
-use Rattle.pprof_profile.specs.Canonical.{number_of_flag}
+use Rattle.pprof_profile.specs.Forms.{flag_of}
+use Rattle.pprof_profile.specs.Writing.{bytes_of_fields, number_fields, content_fields, each_field, packed_bytes}
+use Rattle.pprof_profile.specs.Writing.{number_of_flag}
 use Rattle.pprof_profile.proofs.Gathering.{one_spelled, spells_joined}
 use Rattle.pprof_profile.proofs.Once.{numbers_once}
 
@@ -28,7 +28,7 @@ pieces_joined table old mid new fs gs left right =
     subst (λ (bytes : List ℕ). Spells table old bytes new) (sym (flat_map-append field_bytes_of fs gs))
     (spells_joined table old mid new (bytes_of_fields fs) (bytes_of_fields gs) left right)
 
-no_piece : {M : Type 0} (table : Table M) (old new : M) → new ≡ old → Piece table old [] new
+pub no_piece : {M : Type 0} (table : Table M) (old new : M) → new ≡ old → Piece table old [] new
 no_piece table old new same = record { fields = []; listed = refl; gathered = same }
 
 one_piece : {M : Type 0} (table : Table M) (old new : M) (field : PlainField)
@@ -77,19 +77,12 @@ each_piece {A = A} table with Good number bytes_of numbered step short xs (item 
 pub signed_back : (value : ℤ) → FitsSigned w64 value → value ≡ cast_signed w64 (cast_unsigned w64 value)
 signed_back value fits = sym (to_z-of_z w64 value fits)
 
-pub signed_zero : (value : ℤ) → FitsSigned w64 value → cast_unsigned w64 value ≡ 0 → value ≡ pos 0
-signed_zero value fits none = signed_back value fits ∙ ap (cast_signed w64) none
-
 pub signed_below : (value : ℤ) → FitsSigned w64 value → cast_unsigned w64 value < 2 ^ 64
 signed_below value fits = omega (arith, ints)
 
 pub flag_back : (flag : Bool) → flag ≡ flag_of (number_of_flag flag)
 flag_back true = refl
 flag_back false = refl
-
-pub flag_zero : (flag : Bool) → number_of_flag flag ≡ 0 → flag ≡ false
-flag_zero true none = absurd (omega (arith, none))
-flag_zero false none = refl
 
 pub flag_below : (flag : Bool) → number_of_flag flag < 2 ^ 64
 flag_below true = omega arith

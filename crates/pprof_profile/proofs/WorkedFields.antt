@@ -1,5 +1,5 @@
 -- Worked examples of fields that stand several times, computed by the definitions. Each is checked by evaluating it.
-use Rattle.std.proofs.Common.{◌≡◌, ℕ, pos, List, [], ◌∷◌, refl, arith}
+use Rattle.std.proofs.Common.{◌≡◌, ℕ, pos, List, [], ◌∷◌, refl, arith, rules}
 use Rattle.pprof_wire.specs.Varints.{IsNumberList, varint_of}
 use Rattle.pprof_wire.specs.Fields.{varint, content, PlainField, IsFieldList}
 use Rattle.pprof_wire.proofs.ListLaws.{written_back}
@@ -7,9 +7,9 @@ use Rattle.pprof_wire.proofs.ShortestVarints.{varint_of-spells}
 use Rattle.pprof_profile.specs.declared.messages.ValueType.{ValueType}
 use Rattle.pprof_profile.specs.declared.messages.Sample.{Sample}
 use Rattle.pprof_profile.specs.Reading.{Gathers, Spells}
-use Rattle.pprof_profile.specs.Messages.{signed_of, no_value_type, value_type_table, no_sample, sample_table, no_draft}
-use Rattle.pprof_profile.specs.Messages.{draft_table}
-use Rattle.pprof_profile.specs.ByFields.{values_at, last_or, IsOneMessage, AreAllMessages, IsValueTypeOf, IsSampleOf}
+use Rattle.pprof_profile.specs.Messages.{no_value_type, value_type_form, no_sample, sample_form, no_draft, draft_form}
+use Rattle.pprof_profile.specs.AllValues.{values_at, last_or, IsOneMessage, AreAllMessages}
+use Rattle.pprof_profile.specs.Forms.{signed_of, table_of, IsMadeOf}
 
 abbrev number_field : ℕ → ℕ → PlainField
 number_field number value = record { number = number; value = varint value }
@@ -31,14 +31,15 @@ last_period = refl
 no_period : signed_of (last_or 0 []) ≡ pos 0
 no_period = refl
 
-last_period_wins : Gathers draft_table no_draft two_periods (record no_draft { time_nanos = pos 1; period = pos 7 })
+last_period_wins : Gathers (table_of draft_form) no_draft two_periods
+    (record no_draft { time_nanos = pos 1; period = pos 7 })
 last_period_wins = (
   record no_draft { period = pos 5 },
-  (refl, refl),
+  search rules,
   (
     record no_draft { time_nanos = pos 1; period = pos 5 },
-    (refl, refl),
-    (record no_draft { time_nanos = pos 1; period = pos 7 }, (refl, refl), refl),
+    search rules,
+    (record no_draft { time_nanos = pos 1; period = pos 7 }, search rules, refl),
   ),
 )
 
@@ -79,30 +80,31 @@ unit_listed = (
   refl,
 )
 
-kind_spelled : Spells value_type_table no_value_type (8 ∷ 1 ∷ []) kind_alone
+kind_spelled : Spells (table_of value_type_form) no_value_type (8 ∷ 1 ∷ []) kind_alone
 kind_spelled = record { fields = kind_piece; listed = kind_listed; gathered = (kind_alone, (refl, refl), refl) }
 
-unit_spelled_after : Spells value_type_table kind_alone (16 ∷ 2 ∷ []) kind_and_unit
+unit_spelled_after : Spells (table_of value_type_form) kind_alone (16 ∷ 2 ∷ []) kind_and_unit
 unit_spelled_after =
-    record { fields = unit_piece; listed = unit_listed; gathered = (kind_and_unit, (refl, refl), refl) }
+    record { fields = unit_piece; listed = unit_listed; gathered = (kind_and_unit, search rules, refl) }
 
-pieces_are_taken_together : Gathers draft_table no_draft two_pieces (record no_draft { period_type = kind_and_unit })
+pieces_are_taken_together : Gathers (table_of draft_form) no_draft two_pieces
+    (record no_draft { period_type = kind_and_unit })
 pieces_are_taken_together = (
   record no_draft { period_type = kind_alone },
-  (kind_spelled, refl),
-  (record no_draft { period_type = kind_and_unit }, (unit_spelled_after, refl), refl),
+  search (rules, kind_spelled),
+  (record no_draft { period_type = kind_and_unit }, search (rules, unit_spelled_after), refl),
 )
 
 -- the same, by the whole list
-type_of_both_pieces : IsOneMessage IsValueTypeOf (values_at 11 two_pieces) kind_and_unit
+type_of_both_pieces : IsOneMessage (IsMadeOf value_type_form) (values_at 11 two_pieces) kind_and_unit
 type_of_both_pieces =
     record {
       lists = kind_piece ∷ unit_piece ∷ [];
       listed = (kind_listed, (unit_listed, refl));
-      together = record {
-        kind_fields = record { numbers = 1 ∷ []; varints = refl; last = refl };
-        unit_fields = record { numbers = 2 ∷ []; varints = refl; last = refl };
-      };
+      together = (
+        record { numbers = 1 ∷ []; varints = refl; last = refl },
+        (record { numbers = 2 ∷ []; varints = refl; last = refl }, tt),
+      );
     }
 
 -- ---- two samples, of the value 7 and of the value 3, with the period between them: both are there, in order
@@ -148,51 +150,55 @@ seven_listed : IsNumberList (7 ∷ []) (7 ∷ [])
 unfolding varint_of
 seven_listed = (7 ∷ [], [], refl, varint_of-spells 7 (omega arith), refl)
 
-seven_spelled : Spells sample_table no_sample (18 ∷ 1 ∷ 7 ∷ []) seven
+seven_spelled : Spells (table_of sample_form) no_sample (18 ∷ 1 ∷ 7 ∷ []) seven
 seven_spelled =
     record {
       fields = packed_value;
       listed = packed_listed;
-      gathered = (seven, (record { numbers = 7 ∷ []; listed = seven_listed; appended = refl }, refl), refl);
+      gathered = (seven, ((record { numbers = 7 ∷ []; listed = seven_listed; appended = refl }, refl), refl), refl);
     }
 
-three_spelled : Spells sample_table no_sample (16 ∷ 3 ∷ []) three
-three_spelled = record { fields = single_value; listed = single_listed; gathered = (three, (refl, refl), refl) }
+three_spelled : Spells (table_of sample_form) no_sample (16 ∷ 3 ∷ []) three
+three_spelled = record { fields = single_value; listed = single_listed; gathered = (three, ((refl, refl), refl), refl) }
 
-samples_in_order : Gathers draft_table no_draft two_samples
+samples_in_order : Gathers (table_of draft_form) no_draft two_samples
     (record no_draft { samples = seven ∷ three ∷ []; period = pos 5 })
 samples_in_order = (
   record no_draft { samples = seven ∷ [] },
-  (record { item = seven; spelled = seven_spelled; appended = refl }, refl),
+  ((record { item = seven; spelled = seven_spelled; appended = refl }, refl), refl),
   (
     record no_draft { samples = seven ∷ []; period = pos 5 },
-    (refl, refl),
+    search rules,
     (
       record no_draft { samples = seven ∷ three ∷ []; period = pos 5 },
-      (record { item = three; spelled = three_spelled; appended = refl }, refl),
+      ((record { item = three; spelled = three_spelled; appended = refl }, refl), refl),
       refl,
     ),
   ),
 )
 
 -- the same, by the whole list
-samples_of_both_fields : AreAllMessages IsSampleOf (values_at 2 two_samples) (seven ∷ three ∷ [])
+samples_of_both_fields : AreAllMessages (IsMadeOf sample_form) (values_at 2 two_samples) (seven ∷ three ∷ [])
 samples_of_both_fields =
     record {
       lists = packed_value ∷ single_value ∷ [];
       listed = (packed_listed, (single_listed, refl));
       each = (
-        record {
-          location_ids_fields = record { numbers = []; numbered = refl; all = refl };
-          values_fields = record { numbers = (7 ∷ []) ∷ []; numbered = (seven_listed, refl); all = refl };
-          labels_fields = record { lists = []; listed = refl; each = refl };
-        },
         (
-          record {
-            location_ids_fields = record { numbers = []; numbered = refl; all = refl };
-            values_fields = record { numbers = (3 ∷ []) ∷ []; numbered = (refl, refl); all = refl };
-            labels_fields = record { lists = []; listed = refl; each = refl };
-          },
+          record { numbers = []; numbered = refl; all = refl },
+          (
+            record { numbers = (7 ∷ []) ∷ []; numbered = (seven_listed, refl); all = refl },
+            (record { lists = []; listed = refl; each = refl }, tt),
+          ),
+        ),
+        (
+          (
+            record { numbers = []; numbered = refl; all = refl },
+            (
+              record { numbers = (3 ∷ []) ∷ []; numbered = (refl, refl); all = refl },
+              (record { lists = []; listed = refl; each = refl }, tt),
+            ),
+          ),
           refl,
         ),
       );

@@ -1,8 +1,11 @@
+pub mod AllValues
 pub mod ByFields
 pub mod Canonical
+pub mod Forms
 pub mod KnownIds
 pub mod Messages
 pub mod Profiles
 pub mod Reading
 pub mod SampleLists
 pub mod Valid
+pub mod Writing

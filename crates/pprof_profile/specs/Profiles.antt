@@ -4,7 +4,8 @@ use Rattle.pprof_profile.specs.declared.faults.ProfileFault.{ProfileFault}
 use Rattle.pprof_profile.specs.declared.faults.ProfileFault.TheVariants.{Gzip}
 use Rattle.pprof_profile.specs.declared.messages.Draft.{Draft}
 use Rattle.pprof_profile.specs.Reading.{Spells, IsFirstFault}
-use Rattle.pprof_profile.specs.Messages.{no_draft, draft_table}
+use Rattle.pprof_profile.specs.Forms.{table_of}
+use Rattle.pprof_profile.specs.Messages.{no_draft, draft_form}
 use Rattle.pprof_profile.specs.Valid.{IsValidDraft, validity_fault}
 
 -- The bytes begin as those of gzip (RFC 1952, section 2.3.1).
@@ -13,7 +14,7 @@ BeginsAsGzip bytes = (rest : List ℕ) × (bytes ≡ 31 ∷ 139 ∷ rest)
 
 -- The bytes spell the draft as a message, whether it is valid or not.
 abbrev pub SpellsDraft : List ℕ → Draft → Type 0
-SpellsDraft bytes draft = Spells draft_table no_draft bytes draft
+SpellsDraft bytes draft = Spells (table_of draft_form) no_draft bytes draft
 
 -- The bytes spell a valid draft.
 pub record IsProfile (bytes : List ℕ) (draft : Draft) : Type 0 where
@@ -24,7 +25,7 @@ pub record IsProfile (bytes : List ℕ) (draft : Draft) : Type 0 where
 -- Why the bytes spell no draft: the first fault in reading order.
 pub record IsReadingFault (bytes : List ℕ) (fault : ProfileFault) : Type 0 where
   pub plain : ¬ BeginsAsGzip bytes
-  pub first : IsFirstFault draft_table no_draft bytes fault
+  pub first : IsFirstFault (table_of draft_form) no_draft bytes fault
 
 -- The bytes spell a draft, and this is the first rule that it breaks.
 pub record SpellsInvalid (bytes : List ℕ) (fault : ProfileFault) : Type 0 where

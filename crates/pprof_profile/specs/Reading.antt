@@ -148,15 +148,9 @@ MergesMessage table old (fixed64 number) outcome = IsOfOtherType outcome
 MergesMessage table old (fixed32 number) outcome = IsOfOtherType outcome
 MergesMessage table old (content bytes) outcome = Reads table old bytes outcome
 
--- ---- the rows of a table
+-- ---- which field it is
 
--- The rule, at the field of the message that `get` reads and `put` changes; the other fields stay.
-abbrev pub At : {M A : Type 0} → Rule A → (M → A) → (M → A → M) → M → FieldValue
-    → Result M ProfileFault → Type 0
-At rule get put old value (Ok new) = rule (get old) value (Ok (get new)) × (new ≡ put old (get new))
-At rule get put old value (Err fault) = rule (get old) value (Err fault)
-
--- A row, where the number is the row's, and else the rows after it.
+-- What is said of a row where the number is the row's, and else what is said of the rows after it.
 abbrev pub Where : {O : Type 0} → Bool → (O → Type 0) → (O → Type 0) → O → Type 0
 Where true row others = row
 Where false row others = others

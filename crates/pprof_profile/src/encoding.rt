@@ -1,11 +1,12 @@
 //! The messages as the fields that are written of them.
 
-ghost use Rattle.std.specs.Prelude.{◌≡◌, ◌++◌, ◌<◌, ◌^◌, List, length, map, OnOk};
-ghost use Rattle.std.specs.Int.{w64};
-ghost use Rattle.std.specs.Int.RustNames.{FitsSigned};
-ghost use Rattle.pprof_profile.specs.declared.messages.Draft.{Draft};
+ghost use Rattle.std.specs.Prelude.{◌≡◌, ◌++◌, ℕ, List, map, OnOk};
+ghost use Rattle.pprof_wire.specs.Fields.{PlainField};
 ghost use Rattle.pprof_profile.specs.declared.messages.Sample.{Sample};
-ghost use Rattle.pprof_profile.specs.Canonical.{mapping_place_fields, mapping_detail_fields, draft_item_fields, draft_setting_fields, draft_table_fields, samples_bytes, canonical_bytes_of, FitsUnsigned, FitsNumbers, FitsTexts, FitsEach, packed_bytes, number_of_signed, value_type_bytes, sample_bytes, mapping_bytes, location_bytes, function_bytes, bytes_of_fields, value_type_fields, FitsValueType, line_fields, FitsLine, label_fields, FitsLabel, mapping_fields, FitsMapping, function_fields, FitsFunction, location_fields, FitsLocation, sample_fields, FitsSample, each_field, draft_fields, FitsDraft};
+ghost use Rattle.pprof_profile.specs.Canonical.{sample_bytes, samples_bytes, canonical_bytes_of, FitsSample, FitsDraft};
+ghost use Rattle.pprof_profile.specs.Forms.{PartsFit, parts_of, written_after};
+ghost use Rattle.pprof_profile.specs.Messages.{value_type_form, line_form, label_form, mapping_form, function_form, location_form, sample_form, draft_form, rows_after_samples};
+ghost use Rattle.pprof_profile.specs.Writing.{FitsEach, bytes_of_fields, each_field};
 
 use crate::messages::{Draft, Function, Label, Line, Location, Mapping, ValueType};
 use crate::samples::{SampleRef, Samples};
@@ -17,9 +18,7 @@ use pprof_wire::{NoMemory, Value, write_field};
 use std::alloc::Global;
 
 impl Written for ValueType {
-    ghost fields = { value_type_fields };
-
-    ghost fits = { FitsValueType };
+    ghost form = { value_type_form };
 
     fn write(
         &self,
@@ -33,9 +32,7 @@ impl Written for ValueType {
 }
 
 impl Written for Line {
-    ghost fields = { line_fields };
-
-    ghost fits = { FitsLine };
+    ghost form = { line_form };
 
     fn write(
         &self,
@@ -49,9 +46,7 @@ impl Written for Line {
 }
 
 impl Written for Label {
-    ghost fields = { label_fields };
-
-    ghost fits = { FitsLabel };
+    ghost form = { label_form };
 
     fn write(
         &self,
@@ -67,9 +62,7 @@ impl Written for Label {
 }
 
 impl Written for Mapping {
-    ghost fields = { mapping_fields };
-
-    ghost fits = { FitsMapping };
+    ghost form = { mapping_form };
 
     fn write(
         &self,
@@ -77,39 +70,21 @@ impl Written for Mapping {
         out: &mut Vec<u8>,
         _spare: &mut Vec<u8>,
     ) -> Result<(), NoMemory> {
-        write_mapping_place_fields(self, out)?;
-        write_mapping_detail_fields(self, out)
+        write_number(out, 1, &self.id)?;
+        write_number(out, 2, &self.memory_start)?;
+        write_number(out, 3, &self.memory_limit)?;
+        write_number(out, 4, &self.file_offset)?;
+        write_number(out, 5, &self.filename)?;
+        write_number(out, 6, &self.build_id)?;
+        write_number(out, 7, &self.has_functions)?;
+        write_number(out, 8, &self.has_filenames)?;
+        write_number(out, 9, &self.has_line_numbers)?;
+        write_number(out, 10, &self.has_inline_frames)
     }
 }
 
-fn write_mapping_place_fields(item: &Mapping, out: &mut Vec<u8>) -> Result<(), NoMemory>
-    ensures written { OnOk result (out.new.items ≡ out.old.items ++ bytes_of_fields (mapping_place_fields item.now)) }
-    ensures fits { OnOk result
-        ((FitsUnsigned item.now.id) × (FitsUnsigned item.now.memory_start) × (FitsUnsigned item.now.memory_limit)
-        × (FitsUnsigned item.now.file_offset) × (FitsSigned w64 item.now.filename)
-        × (FitsSigned w64 item.now.build_id)) }
-{
-    write_number(out, 1, &item.id)?;
-    write_number(out, 2, &item.memory_start)?;
-    write_number(out, 3, &item.memory_limit)?;
-    write_number(out, 4, &item.file_offset)?;
-    write_number(out, 5, &item.filename)?;
-    write_number(out, 6, &item.build_id)
-}
-
-fn write_mapping_detail_fields(item: &Mapping, out: &mut Vec<u8>) -> Result<(), NoMemory>
-    ensures { OnOk result (out.new.items ≡ out.old.items ++ bytes_of_fields (mapping_detail_fields item.now)) }
-{
-    write_number(out, 7, &item.has_functions)?;
-    write_number(out, 8, &item.has_filenames)?;
-    write_number(out, 9, &item.has_line_numbers)?;
-    write_number(out, 10, &item.has_inline_frames)
-}
-
 impl Written for Function {
-    ghost fields = { function_fields };
-
-    ghost fits = { FitsFunction };
+    ghost form = { function_form };
 
     fn write(
         &self,
@@ -126,9 +101,7 @@ impl Written for Function {
 }
 
 impl Written for Location {
-    ghost fields = { location_fields };
-
-    ghost fits = { FitsLocation };
+    ghost form = { location_form };
 
     fn write(&self, alloc: Global, out: &mut Vec<u8>, spare: &mut Vec<u8>) -> Result<(), NoMemory> {
         write_number(out, 1, &self.id)?;
@@ -140,9 +113,7 @@ impl Written for Location {
 }
 
 impl<'a> Written for SampleRef<'a> {
-    ghost fields = { sample_fields };
-
-    ghost fits = { FitsSample };
+    ghost form = { sample_form };
 
     fn write(&self, alloc: Global, out: &mut Vec<u8>, spare: &mut Vec<u8>) -> Result<(), NoMemory> {
         write_packed(out, 1, self.location_ids(), spare)?;
@@ -171,68 +142,32 @@ fn write_samples(
 }
 
 impl Written for Draft {
-    ghost fields = { draft_fields };
-
-    ghost fits = { FitsDraft };
+    ghost form = { draft_form };
 
     fn write(&self, alloc: Global, out: &mut Vec<u8>, spare: &mut Vec<u8>) -> Result<(), NoMemory> {
-        write_draft_item_fields(alloc, self, out, spare)?;
-        write_draft_setting_fields(alloc, self, out, spare)
+        write_messages(alloc, out, 1, &self.sample_types, spare)?;
+        write_samples(alloc, out, &self.samples, spare)?;
+        write_after_samples(alloc, self, out, spare)
     }
 }
 
-fn write_draft_item_fields(
+/// Appends the fields of a draft that stand after its samples.
+fn write_after_samples(
     alloc: Global,
     item: &Draft,
     out: &mut Vec<u8>,
     spare: &mut Vec<u8>,
 ) -> Result<(), NoMemory>
-    ensures written { OnOk result (out.new.items ≡ out.old.items ++ bytes_of_fields (draft_item_fields item.now)) }
-    ensures fits { OnOk result
-        ((FitsEach FitsValueType value_type_bytes item.now.sample_types)
-        × (FitsEach FitsSample sample_bytes item.now.samples) × (FitsEach FitsMapping mapping_bytes item.now.mappings)
-        × (FitsEach FitsLocation location_bytes item.now.locations)
-        × (FitsEach FitsFunction function_bytes item.now.functions) × (FitsTexts item.now.strings)) }
-{
-    write_messages(alloc, out, 1, &item.sample_types, spare)?;
-    write_samples(alloc, out, &item.samples, spare)?;
-    write_draft_table_fields(alloc, item, out, spare)
-}
-
-fn write_draft_table_fields(
-    alloc: Global,
-    item: &Draft,
-    out: &mut Vec<u8>,
-    spare: &mut Vec<u8>,
-) -> Result<(), NoMemory>
-    ensures written { OnOk result (out.new.items ≡ out.old.items ++ bytes_of_fields (draft_table_fields item.now)) }
-    ensures fits { OnOk result
-        ((FitsEach FitsMapping mapping_bytes item.now.mappings)
-        × (FitsEach FitsLocation location_bytes item.now.locations)
-        × (FitsEach FitsFunction function_bytes item.now.functions) × (FitsTexts item.now.strings)) }
+    ensures written { (start : List ℕ) → (before : List PlainField)
+        → out.old.items ≡ start ++ bytes_of_fields before
+        → OnOk result (out.new.items ≡ start
+        ++ bytes_of_fields (written_after rows_after_samples before (parts_of rows_after_samples item.now))) }
+    ensures fits { OnOk result (PartsFit rows_after_samples (parts_of rows_after_samples item.now)) }
 {
     write_messages(alloc, out, 3, &item.mappings, spare)?;
     write_messages(alloc, out, 4, &item.locations, spare)?;
     write_messages(alloc, out, 5, &item.functions, spare)?;
-    write_texts(out, 6, &item.strings)
-}
-
-fn write_draft_setting_fields(
-    alloc: Global,
-    item: &Draft,
-    out: &mut Vec<u8>,
-    spare: &mut Vec<u8>,
-) -> Result<(), NoMemory>
-    ensures written { OnOk result (out.new.items ≡ out.old.items ++ bytes_of_fields (draft_setting_fields item.now)) }
-    ensures fits { OnOk result
-        ((FitsSigned w64 item.now.drop_frames) × (FitsSigned w64 item.now.keep_frames)
-        × (FitsSigned w64 item.now.time_nanos) × (FitsSigned w64 item.now.duration_nanos)
-        × (FitsValueType item.now.period_type × (length (value_type_bytes item.now.period_type) < 2 ^ 64))
-        × (FitsSigned w64 item.now.period)
-        × (FitsNumbers (FitsSigned w64) item.now.comments
-        × (length (packed_bytes (map number_of_signed item.now.comments)) < 2 ^ 64))
-        × (FitsSigned w64 item.now.default_sample_type)) }
-{
+    write_texts(out, 6, &item.strings)?;
     write_number(out, 7, &item.drop_frames)?;
     write_number(out, 8, &item.keep_frames)?;
     write_number(out, 9, &item.time_nanos)?;
@@ -258,6 +193,5 @@ pub(crate) fn write_around_samples(
     let mut spare = Vec::new(alloc);
     write_messages(alloc, out, 1, &item.sample_types, &mut spare)?;
     out.extend_from_slice(samples)?;
-    write_draft_table_fields(alloc, item, out, &mut spare)?;
-    write_draft_setting_fields(alloc, item, out, &mut spare)
+    write_after_samples(alloc, item, out, &mut spare)
 }

@@ -3,8 +3,8 @@
 ghost use Rattle.std.specs.Prelude.{◌≡◌, ℕ};
 ghost use Rattle.std.specs.Int.{w64};
 ghost use Rattle.std.specs.Int.RustNames.{FitsSigned};
-ghost use Rattle.pprof_profile.specs.Canonical.{FitsUnsigned, number_of_unsigned, number_of_signed, number_of_flag};
-ghost use Rattle.pprof_profile.specs.Messages.{unsigned_of, signed_of, flag_of};
+ghost use Rattle.pprof_profile.specs.Writing.{FitsUnsigned, number_of_unsigned, number_of_signed, number_of_flag};
+ghost use Rattle.pprof_profile.specs.Forms.{unsigned_of, signed_of, flag_of};
 
 /// What a varint holds.
 pub(crate) trait Number: Copy {

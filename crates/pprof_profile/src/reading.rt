@@ -3,7 +3,8 @@
 ghost use Rattle.std.specs.Prelude.{◌≡◌, ◌≢◌, Result, Ok, Err, IfOk, IfErr, OnOk};
 ghost use Rattle.pprof_wire.specs.Fields.{value_of};
 ghost use Rattle.pprof_profile.specs.declared.faults.ProfileFault.{ProfileFault};
-ghost use Rattle.pprof_profile.specs.Reading.{Table, Spells, IsFirstFault, SetsNumber, AddsNumbers, AddsText, AddsMessage, MergesMessage, IsUnpacked, IsPackedFault};
+ghost use Rattle.pprof_profile.specs.Forms.{Form, empty_of, table_of};
+ghost use Rattle.pprof_profile.specs.Reading.{Spells, IsFirstFault, SetsNumber, AddsNumbers, AddsText, AddsMessage, MergesMessage, IsUnpacked, IsPackedFault};
 
 use crate::faults::ProfileFault;
 use crate::numbers::Number;
@@ -14,21 +15,19 @@ use std::alloc::Global;
 
 /// A message of profile.proto.
 pub(crate) trait Message: Drop {
-    /// The message without fields.
-    ghost empty: { Self };
-
-    /// What each field does to it.
-    ghost table: { Table Self };
+    /// Its fields.
+    ghost form: { Form Self };
 
     /// The message without fields. Takes no memory.
     fn empty(alloc: Global) -> Self
-        ensures { result ≡ empty };
+        ensures { result ≡ empty_of form };
 
     /// Takes one field.
     fn take(&mut self, alloc: Global, field: Field) -> Result<(), ProfileFault>
-        ensures taken { OnOk result (table self.old field.entry.number (value_of field.entry.value) (Ok self.new)) }
+        ensures taken { OnOk result
+            (table_of form self.old field.entry.number (value_of field.entry.value) (Ok self.new)) }
         ensures fault { IfErr result (λ fault. fault ≢ ProfileFault.NoMemory
-            → table self.old field.entry.number (value_of field.entry.value) (Err fault)) };
+            → table_of form self.old field.entry.number (value_of field.entry.value) (Err fault)) };
 }
 
 /// Takes each field of the bytes, in order, and stops at the first fault.
@@ -37,9 +36,9 @@ pub(crate) fn read_onto<M: Message>(
     message: &mut M,
     bytes: &[u8],
 ) -> Result<(), ProfileFault>
-    ensures read { OnOk result (Spells M.table message.old bytes.now message.new) }
+    ensures read { OnOk result (Spells (table_of M.form) message.old bytes.now message.new) }
     ensures fault { IfErr result (λ fault. fault ≢ ProfileFault.NoMemory
-        → IsFirstFault M.table message.old bytes.now fault) }
+        → IsFirstFault (table_of M.form) message.old bytes.now fault) }
 {
     let mut fields = Fields::new(bytes);
     while let Some(read) = fields.next_field() {
@@ -53,9 +52,9 @@ pub(crate) fn read_onto<M: Message>(
 
 /// The message that the bytes spell.
 pub(crate) fn read_message<M: Message>(alloc: Global, bytes: &[u8]) -> Result<M, ProfileFault>
-    ensures read { IfOk result (λ message. Spells M.table M.empty bytes.now message) }
+    ensures read { IfOk result (λ message. Spells (table_of M.form) (empty_of M.form) bytes.now message) }
     ensures fault { IfErr result (λ fault. fault ≢ ProfileFault.NoMemory
-        → IsFirstFault M.table M.empty bytes.now fault) }
+        → IsFirstFault (table_of M.form) (empty_of M.form) bytes.now fault) }
 {
     let mut message = M::empty(alloc);
     read_onto(alloc, &mut message, bytes)?;
@@ -144,9 +143,10 @@ pub(crate) fn push_message<M: Message>(
     items: &mut Items<M>,
     value: Value,
 ) -> Result<(), ProfileFault>
-    ensures added { OnOk result (AddsMessage M.table M.empty items.old (value_of value.entry) (Ok items.new)) }
+    ensures added { OnOk result
+        (AddsMessage (table_of M.form) (empty_of M.form) items.old (value_of value.entry) (Ok items.new)) }
     ensures fault { IfErr result (λ fault. fault ≢ ProfileFault.NoMemory
-        → AddsMessage M.table M.empty items.old (value_of value.entry) (Err fault)) }
+        → AddsMessage (table_of M.form) (empty_of M.form) items.old (value_of value.entry) (Err fault)) }
 {
     let Value::Bytes(bytes) = value else {
         return Err(ProfileFault::Wire(WireFault::WireType));
@@ -160,9 +160,9 @@ pub(crate) fn merge_message<M: Message>(
     message: &mut M,
     value: Value,
 ) -> Result<(), ProfileFault>
-    ensures merged { OnOk result (MergesMessage M.table message.old (value_of value.entry) (Ok message.new)) }
+    ensures merged { OnOk result (MergesMessage (table_of M.form) message.old (value_of value.entry) (Ok message.new)) }
     ensures fault { IfErr result (λ fault. fault ≢ ProfileFault.NoMemory
-        → MergesMessage M.table message.old (value_of value.entry) (Err fault)) }
+        → MergesMessage (table_of M.form) message.old (value_of value.entry) (Err fault)) }
 {
     let Value::Bytes(bytes) = value else {
         return Err(ProfileFault::Wire(WireFault::WireType));

@@ -3,7 +3,8 @@
 ghost use Rattle.std.specs.Prelude.{◌≡◌, ◌≢◌, ◌<◌, ◌++◌, ◌∷◌, [], Err, List, Ok, Some, length, slice_get, IfErr, OnErr, OnOk};
 ghost use Rattle.pprof_wire.specs.Fields.{value_of};
 ghost use Rattle.pprof_profile.specs.declared.faults.ProfileFault.{ProfileFault};
-ghost use Rattle.pprof_profile.specs.Messages.{no_sample, sample_table};
+ghost use Rattle.pprof_profile.specs.Forms.{table_of};
+ghost use Rattle.pprof_profile.specs.Messages.{no_sample, sample_form};
 ghost use Rattle.pprof_profile.specs.Reading.{AddsMessage, IsAppended, IsFirstFault};
 
 use crate::faults::ProfileFault;
@@ -211,9 +212,9 @@ impl Samples {
 
     /// Adds the sample that the bytes spell.
     fn read(&mut self, alloc: Global, bytes: &[u8]) -> Result<(), ProfileFault>
-        ensures read { OnOk result (IsAppended sample_table no_sample self.old bytes.now self.new) }
+        ensures read { OnOk result (IsAppended (table_of sample_form) no_sample self.old bytes.now self.new) }
         ensures fault { IfErr result (λ fault. fault ≢ ProfileFault.NoMemory
-            → IsFirstFault sample_table no_sample bytes.now fault) }
+            → IsFirstFault (table_of sample_form) no_sample bytes.now fault) }
     {
         self.spare.clear();
         read_onto(alloc, &mut self.spare, bytes)?;
@@ -229,9 +230,9 @@ pub(crate) fn push_sample(
     value: Value,
 ) -> Result<(), ProfileFault>
     ensures added { OnOk result
-        (AddsMessage sample_table no_sample samples.old (value_of value.entry) (Ok samples.new)) }
+        (AddsMessage (table_of sample_form) no_sample samples.old (value_of value.entry) (Ok samples.new)) }
     ensures fault { IfErr result (λ fault. fault ≢ ProfileFault.NoMemory
-        → AddsMessage sample_table no_sample samples.old (value_of value.entry) (Err fault)) }
+        → AddsMessage (table_of sample_form) no_sample samples.old (value_of value.entry) (Err fault)) }
 {
     let Value::Bytes(bytes) = value else {
         return Err(ProfileFault::Wire(WireFault::WireType));

@@ -1,6 +1,6 @@
 //! Which field of each message goes to which part of it.
 
-ghost use Rattle.pprof_profile.specs.Messages.{no_value_type, value_type_table, no_line, line_table, no_label, label_table, no_mapping, mapping_table, no_function, function_table, no_location, location_table, no_sample, sample_table, no_draft, draft_table};
+ghost use Rattle.pprof_profile.specs.Messages.{value_type_form, line_form, label_form, mapping_form, function_form, location_form, sample_form, draft_form};
 
 use crate::faults::ProfileFault;
 use crate::messages::{Draft, Function, Label, Line, Location, Mapping, Sample, ValueType};
@@ -11,9 +11,7 @@ use pprof_wire::Field;
 use std::alloc::Global;
 
 impl Message for ValueType {
-    ghost empty = { no_value_type };
-
-    ghost table = { value_type_table };
+    ghost form = { value_type_form };
 
     fn empty(_alloc: Global) -> ValueType {
         ValueType { kind: 0, unit: 0 }
@@ -29,9 +27,7 @@ impl Message for ValueType {
 }
 
 impl Message for Line {
-    ghost empty = { no_line };
-
-    ghost table = { line_table };
+    ghost form = { line_form };
 
     fn empty(_alloc: Global) -> Line {
         Line {
@@ -50,9 +46,7 @@ impl Message for Line {
 }
 
 impl Message for Label {
-    ghost empty = { no_label };
-
-    ghost table = { label_table };
+    ghost form = { label_form };
 
     fn empty(_alloc: Global) -> Label {
         Label {
@@ -75,9 +69,7 @@ impl Message for Label {
 }
 
 impl Message for Mapping {
-    ghost empty = { no_mapping };
-
-    ghost table = { mapping_table };
+    ghost form = { mapping_form };
 
     fn empty(_alloc: Global) -> Mapping {
         Mapping {
@@ -112,9 +104,7 @@ impl Message for Mapping {
 }
 
 impl Message for Function {
-    ghost empty = { no_function };
-
-    ghost table = { function_table };
+    ghost form = { function_form };
 
     fn empty(_alloc: Global) -> Function {
         Function {
@@ -139,9 +129,7 @@ impl Message for Function {
 }
 
 impl Message for Location {
-    ghost empty = { no_location };
-
-    ghost table = { location_table };
+    ghost form = { location_form };
 
     fn empty(alloc: Global) -> Location {
         Location {
@@ -166,9 +154,7 @@ impl Message for Location {
 }
 
 impl Message for Sample {
-    ghost empty = { no_sample };
-
-    ghost table = { sample_table };
+    ghost form = { sample_form };
 
     fn empty(alloc: Global) -> Sample {
         Sample {
@@ -189,9 +175,7 @@ impl Message for Sample {
 }
 
 impl Message for Draft {
-    ghost empty = { no_draft };
-
-    ghost table = { draft_table };
+    ghost form = { draft_form };
 
     fn empty(alloc: Global) -> Draft {
         Draft {

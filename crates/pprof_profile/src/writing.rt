@@ -1,8 +1,9 @@
 //! Fields appended to bytes: numbers, texts and messages.
 
 ghost use Rattle.std.specs.Prelude.{◌≡◌, ◌++◌, ◌<◌, ◌^◌, List, length, map, OnOk};
-ghost use Rattle.pprof_wire.specs.Fields.{PlainField, IsFieldNumber};
-ghost use Rattle.pprof_profile.specs.Canonical.{bytes_of_fields, number_fields, content_fields, each_field, packed_bytes, FitsNumbers, FitsTexts, FitsEach};
+ghost use Rattle.pprof_wire.specs.Fields.{IsFieldNumber};
+ghost use Rattle.pprof_profile.specs.Forms.{Form, Fits, bytes_of};
+ghost use Rattle.pprof_profile.specs.Writing.{bytes_of_fields, number_fields, content_fields, each_field, packed_bytes, FitsNumbers, FitsTexts, FitsEach};
 
 use crate::numbers::Number;
 use crate::text::Text;
@@ -12,16 +13,13 @@ use std::alloc::Global;
 
 /// A message that can be written.
 pub(crate) trait Written {
-    /// The fields that are written.
-    ghost fields: { Self → List PlainField };
-
-    /// What its numbers, texts and memory can hold.
-    ghost fits: { Self → Type 0 };
+    /// Its fields.
+    ghost form: { Form Self };
 
     /// Appends the fields. What is nested in them is written to `spare` first, since its length stands before it.
     fn write(&self, alloc: Global, out: &mut Vec<u8>, spare: &mut Vec<u8>) -> Result<(), NoMemory>
-        ensures written { OnOk result (out.new.items ≡ out.old.items ++ bytes_of_fields (fields self.now)) }
-        ensures fits { OnOk result (fits self.now) };
+        ensures written { OnOk result (out.new.items ≡ out.old.items ++ bytes_of form self.now) }
+        ensures fits { OnOk result (Fits form self.now) };
 }
 
 /// Appends a single number, if it is not 0.
@@ -123,8 +121,8 @@ pub(crate) fn replace_content<M: Written>(
     item: &M,
     spare: &mut Vec<u8>,
 ) -> Result<(), NoMemory>
-    ensures content { OnOk result (content.new.items ≡ bytes_of_fields (M.fields item.now)) }
-    ensures fits { OnOk result (M.fits item.now × (length (bytes_of_fields (M.fields item.now)) < 2 ^ 64)) }
+    ensures content { OnOk result (content.new.items ≡ bytes_of M.form item.now) }
+    ensures fits { OnOk result (Fits M.form item.now × (length (bytes_of M.form item.now) < 2 ^ 64)) }
 {
     content.clear();
     item.write(alloc, content, spare)
@@ -140,8 +138,8 @@ pub(crate) fn write_messages<M: Written>(
 ) -> Result<(), NoMemory>
     requires { IsFieldNumber number }
     ensures written { OnOk result (out.new.items ≡ out.old.items
-        ++ bytes_of_fields (each_field number (map (λ item. bytes_of_fields (M.fields item)) items.now))) }
-    ensures fits { OnOk result (FitsEach M.fits (λ item. bytes_of_fields (M.fields item)) items.now) }
+        ++ bytes_of_fields (each_field number (map (bytes_of M.form) items.now))) }
+    ensures fits { OnOk result (FitsEach (Fits M.form) (bytes_of M.form) items.now) }
 {
     write_each(alloc, out, number, items.as_slice(), spare)
 }
@@ -157,8 +155,8 @@ pub(crate) fn write_each<M: Written>(
 ) -> Result<(), NoMemory>
     requires { IsFieldNumber number }
     ensures written { OnOk result (out.new.items ≡ out.old.items
-        ++ bytes_of_fields (each_field number (map (λ item. bytes_of_fields (M.fields item)) items.now))) }
-    ensures fits { OnOk result (FitsEach M.fits (λ item. bytes_of_fields (M.fields item)) items.now) }
+        ++ bytes_of_fields (each_field number (map (bytes_of M.form) items.now))) }
+    ensures fits { OnOk result (FitsEach (Fits M.form) (bytes_of M.form) items.now) }
 {
     let mut nested = Vec::new(alloc);
     for item in items {
@@ -178,8 +176,8 @@ pub(crate) fn write_message<M: Written>(
 ) -> Result<(), NoMemory>
     requires { IsFieldNumber number }
     ensures written { OnOk result (out.new.items ≡ out.old.items
-        ++ bytes_of_fields (content_fields number (bytes_of_fields (M.fields item.now)))) }
-    ensures fits { OnOk result (M.fits item.now × (length (bytes_of_fields (M.fields item.now)) < 2 ^ 64)) }
+        ++ bytes_of_fields (content_fields number (bytes_of M.form item.now))) }
+    ensures fits { OnOk result (Fits M.form item.now × (length (bytes_of M.form item.now) < 2 ^ 64)) }
 {
     let mut nested = Vec::new(alloc);
     replace_content(alloc, spare, item, &mut nested)?;

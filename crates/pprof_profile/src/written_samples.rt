@@ -3,7 +3,8 @@
 ghost use Rattle.std.specs.Prelude.{◌≡◌, ◌++◌, ◌∷◌, [], List, IfOk, OnErr, OnOk};
 ghost use Rattle.pprof_profile.specs.declared.messages.Draft.{Draft};
 ghost use Rattle.pprof_profile.specs.declared.messages.Sample.{Sample};
-ghost use Rattle.pprof_profile.specs.Canonical.{canonical_bytes_of, sample_bytes, samples_bytes, FitsEach, FitsSample};
+ghost use Rattle.pprof_profile.specs.Canonical.{canonical_bytes_of, sample_bytes, samples_bytes, FitsSample};
+ghost use Rattle.pprof_profile.specs.Writing.{FitsEach};
 ghost use Rattle.pprof_profile.specs.Profiles.{SpellsDraft, IsProfile};
 ghost use Rattle.pprof_profile.specs.Valid.{IsValidDraft};
 

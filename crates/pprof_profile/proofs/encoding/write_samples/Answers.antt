@@ -1,7 +1,8 @@
 use Rattle.std.proofs.Common.{◌∙◌, ◌++◌, ap, sym, subst, take}
 use Rattle.std.proofs.SliceLists.{all_by_recursion_push}
 use Rattle.pprof_wire.specs.Fields.{content, field_bytes_of}
-use Rattle.pprof_profile.specs.Canonical.{FitsEach, FitsSample, sample_bytes, samples_bytes}
+use Rattle.pprof_profile.specs.Canonical.{FitsSample, sample_bytes, samples_bytes}
+use Rattle.pprof_profile.specs.Writing.{FitsEach}
 use Rattle.pprof_profile.proofs.Appending.{sample_joined}
 use Rattle.pprof_profile.proofs.Places.{more_at}
 use Rattle.pprof_profile.proofs.encoding.write_samples.Goals as goal

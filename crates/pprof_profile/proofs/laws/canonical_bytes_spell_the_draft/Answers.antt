@@ -1,5 +1,4 @@
-use Rattle.pprof_profile.proofs.MessagesBack.Drafts.{draft_back}
-use Rattle.pprof_profile.proofs.Plain.{canonical_profile}
+use Rattle.pprof_profile.proofs.Plain.{canonical_profile, draft_back}
 use Rattle.pprof_profile.proofs.laws.canonical_bytes_spell_the_draft.Goals as goal
 
 pub returns : goal.returns

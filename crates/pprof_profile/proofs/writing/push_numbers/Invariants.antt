@@ -1,5 +1,5 @@
 use Rattle.std.proofs.Common.{◌≡◌, ◌++◌, map, take}
-use Rattle.pprof_profile.specs.Canonical.{packed_bytes, FitsNumbers}
+use Rattle.pprof_profile.specs.Writing.{packed_bytes, FitsNumbers}
 use Rattle.pprof_profile.proofs.writing.push_numbers.Given as goal
 
 abbrev pub invariant-loop-item : goal.invariant-loop-item

@@ -1,5 +1,5 @@
 use Rattle.std.proofs.Common.{◌≡◌, ◌++◌, take}
-use Rattle.pprof_profile.specs.Canonical.{bytes_of_fields, each_field, FitsTexts}
+use Rattle.pprof_profile.specs.Writing.{bytes_of_fields, each_field, FitsTexts}
 use Rattle.pprof_profile.proofs.writing.write_texts.Given as goal
 
 abbrev pub invariant-loop-text : goal.invariant-loop-text

@@ -2,8 +2,7 @@ use Rattle.std.proofs.Common.{rules, ◌≡◌, ℕ, List, sym, subst}
 use Rattle.pprof_profile.specs.declared.messages.Draft.{Draft}
 use Rattle.pprof_profile.specs.Canonical.{canonical_bytes_of}
 use Rattle.pprof_profile.specs.Profiles.{SpellsDraft, IsProfile}
-use Rattle.pprof_profile.proofs.MessagesBack.Drafts.{draft_back}
-use Rattle.pprof_profile.proofs.Plain.{canonical_profile}
+use Rattle.pprof_profile.proofs.Plain.{canonical_profile, draft_back}
 use Rattle.pprof_profile.proofs.written_samples.encode_around.Goals as goal
 
 pub returns-clause-spelled : goal.returns-clause-spelled

@@ -1,4 +1,6 @@
 use Rattle.std.proofs.Common.{rules}
+use Rattle.pprof_profile.specs.Messages.{draft_form}
+use Rattle.pprof_profile.proofs.Forms.{none_takes}
 use Rattle.pprof_profile.proofs.tables.DraftMessage.take.Goals as goal
 
 pub returns-in-1 : goal.returns-in-1
@@ -42,3 +44,6 @@ returns-in-13 c = rw c.in-13.is (search rules)
 
 pub returns-in-14 : goal.returns-in-14
 returns-in-14 c = rw c.in-14.is (search rules)
+
+pub returns-in_default-clause-taken : goal.returns-in_default-clause-taken
+returns-in_default-clause-taken c = none_takes draft_form.rows c.args.field.number _ _ (search rules)

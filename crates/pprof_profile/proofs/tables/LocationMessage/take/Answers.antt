@@ -1,4 +1,6 @@
 use Rattle.std.proofs.Common.{rules}
+use Rattle.pprof_profile.specs.Messages.{location_form}
+use Rattle.pprof_profile.proofs.Forms.{none_takes}
 use Rattle.pprof_profile.proofs.tables.LocationMessage.take.Goals as goal
 
 pub returns-in-1 : goal.returns-in-1
@@ -15,3 +17,6 @@ returns-in-4 c = rw c.in-4.is (search rules)
 
 pub returns-in-5 : goal.returns-in-5
 returns-in-5 c = rw c.in-5.is (search rules)
+
+pub returns-in_default-clause-taken : goal.returns-in_default-clause-taken
+returns-in_default-clause-taken c = none_takes location_form.rows c.args.field.number _ _ (search rules)

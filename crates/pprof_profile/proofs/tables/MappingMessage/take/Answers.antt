@@ -1,4 +1,6 @@
 use Rattle.std.proofs.Common.{rules}
+use Rattle.pprof_profile.specs.Messages.{mapping_form}
+use Rattle.pprof_profile.proofs.Forms.{none_takes}
 use Rattle.pprof_profile.proofs.tables.MappingMessage.take.Goals as goal
 
 pub returns-in-1 : goal.returns-in-1
@@ -30,3 +32,6 @@ returns-in-9 c = rw c.in-9.is (search rules)
 
 pub returns-in-10 : goal.returns-in-10
 returns-in-10 c = rw c.in-10.is (search rules)
+
+pub returns-in_default-clause-taken : goal.returns-in_default-clause-taken
+returns-in_default-clause-taken c = none_takes mapping_form.rows c.args.field.number _ _ (search rules)

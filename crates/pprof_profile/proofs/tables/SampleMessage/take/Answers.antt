@@ -1,4 +1,6 @@
 use Rattle.std.proofs.Common.{rules}
+use Rattle.pprof_profile.specs.Messages.{sample_form}
+use Rattle.pprof_profile.proofs.Forms.{none_takes}
 use Rattle.pprof_profile.proofs.tables.SampleMessage.take.Goals as goal
 
 pub returns-in-1 : goal.returns-in-1
@@ -9,3 +11,6 @@ returns-in-2 c = rw c.in-2.is (search rules)
 
 pub returns-in-3 : goal.returns-in-3
 returns-in-3 c = rw c.in-3.is (search rules)
+
+pub returns-in_default-clause-taken : goal.returns-in_default-clause-taken
+returns-in_default-clause-taken c = none_takes sample_form.rows c.args.field.number _ _ (search rules)

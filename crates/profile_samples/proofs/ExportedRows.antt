@@ -7,7 +7,8 @@ use Rattle.std.proofs.lemmas.List.{map-append, append-nil}
 use Rattle.std.proofs.lemmas.List.Concat.{flat_map-cons}
 use Rattle.std.proofs.lemmas.List.Sums.{sum_by_push}
 use Rattle.pprof_profile.specs.declared.messages.Sample.{Sample}
-use Rattle.pprof_profile.specs.Canonical.{canonical_bytes_of, sample_bytes, samples_bytes, FitsEach, FitsSample}
+use Rattle.pprof_profile.specs.Canonical.{canonical_bytes_of, sample_bytes, samples_bytes, FitsSample}
+use Rattle.pprof_profile.specs.Writing.{FitsEach}
 use Rattle.profile_rows.specs.declared.weighted_stacks.WeightedStack.{WeightedStack}
 use Rattle.profile_rows.specs.Values.{Row, rows_at, single, singles}
 use Rattle.folded_text.specs.declared.folded.FoldedFault.{FoldedFault}

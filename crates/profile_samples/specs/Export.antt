@@ -9,7 +9,8 @@ use Rattle.pprof_profile.specs.declared.messages.Function.{Function}
 use Rattle.pprof_profile.specs.declared.messages.ValueType.{ValueType}
 use Rattle.pprof_profile.specs.Messages.{no_draft, no_function, no_line, no_location}
 use Rattle.profile_rows.specs.declared.weighted_stacks.WeightedStack.{WeightedStack}
-use Rattle.pprof_profile.specs.Canonical.{canonical_bytes_of, sample_bytes, samples_bytes, FitsEach, FitsSample}
+use Rattle.pprof_profile.specs.Canonical.{canonical_bytes_of, sample_bytes, samples_bytes, FitsSample}
+use Rattle.pprof_profile.specs.Writing.{FitsEach}
 use Rattle.folded_text.specs.FoldedText.{IsFoldedText}
 use Rattle.profile_rows.specs.Rows.{total_of}
 use Rattle.profile_rows.specs.Values.{Row, singles}

@@ -18,12 +18,15 @@ pub use Rattle.op_book.specs.Changes
 pub use Rattle.op_book.specs.Operations
 pub use Rattle.op_book.specs.Receipts
 pub use Rattle.op_book.specs.Runs
+pub use Rattle.pprof_profile.specs.AllValues
 pub use Rattle.pprof_profile.specs.ByFields
 pub use Rattle.pprof_profile.specs.Canonical
+pub use Rattle.pprof_profile.specs.Forms
 pub use Rattle.pprof_profile.specs.Messages
 pub use Rattle.pprof_profile.specs.Profiles
 pub use Rattle.pprof_profile.specs.Reading
 pub use Rattle.pprof_profile.specs.Valid
+pub use Rattle.pprof_profile.specs.Writing
 pub use Rattle.profile_rows.specs.Aggregate
 pub use Rattle.profile_rows.specs.Layout
 pub use Rattle.profile_rows.specs.LentRows

@@ -11,20 +11,16 @@ use Rattle.pprof_wire.specs.Fields.{FieldValue, varint, fixed64, fixed32, conten
 use Rattle.pprof_wire.specs.Fields.{wire_type_of, IsValueSpelling, IsFieldSpelling, SplitsIntoFields, BeginsWithTag}
 use Rattle.pprof_wire.specs.Fields.{IsTagFault, IsRestFault}
 use Rattle.pprof_wire.proofs.VarintLaws.{AllContinue-snoc, IsGroups-snoc, number_of-snoc, number_of-below, fits-nine}
-use Rattle.pprof_wire.proofs.ListLaws.{fields_end, fault_without_field, numbers_end, fault_without_number}
+use Rattle.pprof_wire.proofs.SpelledLists.{BeginsWith, each_list_splits}
+use Rattle.pprof_wire.proofs.ListLaws.{fault_without_field, fault_without_number, field-some, varint-some}
 
 -- ---- a number or a fault
 
-pub record HasVarint (bytes : List ℕ) : Type 0 where
-  pub front : List ℕ
-  pub rest : List ℕ
-  pub number : ℕ
-  pub parts : bytes ≡ front ++ rest
-  pub spelled : IsVarint front number
+abbrev HasVarint : List ℕ → Type 0
+HasVarint bytes = BeginsWith IsVarint bytes
 
-pub record HasVarintFault (bytes : List ℕ) : Type 0 where
-  pub fault : WireFault
-  pub cause : IsVarintFault fault bytes
+abbrev HasVarintFault : List ℕ → Type 0
+HasVarintFault bytes = (fault : WireFault) × IsVarintFault fault bytes
 
 spelled_at : (front : List ℕ) (byte : ℕ) (rest : List ℕ) → AllContinue front
     → byte < 128 → length front ≤ 9 → number_of (front ++ byte ∷ []) < 2 ^ 64 → HasVarint (front ++ byte ∷ rest)
@@ -32,7 +28,7 @@ spelled_at front byte rest all small few fits =
     record {
       front = front ++ byte ∷ [];
       rest = rest;
-      number = number_of (front ++ byte ∷ []);
+      item = number_of (front ++ byte ∷ []);
       parts = sym (append_assoc front (byte ∷ []) rest);
       spelled = record {
         groups = IsGroups-snoc front byte all small;
@@ -45,21 +41,18 @@ spelled_at front byte rest all small few fits =
 
 long_at : (front : List ℕ) (byte : ℕ) (rest : List ℕ)
     → AllContinue front → length front ≡ 9 → 1 < byte → HasVarintFault (front ++ byte ∷ rest)
-long_at front byte rest all nine large =
-    record {
-      fault = LongVarint;
-      cause =
-          record {
-            front =
-                front;
-            tenth = byte;
-            rest = rest;
-            parts = refl;
-            nine = nine;
-            continued = all;
-            large = large;
-          };
-    }
+long_at front byte rest all nine large = (
+  LongVarint,
+  record {
+    front = front;
+    tenth = byte;
+    rest = rest;
+    parts = refl;
+    nine = nine;
+    continued = all;
+    large = large;
+  },
+)
 
 tenth-fits : (front : List ℕ) (byte : ℕ) → length front ≡ 9 → byte ≤ 1 → number_of (front ++ byte ∷ []) < 2 ^ 64
 tenth-fits front byte nine small =
@@ -85,14 +78,13 @@ varint_after : (front rest : List ℕ)
     → AllContinue front → length front ≤ 9 → HasVarint (front ++ rest) ⊎ HasVarintFault (front ++ rest)
 varint_after front [] all few =
     elim (cases_lt (length front) 10) [
-      | inl short ↦ inr (record {
-        fault = Truncated;
-        cause = record {
-          continued =
-              subst AllContinue (sym (append-nil front)) all;
+      | inl short ↦ inr (
+        Truncated,
+        record {
+          continued = subst AllContinue (sym (append-nil front)) all;
           short = omega (arith, length-append front []);
-        };
-      })
+        },
+      )
       | inr long ↦ absurd (omega arith)
     ]
 varint_after front (byte ∷ rest) all few =
@@ -137,7 +129,7 @@ varint_fault_of WireType wire_type bytes typed cause = absurd cause
 
 varint_value : (bytes : List ℕ) → HasVarint bytes ⊎ HasVarintFault bytes → HasValue 0 bytes ⊎ HasTagFault 0 bytes
 varint_value bytes (inl found) = inl (record {
-  value = varint found.number;
+  value = varint found.item;
   front =
       found.front;
   rest = found.rest;
@@ -145,7 +137,7 @@ varint_value bytes (inl found) = inl (record {
   typed = refl;
   spelled = found.spelled;
 })
-varint_value bytes (inr wrong) = inr (varint_fault_of wrong.fault 0 bytes (inl refl) wrong.cause)
+varint_value bytes (inr wrong) = inr (varint_fault_of wrong.0 0 bytes (inl refl) wrong.1)
 
 fixed64_value : (bytes : List ℕ) → (length bytes < 8) ⊎ (8 ≤ length bytes) → HasValue 1 bytes ⊎ HasTagFault 1 bytes
 fixed64_value bytes (inl short) =
@@ -172,7 +164,7 @@ fixed32_value bytes (inr enough) = inl (record {
 })
 
 delimited_value : (bytes : List ℕ) (found : HasVarint bytes)
-    → (length found.rest < found.number) ⊎ (found.number ≤ length found.rest) → HasValue 2 bytes ⊎ HasTagFault 2 bytes
+    → (length found.rest < found.item) ⊎ (found.item ≤ length found.rest) → HasValue 2 bytes ⊎ HasTagFault 2 bytes
 delimited_value bytes found (inl short) = inr (record {
   fault = Truncated;
   cause = λ number numbered. (
@@ -183,7 +175,7 @@ delimited_value bytes found (inl short) = inr (record {
         prefix = found.front;
         rest =
             found.rest;
-        count = found.number;
+        count = found.item;
         parts = found.parts;
         spelled = found.spelled;
         short = short;
@@ -192,23 +184,23 @@ delimited_value bytes found (inl short) = inr (record {
   );
 })
 delimited_value bytes found (inr enough) = inl (record {
-  value = content (take found.number found.rest);
-  front = found.front ++ take found.number found.rest;
-  rest = drop found.number found.rest;
-  parts = found.parts ∙ ap (λ (rest : List ℕ). found.front ++ rest) (sym (take-append-drop found.number found.rest))
-      ∙ sym (append_assoc found.front (take found.number found.rest) (drop found.number found.rest));
+  value = content (take found.item found.rest);
+  front = found.front ++ take found.item found.rest;
+  rest = drop found.item found.rest;
+  parts = found.parts ∙ ap (λ (rest : List ℕ). found.front ++ rest) (sym (take-append-drop found.item found.rest))
+      ∙ sym (append_assoc found.front (take found.item found.rest) (drop found.item found.rest));
   typed = refl;
   spelled = record {
     prefix = found.front;
     parts = refl;
     spelled =
-        subst (IsVarint found.front) (sym (length-take-le found.number found.rest enough)) found.spelled;
+        subst (IsVarint found.front) (sym (length-take-le found.item found.rest enough)) found.spelled;
   };
 })
 
 length_value : (bytes : List ℕ) → HasVarint bytes ⊎ HasVarintFault bytes → HasValue 2 bytes ⊎ HasTagFault 2 bytes
-length_value bytes (inl found) = delimited_value bytes found (cases_lt (length found.rest) found.number)
-length_value bytes (inr wrong) = inr (varint_fault_of wrong.fault 2 bytes (inr refl) wrong.cause)
+length_value bytes (inl found) = delimited_value bytes found (cases_lt (length found.rest) found.item)
+length_value bytes (inr wrong) = inr (varint_fault_of wrong.0 2 bytes (inr refl) wrong.1)
 
 value_or_fault : (wire_type : ℕ) (bytes : List ℕ) → HasValue wire_type bytes ⊎ HasTagFault wire_type bytes
 value_or_fault zero bytes = varint_value bytes (varint_or_fault bytes)
@@ -224,16 +216,11 @@ value_or_fault (suc (suc (suc (suc (suc (suc more)))))) bytes =
 
 -- ---- a field or a fault
 
-pub record HasField (bytes : List ℕ) : Type 0 where
-  pub field : PlainField
-  pub front : List ℕ
-  pub rest : List ℕ
-  pub parts : bytes ≡ front ++ rest
-  pub spelled : IsFieldSpelling front field
+abbrev HasField : List ℕ → Type 0
+HasField bytes = BeginsWith IsFieldSpelling bytes
 
-pub record HasRestFault (bytes : List ℕ) : Type 0 where
-  pub fault : WireFault
-  pub cause : IsRestFault fault bytes
+abbrev HasRestFault : List ℕ → Type 0
+HasRestFault bytes = (fault : WireFault) × IsRestFault fault bytes
 
 number_cases : (number : ℕ) → IsFieldNumber number ⊎ ((number ≡ 0) ⊎ (2 ^ 29 ≤ number))
 number_cases number =
@@ -249,18 +236,18 @@ tag-whole : (tag : ℕ) → tag ≡ 8 * (tag / 8) + tag % 8
 tag-whole tag = omega arith
 
 tag_of : (bytes : List ℕ) (found : HasVarint bytes)
-    → BeginsWithTag bytes (found.number / 8) (found.number % 8) found.rest
+    → BeginsWithTag bytes (found.item / 8) (found.item % 8) found.rest
 tag_of bytes found = record {
   tag = found.front;
   parts = found.parts;
-  tagged = subst (IsVarint found.front) (tag-whole found.number) found.spelled;
+  tagged = subst (IsVarint found.front) (tag-whole found.item) found.spelled;
   low = omega arith;
 }
 
 field_of_value : (bytes : List ℕ) (found : HasVarint bytes)
-    → IsFieldNumber (found.number / 8) → HasValue (found.number % 8) found.rest → HasField bytes
+    → IsFieldNumber (found.item / 8) → HasValue (found.item % 8) found.rest → HasField bytes
 field_of_value bytes found numbered valued = record {
-  field = record { number = found.number / 8; value = valued.value };
+  item = record { number = found.item / 8; value = valued.value };
   front = found.front ++ valued.front;
   rest = valued.rest;
   parts = found.parts ∙ ap (λ (rest : List ℕ). found.front ++ rest) valued.parts
@@ -270,168 +257,50 @@ field_of_value bytes found numbered valued = record {
     rest = valued.front;
     parts = refl;
     numbered = numbered;
-    tagged = subst (λ (t : ℕ). IsVarint found.front (8 * (found.number / 8) + t)) valued.typed
-        (subst (IsVarint found.front) (tag-whole found.number) found.spelled);
+    tagged = subst (λ (t : ℕ). IsVarint found.front (8 * (found.item / 8) + t)) valued.typed
+        (subst (IsVarint found.front) (tag-whole found.item) found.spelled);
     valued = valued.spelled;
   };
 }
 
 fault_of_tag : (bytes : List ℕ) (found : HasVarint bytes) (fault : WireFault)
-    → 0 < length bytes → IsTagFault fault (found.number / 8) (found.number % 8) found.rest → HasRestFault bytes
+    → 0 < length bytes → IsTagFault fault (found.item / 8) (found.item % 8) found.rest → HasRestFault bytes
 fault_of_tag bytes found fault some wrong =
-    record {
-      fault = fault;
-      cause = record {
-        some =
-            some;
-        front = inr (found.number / 8, found.number % 8, found.rest, tag_of bytes found, wrong);
-      };
-    }
+    (fault, record { some = some; front = inr (found.item / 8, found.item % 8, found.rest, tag_of bytes found, wrong) })
 
-valued_field : (bytes : List ℕ) (found : HasVarint bytes) → 0 < length bytes → IsFieldNumber (found.number / 8)
-    → HasValue (found.number % 8) found.rest ⊎ HasTagFault (found.number % 8) found.rest
+valued_field : (bytes : List ℕ) (found : HasVarint bytes) → 0 < length bytes → IsFieldNumber (found.item / 8)
+    → HasValue (found.item % 8) found.rest ⊎ HasTagFault (found.item % 8) found.rest
     → HasField bytes ⊎ HasRestFault bytes
 valued_field bytes found some numbered (inl valued) = inl (field_of_value bytes found numbered valued)
 valued_field bytes found some numbered (inr wrong) =
-    inr (fault_of_tag bytes found wrong.fault some (wrong.cause (found.number / 8) numbered))
+    inr (fault_of_tag bytes found wrong.fault some (wrong.cause (found.item / 8) numbered))
 
 numbered_field : (bytes : List ℕ) (found : HasVarint bytes)
-    → 0 < length bytes → IsFieldNumber (found.number / 8) ⊎ ((found.number / 8 ≡ 0) ⊎ (2 ^ 29 ≤ found.number / 8))
+    → 0 < length bytes → IsFieldNumber (found.item / 8) ⊎ ((found.item / 8 ≡ 0) ⊎ (2 ^ 29 ≤ found.item / 8))
     → HasField bytes ⊎ HasRestFault bytes
 numbered_field bytes found some (inl numbered) =
-    valued_field bytes found some numbered (value_or_fault (found.number % 8) found.rest)
+    valued_field bytes found some numbered (value_or_fault (found.item % 8) found.rest)
 numbered_field bytes found some (inr wrong) = inr (fault_of_tag bytes found FieldNumber some wrong)
 
 tagged_field : (bytes : List ℕ)
     → 0 < length bytes → HasVarint bytes ⊎ HasVarintFault bytes → HasField bytes ⊎ HasRestFault bytes
-tagged_field bytes some (inl found) = numbered_field bytes found some (number_cases (found.number / 8))
+tagged_field bytes some (inl found) = numbered_field bytes found some (number_cases (found.item / 8))
 tagged_field bytes some (inr wrong) =
-    inr (record { fault = wrong.fault; cause = record { some = some; front = inl wrong.cause } })
+    inr (wrong.0, record { some = some; front = inl wrong.1 })
 
 pub field_or_fault : (bytes : List ℕ) → 0 < length bytes → HasField bytes ⊎ HasRestFault bytes
 field_or_fault bytes some = tagged_field bytes some (varint_or_fault bytes)
 
--- ---- all the fields
-
-pub record HasFields (bytes : List ℕ) : Type 0 where
-  pub fields : List PlainField
-  pub rest : List ℕ
-  pub split : SplitsIntoFields bytes fields rest
-  pub ends : (rest ≡ []) ⊎ HasRestFault rest
-
-no_fields : (bytes : List ℕ) → HasRestFault bytes → HasFields bytes
-no_fields bytes wrong = record {
-  fields = [];
-  rest = bytes;
-  split = record { front = []; parts = refl; listed = refl; ends = fault_without_field wrong.fault bytes wrong.cause };
-  ends = inr wrong;
-}
-
-one_more : (bytes : List ℕ) (first : HasField bytes) → HasFields first.rest → HasFields bytes
-one_more bytes first others = record {
-  fields = first.field ∷ others.fields;
-  rest = others.rest;
-  split = record {
-    front = first.front ++ others.split.front;
-    parts = first.parts ∙ ap (λ (rest : List ℕ). first.front ++ rest) others.split.parts
-        ∙ sym (append_assoc first.front others.split.front others.rest);
-    listed = (first.front, others.split.front, refl, first.spelled, others.split.listed);
-    ends = others.split.ends;
-  };
-  ends = others.ends;
-}
-
-varint-some : (bytes : List ℕ) (number : ℕ) → IsVarint bytes number → 0 < length bytes
-varint-some [] number spelled = absurd spelled.groups
-varint-some (byte ∷ bytes) number spelled = omega arith
-
--- a field takes a byte at least
-field-some : (bytes : List ℕ) (field : PlainField) → IsFieldSpelling bytes field → 0 < length bytes
-field-some bytes field spelled = omega (
-  arith,
-  ap length spelled.parts,
-  length-append spelled.tag spelled.rest,
-  varint-some spelled.tag (8 * field.number + wire_type_of field.value) spelled.tagged,
-)
-
-fields_within : (fuel : ℕ) (bytes : List ℕ) → length bytes ≤ fuel → HasFields bytes
-fields_within fuel [] short = record { fields = []; rest = []; split = fields_end [] [] refl; ends = inl refl }
-fields_within zero (byte ∷ bytes) short = absurd (omega arith)
-fields_within (suc fuel) (byte ∷ bytes) short =
-    elim (field_or_fault (byte ∷ bytes) (omega arith)) [
-      | inl first ↦ one_more (byte ∷ bytes) first
-          (fields_within fuel first.rest (omega (
-            arith,
-            ap length first.parts,
-            length-append first.front first.rest,
-            field-some first.front first.field first.spelled,
-          )))
-      | inr wrong ↦ no_fields (byte ∷ bytes) wrong
-    ]
-
-ends_so : (rest : List ℕ)
-    → (rest ≡ []) ⊎ HasRestFault rest → (rest ≡ []) ⊎ ((fault : WireFault) × IsRestFault fault rest)
-ends_so rest (inl none) = inl none
-ends_so rest (inr wrong) = inr (wrong.fault, wrong.cause)
+-- ---- all the fields, and all the numbers
 
 pub each_list_splits_into_fields : (bytes : List ℕ) → (fields : List PlainField) × (rest : List ℕ)
     × SplitsIntoFields bytes fields rest × ((rest ≡ []) ⊎ ((fault : WireFault) × IsRestFault fault rest))
-each_list_splits_into_fields bytes =
-    let all = fields_within (length bytes) bytes (omega arith) in
-    (all.fields, all.rest, all.split, ends_so all.rest all.ends)
-
--- ---- all the numbers
-
-pub record HasNumbers (bytes : List ℕ) : Type 0 where
-  pub numbers : List ℕ
-  pub rest : List ℕ
-  pub split : SplitsIntoNumbers bytes numbers rest
-  pub ends : (rest ≡ []) ⊎ HasVarintFault rest
-
-no_numbers : (bytes : List ℕ) → HasVarintFault bytes → HasNumbers bytes
-no_numbers bytes wrong = record {
-  numbers = [];
-  rest = bytes;
-  split = record { front = []; parts = refl; listed = refl; ends = fault_without_number wrong.fault bytes wrong.cause };
-  ends = inr wrong;
-}
-
-one_more_number : (bytes : List ℕ) (first : HasVarint bytes) → HasNumbers first.rest → HasNumbers bytes
-one_more_number bytes first others = record {
-  numbers = first.number ∷ others.numbers;
-  rest = others.rest;
-  split = record {
-    front = first.front ++ others.split.front;
-    parts = first.parts ∙ ap (λ (rest : List ℕ). first.front ++ rest) others.split.parts
-        ∙ sym (append_assoc first.front others.split.front others.rest);
-    listed = (first.front, others.split.front, refl, first.spelled, others.split.listed);
-    ends = others.split.ends;
-  };
-  ends = others.ends;
-}
-
-numbers_within : (fuel : ℕ) (bytes : List ℕ) → length bytes ≤ fuel → HasNumbers bytes
-numbers_within fuel [] short = record { numbers = []; rest = []; split = numbers_end [] [] refl; ends = inl refl }
-numbers_within zero (byte ∷ bytes) short = absurd (omega arith)
-numbers_within (suc fuel) (byte ∷ bytes) short =
-    elim (varint_or_fault (byte ∷ bytes)) [
-      | inl first ↦ one_more_number (byte ∷ bytes) first
-          (numbers_within fuel first.rest (omega (
-            arith,
-            ap length first.parts,
-            length-append first.front first.rest,
-            varint-some first.front first.number first.spelled,
-          )))
-      | inr wrong ↦ no_numbers (byte ∷ bytes) wrong
-    ]
-
-number_ends_so : (rest : List ℕ)
-    → (rest ≡ []) ⊎ HasVarintFault rest → (rest ≡ []) ⊎ ((fault : WireFault) × IsVarintFault fault rest)
-number_ends_so rest (inl none) = inl none
-number_ends_so rest (inr wrong) = inr (wrong.fault, wrong.cause)
+each_list_splits_into_fields =
+    each_list_splits IsFieldSpelling HasRestFault field-some
+    (λ bytes wrong. fault_without_field wrong.0 bytes wrong.1) field_or_fault
 
 pub each_list_splits_into_numbers : (bytes : List ℕ) → (numbers : List ℕ) × (rest : List ℕ)
     × SplitsIntoNumbers bytes numbers rest × ((rest ≡ []) ⊎ ((fault : WireFault) × IsVarintFault fault rest))
-each_list_splits_into_numbers bytes =
-    let all = numbers_within (length bytes) bytes (omega arith) in
-    (all.numbers, all.rest, all.split, number_ends_so all.rest all.ends)
+each_list_splits_into_numbers =
+    each_list_splits IsVarint HasVarintFault varint-some
+    (λ bytes wrong. fault_without_number wrong.0 bytes wrong.1) (λ bytes some. varint_or_fault bytes)

@@ -1,14 +1,16 @@
 -- Laws of whole lists of fields and of numbers.
-use Rattle.std.proofs.Common.{◌≡◌, ℕ, ◌+◌, ◌*◌, ◌≤◌, List, [], ◌∷◌, ◌++◌, length, refl, sym, ap, ◌∙◌, arith, subst}
-use Rattle.std.proofs.Common.{append_assoc}
-use Rattle.std.proofs.lemmas.List.{append-nil}
+use Rattle.std.proofs.Common.{◌≡◌, ℕ, ◌+◌, ◌*◌, ◌≤◌, List, [], ◌∷◌, ◌++◌, length, length-append, refl, sym, ap, arith}
+use Rattle.std.proofs.Common.{subst}
 use Rattle.std.proofs.lemmas.Nat.{from_le_bytes-to_le_bytes_4, from_le_bytes-to_le_bytes_8}
 use Rattle.pprof_wire.specs.declared.faults.WireFault.{WireFault}
-use Rattle.pprof_wire.specs.Varints.{IsVarint, IsVarintFault, IsNumberList, IsWithoutNumber, SplitsIntoNumbers}
+use Rattle.pprof_wire.specs.Varints.{IsVarint, IsVarintFault, IsNumberList, SplitsIntoNumbers}
 use Rattle.pprof_wire.specs.Varints.{varint_of}
 use Rattle.pprof_wire.specs.Fields.{FieldValue, varint, fixed64, fixed32, content, PlainField, IsFieldNumber}
-use Rattle.pprof_wire.specs.Fields.{wire_type_of, IsValueSpelling, IsFieldSpelling, IsFieldList, IsWithoutField}
+use Rattle.pprof_wire.specs.Fields.{wire_type_of, IsValueSpelling, IsFieldSpelling, IsFieldList}
 use Rattle.pprof_wire.specs.Fields.{SplitsIntoFields, IsRestFault, value_bytes_of, field_bytes_of, FitsValue}
+use Rattle.pprof_wire.specs.SpelledLists.{BeginsWithNone}
+use Rattle.pprof_wire.proofs.SpelledLists.{one_spelled, spelled_joined, split_once, split_at_the_end, none_in_nil}
+use Rattle.pprof_wire.proofs.SpelledLists.{IsNeverEmpty}
 use Rattle.pprof_wire.proofs.VarintLaws.{varint_once, varint_no_fault}
 use Rattle.pprof_wire.proofs.FieldLaws.{field_once, field_fault_stands}
 use Rattle.pprof_wire.proofs.ShortestVarints.{varint_of-spells}
@@ -17,66 +19,40 @@ use Rattle.pprof_wire.proofs.ShortestVarints.{varint_of-spells}
 
 pub one_field_listed : (bytes : List ℕ) (field : PlainField)
     → IsFieldSpelling bytes field → IsFieldList bytes (field ∷ [])
-one_field_listed bytes field spelled = (bytes, [], sym (append-nil bytes), spelled, refl)
+one_field_listed bytes field spelled = one_spelled IsFieldSpelling bytes field spelled
 
 pub fields_joined : (a b : List ℕ) (xs ys : List PlainField)
     → IsFieldList a xs → IsFieldList b ys → IsFieldList (a ++ b) (xs ++ ys)
-fields_joined a b [] ys left right = subst (λ (bytes : List ℕ). IsFieldList (bytes ++ b) ys) (sym left) right
-fields_joined a b (x ∷ xs) ys (front, after, parts, spelled, others) right = (
-  front,
-  after ++ b,
-  ap (λ (bytes : List ℕ). bytes ++ b) parts
-      ∙ append_assoc front after b,
-  spelled,
-  fields_joined after b xs ys others right,
-)
+fields_joined a b xs ys left right = spelled_joined IsFieldSpelling a b xs ys left right
 
-pub fault_without_field : (fault : WireFault) (rest : List ℕ) → IsRestFault fault rest → IsWithoutField rest
+pub fault_without_field : (fault : WireFault) (rest : List ℕ) → IsRestFault fault rest
+    → BeginsWithNone IsFieldSpelling rest
 fault_without_field fault rest faulty =
     λ front after field same spelled. field_fault_stands fault rest front after field faulty.front same spelled
 
-tag-not-nil : (tag rest : List ℕ) (number : ℕ) → IsVarint tag number → [] ≡ tag ++ rest → ⊥
-tag-not-nil [] rest number spelled same = spelled.groups
-tag-not-nil (byte ∷ tag) rest number spelled same = absurd cc
+pub varint-some : IsNeverEmpty IsVarint
+varint-some [] number spelled = absurd spelled.groups
+varint-some (byte ∷ bytes) number spelled = omega arith
 
-field-not-nil : (front rest : List ℕ) (field : PlainField) → [] ≡ front ++ rest → IsFieldSpelling front field → ⊥
-field-not-nil front rest field same spelled =
-    tag-not-nil spelled.tag (spelled.rest ++ rest) (8 * field.number + wire_type_of field.value) spelled.tagged
-    (same ∙ ap (λ (bytes : List ℕ). bytes ++ rest) spelled.parts ∙ append_assoc spelled.tag spelled.rest rest)
+-- a field takes a byte at least
+pub field-some : IsNeverEmpty IsFieldSpelling
+field-some bytes field spelled = omega (
+  arith,
+  ap length spelled.parts,
+  length-append spelled.tag spelled.rest,
+  varint-some spelled.tag (8 * field.number + wire_type_of field.value) spelled.tagged,
+)
 
-pub nil_without_field : IsWithoutField []
-nil_without_field = λ front rest field same spelled. field-not-nil front rest field same spelled
-
-listed_once : (a b r s : List ℕ) (xs ys : List PlainField)
-    → IsFieldList a xs → IsFieldList b ys → IsWithoutField r → IsWithoutField s → a ++ r ≡ b ++ s
-    → (xs ≡ ys) × (r ≡ s)
-listed_once a b r s [] [] left right ends stops same =
-    (refl, ap (λ (bytes : List ℕ). bytes ++ r) (sym left) ∙ same ∙ ap (λ (bytes : List ℕ). bytes ++ s) right)
-listed_once a b r s [] (y ∷ ys) left (front, after, parts, spelled, others) ends stops same =
-    absurd (ends front (after ++ s) y (ap (λ (bytes : List ℕ). bytes ++ r) (sym left)
-    ∙ same ∙ ap (λ (bytes : List ℕ). bytes ++ s) parts ∙ append_assoc front after s) spelled)
-listed_once a b r s (x ∷ xs) [] (front, after, parts, spelled, others) right ends stops same =
-    absurd (stops front (after ++ r) x (ap (λ (bytes : List ℕ). bytes ++ s) (sym right)
-    ∙ sym same ∙ ap (λ (bytes : List ℕ). bytes ++ r) parts ∙ append_assoc front after r) spelled)
-listed_once a b r s
-    (x ∷ xs) (y ∷ ys) (front, after, parts, spelled, others) (first, next, pieces, written, more) ends stops same =
-    let whole : front ++ (after ++ r) ≡ first ++ (next ++ s) =
-    sym (append_assoc front after r) ∙ ap (λ (bytes : List ℕ). bytes ++ r) (sym parts)
-    ∙ same ∙ ap (λ (bytes : List ℕ). bytes ++ s) pieces ∙ append_assoc first next s in
-    let once = field_once front first (after ++ r) (next ++ s) x y spelled written whole in
-    let rest = listed_once after next r s xs ys others more ends stops once.1 in
-    (ap (λ (z : PlainField). z ∷ xs) once.2 ∙ ap (λ (zs : List PlainField). y ∷ zs) rest.0, rest.1)
+pub nil_without_field : BeginsWithNone IsFieldSpelling []
+nil_without_field = none_in_nil IsFieldSpelling field-some
 
 pub fields_split_once : (bytes r s : List ℕ) (xs ys : List PlainField)
     → SplitsIntoFields bytes xs r → SplitsIntoFields bytes ys s → (xs ≡ ys) × (r ≡ s)
-fields_split_once bytes r s xs ys left right =
-    listed_once left.front right.front r s xs ys left.listed right.listed left.ends right.ends
-    (sym left.parts ∙ right.parts)
+fields_split_once = split_once IsFieldSpelling field_once
 
 pub fields_end : (bytes : List ℕ) (fields : List PlainField)
     → IsFieldList bytes fields → SplitsIntoFields bytes fields []
-fields_end bytes fields listed =
-    record { front = bytes; parts = sym (append-nil bytes); listed = listed; ends = nil_without_field }
+fields_end = split_at_the_end IsFieldSpelling field-some
 
 pub fault_ends : (front rest : List ℕ) (fields : List PlainField) (fault : WireFault)
     → IsFieldList front fields → IsRestFault fault rest
@@ -87,55 +63,22 @@ fault_ends front rest fields fault listed faulty =
 -- ---- numbers
 
 pub one_number_listed : (bytes : List ℕ) (number : ℕ) → IsVarint bytes number → IsNumberList bytes (number ∷ [])
-one_number_listed bytes number spelled = (bytes, [], sym (append-nil bytes), spelled, refl)
+one_number_listed bytes number spelled = one_spelled IsVarint bytes number spelled
 
 pub numbers_joined : (a b xs ys : List ℕ) → IsNumberList a xs → IsNumberList b ys → IsNumberList (a ++ b) (xs ++ ys)
-numbers_joined a b [] ys left right = subst (λ (bytes : List ℕ). IsNumberList (bytes ++ b) ys) (sym left) right
-numbers_joined a b (x ∷ xs) ys (front, after, parts, spelled, others) right = (
-  front,
-  after ++ b,
-  ap (λ (bytes : List ℕ). bytes ++ b) parts
-      ∙ append_assoc front after b,
-  spelled,
-  numbers_joined after b xs ys others right,
-)
+numbers_joined a b xs ys left right = spelled_joined IsVarint a b xs ys left right
 
-pub fault_without_number : (fault : WireFault) (rest : List ℕ) → IsVarintFault fault rest → IsWithoutNumber rest
+pub fault_without_number : (fault : WireFault) (rest : List ℕ) → IsVarintFault fault rest
+    → BeginsWithNone IsVarint rest
 fault_without_number fault rest faulty = λ front after number same spelled.
     varint_no_fault fault front after number spelled (subst (IsVarintFault fault) same faulty)
 
-pub nil_without_number : IsWithoutNumber []
-nil_without_number = λ front rest number same spelled. tag-not-nil front rest number spelled same
-
-numbered_once : (a b r s xs ys : List ℕ)
-    → IsNumberList a xs → IsNumberList b ys → IsWithoutNumber r → IsWithoutNumber s → a ++ r ≡ b ++ s
-    → (xs ≡ ys) × (r ≡ s)
-numbered_once a b r s [] [] left right ends stops same =
-    (refl, ap (λ (bytes : List ℕ). bytes ++ r) (sym left) ∙ same ∙ ap (λ (bytes : List ℕ). bytes ++ s) right)
-numbered_once a b r s [] (y ∷ ys) left (front, after, parts, spelled, others) ends stops same =
-    absurd (ends front (after ++ s) y (ap (λ (bytes : List ℕ). bytes ++ r) (sym left)
-    ∙ same ∙ ap (λ (bytes : List ℕ). bytes ++ s) parts ∙ append_assoc front after s) spelled)
-numbered_once a b r s (x ∷ xs) [] (front, after, parts, spelled, others) right ends stops same =
-    absurd (stops front (after ++ r) x (ap (λ (bytes : List ℕ). bytes ++ s) (sym right)
-    ∙ sym same ∙ ap (λ (bytes : List ℕ). bytes ++ r) parts ∙ append_assoc front after r) spelled)
-numbered_once a b r s
-    (x ∷ xs) (y ∷ ys) (front, after, parts, spelled, others) (first, next, pieces, written, more) ends stops same =
-    let whole : front ++ (after ++ r) ≡ first ++ (next ++ s) =
-    sym (append_assoc front after r) ∙ ap (λ (bytes : List ℕ). bytes ++ r) (sym parts)
-    ∙ same ∙ ap (λ (bytes : List ℕ). bytes ++ s) pieces ∙ append_assoc first next s in
-    let once = varint_once front first (after ++ r) (next ++ s) x y spelled written whole in
-    let rest = numbered_once after next r s xs ys others more ends stops once.1 in
-    (ap (λ (z : ℕ). z ∷ xs) once.2 ∙ ap (λ (zs : List ℕ). y ∷ zs) rest.0, rest.1)
-
 pub numbers_split_once : (bytes r s xs ys : List ℕ)
     → SplitsIntoNumbers bytes xs r → SplitsIntoNumbers bytes ys s → (xs ≡ ys) × (r ≡ s)
-numbers_split_once bytes r s xs ys left right =
-    numbered_once left.front right.front r s xs ys left.listed right.listed left.ends right.ends
-    (sym left.parts ∙ right.parts)
+numbers_split_once = split_once IsVarint varint_once
 
 pub numbers_end : (bytes numbers : List ℕ) → IsNumberList bytes numbers → SplitsIntoNumbers bytes numbers []
-numbers_end bytes numbers listed =
-    record { front = bytes; parts = sym (append-nil bytes); listed = listed; ends = nil_without_number }
+numbers_end = split_at_the_end IsVarint varint-some
 
 pub number_fault_ends : (front rest numbers : List ℕ) (fault : WireFault)
     → IsNumberList front numbers → IsVarintFault fault rest

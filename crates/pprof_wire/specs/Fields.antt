@@ -1,7 +1,8 @@
 -- Fields, by the Protocol Buffers encoding page, "Message Structure".
-use Rattle.std.specs.Prelude.{◌≡◌, ℕ, ◌+◌, ◌*◌, ◌^◌, ◌<◌, ◌≤◌, ◌⊎◌, List, [], ◌∷◌, ◌++◌, length, Option, None, Some}
+use Rattle.std.specs.Prelude.{◌≡◌, ℕ, ◌+◌, ◌*◌, ◌^◌, ◌<◌, ◌≤◌, ◌⊎◌, List, ◌++◌, length, Option, None, Some}
 use Rattle.std.specs.Prelude.{Result, Ok, Err}
 use Rattle.std.specs.Int.{w32, w64, from_le_bytes, to_le_bytes}
+use Rattle.pprof_wire.specs.SpelledLists.{AreSpelled, SplitsInto}
 use Rattle.pprof_wire.specs.Windows.{Window, IsAfter}
 use Rattle.pprof_wire.specs.declared.faults.WireFault.{WireFault}
 use Rattle.pprof_wire.specs.declared.faults.WireFault.TheVariants.{Truncated, LongVarint, FieldNumber, Group, WireType}
@@ -79,22 +80,11 @@ pub record IsFieldSpelling (bytes : List ℕ) (field : PlainField) : Type 0 wher
 
 -- The bytes are the spellings of the fields, one after the other.
 abbrev pub IsFieldList : List ℕ → List PlainField → Type 0
-IsFieldList bytes [] = bytes ≡ []
-IsFieldList bytes (field ∷ fields) =
-    (front : List ℕ) × (after : List ℕ) × (bytes ≡ front ++ after)
-    × IsFieldSpelling front field × IsFieldList after fields
-
--- No field's spelling stands at the front.
-abbrev pub IsWithoutField : List ℕ → Type 0
-IsWithoutField bytes =
-    (front rest : List ℕ) → (field : PlainField) → bytes ≡ front ++ rest → IsFieldSpelling front field → ⊥
+IsFieldList bytes fields = AreSpelled IsFieldSpelling bytes fields
 
 -- The bytes are whole fields, and then a rest that begins with no whole field.
-pub record SplitsIntoFields (bytes : List ℕ) (fields : List PlainField) (rest : List ℕ) : Type 0 where
-  pub front : List ℕ
-  pub parts : bytes ≡ front ++ rest
-  pub listed : IsFieldList front fields
-  pub ends : IsWithoutField rest
+abbrev pub SplitsIntoFields : List ℕ → List PlainField → List ℕ → Type 0
+SplitsIntoFields bytes fields rest = SplitsInto IsFieldSpelling bytes fields rest
 
 -- ---- why no field stands at the front
 

@@ -1,3 +1,4 @@
 pub mod Varints
 pub mod Windows
 pub mod Fields
+pub mod SpelledLists

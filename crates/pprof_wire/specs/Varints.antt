@@ -2,6 +2,7 @@
 use Rattle.std.specs.Prelude.{◌≡◌, ℕ, zero, suc, ◌+◌, ◌*◌, ◌/◌, ◌%◌, ◌^◌, nat_lt, if◌then◌else◌, ◌<◌, ◌≤◌, List, []}
 use Rattle.std.specs.Prelude.{◌∷◌, ◌++◌, length}
 use Rattle.std.specs.List.{AllByRecursion}
+use Rattle.pprof_wire.specs.SpelledLists.{AreSpelled, SplitsInto}
 use Rattle.pprof_wire.specs.declared.faults.WireFault.{WireFault}
 use Rattle.pprof_wire.specs.declared.faults.WireFault.TheVariants.{Truncated, LongVarint, FieldNumber, Group, WireType}
 
@@ -55,22 +56,11 @@ IsVarintFault WireType bytes = ⊥
 
 -- The bytes are the spellings of the numbers, one after the other.
 abbrev pub IsNumberList : List ℕ → List ℕ → Type 0
-IsNumberList bytes [] = bytes ≡ []
-IsNumberList bytes (number ∷ numbers) =
-    (front : List ℕ) × (after : List ℕ) × (bytes ≡ front ++ after)
-    × IsVarint front number × IsNumberList after numbers
-
--- No number's spelling stands at the front.
-abbrev pub IsWithoutNumber : List ℕ → Type 0
-IsWithoutNumber bytes =
-    (front rest : List ℕ) → (number : ℕ) → bytes ≡ front ++ rest → IsVarint front number → ⊥
+IsNumberList bytes numbers = AreSpelled IsVarint bytes numbers
 
 -- The bytes are whole numbers, and then a rest that begins with no whole number.
-pub record SplitsIntoNumbers (bytes numbers rest : List ℕ) : Type 0 where
-  pub front : List ℕ
-  pub parts : bytes ≡ front ++ rest
-  pub listed : IsNumberList front numbers
-  pub ends : IsWithoutNumber rest
+abbrev pub SplitsIntoNumbers : List ℕ → List ℕ → List ℕ → Type 0
+SplitsIntoNumbers bytes numbers rest = SplitsInto IsVarint bytes numbers rest
 
 -- ---- the shortest spelling
 

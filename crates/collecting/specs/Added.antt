@@ -1,5 +1,5 @@
 -- What is added of texts.
-use Rattle.std.specs.Prelude.{ℕ, ◌≡◌, ◌+◌, List, MatchOption, None, Option, Some, drop, length, take, ⊤}
+use Rattle.std.specs.Prelude.{ℕ, ◌≡◌, ◌⊎◌, ◌+◌, ◌-◌, ◌≤◌, slice_index, List, MatchOption, None, Option, Some, drop, length, take, ⊤}
 use Rattle.profile_store.specs.Aggregate.{aggregate_of}
 use Rattle.profile_store.specs.LineSums.{AreAddedLines}
 use Rattle.profile_store.specs.StackTexts.{TextState}
@@ -9,6 +9,15 @@ use Rattle.profile_store.specs.declared.FoldedFault.{FoldedFault}
 use Rattle.profile_store.specs.declared.FoldedFault.TheVariants.{NotUtf8, NoCount, Count, Depth, Heavy, NoMemory}
 use Rattle.profile_store.specs.declared.WeightedStack.{WeightedStack}
 use Rattle.collecting.specs.declared.held_text.Text.{Text}
+
+-- a text can be cut here without parting a line: at its start, at its end, or after a line feed
+pub record IsBetweenLines (text : List ℕ) (at : ℕ) : Type 0 where
+  pub within : at ≤ length text
+  pub parts : (at ≡ 0) ⊎ ((at ≡ length text) ⊎ (slice_index text (at - 1) ≡ 10))
+
+-- the part of a text that a limit of rows leaves is whole lines of it, from its start
+abbrev pub AreFirstLines : List ℕ → List ℕ → Type 0
+AreFirstLines text lines = (count : ℕ) × IsBetweenLines text count × (lines ≡ take count text)
 
 -- the batch's rows add up to those that were gathered
 abbrev pub IsBatchOf : List TextState → BatchState → Type 0
@@ -30,8 +39,8 @@ abbrev pub GoesOn : Text → ℕ → Option FoldedFault → Option Text → Type
 GoesOn text len fault left = MatchOption left (IsLast text len fault)
     (λ rest. (rest.bytes ≡ text.bytes) × (rest.from ≡ text.from + len))
 
--- the next lines of a text were added to the sums, and it goes on after them
+-- the next lines of a text, all or as many as a limit leaves, were added to the sums, and it goes on after them
 abbrev pub HasAdded : Text → List TextState → List TextState → Option Text → Type 0
-HasAdded text old new left = (count : ℕ) × (len : ℕ) × (fault : Option FoldedFault)
-    × AreAddedLines (take count (drop text.from text.bytes.items))
-    (drop len (take count (drop text.from text.bytes.items))) old new fault × GoesOn text len fault left
+HasAdded text old new left = (lines : List ℕ) × (len : ℕ) × (fault : Option FoldedFault)
+    × AreFirstLines (drop text.from text.bytes.items) lines
+    × AreAddedLines lines (drop len lines) old new fault × GoesOn text len fault left

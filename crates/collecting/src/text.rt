@@ -1,6 +1,6 @@
 //! Lines of text, counted.
 
-ghost use Rattle.std.specs.Prelude.{ℕ, ◌≡◌, ◌≤◌, length, take};
+ghost use Rattle.collecting.specs.Added.{AreFirstLines, IsBetweenLines};
 
 use memchr::memchr;
 
@@ -25,14 +25,14 @@ fn count_ends(few: &[u8]) -> u8 {
 
 /// The first lines of a text, at most so many.
 pub(crate) fn first_lines(text: &[u8], most: u64) -> &[u8]
-    ensures { (count : ℕ) × (result.now ≡ take count text.entry.now) }
+    ensures { AreFirstLines text.entry.now result.now }
 {
     &text[..line_start(text, most)]
 }
 
 /// Where a text's line of this number, from 0, begins; the text's end where it has no such line.
 pub(crate) fn line_start(text: &[u8], number: u64) -> usize
-    ensures { result ≤ length text.now }
+    ensures { IsBetweenLines text.now result }
 {
     let mut start = 0;
     for _ in 0..number {

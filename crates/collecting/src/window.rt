@@ -1,6 +1,6 @@
 //! One window of time, as those who fill it share it.
 
-ghost use Rattle.std.specs.Prelude.{◌≡◌, ℕ, take};
+ghost use Rattle.collecting.specs.Added.{AreFirstLines};
 
 use crate::text::{count_lines, first_lines};
 use profile_store::BookFault;
@@ -79,7 +79,7 @@ impl Window {
 
     /// The first lines of a text, as many as have room.
     pub(crate) fn first_rows<'t, R: Wait>(&self, rt: &R, text: &'t [u8]) -> &'t [u8]
-        ensures { (count : ℕ) × (result.now ≡ take count text.entry.now) }
+        ensures { AreFirstLines text.entry.now result.now }
     {
         if !self.has_limit {
             return text;

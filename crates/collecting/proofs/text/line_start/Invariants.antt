@@ -1,6 +1,6 @@
-use Rattle.std.proofs.Common.{◌≤◌, length}
+use Rattle.collecting.specs.Added.{IsBetweenLines}
 use Rattle.collecting.proofs.text.line_start.Given as goal
 
--- the line begins within the text
+-- no line is parted where the search has come to
 abbrev pub invariant-loop : goal.invariant-loop
-invariant-loop l = l.start ≤ length l.text
+invariant-loop l = IsBetweenLines l.text l.start

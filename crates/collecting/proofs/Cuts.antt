@@ -7,7 +7,8 @@ use Rattle.collecting.specs.Added.{AreFirstLines, IsBetweenLines}
 
 pub all_lines : (text : List ℕ) → AreFirstLines text text
 all_lines text =
-    (length text, record { within = omega arith; parts = inr (inl refl) }, sym (take_all (length text) text (omega arith)))
+    let cut : IsBetweenLines text (length text) = record { within = omega arith; parts = inr (inl refl) } in
+    (length text, cut, sym (take_all (length text) text (omega arith)))
 
 -- where first lines are cut between lines, the text is too
 cut_of : (text : List ℕ) (count less : ℕ) → IsBetweenLines text count → length (take count text) ≡ count

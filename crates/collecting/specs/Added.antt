@@ -1,5 +1,6 @@
 -- What is added of texts.
-use Rattle.std.specs.Prelude.{ℕ, ◌≡◌, ◌⊎◌, ◌+◌, ◌-◌, ◌≤◌, slice_index, List, MatchOption, None, Option, Some, drop, length, take, ⊤}
+use Rattle.std.specs.Prelude.{ℕ, ◌≡◌, ◌⊎◌, ◌+◌, ◌-◌, ◌≤◌, slice_index, List, MatchOption, None, Option, Some, drop}
+use Rattle.std.specs.Prelude.{length, take, ⊤}
 use Rattle.profile_store.specs.Aggregate.{aggregate_of}
 use Rattle.profile_store.specs.LineSums.{AreAddedLines}
 use Rattle.profile_store.specs.StackTexts.{TextState}

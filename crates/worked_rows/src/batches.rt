@@ -1,15 +1,13 @@
 //! Batches: rows that are lent, written, exported and put together, each in every public way.
 
-use crate::bytes::{Wrong, refuse};
-use crate::checker::Checker;
-use crate::rows::{self, agree, done};
+use crate::made::{Made, Wrong};
 use crate::script::Words;
-use crate::{reports, trees};
+use crate::{reports, rows, trees};
 use profile_store::{
-    Batch, FoldedFault, Hashing, LineSums, Profile, ValueChoice, ValueUnit, WeightedStacks,
-    aggregate, aggregate_stacks, batch_of, decode, encode, export_folded, folded_totals,
-    merge_lines, merge_samples, profile_of, read_folded, read_folded_with, read_ordered,
-    write_stacks,
+    Batch, FoldedFault, Hashing, LineSums, OrderedRows, Profile, Stack, ValueChoice, ValueUnit,
+    WeightedStacks, Weights, aggregate, aggregate_stacks, batch_of, decode, encode, export_folded,
+    folded_totals, merge_lines, merge_samples, profile_of, read_folded, read_folded_with,
+    read_ordered, write_stacks,
 };
 use std::alloc::Global;
 use std::random::RandomSource;
@@ -17,7 +15,6 @@ use std::random::RandomSource;
 /// A command over rows.
 #[derive(Clone, Copy)]
 pub(crate) struct Asked<'a> {
-    pub(crate) alloc: Global,
     pub(crate) words: Words<'a>,
     pub(crate) input: &'a [u8],
     /// Where hashes begin, at random. No answer depends on it.
@@ -32,33 +29,33 @@ impl Asked<'_> {
 }
 
 /// Runs a command over rows.
-pub(crate) fn run<R: RandomSource>(
-    rt: &R,
-    checker: &mut Checker,
-    words: Words,
-) -> Result<(), Wrong> {
-    let asked = Asked {
-        alloc: checker.alloc,
-        words,
-        input: checker.input.as_slice(),
-        hashing: done(Hashing::random(rt))?,
-    };
-    run_rows(&asked, &mut checker.made)
+pub(crate) fn run<R: RandomSource>(rt: &R, words: Words, input: &[u8], made: &mut Made) {
+    match Hashing::random(rt) {
+        Ok(hashing) => run_rows(
+            Asked {
+                words,
+                input,
+                hashing,
+            },
+            made,
+        ),
+        Err(_) => made.fail(Wrong::Missing),
+    }
 }
 
-fn run_rows(asked: &Asked, made: &mut Vec<u8>) -> Result<(), Wrong> {
+fn run_rows(asked: Asked, made: &mut Made) {
     if !asked.has_folded_text() {
-        let batch = rows::batch_of(rows::width_of(asked.words)?, asked.input, made)?;
+        let batch = rows::batch_of(rows::width_of(asked.words, made), asked.input, made);
         return run_batch(asked, &batch, made);
     }
-    match read_folded(asked.alloc, asked.input) {
+    match read_folded(made.alloc(), asked.input) {
         Ok(batch) => run_batch(asked, &batch, made),
         Err(fault) => refuse_text(asked, fault, made),
     }
 }
 
-fn run_batch(asked: &Asked, batch: &Batch, made: &mut Vec<u8>) -> Result<(), Wrong> {
-    match asked.words.word(0)? {
+fn run_batch(asked: Asked, batch: &Batch, made: &mut Made) {
+    match asked.words.word(0) {
         "rows" => write(asked, batch, made),
         "aggregate" => put_together(asked, batch, made),
         _ => reports::run(asked, batch, made),
@@ -66,143 +63,201 @@ fn run_batch(asked: &Asked, batch: &Batch, made: &mut Vec<u8>) -> Result<(), Wro
 }
 
 /// The first fault of folded text, which each way to read it has. What adds up lines has those before it.
-fn refuse_text(asked: &Asked, fault: FoldedFault, made: &mut Vec<u8>) -> Result<(), Wrong> {
-    let (alloc, hashing, text) = (asked.alloc, asked.hashing, asked.input);
-    refuse(made, &fault)?;
+fn refuse_text(asked: Asked, fault: FoldedFault, made: &mut Made) {
+    let (alloc, hashing, text) = (made.alloc(), asked.hashing, asked.input);
+    made.refuse(&fault);
     let faults = [
         read_folded_with(alloc, hashing, text).err(),
         read_ordered(alloc, hashing, text).err(),
         folded_totals(alloc, hashing, text).err(),
         export_folded(alloc, hashing, text, "cpu", "ns").err(),
     ];
-    agree(made, "another reading", faults == [Some(fault); 4])?;
-    let mut sums = LineSums::new(alloc, hashing);
-    let added = sums.add(text);
-    agree(made, "LineSums::add", added.fault == Some(fault))?;
-    let before = text.get(..added.len).ok_or(Wrong::Missing)?;
-    let merged = done(merge_lines(alloc, hashing, before))?;
-    agree(made, "LineSums::stacks", sums.stacks()? == merged)
+    made.agree("another reading", faults == [Some(fault); 4]);
+    agree_on_lines_before(asked, fault, made);
+}
+
+fn agree_on_lines_before(asked: Asked, fault: FoldedFault, made: &mut Made) {
+    let mut sums = LineSums::new(made.alloc(), asked.hashing);
+    let added = sums.add(asked.input);
+    made.agree("LineSums::add", added.fault == Some(fault));
+    let before = asked.input.get(..added.len).unwrap_or(asked.input);
+    match merge_lines(made.alloc(), asked.hashing, before) {
+        Ok(merged) => made.compare("LineSums::stacks", sums.stacks(), &merged),
+        Err(_) => made.fail(Wrong::Missing),
+    }
 }
 
 /// `rows`, `rows width 2`: why rows are refused, and those that aren't, as folded text by each value, with the totals.
 /// The samples of their profile are the same.
-fn write(asked: &Asked, batch: &Batch, made: &mut Vec<u8>) -> Result<(), Wrong> {
-    rows::add_folded(asked.alloc, batch, made)?;
-    agree_on_lent_rows(asked.alloc, batch, made)?;
-    agree_on_given_rows(asked.alloc, batch, made)?;
-    agree_on_stacks(asked.alloc, batch.first(), made)?;
+fn write(asked: Asked, batch: &Batch, made: &mut Made) {
+    rows::add_folded(batch, made);
+    agree_on_lent_rows(batch, made);
+    agree_on_given_rows(batch, made);
+    agree_on_stacks(batch.first(), made);
+    agree_on_profile(batch, made);
     if asked.has_folded_text() {
-        let again = done(read_folded_with(asked.alloc, asked.hashing, asked.input))?;
-        agree(made, "read_folded_with", again == *batch)?;
+        let again = read_folded_with(made.alloc(), asked.hashing, asked.input);
+        made.compare("read_folded_with", again, batch);
     }
-    let profile = profile_of_rows(asked.alloc, batch)?;
-    agree_on_profile(&profile, batch, made)
 }
 
-fn agree_on_lent_rows(alloc: Global, batch: &Batch, made: &mut Vec<u8>) -> Result<(), Wrong> {
-    let mut lent = Batch::with_capacity(alloc, batch.width(), batch.len())?;
+fn push(batch: &mut Batch, stack: Stack, weights: Weights, made: &mut Made) {
+    if batch.push(stack, weights).is_err() {
+        made.fail(Wrong::Missing);
+    }
+}
+
+fn agree_on_lent_rows(batch: &Batch, made: &mut Made) {
+    let mut lent = Batch::new(made.alloc(), batch.width());
     for row in batch.rows() {
-        done(lent.push(row.stack.clone()?, row.weights))?;
+        if let Some(stack) = made.done(row.stack.clone()) {
+            push(&mut lent, stack, row.weights, made);
+        }
     }
-    agree(made, "Batch::rows", lent == *batch)
+    made.agree("Batch::rows", lent == *batch);
 }
 
-fn agree_on_given_rows(alloc: Global, batch: &Batch, made: &mut Vec<u8>) -> Result<(), Wrong> {
-    let mut given = Batch::new(alloc, batch.width());
-    for row in batch.share()?.into_rows(alloc)? {
-        done(given.push(row.stack, row.weights))?;
+fn agree_on_given_rows(batch: &Batch, made: &mut Made) {
+    match batch.share() {
+        Ok(shared) => take_rows(shared, batch, made),
+        Err(_) => made.fail(Wrong::NoMemory),
     }
-    agree(made, "Batch::into_rows", given == *batch)
 }
 
-fn agree_on_stacks(
-    alloc: Global,
-    stacks: &WeightedStacks,
-    made: &mut Vec<u8>,
-) -> Result<(), Wrong> {
-    let mut given = WeightedStacks::with_capacity(alloc, stacks.rows().len())?;
-    for row in stacks.share()?.into_rows() {
-        done(given.push(row.stack, row.weight))?;
+fn take_rows(shared: Batch, batch: &Batch, made: &mut Made) {
+    let Ok(mut given) = Batch::with_capacity(made.alloc(), batch.width(), batch.len()) else {
+        return made.fail(Wrong::NoMemory);
+    };
+    match shared.into_rows(made.alloc()) {
+        Ok(rows) => {
+            for row in rows {
+                push(&mut given, row.stack, row.weights, made);
+            }
+        }
+        Err(_) => made.fail(Wrong::NoMemory),
     }
-    agree(made, "WeightedStacks::into_rows", given == *stacks)
+    made.agree("Batch::into_rows", given == *batch);
+}
+
+fn agree_on_stacks(stacks: &WeightedStacks, made: &mut Made) {
+    match stacks.share() {
+        Ok(shared) => take_stacks(shared, stacks, made),
+        Err(_) => made.fail(Wrong::NoMemory),
+    }
+}
+
+fn take_stacks(shared: WeightedStacks, stacks: &WeightedStacks, made: &mut Made) {
+    let Ok(mut given) = WeightedStacks::with_capacity(made.alloc(), stacks.rows().len()) else {
+        return made.fail(Wrong::NoMemory);
+    };
+    for row in shared.into_rows() {
+        if given.push(row.stack, row.weight).is_err() {
+            made.fail(Wrong::Missing);
+        }
+    }
+    made.agree("WeightedStacks::into_rows", given == *stacks);
 }
 
 /// The profile of a batch.
-fn profile_of_rows(alloc: Global, batch: &Batch) -> Result<Profile, Wrong> {
+fn profile_of_rows(alloc: Global, batch: &Batch) -> Option<Profile> {
     let (kind, unit) = ("cpu", "ns");
     let four = [ValueUnit { kind, unit }; 4];
-    let count = batch.width().get() as usize;
-    let units = four.get(..count).ok_or(Wrong::Missing)?;
+    let units = four.get(..batch.width().get() as usize)?;
     if units.len() != batch.width().get() as usize {
-        return Err(Wrong::Missing);
+        return None;
     }
-    Ok(profile_of(alloc, batch, units)?)
+    profile_of(alloc, batch, units).ok()
 }
 
-/// Whether a profile has the rows of a batch, also once it was written and read.
-fn agree_on_profile(profile: &Profile, batch: &Batch, made: &mut Vec<u8>) -> Result<(), Wrong> {
-    let alloc = *made.allocator();
-    agree_on_samples(profile, ValueChoice::All, batch, made)?;
-    let bytes = encode(alloc, profile)?;
-    let again = done(decode(alloc, bytes.as_slice()))?;
+/// Whether the profile of a batch has its rows, also once it was written and read.
+fn agree_on_profile(batch: &Batch, made: &mut Made) {
+    match profile_of_rows(made.alloc(), batch) {
+        Some(profile) => agree_on_samples(&profile, batch, made),
+        None => made.fail(Wrong::Missing),
+    }
+}
+
+fn agree_on_samples(profile: &Profile, batch: &Batch, made: &mut Made) {
+    let alloc = made.alloc();
+    made.compare(
+        "batch_of",
+        batch_of(alloc, profile, ValueChoice::All),
+        batch,
+    );
+    match encode(alloc, profile) {
+        Ok(bytes) => agree_on_bytes(bytes.as_slice(), batch, made),
+        Err(_) => made.fail(Wrong::NoMemory),
+    }
+}
+
+fn agree_on_bytes(bytes: &[u8], batch: &Batch, made: &mut Made) {
     let choice = match batch.width().get() {
         1 => ValueChoice::Default,
         _ => ValueChoice::All,
     };
-    agree_on_samples(&again, choice, batch, made)
-}
-
-fn agree_on_samples(
-    profile: &Profile,
-    choice: ValueChoice,
-    batch: &Batch,
-    made: &mut Vec<u8>,
-) -> Result<(), Wrong> {
-    match batch_of(*made.allocator(), profile, choice) {
-        Ok(samples) => agree(made, "batch_of", samples == *batch),
-        Err(fault) => refuse(made, &fault),
+    match decode(made.alloc(), bytes) {
+        Ok(again) => made.compare("decode", batch_of(made.alloc(), &again, choice), batch),
+        Err(_) => made.fail(Wrong::Missing),
     }
 }
 
 /// `aggregate`, `aggregate width 2`: each stack once, with its sum of each value. The tree of the rows has the same.
 /// `aggregate alone` goes no other way.
-fn put_together(asked: &Asked, batch: &Batch, made: &mut Vec<u8>) -> Result<(), Wrong> {
-    let sums = aggregate(asked.alloc, batch)?;
-    rows::add_folded(asked.alloc, &sums, made)?;
+fn put_together(asked: Asked, batch: &Batch, made: &mut Made) {
+    match aggregate(made.alloc(), batch) {
+        Ok(sums) => add_sums(asked, batch, &sums, made),
+        Err(_) => made.fail(Wrong::NoMemory),
+    }
+}
+
+fn add_sums(asked: Asked, batch: &Batch, sums: &Batch, made: &mut Made) {
+    rows::add_folded(sums, made);
     if asked.words.has("alone") {
-        return Ok(());
+        return;
     }
-    trees::agree_on_rows(batch, &sums, made)?;
+    trees::agree_on_rows(batch, sums, made);
     if asked.has_folded_text() {
-        return agree_on_sums(asked, batch, sums.first(), made);
+        agree_on_sums(batch, sums.first(), made);
+        agree_on_merged_samples(asked, batch, sums.first(), made);
+        agree_on_order(asked, sums.first(), made);
     }
-    Ok(())
 }
 
-/// Whether rows of folded text have these sums, their samples where equal stacks are merged, and the text in order.
-fn agree_on_sums(
-    asked: &Asked,
-    batch: &Batch,
-    sums: &WeightedStacks,
-    made: &mut Vec<u8>,
-) -> Result<(), Wrong> {
-    let again = aggregate_stacks(asked.alloc, batch.first().share()?)?;
-    agree(made, "aggregate_stacks", again == *sums)?;
-    let again = aggregate_stacks(asked.alloc, merged_samples(asked, batch)?)?;
-    agree(made, "merge_samples", again == *sums)?;
-    let is_same = has_sums_in_order(asked, sums)?;
-    agree(made, "read_ordered", is_same)
+/// Whether rows of folded text have these sums.
+fn agree_on_sums(batch: &Batch, sums: &WeightedStacks, made: &mut Made) {
+    let alloc = made.alloc();
+    match batch.first().share() {
+        Ok(stacks) => made.compare("aggregate_stacks", aggregate_stacks(alloc, stacks), sums),
+        Err(_) => made.fail(Wrong::NoMemory),
+    }
 }
 
-/// The samples of a batch's profile, equal stacks merged.
-fn merged_samples(asked: &Asked, batch: &Batch) -> Result<WeightedStacks, Wrong> {
-    let (alloc, choice) = (asked.alloc, ValueChoice::Default);
+/// Whether the samples of a batch's profile have these sums, where equal stacks are merged.
+fn agree_on_merged_samples(asked: Asked, batch: &Batch, sums: &WeightedStacks, made: &mut Made) {
+    let alloc = made.alloc();
+    match merged_samples(alloc, asked.hashing, batch) {
+        Some(stacks) => made.compare("merge_samples", aggregate_stacks(alloc, stacks), sums),
+        None => made.fail(Wrong::Missing),
+    }
+}
+
+fn merged_samples(alloc: Global, hashing: Hashing, batch: &Batch) -> Option<WeightedStacks> {
     let profile = profile_of_rows(alloc, batch)?;
-    done(merge_samples(alloc, asked.hashing, &profile, choice))
+    merge_samples(alloc, hashing, &profile, ValueChoice::Default).ok()
 }
 
-fn has_sums_in_order(asked: &Asked, sums: &WeightedStacks) -> Result<bool, Wrong> {
-    let ordered = done(read_ordered(asked.alloc, asked.hashing, asked.input))?;
-    let text = ordered.write(asked.alloc)?;
-    Ok(text.as_slice() == write_stacks(asked.alloc, sums)?.as_slice())
+/// Whether the text in order has these sums.
+fn agree_on_order(asked: Asked, sums: &WeightedStacks, made: &mut Made) {
+    match read_ordered(made.alloc(), asked.hashing, asked.input) {
+        Ok(ordered) => agree_on_text(&ordered, sums, made),
+        Err(_) => made.fail(Wrong::Missing),
+    }
+}
+
+fn agree_on_text(ordered: &OrderedRows, sums: &WeightedStacks, made: &mut Made) {
+    let alloc = made.alloc();
+    match write_stacks(alloc, sums) {
+        Ok(text) => made.compare("read_ordered", ordered.write(alloc), &text),
+        Err(_) => made.fail(Wrong::NoMemory),
+    }
 }

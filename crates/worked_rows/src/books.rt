@@ -2,66 +2,57 @@
 
 ghost use Rattle.std.specs.Prelude.{◌≡◌};
 
-use crate::bytes::{Wrong, refuse, say};
 use crate::checker::Checker;
 use crate::journals::run_closed;
+use crate::made::{Made, Wrong};
 use crate::operations::{op_of, place_of};
-use crate::rows::{u32_after, width_of};
-use crate::scenes::{Ran, Scene, run_opened};
+use crate::rows::width_of;
+use crate::scenes::{Scene, run_steps};
 use crate::script::{Script, Step, Words};
-use profile_store::{Book, CallTree, Change, Op, Ready, Receipt};
-use std::alloc::Global;
+use profile_store::{Book, CallTree, Change, NoMemory, Op, Ready, Receipt};
 
 /// Opens a book, and runs the steps that drive it.
-pub(crate) fn run_scene(checker: &mut Checker, script: &mut Script, step: &Step) -> Ran {
-    checker.begin(step)?;
-    match book_of(checker.alloc, step.words) {
-        Ok(book) => run_book(checker, script, step, book),
-        Err(wrong) => checker.settle(step, Err(wrong)),
+pub(crate) fn run_scene(checker: &mut Checker, script: &mut Script, step: &Step) {
+    let book = book_of(step.words, &mut checker.made);
+    checker.settle(step);
+    if let Ok(book) = book {
+        run_book(checker, script, book);
     }
 }
 
-fn book_of(alloc: Global, words: Words) -> Result<Book, Wrong> {
-    let limit = u32_after(words, "limit", 10)?;
-    let sessions = u32_after(words, "sessions", 1)?;
-    let width = width_of(words)?;
-    if sessions == 0 || sessions > 64 {
-        return Err(Wrong::Command);
-    }
-    Ok(Book::new(alloc, limit, sessions, width)?)
+fn book_of(words: Words, made: &mut Made) -> Result<Book, NoMemory> {
+    let limit = made.number_after(words, "limit", 10);
+    let sessions = made.number_after(words, "sessions", 1);
+    let width = width_of(words, made);
+    Book::new(made.alloc(), limit, sessions.clamp(1, 64), width)
 }
 
-fn run_book(checker: &mut Checker, script: &mut Script, step: &Step, book: Book) -> Ran {
+fn run_book(checker: &mut Checker, script: &mut Script, book: Book) {
     let mut book = book;
-    let ran = run_opened(checker, script, step, Ok(()), &mut book);
-    let no_logs = ran.and(Ok(Vec::new(checker.alloc)));
-    run_closed(checker, script, &book.into_journal(), no_logs)
+    run_steps(checker, script, &mut book);
+    let no_logs = Vec::new(checker.alloc);
+    run_closed(checker, script, &book.into_journal(), no_logs);
 }
 
 impl Scene for Book {
     /// `0.1 add a 1`, `0.1 reset`: the second change of session 0. `prepare` before it tells of the totals around the
     /// change, and `drop` lets a prepared one go.
-    fn run(&mut self, words: Words, input: &[u8], made: &mut Vec<u8>) -> Ran {
-        let (alloc, first) = (*made.allocator(), words.word(0)?);
-        if first == "state" {
-            return tell_state(made, self);
+    fn run(&mut self, words: Words, input: &[u8], made: &mut Made) {
+        if words.word(0) == "state" {
+            return tell_state(self, made);
         }
-        let (turn, verb) = (turn_of(first)?, words.word(1)?);
-        let is_prepared = verb == "prepare" || verb == "drop";
-        let skipped = if is_prepared { 2 } else { 1 };
-        let op = op_of(alloc, words.rest(skipped), input)?;
-        if is_prepared {
-            prepare(made, self, turn, &op, verb == "prepare")
-        } else {
-            change(made, self, turn, op)
+        let turn = turn_of(words.word(0), made);
+        match words.word(1) {
+            "prepare" => prepare(self, turn, op_of(words.rest(2), input, made), true, made),
+            "drop" => prepare(self, turn, op_of(words.rest(2), input, made), false, made),
+            _ => change(self, turn, op_of(words.rest(1), input, made), made),
         }
     }
 }
 
-fn tell_state(made: &mut Vec<u8>, book: &Book) -> Ran {
+fn tell_state(book: &Book, made: &mut Made) {
     let (entries, total) = (book.entries().len(), book.tree().total());
-    let total = total.values();
-    say(made, &format_args!("{entries} entries, {total:?}"))
+    made.say(&format_args!("{entries} entries, {:?}", total.values()));
 }
 
 /// A session, and how many changes it made before.
@@ -71,59 +62,60 @@ struct Turn {
     turn: u64,
 }
 
-fn turn_of(word: &str) -> Result<Turn, Wrong> {
-    let (session, turn) = word.split_once('.').ok_or(Wrong::Command)?;
-    Ok(Turn {
-        session: session.parse().ok().ok_or(Wrong::Command)?,
-        turn: turn.parse().ok().ok_or(Wrong::Command)?,
-    })
-}
-
-fn change(made: &mut Vec<u8>, book: &mut Book, turn: Turn, op: Op) -> Ran {
-    let (alloc, Turn { session, turn }) = (*made.allocator(), turn);
-    match op {
-        Op::Add(batch) => match book.add(alloc, session, turn, batch) {
-            Ok(receipt) => tell_receipt(made, &receipt),
-            Err(refused) => refuse(made, &refused.fault),
-        },
-        Op::Reset => match book.reset(alloc, session, turn) {
-            Ok(receipt) => tell_receipt(made, &receipt),
-            Err(fault) => refuse(made, &fault),
-        },
-        Op::Ask(_) => Err(Wrong::Command),
+fn turn_of(word: &str, made: &mut Made) -> Turn {
+    let (session, turn) = made.halves(word, '.');
+    Turn {
+        session: made.number(session),
+        turn: made.number(turn),
     }
 }
 
-fn tell_receipt(made: &mut Vec<u8>, receipt: &Receipt) -> Ran {
-    let (place, at) = (place_of(&receipt.reply)?, receipt.at);
-    say(made, &format_args!("place {place} at {at}"))
+fn change(book: &mut Book, turn: Turn, op: Option<Op>, made: &mut Made) {
+    let (alloc, Turn { session, turn }) = (made.alloc(), turn);
+    match op {
+        Some(Op::Add(batch)) => match book.add(alloc, session, turn, batch) {
+            Ok(receipt) => tell_receipt(&receipt, made),
+            Err(refused) => made.refuse(&refused.fault),
+        },
+        Some(Op::Reset) => match book.reset(alloc, session, turn) {
+            Ok(receipt) => tell_receipt(&receipt, made),
+            Err(fault) => made.refuse(&fault),
+        },
+        _ => made.fail(Wrong::Command),
+    }
+}
+
+fn tell_receipt(receipt: &Receipt, made: &mut Made) {
+    let (place, at) = (place_of(&receipt.reply, made), receipt.at);
+    made.say(&format_args!("place {place} at {at}"));
 }
 
 /// Prepares a change, which is then made or let go.
-fn prepare(made: &mut Vec<u8>, book: &mut Book, turn: Turn, op: &Op, is_made: bool) -> Ran {
-    let change = match op {
-        Op::Add(batch) => Change::Add(batch),
-        Op::Reset => Change::Reset,
-        Op::Ask(_) => return Err(Wrong::Command),
-    };
-    match book.prepare(*made.allocator(), turn.session, turn.turn, change) {
-        Ok(ready) if is_made => settle(made, book, ready),
-        Ok(ready) => say(made, &format_args!("ready {}", total_of(ready.next()))),
-        Err(fault) => refuse(made, &fault),
+fn prepare(book: &mut Book, turn: Turn, op: Option<Op>, is_made: bool, made: &mut Made) {
+    match &op {
+        Some(Op::Add(batch)) => prepare_change(book, turn, Change::Add(batch), is_made, made),
+        Some(Op::Reset) => prepare_change(book, turn, Change::Reset, is_made, made),
+        _ => made.fail(Wrong::Command),
+    }
+}
+
+fn prepare_change(book: &mut Book, turn: Turn, change: Change, is_made: bool, made: &mut Made) {
+    match book.prepare(made.alloc(), turn.session, turn.turn, change) {
+        Ok(ready) if is_made => settle(book, ready, made),
+        Ok(ready) => made.say(&format_args!("ready {}", total_of(ready.next()))),
+        Err(fault) => made.refuse(&fault),
     }
 }
 
 /// Adds what a book weighs, what it will weigh after a change, and what it weighs once the change is made.
-fn settle(made: &mut Vec<u8>, book: &mut Book, ready: Ready) -> Ran
+fn settle(book: &mut Book, ready: Ready, made: &mut Made)
     requires { ready.before ≡ book.old }
 {
     let (before, next) = (total_of(book.tree()), total_of(ready.next()));
+    made.print(&format_args!("before {before}, ready {next}, "));
     let at = book.settle(ready).at;
     let after = total_of(book.tree());
-    say(
-        made,
-        &format_args!("before {before}, ready {next}, after {after}, at {at}"),
-    )
+    made.say(&format_args!("after {after}, at {at}"));
 }
 
 fn total_of(tree: &CallTree) -> u64 {

@@ -1,57 +1,24 @@
 //! What the lines of a step spell: `> text`, `>hex 0aff`, `>of NAME cut 3`, `>times 1000 a;`, `>numbered 10 f# 1`.
 
+use crate::made::{Made, Wrong};
 use crate::script::Words;
 use bstr::ByteSlice;
-use profile_store::NoMemory;
-use std::alloc::{AllocError, AllocFailed, Global};
-use std::fmt::{Debug, Display};
-use thiserror::Error;
-
-/// Why a step can't be run.
-#[derive(Clone, Copy, PartialEq, Eq, Debug, Error)]
-pub(crate) enum Wrong {
-    #[error("out of memory")]
-    NoMemory,
-    /// No command is written so.
-    #[error("no such command")]
-    Command,
-    /// No line is written so.
-    #[error("no such line")]
-    Line,
-    /// No `let` before has the name.
-    #[error("no such name")]
-    Name,
-    /// What the step needs isn't there: a session, a plan, a profile.
-    #[error("what the command needs is missing")]
-    Missing,
-    /// A call answered otherwise than before, or a profile was not read back.
-    #[error("two answers that have to be equal are not")]
-    Unequal,
-}
-
-impl From<AllocError> for Wrong {
-    fn from(_error: AllocError) -> Wrong {
-        Wrong::NoMemory
-    }
-}
-
-impl From<NoMemory> for Wrong {
-    fn from(_error: NoMemory) -> Wrong {
-        Wrong::NoMemory
-    }
-}
-
-impl<T: Drop> From<AllocFailed<T>> for Wrong {
-    fn from(_error: AllocFailed<T>) -> Wrong {
-        Wrong::NoMemory
-    }
-}
+use std::alloc::{AllocError, Global};
 
 /// Bytes with a name.
 #[derive(Drop)]
 struct Named {
     name: String,
     bytes: Vec<u8>,
+}
+
+impl Named {
+    fn make(alloc: Global, name: &str, bytes: &[u8]) -> Result<Named, AllocError> {
+        Ok(Named {
+            name: String::from_str(alloc, name)?,
+            bytes: Vec::from_slice(alloc, bytes)?,
+        })
+    }
 }
 
 /// The bytes that `let` gave a name.
@@ -67,80 +34,66 @@ impl Names {
         }
     }
 
-    /// Gives bytes a name. A later name counts before an earlier one.
-    pub(crate) fn add(&mut self, alloc: Global, name: &str, bytes: &[u8]) -> Result<(), Wrong> {
-        let named = Named {
-            name: String::from_str(alloc, name)?,
-            bytes: Vec::from_slice(alloc, bytes)?,
-        };
-        Ok(self.all.push(named)?)
+    /// Gives bytes a name. A later name counts before an earlier one. It gives false where there is no memory for it.
+    pub(crate) fn add(&mut self, alloc: Global, name: &str, bytes: &[u8]) -> bool {
+        match Named::make(alloc, name, bytes) {
+            Ok(named) => self.all.push(named).is_ok(),
+            Err(_) => false,
+        }
     }
 
     /// The bytes of a name.
-    pub(crate) fn find(&self, name: &str) -> Result<&[u8], Wrong> {
-        let named = self
-            .all
-            .iter()
-            .rev()
-            .find(|named| named.name.as_str() == name);
-        Ok(named.ok_or(Wrong::Name)?.bytes.as_slice())
-    }
-
-    /// The text of a name.
-    pub(crate) fn find_text(&self, name: &str) -> Result<&str, Wrong> {
-        std::str::from_utf8(self.find(name)?)
-            .ok()
-            .ok_or(Wrong::Line)
+    pub(crate) fn find(&self, name: &str) -> Option<&[u8]> {
+        for named in self.all.iter().rev() {
+            if named.name.as_str() == name {
+                return Some(named.bytes.as_slice());
+            }
+        }
+        None
     }
 
     /// Adds the bytes that the input of a step has, whose lines begin with `>`.
-    pub(crate) fn spell_input(&self, lines: &str, bytes: &mut Vec<u8>) -> Result<(), Wrong> {
+    pub(crate) fn spell_input(&self, lines: &str, bytes: &mut Made) {
         for line in lines.lines() {
             if let Some(text) = line.strip_prefix('>') {
-                self.spell_line(text, bytes)?;
+                self.spell_line(text, bytes);
             }
         }
-        Ok(())
     }
 
     /// Adds the bytes that a step has to give. A line that begins with `!` is a fault, which stands there as it is.
-    pub(crate) fn spell_wanted(&self, lines: &str, bytes: &mut Vec<u8>) -> Result<(), Wrong> {
+    pub(crate) fn spell_wanted(&self, lines: &str, bytes: &mut Made) {
         for line in lines.lines() {
             if let Some(text) = line.strip_prefix('=') {
-                self.spell_line(text, bytes)?;
+                self.spell_line(text, bytes);
             } else if line.starts_with('!') {
-                bytes.extend_from_slice(line.as_bytes())?;
-                bytes.push(b'\n')?;
+                bytes.say(&line);
             }
         }
-        Ok(())
     }
 
-    /// Whether what a step made has each part that a line with `~` wants.
-    pub(crate) fn has_parts(&self, alloc: Global, lines: &str, made: &[u8]) -> Result<bool, Wrong> {
+    /// Whether what a step made has each part that a line with `~` wants. The last one that was looked for is left.
+    pub(crate) fn has_parts(&self, lines: &str, made: &[u8], part: &mut Made) -> bool {
         for line in lines.lines() {
             if let Some(text) = line.strip_prefix('~') {
-                if !self.has_part(alloc, text, made)? {
-                    return Ok(false);
+                part.clear();
+                self.spell_line(text, part);
+                let bytes = part.bytes();
+                let is_there = made.contains_str(bytes.strip_suffix(b"\n").unwrap_or(bytes));
+                if part.wrong().is_some() || !is_there {
+                    return false;
                 }
             }
         }
-        Ok(true)
-    }
-
-    fn has_part(&self, alloc: Global, text: &str, made: &[u8]) -> Result<bool, Wrong> {
-        let mut part = Vec::new(alloc);
-        self.spell_line(text, &mut part)?;
-        let _line_end = part.pop();
-        Ok(made.contains_str(part.as_slice()))
+        true
     }
 
     /// Adds what a line spells after its mark.
-    fn spell_line(&self, line: &str, bytes: &mut Vec<u8>) -> Result<(), Wrong> {
+    fn spell_line(&self, line: &str, bytes: &mut Made) {
         if line.is_empty() {
-            return Ok(bytes.push(b'\n')?);
+            return bytes.push(b'\n');
         }
-        let (form, text) = line.split_once(' ').ok_or(Wrong::Line)?;
+        let (form, text) = bytes.halves(line, ' ');
         match form {
             "" => add_text(text, bytes),
             "hex" => add_hex(text, bytes),
@@ -148,27 +101,29 @@ impl Names {
             "times" => add_times(text, bytes),
             "numbered" => add_numbered(text, bytes),
             "varints" => add_varints(text, bytes),
-            _ => Err(Wrong::Line),
+            _ => bytes.fail(Wrong::Line),
         }
     }
 
     /// Adds the bytes of a name: `NAME`, `NAME cut 3`, `NAME from 3`, `NAME times 3`.
-    fn add_named(&self, text: &str, bytes: &mut Vec<u8>) -> Result<(), Wrong> {
+    fn add_named(&self, text: &str, bytes: &mut Made) {
         let words = Words { text };
-        let all = self.find(words.word(0)?)?;
-        let start = usize_of(words.number_after("from", 0)?)?;
-        let end = usize_of(words.number_after("cut", all.len() as u64)?)?;
-        let part = all.get(start..end).ok_or(Wrong::Line)?;
-        for _ in 0..words.number_after("times", 1)? {
-            bytes.extend_from_slice(part)?;
+        match self.find(words.word(0)) {
+            Some(named) => add_part(named, words, bytes),
+            None => bytes.fail(Wrong::Name),
         }
-        Ok(())
     }
 }
 
-/// A number that a length or an index can be.
-pub(crate) fn usize_of(number: u64) -> Result<usize, Wrong> {
-    usize::try_from(number).ok().ok_or(Wrong::Line)
+fn add_part(named: &[u8], words: Words, bytes: &mut Made) {
+    let start = bytes.number_after(words, "from", 0);
+    let end = bytes.number_after(words, "cut", named.len());
+    let Some(part) = named.get(start..end) else {
+        return bytes.fail(Wrong::Line);
+    };
+    for _ in 0..bytes.number_after(words, "times", 1u64) {
+        bytes.add(part);
+    }
 }
 
 /// What comes next in a text with escapes.
@@ -182,79 +137,90 @@ enum Next {
 
 /// Adds a text and the end of its line. `\r`, `\t`, `\\` and `\xff` are a byte each, and after a `\` at the end the
 /// line doesn't end.
-fn add_text(text: &str, bytes: &mut Vec<u8>) -> Result<(), Wrong> {
-    match add_escaped(text, bytes)? {
-        Next::Plain => Ok(bytes.push(b'\n')?),
-        Next::Escape => Ok(()),
-        Next::High | Next::Low(_) => Err(Wrong::Line),
+fn add_text(text: &str, bytes: &mut Made) {
+    match add_escaped(text, bytes) {
+        Next::Plain => bytes.push(b'\n'),
+        Next::Escape => {}
+        Next::High | Next::Low(_) => bytes.fail(Wrong::Line),
     }
 }
 
-fn add_escaped(text: &str, bytes: &mut Vec<u8>) -> Result<Next, Wrong> {
+fn add_escaped(text: &str, bytes: &mut Made) -> Next {
     let mut next = Next::Plain;
     for byte in text.bytes() {
-        next = add_byte(next, byte, bytes)?;
+        next = add_byte(next, byte, bytes);
     }
-    Ok(next)
+    next
 }
 
-fn add_byte(next: Next, byte: u8, bytes: &mut Vec<u8>) -> Result<Next, Wrong> {
+fn add_byte(next: Next, byte: u8, bytes: &mut Made) -> Next {
     match (next, byte) {
-        (Next::Plain, b'\\') => return Ok(Next::Escape),
-        (Next::Escape, b'x') => return Ok(Next::High),
-        (Next::High, _) => return Ok(Next::Low(digit_of(byte)?)),
-        (Next::Plain, _) => bytes.push(byte)?,
-        (Next::Escape, b'r') => bytes.push(b'\r')?,
-        (Next::Escape, b'n') => bytes.push(b'\n')?,
-        (Next::Escape, b't') => bytes.push(b'\t')?,
-        (Next::Escape, b'\\') => bytes.push(b'\\')?,
-        (Next::Escape, _) => return Err(Wrong::Line),
-        (Next::Low(high), _) => bytes.push((high << 4) | digit_of(byte)?)?,
+        (Next::Plain, b'\\') => return Next::Escape,
+        (Next::Escape, b'x') => return Next::High,
+        (Next::High, _) => return Next::Low(digit_of(byte, bytes)),
+        (Next::Plain, _) => bytes.push(byte),
+        (Next::Escape, _) => add_escape(byte, bytes),
+        (Next::Low(high), _) => {
+            let low = digit_of(byte, bytes);
+            bytes.push((high << 4) | low);
+        }
     }
-    Ok(Next::Plain)
+    Next::Plain
+}
+
+fn add_escape(byte: u8, bytes: &mut Made) {
+    match byte {
+        b'r' => bytes.push(b'\r'),
+        b'n' => bytes.push(b'\n'),
+        b't' => bytes.push(b'\t'),
+        b'\\' => bytes.push(b'\\'),
+        _ => bytes.fail(Wrong::Line),
+    }
 }
 
 /// The number of a hexadecimal digit.
-fn digit_of(byte: u8) -> Result<u8, Wrong> {
+fn digit_of(byte: u8, bytes: &mut Made) -> u8 {
     match byte {
-        b'0'..=b'9' => Ok(byte - b'0'),
-        b'a'..=b'f' => Ok(byte - b'a' + 10),
-        _ => Err(Wrong::Line),
+        b'0'..=b'9' => byte - b'0',
+        b'a'..=b'f' => byte - b'a' + 10,
+        _ => {
+            bytes.fail(Wrong::Line);
+            0
+        }
     }
 }
 
 /// Adds the bytes of hexadecimal digits. Spaces count nothing.
-fn add_hex(text: &str, bytes: &mut Vec<u8>) -> Result<(), Wrong> {
+fn add_hex(text: &str, bytes: &mut Made) {
     let mut high = None;
     for byte in text.bytes() {
-        if byte == b' ' {
-            continue;
-        }
-        let digit = digit_of(byte)?;
-        match high {
-            None => high = Some(digit),
-            Some(above) => {
-                bytes.push((above << 4) | digit)?;
-                high = None;
-            }
+        if byte != b' ' {
+            high = add_digit(high, digit_of(byte, bytes), bytes);
         }
     }
-    match high {
-        None => Ok(()),
-        Some(_) => Err(Wrong::Line),
+    if high.is_some() {
+        bytes.fail(Wrong::Line);
     }
 }
 
+/// Adds the byte of two digits, of which the first may have come before.
+fn add_digit(high: Option<u8>, digit: u8, bytes: &mut Made) -> Option<u8> {
+    let Some(high) = high else {
+        return Some(digit);
+    };
+    bytes.push((high << 4) | digit);
+    None
+}
+
 /// Adds a text with escapes so often: `1000 a;`. No line ends there.
-fn add_times(text: &str, bytes: &mut Vec<u8>) -> Result<(), Wrong> {
-    let (count, text) = text.split_once(' ').ok_or(Wrong::Line)?;
-    let count: u64 = count.parse().ok().ok_or(Wrong::Line)?;
-    let mut once = Vec::new(*bytes.allocator());
-    let _next = add_escaped(text, &mut once)?;
-    for _ in 0..count {
-        bytes.extend_from_slice(once.as_slice())?;
+fn add_times(text: &str, bytes: &mut Made) {
+    let (count, text) = bytes.halves(text, ' ');
+    let mut once = Made::new(bytes.alloc());
+    let _next = add_escaped(text, &mut once);
+    bytes.fail_as(&once);
+    for _ in 0..bytes.number::<u64>(count) {
+        bytes.add(once.bytes());
     }
-    Ok(())
 }
 
 /// Which numbers a form goes through, one after the other: `10` for those below it, `5..10`, and `10..5` downwards.
@@ -265,12 +231,12 @@ struct Numbers {
 }
 
 impl Numbers {
-    fn read(text: &str) -> Result<Numbers, Wrong> {
+    fn read(text: &str, bytes: &mut Made) -> Numbers {
         let (first, end) = text.split_once("..").unwrap_or(("0", text));
-        Ok(Numbers {
-            first: first.parse().ok().ok_or(Wrong::Line)?,
-            end: end.parse().ok().ok_or(Wrong::Line)?,
-        })
+        Numbers {
+            first: bytes.number(first),
+            end: bytes.number(end),
+        }
     }
 
     fn count(self) -> u64 {
@@ -289,86 +255,59 @@ impl Numbers {
 
 /// Adds a line for each number, with it in the place of each `#`, and with its four hexadecimal digits in the place of
 /// each `%`: `1000 f# 1`, `128..200 0x7f% #`. Where there are several `#`, as in `f###`, zeros make it as long.
-fn add_numbered(text: &str, bytes: &mut Vec<u8>) -> Result<(), Wrong> {
-    let (numbers, text) = text.split_once(' ').ok_or(Wrong::Line)?;
-    let numbers = Numbers::read(numbers)?;
+fn add_numbered(text: &str, bytes: &mut Made) {
+    let (numbers, text) = bytes.halves(text, ' ');
+    let numbers = Numbers::read(numbers, bytes);
     for index in 0..numbers.count() {
-        add_with_number(text, numbers.get(index), bytes)?;
-        bytes.push(b'\n')?;
+        add_with_number(text, numbers.get(index), bytes);
+        bytes.push(b'\n');
     }
-    Ok(())
 }
 
-fn add_with_number(text: &str, number: u64, bytes: &mut Vec<u8>) -> Result<(), Wrong> {
+fn add_with_number(text: &str, number: u64, bytes: &mut Made) {
     let mut digits = 0usize;
     for byte in text.bytes() {
         if byte == b'#' {
             digits = digits.saturating_add(1);
             continue;
         }
-        add_number(number, digits, bytes)?;
+        add_number(number, digits, bytes);
         digits = 0;
         match byte {
-            b'%' => print(bytes, &format_args!("{number:04x}"))?,
-            _ => bytes.push(byte)?,
+            b'%' => bytes.print(&format_args!("{number:04x}")),
+            _ => bytes.push(byte),
         }
     }
-    add_number(number, digits, bytes)
+    add_number(number, digits, bytes);
 }
 
 /// Adds a number of at least so many digits, or nothing where none are wanted.
-fn add_number(number: u64, digits: usize, bytes: &mut Vec<u8>) -> Result<(), Wrong> {
-    if digits == 0 {
-        return Ok(());
+fn add_number(number: u64, digits: usize, bytes: &mut Made) {
+    match digits {
+        0 => {}
+        1 => bytes.print(&number),
+        _ => bytes.print(&format_args!("{number:0digits$}")),
     }
-    let text = format!(in *bytes.allocator(); "{number}")?;
-    for _ in text.len()..digits {
-        bytes.push(b'0')?;
-    }
-    Ok(bytes.extend_from_slice(text.as_bytes())?)
 }
 
 /// Adds hexadecimal digits for each number, with the two bytes of its varint in the place of `#`, and with the same as
 /// the first two of a longer varint in the place of `+`: `128..200 1202 #`.
-fn add_varints(text: &str, bytes: &mut Vec<u8>) -> Result<(), Wrong> {
-    let (numbers, text) = text.split_once(' ').ok_or(Wrong::Line)?;
-    let numbers = Numbers::read(numbers)?;
+fn add_varints(text: &str, bytes: &mut Made) {
+    let (numbers, text) = bytes.halves(text, ' ');
+    let numbers = Numbers::read(numbers, bytes);
     for index in 0..numbers.count() {
-        add_with_varint(text, numbers.get(index), bytes)?;
+        add_with_varint(text, numbers.get(index), bytes);
     }
-    Ok(())
 }
 
-fn add_with_varint(text: &str, number: u64, bytes: &mut Vec<u8>) -> Result<(), Wrong> {
+fn add_with_varint(text: &str, number: u64, bytes: &mut Made) {
     let low = (number % 128) as u8 | 0x80;
     let high = (number / 128 % 128) as u8;
     for word in text.split_whitespace() {
         match word {
-            "#" => bytes.extend_from_slice(&[low, high])?,
-            "+" => bytes.extend_from_slice(&[low, high | 0x80])?,
-            _ => add_hex(word, bytes)?,
+            "#" => bytes.add(&[low, high]),
+            "+" => bytes.add(&[low, high | 0x80]),
+            _ => add_hex(word, bytes),
         }
     }
-    Ok(())
-}
-
-/// Adds what a value is printed as.
-pub(crate) fn print<D: Display>(made: &mut Vec<u8>, value: &D) -> Result<(), Wrong> {
-    let text = format!(in *made.allocator(); "{value}")?;
-    Ok(made.extend_from_slice(text.as_bytes())?)
-}
-
-/// Adds a value as a line.
-pub(crate) fn say<D: Display>(made: &mut Vec<u8>, value: &D) -> Result<(), Wrong> {
-    print(made, &format_args!("{value}\n"))
-}
-
-/// Adds a fault as a line.
-pub(crate) fn refuse<D: Display>(made: &mut Vec<u8>, fault: &D) -> Result<(), Wrong> {
-    print(made, &format_args!("! {fault}\n"))
-}
-
-/// Adds a value as a line, as `{:?}` prints it.
-pub(crate) fn show<D: Debug>(made: &mut Vec<u8>, value: &D) -> Result<(), Wrong> {
-    print(made, &format_args!("{value:?}\n"))
 }

@@ -1,9 +1,9 @@
 //! What a script's steps made, compared with what they have to make.
 
-use crate::bytes::{Names, Wrong, print};
+use crate::bytes::Names;
+use crate::made::{Made, Wrong};
 use crate::script::Step;
 use std::alloc::Global;
-use std::mem;
 use std::process::ExitCode;
 
 /// The bytes that have names, the step under way, and what went wrong so far.
@@ -12,10 +12,12 @@ pub(crate) struct Checker {
     pub(crate) alloc: Global,
     pub(crate) names: Names,
     /// The input of the step.
-    pub(crate) input: Vec<u8>,
+    pub(crate) input: Made,
     /// What the step made.
-    pub(crate) made: Vec<u8>,
-    report: Vec<u8>,
+    pub(crate) made: Made,
+    /// What it had to make.
+    wanted: Made,
+    report: Made,
     passed: u64,
     failed: u64,
     has_failed: bool,
@@ -26,9 +28,10 @@ impl Checker {
         Checker {
             alloc,
             names: Names::new(alloc),
-            input: Vec::new(alloc),
-            made: Vec::new(alloc),
-            report: Vec::new(alloc),
+            input: Made::new(alloc),
+            made: Made::new(alloc),
+            wanted: Made::new(alloc),
+            report: Made::new(alloc),
             passed: 0,
             failed: 0,
             has_failed: false,
@@ -36,74 +39,91 @@ impl Checker {
     }
 
     /// Spells the input of a step, which has made nothing yet.
-    pub(crate) fn begin(&mut self, step: &Step) -> Result<(), Wrong> {
+    pub(crate) fn begin(&mut self, step: &Step) {
         self.input.clear();
         self.made.clear();
-        self.names.spell_input(step.lines, &mut self.input)
+        self.names.spell_input(step.lines, &mut self.input);
     }
 
     /// Gives the input of the step a name.
-    pub(crate) fn name_input(&mut self, name: &str) -> Result<(), Wrong> {
-        self.names.add(self.alloc, name, self.input.as_slice())
+    pub(crate) fn name_input(&mut self, name: &str) {
+        if !self.names.add(self.alloc, name, self.input.bytes()) {
+            self.made.fail(Wrong::NoMemory);
+        }
     }
 
     /// Gives what the step made a name. Nothing of it is left.
-    pub(crate) fn name_made(&mut self, name: &str) -> Result<(), Wrong> {
-        self.names.add(self.alloc, name, self.made.as_slice())?;
-        self.made.clear();
-        Ok(())
+    pub(crate) fn name_made(&mut self, name: &str) {
+        if !self.names.add(self.alloc, name, self.made.bytes()) {
+            self.made.fail(Wrong::NoMemory);
+        }
+        self.made.truncate(0);
     }
 
     /// Counts a step that ran to its end, or that couldn't be run.
-    pub(crate) fn settle(&mut self, step: &Step, ran: Result<(), Wrong>) -> Result<(), Wrong> {
-        let mut wanted = Vec::new(self.alloc);
-        let fits = match ran.and(self.names.spell_wanted(step.lines, &mut wanted)) {
-            Ok(()) => self.fits(step, wanted.as_slice()),
-            Err(wrong) => Err(wrong),
-        };
-        if fits == Ok(true) {
+    pub(crate) fn settle(&mut self, step: &Step) {
+        self.wanted.clear();
+        let has_made = self.has_made(step);
+        let wrong = self
+            .input
+            .wrong()
+            .or(self.made.wrong())
+            .or(self.wanted.wrong());
+        if has_made && wrong.is_none() {
             self.passed = self.passed.saturating_add(1);
-            return Ok(());
+        } else {
+            self.failed = self.failed.saturating_add(1);
+            self.has_failed = true;
+            self.tell(step, wrong);
         }
-        self.failed = self.failed.saturating_add(1);
-        self.has_failed = true;
-        self.tell(step, wanted.as_slice(), fits.err())
     }
 
     /// Whether a step made what was wanted: all of it, or the parts that lines with `~` want.
-    fn fits(&self, step: &Step, wanted: &[u8]) -> Result<bool, Wrong> {
+    fn has_made(&mut self, step: &Step) -> bool {
+        let made = self.made.bytes();
         if step.lines.lines().any(|line| line.starts_with('~')) {
-            self.names
-                .has_parts(self.alloc, step.lines, self.made.as_slice())
+            self.names.has_parts(step.lines, made, &mut self.wanted)
         } else {
-            Ok(wanted == self.made.as_slice())
+            self.names.spell_wanted(step.lines, &mut self.wanted);
+            self.wanted.bytes() == made
         }
     }
 
     /// Reports a step that failed.
-    fn tell(&mut self, step: &Step, wanted: &[u8], wrong: Option<Wrong>) -> Result<(), Wrong> {
-        let head = format_args!("{}:{}: {}\n", step.file, step.line, step.words.text);
-        print(&mut self.report, &head)?;
+    fn tell(&mut self, step: &Step, wrong: Option<Wrong>) {
+        let report = &mut self.report;
+        report.say(&format_args!("{}:{}: {}", step.file, step.line, step.words.text));
         if let Some(wrong) = wrong {
-            print(&mut self.report, &format_args!("  {wrong}\n"))?;
+            report.say(&format_args!("  {}", wrong.text()));
         }
-        add_shown(&mut self.report, "wanted", wanted)?;
-        add_shown(&mut self.report, "made", self.made.as_slice())
+        add_shown(report, "wanted", self.wanted.bytes());
+        add_shown(report, "made", self.made.bytes());
+    }
+
+    /// A script whose bytes are no text can't be run.
+    pub(crate) fn refuse_script(&mut self, file: &str) {
+        self.has_failed = true;
+        self.report.say(&format_args!("{file}: no text"));
     }
 
     /// Ends a script: its counts are reported, and begin again.
-    pub(crate) fn end(&mut self, file: &str) -> Result<(), Wrong> {
+    pub(crate) fn end(&mut self, file: &str) {
         let (passed, failed) = (self.passed, self.failed);
-        let counts = format_args!("{file}: {passed} passed, {failed} failed\n");
-        print(&mut self.report, &counts)?;
+        let counts = format_args!("{file}: {passed} passed, {failed} failed");
+        self.report.say(&counts);
         self.passed = 0;
         self.failed = 0;
-        Ok(())
     }
 
-    /// What there is to print, which begins again.
-    pub(crate) fn take_report(&mut self) -> Vec<u8> {
-        mem::replace(&mut self.report, Vec::new(self.alloc))
+    /// What there is to print.
+    pub(crate) fn report(&self) -> &[u8] {
+        self.report.bytes()
+    }
+
+    /// The report begins again, once it was printed. A report that isn't whole counts as a failure.
+    pub(crate) fn clear_report(&mut self) {
+        self.has_failed |= self.report.wrong().is_some();
+        self.report.clear();
     }
 
     /// 1 where a step failed.
@@ -120,10 +140,10 @@ impl Checker {
 const SHOWN: usize = 2_000;
 
 /// Adds the first of some bytes as they are, under a title. Bytes that are no text are shown as a list of numbers.
-fn add_shown(report: &mut Vec<u8>, title: &str, bytes: &[u8]) -> Result<(), Wrong> {
+fn add_shown(report: &mut Made, title: &str, bytes: &[u8]) {
     let bytes = bytes.get(..SHOWN).unwrap_or(bytes);
     match std::str::from_utf8(bytes) {
-        Ok(text) => print(report, &format_args!("  {title}:\n{text}")),
-        Err(_) => print(report, &format_args!("  {title}: {bytes:?}\n")),
+        Ok(text) => report.print(&format_args!("  {title}:\n{text}")),
+        Err(_) => report.say(&format_args!("  {title}: {bytes:?}")),
     }
 }

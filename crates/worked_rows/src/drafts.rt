@@ -1,6 +1,6 @@
 //! Drafts of profiles, made by hand: each line adds a message or sets a number, with the fields' names.
 
-use crate::bytes::{Wrong, refuse};
+use crate::made::{Made, Wrong};
 use crate::profiles::say_profile;
 use crate::script::Words;
 use profile_store::{
@@ -8,12 +8,20 @@ use profile_store::{
     check,
 };
 use std::alloc::Global;
+use std::mem;
 
 /// `draft`: the canonical bytes of the draft that the lines describe, or the fault with which it is handed back. It is
 /// checked at each line `check` and at the end.
-pub(crate) fn make_draft(alloc: Global, input: &[u8], made: &mut Vec<u8>) -> Result<(), Wrong> {
-    let text = std::str::from_utf8(input).ok().ok_or(Wrong::Line)?;
-    let mut draft = Draft {
+pub(crate) fn make_draft(input: &[u8], made: &mut Made) {
+    let mut draft = empty_draft(made.alloc());
+    for lines in made.text_of(input).split("check\n") {
+        add_lines(&mut draft, lines, made);
+        check_lines(&mut draft, made);
+    }
+}
+
+fn empty_draft(alloc: Global) -> Draft {
+    Draft {
         sample_types: Items::empty(alloc),
         samples: Samples::empty(alloc),
         mappings: Items::empty(alloc),
@@ -28,137 +36,167 @@ pub(crate) fn make_draft(alloc: Global, input: &[u8], made: &mut Vec<u8>) -> Res
         period: 0,
         comments: Items::empty(alloc),
         default_sample_type: 0,
-    };
-    for lines in text.split("check\n") {
-        let added = add_lines(alloc, &mut draft, lines);
-        draft = added.and(checked(alloc, draft, made))?;
     }
-    Ok(())
+}
+
+fn check_lines(draft: &mut Draft, made: &mut Made) {
+    let empty = empty_draft(made.alloc());
+    *draft = checked(mem::replace(draft, empty), made);
 }
 
 /// Checks a draft, which comes back.
-fn checked(alloc: Global, draft: Draft, made: &mut Vec<u8>) -> Result<Draft, Wrong> {
-    match check(alloc, draft) {
-        Ok(profile) => say_profile(&profile, made).and(Ok(profile.into_draft())),
-        Err(refused) => refuse(made, &refused.fault).and(Ok(refused.back)),
+fn checked(draft: Draft, made: &mut Made) -> Draft {
+    match check(made.alloc(), draft) {
+        Ok(profile) => {
+            say_profile(&profile, made);
+            profile.into_draft()
+        }
+        Err(refused) => {
+            made.refuse(&refused.fault);
+            refused.back
+        }
     }
 }
 
-fn add_lines(alloc: Global, draft: &mut Draft, lines: &str) -> Result<(), Wrong> {
+fn add_lines(draft: &mut Draft, lines: &str, made: &mut Made) {
     for line in lines.lines() {
-        add_line(alloc, draft, Words { text: line })?;
+        add_line(draft, Words { text: line }, made);
     }
-    Ok(())
 }
 
-fn add_line(alloc: Global, draft: &mut Draft, words: Words) -> Result<(), Wrong> {
-    let key = words.word(0)?;
-    let text = words.word(1).unwrap_or("");
-    let number = number_after(words, key);
-    match key {
-        "drop_frames" => draft.drop_frames = number?,
-        "keep_frames" => draft.keep_frames = number?,
-        "time_nanos" => draft.time_nanos = number?,
-        "duration_nanos" => draft.duration_nanos = number?,
-        "period" => draft.period = number?,
-        "default_sample_type" => draft.default_sample_type = number?,
-        "comment" => draft.comments.push(number?)?,
-        "period_type" => draft.period_type = value_type_of(words)?,
-        "sample_type" => draft.sample_types.push(value_type_of(words)?)?,
-        "string" => draft.strings.push(Text::copied(alloc, text)?)?,
-        "sample" => add_sample(alloc, draft, words)?,
-        "mapping" => add_mapping(draft, words)?,
-        "location" => add_location(alloc, draft, words)?,
-        "function" => add_function(draft, words)?,
-        _ => return Err(Wrong::Line),
+fn add_line(draft: &mut Draft, words: Words, made: &mut Made) {
+    let key = words.word(0);
+    let is_added = match key {
+        "period_type" => {
+            draft.period_type = value_type_of(words, made);
+            true
+        }
+        "sample" => add_sample(draft, words, made),
+        "mapping" => add_mapping(draft, words, made),
+        "location" => add_location(draft, words, made),
+        "function" => add_function(draft, words, made),
+        "string" => add_string(draft, words.word(1), made),
+        "comment" => draft.comments.push(number_after(words, key, made)).is_ok(),
+        "sample_type" => draft.sample_types.push(value_type_of(words, made)).is_ok(),
+        _ => set_number(draft, words, key, made),
+    };
+    if !is_added {
+        made.fail(Wrong::Line);
     }
-    Ok(())
+}
+
+/// Sets the number of a field, where there is such a field.
+fn set_number(draft: &mut Draft, words: Words, key: &str, made: &mut Made) -> bool {
+    let number = number_after(words, key, made);
+    match key {
+        "drop_frames" => draft.drop_frames = number,
+        "keep_frames" => draft.keep_frames = number,
+        "time_nanos" => draft.time_nanos = number,
+        "duration_nanos" => draft.duration_nanos = number,
+        "period" => draft.period = number,
+        "default_sample_type" => draft.default_sample_type = number,
+        _ => return false,
+    }
+    true
 }
 
 /// The number after a word: 0 where the word isn't there.
-fn number_after(words: Words, key: &str) -> Result<i64, Wrong> {
-    match words.after(key) {
-        Some(word) => word.parse().ok().ok_or(Wrong::Line),
-        None => Ok(0),
+fn number_after(words: Words, key: &str, made: &mut Made) -> i64 {
+    made.number_after(words, key, 0)
+}
+
+/// The id or the address after a word: 0 where the word isn't there.
+fn id_after(words: Words, key: &str, made: &mut Made) -> u64 {
+    made.number_after(words, key, 0)
+}
+
+fn value_type_of(words: Words, made: &mut Made) -> ValueType {
+    ValueType {
+        kind: number_after(words, "kind", made),
+        unit: number_after(words, "unit", made),
     }
 }
 
-fn value_type_of(words: Words) -> Result<ValueType, Wrong> {
-    Ok(ValueType {
-        kind: number_after(words, "kind")?,
-        unit: number_after(words, "unit")?,
-    })
+fn add_string(draft: &mut Draft, text: &str, made: &mut Made) -> bool {
+    match Text::copied(made.alloc(), text) {
+        Ok(text) => draft.strings.push(text).is_ok(),
+        Err(_) => false,
+    }
 }
 
 /// A sample at one location, with values as `values 7,8`, and with a label where it has a `key`.
-fn add_sample(alloc: Global, draft: &mut Draft, words: Words) -> Result<(), Wrong> {
+fn add_sample(draft: &mut Draft, words: Words, made: &mut Made) -> bool {
+    let alloc = made.alloc();
     let mut sample = Sample {
         location_ids: Items::empty(alloc),
         values: Items::empty(alloc),
         labels: Items::empty(alloc),
     };
-    fill_sample(&mut sample, words)?;
-    Ok(draft.samples.push(&sample)?)
+    let is_filled = fill_sample(&mut sample, words, made);
+    is_filled && draft.samples.push(&sample).is_ok()
 }
 
-fn fill_sample(sample: &mut Sample, words: Words) -> Result<(), Wrong> {
-    let location_id = words.number_after("location_id", 0)?;
-    sample.location_ids.push(location_id)?;
-    if words.has("key") {
-        sample.labels.push(SampleLabel {
-            key: number_after(words, "key")?,
-            text: number_after(words, "text")?,
-            num: number_after(words, "num")?,
-            num_unit: number_after(words, "num_unit")?,
-        })?;
-    }
+fn fill_sample(sample: &mut Sample, words: Words, made: &mut Made) -> bool {
+    let location_id = id_after(words, "location_id", made);
+    let has_location = sample.location_ids.push(location_id).is_ok();
+    let has_label = !words.has("key") || sample.labels.push(label_of(words, made)).is_ok();
     let values = words.after("values").unwrap_or("");
     for value in values.split_terminator(',') {
-        sample.values.push(value.parse().ok().ok_or(Wrong::Line)?)?;
+        if sample.values.push(made.number(value)).is_err() {
+            return false;
+        }
     }
-    Ok(())
+    has_location && has_label
 }
 
-fn add_mapping(draft: &mut Draft, words: Words) -> Result<(), Wrong> {
+fn label_of(words: Words, made: &mut Made) -> SampleLabel {
+    SampleLabel {
+        key: number_after(words, "key", made),
+        text: number_after(words, "text", made),
+        num: number_after(words, "num", made),
+        num_unit: number_after(words, "num_unit", made),
+    }
+}
+
+fn add_mapping(draft: &mut Draft, words: Words, made: &mut Made) -> bool {
     let mapping = Mapping {
-        id: words.number_after("id", 0)?,
-        memory_start: words.number_after("memory_start", 0)?,
-        memory_limit: words.number_after("memory_limit", 0)?,
-        file_offset: words.number_after("file_offset", 0)?,
-        filename: number_after(words, "filename")?,
-        build_id: number_after(words, "build_id")?,
+        id: id_after(words, "id", made),
+        memory_start: id_after(words, "memory_start", made),
+        memory_limit: id_after(words, "memory_limit", made),
+        file_offset: id_after(words, "file_offset", made),
+        filename: number_after(words, "filename", made),
+        build_id: number_after(words, "build_id", made),
         has_functions: words.has("has_functions"),
         has_filenames: words.has("has_filenames"),
         has_line_numbers: words.has("has_line_numbers"),
         has_inline_frames: words.has("has_inline_frames"),
     };
-    Ok(draft.mappings.push(mapping)?)
+    draft.mappings.push(mapping).is_ok()
 }
 
 /// A location with one line.
-fn add_location(alloc: Global, draft: &mut Draft, words: Words) -> Result<(), Wrong> {
+fn add_location(draft: &mut Draft, words: Words, made: &mut Made) -> bool {
     let line = Line {
-        function_id: words.number_after("function_id", 0)?,
-        line: number_after(words, "line")?,
+        function_id: id_after(words, "function_id", made),
+        line: number_after(words, "line", made),
     };
     let mut location = Location {
-        id: words.number_after("id", 0)?,
-        mapping_id: words.number_after("mapping_id", 0)?,
-        address: words.number_after("address", 0)?,
-        lines: Items::empty(alloc),
+        id: id_after(words, "id", made),
+        mapping_id: id_after(words, "mapping_id", made),
+        address: id_after(words, "address", made),
+        lines: Items::empty(made.alloc()),
         is_folded: words.has("is_folded"),
     };
-    location.lines.push(line)?;
-    Ok(draft.locations.push(location)?)
+    location.lines.push(line).is_ok() && draft.locations.push(location).is_ok()
 }
 
-fn add_function(draft: &mut Draft, words: Words) -> Result<(), Wrong> {
+fn add_function(draft: &mut Draft, words: Words, made: &mut Made) -> bool {
     let function = Function {
-        id: words.number_after("id", 0)?,
-        name: number_after(words, "name")?,
-        system_name: number_after(words, "system_name")?,
-        filename: number_after(words, "filename")?,
-        start_line: number_after(words, "start_line")?,
+        id: id_after(words, "id", made),
+        name: number_after(words, "name", made),
+        system_name: number_after(words, "system_name", made),
+        filename: number_after(words, "filename", made),
+        start_line: number_after(words, "start_line", made),
     };
-    Ok(draft.functions.push(function)?)
+    draft.functions.push(function).is_ok()
 }

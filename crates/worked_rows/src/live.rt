@@ -1,14 +1,12 @@
 //! What `live` writes: `live sessions 2 all warm`.
 
-use crate::bytes::{Wrong, refuse, say};
+use crate::made::{Made, Wrong};
 use crate::operations::batch_of;
-use crate::rows::u32_after;
-use crate::scenes::Ran;
 use crate::script::Words;
 use live_report::{LiveOptions, Progress, live_text};
-use profile_store::Hashing;
-use std::sync::Wait;
+use profile_store::{Batch, Hashing};
 use std::sync::atomic::{AtomicU64, Ordering};
+use std::sync::{Arc, Wait};
 use std::thread::Threads;
 
 /// How many rows were heard of.
@@ -29,21 +27,31 @@ pub(crate) fn run_live<R: Threads + Wait + Sync>(
     rt: &R,
     words: Words,
     input: &[u8],
-    made: &mut Vec<u8>,
-) -> Ran {
-    let alloc = *made.allocator();
+    made: &mut Made,
+) {
     let (_, row) = words.text.split_once(" of ").unwrap_or(("", ""));
-    let sessions = u32_after(words, "sessions", 2)?;
+    let sessions = made.number_after(words, "sessions", 2);
     let options = LiveOptions::new(sessions, words.has("all"), words.has("warm"));
-    let options = options.ok_or(Wrong::Command)?;
+    let batch = batch_of(Words { text: row }, input, made);
+    match (options, batch) {
+        (Some(options), Some(batch)) => tell_live(rt, options, batch, made),
+        _ => made.fail(Wrong::Command),
+    }
+}
+
+fn tell_live<R: Threads + Wait + Sync>(
+    rt: &R,
+    options: LiveOptions,
+    batch: Arc<Batch>,
+    made: &mut Made,
+) {
     let heard = Heard {
         rows: AtomicU64::new(0),
     };
-    let batch = batch_of(alloc, Words { text: row }, input)?;
-    match live_text(rt, alloc, Hashing::fixed(), &heard, batch, options) {
-        Ok(text) => made.extend_from_slice(text.as_slice())?,
-        Err(fault) => return refuse(made, &fault),
+    match live_text(rt, made.alloc(), Hashing::fixed(), &heard, batch, options) {
+        Ok(text) => made.add(text.as_slice()),
+        Err(fault) => return made.refuse(&fault),
     }
     let rows = heard.rows.load(Ordering::SeqCst);
-    say(made, &format_args!("heard of {rows} rows"))
+    made.say(&format_args!("heard of {rows} rows"));
 }

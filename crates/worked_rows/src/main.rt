@@ -13,6 +13,7 @@ mod commands;
 mod drafts;
 mod journals;
 mod live;
+mod made;
 mod names;
 mod operations;
 mod profiles;
@@ -40,8 +41,9 @@ fn main(rt: HostRuntime) -> Result<ExitCode> {
     let mut checker = Checker::new(rt.alloc());
     for name in env::args(&rt)?.skip(1) {
         let text = fs::read(&rt, name.as_str())?;
-        run_script(&rt, &mut checker, name.as_str(), text.as_slice())?;
-        io::writer(&rt).write_all(checker.take_report().as_slice())?;
+        run_script(&rt, &mut checker, name.as_str(), text.as_slice());
+        io::writer(&rt).write_all(checker.report())?;
+        checker.clear_report();
     }
     Ok(checker.exit_code())
 }

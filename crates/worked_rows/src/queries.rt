@@ -1,52 +1,56 @@
 //! Queries as scripts spell them: `top by cum count 3`, `flame columns 5`, `folded focus main ignore b value 1`.
 
-use crate::bytes::Wrong;
-use crate::rows::u32_after;
+use crate::made::{Made, Wrong};
 use crate::script::Words;
 use profile_store::{Columns, Kind, Name, Query, Rank};
-use std::alloc::Global;
 
 /// The kind of report that is the second word, or the order of a top list.
-pub(crate) fn kind_name<'a>(words: Words<'a>) -> Result<&'a str, Wrong> {
-    match words.after("by") {
-        Some(rank) => Ok(rank),
-        None => words.word(1),
-    }
+pub(crate) fn kind_name<'a>(words: Words<'a>) -> &'a str {
+    words.after("by").unwrap_or(words.word(1))
 }
 
 /// A query of this kind, with the limits and filters that the words have.
-pub(crate) fn query_of(alloc: Global, words: Words, kind: &str) -> Result<Query, Wrong> {
-    Ok(Query {
-        focus: name_after(alloc, words, "focus")?,
-        ignore: name_after(alloc, words, "ignore")?,
-        value: u32_after(words, "value", 0)?,
-        kind: kind_of(words, kind)?,
-    })
+pub(crate) fn query_of(words: Words, kind: &str, made: &mut Made) -> Query {
+    Query {
+        focus: name_after(words, "focus", made),
+        ignore: name_after(words, "ignore", made),
+        value: made.number_after(words, "value", 0),
+        kind: kind_of(words, kind, made),
+    }
 }
 
-fn kind_of(words: Words, kind: &str) -> Result<Kind, Wrong> {
+fn kind_of(words: Words, kind: &str, made: &mut Made) -> Kind {
     match kind {
-        "total" => Ok(Kind::Total),
-        "folded" => Ok(Kind::Folded),
-        "top" | "flat" => top_of(words, Rank::Flat),
-        "cum" => top_of(words, Rank::Cum),
-        "flame" | "layout" => {
-            let columns = Columns::new(u32_after(words, "columns", 100)?);
-            let columns = columns.ok_or(Wrong::Command)?;
-            Ok(Kind::Flame { columns })
+        "total" => Kind::Total,
+        "folded" => Kind::Folded,
+        "top" | "flat" => top_of(words, Rank::Flat, made),
+        "cum" => top_of(words, Rank::Cum, made),
+        "flame" | "layout" => flame_of(words, made),
+        _ => {
+            made.fail(Wrong::Command);
+            Kind::Total
         }
-        _ => Err(Wrong::Command),
     }
 }
 
-fn top_of(words: Words, rank: Rank) -> Result<Kind, Wrong> {
-    let count = u32_after(words, "count", 20)?;
-    Ok(Kind::Top { rank, count })
+fn flame_of(words: Words, made: &mut Made) -> Kind {
+    let columns = made.number_after(words, "columns", 100);
+    match Columns::new(columns) {
+        Some(columns) => Kind::Flame { columns },
+        None => {
+            made.fail(Wrong::Command);
+            Kind::Total
+        }
+    }
 }
 
-fn name_after(alloc: Global, words: Words, key: &str) -> Result<Option<Name>, Wrong> {
-    match words.after(key) {
-        None => Ok(None),
-        Some(text) => Ok(Some(Name::make(alloc, text).ok().ok_or(Wrong::Command)?)),
-    }
+fn top_of(words: Words, rank: Rank, made: &mut Made) -> Kind {
+    let count = made.number_after(words, "count", 20);
+    Kind::Top { rank, count }
+}
+
+fn name_after(words: Words, key: &str, made: &mut Made) -> Option<Name> {
+    let text = words.after(key)?;
+    let name = Name::make(made.alloc(), text);
+    made.done(name)
 }

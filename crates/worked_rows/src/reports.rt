@@ -1,13 +1,12 @@
 //! Reports: one query over one list of rows, answered in each public way.
 
 use crate::batches::Asked;
-use crate::bytes::{Wrong, say};
+use crate::made::{Made, Wrong};
 use crate::queries::{kind_name, query_of};
-use crate::rows::{agree, done};
 use crate::trees;
 use profile_store::{
-    Answer, Batch, Flame, Hashing, Kind, LineSums, Query, WeightedStacks, flame_json,
-    folded_totals, kept_totals, merge_lines, read_ordered, report_in_order, report_of,
+    Answer, Batch, Flame, FrameTotals, Hashing, Kind, LineSums, Query, Rank, Rect, WeightedStacks,
+    flame_json, folded_totals, kept_totals, merge_lines, read_ordered, report_in_order, report_of,
     report_of_stacks, top_list, top_text,
 };
 use std::alloc::Global;
@@ -15,93 +14,108 @@ use std::alloc::Global;
 /// `report total`, `report top by cum count 2`, `report folded`, `report flame columns 5`, `report layout columns 5`,
 /// and `report each columns 5`; with `focus a`, `ignore b` and `value 1` where they are wanted. With `alone` it goes
 /// only the ways that count names.
-pub(crate) fn run(asked: &Asked, batch: &Batch, made: &mut Vec<u8>) -> Result<(), Wrong> {
-    let kind = kind_name(asked.words)?;
+pub(crate) fn run(asked: Asked, batch: &Batch, made: &mut Made) {
+    let kind = kind_name(asked.words);
     if kind != "each" {
         return answer(asked, batch, kind, made);
     }
     for kind in ["total", "flat", "cum", "folded", "flame"] {
-        answer(asked, batch, kind, made)?;
+        answer(asked, batch, kind, made);
     }
-    Ok(())
 }
 
 /// A query, the rows that it is over, and the answer that each way has to give.
 #[derive(Clone, Copy)]
 pub(crate) struct Given<'a> {
-    asked: &'a Asked<'a>,
+    asked: Asked<'a>,
     pub(crate) batch: &'a Batch,
-    /// The rows by the value that the query names.
-    stacks: &'a WeightedStacks,
     pub(crate) query: &'a Query,
     pub(crate) answer: &'a Answer,
 }
 
-fn answer(asked: &Asked, batch: &Batch, kind: &str, made: &mut Vec<u8>) -> Result<(), Wrong> {
-    let query = query_of(asked.alloc, asked.words, kind)?;
-    agree_all(asked, batch, &query, made)
+fn answer(asked: Asked, batch: &Batch, kind: &str, made: &mut Made) {
+    let query = query_of(asked.words, kind, made);
+    agree_all(asked, batch, &query, made);
 }
 
 /// Adds the answer, and tells of the ways that answer otherwise.
-fn agree_all(asked: &Asked, batch: &Batch, query: &Query, made: &mut Vec<u8>) -> Result<(), Wrong> {
+fn agree_all(asked: Asked, batch: &Batch, query: &Query, made: &mut Made) {
+    let alloc = made.alloc();
     if query.value >= batch.width().get() {
-        return Err(Wrong::Missing);
+        return made.fail(Wrong::Missing);
     }
-    let answer = report_of(asked.alloc, Hashing::fixed(), batch, query)?;
-    add_answer(asked, &answer, made)?;
-    let stacks = batch.weighted_stacks(asked.alloc, query.value)?;
-    let given = Given {
-        asked,
-        batch,
-        stacks: &stacks,
-        query,
-        answer: &answer,
-    };
-    agree_on_all_ways(&given, made)
+    let again = report_of(alloc, asked.hashing, batch, query);
+    match batch.weighted_stacks(alloc, query.value) {
+        Ok(stacks) => match report_of(alloc, Hashing::fixed(), batch, query) {
+            Ok(answer) => {
+                let given = Given {
+                    asked,
+                    batch,
+                    query,
+                    answer: &answer,
+                };
+                add_answer(asked, &answer, made);
+                made.compare("report_of", again, &answer);
+                agree_on_all_ways(given, &stacks, made);
+            }
+            Err(_) => made.fail(Wrong::NoMemory),
+        },
+        Err(_) => made.fail(Wrong::NoMemory),
+    }
 }
 
-fn agree_on_all_ways(given: &Given, made: &mut Vec<u8>) -> Result<(), Wrong> {
-    agree_on_names(given, made)?;
+/// The other ways. The rows are those by the value that the query names.
+fn agree_on_all_ways(given: Given, stacks: &WeightedStacks, made: &mut Made) {
+    if let Kind::Top { rank, count } = given.query.kind {
+        agree_on_names(given, stacks, rank, count, made);
+    }
     if given.asked.words.has("alone") {
-        return Ok(());
+        return;
     }
-    agree_on_batch(given, made)?;
-    agree_on_stacks(given, made)?;
-    agree_on_text(given, made)?;
-    trees::agree_on_report(given, made)
-}
-
-fn agree_on_batch(given: &Given, made: &mut Vec<u8>) -> Result<(), Wrong> {
-    let (asked, batch, query) = (given.asked, given.batch, given.query);
-    if query.value >= batch.width().get() {
-        return Err(Wrong::Missing);
+    agree_on_stacks(given, "report_of_stacks", stacks.share(), made);
+    if given.asked.has_folded_text() {
+        agree_on_text(given, made);
     }
-    let again = report_of(asked.alloc, asked.hashing, batch, query)?;
-    agree(made, "report_of", again == *given.answer)
+    trees::agree_on_report(&given, made);
 }
 
 /// The answer over rows of one value, whichever value the query names.
-fn agree_on_stacks(given: &Given, made: &mut Vec<u8>) -> Result<(), Wrong> {
-    let (asked, stacks) = (given.asked, given.stacks.share()?);
-    let again = report_of_stacks(asked.alloc, asked.hashing, stacks, given.query)?;
-    agree(made, "report_of_stacks", again == *given.answer)
+fn agree_on_stacks<E: Drop>(
+    given: Given,
+    way: &str,
+    stacks: Result<WeightedStacks, E>,
+    made: &mut Made,
+) {
+    let (alloc, hashing) = (made.alloc(), given.asked.hashing);
+    match stacks {
+        Ok(stacks) => made.compare(
+            way,
+            report_of_stacks(alloc, hashing, stacks, given.query),
+            given.answer,
+        ),
+        Err(_) => made.fail(Wrong::Missing),
+    }
 }
 
 /// The answer over folded text that is read in order, and over its merged lines, also of two pieces.
-fn agree_on_text(given: &Given, made: &mut Vec<u8>) -> Result<(), Wrong> {
-    let (alloc, hashing) = (given.asked.alloc, given.asked.hashing);
-    if !given.asked.has_folded_text() {
-        return Ok(());
+fn agree_on_text(given: Given, made: &mut Made) {
+    let (alloc, hashing, text) = (made.alloc(), given.asked.hashing, given.asked.input);
+    agree_on_stacks(
+        given,
+        "merge_lines",
+        merge_lines(alloc, hashing, text),
+        made,
+    );
+    let sums = sums_of_pieces(alloc, hashing, text);
+    agree_on_stacks(given, "LineSums", sums.stacks(), made);
+    match read_ordered(alloc, hashing, text) {
+        Ok(ordered) => made.compare(
+            "report_in_order",
+            report_in_order(alloc, hashing, ordered, given.query),
+            given.answer,
+        ),
+        Err(_) => made.fail(Wrong::Missing),
     }
-    let ordered = done(read_ordered(alloc, hashing, given.asked.input))?;
-    let again = report_in_order(alloc, hashing, ordered, given.query)?;
-    agree(made, "report_in_order", again == *given.answer)?;
-    let merged = done(merge_lines(alloc, hashing, given.asked.input))?;
-    let again = report_of_stacks(alloc, hashing, merged, given.query)?;
-    agree(made, "merge_lines", again == *given.answer)?;
-    let sums = sums_of_pieces(alloc, hashing, given.asked.input);
-    let again = report_of_stacks(alloc, hashing, sums.stacks()?, given.query)?;
-    agree(made, "LineSums", again == *given.answer)
 }
 
 /// The sums of folded text that comes in two pieces.
@@ -116,48 +130,71 @@ fn sums_of_pieces(alloc: Global, hashing: Hashing, text: &[u8]) -> LineSums {
 }
 
 /// Adds an answer as text. A folded report is followed by how many lines it has.
-fn add_answer(asked: &Asked, answer: &Answer, made: &mut Vec<u8>) -> Result<(), Wrong> {
-    let alloc = asked.alloc;
+fn add_answer(asked: Asked, answer: &Answer, made: &mut Made) {
+    let alloc = made.alloc();
     match answer {
-        Answer::Total(total) => say(made, total),
-        Answer::Top(top) => Ok(made.extend_from_slice(top_text(alloc, top)?.as_slice())?),
-        Answer::Flame(flame) if asked.words.has("layout") => add_layout(alloc, flame, made),
-        Answer::Flame(flame) => say(made, &flame_json(alloc, flame)?),
+        Answer::Total(total) => made.say(total),
+        Answer::Top(top) => made.add_made(top_text(alloc, top)),
+        Answer::Flame(flame) if asked.words.has("layout") => add_layout(flame, made),
+        Answer::Flame(flame) => made.say_made(flame_json(alloc, flame)),
         Answer::Folded(text) => {
-            made.extend_from_slice(text.as_slice())?;
+            made.add(text.as_slice());
             let count = text.as_slice().split(|byte| *byte == b'\n').count();
-            say(made, &format_args!("{} rows", count.saturating_sub(1)))
+            made.say(&format_args!("{} rows", count.saturating_sub(1)));
         }
     }
 }
 
-/// Adds a line for each rectangle: depth, x, weight, left, how many columns, name. The JSON text has as many.
-fn add_layout(alloc: Global, flame: &Flame, made: &mut Vec<u8>) -> Result<(), Wrong> {
-    say(made, &format_args!("total {}", flame.total))?;
+/// Adds a line for each rectangle. The JSON text has as many.
+fn add_layout(flame: &Flame, made: &mut Made) {
+    made.say(&format_args!("total {}", flame.total));
     for rect in flame.rects.as_slice() {
-        let (d, x, w, left) = (rect.depth, rect.x, rect.weight, rect.left);
-        let (columns, name) = (rect.right.saturating_sub(left), rect.name.text());
-        say(made, &format_args!("{d} {x} {w} {left} {columns} {name:?}"))?;
+        add_rect(rect, made);
     }
-    let json = flame_json(alloc, flame)?;
-    let count = json.matches("\"depth\":").count();
-    agree(made, "flame_json", count == flame.rects.as_slice().len())
+    match flame_json(made.alloc(), flame) {
+        Ok(json) => {
+            let count = json.matches("\"depth\":").count();
+            made.agree("flame_json", count == flame.rects.as_slice().len());
+        }
+        Err(_) => made.fail(Wrong::NoMemory),
+    }
+}
+
+/// Depth, x, weight, left, how many columns, name.
+fn add_rect(rect: &Rect, made: &mut Made) {
+    let columns = rect.right.saturating_sub(rect.left);
+    let (depth, left) = (u64::from(rect.depth), u64::from(rect.left));
+    for number in [depth, rect.x, rect.weight, left, u64::from(columns)] {
+        made.print(&format_args!("{number} "));
+    }
+    made.show(&rect.name.text());
 }
 
 /// The ways that count names, where a top list is asked for.
-fn agree_on_names(given: &Given, made: &mut Vec<u8>) -> Result<(), Wrong> {
-    let (asked, query, answer) = (given.asked, given.query, given.answer);
-    let Kind::Top { rank, count } = query.kind else {
-        return Ok(());
-    };
+fn agree_on_names(given: Given, stacks: &WeightedStacks, rank: Rank, count: u32, made: &mut Made) {
+    let (alloc, hashing, query) = (made.alloc(), given.asked.hashing, given.query);
     let (focus, ignored) = (query.focus.as_ref(), query.ignore.as_ref());
-    let totals = kept_totals(asked.alloc, asked.hashing, given.stacks, focus, ignored)?;
-    let top = Answer::Top(top_list(totals, rank, count)?);
-    agree(made, "kept_totals", top == *answer)?;
-    if asked.has_folded_text() && query.keeps_all() {
-        let totals = done(folded_totals(asked.alloc, asked.hashing, asked.input))?;
-        let top = Answer::Top(top_list(totals, rank, count)?);
-        agree(made, "folded_totals", top == *answer)?;
+    let totals = kept_totals(alloc, hashing, stacks, focus, ignored);
+    agree_on_top(given, "kept_totals", totals, rank, count, made);
+    if given.asked.has_folded_text() && query.keeps_all() {
+        let totals = folded_totals(alloc, hashing, given.asked.input);
+        agree_on_top(given, "folded_totals", totals, rank, count, made);
     }
-    Ok(())
+}
+
+fn agree_on_top<E: Drop>(
+    given: Given,
+    way: &str,
+    totals: Result<FrameTotals, E>,
+    rank: Rank,
+    count: u32,
+    made: &mut Made,
+) {
+    let Ok(totals) = totals else {
+        return made.fail(Wrong::Missing);
+    };
+    match top_list(totals, rank, count) {
+        Ok(top) => made.agree(way, Answer::Top(top) == *given.answer),
+        Err(_) => made.fail(Wrong::NoMemory),
+    }
 }

@@ -1,21 +1,22 @@
 //! Samples of profiles as rows, and rows as profiles.
 
-use crate::bytes::{Wrong, refuse, show, usize_of};
-use crate::profiles::{add_bytes, read_profile, say_profile};
+use crate::made::{Made, Wrong};
+use crate::profiles::{read_profile, say_profile};
+use crate::rows::add_values;
 use crate::script::Words;
 use profile_store::{
-    Batch, BatchFault, FoldedFault, Hashing, Name, NameFault, NoMemory, Profile, ProfileFault,
-    PushFault, Rank, ValueChoice, ValueUnit, batch_of, batch_of_with, export_folded, merge_samples,
-    profile_of, read_folded, sample_totals, top_list, top_text, unfold, write_folded, write_stacks,
+    Batch, BatchFault, FoldedFault, FrameTotals, Hashing, Name, NameFault, NoMemory, Profile,
+    ProfileFault, PushFault, Rank, ValueChoice, ValueUnit, batch_of, batch_of_with, export_folded,
+    merge_samples, profile_of, read_folded, sample_totals, top_list, top_text, unfold,
+    write_stacks,
 };
-use std::alloc::Global;
 
 /// `samples`: a profile's samples as folded text. `samples merged` puts equal stacks together, `samples top` is the top
 /// list, `samples unfold 0` the frames of one sample with the leaf first. The value is the profile's own choice, or
 /// `value cpu`, or `all`. With `key 7` hashes begin elsewhere. `samples export samples/count cpu/ns`: the bytes of the
 /// profile of the rows of all values.
-pub(crate) fn answer(words: Words, profile: &Profile, made: &mut Vec<u8>) -> Result<(), Wrong> {
-    match words.word(1).unwrap_or("") {
+pub(crate) fn answer(words: Words, profile: &Profile, made: &mut Made) {
+    match words.word(1) {
         "merged" => say_merged(words, profile, made),
         "top" => say_top(words, profile, made),
         "unfold" => say_unfolded(words, profile, made),
@@ -24,8 +25,8 @@ pub(crate) fn answer(words: Words, profile: &Profile, made: &mut Vec<u8>) -> Res
     }
 }
 
-fn hashing_of(words: Words) -> Result<Hashing, Wrong> {
-    Ok(Hashing::of_key(words.number_after("key", 0)?))
+fn hashing_of(words: Words, made: &mut Made) -> Hashing {
+    Hashing::of_key(made.number_after(words, "key", 0))
 }
 
 fn choice_of(words: Words<'_>) -> ValueChoice<'_> {
@@ -36,118 +37,123 @@ fn choice_of(words: Words<'_>) -> ValueChoice<'_> {
     }
 }
 
-fn say_merged(words: Words, profile: &Profile, made: &mut Vec<u8>) -> Result<(), Wrong> {
-    let alloc = *made.allocator();
-    match merge_samples(alloc, hashing_of(words)?, profile, choice_of(words)) {
-        Ok(stacks) => add_bytes(write_stacks(alloc, &stacks), made),
-        Err(fault) => refuse(made, &fault),
+fn say_merged(words: Words, profile: &Profile, made: &mut Made) {
+    let (alloc, hashing) = (made.alloc(), hashing_of(words, made));
+    match merge_samples(alloc, hashing, profile, choice_of(words)) {
+        Ok(stacks) => made.add_made(write_stacks(alloc, &stacks)),
+        Err(fault) => made.refuse(&fault),
     }
 }
 
-fn say_top(words: Words, profile: &Profile, made: &mut Vec<u8>) -> Result<(), Wrong> {
-    let alloc = *made.allocator();
-    match sample_totals(alloc, hashing_of(words)?, profile, choice_of(words)) {
-        Ok(totals) => add_bytes(top_text(alloc, &top_list(totals, Rank::Flat, 20)?), made),
-        Err(fault) => refuse(made, &fault),
+fn say_top(words: Words, profile: &Profile, made: &mut Made) {
+    let (alloc, hashing) = (made.alloc(), hashing_of(words, made));
+    match sample_totals(alloc, hashing, profile, choice_of(words)) {
+        Ok(totals) => add_top(totals, made),
+        Err(fault) => made.refuse(&fault),
     }
 }
 
-fn say_rows(words: Words, profile: &Profile, made: &mut Vec<u8>) -> Result<(), Wrong> {
-    let alloc = *made.allocator();
-    match batch_of_with(alloc, hashing_of(words)?, profile, choice_of(words)) {
-        Ok(rows) => say_values(&rows, made),
-        Err(fault) => refuse(made, &fault),
+fn add_top(totals: FrameTotals, made: &mut Made) {
+    match top_list(totals, Rank::Flat, 20) {
+        Ok(top) => made.add_made(top_text(made.alloc(), &top)),
+        Err(_) => made.fail(Wrong::NoMemory),
     }
 }
 
 /// Adds rows by each value, one after the other; of several values the totals too.
-fn say_values(rows: &Batch, made: &mut Vec<u8>) -> Result<(), Wrong> {
-    for value in 0..rows.width().get() {
-        add_bytes(write_folded(*made.allocator(), rows, value), made)?;
+fn say_rows(words: Words, profile: &Profile, made: &mut Made) {
+    let (alloc, hashing) = (made.alloc(), hashing_of(words, made));
+    match batch_of_with(alloc, hashing, profile, choice_of(words)) {
+        Ok(rows) => {
+            add_values(&rows, made);
+            if rows.width().get() > 1 {
+                made.show(&rows.total().values());
+            }
+        }
+        Err(fault) => made.refuse(&fault),
     }
-    if rows.width().get() > 1 {
-        show(made, &rows.total().values())?;
-    }
-    Ok(())
 }
 
-fn say_unfolded(words: Words, profile: &Profile, made: &mut Vec<u8>) -> Result<(), Wrong> {
-    let sample = usize_of(words.number_after("unfold", 0)?)?;
+fn say_unfolded(words: Words, profile: &Profile, made: &mut Made) {
+    let sample = made.number_after(words, "unfold", 0);
     if sample >= profile.draft().samples.len() {
-        return Err(Wrong::Missing);
+        return made.fail(Wrong::Missing);
     }
-    say_names(unfold(*made.allocator(), profile, sample)?.as_slice(), made)
+    match unfold(made.alloc(), profile, sample) {
+        Ok(names) => say_names(names.as_slice(), made),
+        Err(_) => made.fail(Wrong::NoMemory),
+    }
 }
 
-fn say_names(names: &[Name], made: &mut Vec<u8>) -> Result<(), Wrong> {
+fn say_names(names: &[Name], made: &mut Made) {
     for name in names {
-        made.extend_from_slice(name.text().as_bytes())?;
-        made.push(b'\n')?;
+        made.say(&name.text());
     }
-    Ok(())
 }
 
-fn export_samples(words: Words, profile: &Profile, made: &mut Vec<u8>) -> Result<(), Wrong> {
-    let alloc = *made.allocator();
-    match batch_of(alloc, profile, ValueChoice::All) {
+fn export_samples(words: Words, profile: &Profile, made: &mut Made) {
+    match batch_of(made.alloc(), profile, ValueChoice::All) {
         Ok(rows) => export_rows(words, &rows, made),
-        Err(fault) => refuse(made, &fault),
+        Err(fault) => made.refuse(&fault),
     }
 }
 
-fn export_rows(words: Words, rows: &Batch, made: &mut Vec<u8>) -> Result<(), Wrong> {
-    let units = units_of(*made.allocator(), words)?;
+fn export_rows(words: Words, rows: &Batch, made: &mut Made) {
+    let units = units_of(words, made);
     if units.len() != rows.width().get() as usize {
-        return Err(Wrong::Missing);
+        return made.fail(Wrong::Missing);
     }
-    let profile = profile_of(*made.allocator(), rows, units.as_slice())?;
-    say_profile(&profile, made)
+    match profile_of(made.alloc(), rows, units.as_slice()) {
+        Ok(profile) => say_profile(&profile, made),
+        Err(_) => made.fail(Wrong::NoMemory),
+    }
 }
 
 /// The sample types among the words: `cpu/ns`.
-fn units_of(alloc: Global, words: Words<'_>) -> Result<Vec<ValueUnit<'_>>, Wrong> {
-    let mut units = Vec::new(alloc);
+fn units_of<'a>(words: Words<'a>, made: &mut Made) -> Vec<ValueUnit<'a>> {
+    let mut units = Vec::new(made.alloc());
     for word in words.text.split_whitespace() {
         if let Some((kind, unit)) = word.split_once('/') {
-            units.push(ValueUnit { kind, unit })?;
+            made.keep(&mut units, ValueUnit { kind, unit });
         }
     }
-    Ok(units)
+    units
 }
 
 /// `export cpu/ns`: the bytes of the profile of folded text. `export rows cpu/ns` makes a batch of it first.
-pub(crate) fn export(words: Words, input: &[u8], made: &mut Vec<u8>) -> Result<(), Wrong> {
+pub(crate) fn export(words: Words, input: &[u8], made: &mut Made) {
     if !words.has("rows") {
         return export_text(words, input, made);
     }
-    match read_folded(*made.allocator(), input) {
+    match read_folded(made.alloc(), input) {
         Ok(rows) => export_rows(words, &rows, made),
-        Err(fault) => refuse(made, &fault),
+        Err(fault) => made.refuse(&fault),
     }
 }
 
-fn export_text(words: Words, input: &[u8], made: &mut Vec<u8>) -> Result<(), Wrong> {
-    let alloc = *made.allocator();
-    let (kind, unit) = words.word(1)?.split_once('/').ok_or(Wrong::Command)?;
-    match export_folded(alloc, hashing_of(words)?, input, kind, unit) {
-        Ok(bytes) => Ok(made.extend_from_slice(bytes.as_slice())?),
-        Err(fault) => refuse(made, &fault),
+fn export_text(words: Words, input: &[u8], made: &mut Made) {
+    let (kind, unit) = made.halves(words.word(1), '/');
+    let hashing = hashing_of(words, made);
+    match export_folded(made.alloc(), hashing, input, kind, unit) {
+        Ok(bytes) => made.add(bytes.as_slice()),
+        Err(fault) => made.refuse(&fault),
     }
 }
 
 /// `exported cpu/ns`, `exported top rows cpu/ns`: what `samples` answers of the bytes that `export` makes.
-pub(crate) fn read_exported(words: Words, input: &[u8], made: &mut Vec<u8>) -> Result<(), Wrong> {
-    let mut bytes = Vec::new(*made.allocator());
-    let exported = export(words, input, &mut bytes);
-    exported.and(read_profile(words, bytes.as_slice(), made))
+pub(crate) fn read_exported(words: Words, input: &[u8], made: &mut Made) {
+    let mut bytes = Made::new(made.alloc());
+    export(words, input, &mut bytes);
+    made.fail_as(&bytes);
+    read_profile(words, bytes.bytes(), made);
 }
 
 /// `memory faults`: what calls answer that are out of memory.
-pub(crate) fn say_memory_faults(made: &mut Vec<u8>) -> Result<(), Wrong> {
-    refuse(made, &NoMemory)?;
-    refuse(made, &FoldedFault::NoMemory)?;
-    refuse(made, &PushFault::NoMemory)?;
-    refuse(made, &NameFault::NoMemory)?;
-    refuse(made, &ProfileFault::NoMemory)?;
-    refuse(made, &BatchFault::NoMemory)
+pub(crate) fn say_memory_faults(made: &mut Made) {
+    made.refuse(&NoMemory);
+    made.refuse(&FoldedFault::NoMemory);
+    made.refuse(&PushFault::NoMemory);
+    made.refuse(&NameFault::NoMemory);
+    made.refuse(&ProfileFault::NoMemory);
+    made.refuse(&BatchFault::NoMemory);
 }

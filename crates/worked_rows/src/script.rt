@@ -1,7 +1,5 @@
 //! A script as blocks of steps. A block ends at an empty line.
 
-use crate::bytes::Wrong;
-
 /// A script's text, from the line that comes next.
 #[derive(Clone, Copy)]
 pub(crate) struct Script<'a> {
@@ -113,12 +111,9 @@ pub(crate) struct Words<'a> {
 }
 
 impl<'a> Words<'a> {
-    /// A word by its index. The command's name has index 0.
-    pub(crate) fn word(self, index: usize) -> Result<&'a str, Wrong> {
-        self.text
-            .split_whitespace()
-            .nth(index)
-            .ok_or(Wrong::Command)
+    /// A word by its index, or no text. The command's name has index 0.
+    pub(crate) fn word(self, index: usize) -> &'a str {
+        self.text.split_whitespace().nth(index).unwrap_or("")
     }
 
     /// The words from this index on.
@@ -130,24 +125,11 @@ impl<'a> Words<'a> {
         Words { text }
     }
 
-    /// A word as a number.
-    pub(crate) fn number(self, index: usize) -> Result<u64, Wrong> {
-        self.word(index)?.parse().ok().ok_or(Wrong::Command)
-    }
-
     /// The word after this one.
     pub(crate) fn after(self, key: &str) -> Option<&'a str> {
         let mut words = self.text.split_whitespace();
         let _key = words.find(|word| *word == key)?;
         words.next()
-    }
-
-    /// The number after this word, or another where the word isn't there.
-    pub(crate) fn number_after(self, key: &str, other: u64) -> Result<u64, Wrong> {
-        match self.after(key) {
-            Some(word) => word.parse().ok().ok_or(Wrong::Command),
-            None => Ok(other),
-        }
     }
 
     /// Whether there is such a word.

@@ -2,12 +2,12 @@
 
 ghost use Rattle.std.specs.Prelude.{◌≡◌};
 
-use crate::bytes::{Wrong, refuse, say, usize_of};
 use crate::checker::Checker;
 use crate::journals::run_closed;
+use crate::made::{Made, Wrong};
 use crate::operations::{batch_of, op_of, query_of, tell_answer};
-use crate::rows::{u32_after, width_of};
-use crate::scenes::{Ran, next_step};
+use crate::rows::width_of;
+use crate::scenes::next_step;
 use crate::script::{Script, Step, Words};
 use crate::trees::add_stacks;
 use profile_store::{
@@ -27,33 +27,26 @@ struct Room<'a, N: StoreName> {
 }
 
 /// Opens a store, and runs the steps of its sessions.
-pub(crate) fn run_scene<R: Wait>(
-    rt: &R,
-    checker: &mut Checker,
-    script: &mut Script,
-    step: &Step,
-) -> Ran {
-    checker.begin(step)?;
-    match blank_of(checker.alloc, step.words) {
-        Ok(Ok(blank)) => run_store::<Brand, R>(rt, checker, script, step, blank),
-        Ok(Err(fault)) => {
-            let ran = refuse(&mut checker.made, &fault);
-            checker.settle(step, ran)
+pub(crate) fn run_scene<R: Wait>(rt: &R, checker: &mut Checker, script: &mut Script, step: &Step) {
+    match blank_of(step.words, &mut checker.made) {
+        Ok(blank) => run_store::<Brand, R>(rt, checker, script, step, blank),
+        Err(fault) => {
+            checker.made.refuse(&fault);
+            checker.settle(step);
         }
-        Err(wrong) => checker.settle(step, Err(wrong)),
     }
 }
 
 /// An empty store. With `hashing 7` it hashes names from that start.
-pub(crate) fn blank_of(alloc: Global, words: Words) -> Result<Result<Blank, MakeFault>, Wrong> {
-    let limit = u32_after(words, "limit", 10)?;
-    let sessions = u32_after(words, "sessions", 1)?;
-    let width = width_of(words)?;
+pub(crate) fn blank_of(words: Words, made: &mut Made) -> Result<Blank, MakeFault> {
+    let limit = made.number_after(words, "limit", 10);
+    let sessions = made.number_after(words, "sessions", 1);
+    let width = width_of(words, made);
     let hashing = match words.after("hashing") {
-        Some(_) => Hashing::of_key(words.number_after("hashing", 0)?),
+        Some(key) => Hashing::of_key(made.number(key)),
         None => Hashing::fixed(),
     };
-    Ok(Blank::make_with(alloc, hashing, limit, sessions, width))
+    Blank::make_with(made.alloc(), hashing, limit, sessions, width)
 }
 
 fn run_store<N: StoreName, R: Wait>(
@@ -62,13 +55,13 @@ fn run_store<N: StoreName, R: Wait>(
     script: &mut Script,
     step: &Step,
     blank: Blank,
-) -> Ran
+)
     requires { blank
         ≡ record { limit = N.limit; sessions = N.sessions; width = N.width; history = N.history } }
 {
     let store = Store::<N>::start(blank);
     let logs = run_sessions(rt, checker, script, step, &store);
-    run_closed(checker, script, &store.close(rt), logs)
+    run_closed(checker, script, &store.close(rt), logs);
 }
 
 /// Opens the sessions, fewer than there are with `open 1`, and gives their logs.
@@ -78,205 +71,270 @@ fn run_sessions<N: StoreName, R: Wait>(
     script: &mut Script,
     step: &Step,
     store: &Store<N>,
-) -> Result<Vec<SessionLog>, Wrong> {
+) -> Vec<SessionLog> {
     let alloc = checker.alloc;
-    let sessions = step.words.number_after("sessions", 1)?;
-    let count = step.words.number_after("open", sessions)?;
     let mut room = Room {
         store,
         sessions: Vec::new(alloc),
         told: Vec::new(alloc),
     };
-    let opened = room.open(rt, alloc, count);
-    let ran = match checker.settle(step, opened) {
-        Ok(()) => room.run_steps(rt, checker, script),
-        Err(wrong) => Err(wrong),
-    };
-    match ran {
-        Ok(()) => logs_of(alloc, room.sessions),
-        Err(wrong) => Err(wrong),
-    }
+    room.open(rt, step.words, &mut checker.made);
+    checker.settle(step);
+    room.run_steps(rt, checker, script);
+    logs_of(room.sessions, &mut checker.made)
 }
 
 /// The logs of sessions, which end.
-fn logs_of<N: StoreName>(
-    alloc: Global,
-    sessions: Vec<Session<'_, N>>,
-) -> Result<Vec<SessionLog>, Wrong> {
-    let mut logs = Vec::new(alloc);
+fn logs_of<N: StoreName>(sessions: Vec<Session<'_, N>>, made: &mut Made) -> Vec<SessionLog> {
+    let mut logs = Vec::new(made.alloc());
     for session in sessions {
-        logs.push(session.close())?;
+        made.keep(&mut logs, session.close());
     }
-    Ok(logs)
+    logs
+}
+
+/// What a session is to do, and the input for it.
+#[derive(Clone, Copy)]
+struct Deed<'a> {
+    words: Words<'a>,
+    input: &'a [u8],
 }
 
 impl<N: StoreName> Room<'_, N> {
-    fn run_steps<R: Wait>(&mut self, rt: &R, checker: &mut Checker, script: &mut Script) -> Ran {
+    fn run_steps<R: Wait>(&mut self, rt: &R, checker: &mut Checker, script: &mut Script) {
         for _ in 0..script.most_steps() {
-            let Some(step) = next_step(checker, script)? else {
-                break;
+            let Some(step) = next_step(checker, script) else {
+                return;
             };
-            let ran = self.run(rt, step.words, checker.input.as_slice(), &mut checker.made);
-            checker.settle(&step, ran)?;
+            let deed = Deed {
+                words: step.words.rest(1),
+                input: checker.input.bytes(),
+            };
+            self.run(rt, step.words.word(0), deed, &mut checker.made);
+            checker.settle(&step);
         }
-        Ok(())
     }
 
     /// `0 add a 1`: an operation of session 0. With `each` all sessions take it in turn, and with `once` the next
     /// session of the store, which then ends.
-    fn run<R: Wait>(&mut self, rt: &R, words: Words, input: &[u8], made: &mut Vec<u8>) -> Ran {
-        let deed = words.rest(1);
-        match words.word(0)? {
-            "each" => self.take_each(rt, made, deed, input),
-            "once" => self.take_once(rt, made, deed, input),
-            "hold" => self.hold(rt, made, deed, input),
-            _ => self.take(rt, made, usize_of(words.number(0)?)?, deed, input),
+    fn run<R: Wait>(&mut self, rt: &R, who: &str, deed: Deed, made: &mut Made) {
+        match who {
+            "each" => self.take_each(rt, deed, made),
+            "once" => self.take_once(rt, deed, made),
+            "hold" => self.hold(rt, deed, made),
+            number => self.take_one(rt, made.number(number), deed, made),
         }
     }
 
-    fn open<R: Wait>(&mut self, rt: &R, alloc: Global, count: u64) -> Ran {
-        for _ in 0..count {
-            let session = self.store.session(rt, alloc).ok();
-            self.sessions.push(session.ok_or(Wrong::Missing)?)?;
-        }
-        Ok(())
-    }
-
-    fn take_each<R: Wait>(&mut self, rt: &R, made: &mut Vec<u8>, deed: Words, input: &[u8]) -> Ran {
-        for number in 0..self.sessions.len() {
-            self.take(rt, made, number, deed, input)?;
-        }
-        Ok(())
-    }
-
-    fn take_once<R: Wait>(&mut self, rt: &R, made: &mut Vec<u8>, deed: Words, input: &[u8]) -> Ran {
-        let number = self.sessions.len();
-        match self.store.session(rt, *made.allocator()) {
-            Ok(session) => self.sessions.push(session)?,
-            Err(fault) => return refuse(made, &fault),
-        }
-        self.take(rt, made, number, Words { text: "number" }, input)?;
-        let ran = self.take(rt, made, number, deed, input);
-        let _ended = self.sessions.pop();
-        ran
-    }
-
-    /// `number`, `hear 1`, `receipt 1`, `times 50 add a 1`, `take`, or an operation.
-    fn take<R: Wait>(
-        &mut self,
-        rt: &R,
-        made: &mut Vec<u8>,
-        number: usize,
-        deed: Words,
-        input: &[u8],
-    ) -> Ran {
-        let alloc = *made.allocator();
-        let session = self.sessions.get_mut(number).ok_or(Wrong::Missing)?;
-        match deed.word(0)? {
-            "number" => say(made, &format_args!("session {}", session.number())),
-            "hear" => {
-                let told = self.told.get(usize_of(deed.number(1)?)?);
-                session.hear(told.ok_or(Wrong::Missing)?);
-                say(made, &"heard")
+    fn open<R: Wait>(&mut self, rt: &R, words: Words, made: &mut Made) {
+        let sessions = made.number_after(words, "sessions", 1);
+        for _ in 0..made.number_after(words, "open", sessions) {
+            if let Some(session) = made.done(self.store.session(rt, made.alloc())) {
+                made.keep(&mut self.sessions, session);
             }
-            "receipt" => tell_receipt(made, session, usize_of(deed.number(1)?)?),
-            "times" => {
-                let times = deed.number(1)?;
-                let batch = batch_of(alloc, deed.rest(3), input)?;
-                let receipts = add_often(rt, alloc, session, &batch, times);
-                say(made, &format_args!("{receipts} receipts"))
+        }
+    }
+
+    fn take_each<R: Wait>(&mut self, rt: &R, deed: Deed, made: &mut Made) {
+        for session in self.sessions.iter_mut() {
+            take(rt, session, &mut self.told, deed, made);
+        }
+    }
+
+    fn take_one<R: Wait>(&mut self, rt: &R, number: usize, deed: Deed, made: &mut Made) {
+        match self.sessions.get_mut(number) {
+            Some(session) => take(rt, session, &mut self.told, deed, made),
+            None => made.fail(Wrong::Missing),
+        }
+    }
+
+    fn take_once<R: Wait>(&mut self, rt: &R, deed: Deed, made: &mut Made) {
+        match self.store.session(rt, made.alloc()) {
+            Ok(mut session) => {
+                tell_number(&session, made);
+                take(rt, &mut session, &mut self.told, deed, made);
             }
-            "take" => self.take_window(rt, made, number),
-            _ => self.operate(rt, made, number, op_of(alloc, deed, input)?),
+            Err(fault) => made.refuse(&fault),
         }
-    }
-
-    fn operate<R: Wait>(&mut self, rt: &R, made: &mut Vec<u8>, number: usize, op: Op) -> Ran {
-        let alloc = *made.allocator();
-        let session = self.sessions.get_mut(number).ok_or(Wrong::Missing)?;
-        match op {
-            Op::Add(batch) => match session.add(rt, alloc, batch) {
-                Ok(placed) => self.keep(made, placed),
-                Err(refused) => refuse(made, &refused.fault),
-            },
-            Op::Reset => match session.reset(rt, alloc) {
-                Ok(placed) => self.keep(made, placed),
-                Err(fault) => refuse(made, &fault),
-            },
-            Op::Ask(query) => ask(made, session, &query),
-        }
-    }
-
-    /// Adds the place of a reset, and the rows that counted there.
-    fn take_window<R: Wait>(&mut self, rt: &R, made: &mut Vec<u8>, number: usize) -> Ran {
-        let session = self.sessions.get_mut(number).ok_or(Wrong::Missing)?;
-        match session.take(rt, *made.allocator()) {
-            Ok(Window { placed, tree }) => {
-                self.keep(made, placed)?;
-                add_stacks(&tree, 0, made)
-            }
-            Err(fault) => refuse(made, &fault),
-        }
-    }
-
-    /// Adds the place of a change. What it tells is kept.
-    fn keep(&mut self, made: &mut Vec<u8>, placed: Placed<N>) -> Ran {
-        self.told.push(placed.told)?;
-        say(made, &format_args!("place {}", placed.place))
     }
 
     /// `hold 300 ask folded`: the first session's answer, while the second adds the rows of the input so often.
-    fn hold<R: Wait>(&mut self, rt: &R, made: &mut Vec<u8>, deed: Words, input: &[u8]) -> Ran {
-        let (alloc, times) = (*made.allocator(), deed.number(0)?);
-        let (first, others) = self.sessions.split_first_mut().ok_or(Wrong::Missing)?;
-        let second = others.first_mut().ok_or(Wrong::Missing)?;
-        let batch = batch_of(alloc, deed.rest(3), input)?;
-        let query = query_of(alloc, deed.rest(1))?;
-        match first.ask(alloc, &query) {
-            Ok(answer) => {
-                let receipts = add_often(rt, alloc, second, &batch, times);
-                tell_answer(made, answer)?;
-                say(made, &format_args!("{receipts} receipts"))
-            }
-            Err(fault) => refuse(made, &fault),
+    fn hold<R: Wait>(&mut self, rt: &R, deed: Deed, made: &mut Made) {
+        let Some(query) = query_of(deed.words.rest(1), made) else {
+            return;
+        };
+        let Some((first, others)) = self.sessions.split_first_mut() else {
+            return made.fail(Wrong::Missing);
+        };
+        match others.first_mut() {
+            Some(second) => hold(rt, first, second, &query, deed, made),
+            None => made.fail(Wrong::Missing),
         }
     }
 }
 
-/// Adds what a receipt tells of a report.
-fn tell_receipt<N: StoreName>(made: &mut Vec<u8>, session: &Session<'_, N>, place: usize) -> Ran {
-    let receipt = session.log().get(place).ok_or(Wrong::Missing)?;
-    if let Reply::Answered(answer) = &receipt.reply {
-        tell_answer(made, answer)?;
+fn hold<N: StoreName, R: Wait>(
+    rt: &R,
+    first: &mut Session<'_, N>,
+    second: &mut Session<'_, N>,
+    query: &Arc<Query>,
+    deed: Deed,
+    made: &mut Made,
+) {
+    let times = made.number(deed.words.word(0));
+    match first.ask(made.alloc(), query) {
+        Ok(answer) => {
+            let receipts = add_rows(rt, second, deed, times, made);
+            tell_answer(answer, made);
+            made.say(&format_args!("{receipts} receipts"));
+        }
+        Err(fault) => made.refuse(&fault),
     }
-    say(made, &format_args!("at {}", receipt.at))
 }
 
-/// A session adds a batch so often, as long as it isn't refused. It gives how many receipts it then has.
+/// What a session does: `number`, `hear 1`, `receipt 1`, `times 50 add a 1`, `take`, or an operation.
+fn take<N: StoreName, R: Wait>(
+    rt: &R,
+    session: &mut Session<'_, N>,
+    told: &mut Vec<Told<N>>,
+    deed: Deed,
+    made: &mut Made,
+) {
+    match deed.words.word(0) {
+        "number" => tell_number(session, made),
+        "hear" => hear(session, told, deed.words, made),
+        "receipt" => tell_receipt(session, deed.words, made),
+        "times" => add_times(rt, session, deed, made),
+        "take" => take_window(rt, session, told, made),
+        _ => operate(rt, session, told, op_of(deed.words, deed.input, made), made),
+    }
+}
+
+fn tell_number<N: StoreName>(session: &Session<'_, N>, made: &mut Made) {
+    made.say(&format_args!("session {}", session.number()));
+}
+
+fn hear<N: StoreName>(
+    session: &mut Session<'_, N>,
+    told: &[Told<N>],
+    words: Words,
+    made: &mut Made,
+) {
+    match told.get(made.number::<usize>(words.word(1))) {
+        Some(told) => {
+            session.hear(told);
+            made.say(&"heard");
+        }
+        None => made.fail(Wrong::Missing),
+    }
+}
+
+fn operate<N: StoreName, R: Wait>(
+    rt: &R,
+    session: &mut Session<'_, N>,
+    told: &mut Vec<Told<N>>,
+    op: Option<Op>,
+    made: &mut Made,
+) {
+    match op {
+        Some(Op::Add(batch)) => match session.add(rt, made.alloc(), batch) {
+            Ok(placed) => keep(placed, told, made),
+            Err(refused) => made.refuse(&refused.fault),
+        },
+        Some(Op::Reset) => match session.reset(rt, made.alloc()) {
+            Ok(placed) => keep(placed, told, made),
+            Err(fault) => made.refuse(&fault),
+        },
+        Some(Op::Ask(query)) => ask(session, &query, made),
+        None => made.fail(Wrong::Command),
+    }
+}
+
+/// Adds the place of a reset, and the rows that counted there.
+fn take_window<N: StoreName, R: Wait>(
+    rt: &R,
+    session: &mut Session<'_, N>,
+    told: &mut Vec<Told<N>>,
+    made: &mut Made,
+) {
+    match session.take(rt, made.alloc()) {
+        Ok(Window { placed, tree }) => {
+            keep(placed, told, made);
+            add_stacks(&tree, 0, made);
+        }
+        Err(fault) => made.refuse(&fault),
+    }
+}
+
+/// Adds the place of a change. What it tells is kept.
+fn keep<N: StoreName>(placed: Placed<N>, told: &mut Vec<Told<N>>, made: &mut Made) {
+    made.say(&format_args!("place {}", placed.place));
+    made.keep(told, placed.told);
+}
+
+/// Adds what a receipt tells of a report.
+fn tell_receipt<N: StoreName>(session: &Session<'_, N>, words: Words, made: &mut Made) {
+    let place: usize = made.number(words.word(1));
+    let Some(receipt) = session.log().get(place) else {
+        return made.fail(Wrong::Missing);
+    };
+    if let Reply::Answered(answer) = &receipt.reply {
+        tell_answer(answer, made);
+    }
+    made.say(&format_args!("at {}", receipt.at));
+}
+
+fn add_times<N: StoreName, R: Wait>(
+    rt: &R,
+    session: &mut Session<'_, N>,
+    deed: Deed,
+    made: &mut Made,
+) {
+    let times = made.number(deed.words.word(1));
+    let receipts = add_rows(rt, session, deed, times, made);
+    made.say(&format_args!("{receipts} receipts"));
+}
+
+/// A session adds the rows of a deed so often. It gives how many receipts it then has.
+fn add_rows<N: StoreName, R: Wait>(
+    rt: &R,
+    session: &mut Session<'_, N>,
+    deed: Deed,
+    times: u64,
+    made: &mut Made,
+) -> usize {
+    if let Some(batch) = batch_of(deed.words.rest(3), deed.input, made) {
+        add_often(rt, made.alloc(), session, &batch, times);
+    }
+    session.log().len()
+}
+
+/// A session adds a batch so often, as long as it isn't refused.
 fn add_often<N: StoreName, R: Wait>(
     rt: &R,
     alloc: Global,
     session: &mut Session<'_, N>,
     batch: &Arc<Batch>,
     times: u64,
-) -> usize {
+) {
     for _ in 0..times {
         let Ok(shared) = Arc::try_clone(batch) else {
-            break;
+            return;
         };
         if session.add(rt, alloc, shared).is_err() {
-            break;
+            return;
         }
     }
-    session.log().len()
 }
 
 /// Adds an answer, and after how many changes it is.
-fn ask<N: StoreName>(made: &mut Vec<u8>, session: &mut Session<'_, N>, query: &Arc<Query>) -> Ran {
-    match session.ask(*made.allocator(), query) {
-        Ok(answer) => tell_answer(made, answer)?,
-        Err(fault) => return refuse(made, &fault),
+fn ask<N: StoreName>(session: &mut Session<'_, N>, query: &Arc<Query>, made: &mut Made) {
+    match session.ask(made.alloc(), query) {
+        Ok(answer) => tell_answer(answer, made),
+        Err(fault) => return made.refuse(&fault),
     }
-    let receipt = session.log().last().ok_or(Wrong::Missing)?;
-    say(made, &format_args!("at {}", receipt.at))
+    match session.log().last() {
+        Some(receipt) => made.say(&format_args!("at {}", receipt.at)),
+        None => made.fail(Wrong::Missing),
+    }
 }

@@ -1,6 +1,6 @@
 //! Readers and writers that move few bytes at a time and fail, and a runtime without random bytes.
 
-use crate::bytes::{Wrong, usize_of};
+use crate::made::{Made, Wrong};
 use crate::script::Words;
 use flame_answers::MAX_INPUT;
 use std::alloc::Global;
@@ -21,10 +21,10 @@ pub(crate) struct Fault {
 
 impl Fault {
     /// `fails at 3`, `fails from 3`.
-    fn read(words: Words) -> Result<Fault, Wrong> {
-        Ok(Fault {
-            place: usize_of(words.number(3)?)?,
-            is_lasting: words.word(2)? == "from",
+    fn read(words: Words, made: &mut Made) -> Option<Fault> {
+        Some(Fault {
+            place: made.number(words.word(3)),
+            is_lasting: words.word(2) == "from",
         })
     }
 
@@ -43,10 +43,10 @@ impl Fault {
 pub(crate) struct Streams {
     /// How many bytes a read gives at most.
     by: usize,
-    pub(crate) read_fault: Option<Fault>,
+    read_fault: Option<Fault>,
     /// How many bytes a write takes at most.
     takes: usize,
-    pub(crate) write_fault: Option<Fault>,
+    write_fault: Option<Fault>,
     flush_fails: bool,
     /// How many bytes of input there may be.
     pub(crate) limit: usize,
@@ -69,18 +69,33 @@ impl Streams {
 
     /// Changes what the words name: `reader by 1`, `reader fails at 3`, `writer takes 5`, `writer fails from 2`,
     /// `flush fails`, `limit 10`, `random fails`.
-    pub(crate) fn set(&mut self, words: Words) -> Result<(), Wrong> {
-        match (words.word(0)?, words.word(1)?) {
-            ("reader", "by") => self.by = usize_of(words.number(2)?)?,
-            ("reader", "fails") => self.read_fault = Some(Fault::read(words)?),
-            ("writer", "takes") => self.takes = usize_of(words.number(2)?)?,
-            ("writer", "fails") => self.write_fault = Some(Fault::read(words)?),
+    pub(crate) fn set(&mut self, words: Words, made: &mut Made) {
+        match (words.word(0), words.word(1)) {
+            ("reader", "by") => self.by = made.number(words.word(2)),
+            ("reader", "fails") => self.read_fault = Fault::read(words, made),
+            ("writer", "takes") => self.takes = made.number(words.word(2)),
+            ("writer", "fails") => self.write_fault = Fault::read(words, made),
             ("flush", "fails") => self.flush_fails = true,
-            ("limit", _) => self.limit = usize_of(words.number(1)?)?.min(MAX_INPUT),
+            ("limit", limit) => self.limit = made.number::<usize>(limit).min(MAX_INPUT),
             ("random", "fails") => self.has_random_bytes = false,
-            _ => return Err(Wrong::Command),
+            _ => made.fail(Wrong::Command),
         }
-        Ok(())
+    }
+
+    /// The same streams, of which reads fail so.
+    pub(crate) fn failing_reads(self, fault: Fault) -> Streams {
+        Streams {
+            read_fault: Some(fault),
+            ..self
+        }
+    }
+
+    /// The same streams, of which writes fail so.
+    pub(crate) fn failing_writes(self, fault: Fault) -> Streams {
+        Streams {
+            write_fault: Some(fault),
+            ..self
+        }
     }
 
     pub(crate) fn reader(self, rest: &[u8]) -> FakeReader<'_> {

@@ -2,17 +2,15 @@
 
 ghost use Rattle.std.specs.Prelude.{◌≡◌};
 
-use crate::bytes::{Wrong, refuse, say};
 use crate::journals::tell_verdict;
+use crate::made::{Made, Wrong};
 use crate::operations::op_of;
-use crate::scenes::Ran;
 use crate::script::Words;
 use crate::stores::blank_of;
 use profile_store::{
     Blank, FinishedWorker, Gate, Journal, Op, SessionLog, Store, StoreName, WorkersFault, audit,
     run_workers,
 };
-use std::alloc::Global;
 use std::marker::Brand;
 use std::sync::atomic::{AtomicU64, Ordering};
 use std::sync::{Mutex, Wait};
@@ -54,53 +52,61 @@ pub(crate) fn run_lists<R: Threads + Wait + Sync>(
     rt: &R,
     words: Words,
     input: &[u8],
-    made: &mut Vec<u8>,
-) -> Ran {
-    let text = std::str::from_utf8(input).ok().ok_or(Wrong::Line)?;
+    made: &mut Made,
+) {
+    let lists = lists_of(made.text_of(input), made);
+    let calls = vec![in made.alloc(); 0; lists.len()];
+    let Ok(calls) = calls else {
+        return made.fail(Wrong::NoMemory);
+    };
     let gate = Counting {
-        calls: Mutex::new(vec![in *made.allocator(); 0; text.lines().count()]?),
+        calls: Mutex::new(calls),
         wrong: AtomicU64::new(0),
     };
-    run_counted(rt, words, text, &gate, made)
+    run_counted(rt, words, lists, &gate, made);
 }
 
 fn run_counted<R: Threads + Wait + Sync>(
     rt: &R,
     words: Words,
-    text: &str,
+    lists: Vec<Vec<Op>>,
     gate: &Counting,
-    made: &mut Vec<u8>,
-) -> Ran {
-    let lists = lists_of(*made.allocator(), text)?;
-    match blank_of(*made.allocator(), words)? {
-        Ok(blank) => work::<Brand, R>(rt, words, blank, lists, gate, made)?,
-        Err(fault) => return refuse(made, &fault),
+    made: &mut Made,
+) {
+    match blank_of(words, made) {
+        Ok(blank) => work::<Brand, R>(rt, words, blank, lists, gate, made),
+        Err(fault) => return made.refuse(&fault),
     }
     let wrong = gate.wrong.load(Ordering::SeqCst);
     let calls = gate.calls.lock(rt);
-    say(
-        made,
-        &format_args!("calls {:?}, {wrong} wrong", calls.as_slice()),
-    )
+    made.say(&format_args!("calls {:?}, {wrong} wrong", calls.as_slice()));
 }
 
-fn lists_of(alloc: Global, text: &str) -> Result<Vec<Vec<Op>>, Wrong> {
-    let mut lists = Vec::new(alloc);
+fn lists_of(text: &str, made: &mut Made) -> Vec<Vec<Op>> {
+    let mut lists = Vec::new(made.alloc());
     for line in text.lines() {
-        lists.push(list_of(alloc, line)?)?;
+        let list = list_of(line, made);
+        made.keep(&mut lists, list);
     }
-    Ok(lists)
+    lists
 }
 
-fn list_of(alloc: Global, line: &str) -> Result<Vec<Op>, Wrong> {
-    let mut list = Vec::new(alloc);
+fn list_of(line: &str, made: &mut Made) -> Vec<Op> {
+    let mut list = Vec::new(made.alloc());
     for part in line.split(',') {
-        if !part.is_empty() {
-            let words = Words { text: part.trim() };
-            list.push(op_of(alloc, words, b"")?)?;
+        if let Some(op) = op_in(part.trim(), made) {
+            made.keep(&mut list, op);
         }
     }
-    Ok(list)
+    list
+}
+
+/// The operation that a text spells, if it isn't empty.
+fn op_in(text: &str, made: &mut Made) -> Option<Op> {
+    match text {
+        "" => None,
+        _ => op_of(Words { text }, b"", made),
+    }
 }
 
 fn work<N: StoreName, R: Threads + Wait + Sync>(
@@ -109,57 +115,54 @@ fn work<N: StoreName, R: Threads + Wait + Sync>(
     blank: Blank,
     lists: Vec<Vec<Op>>,
     gate: &Counting,
-    made: &mut Vec<u8>,
-) -> Ran
+    made: &mut Made,
+)
     requires { blank
         ≡ record { limit = N.limit; sessions = N.sessions; width = N.width; history = N.history } }
 {
     let store = Store::<N>::start(blank);
-    let all = run_workers(rt, *made.allocator(), &store, lists, gate);
-    let told = tell_next(rt, made, &store);
-    let journal = store.close(rt);
-    told.and(tell_work(made, words, &journal, all))
+    let all = run_workers(rt, made.alloc(), &store, lists, gate);
+    tell_next(rt, &store, made);
+    tell_work(words, &store.close(rt), all, made);
 }
 
 /// Adds the number of the next session, which ends with that.
-fn tell_next<N: StoreName, R: Wait>(rt: &R, made: &mut Vec<u8>, store: &Store<N>) -> Ran {
-    match store.session(rt, *made.allocator()) {
-        Ok(session) => say(made, &format_args!("next session {}", session.number())),
-        Err(fault) => refuse(made, &fault),
+fn tell_next<N: StoreName, R: Wait>(rt: &R, store: &Store<N>, made: &mut Made) {
+    match store.session(rt, made.alloc()) {
+        Ok(session) => made.say(&format_args!("next session {}", session.number())),
+        Err(fault) => made.refuse(&fault),
     }
 }
 
 /// Adds how many receipts each worker has and why it stopped, and what an audit says; or why no worker started.
 fn tell_work(
-    made: &mut Vec<u8>,
     words: Words,
     journal: &Journal,
     all: Result<Vec<FinishedWorker>, WorkersFault>,
-) -> Ran {
-    let mut logs = Vec::new(*made.allocator());
+    made: &mut Made,
+) {
     match all {
-        Ok(all) => push_logs(made, all, &mut logs)?,
-        Err(fault) => return refuse(made, &fault),
+        Ok(all) => {
+            let logs = logs_of(all, made);
+            tell_verdict(words, audit(made.alloc(), journal, &logs), made);
+        }
+        Err(fault) => made.refuse(&fault),
     }
-    tell_verdict(made, words, &audit(*made.allocator(), journal, &logs))
 }
 
-fn push_logs(made: &mut Vec<u8>, all: Vec<FinishedWorker>, logs: &mut Vec<SessionLog>) -> Ran {
+fn logs_of(all: Vec<FinishedWorker>, made: &mut Made) -> Vec<SessionLog> {
+    let mut logs = Vec::new(made.alloc());
     for one in all {
-        tell_worker(made, &one)?;
-        logs.push(one.log)?;
+        tell_worker(&one, made);
+        made.keep(&mut logs, one.log);
     }
-    Ok(())
+    logs
 }
 
-fn tell_worker(made: &mut Vec<u8>, one: &FinishedWorker) -> Ran {
+fn tell_worker(one: &FinishedWorker, made: &mut Made) {
     let (session, receipts) = (one.log.session, one.log.receipts.as_slice().len());
-    say(
-        made,
-        &format_args!("session {session}: {receipts} receipts"),
-    )?;
-    match one.stopped {
-        Some(stop) => refuse(made, &stop),
-        None => Ok(()),
+    made.say(&format_args!("session {session}: {receipts} receipts"));
+    if let Some(stop) = one.stopped {
+        made.refuse(&stop);
     }
 }

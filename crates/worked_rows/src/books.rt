@@ -9,22 +9,27 @@ use crate::operations::{op_of, place_of};
 use crate::rows::width_of;
 use crate::scenes::{Scene, run_steps};
 use crate::script::{Script, Step, Words};
-use profile_store::{Book, CallTree, Change, NoMemory, Op, Ready, Receipt};
+use profile_store::{Book, CallTree, Change, Op, Ready, Receipt};
 
 /// Opens a book, and runs the steps that drive it.
 pub(crate) fn run_scene(checker: &mut Checker, script: &mut Script, step: &Step) {
     let book = book_of(step.words, &mut checker.made);
     checker.settle(step);
-    if let Ok(book) = book {
+    if let Some(book) = book {
         run_book(checker, script, book);
     }
 }
 
-fn book_of(words: Words, made: &mut Made) -> Result<Book, NoMemory> {
+fn book_of(words: Words, made: &mut Made) -> Option<Book> {
     let limit = made.number_after(words, "limit", 10);
     let sessions = made.number_after(words, "sessions", 1);
     let width = width_of(words, made);
-    Book::new(made.alloc(), limit, sessions.clamp(1, 64), width)
+    if sessions == 0 || sessions > 64 {
+        made.fail(Wrong::Command);
+        return None;
+    }
+    let book = Book::new(made.alloc(), limit, sessions, width);
+    made.done(book)
 }
 
 fn run_book(checker: &mut Checker, script: &mut Script, book: Book) {

@@ -17,7 +17,7 @@ use Rattle.call_tree.specs.declared.node.Node.{Node}
 use Rattle.call_tree.specs.declared.tree.reading.Sums.{Sums}
 use Rattle.call_tree.specs.State.{name_at, no_row, node_at, stack_at, credited}
 use Rattle.call_tree.specs.Shape.{no_node, node_rows, at, IsTree}
-use Rattle.call_tree.specs.Totals.{no_sums, sums_at, AreSums}
+use Rattle.call_tree.specs.Totals.{AreSums, IsAddable, below_with, no_sums, sums_at, sums_with}
 use Rattle.call_tree.proofs.Crediting.{total_of-credited, weight_where-credited}
 use Rattle.call_tree.proofs.Shapes.{node_at-node_rows, stack_at-child, stack_at-root, length-node_rows}
 use Rattle.call_tree.proofs.Paths.{has_name-next, same_bool}
@@ -229,12 +229,6 @@ module _ (names : List (List ℕ)) (nodes : List Node) (tree : IsTree names node
     whole_is = sym so_far.whole ∙ sum_by_more (λ (row : WeightedStack). row.weight) rows k no_row rows_lt
         ∙ ap (λ (row : WeightedStack). total_of (take k rows) + row.weight) (row_is k (omega arith))
 
-    pub weight_fits : node.own + get_or below k 0 < 2 ^ 63
-    weight_fits = omega (arith, whole_is, tree.fits)
-
-    pub parent_wide : node.parent < length below
-    parent_wide = omega (arith, links.0, lt, so_far.wide)
-
     parent_row : node_at (take k rows) node.parent ≡ record {
       stack =
           stack_at (node_rows names nodes) node.parent;
@@ -245,17 +239,14 @@ module _ (names : List (List ℕ)) (nodes : List Node) (tree : IsTree names node
     length-before : length (take k rows) ≡ k
     length-before = length-take-le k rows (omega (arith, rows_lt))
 
-    pub name_known : node.name < length sums
-    name_known = omega (arith, links.1, so_far.size)
-
-    pub parent_fits : get_or below node.parent 0 + weight < 2 ^ 63
+    parent_fits : get_or below node.parent 0 + weight < 2 ^ 63
     parent_fits =
         let part = get_or-le-sum_by (λ (row : WeightedStack). row.weight)
         (take k rows) node.parent no_row (omega (arith, links.0, length-before)) in
         let is = ap (λ (row : WeightedStack). row.weight) parent_row in
         omega (arith, part, is, whole_is, tree.fits)
 
-    pub flat_fits : (sums_at sums node.name).flat + node.own < 2 ^ 63
+    flat_fits : (sums_at sums node.name).flat + node.own < 2 ^ 63
     flat_fits =
         let f = so_far.flat node.name links.1 in
         let more = sum_by_more (own_if node.name) nodes k no_node lt in
@@ -278,7 +269,7 @@ module _ (names : List (List ℕ)) (nodes : List Node) (tree : IsTree names node
         (λ e. tree.counts k pos lt ∙ ap (λ n. not (has_name n (stack_at (node_rows names nodes) node.parent)))
         (sym (same_from_is_same_name name (name_at names node.name) e)))
 
-    pub cum_fits : node.counts ≡ true → (sums_at sums node.name).cum + weight < 2 ^ 63
+    cum_fits : node.counts ≡ true → (sums_at sums node.name).cum + weight < 2 ^ 63
     cum_fits counts =
         let name = name_at names node.name in
         let c = so_far.cum node.name links.1 in
@@ -310,21 +301,30 @@ module _ (names : List (List ℕ)) (nodes : List Node) (tree : IsTree names node
         weight_where-credited test (take k rows) node.parent weight (omega (arith, links.0, length-before))
         ∙ ap (λ (row : WeightedStack). weight_where test (take k rows) + cond (test row.stack) weight 0) parent_row
 
-    pub AreSumsFrom-next : (flat cum : ℕ) (next : List Sums) (more : List ℕ)
-        → more ≡ set below node.parent (get_or below node.parent 0 + weight)
-        → flat ≡ (sums_at sums node.name).flat + node.own
-        → cum ≡ (sums_at sums node.name).cum + cond node.counts weight 0
-        → next ≡ set sums node.name (record { flat = flat; cum = cum }) → AreSumsFrom names nodes next more k
-    AreSumsFrom-next flat cum next more more_is flat_is cum_is next_is =
+    -- so the node can be added
+    pub addable : IsAddable sums below node k
+    addable = record {
+      within = omega (arith, lt, so_far.wide);
+      parent = omega (arith, links.0, lt, so_far.wide);
+      name = omega (arith, links.1, so_far.size);
+      whole = omega (arith, whole_is, tree.fits);
+      held = parent_fits;
+      flat = flat_fits;
+      cum = cum_fits;
+    }
+
+    pub AreSumsFrom-next : AreSumsFrom names nodes (sums_with sums below node k) (below_with below node k) k
+    AreSumsFrom-next =
+        let flat : ℕ = (sums_at sums node.name).flat + node.own in
+        let cum : ℕ = (sums_at sums node.name).cum + cond node.counts weight 0 in
         let sum : Sums = record { flat = flat; cum = cum } in
         let here : sums_at (set sums node.name sum) node.name ≡ sum =
         get_or-set_same sums node.name sum no_sums (omega (arith, links.1, so_far.size)) in
         let same : nat_eq node.name node.name ≡ true = eq-eqb node.name node.name refl in
-        let rows_are : take k (with_below names nodes more) ≡ credited (take k rows) node.parent weight =
-        ap (λ m. take k (with_below names nodes m)) more_is ∙ next_rows in
-        subst (λ s. AreSumsFrom names nodes s more k) (sym next_is) (record {
+        let rows_are = next_rows in
+        record {
           size = length-set sums node.name sum ∙ so_far.size;
-          wide = ap length more_is ∙ length-set below node.parent (get_or below node.parent 0 + weight) ∙ so_far.wide;
+          wide = length-set below node.parent (get_or below node.parent 0 + weight) ∙ so_far.wide;
           some = pos;
           within = omega (arith, lt);
           flat = λ n n_lt.
@@ -332,7 +332,7 @@ module _ (names : List (List ℕ)) (nodes : List Node) (tree : IsTree names node
               let old = so_far.flat n n_lt in
               ⊎_elim
               (λ e.
-              let now = ap (λ m. (sums_at (set sums node.name sum) m).flat) e ∙ ap (λ s. s.flat) here ∙ flat_is in
+              let now = ap (λ m. (sums_at (set sums node.name sum) m).flat) e ∙ ap (λ s. s.flat) here in
               let was = ap (λ m. (sums_at sums m).flat) e in
               let own : own_if n node ≡ node.own =
               ap (λ b. cond b node.own 0) (ap (λ m. nat_eq m node.name) e ∙ same) in
@@ -352,7 +352,7 @@ module _ (names : List (List ℕ)) (nodes : List Node) (tree : IsTree names node
               (has_name name (stack_at (node_rows names nodes) node.parent)) weight 0) number in
               ⊎_elim
               (λ e.
-              let now = ap (λ m. (sums_at (set sums node.name sum) m).cum) e ∙ ap (λ s. s.cum) here ∙ cum_is in
+              let now = ap (λ m. (sums_at (set sums node.name sum) m).cum) e ∙ ap (λ s. s.cum) here in
               let was = ap (λ m. (sums_at sums m).cum) e in
               let own : cond (node.counts && nat_eq n node.name) weight 0 ≡ cond node.counts weight 0 = ap (λ b. cond
               (node.counts && b) weight 0) (ap (λ m. nat_eq m node.name) e ∙ same) ∙ and_true node.counts weight in
@@ -365,7 +365,7 @@ module _ (names : List (List ℕ)) (nodes : List Node) (tree : IsTree names node
               (cases_eq n node.name);
           whole = ap total_of rows_are ∙ total_of-credited
               (take k rows) node.parent weight (omega (arith, links.0, length-before)) ∙ sym whole_is;
-        })
+        }
 
   -- ---- the end of the pass: the root alone is left
 

@@ -8,8 +8,10 @@ ghost use Rattle.profile_rows.specs.Aggregate.{AreRowsOf, aggregates_of, weight_
 ghost use Rattle.profile_rows.specs.TopList.{AreSumsOf};
 ghost use Rattle.profile_rows.specs.Values.{value_of};
 ghost use Rattle.call_tree.specs.State.{weights_of, nodes_at, plain_at, stack_at, has_weight};
+ghost use Rattle.call_tree.specs.Totals.{IsAddable, below_with, sums_with};
 
 use super::CallTree;
+use crate::node::Node;
 use profile_rows::{
     Batch, FrameTotal, MAX_DEPTH, NoMemory, Stack, StackText, WeightedStack, WeightedStacks,
     Weights, Width, aggregate, aggregate_stacks,
@@ -21,6 +23,21 @@ use std::alloc::{AllocError, Global};
 struct Sums {
     flat: u64,
     cum: u64,
+}
+
+/// Adds the node in this slot to what its name weighs, and with what stands below it to what stands below its parent.
+fn add_node(sums: &mut Vec<Sums>, below: &mut Vec<u64>, node: Node, slot: usize)
+    requires { IsAddable sums.old.items below.old.items node slot }
+    ensures sums { sums.new.items ≡ sums_with sums.old.items below.old.items node slot }
+    ensures below { below.new.items ≡ below_with below.old.items node slot }
+{
+    let whole = node.own + below[slot];
+    below[node.parent as usize] += whole;
+    let sum = &mut sums[node.name as usize];
+    sum.flat += node.own;
+    if node.counts {
+        sum.cum += whole;
+    }
 }
 
 impl CallTree {
@@ -85,14 +102,7 @@ impl CallTree {
         let mut left = self.nodes.len();
         while left > 1 {
             left -= 1;
-            let node = self.nodes.read(value, left);
-            let whole = node.own + below[left];
-            below[node.parent as usize] += whole;
-            let sum = &mut sums[node.name as usize];
-            sum.flat += node.own;
-            if node.counts {
-                sum.cum += whole;
-            }
+            add_node(&mut sums, &mut below, self.nodes.read(value, left), left);
         }
         Ok(sums)
     }

@@ -1,7 +1,7 @@
 -- Copies of lists whose items are copies.
 use Rattle.std.proofs.Common.{◌≡◌, List, [], ◌∷◌, map, refl, ap, subst, ⊎_elim, ◌⊎◌}
 use Rattle.std.specs.List.{AllZip}
-use Rattle.std.specs.Result.{OnOk, OnErr}
+use Rattle.std.specs.Result.{OnErr}
 use Rattle.std.specs.declared.result.Result.{Result}
 use Rattle.std.specs.declared.result.Result.TheVariants.{Ok, Err}
 use Rattle.std.specs.declared.vec.Vec.{Vec}
@@ -32,7 +32,3 @@ on_err (Err fault) p = p
 
 pub from_err : {T E P : Type 0} (r : Result T E) (fault : E) → r ≡ Err fault → OnErr r P → P
 from_err {P} r fault is on = subst (λ s. OnErr s P) is on
-
-pub on_ok_both : {T E P Q S : Type 0} (r : Result T E) → (P → Q → S) → OnOk r P → OnOk r Q → OnOk r S
-on_ok_both (Ok value) f p q = f p q
-on_ok_both (Err fault) f p q = tt

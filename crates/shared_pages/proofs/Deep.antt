@@ -166,29 +166,28 @@ module _ {X Z : Type 0} (groups : List (Arc (Vec (Arc (Vec X Z) Z) Z) Z)) (size 
           ap (map joined) set_is ∙ map-set joined (groups_of groups) (at / 4096) (group_pages next)
           ∙ ap (set all (at / 4096)) (next_is ∙ ap (with_item (at % 4096) item) (sym had_chunk))
 
-      pub put_group : items_in (groups_of (set groups (at / 4096) next))
-          ≡ with_item at item (items_in (groups_of groups))
-      put_group =
-          ap joined all_is
-          ∙ put_chunk 4096 all at (at / 4096) (at % 4096) item are.groups (by_groups at) within (in_group at) in_all
-
-      pub put_group_kept : AreChunks 256 (group_pages next)
-          → ArePages
+      pub put_group : AreChunks 256 (group_pages next)
+          → (items_in (groups_of (set groups (at / 4096) next)) ≡ with_item at item (items_in (groups_of groups)))
+          × ArePages
           (groups_of (set groups (at / 4096) next)) (length (items_in (groups_of (set groups (at / 4096) next))))
-      put_group_kept chunks = record {
-        count = refl;
-        groups = subst (AreChunks 4096) (sym all_is)
-            (put_kept 4096 all at (at / 4096) (at % 4096) are.groups (by_groups at) (in_group at) item in_all within);
-        pages = λ k k_lt. ⊎_elim
-            (λ e. subst (AreChunks 256) (sym (ap (λ gs. group_at gs k) set_is
-            ∙ ap (group_at (set (groups_of groups) (at / 4096) (group_pages next))) e
-            ∙ get_or-set_same (groups_of groups) (at / 4096) (group_pages next) [] in_groups)) chunks)
-            (λ ne. subst (AreChunks 256) (sym (ap (λ gs. group_at gs k) set_is
-            ∙ get_or-set_other (groups_of groups) (at / 4096) k (group_pages next) [] ne))
-            (are.pages k
-            (omega (arith, k_lt, ap length set_is, length-set (groups_of groups) (at / 4096) (group_pages next)))))
-            (cases_eq k (at / 4096));
-      }
+      put_group chunks = (
+        ap joined all_is
+            ∙ put_chunk 4096 all at (at / 4096) (at % 4096) item are.groups (by_groups at) within (in_group at) in_all,
+        record {
+          count = refl;
+          groups = subst (AreChunks 4096) (sym all_is)
+              (put_kept 4096 all at (at / 4096) (at % 4096) are.groups (by_groups at) (in_group at) item in_all within);
+          pages = λ k k_lt. ⊎_elim
+              (λ e. subst (AreChunks 256) (sym (ap (λ gs. group_at gs k) set_is
+              ∙ ap (group_at (set (groups_of groups) (at / 4096) (group_pages next))) e
+              ∙ get_or-set_same (groups_of groups) (at / 4096) (group_pages next) [] in_groups)) chunks)
+              (λ ne. subst (AreChunks 256) (sym (ap (λ gs. group_at gs k) set_is
+              ∙ get_or-set_other (groups_of groups) (at / 4096) k (group_pages next) [] ne))
+              (are.pages k
+              (omega (arith, k_lt, ap length set_is, length-set (groups_of groups) (at / 4096) (group_pages next)))))
+              (cases_eq k (at / 4096));
+        },
+      )
 
   module _ (past : length groups ≤ at / 4096)
       (group : Arc (Vec (Arc (Vec X Z) Z) Z) Z) (group_is : joined (group_pages group) ≡ item ∷ []) where
@@ -202,22 +201,23 @@ module _ {X Z : Type 0} (groups : List (Arc (Vec (Arc (Vec X Z) Z) Z) Z)) (size 
     more_is = ap (map joined) append_is
         ∙ map-append joined (groups_of groups) (group_pages group ∷ []) ∙ ap (λ chunk. all ++ chunk ∷ []) group_is
 
-    pub push_group : items_in (groups_of (groups ++ group ∷ [])) ≡ with_item at item (items_in (groups_of groups))
-    push_group = ap joined more_is
-        ∙ push_chunk 4096 all at (at / 4096) (at % 4096) are.groups (by_groups at) (in_group at) item past_all
-
-    pub push_group_kept : AreChunks 256 (group_pages group)
-        → ArePages (groups_of (groups ++ group ∷ [])) (length (items_in (groups_of (groups ++ group ∷ []))))
-    push_group_kept chunks = record {
-      count = refl;
-      groups = subst (AreChunks 4096) (sym more_is) (push_kept 4096 all at
-          (at / 4096) (at % 4096) are.groups (by_groups at) (in_group at) item (omega arith) past_all within);
-      pages = λ k k_lt. ⊎_elim
-          (λ e. subst (AreChunks 256) (sym (ap (λ gs. group_at gs k) append_is ∙ ap (group_at (groups_of groups
-          ++ group_pages group ∷ [])) e ∙ get_or-append_seam (groups_of groups) (group_pages group) [] [])) chunks)
-          (λ ne. let less : k < length (groups_of groups) =
-          omega (arith, k_lt, ne, ap length append_is, length_push (groups_of groups) (group_pages group)) in
-          subst (AreChunks 256) (sym (ap (λ gs. group_at gs k) append_is
-          ∙ get_or_append_left (groups_of groups) (group_pages group ∷ []) [] k less)) (are.pages k less))
-          (cases_eq k (length (groups_of groups)));
-    }
+    pub push_group : AreChunks 256 (group_pages group)
+        → (items_in (groups_of (groups ++ group ∷ [])) ≡ with_item at item (items_in (groups_of groups)))
+        × ArePages (groups_of (groups ++ group ∷ [])) (length (items_in (groups_of (groups ++ group ∷ []))))
+    push_group chunks = (
+      ap joined more_is
+          ∙ push_chunk 4096 all at (at / 4096) (at % 4096) are.groups (by_groups at) (in_group at) item past_all,
+      record {
+        count = refl;
+        groups = subst (AreChunks 4096) (sym more_is) (push_kept 4096 all at
+            (at / 4096) (at % 4096) are.groups (by_groups at) (in_group at) item (omega arith) past_all within);
+        pages = λ k k_lt. ⊎_elim
+            (λ e. subst (AreChunks 256) (sym (ap (λ gs. group_at gs k) append_is ∙ ap (group_at (groups_of groups
+            ++ group_pages group ∷ [])) e ∙ get_or-append_seam (groups_of groups) (group_pages group) [] [])) chunks)
+            (λ ne. let less : k < length (groups_of groups) =
+            omega (arith, k_lt, ne, ap length append_is, length_push (groups_of groups) (group_pages group)) in
+            subst (AreChunks 256) (sym (ap (λ gs. group_at gs k) append_is
+            ∙ get_or_append_left (groups_of groups) (group_pages group ∷ []) [] k less)) (are.pages k less))
+            (cases_eq k (length (groups_of groups)));
+      },
+    )

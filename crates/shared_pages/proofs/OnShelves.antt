@@ -5,7 +5,7 @@ use Rattle.std.specs.Arc.{arc_value}
 use Rattle.std.specs.declared.sync.Arc.{Arc}
 use Rattle.shared_pages.specs.Pages.{AreChunks, joined, shelves_of, with_item}
 use Rattle.shared_pages.proofs.Parts.{seen_part_lt, seen_item_lt, seen_item, in_part_le, same_part, put_part}
-use Rattle.shared_pages.proofs.Parts.{put_part_kept, push_part, push_part_kept}
+use Rattle.shared_pages.proofs.Parts.{push_part}
 
 by_shelves : (at : ℕ) → at ≡ at / 65536 * 65536 + at % 65536
 by_shelves at = omega arith
@@ -52,21 +52,14 @@ module _ {X Z : Type 0} (shelves : List (Arc (List X) Z)) where
             (at / 65536) (at % 65536) (by_shelves at) (on_shelf at) are item within lt shelf shelf_is next next_is
 
         pub put_shelf : arc_value {X = List X} next ≡ with_item (at % 65536) item (arc_value shelf)
-            → joined (shelves_of (set shelves (at / 65536) next)) ≡ with_item at item (joined (shelves_of shelves))
+            → (joined (shelves_of (set shelves (at / 65536) next)) ≡ with_item at item (joined (shelves_of shelves)))
+            × AreChunks 65536 (shelves_of (set shelves (at / 65536) next))
         put_shelf next_is = put_part items_of 65536 shelves at
-            (at / 65536) (at % 65536) (by_shelves at) (on_shelf at) are item within lt shelf shelf_is next next_is
-
-        pub put_shelf_kept : arc_value {X = List X} next ≡ with_item (at % 65536) item (arc_value shelf)
-            → AreChunks 65536 (shelves_of (set shelves (at / 65536) next))
-        put_shelf_kept next_is = put_part_kept items_of 65536 shelves at
             (at / 65536) (at % 65536) (by_shelves at) (on_shelf at) are item within lt shelf shelf_is next next_is
 
     module _ (past : length shelves ≤ at / 65536)
         (shelf : Arc (List X) Z) (shelf_is : arc_value {X = List X} shelf ≡ item ∷ []) where
-      pub push_shelf : joined (shelves_of (shelves ++ shelf ∷ [])) ≡ with_item at item (joined (shelves_of shelves))
+      pub push_shelf : (joined (shelves_of (shelves ++ shelf ∷ [])) ≡ with_item at item (joined (shelves_of shelves)))
+          × AreChunks 65536 (shelves_of (shelves ++ shelf ∷ []))
       push_shelf = push_part items_of 65536 shelves at
-          (at / 65536) (at % 65536) (by_shelves at) (on_shelf at) are item within past shelf shelf_is
-
-      pub push_shelf_kept : AreChunks 65536 (shelves_of (shelves ++ shelf ∷ []))
-      push_shelf_kept = push_part_kept items_of 65536 shelves at
           (at / 65536) (at % 65536) (by_shelves at) (on_shelf at) are item within past shelf shelf_is

@@ -58,12 +58,13 @@ module _ {X A : Type 0}
         put_is = map-set items_of parts k next
             ∙ ap (set (map items_of parts) k) (next_is ∙ ap (with_item j item) (sym had))
 
-        pub put_part : joined (map items_of (set parts k next)) ≡ with_item at item (joined (map items_of parts))
-        put_part = ap joined put_is ∙ put_chunk size (map items_of parts) at k j item are at_is within short there
-
-        pub put_part_kept : AreChunks size (map items_of (set parts k next))
-        put_part_kept = subst
-            (AreChunks size) (sym put_is) (put_kept size (map items_of parts) at k j are at_is short item there within)
+        pub put_part : (joined (map items_of (set parts k next)) ≡ with_item at item (joined (map items_of parts)))
+            × AreChunks size (map items_of (set parts k next))
+        put_part = (
+          ap joined put_is ∙ put_chunk size (map items_of parts) at k j item are at_is within short there,
+          subst (AreChunks size) (sym put_is)
+              (put_kept size (map items_of parts) at k j are at_is short item there within),
+        )
 
     module _ (past : length parts ≤ k) (part : A) (part_is : items_of part ≡ item ∷ []) where
       beyond : length (map items_of parts) ≤ k
@@ -72,10 +73,10 @@ module _ {X A : Type 0}
       pushed_is : map items_of (parts ++ part ∷ []) ≡ map items_of parts ++ (item ∷ []) ∷ []
       pushed_is = map-append items_of parts (part ∷ []) ∙ ap (λ chunk. map items_of parts ++ chunk ∷ []) part_is
 
-      pub push_part : joined (map items_of (parts ++ part ∷ [])) ≡ with_item at item (joined (map items_of parts))
-      push_part = ap joined pushed_is ∙ push_chunk size (map items_of parts) at k j are at_is short item beyond
-
-      pub push_part_kept : AreChunks size (map items_of (parts ++ part ∷ []))
-      push_part_kept =
-          subst (AreChunks size) (sym pushed_is)
-          (push_kept size (map items_of parts) at k j are at_is short item (omega (arith, short)) beyond within)
+      pub push_part : (joined (map items_of (parts ++ part ∷ [])) ≡ with_item at item (joined (map items_of parts)))
+          × AreChunks size (map items_of (parts ++ part ∷ []))
+      push_part = (
+        ap joined pushed_is ∙ push_chunk size (map items_of parts) at k j are at_is short item beyond,
+        subst (AreChunks size) (sym pushed_is)
+            (push_kept size (map items_of parts) at k j are at_is short item (omega (arith, short)) beyond within),
+      )

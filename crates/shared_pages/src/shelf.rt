@@ -101,9 +101,8 @@ fn put_in_groups<T: Clone + Drop>(
     requires pages { ArePages (groups_of groups.old.items) (length (items_in (groups_of groups.old.items))) }
     requires within { at ≤ length (items_in (groups_of groups.old.items)) }
     ensures ok { OnOk result
-        (items_in (groups_of groups.new.items) ≡ with_item at item (items_in (groups_of groups.old.items))) }
-    ensures pages { OnOk result
-        (ArePages (groups_of groups.new.items) (length (items_in (groups_of groups.new.items)))) }
+        ((items_in (groups_of groups.new.items) ≡ with_item at item (items_in (groups_of groups.old.items)))
+        × ArePages (groups_of groups.new.items) (length (items_in (groups_of groups.new.items)))) }
     ensures err { OnErr result (groups_of groups.new.items ≡ groups_of groups.old.items) }
 {
     let index = at / GROUP;
@@ -126,9 +125,9 @@ fn put_in_group<T: Clone + Drop>(
     requires exact { (x y : T) → T.is_clone x y → y ≡ x }
     requires chunks { AreChunks 256 (pages_of (arc_value group.old).items) }
     requires within { at ≤ length (joined (pages_of (arc_value group.old).items)) }
-    ensures ok { OnOk result (joined (pages_of (arc_value group.new).items)
-        ≡ with_item at item (joined (pages_of (arc_value group.old).items))) }
-    ensures chunks { OnOk result (AreChunks 256 (pages_of (arc_value group.new).items)) }
+    ensures ok { OnOk result ((joined (pages_of (arc_value group.new).items)
+        ≡ with_item at item (joined (pages_of (arc_value group.old).items)))
+        × AreChunks 256 (pages_of (arc_value group.new).items)) }
     ensures err { OnErr result
         (pages_of (arc_value group.new).items ≡ pages_of (arc_value group.old).items) }
 {
@@ -179,8 +178,8 @@ fn put_in_pages<T: Clone + Drop>(
     requires chunks { AreChunks 256 (pages_of pages.old.items) }
     requires within { at ≤ length (joined (pages_of pages.old.items)) }
     ensures ok { OnOk result
-        (joined (pages_of pages.new.items) ≡ with_item at item (joined (pages_of pages.old.items))) }
-    ensures chunks { OnOk result (AreChunks 256 (pages_of pages.new.items)) }
+        ((joined (pages_of pages.new.items) ≡ with_item at item (joined (pages_of pages.old.items)))
+        × AreChunks 256 (pages_of pages.new.items)) }
     ensures err { OnErr result (pages_of pages.new.items ≡ pages_of pages.old.items) }
 {
     let index = at / PAGE;

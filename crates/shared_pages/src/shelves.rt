@@ -98,8 +98,8 @@ fn put_on_shelves<T: Clone + Drop>(
     requires chunks { AreChunks 65536 (shelves_of shelves.old.items) }
     requires within { at ≤ length (joined (shelves_of shelves.old.items)) }
     ensures ok { OnOk result
-        (joined (shelves_of shelves.new.items) ≡ with_item at item (joined (shelves_of shelves.old.items))) }
-    ensures chunks { OnOk result (AreChunks 65536 (shelves_of shelves.new.items)) }
+        ((joined (shelves_of shelves.new.items) ≡ with_item at item (joined (shelves_of shelves.old.items)))
+        × AreChunks 65536 (shelves_of shelves.new.items)) }
     ensures err { OnErr result (shelves_of shelves.new.items ≡ shelves_of shelves.old.items) }
 {
     let index = at / SHELF;

@@ -37,9 +37,11 @@ returns-clause-ok g c =
     let same = c.make_room.ensures ∙ copied_by page_items _ c.args.group.now.value c.in_ok-pages.pages.now
     (λ x y r. ap (λ v. vec_items v) r) c.in_ok-pages.ensures.value in
     let pages = c.put_in_pages.new.pages in
-    let next_is = ap (λ v. joined (pages_of v.items)) (c.make_mut.follows.holds pages (ap is_ok c.in_ok-pages.was)) in
-    on_ok_weaker c.put_in_pages.result
-    (λ e. next_is ∙ e ∙ ap (λ all. with_item c.args.at c.args.item (joined all)) same) c.put_in_pages.ensures.ok
+    let next_is = ap (λ v. pages_of v.items) (c.make_mut.follows.holds pages (ap is_ok c.in_ok-pages.was)) in
+    on_ok_weaker c.put_in_pages.result (λ put. (
+      ap joined next_is ∙ put.0 ∙ ap (λ all. with_item c.args.at c.args.item (joined all)) same,
+      subst (AreChunks 256) (sym next_is) put.1,
+    )) c.put_in_pages.ensures.ok
 
 pub returns-clause-err : goal.returns-clause-err
 returns-clause-err g c =

@@ -1,9 +1,7 @@
 use Rattle.std.proofs.Common.{◌<◌, ◌≤◌, ◌/◌, length, arith, sym, ap, ◌∙◌, subst}
 use Rattle.std.proofs.lemmas.Result.{on_ok_weaker, on_err_weaker}
-use Rattle.shared_pages.proofs.Cloning.{on_ok_both}
-use Rattle.shared_pages.specs.Pages.{AreChunks, ArePages, pages_of, groups_of, items_in, joined, with_item}
-use Rattle.shared_pages.proofs.Deep.{group_chunks, in_group_le, same_group, put_group, put_group_kept, push_group}
-use Rattle.shared_pages.proofs.Deep.{push_group_kept}
+use Rattle.shared_pages.specs.Pages.{AreChunks, pages_of, joined, with_item}
+use Rattle.shared_pages.proofs.Deep.{group_chunks, in_group_le, same_group, put_group, push_group}
 use Rattle.shared_pages.proofs.shelf.put_in_groups.Goals as goal
 
 pub put_in_group-requires-clause-chunks : goal.put_in_group-requires-clause-chunks
@@ -27,20 +25,8 @@ returns-then-index-len-clause-ok g c =
     let groups = c.args.groups.now.items in
     let lt : c.args.at / 4096 < length groups =
     omega (arith, c.if-index-len.true, c.len.ensures, c.args.groups.now.ok.0) in
-    on_ok_weaker c.put_in_group.result
-    (put_group groups _ c.args.at c.args.item
-    c.requires.pages c.requires.within lt c.index_mut.result.now c.index_mut.ensures.value c.put_in_group.new.group)
-    c.put_in_group.ensures.ok
-
-pub returns-then-index-len-clause-pages : goal.returns-then-index-len-clause-pages
-returns-then-index-len-clause-pages g c =
-    let groups = c.args.groups.now.items in
-    let lt : c.args.at / 4096 < length groups =
-    omega (arith, c.if-index-len.true, c.len.ensures, c.args.groups.now.ok.0) in
-    on_ok_both c.put_in_group.result
-    (put_group_kept groups _ c.args.at c.args.item
-    c.requires.pages c.requires.within lt c.index_mut.result.now c.index_mut.ensures.value c.put_in_group.new.group)
-    c.put_in_group.ensures.ok c.put_in_group.ensures.chunks
+    on_ok_weaker c.put_in_group.result (λ put. put_group groups _ c.args.at c.args.item c.requires.pages c.requires.within
+    lt c.index_mut.result.now c.index_mut.ensures.value c.put_in_group.new.group put.0 put.1) c.put_in_group.ensures.ok
 
 pub returns-then-index-len-clause-err : goal.returns-then-index-len-clause-err
 returns-then-index-len-clause-err g c =
@@ -57,20 +43,9 @@ returns-clause-ok g c =
     let groups = c.args.groups.now.items in
     let past : length groups ≤ c.args.at / 4096 =
     omega (arith, c.if-index-len.false, c.len.ensures, c.args.groups.now.ok.0) in
-    let group_is = ap (λ v. joined (pages_of v.items)) c.in_ok-new.ensures.ok ∙ c.in_ok-put_in_pages.ensures.ok
-    ∙ ap (λ pages. with_item 0 c.args.item (joined (pages_of pages))) c.new-pages.ensures.items in
-    ap (λ all. items_in (groups_of all)) c.in_ok-push.ensures.items
-    ∙ push_group groups _ c.args.at c.args.item c.requires.pages c.requires.within past c.in_ok-new.field-0 group_is
-
-pub returns-clause-pages : goal.returns-clause-pages
-returns-clause-pages g c =
-    let groups = c.args.groups.now.items in
-    let past : length groups ≤ c.args.at / 4096 =
-    omega (arith, c.if-index-len.false, c.len.ensures, c.args.groups.now.ok.0) in
-    let group_is = ap (λ v. joined (pages_of v.items)) c.in_ok-new.ensures.ok ∙ c.in_ok-put_in_pages.ensures.ok
+    let group_is = ap (λ v. joined (pages_of v.items)) c.in_ok-new.ensures.ok ∙ c.in_ok-put_in_pages.ensures.ok.0
     ∙ ap (λ pages. with_item 0 c.args.item (joined (pages_of pages))) c.new-pages.ensures.items in
     let chunks = subst
-    (λ v. AreChunks 256 (pages_of v.items)) (sym c.in_ok-new.ensures.ok) c.in_ok-put_in_pages.ensures.chunks in
-    subst (λ all. ArePages (groups_of all) (length (items_in (groups_of all)))) (sym c.in_ok-push.ensures.items)
-    (push_group_kept
-    groups _ c.args.at c.args.item c.requires.pages c.requires.within past c.in_ok-new.field-0 group_is chunks)
+    (λ v. AreChunks 256 (pages_of v.items)) (sym c.in_ok-new.ensures.ok) c.in_ok-put_in_pages.ensures.ok.1 in
+    rw c.in_ok-push.ensures.items (push_group groups _ c.args.at c.args.item c.requires.pages c.requires.within past
+    c.in_ok-new.field-0 group_is chunks)

@@ -1,10 +1,10 @@
-use Rattle.std.proofs.Common.{◌<◌, ◌≤◌, ◌/◌, ◌%◌, ◌++◌, ◌∷◌, [], length, arith, sym, ap, ◌∙◌, subst}
+use Rattle.std.proofs.Common.{◌<◌, ◌≤◌, ◌/◌, ◌%◌, ◌++◌, ◌∷◌, [], length, arith, ap, ◌∙◌}
 use Rattle.std.specs.Result.{is_ok}
 use Rattle.std.proofs.lemmas.Result.{on_ok_weaker, on_err_weaker}
-use Rattle.shared_pages.specs.Pages.{AreChunks, with_item, page_items, pages_of, joined}
+use Rattle.shared_pages.specs.Pages.{with_item, page_items}
 use Rattle.shared_pages.proofs.Cloning.{copied, from_err, on_err}
 use Rattle.shared_pages.proofs.Deep.{by_pages, in_page}
-use Rattle.shared_pages.proofs.Parts.{in_part_le, same_part, put_part, put_part_kept, push_part, push_part_kept}
+use Rattle.shared_pages.proofs.Parts.{in_part_le, same_part, put_part, push_part}
 use Rattle.shared_pages.proofs.shelf.put_in_pages.Goals as goal
 
 pub returns-in_err-page-clause-err : goal.returns-in_err-page-clause-err
@@ -50,22 +50,6 @@ returns-then-index-len-clause-ok g c =
     (next_is ∙ e ∙ ap (with_item _ c.args.item) same))
     c.put_in_page.ensures.ok
 
-pub returns-then-index-len-clause-chunks : goal.returns-then-index-len-clause-chunks
-returns-then-index-len-clause-chunks g c =
-    let pages = c.args.pages.now.items in
-    let arc = c.index_mut.result.now in
-    let lt : c.args.at / 256 < length pages =
-    omega (arith, c.if-index-len.true, c.len.ensures, c.args.pages.now.ok.0) in
-    let same = copied g.T.Clone.is_clone arc.value c.in_ok-page.page.now c.requires.exact c.in_ok-page.ensures.value in
-    let page = c.put_in_page.new.page in
-    let next = c.make_mut.follows.lender page in
-    let next_is = ap (λ v. v.items) (c.make_mut.follows.holds page (ap is_ok c.in_ok-page.was)) in
-    on_ok_weaker c.put_in_page.result
-    (λ e. put_part_kept page_items 256 pages c.args.at (c.args.at / 256) (c.args.at % 256) (by_pages c.args.at)
-    (in_page c.args.at) c.requires.chunks c.args.item c.requires.within lt arc c.index_mut.ensures.value next
-    (next_is ∙ e ∙ ap (with_item _ c.args.item) same))
-    c.put_in_page.ensures.ok
-
 pub returns-then-index-len-clause-err : goal.returns-then-index-len-clause-err
 returns-then-index-len-clause-err g c =
     let pages = c.args.pages.now.items in
@@ -89,17 +73,6 @@ returns-clause-ok g c =
     omega (arith, c.if-index-len.false, c.len.ensures, c.args.pages.now.ok.0) in
     let page_is = ap (λ v. v.items) c.in_ok-new.ensures.ok
     ∙ c.in_ok-push.ensures.items ∙ ap (λ items. items ++ c.args.item ∷ []) c.in_ok-page-2.ensures.items in
-    ap (λ all. joined (pages_of all)) c.in_ok-push-2.ensures.items
-    ∙ push_part page_items 256 pages c.args.at (c.args.at / 256) (c.args.at % 256) (by_pages c.args.at)
-    (in_page c.args.at) c.requires.chunks c.args.item c.requires.within past c.in_ok-new.field-0 page_is
-
-pub returns-clause-chunks : goal.returns-clause-chunks
-returns-clause-chunks g c =
-    let pages = c.args.pages.now.items in
-    let past : length pages ≤ c.args.at / 256 =
-    omega (arith, c.if-index-len.false, c.len.ensures, c.args.pages.now.ok.0) in
-    let page_is = ap (λ v. v.items) c.in_ok-new.ensures.ok
-    ∙ c.in_ok-push.ensures.items ∙ ap (λ items. items ++ c.args.item ∷ []) c.in_ok-page-2.ensures.items in
-    subst (λ all. AreChunks 256 (pages_of all)) (sym c.in_ok-push-2.ensures.items)
-    (push_part_kept page_items 256 pages c.args.at (c.args.at / 256) (c.args.at % 256) (by_pages c.args.at)
-    (in_page c.args.at) c.requires.chunks c.args.item c.requires.within past c.in_ok-new.field-0 page_is)
+    rw c.in_ok-push-2.ensures.items (push_part page_items 256 pages c.args.at (c.args.at / 256) (c.args.at % 256)
+    (by_pages c.args.at) (in_page c.args.at) c.requires.chunks c.args.item c.requires.within past c.in_ok-new.field-0
+    page_is)

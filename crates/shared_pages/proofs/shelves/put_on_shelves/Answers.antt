@@ -1,9 +1,9 @@
-use Rattle.std.proofs.Common.{◌<◌, ◌≤◌, ◌/◌, length, arith, sym, ap, ◌∙◌, subst, ⊎_elim}
+use Rattle.std.proofs.Common.{◌<◌, ◌≤◌, ◌/◌, length, arith, ap, ◌∙◌, ⊎_elim}
 use Rattle.std.specs.Result.{is_ok}
 use Rattle.std.proofs.lemmas.Result.{on_ok_weaker, on_err_weaker}
-use Rattle.shared_pages.specs.Pages.{AreChunks, with_item, shelves_of, joined}
+use Rattle.shared_pages.specs.Pages.{with_item}
 use Rattle.shared_pages.proofs.Cloning.{from_err, on_err}
-use Rattle.shared_pages.proofs.OnShelves.{shelf_le, same_shelf, put_shelf, put_shelf_kept, push_shelf, push_shelf_kept}
+use Rattle.shared_pages.proofs.OnShelves.{shelf_le, same_shelf, put_shelf, push_shelf}
 use Rattle.shared_pages.proofs.shelves.put_on_shelves.Goals as goal
 
 pub returns-in_err-shelf-clause-err : goal.returns-in_err-shelf-clause-err
@@ -45,21 +45,6 @@ returns-then-index-len-clause-ok g c =
     c.requires.within lt arc c.index_mut.ensures.value next (next_is ∙ e ∙ ap (with_item _ c.args.item) same))
     c.put.ensures.ok
 
-pub returns-then-index-len-clause-chunks : goal.returns-then-index-len-clause-chunks
-returns-then-index-len-clause-chunks g c =
-    let shelves = c.args.shelves.now.items in
-    let arc = c.index_mut.result.now in
-    let lt : c.args.at / 65536 < length shelves =
-    omega (arith, c.if-index-len.true, c.len.ensures, c.args.shelves.now.ok.0) in
-    let same = ⊎_elim (λ e. e) (λ e. e) c.in_ok-shelf.ensures.value in
-    let shelf = c.put.new.self in
-    let next = c.make_mut.follows.lender shelf in
-    let next_is = c.make_mut.follows.holds shelf (ap is_ok c.in_ok-shelf.was) in
-    on_ok_weaker c.put.result
-    (λ e. put_shelf_kept shelves c.args.at c.args.item c.requires.chunks
-    c.requires.within lt arc c.index_mut.ensures.value next (next_is ∙ e ∙ ap (with_item _ c.args.item) same))
-    c.put.ensures.ok
-
 pub returns-then-index-len-clause-err : goal.returns-then-index-len-clause-err
 returns-then-index-len-clause-err g c =
     let shelves = c.args.shelves.now.items in
@@ -82,16 +67,5 @@ returns-clause-ok g c =
     omega (arith, c.if-index-len.false, c.len.ensures, c.args.shelves.now.ok.0) in
     let shelf_is = ap (λ v. v) c.in_ok-new.ensures.ok
     ∙ c.in_ok-put.ensures.ok ∙ ap (with_item 0 c.args.item) c.new-shelf.ensures in
-    ap (λ all. joined (shelves_of all)) c.in_ok-push.ensures.items
-    ∙ push_shelf shelves c.args.at c.args.item c.requires.chunks c.requires.within past c.in_ok-new.field-0 shelf_is
-
-pub returns-clause-chunks : goal.returns-clause-chunks
-returns-clause-chunks g c =
-    let shelves = c.args.shelves.now.items in
-    let past : length shelves ≤ c.args.at / 65536 =
-    omega (arith, c.if-index-len.false, c.len.ensures, c.args.shelves.now.ok.0) in
-    let shelf_is = ap (λ v. v) c.in_ok-new.ensures.ok
-    ∙ c.in_ok-put.ensures.ok ∙ ap (with_item 0 c.args.item) c.new-shelf.ensures in
-    subst (λ all. AreChunks 65536 (shelves_of all)) (sym c.in_ok-push.ensures.items)
-    (push_shelf_kept
-    shelves c.args.at c.args.item c.requires.chunks c.requires.within past c.in_ok-new.field-0 shelf_is)
+    rw c.in_ok-push.ensures.items (push_shelf shelves c.args.at c.args.item c.requires.chunks c.requires.within past
+    c.in_ok-new.field-0 shelf_is)

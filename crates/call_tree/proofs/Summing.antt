@@ -1,6 +1,6 @@
 -- The pass over the nodes, from the last to the first, that adds up the sums of all names.
 use Rattle.std.proofs.Common.{◌≡◌, ℕ, zero, suc, ◌+◌, ◌<◌, ◌≤◌, ◌^◌, Bool, true, false, cond, not, ◌&&◌, ◌||◌, nat_eq}
-use Rattle.std.proofs.Common.{List, [], ◌∷◌, ◌++◌, length, take, get_or, refl, sym, ap, ◌∙◌, arith, sum_by, subst}
+use Rattle.std.proofs.Common.{List, [], ◌∷◌, ◌++◌, length, take, get_or, refl, sym, ap, ◌∙◌, arith, sum_by}
 use Rattle.std.proofs.Common.{⊎_elim}
 use Rattle.std.proofs.Math.ListN.{set, replicate}
 use Rattle.std.proofs.Math.Seq.{take-set-lt}

@@ -1,9 +1,7 @@
 -- The names on the way from a node to the root, turned round, are its stack.
-use Rattle.std.proofs.Common.{◌≡◌, ℕ, ◌<◌, List, [], ◌∷◌, ◌++◌, All, length, map, reverse, refl, sym, ap, ◌∙◌, subst}
+use Rattle.std.proofs.Common.{◌≡◌, ℕ, ◌<◌, List, [], ◌∷◌, ◌++◌, length, map, reverse, refl, sym, ap, ◌∙◌}
 use Rattle.std.proofs.lemmas.List.{append_assoc, map-append, reverse-append}
-use Rattle.std.proofs.lemmas.List.Elements.{All-cons}
 use denote.Ref.{Bor}
-use Rattle.profile_rows.specs.Names.{IsName}
 use Rattle.call_tree.specs.declared.node.Node.{Node}
 use Rattle.call_tree.specs.State.{stack_at}
 use Rattle.call_tree.specs.Shape.{node_rows}
@@ -32,7 +30,7 @@ turned names nodes start slot before end whole =
     whole ∙ ap (λ p. stack_at (node_rows names nodes) p ++ reverse before) end
     ∙ ap (λ s. s ++ reverse before) (stack_at-root names nodes)
 
--- ---- the names as texts that are lent
+-- ---- names that are lent
 
 -- what the contract says of a reversed list of lent names
 pub map-reverse : {X Y : Type 0} (f : X → Y) (xs : List X) → map f (reverse xs) ≡ reverse (map f xs)
@@ -42,15 +40,8 @@ map-reverse f (x ∷ xs) =
     ∙ map-append f (reverse xs) (x ∷ []) ∙ ap (λ ys. ys ++ f x ∷ []) (map-reverse f xs)
     ∙ sym (reverse-append (f x ∷ []) (map f xs))
 
--- one frame more, leaf first, is the first of them turned round
-pub turned_frames : (before next : List (Bor (List ℕ))) (frame : Bor (List ℕ)) → next ≡ before ++ frame ∷ []
-    → map (λ (frame : Bor (List ℕ)). frame.now) next
-    ≡ map (λ (frame : Bor (List ℕ)). frame.now) before ++ frame.now ∷ []
-turned_frames before next frame next_is = ap (map (λ (frame : Bor (List ℕ)). frame.now)) next_is
-    ∙ map-append (λ (frame : Bor (List ℕ)). frame.now) before (frame ∷ [])
-
-pub turned_names : (before next : List (List ℕ)) (name : List ℕ)
-    → next ≡ before ++ name ∷ [] → IsName name → All IsName (reverse before) → All IsName (reverse next)
-turned_names before next name next_is is named =
-    subst (All IsName)
-    (sym (ap reverse next_is ∙ reverse-append before (name ∷ []))) (All-cons IsName name (reverse before) is named)
+-- one name more
+pub turned_names : (before next : List (Bor (List ℕ))) (name : Bor (List ℕ)) → next ≡ before ++ name ∷ []
+    → map (λ (name : Bor (List ℕ)). name.now) next ≡ map (λ (name : Bor (List ℕ)). name.now) before ++ name.now ∷ []
+turned_names before next name next_is = ap (map (λ (name : Bor (List ℕ)). name.now)) next_is
+    ∙ map-append (λ (name : Bor (List ℕ)). name.now) before (name ∷ [])

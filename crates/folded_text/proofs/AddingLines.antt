@@ -1,17 +1,13 @@
 -- Lines of a text, added one after the other.
 use Rattle.std.proofs.lemmas.Grind.{common_steps}
 use Rattle.std.proofs.Common.{◌≡◌, ℕ, ◌+◌, ◌<◌, List, [], ◌∷◌, ◌++◌, length, arith, refl, sym, ap, ◌∙◌}
-use Rattle.std.specs.Prelude.{None, Some}
 use Rattle.std.specs.Str.Lines.{lines}
 use Rattle.std.proofs.lemmas.List.{append-nil, append_assoc}
 use Rattle.profile_rows.specs.declared.weighted_stacks.WeightedStack.{WeightedStack}
 use Rattle.profile_rows.specs.Merging.{AddsRow, AreMergedSoFar}
-use Rattle.profile_rows.specs.Rows.{total_of}
 use Rattle.profile_rows.specs.StackTexts.{TextState}
 use Rattle.profile_rows.proofs.MergedRows.{AreMergedSoFar-row}
-use Rattle.folded_text.specs.declared.folded.FoldedFault.{FoldedFault}
-use Rattle.folded_text.specs.FoldedText.{AreRowLines, IsLineFault, IsRowLine}
-use Rattle.folded_text.specs.LineSums.{AreAddedLines}
+use Rattle.folded_text.specs.FoldedText.{AreRowLines, IsRowLine}
 use Rattle.folded_text.specs.TextRows.{spelled_rows}
 use Rattle.folded_text.proofs.Reading.{AreRowLines-push, AreRowLines-skip}
 
@@ -59,27 +55,3 @@ module _ (text rest after line : List ℕ) (old new : List TextState) (number : 
     sums = so_far.sums;
     number_is = grind (arith, common_steps, so_far.number_is);
   }
-
-  -- a line with a fault
-  pub AreAddedLines-stopped : (fault : FoldedFault) → 0 < length line
-      → IsLineFault (total_of (spelled_rows new)) number line fault → AreAddedLines text rest old new (Some fault)
-  AreAddedLines-stopped fault some is = record {
-    before = so_far.before;
-    rows = so_far.rows;
-    lines_are = so_far.lines_are;
-    spelled = so_far.spelled;
-    sums = so_far.sums;
-    stops = (line, lines after, first, some, rw (← so_far.number_is) is);
-  }
-
--- all lines
-pub AreAddedLines-all : (text rest : List ℕ) (old new : List TextState) (number : ℕ)
-    → AreAddedTo text rest old new number → rest ≡ [] → AreAddedLines text rest old new None
-AreAddedLines-all text rest old new number so_far empty = record {
-  before = so_far.before;
-  rows = so_far.rows;
-  lines_are = so_far.lines_are;
-  spelled = so_far.spelled;
-  sums = so_far.sums;
-  stops = empty;
-}

@@ -163,7 +163,8 @@ impl LineSums {
         Ok(self.add_text(text, weight)?)
     }
 
-    /// Adds lines up to the first that has a fault, which leaves no trace. Lines count from 1 in each text.
+    /// Adds whole lines up to the first that has a fault. Neither that fault nor running out of memory leaves a trace.
+    /// Lines count from 1 in each text.
     pub fn add(&mut self, text: &[u8]) -> AddedLines
         ensures within { result.len ≤ length text.now }
         ensures added { AreAddedLines text.now (drop result.len text.now) self.old self.new result.fault }

@@ -1,5 +1,6 @@
 -- What was found in the order of a run, said of the logs; and that a match leaves no fault.
-use Rattle.std.proofs.Common.{rules, ℕ, zero, suc, true, ◌≡◌, ◌<◌, ◌≤◌, ◌+◌, ◌-◌, inl, inr, Option, Some, None, List, [], ◌∷◌}
+use Rattle.std.proofs.Common.{rules, ℕ, zero, suc, true, ◌≡◌, ◌<◌, ◌≤◌, ◌+◌, ◌-◌, inl, inr, Option, Some, None, List}
+use Rattle.std.proofs.Common.{[], ◌∷◌}
 use Rattle.std.proofs.Common.{◌++◌, length, get_or, take, drop, All, Any, refl, sym, ap, subst, ◌∙◌, arith}
 use Rattle.std.specs.Prelude.{IsPermutation}
 use Rattle.std.proofs.Math.ListN.{get_or-append}
@@ -13,7 +14,8 @@ use Rattle.log_audit.specs.declared.fault.AuditFault.{AuditFault}
 use Rattle.log_audit.specs.declared.fault.AuditFault.TheVariants.{TwoLogs, Stranger, Order, Missing, WrongAnswer}
 use Rattle.log_audit.specs.declared.fault.AuditFault.TheVariants.{NoMemory}
 use Rattle.log_audit.specs.declared.replay.Wrong.{Wrong}
-use Rattle.log_audit.specs.Matching.{HasOneLogEach, IsFirstAuditFault, IsFirstMissing, IsFirstWithout, IsInOrder, IsKnown}
+use Rattle.log_audit.specs.Matching.{HasOneLogEach, IsFirstAuditFault, IsFirstMissing, IsFirstWithout, IsInOrder}
+use Rattle.log_audit.specs.Matching.{IsKnown}
 use Rattle.log_audit.specs.Matching.{IsReceived, IsRight, IsSecondLog, LoggedReceipt, LogsMatch, logged, logged_after}
 use Rattle.log_audit.specs.Matching.{logged_from}
 use Rattle.op_book.specs.Operations.{FitsWidth, PlainReceipt, is_change}
@@ -29,10 +31,6 @@ any_permutation P xs ys perm (k, x, inside, there, has) =
     (n, x, lt, item, has)
 
 -- ---- what was found, said of the logs
-
-pub of_logs : (all items ordered : List LoggedReceipt)
-    → items ≡ all → IsPermutation items ordered → IsPermutation all ordered
-of_logs all items ordered same perm = subst (λ (xs : List LoggedReceipt). IsPermutation xs ordered) same perm
 
 pub known_widths : (journal : JournalState) (all : List LoggedReceipt) → AreOfWidth journal.width journal.entries
     → All (IsKnown journal) all → All (λ (one : LoggedReceipt). FitsWidth journal.width one.receipt.op) all

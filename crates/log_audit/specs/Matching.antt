@@ -144,6 +144,15 @@ abbrev pub run_cmp : LoggedReceipt → LoggedReceipt → Ordering
 run_cmp one other = ordering_then (nat_cmp (key_of one.receipt) (key_of other.receipt))
     (ordering_then (nat_cmp one.session other.session) (nat_cmp one.index other.index))
 
+-- the receipts of logs in the order of a run: each session has one log, each receipt is of the journal, and each log is
+-- in order
+pub record AreOrdered (journal : JournalState) (logs : List SessionLog) (ordered : List LoggedReceipt) : Type 0 where
+  pub one_log_each : HasOneLogEach logs
+  pub known : All (IsKnown journal) (logged logs)
+  pub in_order : All IsInOrder (logged logs)
+  pub all : IsPermutation (logged logs) ordered
+  pub sorted : IsSorted run_cmp ordered
+
 -- the steps of all receipts in the order of a run
 pub record IsRunOf (logs : List SessionLog) (steps : List PlainStep) : Type 0 where
   pub ordered : List LoggedReceipt

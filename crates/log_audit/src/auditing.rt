@@ -1,9 +1,11 @@
 //! The audit: whether the logs of sessions match a journal.
 
-ghost use Rattle.std.specs.Prelude.{◌≡◌, ◌<◌, All, AllPairs, IfErr, IfOk, IsPermutation, MatchResult, map};
-ghost use Rattle.log_audit.specs.Matching.{HasOneLogEach, IsFirstAuditFault, IsInOrder, IsKnown, IsRunOf, LogsMatch, logged, steps_in};
+ghost use Rattle.std.specs.Prelude.{◌≡◌, ◌<◌, All, AllPairs, IfErr, IfOk, IsPermutation, List, MatchResult, map};
+ghost use Rattle.log_audit.specs.Matching.{AreOrdered, HasOneLogEach, IsFirstAuditFault, IsInOrder, IsKnown, IsRunOf};
+ghost use Rattle.log_audit.specs.Matching.{LogsMatch, logged, steps_in};
 ghost use Rattle.op_book.specs.Operations.{is_change, operations_of};
 ghost use Rattle.op_book.specs.Runs.{IsLegal};
+ghost use Rattle.op_book.specs.declared.entry.SessionLog.{SessionLog};
 ghost use Rattle.std.specs.List.{filter};
 
 use crate::fault::AuditFault;
@@ -76,20 +78,51 @@ fn run_of(
     ensures changes { IfOk result
         (λ run. filter is_change (map (λ step. step.op) run) ≡ operations_of journal.now.entries) }
 {
-    let mut receipts = known_receipts(alloc, journal, logs)?;
+    let ordered = ordered_receipts(alloc, journal, logs)?;
+    run_in_order(alloc, hashing, journal, &ordered)
+}
+
+/// The run of logs whose receipts are in its order.
+fn run_in_order(
+    alloc: Global,
+    hashing: Hashing,
+    journal: &Journal,
+    ordered: &[Logged],
+) -> Result<Run, AuditFault>
+    requires { (logs : List SessionLog) × AreOrdered journal.now logs ordered.now }
+    ensures first { (logs : List SessionLog) → AreOrdered journal.now logs ordered.now
+        → MatchResult result (λ run. LogsMatch journal.now logs × IsRunOf logs run)
+        (λ fault. IsFirstAuditFault journal.now logs fault) }
+    ensures legal { IfOk result (λ run. IsLegal (λ step. step.op) (λ step. step.reply) run) }
+    ensures changes { IfOk result
+        (λ run. filter is_change (map (λ step. step.op) run) ≡ operations_of journal.now.entries) }
+{
     let entries = journal.entries();
-    sort_for_run(&mut receipts)?;
-    if let Some(entry) = first_missing(entries.len() as u64, &receipts) {
+    if let Some(entry) = first_missing(entries.len() as u64, ordered) {
         return Err(AuditFault::Missing { entry });
     }
-    if let Some(wrong) = first_wrong(alloc, hashing, journal.width(), &receipts)? {
+    if let Some(wrong) = first_wrong(alloc, hashing, journal.width(), ordered)? {
         return Err(AuditFault::WrongAnswer {
             session: wrong.session,
             index: wrong.index,
         });
     }
-    let run = Run::of(alloc, &receipts)?;
-    Ok(run)
+    Ok(Run::of(alloc, ordered)?)
+}
+
+/// The receipts of logs in the order of a run, where each session has one log, each receipt is of the journal and each
+/// log in order.
+fn ordered_receipts<'a>(
+    alloc: Global,
+    journal: &Journal,
+    logs: &'a [SessionLog],
+) -> Result<Vec<Logged<'a>>, AuditFault>
+    ensures ordered { IfOk result (λ all. AreOrdered journal.now logs.now all.items) }
+    ensures fault { IfErr result (IsFirstAuditFault journal.now logs.now) }
+{
+    let mut all = known_receipts(alloc, journal, logs)?;
+    sort_for_run(&mut all)?;
+    Ok(all)
 }
 
 /// The receipts of logs, of which each session has one, where each is of the journal and each log in order.

@@ -1,8 +1,10 @@
 //! Batches: rows of one to four values, in order, of which the total of each value keeps the limit.
 #![tactic(auto, using(crate::proofs::Steps::batch))]
 
-ghost use Rattle.std.specs.Prelude.{ℕ, ◌≡◌, ◌+◌, ◌-◌, ◌*◌, ◌<◌, ◌≤◌, ◌++◌, ◌∷◌, [], drop, length, map, take, IfErr, IfOk, OnErr, OnOk};
-ghost use Rattle.profile_rows.specs.Values.{AreTotals, BatchState, HasRoom, IsBatch, row_in, rows_at, single_batch, value_of};
+ghost use Rattle.std.specs.Prelude.{ℕ, ◌≡◌, ◌+◌, ◌-◌, ◌*◌, ◌<◌, ◌≤◌, ◌++◌, ◌∷◌, [], drop, length, map, take, IfErr};
+ghost use Rattle.std.specs.Prelude.{IfOk, OnErr, OnOk};
+ghost use Rattle.profile_rows.specs.Values.{AreTotals, BatchState, HasRoom, IsBatch, row_in, rows_at, single_batch};
+ghost use Rattle.profile_rows.specs.Values.{value_of};
 ghost use Rattle.profile_rows.specs.OwnedRows.{plain_row};
 ghost use Rattle.profile_rows.specs.Pushing.{IsPushFault};
 
@@ -28,7 +30,7 @@ pub struct OwnedRow {
     pub weights: Weights,
 }
 
-/// Rows in order, each of as many values as the batch is wide. The total of each value is at most
+/// Rows in order, which all have the same number of values, the batch's width. The total of each value is at most
 /// [`MAX_TOTAL`](crate::MAX_TOTAL).
 #[derive(Debug, Drop)]
 pub struct Batch {

@@ -27,7 +27,7 @@ pub struct WeightedStack {
 /// Why a row is refused. The first cause in this order is told.
 #[derive(Clone, Copy, Debug, PartialEq, Eq, Error)]
 pub enum PushFault {
-    /// The row hasn't as many values as the batch is wide, `held`.
+    /// The row's number of values isn't the batch's width, `held`.
     #[error("Q3 Width held {held}")]
     Width { held: u32 },
     /// The total of the value of this number, `held`, and the row's pass [`MAX_TOTAL`] together; no lower value does.

@@ -1,19 +1,20 @@
 //! What a tree answers of its stacks and names.
 
-ghost use Rattle.std.specs.Prelude.{◌≡◌, ◌<◌, ◌+◌, ℕ, filter, length, map, string_bytes, take, All, MatchOption, IfOk, OnOk, IsSorted};
+ghost use Rattle.std.specs.Prelude.{◌≡◌, ◌<◌, ◌+◌, ℕ, filter, length, map, string_bytes, take, All, MatchOption, IfOk};
+ghost use Rattle.std.specs.Prelude.{OnOk, IsSorted};
 ghost use Rattle.std.specs.List.{join_with_byte};
 ghost use Rattle.profile_rows.specs.Names.{IsName};
 ghost use Rattle.profile_rows.specs.StackTexts.{AreStackTexts};
 ghost use Rattle.profile_rows.specs.Aggregate.{AreRowsOf, aggregates_of, weight_in, with_rows, rows_of};
 ghost use Rattle.profile_rows.specs.TopList.{AreSumsOf};
 ghost use Rattle.profile_rows.specs.Values.{value_of};
-ghost use Rattle.call_tree.specs.State.{weights_of, nodes_at, plain_at, stack_at, has_weight};
+ghost use Rattle.call_tree.specs.State.{weights_of, node_at, nodes_at, plain_at, stack_at, has_weight};
 ghost use Rattle.call_tree.specs.Totals.{IsAddable, below_with, sums_with};
 
 use super::CallTree;
 use crate::node::Node;
 use profile_rows::{
-    Batch, FrameTotal, MAX_DEPTH, NoMemory, Stack, StackText, WeightedStack, WeightedStacks,
+    Batch, FrameTotal, MAX_DEPTH, Name, NoMemory, Stack, StackText, WeightedStack, WeightedStacks,
     Weights, Width, aggregate, aggregate_stacks,
 };
 use std::alloc::{AllocError, Global};
@@ -54,10 +55,20 @@ impl CallTree {
         let mut weights = [0; 4];
         if let Some(slot) = self.slot_of(stack) {
             for value in 0..count {
-                weights[value as usize] = self.nodes.weight(value, slot);
+                weights[value as usize] = self.weight(value, slot);
             }
         }
         weights_from(&weights, width)
+    }
+
+    /// What a node weighs by a value.
+    fn weight(&self, value: u32, slot: usize) -> u64
+        requires value { value < self.now.width }
+        requires within { slot < length (nodes_at self.now 0) }
+        ensures { result ≡ (node_at (nodes_at self.now value) slot).weight }
+    {
+        self.facts();
+        self.nodes.weight(value, slot)
     }
 
     /// The node of exactly this stack, where there is one. One pass over the nodes, since a node stands after its
@@ -144,24 +155,39 @@ impl CallTree {
         Ok(totals)
     }
 
-    /// The stack of a node: its names on the way to the root, turned round.
-    fn stack_of(&self, alloc: Global, at: usize) -> Result<Stack, NoMemory>
+    /// The names of a node's stack, root first, in the place of others: those on the way to the root, turned round.
+    fn replace_names<'a>(&'a self, names: &mut Vec<&'a Name>, at: usize) -> Result<(), AllocError>
         requires { at < length (nodes_at self.now 0) }
-        ensures { IfOk result (λ stack. stack ≡ stack_at (nodes_at self.now 0) at) }
+        ensures { OnOk result (map (λ name. name.now) names.new.items ≡ stack_at (nodes_at self.now 0) at) }
     {
         self.nodes.facts();
-        let mut names = Vec::new(alloc);
+        names.clear();
         let mut slot = at;
         while slot != 0 {
             let link = self.nodes.link(slot);
-            let name = self.names.read(link.name as usize).clone()?;
-            names.push(name)?;
+            names.push(self.names.read(link.name as usize))?;
             slot = link.parent as usize;
         }
         names.reverse();
-        let fits = names.len() <= MAX_DEPTH;
+        Ok(())
+    }
+
+    /// The stack of a node. The buffer's room is used again from node to node.
+    fn stack_of<'a>(
+        &'a self,
+        alloc: Global,
+        names: &mut Vec<&'a Name>,
+        at: usize,
+    ) -> Result<Stack, NoMemory>
+        requires { at < length (nodes_at self.now 0) }
+        ensures { IfOk result (λ stack. stack ≡ stack_at (nodes_at self.now 0) at) }
+    {
+        self.facts();
+        self.replace_names(names, at)?;
+        let shares = shares_of(alloc, names.as_slice())?;
+        let fits = shares.len() <= MAX_DEPTH;
         prove!(fits);
-        match Stack::make(names) {
+        match Stack::make(shares) {
             Ok(stack) => Ok(stack),
             Err(_) => Err(NoMemory),
         }
@@ -174,10 +200,11 @@ impl CallTree {
     {
         self.facts();
         let mut rows = WeightedStacks::new(alloc);
-        for index in 0..self.nodes.len() {
-            let weight = self.nodes.weight(value, index);
+        let mut names = Vec::new(alloc);
+        for index in 0..self.len() {
+            let weight = self.weight(value, index);
             if weight > 0 {
-                let stack = self.stack_of(alloc, index)?;
+                let stack = self.stack_of(alloc, &mut names, index)?;
                 rows.push(stack, weight).map_err(|_| NoMemory)?;
             }
         }
@@ -198,30 +225,11 @@ impl CallTree {
         aggregate_stacks(alloc, rows)
     }
 
-    /// The frames of a node, root first, in the place of others: its names on the way to the root, turned round.
-    fn replace_frames<'a>(&'a self, frames: &mut Vec<&'a str>, at: usize) -> Result<(), AllocError>
-        requires { at < length (nodes_at self.now 0) }
-        ensures frames { OnOk result
-            (map (λ frame. frame.now) frames.new.items ≡ stack_at (nodes_at self.now 0) at) }
-        ensures names { OnOk result (All IsName (stack_at (nodes_at self.now 0) at)) }
-    {
-        self.nodes.facts();
-        frames.clear();
-        let mut slot = at;
-        while slot != 0 {
-            let link = self.nodes.link(slot);
-            frames.push(self.names.read(link.name as usize).text())?;
-            slot = link.parent as usize;
-        }
-        frames.reverse();
-        Ok(())
-    }
-
     /// The text of a node's stack. The buffers' room is used again from node to node.
     fn stack_text<'a>(
         &'a self,
         alloc: Global,
-        frames: &mut Vec<&'a str>,
+        names: &mut Vec<&'a Name>,
         joined: &mut String,
         at: usize,
     ) -> Result<String, NoMemory>
@@ -230,8 +238,8 @@ impl CallTree {
             (λ text. string_bytes text ≡ join_with_byte 59 (stack_at (nodes_at self.now 0) at)) }
         ensures names { OnOk result (All IsName (stack_at (nodes_at self.now 0) at)) }
     {
-        self.replace_frames(frames, at)?;
-        replace_joined(joined, frames.as_slice())?;
+        self.replace_names(names, at)?;
+        replace_joined(joined, names.as_slice())?;
         Ok(String::from_str(alloc, joined.as_str())?)
     }
 
@@ -247,12 +255,12 @@ impl CallTree {
     {
         self.facts();
         let mut texts = Vec::new(alloc);
-        let mut frames = Vec::new(alloc);
+        let mut names = Vec::new(alloc);
         let mut joined = String::new(alloc);
-        for at in 0..self.nodes.len() {
-            let weight = self.nodes.weight(value, at);
+        for at in 0..self.len() {
+            let weight = self.weight(value, at);
             if weight > 0 {
-                let text = self.stack_text(alloc, &mut frames, &mut joined, at)?;
+                let text = self.stack_text(alloc, &mut names, &mut joined, at)?;
                 texts.push(StackText { text, weight })?;
             }
         }
@@ -279,16 +287,28 @@ impl CallTree {
     }
 }
 
-/// Frames with a semicolon between each two, in the place of another text.
-fn replace_joined(text: &mut String, frames: &[&str]) -> Result<(), AllocError>
-    ensures { OnOk result (string_bytes text.new ≡ join_with_byte 59 (map (λ frame. frame.now) frames.now)) }
+/// Second owners of these names.
+fn shares_of(alloc: Global, names: &[&Name]) -> Result<Vec<Name>, NoMemory>
+    ensures { IfOk result (λ shares. shares.items ≡ map (λ name. name.now) names.now) }
+{
+    let mut shares = Vec::with_capacity(alloc, names.len())?;
+    for name in names {
+        shares.push((*name).clone()?)?;
+    }
+    Ok(shares)
+}
+
+/// Names with a semicolon between each two, in the place of another text.
+fn replace_joined(text: &mut String, names: &[&Name]) -> Result<(), AllocError>
+    ensures joined { OnOk result (string_bytes text.new ≡ join_with_byte 59 (map (λ name. name.now) names.now)) }
+    ensures named { OnOk result (All IsName (map (λ name. name.now) names.now)) }
 {
     text.clear();
-    for (index, frame) in frames.iter().enumerate() {
+    for (index, name) in names.iter().enumerate() {
         if index > 0 {
             text.push(';')?;
         }
-        text.push_str(frame)?;
+        text.push_str(name.text())?;
     }
     Ok(())
 }

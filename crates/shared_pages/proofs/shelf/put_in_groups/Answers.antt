@@ -25,8 +25,9 @@ returns-then-index-len-clause-ok g c =
     let groups = c.args.groups.now.items in
     let lt : c.args.at / 4096 < length groups =
     omega (arith, c.if-index-len.true, c.len.ensures, c.args.groups.now.ok.0) in
-    on_ok_weaker c.put_in_group.result (λ put. put_group groups _ c.args.at c.args.item c.requires.pages c.requires.within
-    lt c.index_mut.result.now c.index_mut.ensures.value c.put_in_group.new.group put.0 put.1) c.put_in_group.ensures.ok
+    on_ok_weaker c.put_in_group.result (λ put. put_group groups _ c.args.at c.args.item c.requires.pages
+    c.requires.within lt c.index_mut.result.now c.index_mut.ensures.value c.put_in_group.new.group put.0 put.1)
+    c.put_in_group.ensures.ok
 
 pub returns-then-index-len-clause-err : goal.returns-then-index-len-clause-err
 returns-then-index-len-clause-err g c =

@@ -1,37 +1,14 @@
 use Rattle.std.proofs.Common.{◌≡◌, ◌<◌, arith, refl, sym, ap, ◌∙◌, subst}
 use Rattle.profile_rows.specs.Aggregate.{weight_in}
 use Rattle.profile_rows.specs.Values.{value_of}
-use Rattle.call_tree.specs.State.{AreStates, node_at, weights_of}
-use Rattle.call_tree.specs.Nodes.{nodes_of}
-use Rattle.call_tree.proofs.Shapes.{node_at-node_rows}
+use Rattle.call_tree.specs.State.{AreStates, weights_of}
 use Rattle.call_tree.proofs.Filling.{IsFilled, IsFilled-step, IsFilled-zeros, value_of-filled}
 use Rattle.call_tree.proofs.Totals.{weight_in-found, weight_in-nowhere, weight_in-past}
-use Rattle.call_tree.proofs.Trees.{length-seen, seen}
 use Rattle.call_tree.proofs.tree.CallTree.self_weight.Goals as goal
 use Rattle.call_tree.proofs.tree.CallTree.self_weight.Goals.{in-Some+else-loop-value-test, in_default}
 
-pub weight-requires-clause-within : goal.weight-requires-clause-within
-weight-requires-clause-within c =
-    let value = c.loop-value.value in
-    let lt : value < c.args.self.now.width = omega (
-      arith,
-      c.loop-value-test.true,
-      c.get-count.ensures.count,
-      c.width-width.ensures,
-      ap (λ t. t.width) c.self.view_is,
-    ) in
-    let size = c.facts.ensures.sizes value lt in
-    omega (
-      arith,
-      c.in-Some.ensures.0,
-      size,
-      length-seen c.self.inside.names c.self.inside.nodes c.args.self.now value c.self.view_is,
-    )
-
 pub loop-value-preserved : goal.loop-value-preserved
 loop-value-preserved c =
-    let names = c.self.inside.names in
-    let all = c.self.inside.nodes in
     let now = c.args.self.now in
     let stack = c.args.stack.now in
     let value = c.loop-value.value in
@@ -47,8 +24,6 @@ loop-value-preserved c =
     value c.weight.result c.loop-value.weights _ c.loop-value.invariant
     (omega (arith, c.loop-value-test.true, c.get-count.ensures.count, c.get-count.ensures.few))
     (c.weight.ensures
-    ∙ sym (ap (λ row. row.weight) (node_at-node_rows names (nodes_of all value) slot))
-    ∙ ap (λ rows. (node_at rows slot).weight) (seen names all now value c.self.view_is)
     ∙ sym (weight_in-found now c.facts.ensures stack value slot lt c.in-Some.ensures.0 c.in-Some.ensures.1)) refl
 
 pub returns-clause-weights : goal.returns-clause-weights

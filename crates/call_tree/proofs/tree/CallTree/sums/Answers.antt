@@ -34,8 +34,8 @@ pub add_node-requires : goal.add_node-requires
 add_node-requires c =
     let names = c.self.inside.names in
     let all = c.self.inside.nodes in
-    let tree = c.self.invariant.0 c.args.value (value_lt names all c.args.self.now c.args.value c.self.view_is c.requires)
-    in
+    let lt_value = value_lt names all c.args.self.now c.args.value c.self.view_is c.requires in
+    let tree = c.self.invariant.0 c.args.value lt_value in
     rw c.read.ensures (addable names (nodes_of all c.args.value) tree c.loop-left.sums.items c.loop-left.below.items
     (c.loop-left.left - 1) (from _ _ _ _ _ c.loop-left-test.true c.loop-left.invariant)
     (omega (arith, c.loop-left-test.true)))
@@ -44,8 +44,8 @@ pub loop-left-preserved : goal.loop-left-preserved
 loop-left-preserved c =
     let names = c.self.inside.names in
     let all = c.self.inside.nodes in
-    let tree = c.self.invariant.0 c.args.value (value_lt names all c.args.self.now c.args.value c.self.view_is c.requires)
-    in
+    let lt_value = value_lt names all c.args.self.now c.args.value c.self.view_is c.requires in
+    let tree = c.self.invariant.0 c.args.value lt_value in
     rw (c.add_node.ensures.sums, c.add_node.ensures.below, c.read.ensures) (AreSumsFrom-next names
     (nodes_of all c.args.value) tree c.loop-left.sums.items c.loop-left.below.items (c.loop-left.left - 1)
     (from _ _ _ _ _ c.loop-left-test.true c.loop-left.invariant) (omega (arith, c.loop-left-test.true)))

@@ -1,16 +1,17 @@
--- One frame more.
+-- One name more.
 use Rattle.std.proofs.Common.{rules, ◌≡◌, ℕ, List, ◌∷◌, ◌++◌, [], ◌<◌, ◌⊎◌, ap, sym, ◌∙◌, inl, inr, arith, map, get_or}
-use Rattle.std.proofs.Common.{string_bytes}
-use Rattle.std.proofs.lemmas.List.{get_or-map, length-map}
+use Rattle.std.proofs.Common.{All, length, string_bytes, subst, take}
+use Rattle.std.proofs.lemmas.List.{get_or-map, get_or_read, length-map, take_all, take_more}
+use Rattle.std.proofs.lemmas.List.Elements.{All-push}
 use denote.Ref.{Bor}
+use Rattle.profile_rows.specs.Names.{IsName}
 use Rattle.call_tree.proofs.Joining.{join_more}
 use Rattle.call_tree.proofs.tree.reading.replace_joined.Goals as goal
 use Rattle.call_tree.proofs.tree.reading.replace_joined.Goals.{then-index-gt0+in_ok-push, else-index-gt0}
 
 pub loop-index-preserved : goal.loop-index-preserved
 loop-index-preserved c =
-    let frames = c.args.frames.now in
-    let names = map (λ (frame : Bor (List ℕ)). frame.now) frames in
+    let names = map (λ (name : Bor (List ℕ)). name.now) c.args.names.now in
     let k = c.loop-index.index in
     let before = string_bytes c.loop-index.text in
     let after = string_bytes c.if-index-gt0.text in
@@ -20,8 +21,24 @@ loop-index-preserved c =
       | else-index-gt0 w ↦ inr (omega arith, search rules)
     ] in
     let none : Bor (List ℕ) = record { ref_ptr = (0, 0); now = [] } in
-    let more : string_bytes c.push_str.new.self ≡ after ++ (get_or frames k none).now = search rules in
-    let long = length-map frames (λ (frame : Bor (List ℕ)). frame.now) in
-    more ∙ ap (λ name. after ++ name)
-    (sym (get_or-map (λ (frame : Bor (List ℕ)). frame.now) frames k none [] c.loop-index-test.true))
-    ∙ join_more names k [] before after (omega (arith, c.loop-index-test.true, long)) c.loop-index.invariant cut
+    let long = length-map c.args.names.now (λ (name : Bor (List ℕ)). name.now) in
+    let item =
+    get_or_read c.args.names.now k c.index-names-index.result c.loop-index-test.true c.index-names-index.is none in
+    let name_is : get_or names k [] ≡ c.text.result.now =
+    get_or-map (λ (name : Bor (List ℕ)). name.now) c.args.names.now k none [] c.loop-index-test.true
+    ∙ sym (c.text.ensures.text ∙ ap (λ (name : Bor (List ℕ)). name.now) item) in
+    let more : string_bytes c.push_str.new.self ≡ after ++ c.text.result.now = search rules in
+    let lt : k < length names = omega (arith, c.loop-index-test.true, long) in
+    record {
+      joined = more ∙ ap (λ name. after ++ name) (sym name_is)
+          ∙ join_more names k [] before after lt c.loop-index.invariant.joined cut;
+      named = subst (All IsName) (sym (take_more names k [] lt)) (All-push IsName (take k names) (get_or names k [])
+          c.loop-index.invariant.named (subst IsName (sym (name_is ∙ c.text.ensures.text)) c.text.ensures.name));
+    }
+
+pub returns-clause-named : goal.returns-clause-named
+returns-clause-named c =
+    let names = map (λ (name : Bor (List ℕ)). name.now) c.args.names.now in
+    let long = length-map c.args.names.now (λ (name : Bor (List ℕ)). name.now) in
+    subst (All IsName) (take_all c.loop-index.index names (omega (arith, c.loop-index-test.false, long)))
+    c.loop-index.invariant.named

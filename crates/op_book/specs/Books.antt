@@ -177,3 +177,13 @@ pub record IsReady (ready : ReadyState) (entry : PlainEntry) (receipt : PlainRec
   pub receipt_is : receipt ≡ receipt_after ready.before.entries ready.op
   pub told_is : receipt ≡ change_told ready.op (length ready.before.entries)
   pub tree : IsTreeAfter ready.before ready.op ready.next
+
+-- a book was prepared for a change as the turn of a session, and is this one now: nothing keeps it from the change
+pub record IsPrepared (before : BookState) (session turn : ℕ) (op : PlainOp) (after : BookState)
+    (ready : ReadyState) : Type 0 where
+  pub taken : IsTaken before session turn op
+  pub now : ready.before ≡ after
+  pub session_is : ready.session ≡ session
+  pub turn_is : ready.turn ≡ turn
+  pub op_is : ready.op ≡ op
+  pub tree : IsTreeAfter before op ready.next

@@ -26,3 +26,16 @@ pub record IsLedger (entries : List PlainEntry) (limit width : ℕ) (turns : Lis
   pub some : 0 < length turns
   pub few : length turns ≤ 64
   pub small : limit < 2 ^ 32
+
+-- what the entries of a ledger are
+pub record AreLedgerEntries (ledger : LedgerState) : Type 0 where
+  pub legal : IsLegalRun ledger.entries
+  pub turns : AreTurnsInOrder ledger.entries
+  pub known : AreOfSessions ledger.sessions ledger.entries
+  pub fitted : AreOfWidth ledger.width ledger.entries
+  pub changes : AreChanges ledger.entries
+  pub light : KeepLimit ledger.entries
+  pub count : length ledger.entries ≤ ledger.limit
+  pub small : ledger.limit < 2 ^ 32
+  pub some : 0 < ledger.sessions
+  pub few : ledger.sessions ≤ 64

@@ -2,6 +2,7 @@
 
 ghost use Rattle.std.specs.Prelude.{ℕ, ◌≡◌, ◌<◌, ◌≤◌, ◌^◌, ◌++◌, ◌∷◌, [], true, length, IfOk, MatchResult, OnOk};
 ghost use Rattle.op_book.specs.Books.{HasTurn, IsTurnFault};
+ghost use Rattle.op_book.specs.Ledgers.{AreLedgerEntries};
 ghost use Rattle.op_book.specs.Operations.{FitsWidth, is_change, operations_of, plain_answer, profile_after};
 ghost use Rattle.op_book.specs.Runs.{AreChanges, AreOfSessions, AreOfWidth, AreTurnsInOrder, IsLegalRun, KeepLimit};
 ghost use Rattle.profile_rows.specs.Rows.{total_of};
@@ -66,16 +67,7 @@ impl Ledger {
     /// The entries.
     pub(crate) fn entries(&self) -> &[Entry]
         ensures entries { result.now ≡ self.now.entries }
-        ensures legal { IsLegalRun self.now.entries }
-        ensures turns { AreTurnsInOrder self.now.entries }
-        ensures known { AreOfSessions self.now.sessions self.now.entries }
-        ensures fitted { AreOfWidth self.now.width self.now.entries }
-        ensures changes { AreChanges self.now.entries }
-        ensures light { KeepLimit self.now.entries }
-        ensures count { length self.now.entries ≤ self.now.limit }
-        ensures small { self.now.limit < 2 ^ 32 }
-        ensures some { 0 < self.now.sessions }
-        ensures few { self.now.sessions ≤ 64 }
+        ensures kept { AreLedgerEntries self.now }
     {
         let entries: &Vec<Entry> = &self.entries;
         entries.as_slice()

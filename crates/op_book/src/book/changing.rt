@@ -3,7 +3,7 @@
 ghost use Rattle.std.specs.Prelude.{◌≡◌, ◌≢◌, ◌+◌, ◌<◌, ◌^◌, ℕ, length, IfErr, IfOk, OnErr, OnOk};
 ghost use Rattle.std.specs.Arc.{arc_value};
 ghost use Rattle.call_tree.specs.State.{total_in, weights_of};
-ghost use Rattle.op_book.specs.Books.{HasSpaceFor, IsFirstBookFault, IsMade, IsOrderly, IsReplay, IsSameBook, IsSpaceFault, IsTaken, IsTreeAfter, change_told};
+ghost use Rattle.op_book.specs.Books.{HasSpaceFor, IsFirstBookFault, IsMade, IsOrderly, IsPrepared, IsReplay, IsSameBook, IsSpaceFault, IsTreeAfter, change_told};
 ghost use Rattle.op_book.specs.Changes.{change_op};
 ghost use Rattle.op_book.specs.Operations.{add, placed, plain_op, reset};
 ghost use Rattle.profile_rows.specs.Rows.{total_of};
@@ -104,11 +104,7 @@ impl Book {
         turn: u64,
         change: Change<'_>,
     ) -> Result<Ready, BookFault>
-        ensures before { IfOk result (λ ready. ready.before ≡ self.new) }
-        ensures change { IfOk result (λ ready. (ready.session ≡ session) × (ready.turn ≡ turn)
-            × (ready.op ≡ change_op change.entry)) }
-        ensures next { IfOk result (λ ready. IsTreeAfter self.old (change_op change.entry) ready.next) }
-        ensures taken { OnOk result (IsTaken self.old session turn (change_op change.entry)) }
+        ensures ready { IfOk result (IsPrepared self.old session turn (change_op change.entry) self.new) }
         ensures unchanged { IsSameBook self.old self.new }
         ensures first_fault { IfErr result
             (λ fault. IsFirstBookFault self.old session turn (change_op change.entry) fault) }
@@ -176,11 +172,7 @@ impl Book {
         turn: u64,
         change: Change<'_>,
     ) -> Result<Ready, BookFault>
-        ensures before { IfOk result (λ ready. ready.before ≡ self.new) }
-        ensures change { IfOk result (λ ready. (ready.session ≡ session) × (ready.turn ≡ turn)
-            × (ready.op ≡ change_op change.entry)) }
-        ensures next { IfOk result (λ ready. IsTreeAfter self.old (change_op change.entry) ready.next) }
-        ensures taken { OnOk result (IsTaken self.old session turn (change_op change.entry)) }
+        ensures ready { IfOk result (IsPrepared self.old session turn (change_op change.entry) self.new) }
         ensures unchanged { IsSameBook self.old self.new }
         ensures first_fault { IfErr result
             (λ fault. IsFirstBookFault self.old session turn (change_op change.entry) fault) }

@@ -32,7 +32,7 @@ returns-in-Err-share_next-clause-changed g c =
     c.number.ensures c.turn.ensures c.requires.log.0 c.entries.ensures.orderly.count
     (is_change-change_op c.args.change) refl
     (caught_up c.args.front.now here own.end (whole, c.catch_up.ensures.began)) refl (whole ∙ own.whole)
-    book.NoMemory c.in-Ok.ensures.taken
+    book.NoMemory c.in-Ok.ensures.ready.taken
 
 pub returns-in-Ok-share_next-clause-changed : goal.returns-in-Ok-share_next-clause-changed
 returns-in-Ok-share_next-clause-changed g c =
@@ -41,7 +41,7 @@ returns-in-Ok-share_next-clause-changed g c =
     let made = c.commit.result in
     let after = session_of c.commit.new.log c.commit.new.front in
     subst (λ (op : PlainOp). HasChanged (session_of c.args.log.now old) op made.place made.told after)
-    c.in-Ok.ensures.change.2
+    c.in-Ok.ensures.ready.op_is
     (changed_since (session_of c.args.log.now here) after old c.in-Ok.ready.op made.place made.told
     (caught_up old here c.args.self.now.end (c.catch_up.ensures.whole, c.catch_up.ensures.began))
     c.commit.ensures.changed)

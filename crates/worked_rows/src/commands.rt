@@ -96,14 +96,11 @@ fn run_command<R: Threads + Wait + RandomSource + Clock + Sync>(
         ),
         "rows" | "aggregate" | "report" => batches::run(rt, words, input, made),
         "hashes" => hashes::compare(rt, input, made),
-        "live" | "workers" | "held" | "windows" | "threads" | "sources" => run_threads(
-            rt, words, input, made,
-        ),
-        _ => run_call(words, input, made),
+        _ => run_threads(rt, words, input, made),
     }
 }
 
-/// Runs a command that starts threads.
+/// Runs a command that starts threads, or one that is a call of the library.
 fn run_threads<R: Threads + Wait + Clock + Sync>(
     rt: &R,
     words: Words,
@@ -116,7 +113,8 @@ fn run_threads<R: Threads + Wait + Clock + Sync>(
         "held" => held::run_held(rt, words, input, made),
         "windows" => windows::run_windows(rt, words, input, made),
         "threads" => threads::run_threads(rt, words, input, made),
-        _ => sources::fill(rt, input, made),
+        "sources" => sources::fill(rt, input, made),
+        _ => run_call(words, input, made),
     }
 }
 

@@ -8,19 +8,12 @@ use crate::made::Made;
 use crate::operations::{batch_of, query_of};
 use crate::script::Words;
 use crate::stores::{blank_of, open_sessions};
-use crate::walks::{Bench, Walked};
+use crate::walks::{Bench, Walked, Work};
 use profile_store::{Batch, Blank, Journal, Query, Session, SessionLog, Store, StoreName, audit};
 use std::marker::Brand;
 use std::sync::{Arc, Wait};
 use std::thread;
 use std::thread::Threads;
-
-/// What sessions add and ask.
-#[derive(Drop)]
-struct Work {
-    batches: Vec<Arc<Batch>>,
-    queries: Vec<Arc<Query>>,
-}
 
 /// Runs a thread for each session, in which it takes so many steps. It adds the first row of the input, the first two
 /// and so on, and asks what the lines with `ask` spell.
@@ -77,18 +70,25 @@ fn tally<N: StoreName, R: Threads + Wait + Sync>(
     requires { blank
         ≡ record { limit = N.limit; sessions = N.sessions; width = N.width; history = N.history } }
 {
-    let sessions = made.number_after(words, "sessions", 1);
-    let bench = Bench::<N>::new(
-        made.alloc(),
-        work.batches.as_slice(),
-        work.queries.as_slice(),
-        sessions,
-        made.number_after(words, "steps", 1),
-    );
     let store = Store::<N>::start(blank);
-    let opened = open_sessions(rt, &store, sessions, made);
+    let all = walk_all(rt, words, &store, work, made);
+    tell_all(words, &store.close(rt), all, made);
+}
+
+/// Opens the sessions, and gives what each was told.
+fn walk_all<N: StoreName, R: Threads + Wait + Sync>(
+    rt: &R,
+    words: Words,
+    store: &Store<N>,
+    work: &Work,
+    made: &mut Made,
+) -> Vec<Walked> {
+    let sessions = made.number_after(words, "sessions", 1);
+    let steps = made.number_after(words, "steps", 1);
+    let opened = open_sessions(rt, store, sessions, made);
+    let bench = Bench::new(made.alloc(), work, sessions, steps);
     start_all(rt, opened, &bench, made);
-    tell_all(words, &store.close(rt), bench.end(), made);
+    bench.end()
 }
 
 /// A thread for each session.

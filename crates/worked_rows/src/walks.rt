@@ -9,11 +9,17 @@ use std::sync::{Arc, Mutex, Wait};
 /// The first so many sessions tell others of their changes, and hear of theirs.
 const TELLING: u32 = 4;
 
+/// What sessions add and ask.
+#[derive(Drop)]
+pub(crate) struct Work {
+    pub(crate) batches: Vec<Arc<Batch>>,
+    pub(crate) queries: Vec<Arc<Query>>,
+}
+
 /// What sessions in threads have in common.
 #[derive(Drop)]
 pub(crate) struct Bench<'a, N: StoreName> {
-    batches: &'a [Arc<Batch>],
-    queries: &'a [Arc<Query>],
+    work: &'a Work,
     /// How many sessions there are.
     sessions: u64,
     /// How many steps each takes.
@@ -111,7 +117,7 @@ impl<'a, N: StoreName> Walk<'a, N> {
 
     /// Whether an addition is placed so.
     fn add<R: Wait>(&mut self, rt: &R, alloc: Global, bench: &Bench<N>, step: usize) -> bool {
-        let Some(batch) = bench.batches.get(step % 5) else {
+        let Some(batch) = bench.work.batches.get(step % 5) else {
             return false;
         };
         let Ok(batch) = Arc::try_clone(batch) else {
@@ -133,7 +139,7 @@ impl<'a, N: StoreName> Walk<'a, N> {
 
     /// Whether a report is after all that was known.
     fn ask(&mut self, alloc: Global, bench: &Bench<N>, step: usize) -> bool {
-        let Some(query) = bench.queries.get(step % 10) else {
+        let Some(query) = bench.work.queries.get(step % 10) else {
             return false;
         };
         if self.session.ask(alloc, query).is_err() {
@@ -173,16 +179,9 @@ impl<'a, N: StoreName> Walk<'a, N> {
 
 impl<'a, N: StoreName> Bench<'a, N> {
     /// Nobody took a step yet.
-    pub(crate) fn new(
-        alloc: Global,
-        batches: &'a [Arc<Batch>],
-        queries: &'a [Arc<Query>],
-        sessions: u64,
-        steps: usize,
-    ) -> Bench<'a, N> {
+    pub(crate) fn new(alloc: Global, work: &'a Work, sessions: u64, steps: usize) -> Bench<'a, N> {
         Bench {
-            batches,
-            queries,
+            work,
             sessions,
             steps,
             begun: AtomicU64::new(0),

@@ -3,11 +3,11 @@
 ghost use Rattle.std.specs.Prelude.{◌≡◌};
 
 use crate::gates::come;
-use crate::made::{Made, Wrong};
+use crate::made::Made;
 use crate::operations::batch_of;
 use crate::script::Words;
 use crate::stores::{add_often, blank_of};
-use profile_store::{Batch, Blank, Session, Store, StoreName};
+use profile_store::{Batch, Blank, Journal, Session, Store, StoreName};
 use std::alloc::Global;
 use std::marker::Brand;
 use std::sync::atomic::{AtomicU64, Ordering};
@@ -23,11 +23,14 @@ pub(crate) fn run_windows<R: Threads + Wait + Sync>(
     input: &[u8],
     made: &mut Made,
 ) {
-    let Some(batch) = batch_of(Words { text: "" }, input, made) else {
-        return;
-    };
+    if let Some(batch) = batch_of(Words { text: "" }, input, made) {
+        run_store(rt, words, &batch, made);
+    }
+}
+
+fn run_store<R: Threads + Wait + Sync>(rt: &R, words: Words, batch: &Arc<Batch>, made: &mut Made) {
     match blank_of(words, made) {
-        Ok(blank) => weigh::<Brand, R>(rt, words, blank, &batch, made),
+        Ok(blank) => weigh::<Brand, R>(rt, words, blank, batch, made),
         Err(fault) => made.refuse(&fault),
     }
 }
@@ -42,10 +45,20 @@ fn weigh<N: StoreName, R: Threads + Wait + Sync>(
     requires { blank
         ≡ record { limit = N.limit; sessions = N.sessions; width = N.width; history = N.history } }
 {
-    let times = made.number_after(words, "times", 1);
     let store = Store::<N>::start(blank);
-    let taken = add_and_take(rt, &store, batch, times, made);
-    let left = store.close(rt).tree().total().values()[0];
+    let taken = add_and_take(
+        rt,
+        &store,
+        batch,
+        made.number_after(words, "times", 1),
+        made,
+    );
+    tell_weight(taken, &store.close(rt), made);
+}
+
+/// Adds what the windows and what is left weigh.
+fn tell_weight(taken: u64, journal: &Journal, made: &mut Made) {
+    let left = journal.tree().total().values()[0];
     made.say(&format_args!("weight {}", taken.saturating_add(left)));
 }
 
@@ -59,10 +72,8 @@ fn add_and_take<N: StoreName, R: Threads + Wait + Sync>(
 ) -> u64 {
     let alloc = made.alloc();
     let there = AtomicU64::new(0);
-    let (Ok(first), Ok(second)) = (store.session(rt, alloc), store.session(rt, alloc)) else {
-        made.fail(Wrong::Missing);
-        return 0;
-    };
+    let first = made.done(store.session(rt, alloc));
+    let second = made.done(store.session(rt, alloc));
     let (added, (taken, weight)) = thread::join(
         rt,
         || add_rows(rt, alloc, first, &there, batch, times),
@@ -82,13 +93,15 @@ fn meet(there: &AtomicU64) {
 fn add_rows<N: StoreName, R: Wait>(
     rt: &R,
     alloc: Global,
-    session: Session<'_, N>,
+    session: Option<Session<'_, N>>,
     there: &AtomicU64,
     batch: &Arc<Batch>,
     times: u64,
 ) -> usize {
-    let mut session = session;
     meet(there);
+    let Some(mut session) = session else {
+        return 0;
+    };
     add_often(rt, alloc, &mut session, batch, times);
     session.log().len()
 }
@@ -98,12 +111,14 @@ fn add_rows<N: StoreName, R: Wait>(
 fn take_windows<N: StoreName, R: Wait>(
     rt: &R,
     alloc: Global,
-    session: Session<'_, N>,
+    session: Option<Session<'_, N>>,
     there: &AtomicU64,
     times: u64,
 ) -> (usize, u64) {
-    let mut session = session;
     meet(there);
+    let Some(mut session) = session else {
+        return (0, 0);
+    };
     let mut weight = 0_u64;
     for _ in 0..times {
         let Ok(window) = session.take(rt, alloc) else {

@@ -29,7 +29,8 @@ pub(crate) fn run_lists<R: Threads + Wait + Sync>(
         Some("meeting") => run_meeting(rt, words, lists, made),
         Some("holding") => run_gated(rt, words, lists, &Holding::new(), made),
         Some("none") => run_gated(rt, words, lists, &Ungated, made),
-        _ => run_counted(rt, words, lists, made),
+        Some(_) => made.fail(Wrong::Command),
+        None => run_counted(rt, words, lists, made),
     }
 }
 

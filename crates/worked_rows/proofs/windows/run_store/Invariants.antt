@@ -1,4 +1,4 @@
-use Rattle.worked_rows.proofs.windows.run_windows.Given as goal
+use Rattle.worked_rows.proofs.windows.run_store.Given as goal
 
 abbrev pub ghosts-weigh : goal.ghosts-weigh
 ghosts-weigh g a =

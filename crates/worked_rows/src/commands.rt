@@ -94,20 +94,20 @@ fn run_command<R: Threads + Wait + RandomSource + Clock + Sync>(
         "flame" | "as" | "both" | "each" | "process" | "read" => run_program(
             rt, checker, *streams, words,
         ),
-        "rows" | "aggregate" | "report" => batches::run(rt, words, input, made),
-        "hashes" => hashes::compare(rt, input, made),
-        _ => run_threads(rt, words, input, made),
+        _ => run_on_input(rt, words, input, made),
     }
 }
 
-/// Runs a command that starts threads, or one that is a call of the library.
-fn run_threads<R: Threads + Wait + Clock + Sync>(
+/// Runs a command that draws random bytes or starts threads, or else one that is a call of the library.
+fn run_on_input<R: Threads + Wait + RandomSource + Clock + Sync>(
     rt: &R,
     words: Words,
     input: &[u8],
     made: &mut Made,
 ) {
     match words.word(0) {
+        "rows" | "aggregate" | "report" => batches::run(rt, words, input, made),
+        "hashes" => hashes::compare(rt, input, made),
         "live" => live::run_live(rt, words, input, made),
         "workers" => workers::run_lists(rt, words, input, made),
         "held" => held::run_held(rt, words, input, made),

@@ -8,7 +8,7 @@ sources of the crates that makes one, or a fault for lack of a thread or of a pl
 with `shortages.txt`, which has a reason for each. It ends with 1 where a place is new, or one of the list is gone.
 
 A place isn't listed where it hands on the callee's own by its name: an arm `Other::NoMemory => Own::NoMemory`, or a
-`From` of a type that says nothing else. Patterns, types, clauses and the crates of tests aren't listed.
+`From` of a type that says nothing else. Patterns, types, clauses and worked rows aren't listed.
 """
 import collections
 import pathlib
@@ -92,9 +92,9 @@ def places_in(path):
 
 
 def sources():
-    """The sources of the crates, but for those of tests and of worked rows."""
+    """The sources of the crates, but for those of worked rows."""
     for path in sorted((ROOT / "crates").glob("*/src/**/*.rt")):
-        if path.relative_to(ROOT / "crates").parts[0] not in ("library_tests", "worked_rows"):
+        if path.relative_to(ROOT / "crates").parts[0] != "worked_rows":
             yield path
 
 

@@ -281,8 +281,6 @@ def pages():
     names = re.findall(r"^(\w+):", (ROOT / "crates.txt").read_text(encoding="utf-8"), re.MULTILINE)
     made, rows = {}, []
     for name in names:
-        if name.endswith("_tests"):
-            continue
         text, calls, edits = page_of(ROOT / "crates" / name)
         if text:
             made[FOLDER / f"{name}.md"] = text

@@ -47,7 +47,9 @@ impl Checker {
 
     /// Gives the input of the step a name.
     pub(crate) fn name_input(&mut self, name: &str) {
-        if !self.names.add(self.alloc, name, self.input.bytes()) {
+        if name.is_empty() {
+            self.made.fail(Wrong::Command);
+        } else if !self.names.add(self.alloc, name, self.input.bytes()) {
             self.made.fail(Wrong::NoMemory);
         }
     }

@@ -6,14 +6,16 @@ use crate::program::Run;
 use crate::script::{Script, Step, Words};
 use crate::streams::Streams;
 use crate::{
-    batches, books, drafts, journals, live, names, profiles, samples, stores, trees, wire, workers,
+    batches, books, drafts, faults, hashes, held, items, journals, live, names, profiles, samples,
+    sources, stores, threads, trees, windows, wire, workers,
 };
 use std::random::RandomSource;
 use std::sync::Wait;
 use std::thread::Threads;
+use std::time::Clock;
 
 /// Runs the steps of a script.
-pub(crate) fn run_script<R: Threads + Wait + RandomSource + Sync>(
+pub(crate) fn run_script<R: Threads + Wait + RandomSource + Clock + Sync>(
     rt: &R,
     checker: &mut Checker,
     file: &str,
@@ -26,7 +28,7 @@ pub(crate) fn run_script<R: Threads + Wait + RandomSource + Sync>(
     checker.end(file);
 }
 
-fn run_blocks<R: Threads + Wait + RandomSource + Sync>(
+fn run_blocks<R: Threads + Wait + RandomSource + Clock + Sync>(
     rt: &R,
     checker: &mut Checker,
     script: &mut Script,
@@ -40,7 +42,7 @@ fn run_blocks<R: Threads + Wait + RandomSource + Sync>(
 }
 
 /// Runs the steps of a block. Their streams behave as the steps before in the block say.
-fn run_block<R: Threads + Wait + RandomSource + Sync>(
+fn run_block<R: Threads + Wait + RandomSource + Clock + Sync>(
     rt: &R,
     checker: &mut Checker,
     script: &mut Script,
@@ -56,7 +58,7 @@ fn run_block<R: Threads + Wait + RandomSource + Sync>(
 }
 
 /// Runs a step, or all steps of a scene that it opens, as a store: those after it in the block.
-fn run_step<R: Threads + Wait + RandomSource + Sync>(
+fn run_step<R: Threads + Wait + RandomSource + Clock + Sync>(
     rt: &R,
     checker: &mut Checker,
     script: &mut Script,
@@ -75,7 +77,7 @@ fn run_step<R: Threads + Wait + RandomSource + Sync>(
 }
 
 /// Runs a command that stands alone.
-fn run_command<R: Threads + Wait + RandomSource + Sync>(
+fn run_command<R: Threads + Wait + RandomSource + Clock + Sync>(
     rt: &R,
     checker: &mut Checker,
     streams: &mut Streams,
@@ -92,9 +94,26 @@ fn run_command<R: Threads + Wait + RandomSource + Sync>(
         "flame" | "as" | "both" | "each" | "process" | "read" => run_program(
             rt, checker, *streams, words,
         ),
+        _ => run_on_input(rt, words, input, made),
+    }
+}
+
+/// Runs a command that draws random bytes or starts threads, or else one that is a call of the library.
+fn run_on_input<R: Threads + Wait + RandomSource + Clock + Sync>(
+    rt: &R,
+    words: Words,
+    input: &[u8],
+    made: &mut Made,
+) {
+    match words.word(0) {
         "rows" | "aggregate" | "report" => batches::run(rt, words, input, made),
-        "workers" => workers::run_lists(rt, words, input, made),
+        "hashes" => hashes::compare(rt, input, made),
         "live" => live::run_live(rt, words, input, made),
+        "workers" => workers::run_lists(rt, words, input, made),
+        "held" => held::run_held(rt, words, input, made),
+        "windows" => windows::run_windows(rt, words, input, made),
+        "threads" => threads::run_threads(rt, words, input, made),
+        "sources" => sources::fill(rt, input, made),
         _ => run_call(words, input, made),
     }
 }
@@ -128,12 +147,16 @@ fn run_call(words: Words, input: &[u8], made: &mut Made) {
         "varint" => wire::read_varint(words, input, made),
         "packed" => wire::read_packed(input, made),
         "fields" => wire::read_fields(input, made),
+        "count" => wire::count(input, made),
         "write" => wire::write(words, input, made),
         "profile" | "samples" => profiles::read_profile(words, input, made),
         "draft" => drafts::make_draft(input, made),
         "export" => samples::export(words, input, made),
         "exported" => samples::read_exported(words, input, made),
-        "memory" => samples::say_memory_faults(made),
+        "items" => items::make_items(words, input, made),
+        "text" => items::make_text(input, made),
+        "memory" => faults::tell_memory(made),
+        "faults" => faults::tell(words, made),
         "name" => names::make_name(input, made),
         "clean" => names::clean_name(input, made),
         "stack" => names::make_stack(input, made),

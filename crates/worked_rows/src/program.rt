@@ -168,6 +168,7 @@ impl<'a, T: Threads + Wait + RandomSource + Sync> Run<'a, T> {
     fn each_write(self, command: &str, ends: &mut Ends, made: &mut Made) {
         let mut report = Made::new(self.alloc);
         self.once(command, &mut report);
+        made.fail_as(&report);
         for is_lasting in [false, true] {
             self.add_failing_writes(command, report.bytes(), is_lasting, ends, made);
         }

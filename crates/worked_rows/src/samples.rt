@@ -5,10 +5,9 @@ use crate::profiles::{read_profile, say_profile};
 use crate::rows::add_values;
 use crate::script::Words;
 use profile_store::{
-    Batch, BatchFault, FoldedFault, FrameTotals, Hashing, Name, NameFault, NoMemory, Profile,
-    ProfileFault, PushFault, Rank, ValueChoice, ValueUnit, batch_of, batch_of_with, export_folded,
-    merge_samples, profile_of, read_folded, sample_totals, top_list, top_text, unfold,
-    write_stacks,
+    Batch, FrameTotals, Hashing, Name, Profile, Rank, ValueChoice, ValueUnit, batch_of,
+    batch_of_with, export_folded, merge_samples, profile_of, read_folded, sample_totals, top_list,
+    top_text, unfold, write_stacks,
 };
 
 /// `samples`: a profile's samples as folded text. `samples merged` puts equal stacks together, `samples top` is the top
@@ -146,14 +145,4 @@ pub(crate) fn read_exported(words: Words, input: &[u8], made: &mut Made) {
     export(words, input, &mut bytes);
     made.fail_as(&bytes);
     read_profile(words, bytes.bytes(), made);
-}
-
-/// `memory faults`: what calls answer that are out of memory.
-pub(crate) fn say_memory_faults(made: &mut Made) {
-    made.refuse(&NoMemory);
-    made.refuse(&FoldedFault::NoMemory);
-    made.refuse(&PushFault::NoMemory);
-    made.refuse(&NameFault::NoMemory);
-    made.refuse(&ProfileFault::NoMemory);
-    made.refuse(&BatchFault::NoMemory);
 }

@@ -20,9 +20,9 @@ use std::sync::{Arc, Wait};
 
 /// A store, its sessions, and what they told of changes.
 #[derive(Drop)]
-struct Room<'a, N: StoreName> {
+pub(crate) struct Room<'a, N: StoreName> {
     store: &'a Store<N>,
-    sessions: Vec<Session<'a, N>>,
+    pub(crate) sessions: Vec<Session<'a, N>>,
     told: Vec<Told<N>>,
 }
 
@@ -64,7 +64,7 @@ fn run_store<N: StoreName, R: Wait>(
     run_closed(checker, script, &store.close(rt), logs);
 }
 
-/// Opens the sessions, fewer than there are with `open 1`, and gives their logs.
+/// Opens the sessions, and gives their logs.
 fn run_sessions<N: StoreName, R: Wait>(
     rt: &R,
     checker: &mut Checker,
@@ -72,20 +72,33 @@ fn run_sessions<N: StoreName, R: Wait>(
     step: &Step,
     store: &Store<N>,
 ) -> Vec<SessionLog> {
-    let alloc = checker.alloc;
-    let mut room = Room {
-        store,
-        sessions: Vec::new(alloc),
-        told: Vec::new(alloc),
-    };
-    room.open(rt, step.words, &mut checker.made);
+    let mut room = Room::open(rt, store, step.words, &mut checker.made);
     checker.settle(step);
     room.run_steps(rt, checker, script);
     logs_of(room.sessions, &mut checker.made)
 }
 
+/// So many sessions of a store.
+pub(crate) fn open_sessions<'a, N: StoreName, R: Wait>(
+    rt: &R,
+    store: &'a Store<N>,
+    count: u64,
+    made: &mut Made,
+) -> Vec<Session<'a, N>> {
+    let mut sessions = Vec::new(made.alloc());
+    for _ in 0..count {
+        if let Some(session) = made.done(store.session(rt, made.alloc())) {
+            made.keep(&mut sessions, session);
+        }
+    }
+    sessions
+}
+
 /// The logs of sessions, which end.
-fn logs_of<N: StoreName>(sessions: Vec<Session<'_, N>>, made: &mut Made) -> Vec<SessionLog> {
+pub(crate) fn logs_of<N: StoreName>(
+    sessions: Vec<Session<'_, N>>,
+    made: &mut Made,
+) -> Vec<SessionLog> {
     let mut logs = Vec::new(made.alloc());
     for session in sessions {
         made.keep(&mut logs, session.close());
@@ -100,7 +113,35 @@ struct Deed<'a> {
     input: &'a [u8],
 }
 
-impl<N: StoreName> Room<'_, N> {
+impl<'a, N: StoreName> Room<'a, N> {
+    /// Opens the sessions of a store, fewer than there are with `open 1`.
+    pub(crate) fn open<R: Wait>(
+        rt: &R,
+        store: &'a Store<N>,
+        words: Words,
+        made: &mut Made,
+    ) -> Room<'a, N> {
+        let sessions = made.number_after(words, "sessions", 1);
+        let count = made.number_after(words, "open", sessions);
+        Room {
+            store,
+            sessions: open_sessions(rt, store, count, made),
+            told: Vec::new(made.alloc()),
+        }
+    }
+
+    /// Takes the steps that the lines of a text spell, none of which has an input.
+    pub(crate) fn run_lines<R: Wait>(&mut self, rt: &R, text: &str, made: &mut Made) {
+        for text in text.lines() {
+            let words = Words { text };
+            let deed = Deed {
+                words: words.rest(1),
+                input: b"",
+            };
+            self.run(rt, words.word(0), deed, made);
+        }
+    }
+
     fn run_steps<R: Wait>(&mut self, rt: &R, checker: &mut Checker, script: &mut Script) {
         for _ in 0..script.most_steps() {
             let Some(step) = next_step(checker, script) else {
@@ -123,15 +164,6 @@ impl<N: StoreName> Room<'_, N> {
             "once" => self.take_once(rt, deed, made),
             "hold" => self.hold(rt, deed, made),
             number => self.take_one(rt, made.number(number), deed, made),
-        }
-    }
-
-    fn open<R: Wait>(&mut self, rt: &R, words: Words, made: &mut Made) {
-        let sessions = made.number_after(words, "sessions", 1);
-        for _ in 0..made.number_after(words, "open", sessions) {
-            if let Some(session) = made.done(self.store.session(rt, made.alloc())) {
-                made.keep(&mut self.sessions, session);
-            }
         }
     }
 
@@ -310,7 +342,7 @@ fn add_rows<N: StoreName, R: Wait>(
 }
 
 /// A session adds a batch so often, as long as it isn't refused.
-fn add_often<N: StoreName, R: Wait>(
+pub(crate) fn add_often<N: StoreName, R: Wait>(
     rt: &R,
     alloc: Global,
     session: &mut Session<'_, N>,

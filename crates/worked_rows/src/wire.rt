@@ -1,8 +1,11 @@
 //! The wire format.
 
+ghost use Rattle.std.specs.Prelude.{◌≡◌, ℕ, List, [], length, MatchOption};
+ghost use Rattle.pprof_wire.specs.Fields.{PlainField, SplitsIntoFields, IsRestFault};
+
 use crate::made::{Made, Wrong};
 use crate::script::Words;
-use pprof_wire::{Field, Fields, Value, packed, write_field, write_varint};
+use pprof_wire::{Field, Fields, Value, WireFault, packed, write_field, write_varint};
 
 /// `varint`, `varint at 3`: the number that the bytes spell there, and where it ends.
 pub(crate) fn read_varint(words: Words, input: &[u8], made: &mut Made) {
@@ -56,6 +59,31 @@ fn say_field(field: Field, made: &mut Made) {
             let text = made.text_of(value);
             made.say(&format_args!(" bytes {text:?}"));
         }
+    }
+}
+
+/// How many fields the bytes have, and the fault after them. What it ensures is proved of the public clauses alone.
+fn count_fields(bytes: &[u8]) -> (usize, Option<WireFault>)
+    ensures { (fields : List PlainField) × (rest : List ℕ) × SplitsIntoFields bytes.now fields rest
+        × (result.0 ≡ length fields) × MatchOption result.1 (rest ≡ []) (λ fault. IsRestFault fault rest) }
+{
+    let mut fields = Fields::new(bytes);
+    let mut count = 0;
+    while let Some(read) = fields.next_field() {
+        match read {
+            Ok(_) => count += 1,
+            Err(fault) => return (count, Some(fault)),
+        }
+    }
+    (count, None)
+}
+
+/// `count`: how many fields a message has, and the fault after them.
+pub(crate) fn count(input: &[u8], made: &mut Made) {
+    let (count, fault) = count_fields(input);
+    made.say(&count);
+    if let Some(fault) = fault {
+        made.refuse(&fault);
     }
 }
 

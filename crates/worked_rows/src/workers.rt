@@ -2,52 +2,22 @@
 
 ghost use Rattle.std.specs.Prelude.{◌≡◌};
 
+use crate::gates::{Counting, Holding, Meeting};
 use crate::journals::tell_verdict;
 use crate::made::{Made, Wrong};
 use crate::operations::op_of;
 use crate::script::Words;
 use crate::stores::blank_of;
 use profile_store::{
-    Blank, FinishedWorker, Gate, Journal, Op, SessionLog, Store, StoreName, WorkersFault, audit,
-    run_workers,
+    Blank, FinishedWorker, Gate, Journal, Op, SessionLog, Store, StoreName, Ungated, WorkersFault,
+    audit, run_workers,
 };
 use std::marker::Brand;
-use std::sync::atomic::{AtomicU64, Ordering};
-use std::sync::{Mutex, Wait};
+use std::sync::Wait;
 use std::thread::Threads;
 
-/// How often each worker called. A call is wrong where it isn't the worker's next: before its first step, after it,
-/// before its second step, and so on.
-#[derive(Drop)]
-struct Counting {
-    calls: Mutex<Vec<u64>>,
-    wrong: AtomicU64,
-}
-
-impl Counting {
-    /// A worker calls, and it should have called so often before.
-    fn count<R: Wait>(&self, rt: &R, worker: usize, before: u64) {
-        let mut calls = self.calls.lock(rt);
-        match calls.get_mut(worker) {
-            Some(calls) if *calls == before => *calls = before.wrapping_add(1),
-            _ => {
-                let _ = self.wrong.fetch_add(1, Ordering::SeqCst);
-            }
-        }
-    }
-}
-
-impl Gate for Counting {
-    fn before<R: Wait>(&self, rt: &R, worker: usize, step: usize) {
-        self.count(rt, worker, (step as u64).wrapping_mul(2));
-    }
-
-    fn after<R: Wait>(&self, rt: &R, worker: usize, step: usize) {
-        self.count(rt, worker, (step as u64).wrapping_mul(2).wrapping_add(1));
-    }
-}
-
-/// Runs a worker for each line of the input, whose operations are parted by commas.
+/// Runs a worker for each line of the input, whose operations are parted by commas. It counts how often each calls, or
+/// has another gate: `gate meeting`, `gate holding`, `gate none`.
 pub(crate) fn run_lists<R: Threads + Wait + Sync>(
     rt: &R,
     words: Words,
@@ -55,34 +25,57 @@ pub(crate) fn run_lists<R: Threads + Wait + Sync>(
     made: &mut Made,
 ) {
     let lists = lists_of(made.text_of(input), made);
-    let calls = vec![in made.alloc(); 0; lists.len()];
-    let Ok(calls) = calls else {
-        return made.fail(Wrong::NoMemory);
-    };
-    let gate = Counting {
-        calls: Mutex::new(calls),
-        wrong: AtomicU64::new(0),
-    };
-    run_counted(rt, words, lists, &gate, made);
+    match words.after("gate") {
+        Some("meeting") => run_meeting(rt, words, lists, made),
+        Some("holding") => run_gated(rt, words, lists, &Holding::new(), made),
+        Some("none") => run_gated(rt, words, lists, &Ungated, made),
+        Some(_) => made.fail(Wrong::Command),
+        None => run_counted(rt, words, lists, made),
+    }
+}
+
+fn run_meeting<R: Threads + Wait + Sync>(
+    rt: &R,
+    words: Words,
+    lists: Vec<Vec<Op>>,
+    made: &mut Made,
+) {
+    let gate = Meeting::new();
+    run_gated(rt, words, lists, &gate, made);
+    gate.tell(made);
 }
 
 fn run_counted<R: Threads + Wait + Sync>(
     rt: &R,
     words: Words,
     lists: Vec<Vec<Op>>,
-    gate: &Counting,
+    made: &mut Made,
+) {
+    match vec![in made.alloc(); 0; lists.len()] {
+        Ok(calls) => {
+            let gate = Counting::new(calls);
+            run_gated(rt, words, lists, &gate, made);
+            gate.tell(rt, made);
+        }
+        Err(_) => made.fail(Wrong::NoMemory),
+    }
+}
+
+fn run_gated<G: Gate, R: Threads + Wait + Sync>(
+    rt: &R,
+    words: Words,
+    lists: Vec<Vec<Op>>,
+    gate: &G,
     made: &mut Made,
 ) {
     match blank_of(words, made) {
-        Ok(blank) => work::<Brand, R>(rt, words, blank, lists, gate, made),
-        Err(fault) => return made.refuse(&fault),
+        Ok(blank) => work::<Brand, G, R>(rt, words, blank, lists, gate, made),
+        Err(fault) => made.refuse(&fault),
     }
-    let wrong = gate.wrong.load(Ordering::SeqCst);
-    let calls = gate.calls.lock(rt);
-    made.say(&format_args!("calls {:?}, {wrong} wrong", calls.as_slice()));
 }
 
-fn lists_of(text: &str, made: &mut Made) -> Vec<Vec<Op>> {
+/// The lists of operations in the lines of a text.
+pub(crate) fn lists_of(text: &str, made: &mut Made) -> Vec<Vec<Op>> {
     let mut lists = Vec::new(made.alloc());
     for line in text.lines() {
         let list = list_of(line, made);
@@ -109,12 +102,12 @@ fn op_in(text: &str, made: &mut Made) -> Option<Op> {
     }
 }
 
-fn work<N: StoreName, R: Threads + Wait + Sync>(
+fn work<N: StoreName, G: Gate, R: Threads + Wait + Sync>(
     rt: &R,
     words: Words,
     blank: Blank,
     lists: Vec<Vec<Op>>,
-    gate: &Counting,
+    gate: &G,
     made: &mut Made,
 )
     requires { blank
@@ -150,7 +143,8 @@ fn tell_work(
     }
 }
 
-fn logs_of(all: Vec<FinishedWorker>, made: &mut Made) -> Vec<SessionLog> {
+/// The logs of workers, of which it tells.
+pub(crate) fn logs_of(all: Vec<FinishedWorker>, made: &mut Made) -> Vec<SessionLog> {
     let mut logs = Vec::new(made.alloc());
     for one in all {
         tell_worker(&one, made);

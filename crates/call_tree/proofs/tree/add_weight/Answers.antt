@@ -1,9 +1,16 @@
 use Rattle.std.proofs.lemmas.Result.{on_ok_weaker}
 use Rattle.std.proofs.Common.{arith}
-use Rattle.shared_pages.proofs.Cloning.{on_ok_both}
+use Rattle.std.specs.Result.{OnOk}
+use Rattle.std.specs.declared.result.Result.{Result}
+use Rattle.std.specs.declared.result.Result.TheVariants.{Ok, Err}
 use Rattle.call_tree.proofs.Raising.{finished, weight_fits}
 use Rattle.call_tree.proofs.Trees.{AreTrees-raised}
 use Rattle.call_tree.proofs.tree.add_weight.Goals as goal
+
+-- what two things that a success has make together
+on_ok_both : {T E P Q S : Type 0} (r : Result T E) → (P → Q → S) → OnOk r P → OnOk r Q → OnOk r S
+on_ok_both (Ok value) f p q = f p q
+on_ok_both (Err fault) f p q = tt
 
 pub overflow_add-own : goal.overflow_add-own
 overflow_add-own c =

@@ -11,11 +11,12 @@ A place isn't listed where it hands on the callee's own by its name: an arm `Oth
 `From` of a type that says nothing else. Patterns, types, clauses and worked rows aren't listed.
 """
 import collections
-import pathlib
 import re
 import sys
 
-ROOT = pathlib.Path(__file__).resolve().parent.parent
+sys.dont_write_bytecode = True
+from libraries import OF_WORKED_ROWS, ROOT
+
 KNOWN = ROOT / "tools" / "shortages.txt"
 WANT = re.compile(r"\b(?:(?:\w+::)+(?:NoMemory|Place|Start|Version)|NoMemory|AllocError)\b|\bno_memory\(\)")
 # What a source has beside code, and code that makes no value. Clauses and declared types end at their brace.
@@ -94,7 +95,7 @@ def places_in(path):
 def sources():
     """The sources of the crates, but for those of worked rows."""
     for path in sorted((ROOT / "crates").glob("*/src/**/*.rt")):
-        if path.relative_to(ROOT / "crates").parts[0] != "worked_rows":
+        if path.relative_to(ROOT / "crates").parts[0] not in OF_WORKED_ROWS:
             yield path
 
 

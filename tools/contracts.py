@@ -15,6 +15,7 @@ import re
 import sys
 import textwrap
 
+from libraries import OF_WORKED_ROWS
 from try_planted import Edit
 
 ROOT = pathlib.Path(__file__).resolve().parent.parent
@@ -280,7 +281,7 @@ def pages():
     """All files with their texts."""
     names = re.findall(r"^(\w+):", (ROOT / "crates.txt").read_text(encoding="utf-8"), re.MULTILINE)
     made, rows = {}, []
-    for name in names:
+    for name in (name for name in names if name not in OF_WORKED_ROWS):
         text, calls, edits = page_of(ROOT / "crates" / name)
         if text:
             made[FOLDER / f"{name}.md"] = text

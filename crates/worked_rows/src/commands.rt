@@ -1,18 +1,15 @@
 //! The commands by their first words.
 
-use crate::checker::Checker;
-use crate::made::{Made, Wrong};
 use crate::program::Run;
-use crate::script::{Script, Step, Words};
 use crate::streams::Streams;
-use crate::{
-    batches, books, drafts, faults, hashes, held, items, journals, live, names, profiles, samples,
-    sources, stores, threads, trees, windows, wire, workers,
-};
+use crate::{faults, hashes, live, sources};
+use profile_steps::run_tree;
+use row_scripts::{Checker, Made, Script, Step, Words};
 use std::random::RandomSource;
 use std::sync::Wait;
 use std::thread::Threads;
 use std::time::Clock;
+use store_steps::{run_book, run_store};
 
 /// Runs the steps of a script.
 pub(crate) fn run_script<R: Threads + Wait + RandomSource + Clock + Sync>(
@@ -66,9 +63,9 @@ fn run_step<R: Threads + Wait + RandomSource + Clock + Sync>(
     step: &Step,
 ) {
     match step.words.word(0) {
-        "tree" => trees::run_scene(checker, script, step),
-        "book" => books::run_scene(checker, script, step),
-        "store" => stores::run_scene(rt, checker, script, step),
+        "tree" => run_tree(checker, script, step),
+        "book" => run_book(checker, script, step),
+        "store" => run_store(rt, checker, script, step),
         _ => {
             run_command(rt, checker, streams, step.words);
             checker.settle(step);
@@ -94,27 +91,7 @@ fn run_command<R: Threads + Wait + RandomSource + Clock + Sync>(
         "flame" | "as" | "both" | "each" | "process" | "read" => run_program(
             rt, checker, *streams, words,
         ),
-        _ => run_on_input(rt, words, input, made),
-    }
-}
-
-/// Runs a command that draws random bytes or starts threads, or else one that is a call of the library.
-fn run_on_input<R: Threads + Wait + RandomSource + Clock + Sync>(
-    rt: &R,
-    words: Words,
-    input: &[u8],
-    made: &mut Made,
-) {
-    match words.word(0) {
-        "rows" | "aggregate" | "report" => batches::run(rt, words, input, made),
-        "hashes" => hashes::compare(rt, input, made),
-        "live" => live::run_live(rt, words, input, made),
-        "workers" => workers::run_lists(rt, words, input, made),
-        "held" => held::run_held(rt, words, input, made),
-        "windows" => windows::run_windows(rt, words, input, made),
-        "threads" => threads::run_threads(rt, words, input, made),
-        "sources" => sources::fill(rt, input, made),
-        _ => run_call(words, input, made),
+        _ => run_call(rt, words, input, made),
     }
 }
 
@@ -142,28 +119,18 @@ fn run_program<R: Threads + Wait + RandomSource + Sync>(
 }
 
 /// Runs a command that is a call of the library.
-fn run_call(words: Words, input: &[u8], made: &mut Made) {
+fn run_call<R: Threads + Wait + RandomSource + Clock + Sync>(
+    rt: &R,
+    words: Words,
+    input: &[u8],
+    made: &mut Made,
+) {
     match words.word(0) {
-        "varint" => wire::read_varint(words, input, made),
-        "packed" => wire::read_packed(input, made),
-        "fields" => wire::read_fields(input, made),
-        "count" => wire::count(input, made),
-        "write" => wire::write(words, input, made),
-        "profile" | "samples" => profiles::read_profile(words, input, made),
-        "draft" => drafts::make_draft(input, made),
-        "export" => samples::export(words, input, made),
-        "exported" => samples::read_exported(words, input, made),
-        "items" => items::make_items(words, input, made),
-        "text" => items::make_text(input, made),
+        "hashes" => hashes::compare(rt, input, made),
         "memory" => faults::tell_memory(made),
         "faults" => faults::tell(words, made),
-        "name" => names::make_name(input, made),
-        "clean" => names::clean_name(input, made),
-        "stack" => names::make_stack(input, made),
-        "compare" => names::compare(input, made),
-        "width" | "columns" => names::limit(words, made),
-        "weights" => names::weights(input, made),
-        "same" => journals::compare_receipts(input, made),
-        _ => made.fail(Wrong::Command),
+        "live" => live::run_live(rt, words, input, made),
+        "sources" => sources::fill(rt, input, made),
+        _ => store_steps::run_command(rt, words, input, made),
     }
 }

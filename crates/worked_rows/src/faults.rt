@@ -1,13 +1,12 @@
 //! Faults that no input makes: how they are printed, and how the program ends by them.
 
-use crate::made::{Made, Wrong};
-use crate::script::Words;
 use flame_program::{Outcome, Status, ToolFault};
 use live_report::LiveFault;
 use profile_store::{
     AuditFault, BatchFault, BookFault, FoldedFault, MakeFault, NameFault, NoMemory, ProfileFault,
     PushFault, SessionFault, WorkersFault,
 };
+use row_scripts::{Made, Words, Wrong};
 
 /// `memory faults`: what calls answer that are out of memory.
 pub(crate) fn tell_memory(made: &mut Made) {

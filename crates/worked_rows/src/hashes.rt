@@ -1,8 +1,7 @@
 //! Where hashes begin.
 
-use crate::made::{Made, Wrong};
-use crate::script::Words;
 use profile_store::Hashing;
+use row_scripts::{Made, Words, Wrong};
 use std::hash::BuildHasher;
 use std::io;
 use std::io::ErrorKind;

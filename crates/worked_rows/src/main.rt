@@ -5,43 +5,17 @@
 //! file. The status is 1 where a step failed.
 #![tactic(auto)]
 
-mod batches;
-mod books;
-mod bytes;
-mod checker;
 mod commands;
-mod drafts;
 mod faults;
-mod gates;
 mod hashes;
-mod held;
-mod items;
-mod journals;
 mod live;
-mod made;
-mod names;
-mod operations;
-mod profiles;
 mod program;
-mod queries;
-mod reports;
-mod rows;
-mod samples;
-mod scenes;
-mod script;
 mod sources;
-mod stores;
 mod streams;
-mod threads;
-mod trees;
-mod walks;
-mod windows;
-mod wire;
-mod workers;
 
-use crate::checker::Checker;
 use crate::commands::run_script;
 use anyhow::Result;
+use row_scripts::Checker;
 use std::io::Write;
 use std::process::ExitCode;
 use std::{env, fs, io};

@@ -1,11 +1,9 @@
 //! The program `flame`: its words, its input, and how it ends.
 
-use crate::bytes::Names;
-use crate::made::{Made, Wrong};
-use crate::script::Words;
 use crate::streams::{FakeWriter, Fault, Streams, Unrandom};
 use flame_answers::{MAX_INPUT, read_input};
 use flame_program::{End, NoProgress, Status, run, run_process};
+use row_scripts::{Made, Names, Words, Wrong};
 use std::alloc::{AllocError, Global};
 use std::env::Args;
 use std::io::ErrorKind;

@@ -1,14 +1,13 @@
 //! A window that sources fill, each in a thread of its own, while a watcher asks.
 
-use crate::made::Made;
-use crate::operations::{batch_of, query_of};
-use crate::rows::{add_total, width_of};
-use crate::script::Words;
+use profile_steps::{add_total, width_of};
 use profile_store::{Answer, Batch, BookFault, Hashing, Query};
+use row_scripts::{Made, Words};
 use std::sync::atomic::{AtomicU64, Ordering};
 use std::sync::{Arc, Mutex, MutexGuard, Wait};
 use std::thread::Threads;
 use std::time::Clock;
+use store_steps::{batch_of, query_of};
 use store_window::{ClosedWindow, Slot, Source, Watcher, fill_window};
 
 /// Gives these batches, the last one first, and keeps why one was refused.

@@ -1,0 +1,304 @@
+//! Call trees that grow: the scene `tree width 1`.
+
+ghost use Rattle.std.specs.Prelude.{◌≡◌, ◌<◌, IfSome};
+
+use crate::reports::Given;
+use crate::rows;
+use call_tree::{CallTree, Grower, Plan};
+use flame_report::report;
+use profile_rows::aggregate_stacks;
+use row_scripts::{Checker, Made, Scene, Script, Step, Words, Wrong, run_steps};
+use stack_text::{
+    Batch, Hashing, NoMemory, OrderedRows, WeightedStacks, first_heavy, read_folded, write_stacks,
+};
+use std::alloc::Global;
+use std::mem;
+
+/// The plan of rows, where they have room and there is memory.
+fn plan_of(alloc: Global, grower: &mut Grower, rows: &Batch) -> Option<Plan>
+    ensures { IfSome result (λ plan. plan.before ≡ grower.new) }
+{
+    if grower.tree().width() != rows.width() {
+        return None;
+    }
+    let held = grower.tree().total();
+    if let Some(_) = first_heavy(&held, &rows.total()) {
+        return None;
+    }
+    grower.plan(alloc, rows).ok()
+}
+
+/// Adds rows at once. It gives false where it can't.
+fn add(alloc: Global, grower: &mut Grower, rows: &Batch) -> bool {
+    if grower.tree().width() != rows.width() {
+        return false;
+    }
+    let held = grower.tree().total();
+    if let Some(_) = first_heavy(&held, &rows.total()) {
+        return false;
+    }
+    grower.add(alloc, rows).is_ok()
+}
+
+/// The grower with rows added, which it takes and gives.
+fn with_rows(alloc: Global, grower: Grower, rows: &Batch) -> Option<Grower> {
+    if grower.tree().width() != rows.width() {
+        return None;
+    }
+    let held = grower.tree().total();
+    if let Some(_) = first_heavy(&held, &rows.total()) {
+        return None;
+    }
+    grower.with_batch(alloc, rows).ok()
+}
+
+/// A grower to which rows were credited.
+fn grower_of(alloc: Global, rows: &Batch) -> Option<Grower> {
+    let mut grower = Grower::new(alloc, rows.width()).ok()?;
+    let plan = plan_of(alloc, &mut grower, rows)?;
+    grower.credit(plan);
+    Some(grower)
+}
+
+/// Whether the tree of rows has these sums.
+pub(crate) fn agree_on_rows(rows: &Batch, sums: &Batch, made: &mut Made) {
+    let alloc = made.alloc();
+    match grower_of(alloc, rows) {
+        Some(grower) => made.compare("CallTree::rows", grower.tree().rows(alloc), sums),
+        None => made.fail(Wrong::Missing),
+    }
+}
+
+/// Whether the tree of rows, and a share of it, answer as the rows do.
+pub(crate) fn agree_on_report(given: &Given, made: &mut Made) {
+    match grower_of(made.alloc(), given.batch) {
+        Some(grower) => {
+            agree_on_answer(grower.tree(), given, "report", made);
+            agree_on_share(grower.tree(), given, made);
+        }
+        None => made.fail(Wrong::Missing),
+    }
+}
+
+fn agree_on_share(tree: &CallTree, given: &Given, made: &mut Made) {
+    match tree.share() {
+        Ok(share) => agree_on_answer(&share, given, "report of a share", made),
+        Err(_) => made.fail(Wrong::NoMemory),
+    }
+}
+
+fn agree_on_answer(tree: &CallTree, given: &Given, way: &str, made: &mut Made) {
+    if given.query.value >= tree.width().get() {
+        return made.fail(Wrong::Missing);
+    }
+    let answer = report(made.alloc(), tree, given.query);
+    made.compare(way, answer, given.answer);
+}
+
+/// A tree that grows, and a share of it as it was.
+#[derive(Drop)]
+struct Growing {
+    grower: Grower,
+    shared: CallTree,
+}
+
+/// `tree width 1`: an empty tree, and what the steps after it in the block make of it.
+pub fn run_scene(checker: &mut Checker, script: &mut Script, step: &Step) {
+    let growing = Growing::open(step.words, &mut checker.made);
+    checker.settle(step);
+    if let Some(growing) = growing {
+        run_growing(checker, script, growing);
+    }
+}
+
+fn run_growing(checker: &mut Checker, script: &mut Script, growing: Growing) {
+    let mut growing = growing;
+    run_steps(checker, script, &mut growing);
+}
+
+impl Scene for Growing {
+    fn run(&mut self, words: Words, input: &[u8], made: &mut Made) {
+        match words.word(0) {
+            "ask" => ask(self.tree_of(words), words, made),
+            "weigh" => weigh(self.tree_of(words), input, made),
+            "share" => self.share(made),
+            "reset" => reset(&mut self.grower, words, made),
+            _ => self.grow(words, input, made),
+        }
+    }
+}
+
+impl Growing {
+    fn open(words: Words, made: &mut Made) -> Option<Growing> {
+        let hashing = Hashing::of_key(7);
+        let grower = Grower::with_hashing(made.alloc(), hashing, rows::width_of(words, made));
+        let grower = made.done(grower)?;
+        let shared = made.done(grower.tree().share())?;
+        add_total(&shared, made);
+        Some(Growing { grower, shared })
+    }
+
+    /// The tree that a step asks: its own, or the share.
+    fn tree_of(&self, words: Words) -> &CallTree {
+        match words.after("of") {
+            Some("share") => &self.shared,
+            _ => self.grower.tree(),
+        }
+    }
+
+    fn share(&mut self, made: &mut Made) {
+        match self.grower.tree().share() {
+            Ok(shared) => self.shared = shared,
+            Err(_) => made.fail(Wrong::NoMemory),
+        }
+        add_total(&self.shared, made);
+    }
+
+    /// Adds the rows of a step: folded text where they have one value.
+    fn grow(&mut self, words: Words, input: &[u8], made: &mut Made) {
+        let width = self.shared.width();
+        if width.get() > 1 {
+            let rows = rows::batch_of(width, input, made);
+            return grow(&mut self.grower, words, &rows, made);
+        }
+        match read_folded(made.alloc(), input) {
+            Ok(rows) => grow(&mut self.grower, words, &rows, made),
+            Err(_) => made.fail(Wrong::Line),
+        }
+    }
+}
+
+/// `plan`, `plan dropped`, `add`, `give`: adds rows.
+fn grow(grower: &mut Grower, words: Words, rows: &Batch, made: &mut Made) {
+    let is_done = match words.word(0) {
+        "plan" => return plan(grower, rows, words, made),
+        "add" => add(made.alloc(), grower, rows),
+        "give" => give(made.alloc(), grower, rows),
+        _ => false,
+    };
+    if !is_done {
+        made.fail(Wrong::Command);
+    }
+    add_total(grower.tree(), made);
+}
+
+fn give(alloc: Global, grower: &mut Grower, rows: &Batch) -> bool {
+    let Ok(empty) = Grower::new(alloc, rows.width()) else {
+        return false;
+    };
+    match with_rows(alloc, mem::replace(grower, empty), rows) {
+        Some(grown) => *grower = grown,
+        None => return false,
+    }
+    true
+}
+
+/// Plans rows and credits the plan, or drops it. It tells the total that the tree would have, and the one that it has.
+fn plan(grower: &mut Grower, rows: &Batch, words: Words, made: &mut Made) {
+    match plan_of(made.alloc(), grower, rows) {
+        Some(plan) => credit(grower, plan, words, made),
+        None => made.fail(Wrong::Missing),
+    }
+}
+
+/// `reset`, `reset dropped`: the same of the empty tree.
+fn reset(grower: &mut Grower, words: Words, made: &mut Made) {
+    match grower.plan_reset(made.alloc()) {
+        Ok(plan) => credit(grower, plan, words, made),
+        Err(_) => made.fail(Wrong::NoMemory),
+    }
+}
+
+fn credit(grower: &mut Grower, plan: Plan, words: Words, made: &mut Made)
+    requires { plan.before ≡ grower.old }
+{
+    let (next, now) = (plan.next().total(), grower.tree().total());
+    made.print(&format_args!("next {:?}", next.values()));
+    made.say(&format_args!(", now {:?}", now.values()));
+    if !words.has("dropped") {
+        grower.credit(plan);
+    }
+}
+
+fn add_total(tree: &CallTree, made: &mut Made) {
+    rows::add_total(&tree.total(), made);
+}
+
+/// `weigh`, `weigh of share`: what each stack weighs alone.
+fn weigh(tree: &CallTree, stacks: &[u8], made: &mut Made) {
+    for frames in made.text_of(stacks).lines() {
+        if let Some(stack) = rows::stack_of(frames, made) {
+            made.show(&tree.self_weight(&stack).values());
+        }
+    }
+}
+
+/// `ask`, `ask of share value 1`: what a tree has of a value: its total, its stacks, and the weights of its names.
+fn ask(tree: &CallTree, words: Words, made: &mut Made) {
+    add_total(tree, made);
+    let value = made.number_after(words, "value", 0);
+    add_stacks(tree, value, made);
+    add_names(tree, value, made);
+}
+
+fn add_names(tree: &CallTree, value: u32, made: &mut Made) {
+    if value >= tree.width().get() {
+        return made.fail(Wrong::Missing);
+    }
+    let Ok(totals) = tree.frame_totals(made.alloc(), value) else {
+        return made.fail(Wrong::NoMemory);
+    };
+    for total in &totals {
+        let (name, flat, cum) = (total.name.text(), total.flat, total.cum);
+        made.say(&format_args!("{name} {flat}/{cum}"));
+    }
+}
+
+/// Adds the stacks of a value, which are the same by their texts and by the rows of the tree.
+pub fn add_stacks(tree: &CallTree, value: u32, made: &mut Made) {
+    if value >= tree.width().get() {
+        return made.fail(Wrong::Missing);
+    }
+    let by_texts = folded_by_texts(made.alloc(), tree, value);
+    match tree.weighted_stacks(made.alloc(), value) {
+        Ok(stacks) => {
+            agree_on_stacks(tree, value, &stacks, made);
+            add_written(&stacks, by_texts, made);
+        }
+        Err(_) => made.fail(Wrong::NoMemory),
+    }
+}
+
+fn add_written(stacks: &WeightedStacks, by_texts: Result<Vec<u8>, NoMemory>, made: &mut Made) {
+    let Ok(text) = write_stacks(made.alloc(), stacks) else {
+        return made.fail(Wrong::NoMemory);
+    };
+    made.add(text.as_slice());
+    made.compare("CallTree::stack_texts", by_texts, &text);
+}
+
+fn agree_on_stacks(tree: &CallTree, value: u32, stacks: &WeightedStacks, made: &mut Made) {
+    match tree.rows(made.alloc()) {
+        Ok(rows) => agree_on_sums(&rows, value, stacks, made),
+        Err(_) => made.fail(Wrong::NoMemory),
+    }
+}
+
+fn agree_on_sums(rows: &Batch, value: u32, stacks: &WeightedStacks, made: &mut Made) {
+    let alloc = made.alloc();
+    if value >= rows.width().get() {
+        return made.fail(Wrong::Missing);
+    }
+    match rows.weighted_stacks(alloc, value) {
+        Ok(rows) => made.compare("CallTree::rows", aggregate_stacks(alloc, rows), stacks),
+        Err(_) => made.fail(Wrong::NoMemory),
+    }
+}
+
+fn folded_by_texts(alloc: Global, tree: &CallTree, value: u32) -> Result<Vec<u8>, NoMemory>
+    requires { value < tree.now.width }
+{
+    let texts = tree.stack_texts(alloc, value)?;
+    let rows = OrderedRows::of_texts(alloc, texts.as_slice())?;
+    rows.write(alloc)
+}

@@ -13,7 +13,8 @@ use crate::top::top_list;
 use basics::Items;
 use call_tree::CallTree;
 use folded_text::OrderedRows;
-use profile_rows::{Batch, FrameTotals, Hashing, NoMemory, WeightedStacks, kept_totals};
+use name_counts::kept_totals;
+use profile_rows::{Batch, FrameTotals, Hashing, NoMemory, WeightedStacks};
 use std::alloc::Global;
 
 /// The rows that a query keeps.

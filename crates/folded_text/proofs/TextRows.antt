@@ -23,8 +23,8 @@ use Rattle.profile_rows.specs.Rows.{is_kept, kept_rows, stack_cmp, total_of}
 use Rattle.profile_rows.proofs.InOrder.{rows_of-aggregate}
 use Rattle.profile_rows.proofs.MergedRows.{AddsRow-added}
 use Rattle.profile_rows.proofs.Kept.{weight_where-kept-le}
-use Rattle.profile_rows.proofs.TextNumbers.{none_at_end, text_of_number}
-use Rattle.profile_rows.specs.TextTables.{number_in, with_text}
+use Rattle.name_counts.proofs.TextNumbers.{none_at_end, text_of_number}
+use Rattle.name_counts.specs.TextTables.{number_in, with_text}
 use Rattle.profile_rows.proofs.RowLaws.{aggregate_of-same, stack_cmp_apart, stack_cmp_total}
 use Rattle.profile_rows.proofs.SameNames.{is_same_name-self, same_from_is_same_name}
 use Rattle.folded_text.specs.FoldedText.{frames_of, rows_text}

@@ -1,11 +1,11 @@
 -- What the rows of a text add up to.
 use Rattle.std.specs.Prelude.{ℕ, ◌≡◌, List, [], Option, Some, None}
 use Rattle.profile_rows.specs.declared.weighted_stacks.WeightedStack.{WeightedStack}
-use Rattle.profile_rows.specs.declared.frame_totals.CountedRows.{CountedRows}
+use Rattle.name_counts.specs.declared.counted_rows.CountedRows.{CountedRows}
 use Rattle.profile_rows.specs.declared.frame_totals.FrameTotals.{FrameTotals}
 use Rattle.profile_rows.specs.TopList.{AreTotalsOf}
 use Rattle.profile_rows.specs.Aggregate.{aggregate_of}
-use Rattle.profile_rows.specs.Tallies.{HasCounted}
+use Rattle.name_counts.specs.Tallies.{HasCounted}
 use Rattle.folded_text.specs.FoldedText.{IsFoldedText}
 use Rattle.profile_rows.specs.StackTexts.{TextState}
 use Rattle.folded_text.specs.TextRows.{spelled_rows}

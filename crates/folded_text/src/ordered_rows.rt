@@ -19,10 +19,8 @@ use crate::text_rows::{TextRows, read_text_rows, stacks_of_texts};
 use crate::text_stacks::TextStacks;
 use crate::written::write_stacks;
 use basics::NoMemory;
-use profile_rows::{
-    FrameTotals, Hashing, Name, StackText, WeightedStacks, aggregate_stacks, kept_totals,
-    replace_by_names,
-};
+use name_counts::{kept_totals, replace_by_names};
+use profile_rows::{FrameTotals, Hashing, Name, StackText, WeightedStacks, aggregate_stacks};
 use std::alloc::Global;
 use std::marker::Model;
 

@@ -16,7 +16,8 @@ use crate::stack_frames::{measured, replace_by_text};
 use crate::taking::{LineTaker, take_lines};
 use crate::text_row::TextRow;
 use basics::NoMemory;
-use profile_rows::{Hashing, MAX_TOTAL, TextTable, WeightedStacks};
+use name_counts::TextTable;
+use profile_rows::{Hashing, MAX_TOTAL, WeightedStacks};
 use std::alloc::Global;
 use std::marker::Model;
 

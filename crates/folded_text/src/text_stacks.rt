@@ -14,7 +14,8 @@ use crate::text_row::TextRow;
 use crate::text_totals::count_rows;
 use basics::NoMemory;
 use itoa::Buffer;
-use profile_rows::{CountedRows, FrameTotals, Hashing, Name, StackText};
+use name_counts::CountedRows;
+use profile_rows::{FrameTotals, Hashing, Name, StackText};
 use std::alloc::Global;
 use std::marker::Model;
 

@@ -4,7 +4,7 @@ ghost use Rattle.std.specs.Prelude.{◌≡◌, ◌≢◌, ◌+◌, ◌^◌, ◌<
 ghost use Rattle.profile_rows.specs.declared.weighted_stacks.WeightedStack.{WeightedStack};
 ghost use Rattle.profile_rows.specs.Merging.{AreMergedSoFar};
 ghost use Rattle.profile_rows.specs.Rows.{total_of};
-ghost use Rattle.profile_rows.specs.Tallies.{HasCounted};
+ghost use Rattle.name_counts.specs.Tallies.{HasCounted};
 ghost use Rattle.profile_rows.specs.TopList.{AreTotalsOf};
 ghost use Rattle.folded_text.specs.FoldedText.{IsFoldedText, IsLineFault, IsRowLine, IsWorkFault};
 ghost use Rattle.folded_text.specs.TextRows.{IsStackText, spelled_rows};
@@ -16,7 +16,8 @@ use crate::taking::{LineTaker, take_lines};
 use crate::text_row::TextRow;
 use crate::text_rows::TextRows;
 use basics::NoMemory;
-use profile_rows::{CountedRows, FrameTotals, Hashing};
+use name_counts::CountedRows;
+use profile_rows::{FrameTotals, Hashing};
 use std::alloc::Global;
 
 /// Counts the row that a line spells, where it spells one that can follow the others. Its frames take the place of

@@ -24,7 +24,7 @@ use Rattle.profile_rows.proofs.EntryLaws.{nothing, weight_where-same, weight_whe
 use Rattle.profile_rows.proofs.Kept.{weight_where-kept}
 use Rattle.profile_rows.proofs.Members.{in_order-same}
 use Rattle.profile_rows.proofs.Ranking.{top_list_of-same}
-use Rattle.profile_rows.proofs.TextNumbers.{list_any-map}
+use Rattle.profile_rows.proofs.Members.{list_any-map}
 
 -- the rows of the aggregate add up to it again
 pub aggregate_of-rows_of : (rows : List WeightedStack) → aggregate_of (rows_of (aggregate_of rows)) ≡ aggregate_of rows

@@ -1,7 +1,6 @@
 pub mod AnswerLaws
 pub mod BatchRows
 pub mod Cleaning
-pub mod CommonPrefix
 pub mod EntryLaws
 pub mod EqualRows
 pub mod FourValues
@@ -16,12 +15,8 @@ pub mod RowLaws
 pub mod RowValues
 pub mod SameNames
 pub mod StackLaws
-pub mod NumberedRows
 pub mod PuttingTogether
-pub mod TallyLaws
-pub mod TextNumbers
 pub mod UniqueRows
-pub mod Weighted
 pub mod WorkedAggregate
 pub mod WorkedRows
 pub mod Steps

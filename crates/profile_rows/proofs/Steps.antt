@@ -1,6 +1,6 @@
 -- The lemmas by which the prover finds the proofs of a module's functions by itself.
 use Rattle.std.proofs.lemmas.Grind.{common_steps}
-use Rattle.std.proofs.lemmas.List.{length-map, length_push, take_all}
+use Rattle.std.proofs.lemmas.List.{length_push, take_all}
 use Rattle.profile_rows.proofs.AnswerLaws.{aggregate_of-parts, aggregate_of-rows_of, kept_rows-same}
 use Rattle.profile_rows.proofs.AnswerLaws.{rectangles_of-same, top_list_of-same_aggregate}
 use Rattle.profile_rows.proofs.Cleaning.{IsName-cleaned, IsUtf8-cleaned, cleaned-name, cleaned_name_of-some, filled}
@@ -10,7 +10,6 @@ use Rattle.profile_rows.proofs.OwnedRows.{taken-step}
 use Rattle.profile_rows.proofs.RowLaws.{aggregate_of-same, with_rows-append}
 use Rattle.profile_rows.proofs.RowValues.{length-with_values, row_with, rows_at-with_values, seen-length}
 use Rattle.profile_rows.proofs.RowValues.{seen-row, single-AreParts, with_values-single}
-use Rattle.profile_rows.proofs.TextNumbers.{number_in-le, number_in-with, with_text-there}
 
 pub ruleset laws = (
   common_steps,
@@ -41,5 +40,3 @@ pub ruleset batch = (
 pub ruleset values = (common_steps, value_of-sums)
 
 pub ruleset name = (common_steps, IsName-cleaned, IsUtf8-cleaned, cleaned-name, cleaned_name_of-some, filled, take_all)
-
-pub ruleset text_table = (common_steps, length-map, number_in-le, number_in-with, with_text-there)

@@ -5,7 +5,6 @@ pub mod Layout
 pub mod LentRows
 pub mod LentStacks
 pub mod Names
-pub mod NumberedRows
 pub mod Order
 pub mod OwnedRows
 pub mod Paths
@@ -13,7 +12,5 @@ pub mod Pushing
 pub mod Rows
 pub mod StackTexts
 pub mod Merging
-pub mod Tallies
-pub mod TextTables
 pub mod TopList
 pub mod Values

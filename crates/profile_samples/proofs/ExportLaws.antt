@@ -14,18 +14,19 @@ use Rattle.pprof_profile.specs.Valid.{IsValidDraft, begins_with_empty, each_has_
 use Rattle.pprof_profile.specs.Valid.{is_index, is_known, is_nonempty, is_none_or, names_functions, names_locations}
 use Rattle.pprof_profile.specs.Valid.{sample_indexes, value_type_indexes}
 use Rattle.profile_rows.specs.Names.{IsName, is_same_name}
-use Rattle.profile_rows.specs.Tallies.{AreSingle}
+use Rattle.name_counts.specs.Tallies.{AreSingle}
 use Rattle.profile_rows.specs.Values.{Row, value_of}
 use Rattle.profile_samples.specs.Batches.{AreRowsOfSamples}
 use Rattle.profile_samples.specs.Samples.{IsRowOfSample, frames_of_id, item_with}
-use Rattle.profile_rows.specs.TextTables.{number_in, with_text, with_texts}
+use Rattle.name_counts.specs.TextTables.{number_in, with_text, with_texts}
 use Rattle.profile_samples.specs.Export.{KindAndUnit, exported_function, exported_location, exported_profile_of}
 use Rattle.profile_samples.specs.Export.{exported_sample, exported_type, id_in, names_of, profile_with}
 use Rattle.profile_samples.specs.Export.{strings_of, unit_texts}
 use Rattle.profile_rows.proofs.Cleaning.{cleaned-name}
-use Rattle.profile_rows.proofs.NumberedRows.{none_single, single_with}
+use Rattle.name_counts.proofs.NumberedRows.{none_single, single_with}
 use Rattle.profile_rows.proofs.SameNames.{same_from_is_same_name, is_same_name-self}
-use Rattle.profile_rows.proofs.TextNumbers.{any_push, list_any-map, number_in-lt, text_of_number}
+use Rattle.profile_rows.proofs.Members.{list_any-map}
+use Rattle.name_counts.proofs.TextNumbers.{any_push, number_in-lt, text_of_number}
 use Rattle.pprof_profile.specs.declared.messages.Function.{Function}
 use Rattle.pprof_profile.specs.declared.messages.Location.{Location}
 

@@ -14,13 +14,13 @@ use Rattle.profile_rows.specs.Values.{Row, rows_at, single, singles}
 use Rattle.folded_text.specs.declared.folded.FoldedFault.{FoldedFault}
 use Rattle.folded_text.specs.declared.folded.FoldedFault.TheVariants.{NoMemory}
 use Rattle.folded_text.specs.FoldedText.{IsFoldedText, IsWorkFault}
-use Rattle.profile_rows.specs.TextTables.{with_text, with_texts}
+use Rattle.name_counts.specs.TextTables.{with_text, with_texts}
 use Rattle.profile_samples.specs.Export.{AreSamplesOf, IsExportOfText, single_profile_of, exported_sample, id_in}
 use Rattle.profile_samples.specs.Export.{names_of}
 use Rattle.profile_samples.proofs.ExportLaws.{AllStand, frames_in, stand_parts, stand_where, with_text-stands}
 use Rattle.profile_samples.proofs.ExportLaws.{with_texts-own}
 use Rattle.folded_text.proofs.Reading.{IsFirstFault-folded, IsFoldedText-same}
-use Rattle.profile_rows.proofs.TextNumbers.{number_in-kept, with_texts-append}
+use Rattle.name_counts.proofs.TextNumbers.{number_in-kept, with_texts-append}
 
 ids_kept : (texts : List (List ℕ)) (text : List ℕ) (stack : List (List ℕ))
     → AllStand texts stack → map (id_in (with_text texts text)) stack ≡ map (id_in texts) stack

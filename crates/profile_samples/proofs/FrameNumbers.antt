@@ -28,9 +28,9 @@ use Rattle.profile_rows.proofs.SameNames.{is_same_name-self}
 use Rattle.profile_samples.specs.Samples.{address_name, first_name, frames_at, frames_from, frames_of_id, frames_of_ids}
 use Rattle.profile_samples.specs.Samples.{function_name, item_with, line_name, location_frames, named_by}
 use Rattle.profile_samples.specs.Samples.{sample_stack_of, string_at}
-use Rattle.profile_rows.specs.Tallies.{AreSingle, has_number}
-use Rattle.profile_rows.specs.TextTables.{names_at, number_in, with_text, with_texts}
-use Rattle.profile_rows.proofs.TallyLaws.{has_number-push}
+use Rattle.name_counts.specs.Tallies.{AreSingle, has_number}
+use Rattle.name_counts.specs.TextTables.{names_at, number_in, with_text, with_texts}
+use Rattle.name_counts.proofs.TallyLaws.{has_number-push}
 use Rattle.profile_samples.specs.NameNumbers.{AreFrameNumbers, AreFunctionNumbers, address_names, address_of}
 use Rattle.profile_samples.specs.NameNumbers.{frame_names, is_name_of, lacks_name, names_function, needs_address}
 use Rattle.profile_samples.specs.NameNumbers.{string_names_from, given, number_at, number_by, number_of}
@@ -38,8 +38,9 @@ use Rattle.profile_samples.specs.NameNumbers.{numbers_of, numbers_of_id, once_of
 use Rattle.profile_samples.specs.NameNumbers.{with_number, with_numbers}
 use Rattle.profile_samples.proofs.ExportLaws.{AllStand, stands_in}
 use Rattle.profile_samples.proofs.ExportLaws.{with_text-own, with_text-stands, with_texts-own, with_texts-stands}
-use Rattle.profile_rows.proofs.NumberedRows.{none_single, single_with}
-use Rattle.profile_rows.proofs.TextNumbers.{number_in-kept, number_in-with, with_texts-append, list_any-map, number_in-lt, text_of_number}
+use Rattle.name_counts.proofs.NumberedRows.{none_single, single_with}
+use Rattle.profile_rows.proofs.Members.{list_any-map}
+use Rattle.name_counts.proofs.TextNumbers.{number_in-kept, number_in-with, with_texts-append, number_in-lt, text_of_number}
 use Rattle.profile_samples.proofs.ItemsById.{IsName-address, item_with-all, item_with-found}
 
 -- ---- numbers of strings and functions

@@ -20,7 +20,7 @@ use Rattle.profile_samples.specs.CountedSamples.{AreTotalsOfSamples}
 use Rattle.profile_samples.specs.MergedSamples.{AreRowsAt, IsMergedBatch}
 use Rattle.profile_samples.specs.Samples.{sample_stack_of}
 use Rattle.profile_rows.specs.Merging.{IsStackAt, with_added_at}
-use Rattle.profile_rows.proofs.TextNumbers.{no_text, position_found, shown_at, text_of_number}
+use Rattle.name_counts.proofs.TextNumbers.{no_text, position_found, shown_at, text_of_number}
 use Rattle.profile_samples.proofs.SampleBatches.{AreStacksOf-same, IsFirstFault-batch}
 
 -- a profile that gives rows of one value has no first fault but `NoMemory`

@@ -8,9 +8,9 @@ use Rattle.std.proofs.lemmas.List.Elements.{All-append, All-map, All-weaker, All
 use Rattle.pprof_profile.specs.declared.messages.Draft.{Draft}
 use Rattle.profile_rows.specs.Names.{IsName, is_same_name}
 use Rattle.profile_rows.specs.Rows.{has_name}
-use Rattle.profile_rows.specs.Tallies.{IsNumberedStack}
-use Rattle.profile_rows.specs.TextTables.{names_at}
-use Rattle.profile_rows.proofs.TallyLaws.{named_in}
+use Rattle.name_counts.specs.Tallies.{IsNumberedStack}
+use Rattle.name_counts.specs.TextTables.{names_at}
+use Rattle.name_counts.proofs.TallyLaws.{named_in}
 use Rattle.profile_samples.specs.Samples.{frames_of_id, frames_of_ids, sample_stack_of}
 use Rattle.profile_samples.specs.NameNumbers.{frame_names, once_of}
 use Rattle.profile_samples.specs.CountedSamples.{AreNumbersOfIds}

@@ -4,7 +4,7 @@ use Rattle.pprof_profile.specs.declared.messages.Draft.{Draft}
 use Rattle.profile_rows.specs.declared.frame_totals.FrameTotals.{FrameTotals}
 use Rattle.profile_rows.specs.declared.weighted_stacks.WeightedStack.{WeightedStack}
 use Rattle.profile_rows.specs.Rows.{has_name}
-use Rattle.profile_rows.specs.TextTables.{names_at}
+use Rattle.name_counts.specs.TextTables.{names_at}
 use Rattle.profile_rows.specs.TopList.{AreTotalsOf}
 use Rattle.profile_samples.specs.declared.sampling.ValueChoice.{ValueChoice}
 use Rattle.profile_samples.specs.NameNumbers.{frame_names}

@@ -15,7 +15,7 @@ use Rattle.folded_text.specs.FoldedText.{IsFoldedText}
 use Rattle.profile_rows.specs.Rows.{total_of}
 use Rattle.profile_rows.specs.Values.{Row, singles}
 use Rattle.profile_samples.specs.declared.exporting.ValueUnit.{ValueUnit}
-use Rattle.profile_rows.specs.TextTables.{number_in, with_texts}
+use Rattle.name_counts.specs.TextTables.{number_in, with_texts}
 
 -- the kind and the unit of a value
 abbrev pub KindAndUnit : Type 0

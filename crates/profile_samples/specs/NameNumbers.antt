@@ -11,8 +11,8 @@ use Rattle.pprof_profile.specs.Valid.{function_ids, has_double, location_ids}
 use Rattle.profile_rows.specs.Names.{IsName, cleaned_name_of}
 use Rattle.profile_samples.specs.Samples.{address_name, function_name, item_with, location_frames}
 use Rattle.profile_samples.specs.Samples.{named_by}
-use Rattle.profile_rows.specs.Tallies.{has_number}
-use Rattle.profile_rows.specs.TextTables.{number_in, with_texts}
+use Rattle.name_counts.specs.Tallies.{has_number}
+use Rattle.name_counts.specs.TextTables.{number_in, with_texts}
 
 -- ---- numbers of names
 

@@ -3,7 +3,7 @@
 ghost use Rattle.std.specs.Prelude.{◌≡◌, ◌≢◌, ◌⊎◌, ◌<◌, [], All, List, IfOk, MatchResult, OnOk, Some, length, map};
 ghost use Rattle.profile_rows.specs.declared.weighted_stacks.WeightedStack.{WeightedStack};
 ghost use Rattle.profile_rows.specs.Names.{IsName};
-ghost use Rattle.profile_rows.specs.Tallies.{AreTalliesOf};
+ghost use Rattle.name_counts.specs.Tallies.{AreTalliesOf};
 ghost use Rattle.profile_rows.specs.TopList.{AreTotalsOf};
 ghost use Rattle.profile_samples.specs.declared.sampling.BatchFault.{BatchFault};
 ghost use Rattle.profile_samples.specs.declared.sampling.ValueChoice.{ValueChoice};
@@ -16,7 +16,8 @@ use crate::name_numbers::NumberedFrames;
 use crate::sampling::{BatchFault, ValueChoice, chosen_value, sample_weight};
 use crate::unfolding::push_numbers;
 use pprof_profile::Profile;
-use profile_rows::{FrameTotals, Hashing, Name, Tallies};
+use name_counts::Tallies;
+use profile_rows::{FrameTotals, Hashing, Name};
 use std::alloc::{AllocError, Global};
 
 /// Puts the numbers of the names of these locations into a list, those of each location once. They are gathered before

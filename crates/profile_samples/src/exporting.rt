@@ -5,14 +5,15 @@ ghost use Rattle.std.specs.List.{flat_map};
 ghost use Rattle.profile_rows.specs.Names.{IsName};
 ghost use Rattle.profile_samples.specs.Export.{draft_with, exported_draft, exported_function, exported_location, exported_profile_of, exported_sample, exported_type, id_in, pairs_of, profile_with, strings_of, unit_texts};
 ghost use Rattle.profile_samples.specs.Batches.{IsBatchOf};
-ghost use Rattle.profile_rows.specs.TextTables.{with_texts};
+ghost use Rattle.name_counts.specs.TextTables.{with_texts};
 ghost use Rattle.profile_samples.specs.declared.sampling.ValueChoice.TheVariants as choices;
 
 use basics::NoMemory;
 use pprof_profile::{
     Draft, Function, Items, Line, Location, Profile, Sample, Samples, Text, ValueType, check,
 };
-use profile_rows::{Batch, Hashing, Name, Row, TextTable, WeightedStack, Weights};
+use name_counts::TextTable;
+use profile_rows::{Batch, Hashing, Name, Row, WeightedStack, Weights};
 use std::alloc::Global;
 
 /// What a value counts, and in which unit: as `cpu` and `nanoseconds`.

@@ -11,7 +11,8 @@ use crate::exporting::{ValueUnit, exported_draft};
 use basics::NoMemory;
 use folded_text::{FoldedFault, LineTaker, read_frames, take_lines};
 use pprof_profile::{WrittenSamples, encode_around};
-use profile_rows::{Hashing, NumberedRow};
+use name_counts::NumberedRow;
+use profile_rows::Hashing;
 use std::alloc::Global;
 
 /// Rows as the samples of the profile that they are exported as: written when they come, their names numbered as they

@@ -6,7 +6,7 @@ ghost use Rattle.std.specs.Option.{option_map};
 ghost use Rattle.pprof_profile.specs.Valid.{IsValidDraft, location_ids};
 ghost use Rattle.profile_rows.specs.Names.{IsName};
 ghost use Rattle.profile_samples.specs.Samples.{frames_of_ids, sample_stack_of};
-ghost use Rattle.profile_rows.specs.TextTables.{with_texts};
+ghost use Rattle.name_counts.specs.TextTables.{with_texts};
 ghost use Rattle.profile_samples.specs.NameNumbers.{address_names, frame_names, given, numbers_of, numbers_of_id, once_of};
 
 use crate::frame_lists::FrameLists;

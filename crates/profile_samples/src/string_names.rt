@@ -3,7 +3,7 @@
 ghost use Rattle.std.specs.Prelude.{ℕ, ◌≡◌, ◌<◌, ◌||◌, All, IfOk, List, OnOk, [], ◌∷◌, false, length, slice_index_or};
 ghost use Rattle.std.specs.Option.{option_map};
 ghost use Rattle.profile_rows.specs.Names.{IsName};
-ghost use Rattle.profile_rows.specs.TextTables.{number_in, with_texts};
+ghost use Rattle.name_counts.specs.TextTables.{number_in, with_texts};
 ghost use Rattle.profile_samples.specs.Samples.{string_at};
 ghost use Rattle.profile_samples.specs.NameNumbers.{address_names, frame_names, given, index_in, is_at, names_function, string_numbers};
 

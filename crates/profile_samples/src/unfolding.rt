@@ -1,7 +1,7 @@
 //! The frames of samples by their names.
 
 ghost use Rattle.std.specs.Prelude.{◌≡◌, ◌<◌, ◌≤◌, ◌++◌, All, IfOk, OnOk, length};
-ghost use Rattle.profile_rows.specs.TextTables.{names_at};
+ghost use Rattle.name_counts.specs.TextTables.{names_at};
 ghost use Rattle.profile_samples.specs.NameNumbers.{frame_names};
 ghost use Rattle.profile_samples.specs.Samples.{frames_of_ids, frames_of_sample, sample_stack_of};
 

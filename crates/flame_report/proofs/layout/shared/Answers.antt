@@ -2,13 +2,13 @@
 use Rattle.std.proofs.Common.{◌≡◌, sym, arith, ◌∙◌, ℕ, Bool, List, get_or}
 use Rattle.std.specs.Str.{bytes_eq}
 use denote.Ref.{Bor}
-use Rattle.profile_rows.proofs.TextNumbers.{no_text}
+use Rattle.name_counts.proofs.TextNumbers.{no_text}
 use Rattle.std.specs.Ordering.{eq_by_cmp}
 use Rattle.std.specs.Cmp.Lexicographic.{texts_ties}
 use Rattle.std.proofs.lemmas.List.Sums.{common_prefix_len-drop_yes, common_prefix_len-drop_no}
 use Rattle.std.proofs.lemmas.Bool.{not-false, not-true}
 use Rattle.profile_rows.specs.Names.{name_cmp}
-use Rattle.profile_rows.proofs.CommonPrefix.{nothing_shared}
+use Rattle.name_counts.proofs.CommonPrefix.{nothing_shared}
 use Rattle.flame_report.proofs.layout.shared.Goals as goal
 use Rattle.flame_report.proofs.layout.shared.Goals.{then-at-frames-via-then-at-frames}
 use Rattle.flame_report.proofs.layout.shared.Goals.{then-at-frames-via-else-at-frames+then-ne}

@@ -1,5 +1,5 @@
 use Rattle.std.proofs.Common.{take}
-use Rattle.profile_rows.specs.Tallies.{HasCounted}
+use Rattle.name_counts.specs.Tallies.{HasCounted}
 use Rattle.folded_text.specs.TextRows.{spelled_rows}
 use Rattle.folded_text.proofs.text_totals.count_rows.Given as goal
 

@@ -1,6 +1,6 @@
 use Rattle.std.proofs.Common.{List}
 use Rattle.profile_rows.specs.declared.weighted_stacks.WeightedStack.{WeightedStack}
-use Rattle.profile_rows.specs.Tallies.{AreTalliesOf}
+use Rattle.name_counts.specs.Tallies.{AreTalliesOf}
 use Rattle.profile_samples.specs.NameNumbers.{frame_names}
 use Rattle.profile_samples.proofs.SampleBatches.{AreStacksSoFar}
 use Rattle.profile_samples.proofs.counted_samples.totals_by.Given as goal

@@ -3,8 +3,8 @@ use Rattle.std.proofs.Common.{◌++◌, ◌∷◌, [], ap, sym, ◌∙◌, subst
 use Rattle.std.proofs.lemmas.List.{take_more}
 use Rattle.std.proofs.lemmas.List.Elements.{All-more}
 use Rattle.profile_rows.specs.Names.{IsName}
-use Rattle.profile_rows.specs.TextTables.{with_text}
-use Rattle.profile_rows.proofs.TextNumbers.{next_with}
+use Rattle.name_counts.specs.TextTables.{with_text}
+use Rattle.name_counts.proofs.TextNumbers.{next_with}
 use Rattle.profile_samples.proofs.exporting.add_names.Goals as goal
 
 pub loop-name-preserved : goal.loop-name-preserved

@@ -1,6 +1,6 @@
 use Rattle.std.proofs.Common.{◌≡◌, All, take}
 use Rattle.profile_rows.specs.Names.{IsName}
-use Rattle.profile_rows.specs.TextTables.{with_texts}
+use Rattle.name_counts.specs.TextTables.{with_texts}
 use Rattle.profile_samples.proofs.exporting.add_names.Given as goal
 
 -- the names so far are in the table, and can be names

@@ -1,6 +1,6 @@
 use Rattle.std.proofs.Common.{◌≡◌, take}
 use Rattle.profile_samples.specs.Export.{pairs_of, unit_texts}
-use Rattle.profile_rows.specs.TextTables.{with_texts}
+use Rattle.name_counts.specs.TextTables.{with_texts}
 use Rattle.profile_samples.proofs.exporting.add_units.Given as goal
 
 -- the table with the kinds and units so far

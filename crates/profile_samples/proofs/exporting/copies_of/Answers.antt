@@ -1,7 +1,7 @@
 -- The next text is copied.
 use Rattle.std.proofs.lemmas.Grind.{common_steps}
 use Rattle.std.proofs.Common.{arith}
-use Rattle.profile_rows.proofs.TextNumbers.{next_text}
+use Rattle.name_counts.proofs.TextNumbers.{next_text}
 use Rattle.profile_samples.proofs.exporting.copies_of.Goals as goal
 
 pub loop-text-preserved : goal.loop-text-preserved

@@ -3,7 +3,7 @@ use Rattle.std.proofs.Common.{ap, ◌∙◌, take, pos}
 use Rattle.std.specs.Int.{w64}
 use Rattle.std.proofs.lemmas.Int.{to_z_pos}
 use Rattle.profile_samples.specs.Export.{exported_function}
-use Rattle.profile_rows.proofs.TextNumbers.{next_pushed, next_text}
+use Rattle.name_counts.proofs.TextNumbers.{next_pushed, next_text}
 use Rattle.profile_samples.proofs.exporting.functions_of.Goals as goal
 
 pub loop-name-preserved : goal.loop-name-preserved

@@ -2,7 +2,7 @@
 use Rattle.std.proofs.Common.{ap, ◌∙◌, take, false, ℕ, List, [], ◌∷◌, pos}
 use Rattle.pprof_profile.specs.declared.messages.Line.{Line}
 use Rattle.profile_samples.specs.Export.{exported_location}
-use Rattle.profile_rows.proofs.TextNumbers.{next_pushed, next_text}
+use Rattle.name_counts.proofs.TextNumbers.{next_pushed, next_text}
 use Rattle.profile_samples.proofs.exporting.locations_of.Goals as goal
 
 abbrev line_of : ℕ → List Line

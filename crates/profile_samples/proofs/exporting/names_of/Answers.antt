@@ -5,7 +5,7 @@ use Rattle.std.proofs.lemmas.List.{take_more}
 use Rattle.std.proofs.lemmas.List.Elements.{All-more}
 use Rattle.profile_rows.specs.declared.weighted_stacks.WeightedStack.{WeightedStack}
 use Rattle.profile_rows.specs.Names.{IsName}
-use Rattle.profile_rows.proofs.TextNumbers.{with_texts-append}
+use Rattle.name_counts.proofs.TextNumbers.{with_texts-append}
 use Rattle.profile_samples.proofs.exporting.names_of.Goals as goal
 
 pub loop-row-preserved : goal.loop-row-preserved

@@ -2,7 +2,7 @@ use Rattle.std.proofs.Common.{◌≡◌, ◌≤◌, [], All, length, take}
 use Rattle.std.specs.List.{flat_map}
 use Rattle.profile_rows.specs.declared.weighted_stacks.WeightedStack.{WeightedStack}
 use Rattle.profile_rows.specs.Names.{IsName}
-use Rattle.profile_rows.specs.TextTables.{with_texts}
+use Rattle.name_counts.specs.TextTables.{with_texts}
 use Rattle.profile_samples.proofs.exporting.names_of.Given as goal
 
 -- the names of the rows so far, whose stacks a batch can hold

@@ -2,7 +2,7 @@
 use Rattle.std.proofs.Common.{◌≡◌, refl, [], ap, ◌∙◌}
 use Rattle.std.proofs.lemmas.List.{length-map}
 use Rattle.profile_samples.specs.Export.{exported_profile_of, names_of, pair_of, pairs_of}
-use Rattle.profile_rows.specs.TextTables.{with_texts}
+use Rattle.name_counts.specs.TextTables.{with_texts}
 use Rattle.profile_samples.proofs.ExportedBatches.{export_batch, export_one}
 use Rattle.profile_samples.proofs.ExportedRows.{stacks_first}
 use Rattle.profile_samples.proofs.exporting.profile_of.Goals as goal

@@ -2,7 +2,7 @@
 use Rattle.std.proofs.lemmas.Grind.{common_steps}
 use Rattle.std.proofs.Common.{arith, take}
 use Rattle.std.proofs.lemmas.List.{length-map, take_all}
-use Rattle.profile_rows.proofs.TextNumbers.{next_text, next_with, with_texts-append}
+use Rattle.name_counts.proofs.TextNumbers.{next_text, next_with, with_texts-append}
 use Rattle.profile_samples.proofs.exporting.strings_of.Goals as goal
 
 pub loop-name-preserved : goal.loop-name-preserved

@@ -1,5 +1,5 @@
 use Rattle.std.proofs.Common.{◌≡◌, take}
-use Rattle.profile_rows.specs.TextTables.{with_texts}
+use Rattle.name_counts.specs.TextTables.{with_texts}
 use Rattle.profile_samples.proofs.exporting.strings_of.Given as goal
 
 -- the strings with the names so far

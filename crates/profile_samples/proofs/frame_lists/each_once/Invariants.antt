@@ -1,6 +1,6 @@
 use Rattle.std.proofs.Common.{◌≡◌, ◌≤◌, ℕ, All, length, take, get_or, eqb}
 use Rattle.profile_samples.specs.NameNumbers.{once_of}
-use Rattle.profile_rows.specs.Tallies.{has_number}
+use Rattle.name_counts.specs.Tallies.{has_number}
 use Rattle.profile_samples.proofs.frame_lists.each_once.Given as goal
 
 -- the numbers so far, each once, are those that are marked

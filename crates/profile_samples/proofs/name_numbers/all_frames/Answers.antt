@@ -6,7 +6,7 @@ use Rattle.std.proofs.lemmas.List.{drop_more}
 use Rattle.pprof_profile.specs.declared.messages.Draft.{Draft}
 use Rattle.pprof_profile.specs.declared.messages.Location.{Location}
 use Rattle.profile_rows.specs.Names.{IsName}
-use Rattle.profile_rows.specs.TextTables.{number_in, with_texts}
+use Rattle.name_counts.specs.TextTables.{number_in, with_texts}
 use Rattle.profile_samples.specs.NameNumbers.{address_of, frame_names, given, number_of}
 use Rattle.profile_samples.proofs.FrameNumbers.{name_put, named_address, number_kept, texts_all}
 use Rattle.profile_samples.proofs.name_numbers.all_frames.Goals as goal

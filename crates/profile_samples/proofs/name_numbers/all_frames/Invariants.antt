@@ -1,6 +1,6 @@
 use Rattle.std.proofs.Common.{◌≡◌, All, drop, map, take}
 use Rattle.profile_rows.specs.Names.{IsName}
-use Rattle.profile_rows.specs.TextTables.{with_texts}
+use Rattle.name_counts.specs.TextTables.{with_texts}
 use Rattle.profile_samples.specs.NameNumbers.{address_of, frame_names, given, numbers_of}
 use Rattle.profile_samples.proofs.name_numbers.all_frames.Given as goal
 

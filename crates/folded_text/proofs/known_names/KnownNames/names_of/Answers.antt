@@ -4,7 +4,7 @@ use Rattle.std.proofs.Common.{◌≡◌, ℕ, arith, get_or, List, [], map, sym,
 use denote.Ref.{Bor}
 use Rattle.std.proofs.lemmas.List.{get_or-map, length-map, take_more}
 use Rattle.profile_rows.proofs.SameNames.{same_from_is_same_name}
-use Rattle.profile_rows.proofs.TextNumbers.{text_of}
+use Rattle.name_counts.proofs.TextNumbers.{text_of}
 use Rattle.folded_text.proofs.known_names.KnownNames.names_of.Goals as goal
 use Rattle.folded_text.proofs.known_names.KnownNames.names_of.Goals.{in-Some+in_ok-clone-in-Some}
 use Rattle.folded_text.proofs.known_names.KnownNames.names_of.Goals.{in_default+in_ok-name_of-in_default}

@@ -5,9 +5,9 @@ use Rattle.std.specs.Int.{w64}
 use Rattle.std.proofs.lemmas.Int.{to_z_pos}
 use Rattle.profile_samples.specs.Export.{exported_sample}
 use Rattle.profile_rows.specs.Values.{singles}
-use Rattle.profile_rows.specs.TextTables.{number_in, with_texts}
+use Rattle.name_counts.specs.TextTables.{number_in, with_texts}
 use Rattle.profile_samples.proofs.ExportedRows.{AreSamplesOf-push}
-use Rattle.profile_rows.proofs.TextNumbers.{text_of}
+use Rattle.name_counts.proofs.TextNumbers.{text_of}
 use Rattle.profile_samples.proofs.folded_export.SampledRowsLineTaker.take_line.Goals as goal
 
 pub returns-clause-taken : goal.returns-clause-taken

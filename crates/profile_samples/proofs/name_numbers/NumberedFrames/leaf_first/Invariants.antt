@@ -1,5 +1,5 @@
 use Rattle.std.proofs.Common.{◌≡◌, take}
-use Rattle.profile_rows.specs.TextTables.{names_at}
+use Rattle.name_counts.specs.TextTables.{names_at}
 use Rattle.profile_samples.proofs.name_numbers.NumberedFrames.leaf_first.Given as goal
 
 -- the names so far

@@ -4,7 +4,7 @@ use Rattle.std.proofs.Common.{◌≡◌, ◌<◌, ◌+◌, ◌++◌, ℕ, List, 
 use Rattle.std.proofs.Common.{append-nil, arith, take}
 use Rattle.std.proofs.lemmas.List.Elements.{All-append}
 use Rattle.pprof_profile.specs.declared.messages.Draft.{Draft}
-use Rattle.profile_rows.specs.TextTables.{names_at}
+use Rattle.name_counts.specs.TextTables.{names_at}
 use Rattle.profile_samples.specs.NameNumbers.{frame_names}
 use Rattle.profile_samples.specs.Samples.{frames_of_id, frames_of_ids}
 use Rattle.profile_samples.proofs.FrameNumbers.{found_numbers, frames-more}

@@ -1,5 +1,5 @@
 use Rattle.std.proofs.Common.{◌≡◌, ◌<◌, All, length, take}
-use Rattle.profile_rows.specs.TextTables.{names_at}
+use Rattle.name_counts.specs.TextTables.{names_at}
 use Rattle.profile_samples.specs.NameNumbers.{frame_names}
 use Rattle.profile_samples.specs.Samples.{frames_of_ids}
 use Rattle.profile_samples.proofs.name_numbers.NumberedFrames.numbers_of_ids.Given as goal

@@ -1,0 +1,6 @@
+pub mod CommonPrefix
+pub mod NumberedRows
+pub mod TallyLaws
+pub mod TextNumbers
+pub mod Weighted
+pub mod Steps

@@ -1,0 +1,302 @@
+-- Names that are numbered as rows are counted.
+use Rattle.std.proofs.lemmas.Grind.{common_steps}
+use Rattle.std.proofs.Common.{◌≡◌, ℕ, zero, suc, ◌+◌, ◌-◌, ◌^◌, ◌<◌, ◌≤◌, Bool, true, false, cond, ◌||◌, List, [], ◌∷◌, ◌++◌}
+use Rattle.std.proofs.Common.{length, map, take, drop, get_or, refl, sym, ap, ◌∙◌, subst, arith, All, Option, Some, replicate}
+use Rattle.std.proofs.Common.{None}
+use Rattle.std.specs.Prelude.{MatchOption, slice_get, slice_index_or}
+use Rattle.std.specs.List.{AllByRecursion, IsDistinct, common_prefix_len, list_any}
+use Rattle.std.specs.Str.{bytes_eq}
+use Rattle.std.proofs.lemmas.List.{get_or-drop, get_or-take, get_or_append_left, length-append, length-drop, length-map}
+use Rattle.std.proofs.lemmas.List.{append-nil, append_assoc, length-replicate, length-take-le, map-append, take_all, take_more}
+use Rattle.std.proofs.lemmas.List.Elements.{All-head, All-push, All-tail, All-weaker, recursion_from_All}
+use Rattle.std.proofs.Math.Seq.{get_or-append_seam}
+use Rattle.std.proofs.lemmas.Option.{slice_get-get_or}
+use Rattle.std.proofs.lemmas.Cmp.{nat_list_eq_equiv}
+use Rattle.std.proofs.lemmas.Map.Keys.{IsDistinct-push}
+use denote.Ref.{Bor}
+use Rattle.name_counts.specs.declared.tallies.Tallies.{Tallies}
+use Rattle.name_counts.specs.declared.tallies.Tally.{Tally}
+use Rattle.profile_rows.specs.declared.weighted_stacks.WeightedStack.{WeightedStack}
+use Rattle.profile_rows.specs.Names.{IsName}
+use Rattle.name_counts.specs.Tallies.{AreSingle, AreTalliesOf, IsNumberedStack, IsTallyOf}
+use Rattle.name_counts.specs.Tallies.{tally_at, tally_of}
+use Rattle.name_counts.specs.TextTables.{names_at, number_in, with_text, with_texts}
+use Rattle.name_counts.specs.NumberedRows.{IsNumberOfText}
+use Rattle.name_counts.proofs.TallyLaws.{zero_tally}
+use Rattle.name_counts.proofs.TextNumbers.{any_push, no_text, number_in-kept, number_in-lt, shown_at, text_of, there_inside}
+use Rattle.name_counts.proofs.TextNumbers.{text_of_number, with_text-there}
+use Rattle.profile_rows.proofs.SameNames.{is_same_name-self, same_from_is_same_name}
+
+abbrev texts_of : List (Bor (List ℕ)) → List (List ℕ)
+texts_of = map text_of
+
+-- ---- a name more
+
+single_push : (names : List (List ℕ)) (name : List ℕ)
+    → AreSingle names → list_any (bytes_eq name) names ≡ false → AreSingle (names ++ name ∷ [])
+single_push names name single none = IsDistinct-push nat_list_eq_equiv names name single none
+
+nothing_counted : (count number : ℕ) → tally_at (replicate count zero_tally) number ≡ zero_tally
+nothing_counted zero zero = refl
+nothing_counted zero (suc number) = refl
+nothing_counted (suc count) zero = refl
+nothing_counted (suc count) (suc number) = nothing_counted count number
+
+-- names after others have tallies of no row
+tally_of-more : (names more : List (List ℕ)) (tallies : List Tally) (count : ℕ) (q : List ℕ)
+    → length tallies ≡ length names
+    → tally_of (names ++ more) (tallies ++ replicate count zero_tally) q ≡ tally_of names tallies q
+tally_of-more [] more [] count q same = nothing_counted count (number_in more q)
+tally_of-more [] more (tally ∷ tallies) count q same = absurd (omega (arith, same))
+tally_of-more (first ∷ names) more [] count q same = absurd (omega (arith, same))
+tally_of-more (first ∷ names) more (tally ∷ tallies) count q same =
+    grind (arith, zero_tally, tally_of-more names more tallies count q (omega (arith, same)))
+
+-- texts that are added stand after those that are there
+texts_after : (names more : List (List ℕ)) → (after : List (List ℕ)) × (with_texts names more ≡ names ++ after)
+texts_after names [] = ([], sym (append-nil names))
+texts_after names (name ∷ more) = elim (list_any (bytes_eq name) names) as (λ b. (after : List (List ℕ))
+    × (with_texts (cond b names (names ++ name ∷ [])) more ≡ names ++ after)) [
+      | true ↦ texts_after names more
+      | false ↦
+          let (after, is) = texts_after (names ++ name ∷ []) more in
+          (name ∷ after, is ∙ append_assoc names (name ∷ []) after)
+    ]
+
+pub single_with : (names more : List (List ℕ)) → AreSingle names → AreSingle (with_texts names more)
+single_with names [] single = single
+single_with names (name ∷ more) single =
+    grind (arith, single_push, single_with names more single, single_with (names ++ name ∷ []) more)
+
+-- names that are new have tallies of no row
+pub names-new : (rows : List WeightedStack) (names more : List (List ℕ)) (old new : Tallies) → new.total ≡ old.total
+    → new.names.items ≡ old.names.items ++ replicate (length (with_texts names more) - length names) zero_tally
+    → AreTalliesOf rows names old → AreTalliesOf rows (with_texts names more) new
+names-new rows names more old new total grown are =
+    let many = are.many in
+    let (after, is) = texts_after names more in
+    let count = length (with_texts names more) - length names in
+    record {
+      single = single_with names more are.single;
+      many =
+          let tallies = ap length grown ∙ length-append old.names.items (replicate count zero_tally) in
+          let grew = length-replicate count zero_tally in
+          let texts = ap length is ∙ length-append names after in
+          omega (arith, tallies, grew, texts, many);
+      each = λ q.
+          let same : tally_of (with_texts names more) new.names.items q ≡ tally_of names old.names.items q =
+          ap (λ ns. tally_of ns new.names.items q) is ∙ ap (λ ts. tally_of (names ++ after) ts q) grown
+          ∙ tally_of-more names after old.names.items count q many in
+          subst (λ n. IsTallyOf rows n q (tally_of (with_texts names more) new.names.items q))
+          (sym total) (subst (IsTallyOf rows old.total q) (sym same) (are.each q));
+      total = total ∙ are.total;
+    }
+
+-- ---- rows
+
+pub none_single : AreSingle []
+unfolding IsDistinct
+none_single = tt
+
+pub none_counted : (texts : List (List ℕ)) (tallies : Tallies) → texts ≡ [] → tallies.names.items ≡ []
+    → tallies.total ≡ 0 → AreTalliesOf [] texts tallies
+none_counted texts tallies none nothing total = record {
+  single = subst AreSingle (sym none) none_single;
+  many = ap length nothing ∙ sym (ap length none);
+  each = λ q.
+      let zero_is : tally_of texts tallies.names.items q ≡ zero_tally =
+      ap (λ ts. tally_of texts ts q) nothing ∙ past (number_in texts q) in
+      record {
+        flat = ap (λ (t : Tally). t.flat) zero_is;
+        cumulative = ap (λ (t : Tally). t.cumulative) zero_is;
+        numbered = let row = ap (λ (t : Tally). t.row) zero_is in omega (arith, row);
+        named = λ some. let weight = ap (λ (t : Tally). t.cumulative) zero_is in absurd (omega (arith, some, weight));
+      };
+  total = total;
+}
+  where
+    past : (number : ℕ) → tally_at [] number ≡ zero_tally
+    past zero = refl
+    past (suc number) = refl
+
+names_at-more : (names more : List (List ℕ)) (numbers : List ℕ) → AllByRecursion
+    (λ number. number < length names) numbers → names_at (names ++ more) numbers ≡ names_at names numbers
+names_at-more names more [] all = refl
+names_at-more names more (number ∷ numbers) all =
+    grind (arith, common_steps, get_or_append_left, names_at-more names more numbers all.1)
+
+-- a name more changes no name of a number
+names_at-with : (names : List (List ℕ)) (name : List ℕ) (numbers : List ℕ) → AllByRecursion
+    (λ number. number < length names) numbers → names_at (with_text names name) numbers ≡ names_at names numbers
+names_at-with names name numbers all = grind (arith, common_steps, names_at-more)
+
+length-with : (names : List (List ℕ)) (name : List ℕ) → length names ≤ length (with_text names name)
+length-with names name = grind (arith, common_steps, length-append)
+
+-- the number of a name that was added is below the end
+number_is-within : (names : List (List ℕ)) (name : List ℕ)
+    → number_in (with_text names name) name < length (with_text names name)
+number_is-within names name = elim (list_any (bytes_eq name) names) as (λ b. list_any (bytes_eq name) names ≡ b
+    → number_in (cond b names (names ++ name ∷ [])) name < length (cond b names (names ++ name ∷ []))) [
+      | true ↦ λ e. number_in-lt names name e
+      | false ↦ λ e. number_in-lt (names ++ name ∷ []) name (any_push names name name ∙ ap
+          (λ b. list_any (bytes_eq name) names || b) (is_same_name-self name)
+          ∙ or_true (list_any (bytes_eq name) names))
+    ] refl
+  where
+    or_true : (b : Bool) → (b || true) ≡ true
+    or_true true = refl
+    or_true false = refl
+
+-- the number of a name that was added is inside
+number_inside : (old new : List (List ℕ)) (name : List ℕ) (number : ℕ)
+    → new ≡ with_text old name → number ≡ number_in new name → number < length new
+number_inside old new name number names number_is = grind (arith, common_steps, number_is-within)
+
+-- a name more changes the name of no number
+at-with : (names : List (List ℕ)) (name : List ℕ) (number : ℕ) → number < length names
+    → slice_index_or (with_text names name) number [] ≡ slice_index_or names number []
+at-with names name number lt = grind (arith, common_steps, get_or_append_left)
+
+-- a number stays that of its text as a name comes
+number-kept : (names : List (List ℕ)) (name : List ℕ) (number : ℕ)
+    → IsNumberOfText names number → IsNumberOfText (with_text names name) number
+number-kept names name number is = grind (arith, common_steps, number_in-kept, there_inside, length-with, at-with)
+
+pub numbers-kept : (names : List (List ℕ)) (name : List ℕ) (numbers : List ℕ)
+    → All (IsNumberOfText names) numbers → All (IsNumberOfText (with_text names name)) numbers
+numbers-kept names name numbers = All-weaker (IsNumberOfText names) (IsNumberOfText (with_text names name))
+    (number-kept names name) numbers
+
+-- the name of a number that was added
+added_name : (old new : List (List ℕ)) (name : List ℕ) (number : ℕ)
+    → new ≡ with_text old name → number ≡ number_in new name → slice_index_or new number [] ≡ name
+added_name old new name number names number_is = grind (arith, text_of_number, number_inside)
+
+pub numbers-pushed : (old new : List (List ℕ)) (before after : List ℕ) (name : List ℕ) (number : ℕ)
+    → new ≡ with_text old name → number ≡ number_in new name → number < 2 ^ 63 → after ≡ before ++ number ∷ []
+    → All (IsNumberOfText old) before → All (IsNumberOfText new) after
+numbers-pushed old new before after name number names number_is fits numbers are =
+    subst (All (IsNumberOfText new)) (sym numbers) (All-push (IsNumberOfText new) before number
+    (subst (λ ns. All (IsNumberOfText ns) before) (sym names) (numbers-kept old name before are)) (record {
+      inside = number_inside old new name number names number_is;
+      own = ap (number_in new) (added_name old new name number names number_is) ∙ sym number_is;
+      fits = fits;
+    }))
+
+pub are_inside : (texts : List (List ℕ)) (numbers : List ℕ)
+    → All (IsNumberOfText texts) numbers → All (λ number. number < length texts) numbers
+are_inside texts = All-weaker (IsNumberOfText texts) (λ number. number < length texts) (λ number is. is.inside)
+
+-- a name more leaves the frames of a row
+pub frames-kept : (old new : List (List ℕ)) (name : List ℕ) (numbers : List ℕ) → new ≡ with_text old name
+    → All (IsNumberOfText old) numbers → names_at new numbers ≡ names_at old numbers
+frames-kept old new name numbers names are =
+    ap (λ texts. names_at texts numbers) names
+    ∙ names_at-with old name numbers (recursion_from_All (λ number. number < length old) numbers
+    (are_inside old numbers are))
+
+-- the numbers are those of their texts
+pub are_own : (texts : List (List ℕ)) (numbers : List ℕ)
+    → All (IsNumberOfText texts) numbers → map (number_in texts) (names_at texts numbers) ≡ numbers
+are_own texts [] are = refl
+are_own texts (number ∷ numbers) are =
+    grind (arith, All-head, All-tail, are_own texts numbers (All-tail (IsNumberOfText texts) number numbers are))
+
+-- texts of numbers are there
+pub are_known : (texts : List (List ℕ)) (numbers : List ℕ)
+    → All (IsNumberOfText texts) numbers → with_texts texts (names_at texts numbers) ≡ texts
+are_known texts [] are = refl
+are_known texts (number ∷ numbers) are =
+    let is = All-head (IsNumberOfText texts) number numbers are in
+    ap (λ ts. with_texts ts (names_at texts numbers)) (with_text-there texts (slice_index_or texts number [])
+    (subst (λ n. n < length texts) (sym is.own) is.inside))
+    ∙ are_known texts numbers (All-tail (IsNumberOfText texts) number numbers are)
+
+-- the name that a number more adds
+pub name_numbered : (old new : List (List ℕ)) (before after : List ℕ) (frame : List ℕ) (number : ℕ)
+    → new ≡ with_text old frame → number ≡ number_in new frame → after ≡ before ++ number ∷ []
+    → All (λ n. n < length old) before → names_at new after ≡ names_at old before ++ frame ∷ []
+name_numbered old new before after frame number names number_is numbers inside =
+    ap (names_at new) numbers
+    ∙ map-append (λ n. slice_index_or new n []) before (number ∷ [])
+    ∙ ap (λ ns. ns ++ slice_index_or new number [] ∷ []) (ap (λ ns. names_at ns before) names
+    ∙ names_at-with old frame before (recursion_from_All (λ n. n < length old) before inside))
+    ∙ ap (λ name. names_at old before ++ name ∷ []) (added_name old new frame number names number_is)
+
+-- what two lists of texts share from their beginnings
+pub shared_same : (left right : List (List ℕ)) → take (common_prefix_len bytes_eq left right) left
+    ≡ take (common_prefix_len bytes_eq left right) right
+shared_same [] [] = refl
+shared_same [] (text ∷ right) = refl
+shared_same (text ∷ left) [] = refl
+shared_same (text ∷ left) (other ∷ right) =
+    let shared = common_prefix_len bytes_eq left right in
+    let next : 1 + shared ≡ suc shared = omega arith in
+    elim (bytes_eq text other) as (λ b. bytes_eq text other ≡ b
+    → take (cond b (1 + common_prefix_len bytes_eq left right) 0) (text ∷ left)
+    ≡ take (cond b (1 + common_prefix_len bytes_eq left right) 0) (other ∷ right)) [
+      | true ↦ λ e. ap (λ n. take n (text ∷ left)) next
+          ∙ ap (λ first. first ∷ take shared left) (same_from_is_same_name text other e)
+          ∙ ap (λ rest. other ∷ rest) (shared_same left right) ∙ ap (λ n. take n (other ∷ right)) (sym next)
+      | false ↦ λ e. refl
+    ] refl
+
+-- ---- a row's frames
+
+-- one frame more of those after the first
+pub next_frame : (frames rest : List (Bor (List ℕ))) (shared i : ℕ)
+    → rest ≡ take (length frames - shared) (drop shared frames) → i < length rest → shared ≤ length frames
+    → take (shared + (i + 1)) (texts_of frames)
+    ≡ take (shared + i) (texts_of frames) ++ (get_or rest i no_text).now ∷ []
+next_frame frames rest shared i is lt within =
+    let some = ap length is ∙ length-take-le
+    (length frames - shared) (drop shared frames) (let left = length-drop shared frames in omega (arith, left)) in
+    let inside : shared + i < length frames = omega (arith, some, lt, within) in
+    let long = length-map frames (λ (frame : Bor (List ℕ)). frame.now) in
+    let next : shared + (i + 1) ≡ shared + i + 1 = omega arith in
+    ap (λ n. take n (texts_of frames)) next
+    ∙ take_more (texts_of frames) (shared + i) [] (omega (arith, inside, long))
+    ∙ ap (λ name. take (shared + i) (texts_of frames) ++ name ∷ []) (shown_at frames (shared + i) no_text
+    ∙ ap (λ (frame : Bor (List ℕ)). frame.now)
+    (sym (ap (λ fs. get_or fs i no_text) is ∙ get_or-take (length frames - shared)
+    (drop shared frames) i no_text (omega (arith, inside, within)) ∙ get_or-drop shared frames i no_text)))
+
+pub all_frames : (frames rest : List (Bor (List ℕ))) (shared i : ℕ)
+    → rest ≡ take (length frames - shared) (drop shared frames)
+    → length rest ≤ i → shared ≤ length frames → take (shared + i) (texts_of frames) ≡ texts_of frames
+all_frames frames rest shared i is end within =
+    grind (arith, common_steps, length-drop, length-map, length-take-le, take_all)
+
+-- the last number and those before it
+last_of : (numbers : List ℕ) → MatchOption (slice_get numbers (length numbers - 1))
+    (numbers ≡ []) (λ number. (before : List ℕ) × (numbers ≡ before ++ number ∷ []))
+last_of [] = refl
+last_of (first ∷ rest) =
+    let all = first ∷ rest in
+    let at = length all - 1 in
+    let inside : at < length all = omega arith in
+    subst (λ last. MatchOption last (all ≡ []) (λ number. (before : List ℕ) × (all ≡ before ++ number ∷ [])))
+    (sym (slice_get-get_or all at first inside))
+    (take at all, sym (take_all (at + 1) all (omega arith)) ∙ take_more all at first inside)
+
+inside_last : (many : ℕ) (before : List ℕ) (number : ℕ) → All (λ n. n < many) (before ++ number ∷ []) → number < many
+inside_last many before number all = grind (arith, common_steps, length-append, get_or-append_seam)
+
+leaf_of : (names stack : List (List ℕ)) (numbers : List ℕ) (leaf : Option ℕ)
+    → names_at names numbers ≡ stack → All (λ n. n < length names) numbers
+    → MatchOption leaf (numbers ≡ []) (λ number. (before : List ℕ) × (numbers ≡ before ++ number ∷ []))
+    → MatchOption leaf (stack ≡ []) (λ number. (number < length names)
+    × (callers : List (List ℕ)) × (stack ≡ callers ++ slice_index_or names number [] ∷ []))
+leaf_of names stack numbers None is inside none = sym is ∙ ap (names_at names) none
+leaf_of names stack numbers (Some number) is inside (before, last) = (
+  inside_last (length names) before number (subst (All (λ n. n < length names)) last inside),
+  names_at names before,
+  sym is ∙ ap (names_at names) last ∙ map-append (λ n. slice_index_or names n []) before (number ∷ []),
+)
+
+-- the numbers of a row's frames, of which the last is the leaf's
+pub row_numbered : (texts stack : List (List ℕ)) (numbers : List ℕ) (leaf : Option ℕ)
+    → names_at texts numbers ≡ stack → All (λ number. number < length texts) numbers
+    → All IsName stack → leaf ≡ slice_get numbers (length numbers - 1) → IsNumberedStack texts stack numbers leaf
+row_numbered texts stack numbers leaf names inside named last = grind (arith, common_steps, last_of, leaf_of)

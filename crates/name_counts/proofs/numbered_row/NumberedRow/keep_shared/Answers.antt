@@ -1,0 +1,35 @@
+-- The numbers of the first frames stay.
+use Rattle.std.proofs.lemmas.Grind.{common_steps}
+use Rattle.std.proofs.Common.{◌≡◌, ℕ, List, All, map, take, ap, sym, ◌∙◌, arith, subst}
+use Rattle.std.proofs.lemmas.List.{length-map, take-map}
+use Rattle.std.proofs.lemmas.List.Elements.{All-take}
+use Rattle.std.proofs.lemmas.List.Sums.{common_prefix_len-le}
+use Rattle.std.specs.List.{common_prefix_len}
+use Rattle.std.specs.Str.{bytes_eq}
+use Rattle.name_counts.specs.NumberedRows.{IsNumberOfText, NumberedFrames}
+use Rattle.name_counts.specs.TextTables.{names_at, with_texts}
+use Rattle.name_counts.proofs.NumberedRows.{are_known, shared_same}
+use Rattle.name_counts.proofs.TextNumbers.{text_of}
+use Rattle.name_counts.proofs.numbered_row.NumberedRow.keep_shared.Goals as goal
+
+pub returns-clause-within : goal.returns-clause-within
+returns-clause-within c = grind (arith, common_steps, length-map, common_prefix_len-le, text_of)
+
+-- the names of the numbers that stay are those of the frames that are shared
+kept : (texts : List (List ℕ)) (lent before after : List ℕ) (frames : List (List ℕ)) (shared : ℕ)
+    → shared ≡ common_prefix_len bytes_eq (names_at texts lent) frames → lent ≡ before
+    → after ≡ take shared before → names_at texts after ≡ take shared frames
+kept texts lent before after frames shared is same cut = grind (arith, take-map, shared_same)
+
+pub returns-clause-frames : goal.returns-clause-frames
+returns-clause-frames c = grind (arith, common_steps, text_of, kept)
+
+pub returns-clause-known : goal.returns-clause-known
+returns-clause-known c =
+    let texts = c.self.inside.names.texts in
+    let shared = c.shared_frames-shared.result in
+    let first = take shared (map text_of c.args.frames.now) in
+    subst (λ ts. with_texts ts first ≡ ts) (ap (λ (row : NumberedFrames). row.texts) c.self.view_is)
+    (ap (with_texts texts) (sym (returns-clause-frames c))
+    ∙ are_known texts c.truncate.new.self.items (subst (All (IsNumberOfText texts)) (sym c.truncate.ensures.items)
+    (All-take (IsNumberOfText texts) shared c.self.inside.numbers.items c.self.invariant)))

@@ -1,0 +1,3 @@
+pub mod NumberedRows
+pub mod Tallies
+pub mod TextTables

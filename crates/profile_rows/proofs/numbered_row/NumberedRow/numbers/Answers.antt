@@ -1,8 +1,0 @@
--- Each number is that of its text.
-use Rattle.std.proofs.lemmas.Grind.{common_steps}
-use Rattle.std.proofs.Common.{arith}
-use Rattle.profile_rows.proofs.NumberedRows.{are_own}
-use Rattle.profile_rows.proofs.numbered_row.NumberedRow.numbers.Goals as goal
-
-pub returns-clause-numbers : goal.returns-clause-numbers
-returns-clause-numbers c = grind (arith, common_steps, are_own)

@@ -15,8 +15,8 @@ ghost use Rattle.profile_samples.specs.CountedSamples.{AreNumbersOfIds, AreTotal
 use crate::name_numbers::NumberedFrames;
 use crate::sampling::{BatchFault, ValueChoice, chosen_value, sample_weight};
 use crate::unfolding::push_numbers;
-use pprof_profile::Profile;
 use name_counts::Tallies;
+use pprof_profile::Profile;
 use profile_rows::{FrameTotals, Hashing, Name};
 use std::alloc::{AllocError, Global};
 

@@ -9,10 +9,10 @@ ghost use Rattle.name_counts.specs.TextTables.{with_texts};
 ghost use Rattle.profile_samples.specs.declared.sampling.ValueChoice.TheVariants as choices;
 
 use basics::NoMemory;
+use name_counts::TextTable;
 use pprof_profile::{
     Draft, Function, Items, Line, Location, Profile, Sample, Samples, Text, ValueType, check,
 };
-use name_counts::TextTable;
 use profile_rows::{Batch, Hashing, Name, Row, WeightedStack, Weights};
 use std::alloc::Global;
 

@@ -10,8 +10,8 @@ ghost use Rattle.folded_text.specs.FoldedText.{IsFoldedText, IsWorkFault};
 use crate::exporting::{ValueUnit, exported_draft};
 use basics::NoMemory;
 use folded_text::{FoldedFault, LineTaker, read_frames, take_lines};
-use pprof_profile::{WrittenSamples, encode_around};
 use name_counts::NumberedRow;
+use pprof_profile::{WrittenSamples, encode_around};
 use profile_rows::Hashing;
 use std::alloc::Global;
 

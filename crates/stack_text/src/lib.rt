@@ -10,7 +10,11 @@ pub use folded_text::{
     read_folded, read_folded_with, read_ordered, write_folded, write_stacks,
 };
 pub use name_counts::kept_totals;
-pub use profile_rows::{Batch, FrameTotal, FrameTotals, Hashing, MAX_DEPTH, MAX_TOTAL, MAX_WIDTH, Name, NameFault, NoMemory, OwnedRow, PushFault, Refused, Row, Rows, Stack, WeightedStack, WeightedStacks, Weights, Width, aggregate, first_heavy, keeps};
+pub use profile_rows::{
+    Batch, FrameTotal, FrameTotals, Hashing, MAX_DEPTH, MAX_TOTAL, MAX_WIDTH, Name, NameFault,
+    NoMemory, OwnedRow, PushFault, Refused, Row, Rows, Stack, WeightedStack, WeightedStacks,
+    Weights, Width, aggregate, first_heavy, keeps,
+};
 pub use profile_samples::{
     BatchFault, ValueChoice, ValueUnit, batch_of, batch_of_with, export_folded, merge_samples,
     profile_of, sample_totals, unfold,

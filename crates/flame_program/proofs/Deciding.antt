@@ -5,7 +5,7 @@ use Rattle.std.specs.Prelude.{◌↔◌, Bool, true, false, cond, is_some}
 use Rattle.std.proofs.lemmas.Bool.{false≢true}
 use Rattle.std.proofs.lemmas.List.{append-nil}
 use Rattle.flame_program.specs.Requests.{IsAnswer, IsInputFault, IsReadable}
-use Rattle.flame_answers.specs.Parts.{IsWholeInput, TakesExactly}
+use Rattle.flame_program.specs.Parts.{IsWholeInput, TakesExactly}
 use Rattle.flame_program.specs.Outcomes.{code_of, live_code_of}
 use Rattle.flame_program.specs.Program.{EndsBy, IsAccepted, IsUntroubled}
 use Rattle.flame_words.specs.Words.{Reading, reading_of, request_in, request_of}

@@ -2,7 +2,7 @@
 use Rattle.std.proofs.Common.{◌≡◌, ◌+◌, ℕ, List, [], Option, Some, None, sym, arith}
 use Rattle.std.proofs.KnownBytes.{Keeps-refl}
 use Rattle.std.specs.Io.KnownBytes.{Keeps}
-use Rattle.flame_answers.specs.Parts.{IsWholeInput, LeavesAfterFault, TakesAtMost}
+use Rattle.flame_program.specs.Parts.{IsWholeInput, LeavesAfterFault, TakesAtMost}
 use Rattle.flame_program.specs.Program.{EndsBy, EndsByFault, IsAsked, read_fault_of}
 use Rattle.flame_program.specs.declared.outcomes.Outcome.{Outcome}
 use Rattle.flame_program.specs.declared.outcomes.Outcome.TheVariants.{Done, Words, Fault}
@@ -12,8 +12,8 @@ use Rattle.flame_program.specs.declared.outcomes.ToolFault.TheVariants as tool
 use Rattle.flame_words.specs.declared.request.Request.{Request}
 use Rattle.flame_program.specs.Requests.{IsInputFault}
 use Rattle.flame_words.specs.Words.{request_of}
-use Rattle.flame_answers.specs.declared.streams.ReadFault.{ReadFault}
-use Rattle.flame_answers.specs.declared.streams.ReadFault.TheVariants as reading
+use Rattle.flame_program.specs.declared.streams.ReadFault.{ReadFault}
+use Rattle.flame_program.specs.declared.streams.ReadFault.TheVariants as reading
 
 -- a fault of reading ends the run before anything is written
 pub ends_by_read_fault : (words : List (List ℕ)) (limit : ℕ) (unread left before : Option (List ℕ)) (fault : ReadFault)

@@ -1,3 +1,4 @@
 pub mod Deciding
 pub mod Endings
+pub mod Parts
 pub mod Unanswered

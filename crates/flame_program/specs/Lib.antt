@@ -1,4 +1,5 @@
 pub mod Outcomes
+pub mod Parts
 pub mod Process
 pub mod Program
 pub mod Requests

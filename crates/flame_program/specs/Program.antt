@@ -2,7 +2,7 @@
 use Rattle.std.specs.Prelude.{ℕ, ⊤, ◌≡◌, ◌≢◌, ◌+◌, ◌≤◌, ◌↔◌, List, length, Option, Some, IfSome}
 use Rattle.std.specs.Io.KnownBytes.{Appends, Keeps}
 use Rattle.flame_program.specs.Requests.{IsAnswer, IsInputFault, IsReadable}
-use Rattle.flame_answers.specs.Parts.{AppendsBeginning, IsWholeInput, TakesAtMost, TakesExactly}
+use Rattle.flame_program.specs.Parts.{AppendsBeginning, IsWholeInput, TakesAtMost, TakesExactly}
 use Rattle.flame_program.specs.Outcomes.{code_of}
 use Rattle.flame_words.specs.Words.{IsCrowded, IsMisnamed, IsRefused, request_of}
 use Rattle.flame_program.specs.declared.outcomes.Outcome.{Outcome}
@@ -10,8 +10,8 @@ use Rattle.flame_program.specs.declared.outcomes.Outcome.TheVariants.{Done, Word
 use Rattle.flame_program.specs.declared.outcomes.ToolFault.{ToolFault}
 use Rattle.flame_program.specs.declared.outcomes.ToolFault.TheVariants as tool
 use Rattle.flame_program.specs.declared.outcomes.ToolFault.TheVariants.{Name, Sessions, Read, Write, TooLong, NoMemory}
-use Rattle.flame_answers.specs.declared.streams.ReadFault.{ReadFault}
-use Rattle.flame_answers.specs.declared.streams.ReadFault.TheVariants as reading
+use Rattle.flame_program.specs.declared.streams.ReadFault.{ReadFault}
+use Rattle.flame_program.specs.declared.streams.ReadFault.TheVariants as reading
 use Rattle.flame_words.specs.declared.words.WordsFault.{WordsFault}
 use Rattle.flame_words.specs.declared.words.WordsFault.TheVariants as words
 use Rattle.flame_words.specs.declared.request.Request.{Request}

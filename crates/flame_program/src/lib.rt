@@ -11,8 +11,9 @@ mod process;
 mod program;
 mod requests;
 mod shown_rows;
+mod streams;
 
-pub use flame_answers::{BatchFault, FoldedFault, InputFault, MAX_INPUT, ProfileFault, WireFault};
+pub use flame_answers::{BatchFault, FoldedFault, InputFault, ProfileFault, WireFault};
 pub use flame_words::{Request, WordsFault, read_words};
 pub use host::run_on_host;
 pub use live_report::{
@@ -23,3 +24,4 @@ pub use process::{End, run_process};
 pub use profile_rows::Hashing;
 pub use program::run;
 pub use requests::answer;
+pub use streams::{MAX_INPUT, ReadFault, WriteFault, read_input, write_text};

@@ -11,7 +11,7 @@ ghost use Rattle.flame_words.specs.Words.{texts_of};
 
 use crate::outcomes::{Outcome, Status, ToolFault};
 use crate::program::run;
-use flame_answers::MAX_INPUT;
+use crate::streams::MAX_INPUT;
 use live_report::Progress;
 use std::alloc::{AllocError, Global};
 use std::env::Args;

@@ -2,13 +2,13 @@
 
 ghost use Rattle.std.specs.Prelude.{◌≡◌, ◌≢◌, ◌+◌, ◌≤◌, ◌⊎◌, List, ℕ, Some, None};
 ghost use Rattle.std.specs.Io.KnownBytes.{Keeps};
-ghost use Rattle.flame_answers.specs.Parts.{TakesAtMost};
+ghost use Rattle.flame_program.specs.Parts.{TakesAtMost};
 ghost use Rattle.flame_program.specs.Program.{EndsBy, InputDecides, IsCut, IsDone, IsEnd, read_fault_of, unasked_outcome_of};
 ghost use Rattle.flame_words.specs.Words.{IsCrowded, IsMisnamed, IsRefused, request_of, texts_of};
 
 use crate::outcomes::{Outcome, Status, ToolFault};
 use crate::requests::answer;
-use flame_answers::{MAX_INPUT, ReadFault, read_input, write_text};
+use crate::streams::{MAX_INPUT, ReadFault, read_input, write_text};
 use flame_words::{Request, WordsFault, read_words};
 use live_report::Progress;
 use profile_rows::Hashing;

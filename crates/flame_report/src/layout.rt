@@ -14,7 +14,8 @@ ghost use Rattle.flame_report.specs.Sharing.{AreHeld, AreShapes, IsPlan, held_we
 use crate::answer::{Flame, Label, Rect};
 use crate::query::Columns;
 use basics::{Items, NoMemory};
-use folded_text::{KnownNames, OrderedRows};
+use folded_text::OrderedRows;
+use name_counts::KnownNames;
 use profile_rows::Hashing;
 use std::alloc::{AllocError, Global};
 use std::mem;

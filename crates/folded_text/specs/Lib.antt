@@ -1,5 +1,4 @@
 pub mod FoldedText
-pub mod KnownNames
 pub mod LineSums
 pub mod OrderedRows
 pub mod StackOrder

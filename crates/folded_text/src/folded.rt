@@ -10,10 +10,10 @@ ghost use Rattle.profile_rows.specs.Names.{IsName};
 ghost use Rattle.profile_rows.specs.Rows.{total_of};
 ghost use Rattle.profile_rows.specs.Values.{single_batch};
 
-use crate::known_names::KnownNames;
 use crate::stack_frames::{measured, replace_by_text};
 use crate::taking::{LineTaker, take_lines};
 use basics::NoMemory;
+use name_counts::KnownNames;
 use profile_rows::{Batch, Hashing, MAX_DEPTH, MAX_TOTAL, Stack, WeightedStacks};
 use simdutf8::basic;
 use std::alloc::Global;

@@ -2,7 +2,6 @@
 #![tactic(auto)]
 
 mod folded;
-mod known_names;
 pub mod laws;
 mod line_sums;
 mod merged;
@@ -17,7 +16,6 @@ mod text_totals;
 mod written;
 
 pub use folded::{FoldedFault, read_folded, read_folded_with, read_frames};
-pub use known_names::KnownNames;
 pub use line_sums::{AddedLines, LineSums};
 pub use merged::merge_lines;
 pub use ordered_rows::{OrderedRows, read_ordered};

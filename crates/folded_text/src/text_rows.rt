@@ -11,12 +11,11 @@ ghost use Rattle.folded_text.specs.StackOrder.{IsJoined};
 ghost use Rattle.folded_text.specs.TextRows.{AreSumsOfText, AreTextRows, IsStackText, rows_with, spelled_rows};
 
 use crate::folded::{FoldedFault, fitting, push_frames, stack_and_weight};
-use crate::known_names::KnownNames;
 use crate::stack_frames::{measured, replace_by_text};
 use crate::taking::{LineTaker, take_lines};
 use crate::text_row::TextRow;
 use basics::NoMemory;
-use name_counts::TextTable;
+use name_counts::{KnownNames, TextTable};
 use profile_rows::{Hashing, MAX_TOTAL, WeightedStacks};
 use std::alloc::Global;
 use std::marker::Model;

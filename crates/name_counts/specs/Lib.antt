@@ -1,3 +1,4 @@
+pub mod KnownNames
 pub mod NumberedRows
 pub mod Tallies
 pub mod TextTables

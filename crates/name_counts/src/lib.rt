@@ -3,11 +3,13 @@
 #![tactic(auto)]
 
 mod counted_rows;
+mod known_names;
 mod numbered_row;
 mod tallies;
 mod text_table;
 
 pub use counted_rows::{CountedRows, kept_totals, replace_by_names};
+pub use known_names::KnownNames;
 pub use numbered_row::NumberedRow;
 pub use tallies::{Tallies, Tally};
 pub use text_table::TextTable;

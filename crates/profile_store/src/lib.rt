@@ -10,9 +10,8 @@
 //!
 //! # What is in it
 //!
-//! Everything public of `folded_text`, `profile_samples`, `call_tree`, `flame_report`, `op_book`, `log_audit` and
-//! `live_store`. Of `pprof_profile` and `profile_rows` everything but what the crates above them count names and ids
-//! with: `CountedRows`, `NumberedRow`, `TextTable`, `Tallies`, `Tally`, `replace_by_names` and `IdRange`.
+//! Everything public of `profile_rows`, `folded_text`, `profile_samples`, `call_tree`, `flame_report`, `op_book`,
+//! `log_audit` and `live_store`; of `pprof_profile` everything but `IdRange`.
 //!
 //! The layers below these aren't in it: `basics`, the wire format (`pprof_wire`), the pages of trees (`shared_pages`),
 //! the history of a store (`change_history`) and its versions (`shown_versions`). Of them it has only what its calls

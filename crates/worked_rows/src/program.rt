@@ -1,8 +1,7 @@
 //! The program `flame`: its words, its input, and how it ends.
 
 use crate::streams::{FakeWriter, Fault, Streams, Unrandom};
-use flame_answers::{MAX_INPUT, read_input};
-use flame_program::{End, NoProgress, Status, run, run_process};
+use flame_program::{End, MAX_INPUT, NoProgress, Status, read_input, run, run_process};
 use row_scripts::{Made, Names, Words, Wrong};
 use std::alloc::{AllocError, Global};
 use std::env::Args;

@@ -1,6 +1,6 @@
 //! Readers and writers that move few bytes at a time and fail, and a runtime without random bytes.
 
-use flame_answers::MAX_INPUT;
+use flame_program::MAX_INPUT;
 use row_scripts::{Made, Words, Wrong};
 use std::alloc::Global;
 use std::io;

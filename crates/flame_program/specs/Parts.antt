@@ -1,8 +1,8 @@
 -- What a bounded read of a whole input takes from a reader, and what a write of a text leaves behind.
 use Rattle.std.specs.Prelude.{ℕ, ◌≡◌, ◌+◌, ◌<◌, ◌≤◌, Bool, true, false, List, length, take, Option}
 use Rattle.std.specs.Io.KnownBytes.{Consumes, IsAtEnd, Appends}
-use Rattle.flame_answers.specs.declared.streams.ReadFault.{ReadFault}
-use Rattle.flame_answers.specs.declared.streams.ReadFault.TheVariants.{Read, TooLong, NoMemory}
+use Rattle.flame_program.specs.declared.streams.ReadFault.{ReadFault}
+use Rattle.flame_program.specs.declared.streams.ReadFault.TheVariants.{Read, TooLong, NoMemory}
 
 -- the input was read to its end, and has at most `limit` bytes
 pub record IsWholeInput (limit : ℕ) (unread left : Option (List ℕ)) (input : List ℕ) : Type 0 where

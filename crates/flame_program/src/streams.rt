@@ -2,7 +2,7 @@
 
 ghost use Rattle.std.specs.Prelude.{◌≡◌, ◌+◌, ◌<◌, ◌≤◌, ℕ, List, Option, [], MatchResult, IfOk, OnOk, OnErr, vec_len, length, take};
 ghost use Rattle.std.specs.Io.KnownBytes.{Appends, Consumes};
-ghost use Rattle.flame_answers.specs.Parts.{AppendsBeginning, IsReadSoFar, IsWholeInput, LeavesAfterFault};
+ghost use Rattle.flame_program.specs.Parts.{AppendsBeginning, IsReadSoFar, IsWholeInput, LeavesAfterFault};
 
 use std::alloc::{AllocError, Global};
 use std::io::{Read, Write};

@@ -1,7 +1,7 @@
 use Rattle.std.proofs.Common.{refl}
 use Rattle.std.proofs.lemmas.Result.{err_from_is_err_and}
-use Rattle.flame_answers.proofs.Parts.{more_written_cut, beginning_kept}
-use Rattle.flame_answers.proofs.streams.write_text.Goals as goal
+use Rattle.flame_program.proofs.Parts.{more_written_cut, beginning_kept}
+use Rattle.flame_program.proofs.streams.write_text.Goals as goal
 
 pub loop-rest-preserved : goal.loop-rest-preserved
 loop-rest-preserved g c = more_written_cut _ _ _ _ _ _ _ refl c.loop-rest.invariant c.in_ok-count.ensures.bytes

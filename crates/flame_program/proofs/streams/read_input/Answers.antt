@@ -1,5 +1,5 @@
 use Rattle.std.proofs.Common.{arith}
-use Rattle.flame_answers.proofs.streams.read_input.Goals as goal
+use Rattle.flame_program.proofs.streams.read_input.Goals as goal
 
 pub loop-input-smaller : goal.loop-input-smaller
 loop-input-smaller g c =

@@ -5,9 +5,9 @@ use denote.Ref.{Bor}
 use Rattle.std.proofs.lemmas.List.{get_or-map, length-map, take_more}
 use Rattle.profile_rows.proofs.SameNames.{same_from_is_same_name}
 use Rattle.name_counts.proofs.TextNumbers.{text_of}
-use Rattle.folded_text.proofs.known_names.KnownNames.names_of.Goals as goal
-use Rattle.folded_text.proofs.known_names.KnownNames.names_of.Goals.{in-Some+in_ok-clone-in-Some}
-use Rattle.folded_text.proofs.known_names.KnownNames.names_of.Goals.{in_default+in_ok-name_of-in_default}
+use Rattle.name_counts.proofs.known_names.KnownNames.names_of.Goals as goal
+use Rattle.name_counts.proofs.known_names.KnownNames.names_of.Goals.{in-Some+in_ok-clone-in-Some}
+use Rattle.name_counts.proofs.known_names.KnownNames.names_of.Goals.{in_default+in_ok-name_of-in_default}
 
 pub name_of-requires : goal.name_of-requires
 name_of-requires c = grind (arith, common_steps, c.requires c.loop-frame.frame-index [])

@@ -3,7 +3,7 @@ use Rattle.std.proofs.lemmas.Grind.{common_steps}
 use Rattle.std.proofs.Common.{arith}
 use Rattle.std.proofs.lemmas.Map.Text.{hash_map_updates_str}
 use Rattle.profile_rows.proofs.SameNames.{same_from_is_same_name}
-use Rattle.folded_text.proofs.known_names.KnownNames.name_of.Goals as goal
+use Rattle.name_counts.proofs.known_names.KnownNames.name_of.Goals as goal
 
 pub returns-in-Some : goal.returns-in-Some
 returns-in-Some c = grind (arith, common_steps, c.self.invariant c.args.text.now)

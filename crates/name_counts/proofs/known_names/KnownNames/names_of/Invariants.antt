@@ -1,5 +1,5 @@
 use Rattle.std.proofs.Common.{◌≡◌, map, take}
-use Rattle.folded_text.proofs.known_names.KnownNames.names_of.Given as goal
+use Rattle.name_counts.proofs.known_names.KnownNames.names_of.Given as goal
 
 -- the names so far are the frames' texts
 abbrev pub invariant-loop-frame : goal.invariant-loop-frame

@@ -1,6 +1,6 @@
 use Rattle.std.proofs.Common.{length}
-use Rattle.flame_answers.proofs.Parts.{IsWrittenSoFar}
-use Rattle.flame_answers.proofs.streams.write_text.Given as goal
+use Rattle.flame_program.proofs.Parts.{IsWrittenSoFar}
+use Rattle.flame_program.proofs.streams.write_text.Given as goal
 
 abbrev pub invariant-loop-rest : goal.invariant-loop-rest
 invariant-loop-rest g l = IsWrittenSoFar l.fn.text l.rest (g.W.Write.contents l.fn.writer) (g.W.Write.contents l.writer)

@@ -1,6 +1,6 @@
 use Rattle.std.proofs.Common.{◌+◌, ◌-◌, ◌<◌, ◌≤◌, length, vec_len}
 use Rattle.std.specs.Io.KnownBytes.{Consumes}
-use Rattle.flame_answers.proofs.streams.read_input.Given as goal
+use Rattle.flame_program.proofs.streams.read_input.Given as goal
 
 abbrev pub invariant-loop-input : goal.invariant-loop-input
 invariant-loop-input g l = (length l.input.items ≤ l.limit) × (0 < vec_len l.buffer)

@@ -4,7 +4,7 @@ use Rattle.std.proofs.Common.{arith, append_assoc, append-nil, length-append, le
 use Rattle.std.proofs.KnownBytes.{Appends-trans}
 use Rattle.std.proofs.Math.Seq.{take-append_seam}
 use Rattle.std.specs.Io.KnownBytes.{Appends}
-use Rattle.flame_answers.specs.Parts.{AppendsBeginning}
+use Rattle.flame_program.specs.Parts.{AppendsBeginning}
 
 -- what is written of a text, and what is left of it
 pub record IsWrittenSoFar (text rest : List ℕ) (before after : Option (List ℕ)) : Type 0 where

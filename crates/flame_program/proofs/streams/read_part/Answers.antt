@@ -1,6 +1,6 @@
 use Rattle.std.proofs.Common.{◌≤◌, ◌++◌, length, take, rules, arith, length-append, length-take, length-take-le}
 use Rattle.std.proofs.KnownBytes.{Consumes-trans}
-use Rattle.flame_answers.proofs.streams.read_part.Goals as goal
+use Rattle.flame_program.proofs.streams.read_part.Goals as goal
 
 pub returns-then-count-room : goal.returns-then-count-room
 returns-then-count-room g c start taken =

@@ -16,7 +16,7 @@ pub struct KnownNames<'a> {
 }
 
 impl<'a> Model for KnownNames<'a> {
-    ghost use Rattle.folded_text.specs.KnownNames.{AreKept};
+    ghost use Rattle.name_counts.specs.KnownNames.{AreKept};
 
     ghost Value = { Unit {0} };
 

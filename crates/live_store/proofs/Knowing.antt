@@ -10,7 +10,7 @@ use Rattle.std.proofs.lemmas.List.Quantifiers.{all_pairs_push}
 use Rattle.std.proofs.lemmas.List.Sums.{length-filter}
 use Rattle.std.proofs.lemmas.Bool.Decides.{nat_tests}
 use mathlib.Core.List.{IsPrefix}
-use Rattle.change_history.proofs.Fronts.{prefix_trans, prefix_whole, prefix_length, prefix_get}
+use Rattle.shown_versions.proofs.Fronts.{prefix_trans, prefix_whole, prefix_length, prefix_get}
 use Rattle.op_book.specs.Books.{BookState, IsFirstBookFault, change_told, entry_after, receipt_after}
 use Rattle.op_book.specs.Changes.{change_op}
 use Rattle.op_book.specs.Receipts.{HasEntry, Precedes, key_of}

@@ -4,7 +4,7 @@ use Rattle.std.specs.Borrow.{Bor, Fml, MutBor, RattleType, follows_so}
 use mathlib.Core.List.{IsPrefix}
 use mathlib.Core.Option.{none}
 use mir.Syntax.{named}
-use Rattle.change_history.specs.declared.name.StoreName as store
+use Rattle.shown_versions.specs.declared.name.StoreName as store
 use Rattle.flame_report.specs.declared.answer.Answer.{Answer}
 use Rattle.op_book.specs.Books.{receipt_after}
 use Rattle.op_book.specs.Operations.{PlainOp, answered}

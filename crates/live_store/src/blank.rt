@@ -4,10 +4,9 @@ ghost use Rattle.std.specs.Prelude.{◌≡◌, ◌<◌, ◌≤◌, [], IfOk, Mat
 ghost use Rattle.live_store.specs.Stores.{IsMakeFault};
 
 use crate::fault::MakeFault;
-use change_history::{NewHistory, Reached};
 use op_book::Book;
 use profile_rows::{Hashing, NoMemory, Width};
-use shown_versions::{Version, VersionWriter, new_writer};
+use shown_versions::{NewHistory, Reached, Version, VersionWriter, new_writer};
 use std::alloc::Global;
 use std::marker::Model;
 use std::sync::Arc;

@@ -11,10 +11,10 @@ mod told;
 mod workers;
 
 pub use blank::{Blank, MAX_SESSIONS};
-pub use change_history::StoreName;
 pub use fault::{MakeFault, SessionFault, WorkersFault};
 pub use op_book::{BookFault, Refused};
 pub use session::Session;
+pub use shown_versions::StoreName;
 pub use store::Store;
 pub use told::{Placed, Told, Window};
 pub use workers::{Cause, FinishedWorker, Gate, Stop, Ungated, run_workers};

@@ -13,9 +13,11 @@ ghost use Rattle.live_store.specs.Stores.{IsGiveFault, changes_told};
 use crate::fault::SessionFault;
 use crate::told::{Placed, Told, Window};
 use call_tree::CallTree;
-use change_history::{Front, HistoryEnd, StoreName};
 use op_book::{Book, BookFault, Change, Journal, Ready};
-use shown_versions::{Version, VersionReader, VersionWriter, make_room, new_reader, publish};
+use shown_versions::{
+    Front, HistoryEnd, StoreName, Version, VersionReader, VersionWriter, make_room, new_reader,
+    publish,
+};
 use std::alloc::{AllocError, Global};
 use std::sync::{Arc, Wait};
 

@@ -6,9 +6,9 @@ use crate::blank::Blank;
 use crate::fault::SessionFault;
 use crate::locked_book::LockedBook;
 use crate::session::Session;
-use change_history::{Front, HistoryEnd, StoreName};
 use op_book::Journal;
 use profile_rows::Width;
+use shown_versions::{Front, HistoryEnd, StoreName};
 use std::alloc::Global;
 use std::sync::{Mutex, MutexGuard, Wait};
 

@@ -1,7 +1,7 @@
 //! What a session passes on to others: where its change was placed, and what they may be told of it.
 
 use call_tree::CallTree;
-use change_history::{Front, StoreName};
+use shown_versions::{Front, StoreName};
 use std::fmt::{self, Debug, Formatter, Write};
 use std::marker::Model;
 use std::sync::Arc;

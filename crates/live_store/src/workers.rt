@@ -8,9 +8,9 @@ ghost use Rattle.live_store.specs.Workers.{AreWorkOf, IsSeen, IsStarted, IsStopS
 use crate::fault::WorkersFault;
 use crate::session::Session;
 use crate::store::Store;
-use change_history::StoreName;
 use flame_report::Items;
 use op_book::{BookFault, Op, SessionLog};
+use shown_versions::StoreName;
 use std::alloc::{AllocError, Global};
 use std::marker::PhantomData;
 use std::snapshot::Snapshot;

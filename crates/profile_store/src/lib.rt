@@ -14,9 +14,9 @@
 //! `log_audit` and `live_store`; of `pprof_profile` everything but `IdRange`.
 //!
 //! The layers below these aren't in it: `basics`, the wire format (`pprof_wire`), the pages of trees (`shared_pages`),
-//! the history of a store (`change_history`) and its versions (`shown_versions`). Of them it has only what its calls
-//! take or give: [`Items`], [`NoMemory`], [`WireFault`] and [`StoreName`]. Nor is the program in it: `flame_words`,
-//! `flame_answers`, `live_report` and `flame_program`.
+//! and the history of a store with its versions (`shown_versions`). Of them it has only what its calls take or give:
+//! [`Items`], [`NoMemory`], [`WireFault`] and [`StoreName`]. Of `name_counts` it has [`KnownNames`] and [`kept_totals`].
+//! Nor is the program in it: `flame_words`, `flame_answers`, `live_report` and `flame_program`.
 #![tactic(auto)]
 
 pub mod laws;

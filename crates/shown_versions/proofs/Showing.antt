@@ -5,9 +5,9 @@ use mathlib.Core.List.{IsPrefix}
 use lib.ListN.{get_elem?}
 use Rattle.left_right.specs.Register.{Admits, Turns, TurnsAt, Forks, Merges}
 use Rattle.atomic_table.proofs.Lists.{at_set, at_snoc}
-use Rattle.change_history.proofs.Fronts.{prefix_self, prefix_trans}
+use Rattle.shown_versions.proofs.Fronts.{prefix_self, prefix_trans}
 use Rattle.shown_versions.specs.declared.known.KnownVersion.{KnownVersion}
-use Rattle.shown_versions.specs.declared.rule.View.{View}
+use Rattle.shown_versions.specs.declared.version_rule.View.{View}
 use Rattle.shown_versions.specs.Views.{newcomer, knower, Covers, Keeps, Shows}
 
 covers_itself : (x : KnownVersion) → Covers x (knower x)

@@ -9,7 +9,7 @@ use Rattle.flame_report.specs.declared.answer.Answer.{Answer}
 use Rattle.flame_report.specs.declared.query.Query.{Query}
 use Rattle.op_book.specs.Operations.{PlainEntry, operations_of, profile_after}
 use Rattle.shown_versions.specs.declared.known.KnownVersion.{KnownVersion}
-use Rattle.shown_versions.specs.declared.rule.View.{View}
+use Rattle.shown_versions.specs.declared.version_rule.View.{View}
 
 abbrev pub newcomer : View
 newcomer = record { known = None }

@@ -7,9 +7,10 @@ ghost use Rattle.op_book.specs.Books.{receipt_after};
 ghost use Rattle.op_book.specs.Operations.{answered, ask};
 ghost use Rattle.shown_versions.specs.Views.{IsAnswerAfter, IsOf};
 
-use crate::rule::{Published, Sees, View};
+use crate::front::Front;
+use crate::name::StoreName;
 use crate::version::Version;
-use change_history::{Front, StoreName};
+use crate::version_rule::{Published, Sees, View};
 use core::mem::replace_with;
 use flame_report::{Answer, Kind, NoMemory, Query, report};
 use left_right::reader::Reader;

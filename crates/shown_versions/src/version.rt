@@ -5,8 +5,8 @@ ghost use Rattle.std.specs.Arc.{arc_value};
 ghost use Rattle.op_book.specs.Books.{IsReplay};
 ghost use Rattle.op_book.specs.Runs.{AreChanges, AreTurnsInOrder};
 
+use crate::reached::Reached;
 use call_tree::CallTree;
-use change_history::Reached;
 use std::alloc::AllocError;
 use std::marker::Model;
 use std::sync::Arc;

@@ -5,10 +5,10 @@ ghost use mathlib.Core.List.{IsPrefix};
 ghost use Rattle.left_right.specs.Sides.{view as known};
 ghost use Rattle.shown_versions.specs.Views.{IsOf, knower, listed};
 
+use crate::name::StoreName;
 use crate::reader::VersionReader;
-use crate::rule::{Notes, Published, Sees, View};
 use crate::version::Version;
-use change_history::StoreName;
+use crate::version_rule::{Notes, Published, Sees, View};
 use core::mem::replace_with;
 use left_right::writer::Writer;
 use std::alloc::{AllocError, Global};

@@ -1,7 +1,7 @@
 use Rattle.std.proofs.Common.{◌≡◌, List, [], ◌∷◌, ◌++◌, refl, sym, ap, ◌∙◌, subst}
 use mathlib.Core.List.{IsPrefix}
-use Rattle.change_history.proofs.Fronts.{prefix_self}
-use Rattle.change_history.specs.Histories.{entry_made}
+use Rattle.shown_versions.proofs.Fronts.{prefix_self}
+use Rattle.shown_versions.specs.Histories.{entry_made}
 use Rattle.op_book.specs.Books.{change_told, entry_after}
 use Rattle.op_book.specs.Operations.{PlainEntry, PlainReceipt, placed}
 use Rattle.op_book.specs.Runs.{turns_of}

@@ -2,9 +2,9 @@
 
 ghost use Rattle.std.specs.Prelude.{◌≡◌, ◌≤◌, length};
 ghost use mathlib.Core.List.{IsPrefix};
-ghost use Rattle.change_history.specs.Histories.{entries_of};
+ghost use Rattle.shown_versions.specs.Histories.{entries_of};
 
-use crate::rule::SeenLines;
+use crate::history_rule::SeenLines;
 use std::marker::Model;
 
 /// The evidence that a history has reached a list of changes. It takes no bytes, and it lasts. Contracts see the list,
@@ -15,7 +15,7 @@ pub struct Reached {
 }
 
 impl Model for Reached {
-    ghost use Rattle.change_history.specs.Histories.{ReachedList, entries_of};
+    ghost use Rattle.shown_versions.specs.Histories.{ReachedList, entries_of};
 
     ghost Value = { ReachedList };
 

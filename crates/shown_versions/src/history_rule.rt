@@ -19,7 +19,7 @@ pub struct HistoryRule;
 impl Rule<Line, u64> for HistoryRule {
     ghost use Rattle.std.specs.Prelude.{[]};
     ghost use base.Fml.{ftrue};
-    ghost use Rattle.change_history.specs.Histories.{IsKept};
+    ghost use Rattle.shown_versions.specs.Histories.{IsKept};
 
     ghost holds = { λ cells log. IsKept cells log };
 
@@ -47,7 +47,7 @@ impl Gain<Line, u64> for NoTrade {
 pub struct Begins;
 
 impl Play<Line, u64> for Begins {
-    ghost use Rattle.change_history.specs.Histories.{HasBegun};
+    ghost use Rattle.shown_versions.specs.Histories.{HasBegun};
 
     ghost then = { HasBegun };
 }
@@ -56,7 +56,7 @@ impl Play<Line, u64> for Begins {
 pub struct TakesPen;
 
 impl Play<Line, u64> for TakesPen {
-    ghost use Rattle.change_history.specs.Histories.{HasTakenPen};
+    ghost use Rattle.shown_versions.specs.Histories.{HasTakenPen};
 
     ghost then = { HasTakenPen };
 }
@@ -65,7 +65,7 @@ impl Play<Line, u64> for TakesPen {
 pub struct FindsUnused;
 
 impl Play<Line, u64> for FindsUnused {
-    ghost use Rattle.change_history.specs.Histories.{IsUnused};
+    ghost use Rattle.shown_versions.specs.Histories.{IsUnused};
 
     ghost then = { IsUnused };
 }
@@ -74,7 +74,7 @@ impl Play<Line, u64> for FindsUnused {
 pub struct AddsChange;
 
 impl Play<Line, u64> for AddsChange {
-    ghost use Rattle.change_history.specs.Histories.{IsAdded};
+    ghost use Rattle.shown_versions.specs.Histories.{IsAdded};
 
     ghost then = { IsAdded };
 }
@@ -82,7 +82,7 @@ impl Play<Line, u64> for AddsChange {
 /// What a step that writes no change asks for.
 impl Plain<(), Line, u64> for NoTrade {
     ghost use Rattle.std.specs.Prelude.{None};
-    ghost use Rattle.change_history.specs.declared.rule.Line.TheVariants as line;
+    ghost use Rattle.shown_versions.specs.declared.history_rule.Line.TheVariants as line;
 
     ghost ask = { λ _. line.Begins 0 };
 
@@ -98,7 +98,7 @@ pub struct Signed {
 
 impl Plain<Signed, Line, u64> for AddsChange {
     ghost use Rattle.std.specs.Prelude.{None};
-    ghost use Rattle.change_history.specs.Histories.{line_made};
+    ghost use Rattle.shown_versions.specs.Histories.{line_made};
 
     ghost ask = { line_made };
 

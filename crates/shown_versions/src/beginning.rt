@@ -2,10 +2,10 @@
 
 ghost use Rattle.std.specs.Prelude.{◌≡◌, []};
 ghost use Rattle.logbook.specs.Pages.{may_write};
-ghost use Rattle.change_history.specs.Histories.{head_of};
+ghost use Rattle.shown_versions.specs.Histories.{head_of};
 
+use crate::history_rule::{Asked, Begins, HistoryRule, HistoryWord, NoTrade, SeenLines, TakesPen};
 use crate::reached::Reached;
-use crate::rule::{Asked, Begins, HistoryRule, HistoryWord, NoTrade, SeenLines, TakesPen};
 use logbook::{Pen, Seen, Start, Word};
 use std::marker::Model;
 
@@ -20,7 +20,7 @@ pub struct NewHistory {
 impl Model for NewHistory {
     ghost use Rattle.std.specs.Prelude.{◌≡◌, ◌<◌, [], length};
     ghost use Rattle.logbook.specs.Pages.{Book, may_write};
-    ghost use Rattle.change_history.specs.Histories.{entries_of, head_of, next_pen};
+    ghost use Rattle.shown_versions.specs.Histories.{entries_of, head_of, next_pen};
 
     ghost Value = { Book };
 

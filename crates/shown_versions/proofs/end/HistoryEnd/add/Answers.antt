@@ -1,10 +1,10 @@
 use Rattle.std.proofs.Common.{sym, ◌∙◌, ap, ap₂, arith, length-append, length, List, ◌∷◌, ◌++◌, ◌<◌, []}
 use Rattle.op_book.specs.Operations.{PlainEntry}
-use Rattle.change_history.specs.declared.rule.Line.{Line}
-use Rattle.change_history.specs.Histories.{entries_of, entry_made, line_made, next_pen}
-use Rattle.change_history.proofs.Pens.{entries_with, next_with}
-use Rattle.change_history.proofs.Steps.{adds_moves}
-use Rattle.change_history.proofs.end.HistoryEnd.add.Goals as goal
+use Rattle.shown_versions.specs.declared.history_rule.Line.{Line}
+use Rattle.shown_versions.specs.Histories.{entries_of, entry_made, line_made, next_pen}
+use Rattle.shown_versions.proofs.Pens.{entries_with, next_with}
+use Rattle.shown_versions.proofs.Steps.{adds_moves}
+use Rattle.shown_versions.proofs.end.HistoryEnd.add.Goals as goal
 
 pub compare_exchange-requires : goal.compare_exchange-requires
 compare_exchange-requires g c =

@@ -1,7 +1,7 @@
 use Rattle.std.proofs.Common.{sym, ◌∙◌, ap}
-use Rattle.change_history.specs.declared.rule.Line.TheVariants as line
-use Rattle.change_history.proofs.Steps.{takes_moves}
-use Rattle.change_history.proofs.beginning.new_pen.Goals as goal
+use Rattle.shown_versions.specs.declared.history_rule.Line.TheVariants as line
+use Rattle.shown_versions.proofs.Steps.{takes_moves}
+use Rattle.shown_versions.proofs.beginning.new_pen.Goals as goal
 
 pub compare_exchange-requires : goal.compare_exchange-requires
 compare_exchange-requires c =

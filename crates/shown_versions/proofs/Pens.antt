@@ -5,9 +5,9 @@ use mathlib.Core.List.{IsPrefix}
 use Rattle.std.specs.Prelude.{slice_set, slice_index_or, false}
 use Rattle.logbook.specs.Pages.{Cell, cell}
 use Rattle.op_book.specs.Operations.{PlainEntry}
-use Rattle.change_history.specs.declared.rule.Line.{Line}
-use Rattle.change_history.specs.declared.rule.Line.TheVariants as line
-use Rattle.change_history.specs.Histories.{entries_of, next_pen, pen_named, used_pens, word_of}
+use Rattle.shown_versions.specs.declared.history_rule.Line.{Line}
+use Rattle.shown_versions.specs.declared.history_rule.Line.TheVariants as line
+use Rattle.shown_versions.specs.Histories.{entries_of, next_pen, pen_named, used_pens, word_of}
 
 pub set_same : (cs : List Cell) (k : ℕ) (c : Cell) → k < length cs → cell (slice_set cs k c) k ≡ c
 set_same [] k c h = absurd (omega arith)

@@ -1,12 +1,12 @@
 use Rattle.std.proofs.Common.{sym, ◌≢◌, ◌∙◌, ℕ, List, ap, subst}
 use mathlib.Core.List.{IsPrefix}
-use Rattle.change_history.specs.Histories.{entries_of}
-use Rattle.change_history.specs.declared.rule.Line.{Line}
-use Rattle.change_history.specs.declared.rule.Line.TheVariants as line
-use Rattle.change_history.proofs.Fronts.{prefix_trans}
-use Rattle.change_history.proofs.Pens.{entries_prefix, whole_by}
-use Rattle.change_history.proofs.Steps.{unused_moves}
-use Rattle.change_history.proofs.end.HistoryEnd.catch_up.Goals as goal
+use Rattle.shown_versions.specs.Histories.{entries_of}
+use Rattle.shown_versions.specs.declared.history_rule.Line.{Line}
+use Rattle.shown_versions.specs.declared.history_rule.Line.TheVariants as line
+use Rattle.shown_versions.proofs.Fronts.{prefix_trans}
+use Rattle.shown_versions.proofs.Pens.{entries_prefix, whole_by}
+use Rattle.shown_versions.proofs.Steps.{unused_moves}
+use Rattle.shown_versions.proofs.end.HistoryEnd.catch_up.Goals as goal
 
 pub compare_exchange-requires : goal.compare_exchange-requires
 compare_exchange-requires g c =

@@ -2,13 +2,15 @@
 
 ghost use Rattle.std.specs.Prelude.{◌≡◌, ◌<◌, ◌^◌, ◌++◌, ◌∷◌, [], length};
 ghost use mathlib.Core.List.{IsPrefix};
-ghost use Rattle.change_history.specs.Histories.{entry_made};
+ghost use Rattle.shown_versions.specs.Histories.{entry_made};
 
 use crate::beginning::{NewHistory, new_pen};
 use crate::front::Front;
+use crate::history_rule::{
+    AddsChange, Asked, FindsUnused, HistoryWord, NoTrade, SeenLines, Signed,
+};
 use crate::name::StoreName;
 use crate::reached::Reached;
-use crate::rule::{AddsChange, Asked, FindsUnused, HistoryWord, NoTrade, SeenLines, Signed};
 use logbook::Pen;
 use op_book::Ready;
 use std::marker::{Model, PhantomData};
@@ -29,7 +31,7 @@ impl<N: StoreName> Model for HistoryEnd<N> {
     ghost use Rattle.std.specs.Prelude.{◌≡◌, ◌<◌, List, length};
     ghost use Rattle.logbook.specs.Pages.{may_write};
     ghost use Rattle.op_book.specs.Operations.{PlainEntry};
-    ghost use Rattle.change_history.specs.Histories.{entries_of, head_of, next_pen};
+    ghost use Rattle.shown_versions.specs.Histories.{entries_of, head_of, next_pen};
 
     ghost Value = { List PlainEntry };
 

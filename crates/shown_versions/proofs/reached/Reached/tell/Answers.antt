@@ -1,5 +1,5 @@
-use Rattle.change_history.proofs.Pens.{entries_prefix}
-use Rattle.change_history.proofs.reached.Reached.tell.Goals as goal
+use Rattle.shown_versions.proofs.Pens.{entries_prefix}
+use Rattle.shown_versions.proofs.reached.Reached.tell.Goals as goal
 
 pub returns-clause-told : goal.returns-clause-told
 returns-clause-told c =

@@ -1,10 +1,10 @@
 use Rattle.std.proofs.Common.{List, ap, subst}
 use mathlib.Core.List.{IsPrefix}
-use Rattle.change_history.specs.Histories.{entries_of}
-use Rattle.change_history.specs.declared.rule.Line.{Line}
-use Rattle.change_history.proofs.Fronts.{prefix_shorter}
-use Rattle.change_history.proofs.Pens.{entries_prefix}
-use Rattle.change_history.proofs.reached.Reached.compare.Goals as goal
+use Rattle.shown_versions.specs.Histories.{entries_of}
+use Rattle.shown_versions.specs.declared.history_rule.Line.{Line}
+use Rattle.shown_versions.proofs.Fronts.{prefix_shorter}
+use Rattle.shown_versions.proofs.Pens.{entries_prefix}
+use Rattle.shown_versions.proofs.reached.Reached.compare.Goals as goal
 
 pub returns-clause-shorter : goal.returns-clause-shorter
 returns-clause-shorter c =

@@ -8,10 +8,10 @@ use Rattle.std.specs.Prelude.{slice_set}
 use mathlib.Core.List.{IsPrefix}
 use prog.Atomic.{either}
 use Rattle.logbook.specs.Pages.{Cell, Nib, cell, keeps, gives, adds, no_nib, may_write, step, Moves, Goes}
-use Rattle.change_history.specs.declared.rule.Line.{Line}
-use Rattle.change_history.specs.declared.rule.Line.TheVariants as line
-use Rattle.change_history.specs.Histories.{HasBegun, HasTakenPen, IsAdded, IsKept, IsUnused, next_pen, used_pens, word_of}
-use Rattle.change_history.proofs.Pens.{all_more, at_more, home_within, set_again, set_other, set_same, used_with, whole_by, word_with}
+use Rattle.shown_versions.specs.declared.history_rule.Line.{Line}
+use Rattle.shown_versions.specs.declared.history_rule.Line.TheVariants as line
+use Rattle.shown_versions.specs.Histories.{HasBegun, HasTakenPen, IsAdded, IsKept, IsUnused, next_pen, used_pens, word_of}
+use Rattle.shown_versions.proofs.Pens.{all_more, at_more, home_within, set_again, set_other, set_same, used_with, whole_by, word_with}
 
 abbrev pub shown : List Line → List Line
 shown log = []

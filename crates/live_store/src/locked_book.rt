@@ -10,6 +10,7 @@ ghost use Rattle.shown_versions.specs.Views.{IsOf, listed};
 ghost use Rattle.live_store.specs.Changes.{HasChanged, IsNextOf, IsRefused, IsWindow, session_of};
 ghost use Rattle.live_store.specs.Stores.{IsGiveFault, changes_told};
 
+use crate::blank::Blank;
 use crate::fault::SessionFault;
 use crate::told::{Placed, Told, Window};
 use call_tree::CallTree;
@@ -61,32 +62,22 @@ fn version_of<N: StoreName>(book: &Book, front: &Front<N>, tree: Arc<CallTree>) 
 }
 
 impl<N: StoreName> LockedBook<N> {
-    /// The book that the lock will keep, of which no session was given, and of the writer of its first version.
-    pub(crate) fn new(
-        book: Book,
-        end: HistoryEnd<N>,
-        sessions: u32,
-        versions: VersionWriter,
-    ) -> LockedBook<N>
-        requires limit { book.limit ≡ N.limit }
-        requires all { book.sessions ≡ N.sessions }
-        requires wide { book.width ≡ N.width }
-        requires many { sessions ≡ N.sessions }
-        requires whole { end ≡ book.entries }
-        requires shown { versions.desk.shown.value.seen.log ≡ book.entries }
-        requires history { versions.desk.shown.value.seen.book ≡ N.history }
-        requires shown_wide { versions.desk.shown.value.width ≡ N.width }
-        requires writer { listed (known versions.desk.place) ≡ book.entries }
-        ensures given { result.given ≡ 0 }
-        ensures book { result.book ≡ book }
+    /// What the lock will keep of a blank, of which no session was given, and its history, which has no change.
+    pub(crate) fn of(blank: Blank) -> (LockedBook<N>, Front<N>)
+        requires { blank
+            ≡ record { limit = N.limit; sessions = N.sessions; width = N.width; history = N.history } }
+        ensures { result.1 ≡ [] }
     {
-        LockedBook {
-            book,
+        let end = HistoryEnd::of(blank.history);
+        let origin = end.front();
+        let book = LockedBook {
+            book: blank.book,
             end,
-            sessions,
+            sessions: blank.sessions,
             given: 0,
-            versions,
-        }
+            versions: blank.versions,
+        };
+        (book, origin)
     }
 
     /// The log of the next session, where not all were given, and its reader. Sessions are numbered from 0.

@@ -8,7 +8,7 @@ use crate::locked_book::LockedBook;
 use crate::session::Session;
 use op_book::Journal;
 use profile_rows::Width;
-use shown_versions::{Front, HistoryEnd, StoreName};
+use shown_versions::{Front, StoreName};
 use std::alloc::Global;
 use std::sync::{Mutex, MutexGuard, Wait};
 
@@ -31,17 +31,10 @@ impl<N: StoreName> Store<N> {
         requires { blank
             ≡ record { limit = N.limit; sessions = N.sessions; width = N.width; history = N.history } }
     {
-        let Blank {
-            book,
-            sessions,
-            width,
-            history,
-            versions,
-        } = blank;
-        let end = HistoryEnd::of(history);
-        let origin = end.front();
+        let width = blank.width;
+        let (book, origin) = LockedBook::of(blank);
         Store {
-            book: Mutex::new(LockedBook::new(book, end, sessions, versions)),
+            book: Mutex::new(book),
             origin,
             width,
         }

@@ -3,7 +3,7 @@
 ghost use Rattle.std.specs.Prelude.{◌≡◌, ◌≢◌, ◌<◌, ◌≤◌, [], length, map, vec_capacity, All, IfErr, IfOk, IfSome, IsSomeAnd, MatchOption};
 ghost use Rattle.std.specs.Option.{ForSome};
 ghost use Rattle.op_book.specs.Operations.{plain_op};
-ghost use Rattle.live_store.specs.Workers.{AreWorkOf, IsSeen, IsStarted, IsStopShown, IsStoppedBy, IsWorkOf, IsWorkersFault, ops_told};
+ghost use Rattle.live_store.specs.Workers.{AreFinished, AreWorkOf, IsFinished, IsSeen, IsStarted, IsStopShown, IsStoppedBy, IsWorkersFault, ops_told};
 
 use crate::fault::WorkersFault;
 use crate::session::Session;
@@ -88,10 +88,10 @@ struct WorkerPromise<N: StoreName> {
 impl<N: StoreName> Promise<FinishedWorker> for WorkerPromise<N> {
     ghost use Rattle.std.specs.Prelude.{◌≡◌, map};
     ghost use Rattle.op_book.specs.Operations.{plain_op};
-    ghost use Rattle.live_store.specs.Workers.{IsSeen, IsStarted, IsWorkOf};
+    ghost use Rattle.live_store.specs.Workers.{IsFinished, IsStarted};
 
-    ghost kept_by = { λ promise worked. IsWorkOf N.limit N.width (map plain_op promise.list.value.items) worked
-        × (worked.log.session ≡ promise.session) × IsSeen N.sessions worked × IsStarted worked };
+    ghost kept_by = { λ promise worked. IsFinished N.limit N.width N.sessions (map plain_op promise.list.value.items)
+        promise.session worked × IsStarted worked };
 }
 
 /// A worker, and its thread, where one could be had.
@@ -166,11 +166,9 @@ fn work_all<'a, N: StoreName, G: Gate, R: Threads + Wait + Sync>(
     workers: Vec<Worker<'a, N>>,
     gate: &G,
 ) -> Result<Vec<FinishedWorker>, AllocError>
-    ensures work { IfOk result (λ all. AreWorkOf N.limit N.width
-        (map (λ worker. map plain_op worker.list.items) workers.entry.items) all.items) }
-    ensures seen { IfOk result (λ all. All (IsSeen N.sessions) all.items) }
-    ensures sessions { IfOk result (λ all. map (λ worked. worked.log.session) all.items
-        ≡ map (λ worker. worker.session.number) workers.entry.items) }
+    ensures { IfOk result (λ all. AreFinished N.limit N.width N.sessions
+        (map (λ worker. map plain_op worker.list.items) workers.entry.items)
+        (map (λ worker. worker.session.number) workers.entry.items) all.items) }
 {
     let begun = Vec::with_capacity(alloc, workers.len())?;
     let worked = Vec::with_capacity(alloc, workers.len())?;
@@ -180,11 +178,9 @@ fn work_all<'a, N: StoreName, G: Gate, R: Threads + Wait + Sync>(
         move |scope| -> Vec<FinishedWorker>
             requires begun { (begun.items ≡ []) × (length workers.items ≤ vec_capacity begun) }
             requires worked { (worked.items ≡ []) × (length workers.items ≤ vec_capacity worked) }
-            ensures work { AreWorkOf N.limit N.width
-                (map (λ worker. map plain_op worker.list.items) workers.entry.items) result.items }
-            ensures seen { All (IsSeen N.sessions) result.items }
-            ensures sessions { map (λ worked. worked.log.session) result.items
-                ≡ map (λ worker. worker.session.number) workers.entry.items }
+            ensures { AreFinished N.limit N.width N.sessions
+                (map (λ worker. map plain_op worker.list.items) workers.entry.items)
+                (map (λ worker. worker.session.number) workers.entry.items) result.items }
         {
             let mut begun = begun;
             for worker in workers {
@@ -218,10 +214,8 @@ fn join_all<N: StoreName, R: Threads + Wait>(
 ) -> Vec<FinishedWorker>
     requires room { (worked.items ≡ []) × (length begun.items ≤ vec_capacity worked) }
     requires sessions { All (λ one. one.session < N.sessions) begun.items }
-    ensures work { AreWorkOf N.limit N.width
-        (map (λ one. map plain_op one.list.value.items) begun.items) result.items }
-    ensures seen { All (IsSeen N.sessions) result.items }
-    ensures sessions { map (λ one. one.log.session) result.items ≡ map (λ one. one.session) begun.items }
+    ensures { AreFinished N.limit N.width N.sessions (map (λ one. map plain_op one.list.value.items) begun.items)
+        (map (λ one. one.session) begun.items) result.items }
 {
     let mut worked = worked;
     for one in begun {
@@ -237,9 +231,7 @@ fn join_one<N: StoreName, R: Threads + Wait>(
     begun: StartedWorker<N>,
 ) -> FinishedWorker
     requires { begun.session < N.sessions }
-    ensures work { IsWorkOf N.limit N.width (map plain_op begun.list.value.items) result }
-    ensures session { result.log.session ≡ begun.session }
-    ensures seen { IsSeen N.sessions result }
+    ensures finished { IsFinished N.limit N.width N.sessions (map plain_op begun.list.value.items) begun.session result }
     ensures start { MatchOption begun.thread (IsSomeAnd result.stopped (λ stop. stop.cause ≡ Cause.Start))
         (λ _. IsStarted result) }
 {
@@ -270,9 +262,8 @@ fn work<'a, N: StoreName, G: Gate, R: Wait>(
     worker: Worker<'a, N>,
     gate: &G,
 ) -> FinishedWorker
-    ensures work { IsWorkOf N.limit N.width (map plain_op worker.entry.list.items) result }
-    ensures session { result.log.session ≡ worker.entry.session.number }
-    ensures seen { IsSeen N.sessions result }
+    ensures finished { IsFinished N.limit N.width N.sessions (map plain_op worker.entry.list.items)
+        worker.entry.session.number result }
     ensures started { IsStarted result }
 {
     let Worker {

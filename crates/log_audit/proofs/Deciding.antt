@@ -1,5 +1,6 @@
 -- What was found in the order of a run, said of the logs; and that a match leaves no fault.
-use Rattle.std.proofs.Common.{rules, ℕ, zero, suc, true, ◌≡◌, ◌<◌, ◌≤◌, ◌+◌, ◌-◌, inl, inr, Option, Some, None, List}
+use Rattle.std.proofs.lemmas.Grind.{common_steps}
+use Rattle.std.proofs.Common.{rules, ℕ, zero, suc, true, ◌≡◌, ◌<◌, ◌≤◌, ◌+◌, ◌-◌, Option, Some, None, List}
 use Rattle.std.proofs.Common.{[], ◌∷◌}
 use Rattle.std.proofs.Common.{◌++◌, length, get_or, take, drop, All, Any, refl, sym, ap, subst, ◌∙◌, arith}
 use Rattle.std.specs.Prelude.{IsPermutation}
@@ -70,17 +71,16 @@ numbered_after number (log ∷ logs) k d lt =
     let here = logged_from number log.session 0 None log.receipts in
     let rest = logged_after (number + length log.receipts) logs in
     let size : length here ≡ length log.receipts = length-logged_from number log.session 0 None log.receipts in
-    elim (cases_lt k (length here)) [
-      | inl inside ↦ ap (λ (one : LoggedReceipt). one.number) (get_or-append here rest d k inside)
-          ∙ numbered_from number log.session 0 None log.receipts k d inside
-      | inr beyond ↦
-          let item =
-          ap (λ (one : LoggedReceipt). one.number) (get_or-append_right here rest (length here) k d refl beyond) in
-          let whole = length-append here rest in
-          let next = numbered_after
-          (number + length log.receipts) logs (k - length here) d (omega (arith, whole, lt, beyond)) in
-          omega (arith, item, next, size, beyond)
-    ]
+    grind (
+      arith,
+      common_steps,
+      cases_lt,
+      get_or-append,
+      get_or-append_right,
+      length-append,
+      numbered_from,
+      numbered_after (number + length log.receipts) logs (k - length here) d,
+    )
 
 pub right_in_logs : (journal : JournalState) (logs : List SessionLog) (ordered : List LoggedReceipt)
     → All (IsKnown journal) (logged logs) → IsPermutation (logged logs) ordered → AreNumbered ordered
@@ -144,12 +144,7 @@ two_logs-one_each : (logs : List SessionLog) (session : ℕ) → IsSecondLog log
 two_logs-one_each logs session second one_each =
     let (k, earlier, inside, there, same) = second.again in
     let each : HasOneLogEach (second.before ++ second.log ∷ second.after) = subst HasOneLogEach second.split one_each in
-    let size = length-append second.before (second.log ∷ second.after) in
-    each k (length second.before) earlier inside (omega (arith, size))
-    (ap (λ (log : SessionLog). log.session)
-    (get_or-append second.before (second.log ∷ second.after) earlier k inside ∙ there) ∙ same
-    ∙ sym (ap (λ (log : SessionLog). log.session)
-    (get_or_at second.before second.log second.after earlier (length second.before) refl)))
+    grind (arith, common_steps, length-append, get_or-append, get_or_at, each k (length second.before) earlier)
 
 pub no_fault : (journal : JournalState) (logs : List SessionLog)
     → LogsMatch journal logs → (fault : AuditFault) → IsFirstAuditFault journal logs fault → fault ≡ NoMemory

@@ -3,10 +3,10 @@ use Rattle.std.proofs.lemmas.Grind.{common_steps}
 use Rattle.std.proofs.Common.{ℕ, zero, suc, ◌≡◌, ◌<◌, ◌≤◌, ◌+◌, ◌^◌, inl, inr, Bool, true, false, cond, filter}
 use Rattle.std.proofs.Common.{None, List, [], ◌∷◌, ◌++◌, length, get_or, take, map, All, refl, sym, ap, subst, ◌∙◌}
 use Rattle.std.proofs.Common.{arith}
-use Rattle.std.specs.List.{flat_map}
+use Rattle.std.specs.List.{flat_map, list_any}
 use Rattle.std.proofs.lemmas.Bool.{cases_lt}
 use Rattle.std.proofs.lemmas.List.Elements.{filter-append}
-use Rattle.std.proofs.lemmas.List.{append-nil, get_or-take, get_or_default, length-map, length-take-le, take-map}
+use Rattle.std.proofs.lemmas.List.{append-nil, get_or-map, get_or-take, get_or_default, length-map, length-take-le, take-map}
 use Rattle.std.proofs.lemmas.List.{take_all, take_more}
 use Rattle.std.proofs.lemmas.Option.{slice_get_cases}
 use Rattle.std.proofs.lemmas.Simd.{map-map}
@@ -17,11 +17,11 @@ use Rattle.op_book.specs.Receipts.{HasEntry}
 use Rattle.log_audit.specs.Matching.{IsKnown, IsOfJournal, IsReceived, IsRight, LoggedReceipt, PlainStep}
 use Rattle.log_audit.specs.Matching.{step_of}
 use Rattle.op_book.specs.Operations.{FitsWidth, PlainEntry, PlainOp, PlainReceipt, add, reset, ask}
-use Rattle.op_book.specs.Operations.{batches_after, changes_in, is_change, operations_of, placed}
+use Rattle.op_book.specs.Operations.{batches_after, changes_in, is_change, is_reset, operations_of, placed}
 use Rattle.op_book.specs.Operations.{plain_answer, profile_after}
 use Rattle.log_audit.specs.Replays.{AreLight, AreNumbered, IsPlain, ops_in}
 use Rattle.op_book.specs.Runs.{AreChanges, AreOfWidth, IsLegal, IsLegalRun, KeepLimit}
-use Rattle.op_book.proofs.EntryLaws.{batches_after-push, batches_after-reset, changes_in-entries, operations_of-push}
+use Rattle.op_book.proofs.EntryLaws.{changes_in-entries, operations_of-push}
 use Rattle.log_audit.proofs.Numbering.{IsCounted, IsCounted-empty, IsCounted-push, changes-push, one_if}
 use Rattle.log_audit.proofs.Replaying.{ops_in-more, take-ops_in}
 
@@ -76,18 +76,24 @@ known_width journal one fitted known = of_width journal one.session one.receipt 
 
 -- ---- what counts
 
-step_batches : (operations others : List PlainOp) (op : PlainOp) → batches_after operations ≡ batches_after others
-    → batches_after (operations ++ op ∷ []) ≡ batches_after (others ++ op ∷ [])
-step_batches operations others (add batch) same = grind (arith, common_steps, batches_after-push)
-step_batches operations others reset same = batches_after-reset operations ∙ sym (batches_after-reset others)
-step_batches operations others (ask query) same = grind (arith, common_steps, batches_after-push)
+resets_stay : (operations : List PlainOp)
+    → list_any is_reset (filter is_change operations) ≡ list_any is_reset operations
+resets_stay [] = refl
+resets_stay (add batch ∷ later) = resets_stay later
+resets_stay (reset ∷ later) = refl
+resets_stay (ask query ∷ later) = resets_stay later
 
-report_batches : (operations : List PlainOp) (op : PlainOp)
-    → is_change op ≡ false → batches_after (operations ++ op ∷ []) ≡ batches_after operations
-report_batches operations (add batch) report = absurd (cc)
-report_batches operations reset report = absurd (cc)
-report_batches operations (ask query) report = batches_after-push operations (ask query) refl
-    ∙ append-nil (batches_after operations)
+-- the changes alone decide what counts
+changes_count : (operations : List PlainOp) → batches_after (filter is_change operations) ≡ batches_after operations
+changes_count [] = refl
+changes_count (add batch ∷ later) = λ i. cond (resets_stay later i) (changes_count later i)
+    (batch ∷ changes_count later i)
+changes_count (reset ∷ later) = λ i. cond (resets_stay later i) (changes_count later i) (changes_count later i)
+changes_count (ask query ∷ later) = changes_count later ∙ either (list_any is_reset later)
+  where
+    either : (b : Bool) → batches_after later ≡ cond b (batches_after later) (batches_after later)
+    either true = refl
+    either false = refl
 
 -- a receipt of no log
 pub nobody : LoggedReceipt
@@ -134,36 +140,6 @@ operations-same : (journal : JournalState) (all : List LoggedReceipt) (i : ℕ) 
     ≡ operations_of (take (changes_before all i) journal.entries)
 operations-same journal all i one report lt is = grind (arith, common_steps, one_if, more_changes)
 
-follows_more : (journal : JournalState) (all : List LoggedReceipt) (i : ℕ) (one : LoggedReceipt) (b : Bool)
-    → is_change one.receipt.op ≡ b → i < length all → one ≡ get_or all i one
-    → one.receipt.at ≡ changes_before all i → IsKnown journal one
-    → batches_after (ops_in (take i all)) ≡ batches_after (operations_of (take (changes_before all i) journal.entries))
-    → batches_after (ops_in (take (i + 1) all))
-    ≡ batches_after (operations_of (take (changes_before all (i + 1)) journal.entries))
-follows_more journal all i one true change lt is at known so_far =
-    ap batches_after (ops_in-more all i one lt is)
-    ∙ step_batches
-    (ops_in (take i all)) (operations_of (take (changes_before all i) journal.entries)) one.receipt.op so_far
-    ∙ ap batches_after (sym (operations-more journal all i one change lt is at known))
-follows_more journal all i one false report lt is at known so_far =
-    grind (arith, common_steps, ops_in-more, report_batches, operations-same)
-
--- what counts before a receipt is what counts after as many changes of the journal
-pub follows : (journal : JournalState) (all : List LoggedReceipt)
-    → AreNumbered all → All (IsKnown journal) all → (i : ℕ) → i ≤ length all
-    → batches_after (ops_in (take i all)) ≡ batches_after (operations_of (take (changes_before all i) journal.entries))
-follows journal all numbered known zero le = refl
-follows journal all numbered known (suc i) le =
-    let lt : i < length all = omega (arith, le) in
-    let one = get_or all i nobody in
-    let is : one ≡ get_or all i one = get_or_default all i nobody one lt in
-    let so_far = follows journal all numbered known i (omega (arith, le)) in
-    let next = follows_more journal all i one
-    (is_change one.receipt.op) refl lt is (numbered i nobody lt) (known i nobody lt) so_far in
-    let same : suc i ≡ i + 1 = omega arith in
-    subst (λ k. batches_after (ops_in (take k all))
-    ≡ batches_after (operations_of (take (changes_before all k) journal.entries))) (sym same) next
-
 -- ---- the changes of a run are the journal's entries
 
 more_of : (operations : List PlainOp) (op : PlainOp) (b : Bool)
@@ -195,6 +171,13 @@ changes_follow journal all numbered known (suc i) le =
     let same : suc i ≡ i + 1 = omega arith in
     subst (λ k. filter is_change (ops_in (take k all)) ≡ operations_of (take (changes_before all k) journal.entries))
     (sym same) next
+
+-- what counts before a receipt is what counts after as many changes of the journal
+pub follows : (journal : JournalState) (all : List LoggedReceipt)
+    → AreNumbered all → All (IsKnown journal) all → (i : ℕ) → i ≤ length all
+    → batches_after (ops_in (take i all)) ≡ batches_after (operations_of (take (changes_before all i) journal.entries))
+follows journal all numbered known i le = sym (changes_count (ops_in (take i all)))
+    ∙ ap batches_after (changes_follow journal all numbered known i le)
 
 counted_so_far : (all : List LoggedReceipt)
     → AreNumbered all → (i : ℕ) → i ≤ length all → IsCounted (take i all) (changes_before all i)
@@ -233,7 +216,7 @@ answer_same operations others (add batch) report same = absurd (cc)
 answer_same operations others reset report same = absurd (cc)
 answer_same operations others (ask query) report same = grind (arith, common_steps)
 
-change_answer : (operations : List PlainOp) (op : PlainOp)
+pub change_answer : (operations : List PlainOp) (op : PlainOp)
     → is_change op ≡ true → plain_answer operations op ≡ placed (changes_in operations)
 change_answer operations (add batch) change = refl
 change_answer operations reset change = refl
@@ -320,15 +303,9 @@ run_is_legal journal all legal changes numbered known right at item lt =
     let at_lt : at < length all = omega (arith, size, lt) in
     let one = get_or all at nobody in
     let is : one ≡ get_or all at one = get_or_default all at nobody one at_lt in
-    let step : get_or (map step_of all) at item ≡ step_of one = get_or-mapped all at item at_lt in
+    let step : get_or (map step_of all) at item ≡ step_of one = get_or-map step_of all at nobody item at_lt in
     let before : map (λ (step : PlainStep). step.op) (take at (map step_of all)) ≡ ops_in (take at all) =
     ap (map (λ (step : PlainStep). step.op)) (take-map step_of at all)
     ∙ map-map (λ (step : PlainStep). step.op) step_of (take at all) in
     rw (step, before)
     (told journal all legal changes numbered known right at one at_lt is (is_change one.receipt.op) refl)
-  where
-    get_or-mapped : (xs : List LoggedReceipt) (k : ℕ) (d : PlainStep)
-        → k < length xs → get_or (map step_of xs) k d ≡ step_of (get_or xs k nobody)
-    get_or-mapped [] k d k_lt = absurd (omega (arith, k_lt))
-    get_or-mapped (x ∷ xs) zero d k_lt = refl
-    get_or-mapped (x ∷ xs) (suc k) d k_lt = get_or-mapped xs k d (omega (arith, k_lt))

@@ -46,8 +46,7 @@ changes-push seen one = grind (arith, common_steps, map_push, sum_by_push)
 
 pub any_more : {X : Type 0} (P : X → Type 0) (xs : List X) (last : X) → Any P xs → Any P (xs ++ last ∷ [])
 any_more P xs last (k, x, inside, there, has) =
-    let size = length-append xs (last ∷ []) in
-    (k, x, omega (arith, size), get_or-append xs (last ∷ []) x k inside ∙ there, has)
+    (k, x, omega (arith, length-append xs (last ∷ []), inside), get_or-append xs (last ∷ []) x k inside ∙ there, has)
 
 pub IsCounted-push : (seen : List LoggedReceipt) (done : ℕ) (one : LoggedReceipt) → IsCounted seen done
     → one.receipt.at ≡ done → IsCounted (seen ++ one ∷ []) (done + one_if (is_change one.receipt.op))
@@ -76,23 +75,7 @@ IsCounted-push seen done one is place = record {
 
     below : All (λ (r : LoggedReceipt). is_change r.receipt.op ≡ true
         → r.receipt.at < done + one_if (is_change one.receipt.op)) (seen ++ one ∷ [])
-    below k d lt =
-        elim (cases_lt k (length seen)) [
-          | inl inside ↦ λ change.
-              let item = get_or-append seen (one ∷ []) d k inside in
-              let old =
-              is.below k d inside (subst (λ (r : LoggedReceipt). is_change r.receipt.op ≡ true) item change) in
-              let same = ap (λ (r : LoggedReceipt). r.receipt.at) item in
-              omega (arith, old, same)
-          | inr at_end ↦ λ change.
-              let size = length-append seen (one ∷ []) in
-              let item : get_or (seen ++ one ∷ []) k d ≡ one =
-              get_or_push seen one d k (omega (arith, size, lt, at_end)) in
-              let more : one_if (is_change one.receipt.op) ≡ 1 =
-              ap one_if (subst (λ (r : LoggedReceipt). is_change r.receipt.op ≡ true) item change) in
-              let same = ap (λ (r : LoggedReceipt). r.receipt.at) item in
-              omega (arith, more, same, place)
-        ]
+    below k d lt = grind (arith, common_steps, cases_lt, get_or-append, get_or_push, length-append, is.below k d, place)
 
 -- no receipt stands before the changes that were seen
 pub at_least : (all : List LoggedReceipt) (i done : ℕ) (one : LoggedReceipt)
@@ -155,7 +138,4 @@ missing_at_end all done count counted fewer = record {
 }
   where
     gone : IsReceived all done → ⊥
-    gone (k, x, inside, there, (change, at)) =
-        let low = subst (λ (r : LoggedReceipt). is_change r.receipt.op ≡ true → r.receipt.at < done) there
-        (counted.below k x inside) change in
-        omega (arith, low, at)
+    gone (k, x, inside, there, (change, at)) = grind (arith, common_steps, counted.below k x inside)

@@ -1,7 +1,7 @@
 -- What the order of a run says of receipts that are known and in order in their logs.
 use Rattle.std.proofs.lemmas.Grind.{common_steps}
-use Rattle.std.proofs.Common.{ℕ, ◌≡◌, ◌<◌, ◌≤◌, ◌⊎◌, inl, inr, Bool, true, false, List, length, get_or, All, AllPairs}
-use Rattle.std.proofs.Common.{refl, sym, ◌∙◌, arith}
+use Rattle.std.proofs.Common.{ℕ, ◌≡◌, ◌<◌, ◌≤◌, ◌⊎◌, inl, inr, true, false, List, length, get_or, All, AllPairs}
+use Rattle.std.proofs.Common.{sym, arith}
 use Rattle.std.specs.Prelude.{IsPermutation, IsSorted}
 use Rattle.std.specs.Cmp.{nat_cmp_is}
 use Rattle.std.specs.Ordering.{is_lt, nat_cmp}
@@ -57,31 +57,13 @@ same_session journal a b known other change also place = grind (arith, common_st
 -- two changes have other places
 two_changes : (journal : JournalState) (a b : LoggedReceipt) → IsKnown journal a
     → IsKnown journal b → InSomeOrder a b → key_of a.receipt ≡ key_of b.receipt → is_change b.receipt.op ≡ true → ⊥
-two_changes journal a b known other some keys change = by_first (is_change a.receipt.op) refl
-  where
-    by_first : (c : Bool) → is_change a.receipt.op ≡ c → ⊥
-    by_first true also =
-        let x = key_by a.receipt true also in let y = key_by b.receipt true change in
-        let session = same_session journal a b known other also change (omega (arith, x, y, keys)) in
-        elim (some session) [
-          | inl (less, inl lower) ↦ omega (arith, lower, keys)
-          | inl (less, inr (same, report)) ↦ false≢true (sym report ∙ change)
-          | inr (less, inl lower) ↦ omega (arith, lower, keys)
-          | inr (less, inr (same, report)) ↦ false≢true (sym report ∙ also)
-        ]
-    by_first false report =
-        let x = key_by a.receipt false report in let y = key_by b.receipt true change in
-        let one : one_if true ≡ 1 = refl in let none : one_if false ≡ 0 = refl in
-        omega (arith, x, y, keys, one, none)
+two_changes journal a b known other some keys change =
+    grind (arith, common_steps, key_by, one_if, same_session)
 
 precedes : (journal : JournalState) (a b : LoggedReceipt)
     → IsKnown journal a → IsKnown journal b → InSomeOrder a b → StandsBefore a b → Precedes a.receipt b.receipt
 precedes journal a b known other some (inl less) = inl less
-precedes journal a b known other some (inr (same, rest)) = by_second (is_change b.receipt.op) refl
-  where
-    by_second : (c : Bool) → is_change b.receipt.op ≡ c → Precedes a.receipt b.receipt
-    by_second true change = absurd (two_changes journal a b known other some same change)
-    by_second false report = inr (same, report)
+precedes journal a b known other some (inr (same, rest)) = grind (arith, common_steps, two_changes)
 
 pub rising : (journal : JournalState) (logs : List SessionLog) (ordered : List LoggedReceipt)
     → HasOneLogEach logs → All (IsKnown journal) (logged logs) → All IsInOrder (logged logs)

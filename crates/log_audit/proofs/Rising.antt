@@ -8,9 +8,10 @@ use Rattle.std.specs.List.{swap}
 use Rattle.std.proofs.lemmas.Bool.{cases_lt, cases_eq}
 use Rattle.std.proofs.lemmas.List.{length-append}
 use Rattle.std.proofs.lemmas.List.Edits.{length-swap, swapped_from_swap}
-use Rattle.std.proofs.lemmas.List.Elements.{All-append}
+use Rattle.std.proofs.lemmas.List.Elements.{All-append, All-cons, All-tail, All-weaker}
 use Rattle.std.proofs.lemmas.List.Kept.{AllPairs-cons}
 use Rattle.std.proofs.lemmas.List.Sorted.{IsPermutation-keeps}
+use Rattle.flame_report.proofs.Pairs.{AllPairs-append}
 use Rattle.op_book.specs.declared.entry.SessionLog.{SessionLog}
 use Rattle.op_book.specs.Receipts.{Precedes}
 use Rattle.log_audit.specs.Matching.{HasOneLogEach, IsInOrder, LoggedReceipt, logged_after, logged_from}
@@ -34,21 +35,6 @@ InOwnOrder a b = a.session ≡ b.session → IsBefore a b
 abbrev IsBehind : ℕ → ℕ → PlainReceipt → LoggedReceipt → Type 0
 IsBehind session index earlier one = (one.session ≡ session) × (index ≤ one.index) × Precedes earlier one.receipt
 
-tail_all : {X : Type 0} (P : X → Type 0) (x : X) (xs : List X) → All P (x ∷ xs) → All P xs
-tail_all P x xs all k d lt = all (suc k) d (omega (arith, lt))
-
-cons_all : {X : Type 0} (P : X → Type 0) (x : X) (xs : List X) → P x → All P xs → All P (x ∷ xs)
-cons_all {X} P x xs here there = All-append P (x ∷ []) xs first there
-  where
-    first : All P (x ∷ [])
-    first k d lt = subst (λ n. P (get_or (x ∷ []) n d)) (zero_is k lt) here
-      where
-        zero_is : (k : ℕ) → k < 1 → 0 ≡ k
-        zero_is k lt = omega (arith, lt)
-
-weaker_all : {X : Type 0} (P Q : X → Type 0) (xs : List X) → ((x : X) → P x → Q x) → All P xs → All Q xs
-weaker_all P Q xs f all k d lt = f (get_or xs k d) (all k d lt)
-
 after : (number session index : ℕ) (earlier : PlainReceipt) (receipts : List PlainReceipt)
     → All IsInOrder (logged_from number session index (Some earlier) receipts)
     → All (IsBehind session index earlier) (logged_from number session index (Some earlier) receipts)
@@ -58,10 +44,10 @@ after number session index earlier (receipt ∷ later) each =
     record { number = number; session = session; index = index; earlier = Some earlier; receipt = receipt } in
     let rest = logged_from (number + 1) session (index + 1) (Some receipt) later in
     let first : Precedes earlier receipt = each 0 one (omega arith) in
-    cons_all (IsBehind session index earlier) one rest (refl, omega arith, first)
-    (weaker_all (IsBehind session (index + 1) receipt) (IsBehind session index earlier) rest
-    (λ x is. let low = is.1 in (is.0, omega (arith, low), Precedes-trans earlier receipt x.receipt first is.2))
-    (after (number + 1) session (index + 1) receipt later (tail_all IsInOrder one rest each)))
+    All-cons (IsBehind session index earlier) one rest (refl, omega arith, first)
+    (All-weaker (IsBehind session (index + 1) receipt) (IsBehind session index earlier)
+    (λ x is. let low = is.1 in (is.0, omega (arith, low), Precedes-trans earlier receipt x.receipt first is.2)) rest
+    (after (number + 1) session (index + 1) receipt later (All-tail IsInOrder one rest each)))
 
 in_log : (number session index : ℕ) (earlier : Option PlainReceipt) (receipts : List PlainReceipt)
     → All IsInOrder (logged_from number session index earlier receipts)
@@ -71,10 +57,10 @@ in_log number session index earlier (receipt ∷ later) each =
     let one : LoggedReceipt =
     record { number = number; session = session; index = index; earlier = earlier; receipt = receipt } in
     let rest = logged_from (number + 1) session (index + 1) (Some receipt) later in
-    let tail = tail_all IsInOrder one rest each in
+    let tail = All-tail IsInOrder one rest each in
     AllPairs-cons InOwnOrder one rest
-    (weaker_all (IsBehind session (index + 1) receipt) (InOwnOrder one) rest
-    (λ x is. λ same. let low = is.1 in (omega (arith, low), is.2))
+    (All-weaker (IsBehind session (index + 1) receipt) (InOwnOrder one)
+    (λ x is. λ same. let low = is.1 in (omega (arith, low), is.2)) rest
     (after (number + 1) session (index + 1) receipt later tail))
     (in_log (number + 1) session (index + 1) (Some receipt) later tail)
 
@@ -84,7 +70,7 @@ of_session : (number session index : ℕ) (earlier : Option PlainReceipt) (recei
     → All (λ (one : LoggedReceipt). one.session ≡ session) (logged_from number session index earlier receipts)
 of_session number session index earlier [] = λ k d lt. absurd (omega (arith, lt))
 of_session number session index earlier (receipt ∷ later) =
-    grind (arith, common_steps, cons_all, of_session (number + 1) session (index + 1) (Some receipt) later)
+    grind (arith, common_steps, All-cons, of_session (number + 1) session (index + 1) (Some receipt) later)
 
 of_others : (number session : ℕ) (logs : List SessionLog) → All (λ (log : SessionLog). session ≢ log.session) logs
     → All (λ (one : LoggedReceipt). session ≢ one.session) (logged_after number logs)
@@ -92,27 +78,18 @@ of_others number session [] apart = λ k d lt. absurd (omega (arith, lt))
 of_others number session (log ∷ logs) apart =
     All-append (λ (one : LoggedReceipt). session ≢ one.session)
     (logged_from number log.session 0 None log.receipts) (logged_after (number + length log.receipts) logs)
-    (weaker_all (λ (one : LoggedReceipt). one.session ≡ log.session)
-    (λ (one : LoggedReceipt). session ≢ one.session) (logged_from number log.session 0 None log.receipts)
-    (λ one is same. apart 0 log (omega arith) (same ∙ is)) (of_session number log.session 0 None log.receipts))
+    (All-weaker (λ (one : LoggedReceipt). one.session ≡ log.session) (λ (one : LoggedReceipt). session ≢ one.session)
+    (λ one is same. apart 0 log (omega arith) (same ∙ is))
+    (logged_from number log.session 0 None log.receipts) (of_session number log.session 0 None log.receipts))
     (of_others
-    (number + length log.receipts) session logs (tail_all (λ (l : SessionLog). session ≢ l.session) log logs apart))
-
-append_pairs : {X : Type 0} (R : X → X → Type 0) (xs ys : List X)
-    → AllPairs R xs → AllPairs R ys → All (λ x. All (R x) ys) xs → AllPairs R (xs ++ ys)
-append_pairs R [] ys one other across = other
-append_pairs R (x ∷ xs) ys one other across =
-    AllPairs-cons R x (xs ++ ys)
-    (All-append (R x) xs ys (λ k d lt. one 0 (suc k) d (omega arith) (omega (arith, lt))) (across 0 x (omega arith)))
-    (append_pairs R xs ys (λ i j d lt inside. one (suc i) (suc j) d (omega (arith, lt)) (omega (arith, inside))) other
-    (tail_all (λ x. All (R x) ys) x xs across))
+    (number + length log.receipts) session logs (All-tail (λ (l : SessionLog). session ≢ l.session) log logs apart))
 
 front_all : {X : Type 0} (P : X → Type 0) (xs ys : List X) → All P (xs ++ ys) → All P xs
 front_all P xs ys all k d lt = subst P (get_or-append xs ys d k lt) (all k d (omega (arith, length-append xs ys, lt)))
 
 back_all : {X : Type 0} (P : X → Type 0) (xs ys : List X) → All P (xs ++ ys) → All P ys
 back_all P [] ys all = all
-back_all P (x ∷ xs) ys all = back_all P xs ys (tail_all P x (xs ++ ys) all)
+back_all P (x ∷ xs) ys all = back_all P xs ys (All-tail P x (xs ++ ys) all)
 
 pub in_own_order : (number : ℕ) (logs : List SessionLog)
     → HasOneLogEach logs → All IsInOrder (logged_after number logs) → AllPairs InOwnOrder (logged_after number logs)
@@ -122,14 +99,14 @@ in_own_order number (log ∷ logs) one each =
     let rest = logged_after (number + length log.receipts) logs in
     let apart = of_others
     (number + length log.receipts) log.session logs (λ k d lt. one 0 (suc k) d (omega arith) (omega (arith, lt))) in
-    append_pairs InOwnOrder here rest
+    AllPairs-append InOwnOrder here rest
     (in_log number log.session 0 None log.receipts (front_all IsInOrder here rest each))
     (in_own_order (number + length log.receipts) logs (λ i j d lt inside. one
     (suc i) (suc j) d (omega (arith, lt)) (omega (arith, inside))) (back_all IsInOrder here rest each))
-    (weaker_all (λ (x : LoggedReceipt). x.session ≡ log.session) (λ (x : LoggedReceipt). All (InOwnOrder x) rest) here
-    (λ x is. weaker_all (λ (y : LoggedReceipt). log.session ≢ y.session)
-    (InOwnOrder x) rest (λ y other same. absurd (other (sym is ∙ same))) apart)
-    (of_session number log.session 0 None log.receipts))
+    (All-weaker (λ (x : LoggedReceipt). x.session ≡ log.session) (λ (x : LoggedReceipt). All (InOwnOrder x) rest)
+    (λ x is. All-weaker (λ (y : LoggedReceipt). log.session ≢ y.session)
+    (InOwnOrder x) (λ y other same. absurd (other (sym is ∙ same))) rest apart)
+    here (of_session number log.session 0 None log.receipts))
 
 -- ---- another order
 
@@ -175,15 +152,7 @@ moved xs a b i d a_lt b_lt lt =
 
 apart : (a b i j p q : ℕ) → i ≢ j → ((i ≡ a) × (p ≡ b)) ⊎ (((i ≡ b) × (p ≡ a)) ⊎ ((i ≢ a) × (i ≢ b) × (p ≡ i)))
     → ((j ≡ a) × (q ≡ b)) ⊎ (((j ≡ b) × (q ≡ a)) ⊎ ((j ≢ a) × (j ≢ b) × (q ≡ j))) → p ≢ q
-apart a b i j p q other (inl x) (inl y) same = other (x.0 ∙ sym y.0)
-apart a b i j p q other (inl x) (inr (inl y)) same = other (x.0 ∙ sym y.1 ∙ sym same ∙ x.1 ∙ sym y.0)
-apart a b i j p q other (inl x) (inr (inr y)) same = y.1 (sym y.2 ∙ sym same ∙ x.1)
-apart a b i j p q other (inr (inl x)) (inl y) same = other (x.0 ∙ sym y.1 ∙ sym same ∙ x.1 ∙ sym y.0)
-apart a b i j p q other (inr (inl x)) (inr (inl y)) same = other (x.0 ∙ sym y.0)
-apart a b i j p q other (inr (inl x)) (inr (inr y)) same = y.0 (sym y.2 ∙ sym same ∙ x.1)
-apart a b i j p q other (inr (inr x)) (inl y) same = x.1 (sym x.2 ∙ same ∙ y.1)
-apart a b i j p q other (inr (inr x)) (inr (inl y)) same = x.0 (sym x.2 ∙ same ∙ y.1)
-apart a b i j p q other (inr (inr x)) (inr (inr y)) same = other (sym x.2 ∙ same ∙ y.2)
+apart a b i j p q other x y same = grind (arith, common_steps)
 
 swap_two : {X : Type 0} (R : X → X → Type 0) (xs : List X) (a b : ℕ)
     → a < length xs → b < length xs → EachTwo R xs → EachTwo R (swap xs a b)

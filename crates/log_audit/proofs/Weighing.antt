@@ -1,6 +1,6 @@
 -- What logs, runs and journals weigh.
 use Rattle.std.proofs.lemmas.Grind.{common_steps}
-use Rattle.std.proofs.Common.{rules, ℕ, zero, suc, ◌≡◌, ◌<◌, ◌≤◌, ◌+◌, Bool, true, false, cond, Option, Some, List}
+use Rattle.std.proofs.Common.{rules, ℕ, zero, suc, ◌≡◌, ◌<◌, ◌≤◌, ◌+◌, ◌-◌, Bool, true, false, cond, Option, Some, List}
 use Rattle.std.proofs.Common.{[], ◌∷◌, ◌++◌, get_or, length, filter, map, take, ap, sym, subst, ◌∙◌, refl, arith}
 use Rattle.std.specs.Prelude.{IsPermutation, nat_le, sum_by}
 use Rattle.std.specs.List.{flat_map, list_any}
@@ -18,6 +18,7 @@ use Rattle.op_book.specs.Operations.{addition_of, batches_after, changes_in, cou
 use Rattle.op_book.specs.Operations.{plain_answer, profile_after, rows_added}
 use Rattle.op_book.specs.Runs.{IsLegal}
 use Rattle.op_book.specs.declared.entry.SessionLog.{SessionLog}
+use Rattle.log_audit.proofs.Following.{change_answer}
 
 -- ---- sums
 
@@ -71,22 +72,8 @@ run_weighs weight logs run once =
 pub of_changes : (weight : PlainOp → ℕ) → ((op : PlainOp) → is_change op ≡ false → weight op ≡ 0)
     → (operations : List PlainOp) → sum_by weight (filter is_change operations) ≡ sum_by weight operations
 of_changes weight none [] = refl
-of_changes weight none (op ∷ operations) = by_case (is_change op) refl (of_changes weight none operations)
-  where
-    by_case : (b : Bool) → is_change op ≡ b → sum_by weight (filter is_change operations) ≡ sum_by weight operations
-        → sum_by weight (filter is_change (op ∷ operations)) ≡ sum_by weight (op ∷ operations)
-    by_case true change rest =
-        let kept =
-        ap (λ b. sum_by weight (cond b (op ∷ filter is_change operations) (filter is_change operations))) change in
-        let here = sum_by-cons weight op (filter is_change operations) in
-        let there = sum_by-cons weight op operations in
-        omega (arith, kept, here, there, rest)
-    by_case false report rest =
-        let kept =
-        ap (λ b. sum_by weight (cond b (op ∷ filter is_change operations) (filter is_change operations))) report in
-        let there = sum_by-cons weight op operations in
-        let one = none op report in
-        omega (arith, kept, there, rest, one)
+of_changes weight none (op ∷ operations) =
+    grind (arith, common_steps, sum_by-cons, none op, of_changes weight none operations)
 
 -- what an operation adds to a stack by a value
 abbrev pub added : ℕ → List (List ℕ) → PlainOp → ℕ
@@ -116,12 +103,7 @@ added_from place value stack op reply = cond (nat_le place (place_told reply)) (
 
 receipt_weighs : (place value : ℕ) (stack : List (List ℕ)) (receipt : PlainReceipt)
     → weight_of (rows_at value (rows_from place receipt)) stack ≡ added_from place value stack receipt.op receipt.reply
-receipt_weighs place value stack receipt = by_case (nat_le place (place_told receipt.reply))
-  where
-    by_case : (b : Bool)
-        → weight_of (rows_at value (cond b (rows_added receipt.op) [])) stack ≡ cond b (added value stack receipt.op) 0
-    by_case true = refl
-    by_case false = refl
+receipt_weighs place value stack receipt = grind (arith, common_steps)
 
 log_weighs : (place value : ℕ) (stack : List (List ℕ)) (receipts : List PlainReceipt) → weight_of
     (rows_at value (flat_map (rows_from place) receipts)) stack ≡ weigh_log (added_from place value stack) receipts
@@ -141,12 +123,6 @@ AreInPlace place [] = Unit {0}
 AreInPlace place (step ∷ run) =
     (is_change step.op ≡ true → step.reply ≡ placed place) × AreInPlace (place + cond (is_change step.op) 1 0) run
 
-told_place : (before : List PlainOp) (op : PlainOp)
-    → is_change op ≡ true → plain_answer before op ≡ placed (changes_in before)
-told_place before (add batch) change = refl
-told_place before reset change = refl
-told_place before (ask query) change = absurd (cc)
-
 in_place : (before : List PlainOp) (run : List PlainStep)
     → ((at : ℕ) (item : PlainStep) → at < length run → (get_or run at item).reply
     ≡ plain_answer (before ++ map (λ (step : PlainStep). step.op) (take at run)) (get_or run at item).op)
@@ -158,7 +134,7 @@ in_place before (step ∷ run) legal =
     let count : changes_in (before ++ step.op ∷ []) ≡ changes_in before + cond (is_change step.op) 1 0 =
     omega (arith, parts, last) in (
       (λ change. legal 0 step (omega arith)
-          ∙ ap (λ ops. plain_answer ops step.op) (append-nil before) ∙ told_place before step.op change),
+          ∙ ap (λ ops. plain_answer ops step.op) (append-nil before) ∙ change_answer before step.op change),
       subst (λ n. AreInPlace n run) count (in_place (before ++ step.op ∷ []) run (λ at item lt.
           legal (suc at) item (omega (arith, lt)) ∙ ap (λ ops. plain_answer ops (get_or run at item).op)
           (sym (append_assoc before (step.op ∷ []) (map (λ (step : PlainStep). step.op) (take at run)))))),
@@ -169,88 +145,54 @@ report_adds : (from value : ℕ) (stack : List (List ℕ)) (op : PlainOp) (reply
     → is_change op ≡ false → added_from from value stack op reply ≡ 0
 report_adds from value stack (add batch) reply report = absurd (cc)
 report_adds from value stack reset reply report = absurd (cc)
-report_adds from value stack (ask query) reply report = by_case (nat_le from (place_told reply))
-  where
-    by_case : (b : Bool) → ◌≡◌ {A = ℕ} (cond b 0 0) 0
-    by_case true = refl
-    by_case false = refl
+report_adds from value stack (ask query) reply report = grind (arith, common_steps)
 
 -- the operations of a run that are changes
 abbrev changes_of : List PlainStep → List PlainOp
 changes_of run = filter is_change (map (λ (step : PlainStep). step.op) run)
 
--- after the place from which on changes count, each counts
-sums_after : (from place value : ℕ) (stack : List (List ℕ)) (run : List PlainStep)
-    → from ≤ place → AreInPlace place run
-    → sum_by (λ (step : PlainStep). added_from from value stack step.op step.reply) run
-    ≡ sum_by (added value stack) (changes_of run)
-sums_after from place value stack [] le legal = refl
-sums_after from place value stack (step ∷ run) le legal =
-    by_case (is_change step.op) refl
-    (sums_after from (place + cond (is_change step.op) 1 0) value stack run (omega (arith, le)) legal.1)
-  where
-    by_case : (b : Bool) → is_change step.op ≡ b
-        → sum_by (λ (step : PlainStep). added_from from value stack step.op step.reply) run
-        ≡ sum_by (added value stack) (changes_of run)
-        → sum_by (λ (step : PlainStep). added_from from value stack step.op step.reply) (step ∷ run)
-        ≡ sum_by (added value stack) (changes_of (step ∷ run))
-    by_case true change rest =
-        let kept = ap (λ b. sum_by (added value stack) (cond b (step.op ∷ changes_of run) (changes_of run))) change in
-        let here = sum_by-cons (added value stack) step.op (changes_of run) in
-        let there = sum_by-cons (λ (step : PlainStep). added_from from value stack step.op step.reply) step run in
-        let one : added_from from value stack step.op step.reply ≡ added value stack step.op =
-        ap (λ reply. added_from from value stack step.op reply) (legal.0 change)
-        ∙ ap (λ b. cond b (added value stack step.op) 0) (le-leb from place le) in
-        omega (arith, kept, here, there, one, rest)
-    by_case false report rest =
-        let kept = ap (λ b. sum_by (added value stack) (cond b (step.op ∷ changes_of run) (changes_of run))) report in
-        let there = sum_by-cons (λ (step : PlainStep). added_from from value stack step.op step.reply) step run in
-        let one = report_adds from value stack step.op step.reply report in
-        omega (arith, kept, there, one, rest)
-
--- before it, none does
+-- changes count from a place on, so many changes after the first of the run: those and all after them
 sums : (gap from place value : ℕ) (stack : List (List ℕ)) (run : List PlainStep)
-    → from ≡ place + gap → AreInPlace place run
+    → gap ≡ from - place → AreInPlace place run
     → sum_by (λ (step : PlainStep). added_from from value stack step.op step.reply) run
     ≡ sum_by (added value stack) (drop gap (changes_of run))
-sums zero from place value stack run is legal = sums_after from place value stack run (omega (arith, is)) legal
+sums zero from place value stack [] is legal = refl
 sums (suc gap) from place value stack [] is legal = refl
-sums (suc gap) from place value stack (step ∷ run) is legal =
-    by_case (is_change step.op) refl
-    (λ next. sums gap from (place + 1) value stack run (omega (arith, is)) next)
-    (λ next. sums (suc gap) from (place + 0) value stack run (omega (arith, is)) next)
+sums gap from place value stack (step ∷ run) is legal =
+    by_case (is_change step.op) refl gap is
+    (λ gap is. sums gap from (place + cond (is_change step.op) 1 0) value stack run is legal.1)
   where
-    by_case : (b : Bool) → is_change step.op ≡ b
-        → (AreInPlace (place + 1) run → sum_by (λ (step : PlainStep). added_from from value stack step.op step.reply)
-        run ≡ sum_by (added value stack) (drop gap (changes_of run)))
-        → (AreInPlace (place + 0) run → sum_by (λ (step : PlainStep). added_from from value stack step.op step.reply)
-        run ≡ sum_by (added value stack) (drop (suc gap) (changes_of run)))
-        → sum_by (λ (step : PlainStep). added_from from value stack step.op step.reply) (step ∷ run)
-        ≡ sum_by (added value stack) (drop (suc gap) (changes_of (step ∷ run)))
-    by_case true change after before =
-        let kept = ap (λ b. sum_by
-        (added value stack) (drop (suc gap) (cond b (step.op ∷ changes_of run) (changes_of run)))) change in
-        let there = sum_by-cons (λ (step : PlainStep). added_from from value stack step.op step.reply) step run in
-        let one : added_from from value stack step.op step.reply ≡ 0 =
+    told : PlainStep → ℕ
+    told step = added_from from value stack step.op step.reply
+
+    by_case : (b : Bool) → is_change step.op ≡ b → (gap : ℕ) → gap ≡ from - place
+        → ((gap : ℕ) → gap ≡ from - (place + cond (is_change step.op) 1 0)
+        → sum_by told run ≡ sum_by (added value stack) (drop gap (changes_of run)))
+        → sum_by told (step ∷ run) ≡ sum_by (added value stack) (drop gap (changes_of (step ∷ run)))
+    by_case true change zero is rest =
+        let here = rest zero (omega (arith, is)) in
+        let one : told step ≡ added value stack step.op =
+        ap (λ reply. added_from from value stack step.op reply) (legal.0 change)
+        ∙ ap (λ b. cond b (added value stack step.op) 0) (le-leb from place (omega (arith, is))) in
+        grind (arith, common_steps, sum_by-cons)
+    by_case true change (suc gap) is rest =
+        let here = rest gap (omega (arith, is, ap {B = ℕ} (λ b. cond b 1 0) change)) in
+        let one : told step ≡ 0 =
         ap (λ reply. added_from from value stack step.op reply) (legal.0 change)
         ∙ ap (λ b. cond b (added value stack step.op) 0) (lt-leb from place (omega (arith, is))) in
-        let rest = after (subst (λ b. AreInPlace (place + cond b 1 0) run) change legal.1) in
-        omega (arith, kept, there, one, rest)
-    by_case false report after before =
-        let kept = ap (λ b. sum_by
-        (added value stack) (drop (suc gap) (cond b (step.op ∷ changes_of run) (changes_of run)))) report in
-        let there = sum_by-cons (λ (step : PlainStep). added_from from value stack step.op step.reply) step run in
+        grind (arith, common_steps, sum_by-cons)
+    by_case false report gap is rest =
+        let here = rest gap (omega (arith, is, ap {B = ℕ} (λ b. cond b 1 0) report)) in
         let one = report_adds from value stack step.op step.reply report in
-        let rest = before (subst (λ b. AreInPlace (place + cond b 1 0) run) report legal.1) in
-        omega (arith, kept, there, one, rest)
+        grind (arith, common_steps, sum_by-cons)
 
 -- ---- which operations count
 
 none_before : (operations : List PlainOp) → list_any is_reset operations ≡ false → counting_from operations ≡ 0
 none_before [] none = refl
 none_before (reset ∷ operations) none = absurd (cc)
-none_before (add batch ∷ operations) none = ap (λ b. cond b (suc (counting_from operations)) 0) none
-none_before (ask query ∷ operations) none = ap (λ b. cond b (suc (counting_from operations)) 0) none
+none_before (add batch ∷ operations) none = grind (arith, common_steps)
+none_before (ask query ∷ operations) none = grind (arith, common_steps)
 
 -- an operation after which no reset stands
 count_first : (later : List PlainOp) (op : PlainOp)
@@ -263,24 +205,7 @@ count_first later (ask query) = refl
 pub batches_from : (operations : List PlainOp)
     → batches_after operations ≡ flat_map addition_of (drop (counting_from operations) operations)
 batches_from [] = refl
-batches_from (op ∷ later) = by_case (list_any is_reset later) refl (batches_from later) op
-  where
-    by_case : (b : Bool) → list_any is_reset later ≡ b
-        → batches_after later ≡ flat_map addition_of (drop (counting_from later) later) → (op : PlainOp)
-        → batches_after (op ∷ later) ≡ flat_map addition_of (drop (counting_from (op ∷ later)) (op ∷ later))
-    by_case true after rest op =
-        ap (λ b. cond b (batches_after later) (addition_of op ++ batches_after later)) after
-        ∙ rest
-        ∙ ap (λ b. flat_map addition_of
-        (drop (cond b (suc (counting_from later)) (cond (is_reset op) 1 0)) (op ∷ later))) (sym after)
-    by_case false none rest op =
-        let all : batches_after later ≡ flat_map addition_of later = rest
-        ∙ ap (λ n. flat_map addition_of (drop n later)) (none_before later none) in
-        ap (λ b. cond b (batches_after later) (addition_of op ++ batches_after later)) none
-        ∙ ap (λ batches. addition_of op ++ batches) all
-        ∙ count_first later op
-        ∙ ap (λ b. flat_map addition_of
-        (drop (cond b (suc (counting_from later)) (cond (is_reset op) 1 0)) (op ∷ later))) (sym none)
+batches_from (op ∷ later) = grind (arith, common_steps, none_before, count_first, batches_from later)
 
 -- the rows that logs tell of, from the place on where counting begins, weigh for each stack what the profile does
 pub logged_rows_weigh : (logs : List SessionLog) (run : List PlainStep) (operations : List PlainOp)

@@ -12,6 +12,7 @@ use Rattle.std.proofs.lemmas.List.{take_more, length-map, map-append}
 use denote.Ref.{Bor}
 use mathlib.Core.Bool.{or-false}
 use Rattle.name_counts.specs.TextTables.{number_in, with_text, with_texts}
+use Rattle.profile_rows.proofs.Members.{list_any-map}
 use Rattle.profile_rows.proofs.SameNames.{same_from_is_same_name, is_same_name-self}
 
 pub number_in-le : (texts : List (List ℕ)) (text : List ℕ) → number_in texts text ≤ length texts

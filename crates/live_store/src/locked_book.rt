@@ -68,16 +68,23 @@ impl<N: StoreName> LockedBook<N> {
             ≡ record { limit = N.limit; sessions = N.sessions; width = N.width; history = N.history } }
         ensures { result.1 ≡ [] }
     {
-        let end = HistoryEnd::of(blank.history);
+        let Blank {
+            book,
+            sessions,
+            width: _,
+            history,
+            versions,
+        } = blank;
+        let end = HistoryEnd::of(history);
         let origin = end.front();
-        let book = LockedBook {
-            book: blank.book,
+        let locked = LockedBook {
+            book,
             end,
-            sessions: blank.sessions,
+            sessions,
             given: 0,
-            versions: blank.versions,
+            versions,
         };
-        (book, origin)
+        (locked, origin)
     }
 
     /// The log of the next session, where not all were given, and its reader. Sessions are numbered from 0.

@@ -5,14 +5,19 @@ use Rattle.live_store.specs.Sessions.{IsBorneOut}
 use Rattle.live_store.proofs.Knowing.{borne_fresh}
 use Rattle.live_store.proofs.workers.join_one.Goals as goal
 
-pub returns-clause-seen : goal.returns-clause-seen
-returns-clause-seen g c =
-    let none = c.new-in-None.ensures ∙ c.new.ensures.items in (
-      search rules,
-      (
-        [],
-        subst (λ (log : List PlainReceipt). IsBorneOut c.args.begun.session log [])
-            (sym none) (borne_fresh c.args.begun.session []),
-        tt,
-      ),
-    )
+pub returns-clause-finished : goal.returns-clause-finished
+returns-clause-finished g c =
+    let none = c.new-in-None.ensures ∙ c.new.ensures.items in
+    record {
+      work = search rules;
+      session_is = search rules;
+      seen = (
+        search rules,
+        (
+          [],
+          subst (λ (log : List PlainReceipt). IsBorneOut c.args.begun.session log [])
+              (sym none) (borne_fresh c.args.begun.session []),
+          tt,
+        ),
+      );
+    }

@@ -10,12 +10,12 @@ use Rattle.shared_pages.proofs.pages.Pages.replace.Goals as goal
 pub returns-then-at-self-clause-ok : goal.returns-then-at-self-clause-ok
 returns-then-at-self-clause-ok g c =
     let inside = c.self.inside in
-    on_ok_weaker c.put_shelved.result
+    on_ok_weaker c.put_in_part.result
     (λ e. put_first (arc_value inside.shelves) inside.shelved
     (last_items inside.last) inside.len c.args.at c.args.item c.self.invariant
-    (arc_value c.put_shelved.new.shelves) (omega (arith, c.if-at-self.true)) e
+    (arc_value c.put_in_part.new.part) (omega (arith, c.if-at-self.true)) e
     ∙ ap (λ all. set all c.args.at c.args.item) c.self.view_is)
-    c.put_shelved.ensures.ok
+    c.put_in_part.ensures.ok
 
 pub returns-else-at-self-clause-ok : goal.returns-else-at-self-clause-ok
 returns-else-at-self-clause-ok g c =

@@ -1,7 +1,7 @@
 -- Copies of lists whose items are copies.
 use Rattle.std.proofs.Common.{◌≡◌, List, [], ◌∷◌, map, refl, subst}
 use Rattle.std.specs.List.{AllZip}
-use Rattle.std.specs.Result.{OnErr, OnOk}
+use Rattle.std.specs.Result.{MatchResult, OnErr, OnOk}
 use Rattle.std.specs.declared.result.Result.{Result}
 use Rattle.std.specs.declared.result.Result.TheVariants.{Ok, Err}
 
@@ -20,6 +20,13 @@ on_err (Err fault) p = p
 pub from_err : {T E P : Type 0} (r : Result T E) (fault : E) → r ≡ Err fault → OnErr r P → P
 from_err {P} r fault is on = subst (λ s. OnErr s P) is on
 
-pub either : {T E A B C : Type 0} (r : Result T E) → (A → C) → (B → C) → OnOk r A → OnErr r B → C
-either (Ok value) f g a b = f a
-either (Err fault) f g a b = g b
+-- what follows from either outcome
+pub either : {T E C : Type 0} {A : T → Type 0} {B : E → Type 0} (r : Result T E)
+    → ((x : T) → A x → C) → ((e : E) → B e → C) → MatchResult r A B → C
+either (Ok value) f g is = f value is
+either (Err fault) f g is = g fault is
+
+pub on_ok : {T E C : Type 0} (A : T → Type 0) (B : E → Type 0) (r : Result T E)
+    → ((x : T) → A x → C) → MatchResult r A B → OnOk r C
+on_ok A B (Ok value) f is = f value is
+on_ok A B (Err fault) f is = tt

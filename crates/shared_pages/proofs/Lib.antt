@@ -1,4 +1,4 @@
-mod InPages
+pub mod InPages
 pub mod Chunks
 pub mod Cloning
 pub mod Parts

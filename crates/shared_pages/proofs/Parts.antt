@@ -5,56 +5,82 @@ use Rattle.std.proofs.Math.Seq.{map-set_same}
 use Rattle.std.proofs.lemmas.List.{get_or-map, length-map, map-set, map-append}
 use Rattle.std.specs.Arc.{arc_value}
 use Rattle.std.specs.declared.sync.Arc.{Arc}
-use Rattle.shared_pages.specs.Pages.{AreChunks, items_of, joined, with_item}
-use Rattle.shared_pages.proofs.Chunks.{ArePut, item_le, read_chunk, put_chunk, push_chunk}
+use Rattle.shared_pages.specs.Pages.{AreChunks, AreParts, IsPlace, items_of, joined, with_item}
+use Rattle.shared_pages.proofs.Chunks.{ArePut, IsRead, place_le, read_chunk, put_chunk, push_chunk}
 
-module _ {X P Z : Type 0} (items : P → List X) (size : ℕ) (parts : List (Arc P Z)) (at k j : ℕ)
-    (place : (at ≡ k * size + j) × (j < size)) (are : AreChunks size (items_of items parts)) where
+module _ {X P Z : Type 0} {items : P → List X} {size : ℕ} {parts : List (Arc P Z)} {list : List X}
+    (are : AreParts items size parts) (view_is : joined (items_of items parts) ≡ list) where
   abbrev in_part : Arc P Z → List X
   in_part part = items (arc_value {X = P} part)
 
   count : length (items_of items parts) ≡ length parts
   count = length-map parts in_part
 
-  chunk_is : (part : Arc P Z) → k < length parts → part ≡ get_or parts k part
-      → get_or (items_of items parts) k [] ≡ in_part part
-  chunk_is part lt is = get_or-map in_part parts k part [] lt ∙ ap in_part (sym is)
+  -- parts that stand for the same items
+  pub same_parts : {next : List (Arc P Z)} → items_of items next ≡ items_of items parts
+      → AreParts items size next × (joined (items_of items next) ≡ list)
+  same_parts same = (record { chunks = subst (AreChunks size) (sym same) are.chunks }, ap joined same ∙ view_is)
 
-  -- an item is in a part, which is read first
-  module _ (within : at < length (joined (items_of items parts))) where
-    pub part_lt : k < length parts
-    part_lt = omega (arith, (read_chunk size (items_of items parts) at k j are place.0 place.1 within).chunk, count)
+  module _ {at : ℕ} {place : ℕ × ℕ} (is : IsPlace size at place) where
+    chunk_is : (part : Arc P Z) → place.0 < length parts → part ≡ get_or parts place.0 part
+        → get_or (items_of items parts) place.0 [] ≡ in_part part
+    chunk_is part lt part_is = get_or-map in_part parts place.0 part [] lt ∙ ap in_part (sym part_is)
 
-    module _ (part : Arc P Z) (is : part ≡ get_or parts k part) where
-      pub item_lt : j < length (in_part part)
-      item_lt = subst (λ chunk. j < length chunk) (chunk_is part part_lt is)
-          (read_chunk size (items_of items parts) at k j are place.0 place.1 within).item
+    -- an item is in a part, which is read first
+    module _ (within : at < length list) where
+      read : IsRead size (items_of items parts) at place.0 place.1
+      read = read_chunk size (items_of items parts) at place.0 place.1 are.chunks is.sum is.within
+          (subst (λ all. at < length all) (sym view_is) within)
 
-      pub item_is : (d : X) → get_or (joined (items_of items parts)) at d ≡ get_or (in_part part) j d
-      item_is d = (read_chunk size (items_of items parts) at k j are place.0 place.1 within).is d
-          ∙ ap (λ chunk. get_or chunk j d) (chunk_is part part_lt is)
+      pub part_lt : place.0 < length parts
+      part_lt = omega (arith, read.chunk, count)
 
-  module _ (item : X) (within : at ≤ length (joined (items_of items parts))) where
-    -- an item is put into its part
-    module _ (lt : k < length parts) (part : Arc P Z) (is : part ≡ get_or parts k part) where
-      pub place_le : j ≤ length (in_part part)
-      place_le = subst (λ chunk. j ≤ length chunk) (chunk_is part lt is)
-          (item_le size (items_of items parts) at k j are place.0 place.1 within (omega (arith, lt, count)))
+      module _ {part : Arc P Z} {own : P}
+          (part_is : part ≡ get_or parts place.0 part) (own_is : own ≡ arc_value part) where
+        own_items : get_or (items_of items parts) place.0 [] ≡ items own
+        own_items = chunk_is part part_lt part_is ∙ ap items (sym own_is)
 
-      pub same_part : (next : Arc P Z) → in_part next ≡ in_part part
-          → items_of items (set parts k next) ≡ items_of items parts
-      same_part next same = map-set_same in_part parts k next part (same ∙ ap in_part is)
+        pub item_lt : place.1 < length (items own)
+        item_lt = subst (λ chunk. place.1 < length chunk) own_items read.item
 
-      pub put_part : (next : Arc P Z) → in_part next ≡ with_item j item (in_part part)
-          → ArePut size (items_of items parts) at item (items_of items (set parts k next))
-      put_part next put = subst (ArePut size (items_of items parts) at item)
-          (sym (map-set in_part parts k next ∙ ap (set (items_of items parts) k)
-          (put ∙ ap (with_item j item) (sym (chunk_is part lt is)))))
-          (put_chunk size (items_of items parts) at k j item are place.0 place.1 within (omega (arith, lt, count)))
+        pub item_is : (d : X) → get_or (items own) place.1 d ≡ get_or list at d
+        item_is d = ap (λ chunk. get_or chunk place.1 d) (sym own_items) ∙ sym (read.is d)
+            ∙ ap (λ all. get_or all at d) view_is
 
-    -- an item is put into a new part
-    pub push_part : length parts ≤ k → (part : Arc P Z) → in_part part ≡ item ∷ []
-        → ArePut size (items_of items parts) at item (items_of items (parts ++ part ∷ []))
-    push_part past part is = subst (ArePut size (items_of items parts) at item)
-        (sym (map-append in_part parts (part ∷ []) ∙ ap (λ chunk. items_of items parts ++ chunk ∷ []) is))
-        (push_chunk size (items_of items parts) at k j item are place.0 place.1 within (omega (arith, past, count)))
+    module _ (item : X) (within : at ≤ length list) where
+      inside : at ≤ length (joined (items_of items parts))
+      inside = subst (λ all. at ≤ length all) (sym view_is) within
+
+      -- the parts with an item at its place
+      put_is : {next : List (Arc P Z)} → ArePut size (items_of items parts) at item (items_of items next)
+          → AreParts items size next × (joined (items_of items next) ≡ with_item at item list)
+      put_is put = (record { chunks = put.kept }, put.items ∙ ap (with_item at item) view_is)
+
+      -- an item is put into its part
+      module _ {part : Arc P Z} (lt : place.0 < length parts) (part_is : part ≡ get_or parts place.0 part) where
+        pub in_part_le : place.1 ≤ length (in_part part)
+        in_part_le = subst (λ chunk. place.1 ≤ length chunk) (chunk_is part lt part_is) (place_le size
+            (items_of items parts) at place.0 place.1 are.chunks is.sum is.within inside (omega (arith, lt, count)))
+
+        pub put_part : (next : Arc P Z) → in_part next ≡ with_item place.1 item (in_part part)
+            → AreParts items size (set parts place.0 next)
+            × (joined (items_of items (set parts place.0 next)) ≡ with_item at item list)
+        put_part next put = put_is (subst (ArePut size (items_of items parts) at item)
+            (sym (map-set in_part parts place.0 next ∙ ap (set (items_of items parts) place.0)
+            (put ∙ ap (with_item place.1 item) (sym (chunk_is part lt part_is)))))
+            (put_chunk size (items_of items parts) at place.0 place.1 item are.chunks is.sum is.within inside
+            (omega (arith, lt, count))))
+
+        pub same_part : (next : Arc P Z) → in_part next ≡ in_part part
+            → AreParts items size (set parts place.0 next) × (joined (items_of items (set parts place.0 next)) ≡ list)
+        same_part next same =
+            same_parts (map-set_same in_part parts place.0 next part (same ∙ ap in_part part_is))
+
+      -- an item is put into a new part
+      pub push_part : (part : Arc P Z) → length parts ≤ place.0 → in_part part ≡ item ∷ []
+          → AreParts items size (parts ++ part ∷ [])
+          × (joined (items_of items (parts ++ part ∷ [])) ≡ with_item at item list)
+      push_part part past part_is = put_is (subst (ArePut size (items_of items parts) at item)
+          (sym (map-append in_part parts (part ∷ []) ∙ ap (λ chunk. items_of items parts ++ chunk ∷ []) part_is))
+          (push_chunk size (items_of items parts) at place.0 place.1 item are.chunks is.sum is.within inside
+          (omega (arith, past, count))))

@@ -1,5 +1,5 @@
 -- Items in parts of one size.
-use Rattle.std.specs.Prelude.{ℕ, ◌≡◌, ◌<◌, ◌≤◌, ◌+◌, List, [], ◌∷◌, ◌++◌, length, map, flat_map, nat_lt}
+use Rattle.std.specs.Prelude.{ℕ, ◌≡◌, ◌<◌, ◌≤◌, ◌+◌, ◌*◌, List, [], ◌∷◌, ◌++◌, length, map, flat_map, nat_lt}
 use Rattle.std.specs.Prelude.{slice_set, if◌then◌else◌, Option, Some, None}
 use Rattle.std.specs.Arc.{arc_value}
 use Rattle.std.specs.declared.sync.Arc.{Arc}
@@ -31,6 +31,16 @@ module _ {X : Type 0} where
   last_items (Some page) = arc_value {X = List X} page
   last_items None = []
 
--- the items of each part
-abbrev pub items_of : {X P Z : Type 0} → (P → List X) → List (Arc P Z) → List (List X)
-items_of {P = P} items parts = map (λ part. items (arc_value {X = P} part)) parts
+module _ {X P Z : Type 0} (items : P → List X) where
+  -- the items of each part
+  abbrev pub items_of : List (Arc P Z) → List (List X)
+  items_of parts = map (λ part. items (arc_value {X = P} part)) parts
+
+  -- parts of one size
+  pub record AreParts (size : ℕ) (parts : List (Arc P Z)) : Type 0 where
+    pub chunks : AreChunks size (items_of parts)
+
+-- the part of one size that an item is in, and its place there
+pub record IsPlace (size at : ℕ) (place : ℕ × ℕ) : Type 0 where
+  pub sum : at ≡ place.0 * size + place.1
+  pub within : place.1 < size

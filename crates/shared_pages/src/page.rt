@@ -1,6 +1,6 @@
 //! A page of items.
 
-ghost use Rattle.std.specs.Prelude.{◌≡◌, [], ◌<◌, ◌≤◌, length, OnOk, OnErr, IfOk, slice_index_or};
+ghost use Rattle.std.specs.Prelude.{◌≡◌, [], ◌<◌, ◌≤◌, length, MatchResult, IfOk, slice_index_or};
 ghost use Rattle.std.proofs.Common.{rules};
 ghost use Rattle.shared_pages.specs.Pages.{with_item};
 
@@ -55,8 +55,7 @@ impl<T, const ROOM: usize> Page<T, ROOM> {
     where
         T: Drop,
         requires { at ≤ length self.old }
-        ensures ok { OnOk result (self.new ≡ with_item at item self.old) }
-        ensures err { OnErr result (self.new ≡ self.old) }
+        ensures { MatchResult result (λ _. self.new ≡ with_item at item self.old) (λ _. self.new ≡ self.old) }
     {
         if at < self.items.len() {
             self.items[at] = item;

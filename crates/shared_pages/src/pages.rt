@@ -1,6 +1,6 @@
 //! Pages of items.
 
-ghost use Rattle.std.specs.Prelude.{◌≡◌, ◌<◌, ◌≤◌, ◌+◌, ◌^◌, ◌++◌, ◌∷◌, [], length, take, IfOk, OnOk, OnErr, slice_set, slice_index_or};
+ghost use Rattle.std.specs.Prelude.{◌≡◌, ◌<◌, ◌≤◌, ◌+◌, ◌^◌, ◌++◌, ◌∷◌, [], length, take, IfOk, MatchResult, OnOk, OnErr, slice_set, slice_index_or};
 ghost use Rattle.std.specs.Arc.{arc_value};
 ghost use Rattle.shared_pages.specs.Pages.{IsInPages, last_items, with_item};
 
@@ -176,8 +176,8 @@ fn put_last<T: Clone + Drop>(
 ) -> Result<(), AllocError>
     requires exact { (x y : T) → T.is_clone x y → y ≡ x }
     requires within { at ≤ length (last_items last.old) }
-    ensures ok { OnOk result (last_items last.new ≡ with_item at item (last_items last.old)) }
-    ensures err { OnErr result (last_items last.new ≡ last_items last.old) }
+    ensures { MatchResult result (λ _. last_items last.new ≡ with_item at item (last_items last.old))
+        (λ _. last_items last.new ≡ last_items last.old) }
 {
     if let Some(page) = last {
         return Arc::make_mut(page)?.put(at, item);

@@ -1,6 +1,6 @@
 //! Parts of a list.
 
-ghost use Rattle.std.specs.Prelude.{ℕ, List, [], ◌≡◌, ◌<◌, ◌≤◌, length, OnOk, OnErr, IfOk, slice_index_or};
+ghost use Rattle.std.specs.Prelude.{ℕ, List, [], ◌≡◌, ◌<◌, ◌≤◌, length, MatchResult, IfOk, slice_index_or};
 ghost use Rattle.shared_pages.specs.Pages.{with_item};
 
 use std::alloc::{AllocError, Global};
@@ -33,8 +33,8 @@ pub(crate) trait GrowingPart<T: Clone + Drop>: Part<T> + Clone + Drop {
     fn put(&mut self, at: usize, item: T) -> Result<(), AllocError>
         requires exact { (x y : T) → T.is_clone x y → y ≡ x }
         requires within { at ≤ length (Self.items self.old) }
-        ensures ok { OnOk result (Self.items self.new ≡ with_item at item (Self.items self.old)) }
-        ensures err { OnErr result (Self.items self.new ≡ Self.items self.old) };
+        ensures { MatchResult result (λ _. Self.items self.new ≡ with_item at item (Self.items self.old))
+            (λ _. Self.items self.new ≡ Self.items self.old) };
 
     ghost exact: { ((x y : T) → T.is_clone x y → y ≡ x)
         → (x y : Self) → Self.is_clone x y → Self.items y ≡ Self.items x };

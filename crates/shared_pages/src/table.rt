@@ -1,9 +1,9 @@
 //! Items in parts of one size.
 
-ghost use Rattle.std.specs.Prelude.{◌≡◌, ◌<◌, ◌≤◌, ◌+◌, ◌*◌, ◌^◌, length, nat_lt, if◌then◌else◌, OnOk, OnErr, slice_index_or};
-ghost use Rattle.std.specs.Arc.{arc_value};
-ghost use Rattle.shared_pages.specs.Pages.{with_item};
+ghost use Rattle.std.specs.Prelude.{◌≡◌, ◌<◌, ◌≤◌, ◌+◌, ◌*◌, ◌^◌, length, nat_lt, if◌then◌else◌, MatchResult, slice_index_or};
 ghost use Rattle.std.proofs.Common.{arith};
+ghost use Rattle.std.specs.Arc.{arc_value};
+ghost use Rattle.shared_pages.specs.Pages.{IsPlace, with_item};
 
 use crate::part::{GrowingPart, Part};
 use std::alloc::{AllocError, Global};
@@ -22,13 +22,13 @@ pub(crate) struct Table<T, P: Part<T>> {
 
 impl<T, P: Part<T>> Model for Table<T, P> {
     ghost use Rattle.std.specs.Prelude.{List};
-    ghost use Rattle.shared_pages.specs.Pages.{AreChunks, items_of, joined};
+    ghost use Rattle.shared_pages.specs.Pages.{AreParts, items_of, joined};
 
     ghost Value = { List T };
 
     ghost view = { λ t. joined (items_of P.items t.parts.items) };
 
-    ghost invariant = { λ t. AreChunks P.SIZE (items_of P.items t.parts.items) };
+    ghost invariant = { λ t. AreParts P.items P.SIZE t.parts.items };
 }
 
 impl<T, P: Part<T>> Part<T> for Table<T, P> {
@@ -91,7 +91,7 @@ impl<T: Clone + Drop, P: GrowingPart<T>> GrowingPart<T> for Table<T, P> {
 /// The part that an item is in, and its place there.
 #[inline(always)]
 fn place<T, P: Part<T>>(at: usize) -> (usize, usize)
-    ensures { (at ≡ result.0 * P.SIZE + result.1) × (result.1 < P.SIZE) }
+    ensures { IsPlace P.SIZE at result }
 {
     (at / P::SIZE, at % P::SIZE)
 }
@@ -104,8 +104,8 @@ pub(crate) fn put_in_part<T: Clone + Drop, P: GrowingPart<T>>(
 ) -> Result<(), AllocError>
     requires exact { (x y : T) → T.is_clone x y → y ≡ x }
     requires within { at ≤ length (P.items (arc_value part.old)) }
-    ensures ok { OnOk result (P.items (arc_value part.new) ≡ with_item at item (P.items (arc_value part.old))) }
-    ensures err { OnErr result (P.items (arc_value part.new) ≡ P.items (arc_value part.old)) }
+    ensures { MatchResult result (λ _. P.items (arc_value part.new) ≡ with_item at item (P.items (arc_value part.old)))
+        (λ _. P.items (arc_value part.new) ≡ P.items (arc_value part.old)) }
 {
     let own = Arc::make_mut(part)?;
     own.put(at, item)

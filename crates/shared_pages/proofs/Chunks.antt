@@ -1,66 +1,30 @@
 -- Chunks of one size, and one item put into them.
-use Rattle.std.proofs.Common.{◌≡◌, ℕ, zero, suc, ◌+◌, ◌*◌, ◌<◌, ◌≤◌, ltb, List, [], ◌∷◌, ◌++◌, length, get_or, refl, sym}
-use Rattle.std.proofs.Common.{ap, ◌∙◌, arith, inl, inr}
+use Rattle.std.proofs.Common.{◌≡◌, ℕ, zero, suc, ◌+◌, ◌*◌, ◌<◌, ◌≤◌, ◌-◌, List, [], ◌∷◌, ◌++◌, length, get_or, refl, sym}
+use Rattle.std.proofs.Common.{ap, ◌∙◌, arith}
 use Rattle.std.proofs.Math.ListN.{set, get_or-append}
 use Rattle.std.proofs.Math.Nat.{suc-mul}
-use Rattle.std.proofs.lemmas.Bool.{cases_lt, cond-true, cond-false, lt-ltb, le-ltb}
 use Rattle.std.proofs.lemmas.List.{get_or-append-add, length-set, length_push, length-append, append_assoc, append-nil}
 use Rattle.std.proofs.lemmas.List.{set-append_left, set-append_right}
 use Rattle.shared_pages.specs.Pages.{AreChunks, joined, with_item}
 
 module _ {X : Type 0} where
-  -- ---- one item put at a place
-
-  pub with_item_in : (at : ℕ) (item : X) (list : List X) → at < length list → with_item at item list ≡ set list at item
-  with_item_in at item list lt =
-      cond-true (ltb at (length list)) (set list at item) (list ++ item ∷ []) (lt-ltb at (length list) lt)
-
-  pub with_item_end : (at : ℕ) (item : X) (list : List X)
-      → length list ≤ at → with_item at item list ≡ list ++ item ∷ []
-  with_item_end at item list le =
-      cond-false (ltb at (length list)) (set list at item) (list ++ item ∷ []) (le-ltb at (length list) le)
-
-  length_in : (at : ℕ) (item : X) (list : List X) → at < length list → length (with_item at item list) ≡ length list
-  length_in at item list lt = ap length (with_item_in at item list lt) ∙ length-set list at item
-
-  length_le : (at size : ℕ) (item : X) (list : List X)
-      → at < size → length list ≤ size → length (with_item at item list) ≤ size
-  length_le at size item list short few = elim (cases_lt at (length list)) [
-    | inl lt ↦ omega (arith, length_in at item list lt, few)
-    | inr le ↦ omega (arith, ap length (with_item_end at item list le), length_push list item, short, le)
-  ]
-
   -- an item put into the first of two lists, or after it where the second has none
   with_item_left : (at : ℕ) (item : X) (xs ys : List X)
       → (0 < length ys → at < length xs) → with_item at item (xs ++ ys) ≡ with_item at item xs ++ ys
   with_item_left at item xs [] inside =
       ap (with_item at item) (append-nil xs) ∙ sym (append-nil (with_item at item xs))
   with_item_left at item xs (y ∷ ys) inside =
-      let lt = inside (omega arith) in
-      with_item_in at item (xs ++ y ∷ ys) (omega (arith, lt, length-append xs (y ∷ ys)))
-      ∙ set-append_left xs (y ∷ ys) at item lt ∙ ap (λ zs. zs ++ y ∷ ys) (sym (with_item_in at item xs lt))
+      let lt = inside (omega arith) in grind (arith, lt, set-append_left, length-append)
 
   -- an item put into the second of two lists, or after it
   with_item_right : (at past : ℕ) (item : X) (xs ys : List X)
       → at ≡ length xs + past → with_item at item (xs ++ ys) ≡ xs ++ with_item past item ys
-  with_item_right at past item xs ys is = elim (cases_lt past (length ys)) [
-    | inl lt ↦ with_item_in at item (xs ++ ys) (omega (arith, is, lt, length-append xs ys))
-        ∙ set-append_right xs ys (length xs) at item refl (omega (arith, is))
-        ∙ ap (λ n. xs ++ set ys n item) (omega (arith, is)) ∙ ap (λ zs. xs ++ zs) (sym (with_item_in past item ys lt))
-    | inr le ↦ with_item_end at item (xs ++ ys) (omega (arith, is, le, length-append xs ys))
-        ∙ append_assoc xs ys (item ∷ []) ∙ ap (λ zs. xs ++ zs) (sym (with_item_end past item ys le))
-  ]
-
-  -- ---- chunks
+  with_item_right at past item xs ys is =
+      let less : at - length xs ≡ past = omega (arith, is) in
+      let in_second = set-append_right xs ys (length xs) at item refl (omega (arith, is)) in
+      grind (arith, is, less, in_second, length-append xs ys, append_assoc xs ys (item ∷ []))
 
   module _ (size : ℕ) where
-    in_first : (chunk : List X) (chunks : List (List X)) (n : ℕ) → AreChunks size (chunk ∷ chunks) → n ≤ size
-        → n ≤ length (joined (chunk ∷ chunks)) → n ≤ length chunk
-    in_first chunk chunks n are short within = elim (cases_lt 0 (length (joined chunks))) [
-      | inl some ↦ omega (arith, are.1 some, short)
-      | inr none ↦ omega (arith, none, within, length-append chunk (joined chunks))
-    ]
-
     -- a place after the first chunk
     record IsPast (chunk : List X) (chunks : List (List X)) (at past : ℕ) : Type 0 where
       full : length chunk ≡ size
@@ -70,8 +34,7 @@ module _ {X : Type 0} where
     past_first : (chunk : List X) (chunks : List (List X)) (at k j : ℕ) → AreChunks size (chunk ∷ chunks)
         → at ≡ suc k * size + j → at ≤ length (joined (chunk ∷ chunks)) → IsPast chunk chunks at (k * size + j)
     past_first chunk chunks at k j are at_is within =
-        let some = in_first chunk chunks size are (omega arith) (omega (arith, at_is, within, suc-mul k size)) in
-        let full : length chunk ≡ size = omega (arith, some, are.0) in
+        let full : length chunk ≡ size = grind (arith, at_is, within, length-append, are.0, are.1, suc-mul k size) in
         let place : at ≡ length chunk + (k * size + j) = omega (arith, at_is, full, suc-mul k size) in
         record {
           full = full;
@@ -84,7 +47,7 @@ module _ {X : Type 0} where
         → at ≤ length (joined chunks) → k < length chunks → j ≤ length (get_or chunks k [])
     place_le [] at k j are at_is short within lt = absurd (omega (arith, lt))
     place_le (chunk ∷ chunks) at zero j are at_is short within lt =
-        in_first chunk chunks j are (omega (arith, short)) (omega (arith, at_is, within))
+        grind (arith, at_is, within, length-append, are.1)
     place_le (chunk ∷ chunks) at (suc k) j are at_is short within lt =
         let past = past_first chunk chunks at k j are at_is within in
         place_le chunks (k * size + j) k j are.2 refl short past.within (omega (arith, lt))
@@ -99,7 +62,7 @@ module _ {X : Type 0} where
         → at < length (joined chunks) → IsRead chunks at k j
     read_chunk [] at k j are at_is short within = absurd (omega (arith, within))
     read_chunk (chunk ∷ chunks) at zero j are at_is short within =
-        let lt = in_first chunk chunks (suc j) are short (omega (arith, at_is, within)) in
+        let lt : j < length chunk = grind (arith, at_is, within, length-append, are.1) in
         let here : at ≡ j = omega (arith, at_is) in
         record {
           chunk = omega arith;
@@ -142,8 +105,8 @@ module _ {X : Type 0} where
           items = sym (with_item_left j item chunk (joined chunks) inside)
               ∙ ap (λ n. with_item n item (chunk ++ joined chunks)) here;
           kept = (
-            length_le j size item chunk short are.0,
-            (λ some. length_in j item chunk (inside some) ∙ are.1 some),
+            grind (arith, short, are.0, length-set, length_push),
+            (λ some. let lt = inside some in let full = are.1 some in grind (arith, lt, full, length-set)),
             are.2,
           );
         }
@@ -157,7 +120,7 @@ module _ {X : Type 0} where
         → j < size → at ≤ length (joined chunks) → length chunks ≤ k
         → ArePut chunks at item (chunks ++ (item ∷ []) ∷ [])
     push_chunk [] at k j item are at_is short within le = record {
-      items = sym (with_item_end at item [] (omega arith));
+      items = grind arith;
       kept = (omega (arith, short), (λ some. absurd (omega (arith, some))), tt);
     }
     push_chunk (chunk ∷ chunks) at zero j item are at_is short within le = absurd (omega (arith, le))

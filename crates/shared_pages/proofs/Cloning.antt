@@ -20,12 +20,6 @@ on_err (Err fault) p = p
 pub from_err : {T E P : Type 0} (r : Result T E) (fault : E) → r ≡ Err fault → OnErr r P → P
 from_err {P} r fault is on = subst (λ s. OnErr s P) is on
 
--- what follows from either outcome
-pub either : {T E C : Type 0} {A : T → Type 0} {B : E → Type 0} (r : Result T E)
-    → ((x : T) → A x → C) → ((e : E) → B e → C) → MatchResult r A B → C
-either (Ok value) f g is = f value is
-either (Err fault) f g is = g fault is
-
 pub on_ok : {T E C : Type 0} (A : T → Type 0) (B : E → Type 0) (r : Result T E)
     → ((x : T) → A x → C) → MatchResult r A B → OnOk r C
 on_ok A B (Ok value) f is = f value is

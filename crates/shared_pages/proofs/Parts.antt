@@ -1,9 +1,12 @@
 -- Items in parts of one size, each of which stands for its items: one read, and one put.
-use Rattle.std.proofs.Common.{◌≡◌, ℕ, ◌+◌, ◌*◌, ◌<◌, ◌≤◌, List, [], ◌∷◌, ◌++◌, length, get_or, sym, ap, ◌∙◌, subst, arith}
+use Rattle.std.proofs.Common.{◌≡◌, ℕ, ◌<◌, ◌≤◌, List, [], ◌∷◌, ◌++◌, length, get_or, sym, ap, ◌∙◌, subst, arith}
 use Rattle.std.proofs.Math.ListN.{set}
 use Rattle.std.proofs.Math.Seq.{map-set_same}
 use Rattle.std.proofs.lemmas.List.{get_or-map, length-map, map-set, map-append}
 use Rattle.std.specs.Arc.{arc_value}
+use Rattle.std.specs.Result.{MatchResult}
+use Rattle.std.specs.declared.result.Result.{Result}
+use Rattle.std.specs.declared.result.Result.TheVariants.{Ok, Err}
 use Rattle.std.specs.declared.sync.Arc.{Arc}
 use Rattle.shared_pages.specs.Pages.{AreChunks, AreParts, IsPlace, items_of, joined, with_item}
 use Rattle.shared_pages.proofs.Chunks.{ArePut, IsRead, place_le, read_chunk, put_chunk, push_chunk}
@@ -62,18 +65,17 @@ module _ {X P Z : Type 0} {items : P → List X} {size : ℕ} {parts : List (Arc
         in_part_le = subst (λ chunk. place.1 ≤ length chunk) (chunk_is part lt part_is) (place_le size
             (items_of items parts) at place.0 place.1 are.chunks is.sum is.within inside (omega (arith, lt, count)))
 
-        pub put_part : (next : Arc P Z) → in_part next ≡ with_item place.1 item (in_part part)
+        pub put_part : {T E : Type 0} (next : Arc P Z) (r : Result T E)
+            → MatchResult r (λ _. in_part next ≡ with_item place.1 item (in_part part)) (λ _. in_part next ≡ in_part part)
             → AreParts items size (set parts place.0 next)
-            × (joined (items_of items (set parts place.0 next)) ≡ with_item at item list)
-        put_part next put = put_is (subst (ArePut size (items_of items parts) at item)
+            × MatchResult r (λ _. joined (items_of items (set parts place.0 next)) ≡ with_item at item list)
+            (λ _. joined (items_of items (set parts place.0 next)) ≡ list)
+        put_part next (Ok _) put = put_is (subst (ArePut size (items_of items parts) at item)
             (sym (map-set in_part parts place.0 next ∙ ap (set (items_of items parts) place.0)
             (put ∙ ap (with_item place.1 item) (sym (chunk_is part lt part_is)))))
             (put_chunk size (items_of items parts) at place.0 place.1 item are.chunks is.sum is.within inside
             (omega (arith, lt, count))))
-
-        pub same_part : (next : Arc P Z) → in_part next ≡ in_part part
-            → AreParts items size (set parts place.0 next) × (joined (items_of items (set parts place.0 next)) ≡ list)
-        same_part next same =
+        put_part next (Err _) same =
             same_parts (map-set_same in_part parts place.0 next part (same ∙ ap in_part part_is))
 
       -- an item is put into a new part

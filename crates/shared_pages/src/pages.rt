@@ -198,13 +198,12 @@ fn shelve_full<T: Clone + Drop>(
 ) -> Result<usize, AllocError>
     requires exact { (x y : T) → T.is_clone x y → y ≡ x }
     requires pages { IsInPages (arc_value shelves.old) shelved (last_items last.old) len }
-    ensures pages { IfOk result (λ count. IsInPages (arc_value shelves.new) count (last_items last.new) len) }
-    ensures items { IfOk result (λ count. take count (arc_value shelves.new) ++ last_items last.new
-        ≡ take shelved (arc_value shelves.old) ++ last_items last.old) }
-    ensures room { OnOk result (length (last_items last.new) < 64) }
-    ensures kept { OnErr result (IsInPages (arc_value shelves.new) shelved (last_items last.new) len) }
-    ensures err { OnErr result (take shelved (arc_value shelves.new) ++ last_items last.new
-        ≡ take shelved (arc_value shelves.old) ++ last_items last.old) }
+    ensures ok { IfOk result (λ count. IsInPages (arc_value shelves.new) count (last_items last.new) len
+        × (take count (arc_value shelves.new) ++ last_items last.new
+        ≡ take shelved (arc_value shelves.old) ++ last_items last.old) × (length (last_items last.new) < 64)) }
+    ensures err { OnErr result (IsInPages (arc_value shelves.new) shelved (last_items last.new) len
+        × (take shelved (arc_value shelves.new) ++ last_items last.new
+        ≡ take shelved (arc_value shelves.old) ++ last_items last.old)) }
 {
     match &*last {
         Some(page) if page.len() == LAST => put_all(shelves, shelved, page)?,
@@ -223,9 +222,9 @@ fn put_all<T: Clone + Drop>(
     requires exact { (x y : T) → T.is_clone x y → y ≡ x }
     requires within { from ≤ length (arc_value shelves.old) }
     requires few { from + length items.now < 2 ^ 64 }
-    ensures ok { OnOk result (take (from + length items.now) (arc_value shelves.new)
-        ≡ take from (arc_value shelves.old) ++ items.now) }
-    ensures long { OnOk result (from + length items.now ≤ length (arc_value shelves.new)) }
+    ensures ok { OnOk result ((take (from + length items.now) (arc_value shelves.new)
+        ≡ take from (arc_value shelves.old) ++ items.now)
+        × (from + length items.now ≤ length (arc_value shelves.new))) }
     ensures err { OnErr result ((take from (arc_value shelves.new) ≡ take from (arc_value shelves.old))
         × (from ≤ length (arc_value shelves.new))) }
 {

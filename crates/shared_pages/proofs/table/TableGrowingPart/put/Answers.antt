@@ -1,8 +1,6 @@
 use Rattle.std.proofs.Common.{◌<◌, ◌≤◌, length, arith, ap, ◌∙◌}
-use Rattle.std.proofs.lemmas.Result.{MatchResult-weaker}
 use Rattle.shared_pages.specs.Pages.{with_item}
-use Rattle.shared_pages.proofs.Cloning.{either}
-use Rattle.shared_pages.proofs.Parts.{in_part_le, same_part, put_part, push_part}
+use Rattle.shared_pages.proofs.Parts.{in_part_le, put_part, push_part}
 use Rattle.shared_pages.proofs.table.TableGrowingPart.put.Goals as goal
 
 pub put_in_part-requires-clause-within : goal.put_in_part-requires-clause-within
@@ -16,22 +14,15 @@ pub invariant_of-self : goal.invariant_of-self
 invariant_of-self g c =
     let lt : c.place-index.result.0 < length c.self.inside.parts.items =
     omega (arith, c.if-index-len.true, c.len.ensures, c.self.inside.parts.ok.0) in
-    either c.put_in_part.result
-    (λ _ put. (put_part c.self.invariant c.self.view_is c.place-index.ensures c.args.item c.requires.within lt
-    c.index_mut.ensures.value c.put_in_part.new.part put).0)
-    (λ _ same. (same_part c.self.invariant c.self.view_is c.place-index.ensures c.args.item c.requires.within lt
-    c.index_mut.ensures.value c.put_in_part.new.part same).0)
-    c.put_in_part.ensures
+    (put_part c.self.invariant c.self.view_is c.place-index.ensures c.args.item c.requires.within lt
+    c.index_mut.ensures.value c.put_in_part.new.part c.put_in_part.result c.put_in_part.ensures).0
 
 pub returns-then-index-len : goal.returns-then-index-len
 returns-then-index-len g c =
     let lt : c.place-index.result.0 < length c.self.inside.parts.items =
     omega (arith, c.if-index-len.true, c.len.ensures, c.self.inside.parts.ok.0) in
-    MatchResult-weaker c.put_in_part.result c.put_in_part.ensures
-    (λ _ put. (put_part c.self.invariant c.self.view_is c.place-index.ensures c.args.item c.requires.within lt
-    c.index_mut.ensures.value c.put_in_part.new.part put).1)
-    (λ _ same. (same_part c.self.invariant c.self.view_is c.place-index.ensures c.args.item c.requires.within lt
-    c.index_mut.ensures.value c.put_in_part.new.part same).1)
+    (put_part c.self.invariant c.self.view_is c.place-index.ensures c.args.item c.requires.within lt
+    c.index_mut.ensures.value c.put_in_part.new.part c.put_in_part.result c.put_in_part.ensures).1
 
 pub invariant_of-self-2 : goal.invariant_of-self-2
 invariant_of-self-2 g c =

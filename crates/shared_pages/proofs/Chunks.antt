@@ -42,16 +42,6 @@ module _ {X : Type 0} where
           within = omega (arith, place, within, length-append chunk (joined chunks));
         }
 
-    -- an item's place in its chunk, or the one after the last
-    pub place_le : (chunks : List (List X)) (at k j : ℕ) → AreChunks size chunks → at ≡ k * size + j → j < size
-        → at ≤ length (joined chunks) → k < length chunks → j ≤ length (get_or chunks k [])
-    place_le [] at k j are at_is short within lt = absurd (omega (arith, lt))
-    place_le (chunk ∷ chunks) at zero j are at_is short within lt =
-        grind (arith, at_is, within, length-append, are.1)
-    place_le (chunk ∷ chunks) at (suc k) j are at_is short within lt =
-        let past = past_first chunk chunks at k j are at_is within in
-        place_le chunks (k * size + j) k j are.2 refl short past.within (omega (arith, lt))
-
     -- an item is read from its chunk
     pub record IsRead (chunks : List (List X)) (at k j : ℕ) : Type 0 where
       pub chunk : k < length chunks
@@ -67,8 +57,7 @@ module _ {X : Type 0} where
         record {
           chunk = omega arith;
           item = lt;
-          is = λ d. ap (λ n. get_or (chunk ++ joined chunks) n d) here
-              ∙ get_or-append chunk (joined chunks) d j lt;
+          is = λ d. ap (λ n. get_or (chunk ++ joined chunks) n d) here ∙ get_or-append chunk (joined chunks) d j lt;
         }
     read_chunk (chunk ∷ chunks) at (suc k) j are at_is short within =
         let past = past_first chunk chunks at k j are at_is (omega (arith, within)) in
@@ -93,27 +82,29 @@ module _ {X : Type 0} where
       kept = (omega (arith, is.full), (λ some. is.full), put.kept);
     }
 
-    -- an item is put into its chunk
+    -- an item is put into its chunk, or at its end
     pub put_chunk : (chunks : List (List X)) (at k j : ℕ) (item : X) → AreChunks size chunks → at ≡ k * size + j
         → j < size → at ≤ length (joined chunks) → k < length chunks
-        → ArePut chunks at item (set chunks k (with_item j item (get_or chunks k [])))
+        → (j ≤ length (get_or chunks k [])) × ArePut chunks at item (set chunks k (with_item j item (get_or chunks k [])))
     put_chunk [] at k j item are at_is short within lt = absurd (omega (arith, lt))
     put_chunk (chunk ∷ chunks) at zero j item are at_is short within lt =
         let inside : 0 < length (joined chunks) → j < length chunk = λ some. omega (arith, are.1 some, short) in
-        let here : j ≡ at = omega (arith, at_is) in
-        record {
-          items = sym (with_item_left j item chunk (joined chunks) inside)
-              ∙ ap (λ n. with_item n item (chunk ++ joined chunks)) here;
-          kept = (
-            grind (arith, short, are.0, length-set, length_push),
-            (λ some. let lt = inside some in let full = are.1 some in grind (arith, lt, full, length-set)),
-            are.2,
-          );
-        }
+        let here : j ≡ at = omega (arith, at_is) in (
+          grind (arith, at_is, within, length-append, are.1),
+          record {
+            items = sym (with_item_left j item chunk (joined chunks) inside)
+                ∙ ap (λ n. with_item n item (chunk ++ joined chunks)) here;
+            kept = (
+              grind (arith, short, are.0, length-set, length_push),
+              (λ some. let lt = inside some in let full = are.1 some in grind (arith, lt, full, length-set)),
+              are.2,
+            );
+          },
+        )
     put_chunk (chunk ∷ chunks) at (suc k) j item are at_is short within lt =
         let past = past_first chunk chunks at k j are at_is within in
-        put_later chunk chunks _ at (k * size + j) item past
-        (put_chunk chunks (k * size + j) k j item are.2 refl short past.within (omega (arith, lt)))
+        let rest = put_chunk chunks (k * size + j) k j item are.2 refl short past.within (omega (arith, lt)) in
+        (rest.0, put_later chunk chunks _ at (k * size + j) item past rest.1)
 
     -- an item is put into a new chunk
     pub push_chunk : (chunks : List (List X)) (at k j : ℕ) (item : X) → AreChunks size chunks → at ≡ k * size + j

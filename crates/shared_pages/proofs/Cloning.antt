@@ -1,4 +1,4 @@
--- Copies of lists whose items are copies.
+-- Copies of lists whose items are copies, and what a result says.
 use Rattle.std.proofs.Common.{◌≡◌, List, [], ◌∷◌, map, refl, subst}
 use Rattle.std.specs.List.{AllZip}
 use Rattle.std.specs.Result.{MatchResult, OnErr, OnOk}

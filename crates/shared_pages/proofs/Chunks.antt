@@ -1,6 +1,6 @@
 -- Chunks of one size, and one item put into them.
-use Rattle.std.proofs.Common.{◌≡◌, ℕ, zero, suc, ◌+◌, ◌*◌, ◌<◌, ◌≤◌, ◌-◌, List, [], ◌∷◌, ◌++◌, length, get_or, refl, sym}
-use Rattle.std.proofs.Common.{ap, ◌∙◌, arith}
+use Rattle.std.proofs.Common.{◌≡◌, ℕ, zero, suc, ◌+◌, ◌*◌, ◌<◌, ◌≤◌, ◌-◌, List, [], ◌∷◌, ◌++◌, length, get_or, refl}
+use Rattle.std.proofs.Common.{sym, ap, ◌∙◌, arith}
 use Rattle.std.proofs.Math.ListN.{set, get_or-append}
 use Rattle.std.proofs.Math.Nat.{suc-mul}
 use Rattle.std.proofs.lemmas.List.{get_or-append-add, length-set, length_push, length-append, append_assoc, append-nil}
@@ -85,7 +85,8 @@ module _ {X : Type 0} where
     -- an item is put into its chunk, or at its end
     pub put_chunk : (chunks : List (List X)) (at k j : ℕ) (item : X) → AreChunks size chunks → at ≡ k * size + j
         → j < size → at ≤ length (joined chunks) → k < length chunks
-        → (j ≤ length (get_or chunks k [])) × ArePut chunks at item (set chunks k (with_item j item (get_or chunks k [])))
+        → (j ≤ length (get_or chunks k []))
+        × ArePut chunks at item (set chunks k (with_item j item (get_or chunks k [])))
     put_chunk [] at k j item are at_is short within lt = absurd (omega (arith, lt))
     put_chunk (chunk ∷ chunks) at zero j item are at_is short within lt =
         let inside : 0 < length (joined chunks) → j < length chunk = λ some. omega (arith, are.1 some, short) in

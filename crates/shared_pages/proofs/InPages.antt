@@ -4,8 +4,8 @@ use Rattle.std.proofs.Common.{arith}
 use Rattle.std.proofs.Math.ListN.{set}
 use Rattle.std.proofs.Math.Seq.{take-set-lt, take-suc, take-suc-set}
 use Rattle.std.proofs.lemmas.Grind.{common_steps}
-use Rattle.std.proofs.lemmas.List.{append_assoc, length-append, length-set, length-take-le, length_push, set-append_left}
-use Rattle.std.proofs.lemmas.List.{set-append_right, take-append-le, take-set-le}
+use Rattle.std.proofs.lemmas.List.{append_assoc, length-append, length-set, length-take-le, length_push}
+use Rattle.std.proofs.lemmas.List.{set-append_left, set-append_right, take-append-le, take-set-le}
 use Rattle.shared_pages.specs.Pages.{IsInPages, with_item}
 
 module _ {X : Type 0} {shelves last list : List X} {shelved len : ℕ}
@@ -49,7 +49,8 @@ module _ {X : Type 0} where
       let one : suc count ≡ count + 1 = omega arith in
       record {
         within = omega (arith, ap length next_is, length_with (from + count) item shelves are.within);
-        kept = ap (take from) next_is ∙ take_before (from + count) item shelves are.within from (omega arith) ∙ are.kept;
+        kept = ap (take from) next_is
+            ∙ take_before (from + count) item shelves are.within from (omega arith) ∙ are.kept;
         all = ap (λ n. take n next) more ∙ ap (take (from + count + 1)) next_is
             ∙ take_with (from + count) item shelves are.within ∙ ap (λ list. list ++ item ∷ []) are.all
             ∙ append_assoc (take from before) (take count items) (item ∷ [])

@@ -76,7 +76,8 @@ module _ {X P Z : Type 0} {items : P → List X} {size : ℕ} {parts : List (Arc
         in_part_le = subst (λ chunk. place.1 ≤ length chunk) (chunk_is part lt part_is) put.0
 
         pub put_part : {T E : Type 0} (next : Arc P Z) (r : Result T E)
-            → MatchResult r (λ _. in_part next ≡ with_item place.1 item (in_part part)) (λ _. in_part next ≡ in_part part)
+            → MatchResult r (λ _. in_part next ≡ with_item place.1 item (in_part part))
+            (λ _. in_part next ≡ in_part part)
             → AreParts items size (set parts place.0 next)
             × MatchResult r (λ _. joined (items_of items (set parts place.0 next)) ≡ with_item at item list)
             (λ _. joined (items_of items (set parts place.0 next)) ≡ list)

@@ -11,10 +11,8 @@ module _ {X : Type 0} where
   -- an item put into the first of two lists, or after it where the second has none
   with_item_left : (at : ℕ) (item : X) (xs ys : List X)
       → (0 < length ys → at < length xs) → with_item at item (xs ++ ys) ≡ with_item at item xs ++ ys
-  with_item_left at item xs [] inside =
-      ap (with_item at item) (append-nil xs) ∙ sym (append-nil (with_item at item xs))
-  with_item_left at item xs (y ∷ ys) inside =
-      let lt = inside (omega arith) in grind (arith, lt, set-append_left, length-append)
+  with_item_left at item xs [] inside = grind (arith, append-nil)
+  with_item_left at item xs (y ∷ ys) inside = grind (arith, inside (omega arith), set-append_left, length-append)
 
   -- an item put into the second of two lists, or after it
   with_item_right : (at past : ℕ) (item : X) (xs ys : List X)
@@ -53,12 +51,7 @@ module _ {X : Type 0} where
     read_chunk [] at k j are at_is short within = absurd (omega (arith, within))
     read_chunk (chunk ∷ chunks) at zero j are at_is short within =
         let lt : j < length chunk = grind (arith, at_is, within, length-append, are.1) in
-        let here : at ≡ j = omega (arith, at_is) in
-        record {
-          chunk = omega arith;
-          item = lt;
-          is = λ d. ap (λ n. get_or (chunk ++ joined chunks) n d) here ∙ get_or-append chunk (joined chunks) d j lt;
-        }
+        record { chunk = omega arith; item = lt; is = λ d. grind (arith, at_is, lt, get_or-append) }
     read_chunk (chunk ∷ chunks) at (suc k) j are at_is short within =
         let past = past_first chunk chunks at k j are at_is (omega (arith, within)) in
         let rest = read_chunk chunks (k * size + j) k j are.2 refl short
@@ -66,8 +59,7 @@ module _ {X : Type 0} where
         record {
           chunk = omega (arith, rest.chunk);
           item = rest.item;
-          is = λ d. ap (λ n. get_or (chunk ++ joined chunks) n d) past.place
-              ∙ get_or-append-add chunk (joined chunks) (k * size + j) d ∙ rest.is d;
+          is = λ d. grind (arith, past.place, rest.is d, get_or-append-add);
         }
 
     -- the chunks with an item at a place
@@ -88,20 +80,17 @@ module _ {X : Type 0} where
         → (j ≤ length (get_or chunks k []))
         × ArePut chunks at item (set chunks k (with_item j item (get_or chunks k [])))
     put_chunk [] at k j item are at_is short within lt = absurd (omega (arith, lt))
-    put_chunk (chunk ∷ chunks) at zero j item are at_is short within lt =
-        let inside : 0 < length (joined chunks) → j < length chunk = λ some. omega (arith, are.1 some, short) in
-        let here : j ≡ at = omega (arith, at_is) in (
-          grind (arith, at_is, within, length-append, are.1),
-          record {
-            items = sym (with_item_left j item chunk (joined chunks) inside)
-                ∙ ap (λ n. with_item n item (chunk ++ joined chunks)) here;
-            kept = (
-              grind (arith, short, are.0, length-set, length_push),
-              (λ some. let lt = inside some in let full = are.1 some in grind (arith, lt, full, length-set)),
-              are.2,
-            );
-          },
-        )
+    put_chunk (chunk ∷ chunks) at zero j item are at_is short within lt = (
+      grind (arith, at_is, within, length-append, are.1),
+      record {
+        items = grind (arith, at_is, short, are.1, with_item_left j item chunk (joined chunks));
+        kept = (
+          grind (arith, short, are.0, length-set, length_push),
+          (λ some. let full = are.1 some in grind (arith, full, short, length-set)),
+          are.2,
+        );
+      },
+    )
     put_chunk (chunk ∷ chunks) at (suc k) j item are at_is short within lt =
         let past = past_first chunk chunks at k j are at_is within in
         let rest = put_chunk chunks (k * size + j) k j item are.2 refl short past.within (omega (arith, lt)) in

@@ -13,6 +13,7 @@ pub(crate) trait Part<T> {
 
     ghost SIZE: { ℕ };
 
+    /// Its items, in order.
     ghost items: { Self → List T };
 
     /// No items.
@@ -24,10 +25,11 @@ pub(crate) trait Part<T> {
         requires { at < length (items self.now) }
         ensures { result.now ≡ slice_index_or (items self.now) at result.now };
 
+    /// It takes some.
     ghost some: { 0 < SIZE };
 }
 
-/// A part that may grow, and whose clone has clones of its items.
+/// A part that may change.
 pub(crate) trait GrowingPart<T: Clone + Drop>: Part<T> + Clone + Drop {
     /// Puts an item in place of another, or after the last. What other owners hold stays.
     fn put(&mut self, at: usize, item: T) -> Result<(), AllocError>
@@ -36,6 +38,7 @@ pub(crate) trait GrowingPart<T: Clone + Drop>: Part<T> + Clone + Drop {
         ensures { MatchResult result (λ _. Self.items self.new ≡ with_item at item (Self.items self.old))
             (λ _. Self.items self.new ≡ Self.items self.old) };
 
+    /// A clone has the same items where clones of items are the same.
     ghost exact: { ((x y : T) → T.is_clone x y → y ≡ x)
         → (x y : Self) → Self.is_clone x y → Self.items y ≡ Self.items x };
 }

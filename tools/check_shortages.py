@@ -35,7 +35,7 @@ PATTERN_AFTER = re.compile(r"\)*(?: =>| \| | if )")
 ARM = re.compile(
     r"^\s*(?:Err\()?(?:\w+::)+(NoMemory|OutOfMemory|Place|Start|Version)\)? => (?:[\w:]+\()*$", re.MULTILINE
 )
-IMPL = re.compile(r"^impl(?:<[^>\n]*>)? (?:(?:\w+::)*(\w+)(?:<.*>)? for )?(\w+)", re.MULTILINE)
+IMPL = re.compile(r"^impl(?:<(?:[^<>\n]|<[^<>\n]*>)*>)? (?:(?:\w+::)*(\w+)(?:<.*>)? for )?(\w+)", re.MULTILINE)
 FUNCTION = re.compile(r"^( *)(?:pub(?:\([a-z]+\))? )?(?:const )?fn (\w+)", re.MULTILINE)
 
 

@@ -28,7 +28,7 @@ from libraries import ROOT, find_kit, is_kept, listed, note_of, over_libraries, 
 
 FUNCTION = re.compile(r"^( *)(?:pub(?:\([a-z]+\))? )?(?:const )?fn (\w+)", re.MULTILINE)
 # The head of an `impl`: the last word of its trait, if it has one, and its type.
-IMPL = re.compile(r"^impl(?:<[^>\n]*>)? (?:(?:\w+::)*(\w+)(?:<.*>)? for )?(\w+)", re.MULTILINE)
+IMPL = re.compile(r"^impl(?:<(?:[^<>\n]|<[^<>\n]*>)*>)? (?:(?:\w+::)*(\w+)(?:<.*>)? for )?(\w+)", re.MULTILINE)
 # What a check says of a function, below what it says of the goals that it didn't prove by itself.
 VERDICT = re.compile(r"^fn [^:]+::(\S+): (.*)")
 OPEN = re.compile(r"^note: src/\S+ (?:it is not proved|`search` found no proof)")

@@ -1,6 +1,4 @@
-mod InPages
+pub mod InPages
 pub mod Chunks
 pub mod Cloning
-pub mod Deep
-pub mod OnShelves
 pub mod Parts

@@ -1,82 +1,97 @@
 -- Items in parts of one size, each of which stands for its items: one read, and one put.
-use Rattle.std.proofs.Common.{◌≡◌, ℕ, ◌+◌, ◌*◌, ◌<◌, ◌≤◌, List, [], ◌∷◌, ◌++◌, length, map, get_or, sym, ap, ◌∙◌, subst}
-use Rattle.std.proofs.Common.{arith}
+use Rattle.std.proofs.Common.{◌≡◌, ℕ, ◌<◌, ◌≤◌, List, [], ◌∷◌, ◌++◌, length, get_or, sym, ap, ◌∙◌, subst, arith}
 use Rattle.std.proofs.Math.ListN.{set}
 use Rattle.std.proofs.Math.Seq.{map-set_same}
 use Rattle.std.proofs.lemmas.List.{get_or-map, length-map, map-set, map-append}
-use Rattle.shared_pages.specs.Pages.{AreChunks, chunk_at, joined, with_item}
-use Rattle.shared_pages.proofs.Chunks.{read_chunk, put_chunk, put_kept, push_chunk, push_kept, chunk_lt, place_lt}
-use Rattle.shared_pages.proofs.Chunks.{place_le}
+use Rattle.std.specs.Arc.{arc_value}
+use Rattle.std.specs.List.{AllZip}
+use Rattle.std.specs.Result.{MatchResult}
+use Rattle.std.specs.declared.result.Result.{Result}
+use Rattle.std.specs.declared.result.Result.TheVariants.{Ok, Err}
+use Rattle.std.specs.declared.sync.Arc.{Arc}
+use Rattle.shared_pages.specs.Pages.{AreChunks, AreParts, IsPlace, items_of, joined, with_item}
+use Rattle.shared_pages.proofs.Cloning.{clones_same}
+use Rattle.shared_pages.proofs.Chunks.{ArePut, IsRead, read_chunk, put_chunk, push_chunk}
 
-module _ {X A : Type 0}
-    (items_of : A → List X) (size : ℕ) (parts : List A) (at k j : ℕ) (at_is : at ≡ k * size + j) (short : j < size)
-    (are : AreChunks size (map items_of parts)) where
-  -- ---- an item as the code reads it: its part, then the item
+module _ {X P Z : Type 0} {items : P → List X} {size : ℕ} {parts : List (Arc P Z)} {list : List X}
+    (are : AreParts items size parts) (view_is : joined (items_of items parts) ≡ list) where
+  abbrev in_part : Arc P Z → List X
+  in_part part = items (arc_value {X = P} part)
 
-  module _ (within : at < length (joined (map items_of parts))) where
-    pub seen_part_lt : k < length parts
-    seen_part_lt =
-        omega (arith, chunk_lt size (map items_of parts) at k j are at_is short within, length-map parts items_of)
+  count : length (items_of items parts) ≡ length parts
+  count = length-map parts in_part
 
-    module _ (part : A)
-        (part_is : part ≡ get_or parts k part) (items : List X) (items_are : items ≡ items_of part) where
-      seen_part : chunk_at (map items_of parts) k ≡ items
-      seen_part = get_or-map items_of parts k part [] seen_part_lt ∙ ap items_of (sym part_is) ∙ sym items_are
+  -- parts that stand for the same items
+  same_parts : {next : List (Arc P Z)} → items_of items next ≡ items_of items parts
+      → AreParts items size next × (joined (items_of items next) ≡ list)
+  same_parts same = (record { chunks = subst (AreChunks size) (sym same) are.chunks }, ap joined same ∙ view_is)
 
-      there_in : k < length (map items_of parts)
-      there_in = chunk_lt size (map items_of parts) at k j are at_is short within
+  pub cloned : {next : List (Arc P Z)} → AllZip (λ x y. arc_value {X = P} y ≡ arc_value x) parts next
+      → AreParts items size next × (joined (items_of items next) ≡ list)
+  cloned {next} clones = same_parts (clones_same in_part _ parts next (λ x y same. ap items same) clones)
 
-      there_at : j < length (chunk_at (map items_of parts) k)
-      there_at = place_lt size (map items_of parts) at k j are at_is short there_in within
+  module _ {at : ℕ} {place : ℕ × ℕ} (is : IsPlace size at place) where
+    chunk_is : (part : Arc P Z) → place.0 < length parts → part ≡ get_or parts place.0 part
+        → get_or (items_of items parts) place.0 [] ≡ in_part part
+    chunk_is part lt part_is = get_or-map in_part parts place.0 part [] lt ∙ ap in_part (sym part_is)
 
-      pub seen_item_lt : j < length items
-      seen_item_lt = omega (arith, there_at, ap length seen_part)
+    -- an item is in a part, which is read first
+    module _ (within : at < length list) where
+      read : IsRead size (items_of items parts) at place.0 place.1
+      read = read_chunk size (items_of items parts) at place.0 place.1 are.chunks is.sum is.within
+          (subst (λ all. at < length all) (sym view_is) within)
 
-      pub seen_item : (d : X) → get_or (joined (map items_of parts)) at d ≡ get_or items j d
-      seen_item d = read_chunk size (map items_of parts) at k j d are at_is there_in there_at
-          ∙ ap (λ chunk. get_or chunk j d) seen_part
+      pub part_lt : place.0 < length parts
+      part_lt = omega (arith, read.chunk, count)
 
-  -- ---- an item put into its part
+      module _ {part : Arc P Z} {own : P}
+          (part_is : part ≡ get_or parts place.0 part) (own_is : own ≡ arc_value part) where
+        own_items : get_or (items_of items parts) place.0 [] ≡ items own
+        own_items = chunk_is part part_lt part_is ∙ ap items (sym own_is)
 
-  module _ (item : X) (within : at ≤ length (joined (map items_of parts))) where
-    module _ (lt : k < length parts) (part : A) (part_is : part ≡ get_or parts k part) where
-      there : k < length (map items_of parts)
-      there = omega (arith, lt, length-map parts items_of)
+        pub item_lt : place.1 < length (items own)
+        item_lt = subst (λ chunk. place.1 < length chunk) own_items read.item
 
-      had : chunk_at (map items_of parts) k ≡ items_of part
-      had = get_or-map items_of parts k part [] lt ∙ ap items_of (sym part_is)
+        pub item_is : (d : X) → get_or (items own) place.1 d ≡ get_or list at d
+        item_is d = ap (λ chunk. get_or chunk place.1 d) (sym own_items) ∙ sym (read.is d)
+            ∙ ap (λ all. get_or all at d) view_is
 
-      pub in_part_le : j ≤ length (items_of part)
-      in_part_le = omega (arith, place_le size (map items_of parts) at k j are at_is short there within, ap length had)
+    module _ (item : X) (within : at ≤ length list) where
+      inside : at ≤ length (joined (items_of items parts))
+      inside = subst (λ all. at ≤ length all) (sym view_is) within
 
-      pub same_part : (next : A) → items_of next ≡ items_of part → map items_of (set parts k next) ≡ map items_of parts
-      same_part next next_is = map-set_same items_of parts k next part (next_is ∙ ap items_of part_is)
+      -- the parts with an item at its place
+      put_is : {next : List (Arc P Z)} → ArePut size (items_of items parts) at item (items_of items next)
+          → AreParts items size next × (joined (items_of items next) ≡ with_item at item list)
+      put_is put = (record { chunks = put.kept }, put.items ∙ ap (with_item at item) view_is)
 
-      module _ (next : A) (next_is : items_of next ≡ with_item j item (items_of part)) where
-        put_is : map items_of (set parts k next)
-            ≡ set (map items_of parts) k (with_item j item (chunk_at (map items_of parts) k))
-        put_is = map-set items_of parts k next
-            ∙ ap (set (map items_of parts) k) (next_is ∙ ap (with_item j item) (sym had))
+      -- an item is put into its part
+      module _ {part : Arc P Z} (lt : place.0 < length parts) (part_is : part ≡ get_or parts place.0 part) where
+        put : (place.1 ≤ length (get_or (items_of items parts) place.0 [])) × ArePut size (items_of items parts) at item
+            (set (items_of items parts) place.0 (with_item place.1 item (get_or (items_of items parts) place.0 [])))
+        put = put_chunk size (items_of items parts) at place.0 place.1 item are.chunks is.sum is.within inside
+            (omega (arith, lt, count))
 
-        pub put_part : (joined (map items_of (set parts k next)) ≡ with_item at item (joined (map items_of parts)))
-            × AreChunks size (map items_of (set parts k next))
-        put_part = (
-          ap joined put_is ∙ put_chunk size (map items_of parts) at k j item are at_is within short there,
-          subst (AreChunks size) (sym put_is)
-              (put_kept size (map items_of parts) at k j are at_is short item there within),
-        )
+        pub in_part_le : place.1 ≤ length (in_part part)
+        in_part_le = subst (λ chunk. place.1 ≤ length chunk) (chunk_is part lt part_is) put.0
 
-    module _ (past : length parts ≤ k) (part : A) (part_is : items_of part ≡ item ∷ []) where
-      beyond : length (map items_of parts) ≤ k
-      beyond = omega (arith, past, length-map parts items_of)
+        pub put_part : {T E : Type 0} (next : Arc P Z) (r : Result T E)
+            → MatchResult r (λ _. in_part next ≡ with_item place.1 item (in_part part))
+            (λ _. in_part next ≡ in_part part)
+            → AreParts items size (set parts place.0 next)
+            × MatchResult r (λ _. joined (items_of items (set parts place.0 next)) ≡ with_item at item list)
+            (λ _. joined (items_of items (set parts place.0 next)) ≡ list)
+        put_part next (Ok _) done = put_is (subst (ArePut size (items_of items parts) at item)
+            (sym (map-set in_part parts place.0 next ∙ ap (set (items_of items parts) place.0)
+            (done ∙ ap (with_item place.1 item) (sym (chunk_is part lt part_is))))) put.1)
+        put_part next (Err _) same =
+            same_parts (map-set_same in_part parts place.0 next part (same ∙ ap in_part part_is))
 
-      pushed_is : map items_of (parts ++ part ∷ []) ≡ map items_of parts ++ (item ∷ []) ∷ []
-      pushed_is = map-append items_of parts (part ∷ []) ∙ ap (λ chunk. map items_of parts ++ chunk ∷ []) part_is
-
-      pub push_part : (joined (map items_of (parts ++ part ∷ [])) ≡ with_item at item (joined (map items_of parts)))
-          × AreChunks size (map items_of (parts ++ part ∷ []))
-      push_part = (
-        ap joined pushed_is ∙ push_chunk size (map items_of parts) at k j are at_is short item beyond,
-        subst (AreChunks size) (sym pushed_is)
-            (push_kept size (map items_of parts) at k j are at_is short item (omega (arith, short)) beyond within),
-      )
+      -- an item is put into a new part
+      pub push_part : (part : Arc P Z) → length parts ≤ place.0 → in_part part ≡ item ∷ []
+          → AreParts items size (parts ++ part ∷ [])
+          × (joined (items_of items (parts ++ part ∷ [])) ≡ with_item at item list)
+      push_part part past part_is = put_is (subst (ArePut size (items_of items parts) at item)
+          (sym (map-append in_part parts (part ∷ []) ∙ ap (λ chunk. items_of items parts ++ chunk ∷ []) part_is))
+          (push_chunk size (items_of items parts) at place.0 place.1 item are.chunks is.sum is.within inside
+          (omega (arith, past, count))))

@@ -2,8 +2,9 @@
 //! changes in place what it owns alone.
 #![tactic(auto)]
 
+mod page;
 mod pages;
-mod shelf;
-mod shelves;
+mod part;
+mod table;
 
 pub use pages::Pages;

@@ -1,12 +1,12 @@
 //! Pages of items.
 
-ghost use Rattle.std.specs.Prelude.{◌≡◌, ◌<◌, ◌≤◌, ◌+◌, ◌^◌, ◌++◌, ◌∷◌, [], length, take, IfOk, OnOk, OnErr, slice_set, slice_index_or, true};
+ghost use Rattle.std.specs.Prelude.{◌≡◌, ◌<◌, ◌≤◌, ◌+◌, ◌^◌, ◌++◌, ◌∷◌, [], length, take, IfOk, MatchResult, OnOk, OnErr, slice_set, slice_index_or};
 ghost use Rattle.std.specs.Arc.{arc_value};
-ghost use Rattle.std.specs.Option.{is_some};
 ghost use Rattle.shared_pages.specs.Pages.{IsInPages, last_items, with_item};
 
-use crate::shelf::{copy_of, put_in_page};
-use crate::shelves::Shelves;
+use crate::page::Page;
+use crate::part::Part;
+use crate::table::{Table, put_in_part};
 use std::alloc::{AllocError, Global};
 use std::clone::Clone;
 use std::marker::Model;
@@ -14,6 +14,9 @@ use std::sync::Arc;
 
 /// How many of the last items stand apart at most.
 const LAST: usize = 64;
+
+/// Pages of 256 items, in groups of 16, and these on shelves of 16 groups.
+type Shelves<T> = Table<T, Table<T, Table<T, Page<T, 256>>>>;
 
 /// A list that only grows. Its last items, 64 at most, stand in a page of their own, and all others on shelves, in
 /// pages of 256. Each page may have several owners, and so may the tables above it, so [`share`](Pages::share) copies
@@ -27,7 +30,7 @@ pub struct Pages<T> {
     /// How many of the items on shelves count.
     shelved: usize,
     /// The page of the last items, where there are some.
-    last: Option<Arc<Vec<T>>>,
+    last: Option<Arc<Page<T, LAST>>>,
     len: usize,
 }
 
@@ -54,7 +57,7 @@ impl<T> Pages<T> {
         T: Drop,
         ensures { IfOk result (λ pages. pages ≡ []) }
     {
-        let shelves = Arc::new(alloc, Shelves::new(alloc))?;
+        let shelves = Arc::new(alloc, Table::new(alloc)?)?;
         Ok(Pages {
             alloc,
             shelves,
@@ -78,7 +81,7 @@ impl<T> Pages<T> {
         ensures { result.now ≡ slice_index_or self.now at result.now }
     {
         match &self.last {
-            Some(page) if at >= self.shelved => &page[at - self.shelved],
+            Some(page) if at >= self.shelved => page.read(at - self.shelved),
             _ => self.shelves.read(at),
         }
     }
@@ -116,7 +119,7 @@ impl<T: Clone + Drop> Pages<T> {
         ensures err { OnErr result (self.new ≡ self.old) }
     {
         if at < self.shelved {
-            put_shelved(&mut self.shelves, at, item)
+            put_in_part(&mut self.shelves, at, item)
         } else {
             put_last(self.alloc, &mut self.last, at - self.shelved, item)
         }
@@ -153,7 +156,9 @@ impl<T: Drop> Clone for Pages<T> {
 }
 
 /// Another owner of the page of the last items.
-fn share_last<T: Drop>(last: &Option<Arc<Vec<T>>>) -> Result<Option<Arc<Vec<T>>>, AllocError>
+fn share_last<T: Drop>(
+    last: &Option<Arc<Page<T, LAST>>>,
+) -> Result<Option<Arc<Page<T, LAST>>>, AllocError>
     ensures { IfOk result (λ shared. last_items shared ≡ last_items last.now) }
 {
     match last {
@@ -162,42 +167,25 @@ fn share_last<T: Drop>(last: &Option<Arc<Vec<T>>>) -> Result<Option<Arc<Vec<T>>>
     }
 }
 
-/// Makes the page of the last items one that nobody else owns: a copy where there are other owners, and an empty one
-/// where there was none.
-fn own_last<T: Clone + Drop>(
-    alloc: Global,
-    last: &mut Option<Arc<Vec<T>>>,
-) -> Result<(), AllocError>
-    requires exact { (x y : T) → T.is_clone x y → y ≡ x }
-    ensures same { last_items last.new ≡ last_items last.old }
-    ensures there { OnOk result (is_some last.new ≡ true) }
-{
-    let items = match &*last {
-        Some(page) if Arc::strong_count(page) == 1 => return Ok(()),
-        Some(page) => copy_of(alloc, page, LAST)?,
-        None => Vec::with_capacity(alloc, LAST)?,
-    };
-    *last = Some(Arc::new(alloc, items)?);
-    Ok(())
-}
-
 /// Puts an item at its place among the last ones, whose page is copied before where it has other owners.
 fn put_last<T: Clone + Drop>(
     alloc: Global,
-    last: &mut Option<Arc<Vec<T>>>,
+    last: &mut Option<Arc<Page<T, LAST>>>,
     at: usize,
     item: T,
 ) -> Result<(), AllocError>
     requires exact { (x y : T) → T.is_clone x y → y ≡ x }
     requires within { at ≤ length (last_items last.old) }
-    ensures ok { OnOk result (last_items last.new ≡ with_item at item (last_items last.old)) }
-    ensures err { OnErr result (last_items last.new ≡ last_items last.old) }
+    ensures { MatchResult result (λ _. last_items last.new ≡ with_item at item (last_items last.old))
+        (λ _. last_items last.new ≡ last_items last.old) }
 {
-    own_last(alloc, last)?;
-    match last {
-        Some(page) => put_in_page(Arc::make_mut(page)?, at, item),
-        None => unreachable!(),
+    if let Some(page) = last {
+        return Arc::make_mut(page)?.put(at, item);
     }
+    let mut page = Page::new(alloc)?;
+    page.put(at, item)?;
+    *last = Some(Arc::new(alloc, page)?);
+    Ok(())
 }
 
 /// Where there are as many last items as may be, puts them on shelves too. How many of the items on shelves count then.
@@ -205,18 +193,17 @@ fn put_last<T: Clone + Drop>(
 fn shelve_full<T: Clone + Drop>(
     shelves: &mut Arc<Shelves<T>>,
     shelved: usize,
-    last: &mut Option<Arc<Vec<T>>>,
+    last: &mut Option<Arc<Page<T, LAST>>>,
     len: usize,
 ) -> Result<usize, AllocError>
     requires exact { (x y : T) → T.is_clone x y → y ≡ x }
     requires pages { IsInPages (arc_value shelves.old) shelved (last_items last.old) len }
-    ensures pages { IfOk result (λ count. IsInPages (arc_value shelves.new) count (last_items last.new) len) }
-    ensures items { IfOk result (λ count. take count (arc_value shelves.new) ++ last_items last.new
-        ≡ take shelved (arc_value shelves.old) ++ last_items last.old) }
-    ensures room { OnOk result (length (last_items last.new) < 64) }
-    ensures kept { OnErr result (IsInPages (arc_value shelves.new) shelved (last_items last.new) len) }
-    ensures err { OnErr result (take shelved (arc_value shelves.new) ++ last_items last.new
-        ≡ take shelved (arc_value shelves.old) ++ last_items last.old) }
+    ensures ok { IfOk result (λ count. IsInPages (arc_value shelves.new) count (last_items last.new) len
+        × (take count (arc_value shelves.new) ++ last_items last.new
+        ≡ take shelved (arc_value shelves.old) ++ last_items last.old) × (length (last_items last.new) < 64)) }
+    ensures err { OnErr result (IsInPages (arc_value shelves.new) shelved (last_items last.new) len
+        × (take shelved (arc_value shelves.new) ++ last_items last.new
+        ≡ take shelved (arc_value shelves.old) ++ last_items last.old)) }
 {
     match &*last {
         Some(page) if page.len() == LAST => put_all(shelves, shelved, page)?,
@@ -226,40 +213,24 @@ fn shelve_full<T: Clone + Drop>(
     Ok(len)
 }
 
-/// Puts an item on shelves, in place of another or after the last. Their table is copied before where it has other
-/// owners.
-fn put_shelved<T: Clone + Drop>(
-    shelves: &mut Arc<Shelves<T>>,
-    at: usize,
-    item: T,
-) -> Result<(), AllocError>
-    requires exact { (x y : T) → T.is_clone x y → y ≡ x }
-    requires within { at ≤ length (arc_value shelves.old) }
-    ensures ok { OnOk result (arc_value shelves.new ≡ with_item at item (arc_value shelves.old)) }
-    ensures err { OnErr result (arc_value shelves.new ≡ arc_value shelves.old) }
-{
-    let own = Arc::make_mut(shelves)?;
-    own.put(at, item)
-}
-
 /// Puts copies of items on shelves, from a place on. What stands before it stays, also where memory runs out.
 fn put_all<T: Clone + Drop>(
     shelves: &mut Arc<Shelves<T>>,
     from: usize,
-    items: &[T],
+    items: &Page<T, LAST>,
 ) -> Result<(), AllocError>
     requires exact { (x y : T) → T.is_clone x y → y ≡ x }
     requires within { from ≤ length (arc_value shelves.old) }
     requires few { from + length items.now < 2 ^ 64 }
-    ensures ok { OnOk result (take (from + length items.now) (arc_value shelves.new)
-        ≡ take from (arc_value shelves.old) ++ items.now) }
-    ensures long { OnOk result (from + length items.now ≤ length (arc_value shelves.new)) }
+    ensures ok { OnOk result ((take (from + length items.now) (arc_value shelves.new)
+        ≡ take from (arc_value shelves.old) ++ items.now)
+        × (from + length items.now ≤ length (arc_value shelves.new))) }
     ensures err { OnErr result ((take from (arc_value shelves.new) ≡ take from (arc_value shelves.old))
         × (from ≤ length (arc_value shelves.new))) }
 {
     for index in 0..items.len() {
-        let item = items[index].clone()?;
-        put_shelved(shelves, from + index, item)?;
+        let item = items.read(index).clone()?;
+        put_in_part(shelves, from + index, item)?;
     }
     Ok(())
 }

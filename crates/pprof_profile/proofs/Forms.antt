@@ -1,5 +1,5 @@
 -- What follows of every message from its rows.
-use Rattle.std.proofs.Common.{◌≡◌, ℕ, ◌<◌, ◌≤◌, ◌^◌, Bool, true, false, cond, ltb, ◌&&◌, ◌==◌, List, [], ◌∷◌, ◌++◌}
+use Rattle.std.proofs.Common.{◌≡◌, ◌↔◌, ℕ, ◌<◌, ◌≤◌, ◌^◌, Bool, true, false, cond, ltb, ◌&&◌, ◌==◌, List, [], ◌∷◌, ◌++◌}
 use Rattle.std.proofs.Common.{refl}
 use Rattle.std.proofs.Common.{sym, ap, ◌∙◌, subst, arith, Result, Ok}
 use Rattle.std.specs.Bool.{⊤}
@@ -20,8 +20,7 @@ use Rattle.pprof_profile.proofs.ReadBack.{Piece, no_piece, pieces_joined}
 -- the values of a kind's fields make what they do one after the other, and what is written is read back
 pub record LawfulKind {A : Type 0} (kind : Kind A) : Type 1 where
   pub once : RuleOnce kind.rule
-  pub made : (values : List FieldValue) (new : A) → TakesEach kind.rule kind.absent values new → kind.IsMade values new
-  pub taken : (values : List FieldValue) (new : A) → kind.IsMade values new → TakesEach kind.rule kind.absent values new
+  pub made : (values : List FieldValue) (new : A) → TakesEach kind.rule kind.absent values new ↔ kind.IsMade values new
   pub piece : {M : Type 0} (table : Table M) (with : A → M) (number : ℕ) → IsFieldNumber number
       → ((old new : A) (value : FieldValue) → kind.rule old value (Ok new)
       → table (with old) number value (Ok (with new)))
@@ -92,19 +91,13 @@ form_once {M = M} form lawful old number value =
 
 -- ---- a field of a number, and the rows of other numbers
 
-takes_here : {M A : Type 0} (kind : Kind A) (part : M → A) (rows : Rows M) (at number : ℕ) (value : FieldValue)
-    (old next : Parts (row at kind part rows)) → (number == at) ≡ true
-    → AtFirst kind.rule old value (Ok next) → Takes (row at kind part rows) number value old (Ok next)
-takes_here kind part rows at number value old next here step =
+takes_where : {M A : Type 0} (kind : Kind A) (part : M → A) (rows : Rows M) (at number : ℕ) (value : FieldValue)
+    (old next : Parts (row at kind part rows)) (here : Bool) → (number == at) ≡ here
+    → Where here (AtFirst kind.rule old value) (InOthers (Takes rows number value) old) (Ok next)
+    → Takes (row at kind part rows) number value old (Ok next)
+takes_where kind part rows at number value old next here same =
     subst (λ (h : Bool). Where h (AtFirst kind.rule old value) (InOthers (Takes rows number value) old) (Ok next))
-    (sym here) step
-
-takes_later : {M A : Type 0} (kind : Kind A) (part : M → A) (rows : Rows M) (at number : ℕ) (value : FieldValue)
-    (old next : Parts (row at kind part rows)) → (number == at) ≡ false
-    → InOthers (Takes rows number value) old (Ok next) → Takes (row at kind part rows) number value old (Ok next)
-takes_later kind part rows at number value old next other step =
-    subst (λ (h : Bool). Where h (AtFirst kind.rule old value) (InOthers (Takes rows number value) old) (Ok next))
-    (sym other) step
+    (sym same)
 
 by_number : (here : Bool) (P : Bool → Type 0) → (here ≡ true → P true) → (here ≡ false → P false) → P here
 by_number true P of_true of_false = of_true refl
@@ -119,7 +112,7 @@ pub none_takes : {M : Type 0} (rows : Rows M) (number : ℕ) (value : FieldValue
     → IsNone number rows → Takes rows number value old (Ok old)
 none_takes end number value old none = refl
 none_takes (row at kind part rows) number value old none =
-    takes_later kind part rows at number value old old none.0 (none_takes rows number value old.1 none.1, refl)
+    takes_where kind part rows at number value old old false none.0 (none_takes rows number value old.1 none.1, refl)
 
 -- the values of a number, after one more field
 values_with : (at : ℕ) (field : PlainField) (fields : List PlainField) (here : Bool) → (field.number == at) ≡ here
@@ -222,22 +215,18 @@ taken_gathered form lawful (field ∷ fields) old new taken =
     )
 
 all_made : {M : Type 0} (rows : Rows M) → AreLawful rows → (fields : List PlainField) (parts : Parts rows)
-    → TakesAll rows (absent_parts rows) fields parts → AreMade rows fields parts
-all_made end lawful fields parts taken = tt
-all_made (row at kind part rows) lawful fields parts taken =
-    (lawful.0.made (values_at at fields) parts.0 taken.0, all_made rows lawful.1 fields parts.1 taken.1)
-
-made_taken : {M : Type 0} (rows : Rows M) → AreLawful rows → (fields : List PlainField) (parts : Parts rows)
-    → AreMade rows fields parts → TakesAll rows (absent_parts rows) fields parts
-made_taken end lawful fields parts made = tt
-made_taken (row at kind part rows) lawful fields parts made =
-    (lawful.0.taken (values_at at fields) parts.0 made.0, made_taken rows lawful.1 fields parts.1 made.1)
+    → TakesAll rows (absent_parts rows) fields parts ↔ AreMade rows fields parts
+all_made end lawful fields parts = (λ taken. tt, λ made. tt)
+all_made (row at kind part rows) lawful fields parts =
+    let here = lawful.0.made (values_at at fields) parts.0 in
+    let others = all_made rows lawful.1 fields parts.1 in
+    (λ taken. (here.0 taken.0, others.0 taken.1), λ made. (here.1 made.0, others.1 made.1))
 
 pub form_made : {M : Type 0} (form : Form M) → LawfulForm form → (fields : List PlainField) (item : M)
     → Gathers (table_of form) (empty_of form) fields item → IsMadeOf form fields item
 form_made form lawful fields item gathered =
     let rows = form.rows in
-    all_made rows lawful.kinds fields (parts_of rows item)
+    (all_made rows lawful.kinds fields (parts_of rows item)).0
     (subst (λ (parts : Parts rows). TakesAll rows parts fields (parts_of rows item))
     (lawful.parts (absent_parts rows)) (gathered_taken form lawful fields (empty_of form) item gathered))
 
@@ -247,7 +236,7 @@ form_gathered form lawful fields item made =
     let rows = form.rows in
     taken_gathered form lawful fields (empty_of form) item
     (subst (λ (parts : Parts rows). TakesAll rows parts fields (parts_of rows item))
-    (sym (lawful.parts (absent_parts rows))) (made_taken rows lawful.kinds fields (parts_of rows item) made))
+    (sym (lawful.parts (absent_parts rows))) ((all_made rows lawful.kinds fields (parts_of rows item)).1 made))
 
 -- ---- what is written is read back
 
@@ -264,12 +253,12 @@ rows_piece (row at kind part rows) before rise lawful table with step start fiel
     let one = lawful.0.piece table (λ first. with (first, absent)) at
     (record { least = omega (arith, numbers.above); most = numbers.small })
     (λ old new value ruled. step at value (old, absent) (new, absent) numbers.above
-    (takes_here kind part rows at at value (old, absent) (new, absent) (eq-eqb at at refl) (ruled, refl)))
+    (takes_where kind part rows at at value (old, absent) (new, absent) true (eq-eqb at at refl) (ruled, refl)))
     parts.0 fit.0 in
     rows_piece rows at numbers.others lawful.1 table (λ others. with (parts.0, others))
     (λ number value old next above taken.
     step number value (parts.0, old) (parts.0, next) (omega (arith, numbers.above, above))
-    (takes_later kind part rows at number value (parts.0, old) (parts.0, next)
+    (takes_where kind part rows at number value (parts.0, old) (parts.0, next) false
     (ne_eqb number at (λ e. absurd (omega (arith, above, e)))) (taken, refl)))
     start (fields ++ kind.written at parts.0)
     (pieces_joined table start (with (kind.absent, absent)) (with (parts.0, absent)) fields (kind.written at parts.0)

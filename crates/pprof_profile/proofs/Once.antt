@@ -26,7 +26,26 @@ TableOnce {M = M} table = (old : M) (number : ℕ) (value : FieldValue) → Once
 abbrev pub RuleOnce : {A : Type 0} → Rule A → Type 0
 RuleOnce {A = A} rule = (old : A) (value : FieldValue) → Once (rule old value)
 
--- what has at most one outcome once it stands for something that has
+-- so there is one result, or one fault, and not both
+pub ok_once : {A : Type 0} (Is : Result A ProfileFault → Type 0) → Once Is → (a b : A) → Is (Ok a) → Is (Ok b) → a ≡ b
+ok_once {A = A} Is once a b left right =
+    let one : Result A ProfileFault = Ok a in
+    let other : Result A ProfileFault = Ok b in
+    let both : one ≡ other = once one other left right in cc both
+
+pub ok_or_fault : {A : Type 0} (Is : Result A ProfileFault → Type 0) → Once Is → (a : A) (fault : ProfileFault)
+    → Is (Ok a) → Is (Err fault) → ⊥
+ok_or_fault Is once a fault left right =
+    let both : Ok a ≡ Err fault = once (Ok a) (Err fault) left right in absurd cc
+
+pub fault_once : {A : Type 0} (Is : Result A ProfileFault → Type 0) → Once Is → (f g : ProfileFault)
+    → Is (Err f) → Is (Err g) → f ≡ g
+fault_once {A = A} Is once f g left right =
+    let one : Result A ProfileFault = Err f in
+    let other : Result A ProfileFault = Err g in
+    let both : one ≡ other = once one other left right in cc both
+
+-- what stands for something that has at most one outcome has at most one
 pub once_through : {A B : Type 0} (Is : Result A ProfileFault → Type 0) (Stands : A → B → Type 0)
     (Of : Result B ProfileFault → Type 0) → Once Is
     → ((a : A) (b c : B) → Stands a b → Stands a c → b ≡ c) → ((b : B) → Of (Ok b) → (a : A) × Is (Ok a) × Stands a b)
@@ -34,20 +53,13 @@ pub once_through : {A B : Type 0} (Is : Result A ProfileFault → Type 0) (Stand
 once_through {A = A} Is Stands Of once one stood failed (Ok x) (Ok y) left right =
     let (a, is, stands) = stood x left in
     let (b, too, stays) = stood y right in
-    let both : Ok a ≡ Ok b = once (Ok a) (Ok b) is too in
-    let same : a ≡ b = cc both in
-    ap Ok (one b x y (subst (λ (z : A). Stands z x) same stands) stays)
+    ap Ok (one b x y (subst (λ (z : A). Stands z x) (ok_once Is once a b is too) stands) stays)
 once_through Is Stands Of once one stood failed (Ok x) (Err f) left right =
-    let (a, is, stands) = stood x left in
-    let both : Ok a ≡ Err f = once (Ok a) (Err f) is (failed f right) in absurd cc
+    let (a, is, stands) = stood x left in absurd (ok_or_fault Is once a f is (failed f right))
 once_through Is Stands Of once one stood failed (Err f) (Ok y) left right =
-    let (b, is, stands) = stood y right in
-    let both : Ok b ≡ Err f = once (Ok b) (Err f) is (failed f left) in absurd cc
-once_through {A = A} Is Stands Of once one stood failed (Err f) (Err g) left right =
-    let first : Result A ProfileFault = Err f in
-    let other : Result A ProfileFault = Err g in
-    let both : first ≡ other = once first other (failed f left) (failed g right) in
-    let same : f ≡ g = cc both in ap Err same
+    let (b, is, stands) = stood y right in absurd (ok_or_fault Is once b f is (failed f left))
+once_through Is Stands Of once one stood failed (Err f) (Err g) left right =
+    ap Err (fault_once Is once f g (failed f left) (failed g right))
 
 -- ---- the fields of a message
 
@@ -107,8 +119,7 @@ no_ending {M = M} table once old next bytes spelling after field (Err fault) (in
     (sym parts ∙ wrong.parts) in
     let bad : table old field.number field.value (Err fault) =
     subst (λ (f : PlainField). table old f.number f.value (Err fault)) (sym here.2) wrong.faulty in
-    let same : Ok next ≡ Err fault = once old field.number field.value (Ok next) (Err fault) step bad in
-    absurd cc
+    ok_or_fault (table old field.number field.value) (once old field.number field.value) next fault step bad
 no_ending table once old next bytes spelling after field (Err fault) (inr wrong) parts spelled step =
     fault_without_field wrong.wrong bytes wrong.faulty spelling after field parts spelled
 
@@ -152,8 +163,7 @@ steps_once {M = M} table once (x ∷ xs) (y ∷ ys) old bytes a b (next, spellin
     let here = field_once spelling cut after past x y spelled written (sym parts ∙ pieces) in
     let moved : table old x.number x.value (Ok then) =
     subst (λ (z : PlainField). table old z.number z.value (Ok then)) (sym here.2) move in
-    let both : Ok next ≡ Ok then = once old x.number x.value (Ok next) (Ok then) step moved in
-    let same : next ≡ then = cc both in
+    let same = ok_once (table old x.number x.value) (once old x.number x.value) next then step moved in
     steps_once table once xs ys next after a b more
     (subst (λ (m : M). Steps table ys m after b) (sym same)
     (subst (λ (rest : List ℕ). Steps table ys then rest b) (sym here.1) yet))

@@ -25,7 +25,7 @@ use Rattle.profile_samples.specs.Export.{strings_of, unit_texts}
 use Rattle.profile_rows.proofs.Cleaning.{cleaned-name}
 use Rattle.profile_rows.proofs.NumberedRows.{none_single, single_with}
 use Rattle.profile_rows.proofs.SameNames.{same_from_is_same_name, is_same_name-self}
-use Rattle.profile_rows.proofs.TextNumbers.{any_push, list_any-map, number_in-lt, text_of_number}
+use Rattle.profile_rows.proofs.TextNumbers.{any_push, list_any-map, number_in-kept, number_in-lt, text_of_number}
 use Rattle.pprof_profile.specs.declared.messages.Function.{Function}
 use Rattle.pprof_profile.specs.declared.messages.Location.{Location}
 
@@ -35,8 +35,7 @@ stands_in texts text = list_any (bytes_eq text) texts
 
 -- each of some texts does
 abbrev pub AllStand : List (List ℕ) → List (List ℕ) → Type 0
-AllStand texts [] = ⊤
-AllStand texts (text ∷ more) = (stands_in texts text ≡ true) × AllStand texts more
+AllStand texts more = AllByRecursion (λ text. stands_in texts text ≡ true) more
 
 -- ---- texts that are added stand there, each once
 
@@ -65,15 +64,28 @@ with_texts-own texts (text ∷ more) q e =
       | false ↦ λ other r. with_texts-own (with_text texts text) more q r
     ] refl e
 
-pub stand_where : (sub full : List (List ℕ))
-    → ((q : List ℕ) → stands_in sub q ≡ true → stands_in full q ≡ true) → AllStand full sub
-stand_where [] full h = tt
-stand_where (text ∷ sub) full h = (
-  h text (or_left (bytes_eq text text) (stands_in sub text) (is_same_name-self text)),
-  stand_where sub full (λ q e. h q (or_right (bytes_eq q text) (stands_in sub q) e)),
+-- what is true of each text that stands among texts is true of each
+pub each_where : (P : List ℕ → Type 0) (texts : List (List ℕ))
+    → ((q : List ℕ) → stands_in texts q ≡ true → P q) → AllByRecursion P texts
+each_where P [] h = tt
+each_where P (text ∷ texts) h = (
+  h text (or_left (bytes_eq text text) (stands_in texts text) (is_same_name-self text)),
+  each_where P texts (λ q e. h q (or_right (bytes_eq q text) (stands_in texts q) e)),
 )
 
+pub stand_where : (sub full : List (List ℕ))
+    → ((q : List ℕ) → stands_in sub q ≡ true → stands_in full q ≡ true) → AllStand full sub
+stand_where sub full = each_where (λ q. stands_in full q ≡ true) sub
+
 -- ---- numbers of texts
+
+-- a text that is there keeps its number as more come
+pub number_in-withs : (front back : List (List ℕ)) (text : List ℕ)
+    → stands_in front text ≡ true → number_in (with_texts front back) text ≡ number_in front text
+number_in-withs front [] text there = refl
+number_in-withs front (next ∷ back) text there =
+    number_in-withs (with_text front next) back text (with_text-stands front next text there)
+    ∙ number_in-kept front next text there
 
 -- texts of one number are one text
 number_in-one : (texts : List (List ℕ)) (a b : List ℕ)

@@ -2,7 +2,7 @@
 use Rattle.std.proofs.lemmas.Grind.{common_steps}
 use Rattle.std.proofs.Common.{◌≡◌, ℕ, zero, suc, ◌<◌, ◌≤◌, Bool, true, false, ◌||◌, eqb, List, [], ◌∷◌}
 use Rattle.std.proofs.Common.{◌++◌, length, map, refl, sym, ap, ◌∙◌, subst, arith}
-use Rattle.std.specs.Prelude.{⊤, pos, Some, ◌==◌, reverse, slice_get, slice_index_or}
+use Rattle.std.specs.Prelude.{pos, Some, ◌==◌, reverse, slice_get, slice_index_or}
 use Rattle.std.specs.List.{All, AllByRecursion, IsDistinct, list_all, list_any, flat_map}
 use Rattle.std.specs.Str.{bytes_eq}
 use mathlib.Core.List.{map-map}

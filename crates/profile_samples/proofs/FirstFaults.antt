@@ -9,7 +9,7 @@ use Rattle.profile_rows.specs.declared.weighted_stacks.WeightedStack.{WeightedSt
 use Rattle.profile_rows.specs.Values.{AreTotals, BatchState, single_batch}
 use Rattle.folded_text.proofs.Cuts.{cuts}
 use Rattle.profile_samples.specs.declared.sampling.BatchFault.{BatchFault}
-use Rattle.profile_samples.specs.declared.sampling.BatchFault.TheVariants.{NoValue, Width, Negative, Depth, Heavy}
+use Rattle.profile_samples.specs.declared.sampling.BatchFault.TheVariants.{Negative, Depth, Heavy}
 use Rattle.profile_samples.specs.declared.sampling.BatchFault.TheVariants.{NoMemory}
 use Rattle.profile_samples.specs.declared.sampling.ValueChoice.{ValueChoice}
 use Rattle.profile_samples.specs.Batches.{AreStacksOf, Gives, GivesBatch, GivesOfStacks, IsBatchOf, IsFirstFault}

@@ -1,7 +1,7 @@
 -- What batch the samples of a profile give.
 use Rattle.std.proofs.Common.{◌≡◌, ℕ, zero, suc, ◌+◌, ◌^◌, ◌<◌, ◌≤◌, List, [], ◌∷◌, ◌++◌, length, take, drop, get_or}
 use Rattle.std.proofs.Common.{◌≢◌, ◌⊎◌, refl, sym, ap, ◌∙◌, inl, inr, subst, arith}
-use Rattle.std.specs.Prelude.{ℤ, pos, Option, Some, None, Result, Ok, Err, MatchResult, slice_get, is_some}
+use Rattle.std.specs.Prelude.{ℤ, pos, Option, Some, None, Result, Err, MatchResult, slice_get, is_some}
 use Rattle.std.specs.List.{All}
 use Rattle.std.proofs.Math.Seq.{drop-cons}
 use Rattle.std.proofs.lemmas.Bool.{false≢true}

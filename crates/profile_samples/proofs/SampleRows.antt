@@ -15,7 +15,7 @@ use Rattle.pprof_profile.specs.declared.messages.ValueType.{ValueType}
 use Rattle.pprof_profile.specs.Valid.{IsValidDraft, each_has_values}
 use Rattle.profile_rows.specs.Values.{Row, value_of}
 use Rattle.profile_samples.specs.declared.sampling.BatchFault.{BatchFault}
-use Rattle.profile_samples.specs.declared.sampling.BatchFault.TheVariants.{NoValue, Width, Negative, Depth, Heavy}
+use Rattle.profile_samples.specs.declared.sampling.BatchFault.TheVariants.{Negative, Depth, Heavy}
 use Rattle.profile_samples.specs.declared.sampling.BatchFault.TheVariants.{NoMemory}
 use Rattle.profile_samples.specs.declared.sampling.ValueChoice.{ValueChoice}
 use Rattle.profile_samples.specs.declared.sampling.ValueChoice.TheVariants.{Default, Named, All}

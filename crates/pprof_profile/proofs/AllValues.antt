@@ -3,7 +3,7 @@ use Rattle.std.proofs.Common.{◌≡◌, ℕ, List, [], ◌∷◌, ◌++◌, map
 use Rattle.std.proofs.lemmas.List.{append-nil}
 use Rattle.std.specs.List.{AllByRecursion, flat_map}
 use Rattle.std.specs.Str.{IsUtf8}
-use Rattle.pprof_wire.specs.Fields.{FieldValue, varint, fixed64, fixed32, content, PlainField}
+use Rattle.pprof_wire.specs.Fields.{FieldValue, varint, content, PlainField}
 use Rattle.pprof_profile.specs.Reading.{Rule, Table, Gathers, SetsNumber, AddsNumbers, AddsText, AddsMessage}
 use Rattle.pprof_profile.specs.Reading.{MergesMessage}
 use Rattle.pprof_profile.specs.AllValues.{ArePaired, last_or, IsLast, AreNumbersOf, AreAllNumbers}
@@ -26,9 +26,7 @@ last_taken {A = A} from before (varint number ∷ values) new (next, step, more)
     let rest = last_taken from number values new
     (subst (λ (x : A). TakesEach (SetsNumber from) x values new) here more) in
     (number ∷ rest.0, ap (λ (vs : List FieldValue). varint number ∷ vs) rest.1, rest.2)
-last_taken from before (fixed64 number ∷ values) new (next, step, more) = absurd cc
-last_taken from before (fixed32 number ∷ values) new (next, step, more) = absurd cc
-last_taken from before (content bytes ∷ values) new (next, step, more) = absurd cc
+last_taken from before (value ∷ values) new (next, step, more) = absurd cc
 
 pub is_last : {A : Type 0} (from : ℕ → A) (values : List FieldValue) (new : A)
     → TakesEach (SetsNumber from) (from 0) values new → IsLast from values new
@@ -49,8 +47,6 @@ all_numbers {A = A} from old (varint number ∷ values) new (next, step, more) =
       rest.2 ∙ ap (λ (xs : List A). xs ++ map from (flat_map (λ part. part) rest.0)) here
           ∙ append_assoc old (from number ∷ []) (map from (flat_map (λ part. part) rest.0)),
     )
-all_numbers from old (fixed64 number ∷ values) new (next, step, more) = absurd cc
-all_numbers from old (fixed32 number ∷ values) new (next, step, more) = absurd cc
 all_numbers {A = A} from old (content bytes ∷ values) new (next, step, more) =
     let rest = all_numbers from next values new more in
     let after = flat_map (λ part. part) rest.0 in (
@@ -60,6 +56,7 @@ all_numbers {A = A} from old (content bytes ∷ values) new (next, step, more) =
           ∙ append_assoc old (map from step.numbers) (map from after)
           ∙ ap (λ (xs : List A). old ++ xs) (sym (map_joined from step.numbers after)),
     )
+all_numbers from old (value ∷ values) new (next, step, more) = absurd cc
 
 pub are_all_numbers : {A : Type 0} (from : ℕ → A) (values : List FieldValue) (new : List A)
     → TakesEach (AddsNumbers from) [] values new → AreAllNumbers from values new
@@ -70,9 +67,6 @@ are_all_numbers from values new taken =
 all_texts : (old : List (List ℕ)) (values : List FieldValue) (new : List (List ℕ)) → TakesEach AddsText old values new
     → (texts : List (List ℕ)) × (values ≡ map content texts) × AllByRecursion IsUtf8 texts × (new ≡ old ++ texts)
 all_texts old [] new same = ([], refl, tt, same ∙ sym (append-nil old))
-all_texts old (varint number ∷ values) new (next, step, more) = absurd cc
-all_texts old (fixed64 number ∷ values) new (next, step, more) = absurd cc
-all_texts old (fixed32 number ∷ values) new (next, step, more) = absurd cc
 all_texts old (content bytes ∷ values) new (next, step, more) =
     let rest = all_texts next values new more in (
       bytes ∷ rest.0,
@@ -80,6 +74,7 @@ all_texts old (content bytes ∷ values) new (next, step, more) =
       (step.0, rest.2),
       rest.3 ∙ ap (λ (xs : List (List ℕ)). xs ++ rest.0) step.1 ∙ append_assoc old (bytes ∷ []) rest.0,
     )
+all_texts old (value ∷ values) new (next, step, more) = absurd cc
 
 pub are_all_texts : (values : List FieldValue) (new : List (List ℕ)) → TakesEach AddsText [] values new
     → AreAllTexts values new
@@ -96,9 +91,6 @@ all_messages : {M : Type 0} (table : Table M) (empty : M) (Is : List PlainField 
     → (lists : List (List PlainField))
     × (items : List M) × ArePaired AreFieldsOf values lists × ArePaired Is lists items × (new ≡ old ++ items)
 all_messages table empty Is by old [] new same = ([], [], refl, refl, same ∙ sym (append-nil old))
-all_messages table empty Is by old (varint number ∷ values) new (next, step, more) = absurd cc
-all_messages table empty Is by old (fixed64 number ∷ values) new (next, step, more) = absurd cc
-all_messages table empty Is by old (fixed32 number ∷ values) new (next, step, more) = absurd cc
 all_messages {M = M} table empty Is by old (content bytes ∷ values) new (next, step, more) =
     let (lists, items, listed, each, after) = all_messages table empty Is by next values new more in (
       step.spelled.fields ∷ lists,
@@ -107,6 +99,7 @@ all_messages {M = M} table empty Is by old (content bytes ∷ values) new (next,
       (by step.spelled.fields step.item step.spelled.gathered, each),
       after ∙ ap (λ (xs : List M). xs ++ items) step.appended ∙ append_assoc old (step.item ∷ []) items,
     )
+all_messages table empty Is by old (value ∷ values) new (next, step, more) = absurd cc
 
 pub are_all_messages : {M : Type 0} (table : Table M) (empty : M) (Is : List PlainField → M → Type 0)
     → ((fields : List PlainField) (item : M) → Gathers table empty fields item → Is fields item)
@@ -121,15 +114,13 @@ all_together : {M : Type 0} (table : Table M) (old : M) (values : List FieldValu
     → (lists : List (List PlainField))
     × ArePaired AreFieldsOf values lists × Gathers table old (flat_map (λ part. part) lists) new
 all_together table old [] new same = ([], refl, same)
-all_together table old (varint number ∷ values) new (next, step, more) = absurd cc
-all_together table old (fixed64 number ∷ values) new (next, step, more) = absurd cc
-all_together table old (fixed32 number ∷ values) new (next, step, more) = absurd cc
 all_together table old (content bytes ∷ values) new (next, step, more) =
     let rest = all_together table next values new more in (
       step.fields ∷ rest.0,
       (step.listed, rest.1),
       gathers_joined table old next new step.fields (flat_map (λ part. part) rest.0) step.gathered rest.2,
     )
+all_together table old (value ∷ values) new (next, step, more) = absurd cc
 
 pub is_one_message : {M : Type 0} (table : Table M) (empty : M) (Is : List PlainField → M → Type 0)
     → ((fields : List PlainField) (item : M) → Gathers table empty fields item → Is fields item)
@@ -173,8 +164,6 @@ numbers_back_from {A = A} from old (varint number ∷ values) (part ∷ numbers)
       numbers_back_from from (old ++ from number ∷ []) values numbers new others
           (after old (from number ∷ []) (map from rest) new joined),
     )
-numbers_back_from from old (fixed64 number ∷ values) (part ∷ numbers) new paired same = absurd paired.0
-numbers_back_from from old (fixed32 number ∷ values) (part ∷ numbers) new paired same = absurd paired.0
 numbers_back_from {A = A} from old (content bytes ∷ values) (part ∷ numbers) new (here, others) same =
     let rest = flat_map (λ part. part) numbers in
     let joined : new ≡ old ++ (map from part ++ map from rest) = same
@@ -184,6 +173,7 @@ numbers_back_from {A = A} from old (content bytes ∷ values) (part ∷ numbers)
       numbers_back_from from
           (old ++ map from part) values numbers new others (after old (map from part) (map from rest) new joined),
     )
+numbers_back_from from old (value ∷ values) (part ∷ numbers) new paired same = absurd paired.0
 
 pub all_numbers_back : {A : Type 0} (from : ℕ → A) (values : List FieldValue) (items : List A)
     → AreAllNumbers from values items
@@ -215,12 +205,6 @@ messages_back_from table empty Is back old [] [] items new listed each same =
 messages_back_from table empty Is back old [] (list ∷ lists) items new listed each same = absurd cc
 messages_back_from table empty Is back old (value ∷ values) [] items new listed each same = absurd listed
 messages_back_from table empty Is back old (value ∷ values) (list ∷ lists) [] new listed each same = absurd each
-messages_back_from table empty Is back old (varint number ∷ values) (list ∷ lists) (item ∷ items) new listed each same =
-    absurd listed.0
-messages_back_from table empty Is back old
-    (fixed64 number ∷ values) (list ∷ lists) (item ∷ items) new listed each same = absurd listed.0
-messages_back_from table empty Is back old
-    (fixed32 number ∷ values) (list ∷ lists) (item ∷ items) new listed each same = absurd listed.0
 messages_back_from table empty Is back old (content bytes ∷ values) (list ∷ lists) (item ∷ items)
     new listed each same = (
       old ++ item ∷ [],
@@ -233,6 +217,8 @@ messages_back_from table empty Is back old (content bytes ∷ values) (list ∷ 
       messages_back_from table empty Is back
           (old ++ item ∷ []) values lists items new listed.1 each.1 (after old (item ∷ []) items new same),
     )
+messages_back_from table empty Is back old (value ∷ values) (list ∷ lists) (item ∷ items) new listed each same =
+    absurd listed.0
 
 pub all_messages_back : {M : Type 0} (table : Table M) (empty : M) (Is : List PlainField → M → Type 0)
     → ((fields : List PlainField) (item : M) → Is fields item → Gathers table empty fields item)
@@ -256,15 +242,13 @@ together_back : {M : Type 0}
 together_back table old [] [] new listed gathered = gathered
 together_back table old [] (list ∷ lists) new listed gathered = absurd cc
 together_back table old (value ∷ values) [] new listed gathered = absurd listed
-together_back table old (varint number ∷ values) (list ∷ lists) new listed gathered = absurd listed.0
-together_back table old (fixed64 number ∷ values) (list ∷ lists) new listed gathered = absurd listed.0
-together_back table old (fixed32 number ∷ values) (list ∷ lists) new listed gathered = absurd listed.0
 together_back table old (content bytes ∷ values) (list ∷ lists) new listed gathered =
     let (mid, left, right) = gathers_split table old new list (flat_map (λ part. part) lists) gathered in (
       mid,
       record { fields = list; listed = listed.0; gathered = left },
       together_back table mid values lists new listed.1 right,
     )
+together_back table old (value ∷ values) (list ∷ lists) new listed gathered = absurd listed.0
 
 pub one_message_back : {M : Type 0} (table : Table M) (empty : M) (Is : List PlainField → M → Type 0)
     → ((fields : List PlainField) (item : M) → Is fields item → Gathers table empty fields item)

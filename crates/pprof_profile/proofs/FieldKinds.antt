@@ -3,12 +3,11 @@ use Rattle.std.proofs.Common.{◌≡◌, ℕ, ◌<◌, ◌^◌, List, [], ◌∷
 use Rattle.std.proofs.Common.{FitsSigned}
 use Rattle.std.specs.Str.{IsUtf8}
 use Rattle.pprof_wire.specs.Fields.{content}
-use Rattle.pprof_profile.specs.declared.faults.ProfileFault.{ProfileFault}
 use Rattle.pprof_profile.specs.Forms.{Form, empty_of, table_of, bytes_of, Fits, number_kind, numbers_kind}
 use Rattle.pprof_profile.specs.Forms.{IsMadeOf, unsigned, signed, flag, unsigneds, signeds, texts, each, one}
 use Rattle.pprof_profile.specs.Forms.{unsigned_of}
 use Rattle.pprof_profile.specs.Forms.{signed_of, flag_of}
-use Rattle.pprof_profile.specs.Reading.{Spells}
+use Rattle.pprof_profile.specs.Reading.{Reads, Spells}
 use Rattle.pprof_profile.specs.Writing.{number_of_unsigned, number_of_signed, number_of_flag, FitsUnsigned}
 use Rattle.pprof_profile.specs.Writing.{packed_bytes}
 use Rattle.pprof_profile.specs.Writing.{each_field}
@@ -16,7 +15,8 @@ use Rattle.pprof_profile.proofs.AllValues.{is_last, last_back, are_all_numbers, 
 use Rattle.pprof_profile.proofs.AllValues.{all_texts_back, are_all_messages, all_messages_back, is_one_message}
 use Rattle.pprof_profile.proofs.AllValues.{one_message_back}
 use Rattle.pprof_profile.proofs.Forms.{LawfulKind, LawfulForm, form_once, form_made, form_gathered, form_back}
-use Rattle.pprof_profile.proofs.Once.{sets_once, numbers_once, text_once, message_once, merge_once, reads_once}
+use Rattle.pprof_profile.proofs.Once.{ok_once, sets_once, numbers_once, text_once, message_once, merge_once}
+use Rattle.pprof_profile.proofs.Once.{reads_once}
 use Rattle.pprof_profile.proofs.ReadBack.{Piece, number_piece, content_piece, each_piece, signed_back, signed_below}
 use Rattle.pprof_profile.proofs.ReadBack.{flag_back}
 use Rattle.pprof_profile.proofs.ReadBack.{flag_below, unpacked_back, none_unpacked}
@@ -27,8 +27,7 @@ number_lawful : {A : Type 0} (from : ℕ → A) (to : A → ℕ) (Good : A → T
 number_lawful from to Good below back =
     record {
       once = sets_once from;
-      made = is_last from;
-      taken = last_back from;
+      made = λ values item. (is_last from values item, last_back from values item);
       piece = λ table with number numbered step item fits.
           number_piece table (with (from 0)) (with item) number (to item) numbered (below item fits)
           (step (from 0) item _ (ap Ok (back item fits)))
@@ -50,8 +49,7 @@ numbers_lawful : {A : Type 0} (from : ℕ → A) (to : A → ℕ) (Good : A → 
 numbers_lawful from to Good below back =
     record {
       once = numbers_once from;
-      made = are_all_numbers from;
-      taken = all_numbers_back from;
+      made = λ values items. (are_all_numbers from values items, all_numbers_back from values items);
       piece = λ table with number numbered step items fits.
           let unpacked = unpacked_back from to Good below back items fits.0 in
           content_piece table (with []) (with items) number (packed_bytes (map to items)) numbered fits.1
@@ -73,8 +71,7 @@ pub texts_lawful : LawfulKind texts
 texts_lawful =
     record {
       once = text_once;
-      made = are_all_texts;
-      taken = all_texts_back;
+      made = λ values items. (are_all_texts values items, all_texts_back values items);
       piece = λ table with number numbered step items fits.
           subst (λ contents. Piece table (with []) (each_field number contents) (with items)) (same_texts items)
           (each_piece table with (λ text. IsUtf8 text × (length text < 2 ^ 64)) number (λ text. text) numbered
@@ -88,8 +85,10 @@ each_lawful form lawful =
     let empty = empty_of form in
     record {
       once = message_once table (form_once form lawful) empty;
-      made = are_all_messages table empty (IsMadeOf form) (form_made form lawful);
-      taken = all_messages_back table empty (IsMadeOf form) (form_gathered form lawful);
+      made = λ values items. (
+        are_all_messages table empty (IsMadeOf form) (form_made form lawful) values items,
+        all_messages_back table empty (IsMadeOf form) (form_gathered form lawful) values items,
+      );
       piece = λ table with number numbered step items fits.
           each_piece table with (λ item. Fits form item × (length (bytes_of form item) < 2 ^ 64)) number (bytes_of form)
           numbered
@@ -101,12 +100,11 @@ each_lawful form lawful =
 empty_alone : {M : Type 0} (form : Form M) → LawfulForm form → (item : M) → Fits form item → bytes_of form item ≡ []
     → item ≡ empty_of form
 empty_alone {M = M} form lawful item fits empty =
-    let first : Result M ProfileFault = Ok item in
-    let other : Result M ProfileFault = Ok (empty_of form) in
-    let both : first ≡ other = reads_once (table_of form) (form_once form lawful) (empty_of form) [] first other
+    ok_once (Reads (table_of form) (empty_of form) [])
+    (reads_once (table_of form) (form_once form lawful) (empty_of form) []) item (empty_of form)
     (subst (λ (bytes : List ℕ). Spells (table_of form) (empty_of form) bytes item) empty
     (form_back form lawful item fits))
-    (record { fields = []; listed = refl; gathered = refl }) in cc both
+    (record { fields = []; listed = refl; gathered = refl })
 
 pub one_lawful : {M : Type 0} (form : Form M) → LawfulForm form → LawfulKind (one form)
 one_lawful form lawful =
@@ -114,8 +112,10 @@ one_lawful form lawful =
     let empty = empty_of form in
     record {
       once = merge_once table (form_once form lawful);
-      made = is_one_message table empty (IsMadeOf form) (form_made form lawful);
-      taken = one_message_back table empty (IsMadeOf form) (form_gathered form lawful);
+      made = λ values item. (
+        is_one_message table empty (IsMadeOf form) (form_made form lawful) values item,
+        one_message_back table empty (IsMadeOf form) (form_gathered form lawful) values item,
+      );
       piece = λ table with number numbered step item fits.
           content_piece table (with (empty_of form)) (with item) number (bytes_of form item) numbered fits.1
           (step (empty_of form) item _ (form_back form lawful item fits.0))

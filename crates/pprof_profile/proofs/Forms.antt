@@ -1,7 +1,7 @@
 -- What follows of every message from its rows.
-use Rattle.std.proofs.Common.{◌≡◌, ℕ, ◌<◌, ◌≤◌, ◌^◌, Bool, true, false, cond, ltb, ◌&&◌, ◌==◌, List, [], ◌∷◌, ◌++◌}
+use Rattle.std.proofs.Common.{◌≡◌, ◌↔◌, ℕ, ◌<◌, ◌≤◌, ◌^◌, Bool, true, false, cond, ltb, ◌&&◌, ◌==◌, List, [], ◌∷◌, ◌++◌}
 use Rattle.std.proofs.Common.{refl}
-use Rattle.std.proofs.Common.{sym, ap, ◌∙◌, subst, arith, Result, Ok, Err}
+use Rattle.std.proofs.Common.{sym, ap, ◌∙◌, subst, arith, Result, Ok}
 use Rattle.std.specs.Bool.{⊤}
 use Rattle.std.proofs.lemmas.Bool.{ne_eqb, eq-eqb, eqb-true, and_parts, ltb-true}
 use Rattle.pprof_wire.specs.Fields.{FieldValue, PlainField, IsFieldNumber}
@@ -12,7 +12,7 @@ use Rattle.pprof_profile.specs.Forms.{Kind, Rows, end, row, Parts, parts_of, For
 use Rattle.pprof_profile.specs.Forms.{AtFirst, InOthers, Takes, table_of, AreMade, IsMadeOf, written_after, bytes_of}
 use Rattle.pprof_profile.specs.Forms.{PartsFit, Fits}
 use Rattle.pprof_profile.proofs.AllValues.{TakesEach}
-use Rattle.pprof_profile.proofs.Once.{Once, RuleOnce, TableOnce, where_once, skipped_once}
+use Rattle.pprof_profile.proofs.Once.{Once, RuleOnce, TableOnce, once_through, where_once, skipped_once}
 use Rattle.pprof_profile.proofs.ReadBack.{Piece, no_piece, pieces_joined}
 
 -- ---- what is asked of the rows
@@ -20,8 +20,7 @@ use Rattle.pprof_profile.proofs.ReadBack.{Piece, no_piece, pieces_joined}
 -- the values of a kind's fields make what they do one after the other, and what is written is read back
 pub record LawfulKind {A : Type 0} (kind : Kind A) : Type 1 where
   pub once : RuleOnce kind.rule
-  pub made : (values : List FieldValue) (new : A) → TakesEach kind.rule kind.absent values new → kind.IsMade values new
-  pub taken : (values : List FieldValue) (new : A) → kind.IsMade values new → TakesEach kind.rule kind.absent values new
+  pub made : (values : List FieldValue) (new : A) → TakesEach kind.rule kind.absent values new ↔ kind.IsMade values new
   pub piece : {M : Type 0} (table : Table M) (with : A → M) (number : ℕ) → IsFieldNumber number
       → ((old new : A) (value : FieldValue) → kind.rule old value (Ok new)
       → table (with old) number value (Ok (with new)))
@@ -62,35 +61,17 @@ numbered before number rows all =
 
 first_once : {A R : Type 0} (rule : Rule A) → RuleOnce rule → (old : A × R) (value : FieldValue)
     → Once (AtFirst rule old value)
-first_once rule once old value (Ok x) (Ok y) left right =
-    let both : Ok x.0 ≡ Ok y.0 = once old.0 value (Ok x.0) (Ok y.0) left.0 right.0 in
-    let same : x.0 ≡ y.0 = cc both in
-    let others : x.1 ≡ y.1 = left.1 ∙ sym right.1 in λ i. Ok (same i, others i)
-first_once rule once old value (Ok x) (Err f) left right =
-    let both : Ok x.0 ≡ Err f = once old.0 value (Ok x.0) (Err f) left.0 right in absurd cc
-first_once rule once old value (Err f) (Ok x) left right =
-    let both : Ok x.0 ≡ Err f = once old.0 value (Ok x.0) (Err f) right.0 left in absurd cc
-first_once {A = A} rule once old value (Err f) (Err g) left right =
-    let one : Result A ProfileFault = Err f in
-    let other : Result A ProfileFault = Err g in
-    let both : one ≡ other = once old.0 value one other left right in
-    let same : f ≡ g = cc both in ap Err same
+first_once {A = A} {R = R} rule once old value =
+    once_through (rule old.0 value) (λ (a : A) (new : A × R). (a ≡ new.0) × (new.1 ≡ old.1)) (AtFirst rule old value)
+    (once old.0 value) (λ a x y left right i. ((sym left.0 ∙ right.0) i, (left.1 ∙ sym right.1) i))
+    (λ new step. (new.0, step.0, (refl, step.1))) (λ fault wrong. wrong)
 
 others_once : {A R : Type 0} (Is : R → Result R ProfileFault → Type 0) → ((old : R) → Once (Is old)) → (old : A × R)
     → Once (InOthers Is old)
-others_once Is once old (Ok x) (Ok y) left right =
-    let both : Ok x.1 ≡ Ok y.1 = once old.1 (Ok x.1) (Ok y.1) left.0 right.0 in
-    let same : x.1 ≡ y.1 = cc both in
-    let first : x.0 ≡ y.0 = left.1 ∙ sym right.1 in λ i. Ok (first i, same i)
-others_once Is once old (Ok x) (Err f) left right =
-    let both : Ok x.1 ≡ Err f = once old.1 (Ok x.1) (Err f) left.0 right in absurd cc
-others_once Is once old (Err f) (Ok x) left right =
-    let both : Ok x.1 ≡ Err f = once old.1 (Ok x.1) (Err f) right.0 left in absurd cc
-others_once {R = R} Is once old (Err f) (Err g) left right =
-    let one : Result R ProfileFault = Err f in
-    let other : Result R ProfileFault = Err g in
-    let both : one ≡ other = once old.1 one other left right in
-    let same : f ≡ g = cc both in ap Err same
+others_once {A = A} {R = R} Is once old =
+    once_through (Is old.1) (λ (r : R) (new : A × R). (r ≡ new.1) × (new.0 ≡ old.0)) (InOthers Is old)
+    (once old.1) (λ r x y left right i. ((left.1 ∙ sym right.1) i, (sym left.0 ∙ right.0) i))
+    (λ new step. (new.1, step.0, (refl, step.1))) (λ fault wrong. wrong)
 
 takes_once : {M : Type 0} (rows : Rows M) → AreLawful rows → (number : ℕ) (value : FieldValue) (old : Parts rows)
     → Once (Takes rows number value old)
@@ -100,43 +81,23 @@ takes_once (row at kind part rows) lawful number value old =
     (others_once (Takes rows number value) (takes_once rows lawful.1 number value) old)
 
 pub form_once : {M : Type 0} (form : Form M) → LawfulForm form → TableOnce (table_of form)
-form_once form lawful old number value (Ok x) (Ok y) left right =
+form_once {M = M} form lawful old number value =
     let rows = form.rows in
-    let both : Ok (parts_of rows x) ≡ Ok (parts_of rows y) =
-    takes_once rows lawful.kinds number value (parts_of rows old) (Ok (parts_of rows x)) (Ok (parts_of rows y))
-    left right in
-    let same : parts_of rows x ≡ parts_of rows y = cc both in
-    ap Ok (sym (lawful.item x) ∙ ap (item_of form) same ∙ lawful.item y)
-form_once form lawful old number value (Ok x) (Err f) left right =
-    let both : Ok (parts_of form.rows x) ≡ Err f =
-    takes_once form.rows lawful.kinds number value (parts_of form.rows old) (Ok (parts_of form.rows x)) (Err f)
-    left right in absurd cc
-form_once form lawful old number value (Err f) (Ok x) left right =
-    let both : Ok (parts_of form.rows x) ≡ Err f =
-    takes_once form.rows lawful.kinds number value (parts_of form.rows old) (Ok (parts_of form.rows x)) (Err f)
-    right left in absurd cc
-form_once form lawful old number value (Err f) (Err g) left right =
-    let one : Result (Parts form.rows) ProfileFault = Err f in
-    let other : Result (Parts form.rows) ProfileFault = Err g in
-    let both : one ≡ other =
-    takes_once form.rows lawful.kinds number value (parts_of form.rows old) one other left right in
-    let same : f ≡ g = cc both in ap Err same
+    once_through (Takes rows number value (parts_of rows old))
+    (λ (parts : Parts rows) (new : M). parts ≡ parts_of rows new) (table_of form old number value)
+    (takes_once rows lawful.kinds number value (parts_of rows old))
+    (λ parts x y left right. sym (lawful.item x) ∙ ap (item_of form) (sym left ∙ right) ∙ lawful.item y)
+    (λ new step. (parts_of rows new, step, refl)) (λ fault wrong. wrong)
 
 -- ---- a field of a number, and the rows of other numbers
 
-takes_here : {M A : Type 0} (kind : Kind A) (part : M → A) (rows : Rows M) (at number : ℕ) (value : FieldValue)
-    (old next : Parts (row at kind part rows)) → (number == at) ≡ true
-    → AtFirst kind.rule old value (Ok next) → Takes (row at kind part rows) number value old (Ok next)
-takes_here kind part rows at number value old next here step =
+takes_where : {M A : Type 0} (kind : Kind A) (part : M → A) (rows : Rows M) (at number : ℕ) (value : FieldValue)
+    (old next : Parts (row at kind part rows)) (here : Bool) → (number == at) ≡ here
+    → Where here (AtFirst kind.rule old value) (InOthers (Takes rows number value) old) (Ok next)
+    → Takes (row at kind part rows) number value old (Ok next)
+takes_where kind part rows at number value old next here same =
     subst (λ (h : Bool). Where h (AtFirst kind.rule old value) (InOthers (Takes rows number value) old) (Ok next))
-    (sym here) step
-
-takes_later : {M A : Type 0} (kind : Kind A) (part : M → A) (rows : Rows M) (at number : ℕ) (value : FieldValue)
-    (old next : Parts (row at kind part rows)) → (number == at) ≡ false
-    → InOthers (Takes rows number value) old (Ok next) → Takes (row at kind part rows) number value old (Ok next)
-takes_later kind part rows at number value old next other step =
-    subst (λ (h : Bool). Where h (AtFirst kind.rule old value) (InOthers (Takes rows number value) old) (Ok next))
-    (sym other) step
+    (sym same)
 
 by_number : (here : Bool) (P : Bool → Type 0) → (here ≡ true → P true) → (here ≡ false → P false) → P here
 by_number true P of_true of_false = of_true refl
@@ -151,25 +112,13 @@ pub none_takes : {M : Type 0} (rows : Rows M) (number : ℕ) (value : FieldValue
     → IsNone number rows → Takes rows number value old (Ok old)
 none_takes end number value old none = refl
 none_takes (row at kind part rows) number value old none =
-    takes_later kind part rows at number value old old none.0 (none_takes rows number value old.1 none.1, refl)
+    takes_where kind part rows at number value old old false none.0 (none_takes rows number value old.1 none.1, refl)
 
-values_here : {A : Type 0} (rule : Rule A) (old new : A) (at : ℕ) (field : PlainField) (fields : List PlainField)
-    (here : Bool) → (field.number == at) ≡ here
-    → TakesEach rule old (cond here (field.value ∷ values_at at fields) (values_at at fields)) new
-    → TakesEach rule old (values_at at (field ∷ fields)) new
-values_here rule old new at field fields here same taken =
-    subst
-    (λ (h : Bool). TakesEach rule old (cond h (field.value ∷ values_at at fields) (values_at at fields)) new)
-    (sym same) taken
-
-values_back : {A : Type 0} (rule : Rule A) (old new : A) (at : ℕ) (field : PlainField) (fields : List PlainField)
-    (here : Bool) → (field.number == at) ≡ here
-    → TakesEach rule old (values_at at (field ∷ fields)) new
-    → TakesEach rule old (cond here (field.value ∷ values_at at fields) (values_at at fields)) new
-values_back rule old new at field fields here same taken =
-    subst
-    (λ (h : Bool). TakesEach rule old (cond h (field.value ∷ values_at at fields) (values_at at fields)) new)
-    same taken
+-- the values of a number, after one more field
+values_with : (at : ℕ) (field : PlainField) (fields : List PlainField) (here : Bool) → (field.number == at) ≡ here
+    → values_at at (field ∷ fields) ≡ cond here (field.value ∷ values_at at fields) (values_at at fields)
+values_with at field fields here same =
+    ap (λ (h : Bool). cond h (field.value ∷ values_at at fields) (values_at at fields)) same
 
 -- ---- what all fields make
 
@@ -188,29 +137,17 @@ none_back : {M : Type 0} (rows : Rows M) (old new : Parts rows) → TakesAll row
 none_back end old new taken = refl
 none_back (row at kind part rows) old new taken = λ i. (taken.0 i, none_back rows old.1 new.1 taken.1 i)
 
-other_taken : {M : Type 0} (rows : Rows M) (before : ℕ) → rises before rows ≡ true → (field : PlainField)
+-- a field of a lower number makes no difference
+other_same : {M : Type 0} (rows : Rows M) (before : ℕ) → rises before rows ≡ true → (field : PlainField)
     → field.number ≤ before → (fields : List PlainField) (old new : Parts rows)
-    → TakesAll rows old fields new → TakesAll rows old (field ∷ fields) new
-other_taken end before rise field most fields old new taken = tt
-other_taken (row at kind part rows) before rise field most fields old new taken =
+    → TakesAll rows old (field ∷ fields) new ≡ TakesAll rows old fields new
+other_same end before rise field most fields old new = refl
+other_same (row at kind part rows) before rise field most fields old new =
     let here = numbered before at rows rise in
     let other : (field.number == at) ≡ false =
-    ne_eqb field.number at (λ e. absurd (omega (arith, here.above, most, e))) in (
-      values_here kind.rule old.0 new.0 at field fields false other taken.0,
-      other_taken rows at here.others field (omega (arith, here.above, most)) fields old.1 new.1 taken.1,
-    )
-
-other_back : {M : Type 0} (rows : Rows M) (before : ℕ) → rises before rows ≡ true → (field : PlainField)
-    → field.number ≤ before → (fields : List PlainField) (old new : Parts rows)
-    → TakesAll rows old (field ∷ fields) new → TakesAll rows old fields new
-other_back end before rise field most fields old new taken = tt
-other_back (row at kind part rows) before rise field most fields old new taken =
-    let here = numbered before at rows rise in
-    let other : (field.number == at) ≡ false =
-    ne_eqb field.number at (λ e. absurd (omega (arith, here.above, most, e))) in (
-      values_back kind.rule old.0 new.0 at field fields false other taken.0,
-      other_back rows at here.others field (omega (arith, here.above, most)) fields old.1 new.1 taken.1,
-    )
+    ne_eqb field.number at (λ e. absurd (omega (arith, here.above, most, e))) in
+    let others = other_same rows at here.others field (omega (arith, here.above, most)) fields old.1 new.1 in
+    λ i. TakesEach kind.rule old.0 (values_with at field fields false other i) new.0 × others i
 
 -- a field is taken first, and the others after it
 field_taken : {M : Type 0} (rows : Rows M) (before : ℕ) → rises before rows ≡ true → (field : PlainField)
@@ -224,12 +161,13 @@ field_taken (row at kind part rows) before rise field fields old next new step m
     (InOthers (Takes rows field.number field.value) old) (Ok next)
     → TakesAll (row at kind part rows) old (field ∷ fields) new)
     (λ here step. (
-      values_here kind.rule old.0 new.0 at field fields true here (next.0, step.0, more.0),
-      other_taken rows at numbers.others field (omega (arith, eqb-true field.number at here)) fields old.1 new.1
+      rw (values_with at field fields true here) (next.0, step.0, more.0),
+      subst (λ (X : Type 0). X) (sym (other_same rows at numbers.others field
+          (omega (arith, eqb-true field.number at here)) fields old.1 new.1))
           (subst (λ (parts : Parts rows). TakesAll rows parts fields new.1) step.1 more.1),
     ))
     (λ other step. (
-      values_here kind.rule old.0 new.0 at field fields false other
+      rw (values_with at field fields false other)
           (subst (λ part. TakesEach kind.rule part (values_at at fields) new.0) step.1 more.0),
       field_taken rows at numbers.others field fields old.1 next.1 new.1 step.0 more.1,
     ))
@@ -246,12 +184,13 @@ field_back (row at kind part rows) before rise field fields old new taken =
     (λ here. (next : Parts (row at kind part rows)) × Where here (AtFirst kind.rule old field.value)
     (InOthers (Takes rows field.number field.value) old) (Ok next) × TakesAll (row at kind part rows) next fields new)
     (λ here.
-    let (next, step, more) = values_back kind.rule old.0 new.0 at field fields true here taken.0 in
+    let (next, step, more) = rw (values_with at field fields true here) at taken.0 in
     let most : field.number ≤ at = omega (arith, eqb-true field.number at here) in
-    ((next, old.1), (step, refl), (more, other_back rows at numbers.others field most fields old.1 new.1 taken.1)))
+    let others = other_same rows at numbers.others field most fields old.1 new.1 in
+    ((next, old.1), (step, refl), (more, subst (λ (X : Type 0). X) others taken.1)))
     (λ other.
     let (next, step, more) = field_back rows at numbers.others field fields old.1 new.1 taken.1 in
-    ((old.0, next), (step, refl), (values_back kind.rule old.0 new.0 at field fields false other taken.0, more)))
+    ((old.0, next), (step, refl), (rw (values_with at field fields false other) at taken.0, more)))
 
 gathered_taken : {M : Type 0} (form : Form M) → LawfulForm form → (fields : List PlainField) (old new : M)
     → Gathers (table_of form) old fields new
@@ -276,22 +215,18 @@ taken_gathered form lawful (field ∷ fields) old new taken =
     )
 
 all_made : {M : Type 0} (rows : Rows M) → AreLawful rows → (fields : List PlainField) (parts : Parts rows)
-    → TakesAll rows (absent_parts rows) fields parts → AreMade rows fields parts
-all_made end lawful fields parts taken = tt
-all_made (row at kind part rows) lawful fields parts taken =
-    (lawful.0.made (values_at at fields) parts.0 taken.0, all_made rows lawful.1 fields parts.1 taken.1)
-
-made_taken : {M : Type 0} (rows : Rows M) → AreLawful rows → (fields : List PlainField) (parts : Parts rows)
-    → AreMade rows fields parts → TakesAll rows (absent_parts rows) fields parts
-made_taken end lawful fields parts made = tt
-made_taken (row at kind part rows) lawful fields parts made =
-    (lawful.0.taken (values_at at fields) parts.0 made.0, made_taken rows lawful.1 fields parts.1 made.1)
+    → TakesAll rows (absent_parts rows) fields parts ↔ AreMade rows fields parts
+all_made end lawful fields parts = (λ taken. tt, λ made. tt)
+all_made (row at kind part rows) lawful fields parts =
+    let here = lawful.0.made (values_at at fields) parts.0 in
+    let others = all_made rows lawful.1 fields parts.1 in
+    (λ taken. (here.0 taken.0, others.0 taken.1), λ made. (here.1 made.0, others.1 made.1))
 
 pub form_made : {M : Type 0} (form : Form M) → LawfulForm form → (fields : List PlainField) (item : M)
     → Gathers (table_of form) (empty_of form) fields item → IsMadeOf form fields item
 form_made form lawful fields item gathered =
     let rows = form.rows in
-    all_made rows lawful.kinds fields (parts_of rows item)
+    (all_made rows lawful.kinds fields (parts_of rows item)).0
     (subst (λ (parts : Parts rows). TakesAll rows parts fields (parts_of rows item))
     (lawful.parts (absent_parts rows)) (gathered_taken form lawful fields (empty_of form) item gathered))
 
@@ -301,7 +236,7 @@ form_gathered form lawful fields item made =
     let rows = form.rows in
     taken_gathered form lawful fields (empty_of form) item
     (subst (λ (parts : Parts rows). TakesAll rows parts fields (parts_of rows item))
-    (sym (lawful.parts (absent_parts rows))) (made_taken rows lawful.kinds fields (parts_of rows item) made))
+    (sym (lawful.parts (absent_parts rows))) ((all_made rows lawful.kinds fields (parts_of rows item)).1 made))
 
 -- ---- what is written is read back
 
@@ -318,12 +253,12 @@ rows_piece (row at kind part rows) before rise lawful table with step start fiel
     let one = lawful.0.piece table (λ first. with (first, absent)) at
     (record { least = omega (arith, numbers.above); most = numbers.small })
     (λ old new value ruled. step at value (old, absent) (new, absent) numbers.above
-    (takes_here kind part rows at at value (old, absent) (new, absent) (eq-eqb at at refl) (ruled, refl)))
+    (takes_where kind part rows at at value (old, absent) (new, absent) true (eq-eqb at at refl) (ruled, refl)))
     parts.0 fit.0 in
     rows_piece rows at numbers.others lawful.1 table (λ others. with (parts.0, others))
     (λ number value old next above taken.
     step number value (parts.0, old) (parts.0, next) (omega (arith, numbers.above, above))
-    (takes_later kind part rows at number value (parts.0, old) (parts.0, next)
+    (takes_where kind part rows at number value (parts.0, old) (parts.0, next) false
     (ne_eqb number at (λ e. absurd (omega (arith, above, e)))) (taken, refl)))
     start (fields ++ kind.written at parts.0)
     (pieces_joined table start (with (kind.absent, absent)) (with (parts.0, absent)) fields (kind.written at parts.0)

@@ -6,72 +6,27 @@ use Rattle.pprof_profile.proofs.Forms.{LawfulForm}
 use Rattle.pprof_profile.proofs.FieldKinds.{unsigned_lawful, signed_lawful, flag_lawful, unsigneds_lawful}
 use Rattle.pprof_profile.proofs.FieldKinds.{signeds_lawful, texts_lawful, each_lawful, one_lawful}
 
+ruleset plain = (unsigned_lawful, signed_lawful, flag_lawful, unsigneds_lawful, signeds_lawful, texts_lawful)
+
 pub value_type_lawful : LawfulForm value_type_form
-value_type_lawful = record {
-  numbered = refl;
-  kinds = (signed_lawful, (signed_lawful, tt));
-  parts = λ parts. refl;
-  item = λ item. refl;
-}
+value_type_lawful = record { numbered = refl; kinds = search plain; parts = λ parts. refl; item = λ item. refl }
 
 pub line_lawful : LawfulForm line_form
-line_lawful = record {
-  numbered = refl;
-  kinds = (unsigned_lawful, (signed_lawful, tt));
-  parts = λ parts. refl;
-  item = λ item. refl;
-}
+line_lawful = record { numbered = refl; kinds = search plain; parts = λ parts. refl; item = λ item. refl }
 
 pub label_lawful : LawfulForm label_form
-label_lawful = record {
-  numbered = refl;
-  kinds = (signed_lawful, (signed_lawful, (signed_lawful, (signed_lawful, tt))));
-  parts = λ parts. refl;
-  item = λ item. refl;
-}
+label_lawful = record { numbered = refl; kinds = search plain; parts = λ parts. refl; item = λ item. refl }
 
 pub mapping_lawful : LawfulForm mapping_form
-mapping_lawful = record {
-  numbered = refl;
-  kinds = (
-    unsigned_lawful,
-    (
-      unsigned_lawful,
-      (
-        unsigned_lawful,
-        (
-          unsigned_lawful,
-          (
-            signed_lawful,
-            (
-              signed_lawful,
-              (
-                flag_lawful,
-                (flag_lawful, (flag_lawful, (flag_lawful, tt))),
-              ),
-            ),
-          ),
-        ),
-      ),
-    ),
-  );
-  parts = λ parts. refl;
-  item = λ item. refl;
-}
+mapping_lawful = record { numbered = refl; kinds = search plain; parts = λ parts. refl; item = λ item. refl }
 
 pub function_lawful : LawfulForm function_form
-function_lawful = record {
-  numbered = refl;
-  kinds = (unsigned_lawful, (signed_lawful, (signed_lawful, (signed_lawful, (signed_lawful, tt)))));
-  parts = λ parts. refl;
-  item = λ item. refl;
-}
+function_lawful = record { numbered = refl; kinds = search plain; parts = λ parts. refl; item = λ item. refl }
 
 pub location_lawful : LawfulForm location_form
 location_lawful = record {
   numbered = refl;
-  kinds =
-      (unsigned_lawful, (unsigned_lawful, (unsigned_lawful, (each_lawful line_form line_lawful, (flag_lawful, tt)))));
+  kinds = search (plain, each_lawful line_form line_lawful);
   parts = λ parts. refl;
   item = λ item. refl;
 }
@@ -79,7 +34,7 @@ location_lawful = record {
 pub sample_lawful : LawfulForm sample_form
 sample_lawful = record {
   numbered = refl;
-  kinds = (unsigneds_lawful, (signeds_lawful, (each_lawful label_form label_lawful, tt)));
+  kinds = search (plain, each_lawful label_form label_lawful);
   parts = λ parts. refl;
   item = λ item. refl;
 }
@@ -87,48 +42,14 @@ sample_lawful = record {
 pub draft_lawful : LawfulForm draft_form
 draft_lawful = record {
   numbered = refl;
-  kinds = (
+  kinds = search (
+    plain,
     each_lawful value_type_form value_type_lawful,
-    (
-      each_lawful sample_form sample_lawful,
-      (
-        each_lawful mapping_form mapping_lawful,
-        (
-          each_lawful location_form location_lawful,
-          (
-            each_lawful function_form function_lawful,
-            (
-              texts_lawful,
-              (
-                signed_lawful,
-                (
-                  signed_lawful,
-                  (
-                    signed_lawful,
-                    (
-                      signed_lawful,
-                      (
-                        one_lawful value_type_form value_type_lawful,
-                        (
-                          signed_lawful,
-                          (
-                            signeds_lawful,
-                            (
-                              signed_lawful,
-                              tt,
-                            ),
-                          ),
-                        ),
-                      ),
-                    ),
-                  ),
-                ),
-              ),
-            ),
-          ),
-        ),
-      ),
-    ),
+    each_lawful sample_form sample_lawful,
+    each_lawful mapping_form mapping_lawful,
+    each_lawful location_form location_lawful,
+    each_lawful function_form function_lawful,
+    one_lawful value_type_form value_type_lawful,
   );
   parts = λ parts. refl;
   item = λ item. refl;

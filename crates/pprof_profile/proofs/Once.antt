@@ -3,7 +3,7 @@ use Rattle.std.proofs.Common.{◌≡◌, ℕ, ◌⊎◌, inl, inr, Bool, true, f
 use Rattle.std.proofs.Common.{◌∙◌, subst, append_assoc, arith, Result, Ok, Err}
 use Rattle.std.proofs.lemmas.List.{append-nil}
 use Rattle.pprof_wire.specs.Varints.{IsVarintFault, IsNumberList, SplitsIntoNumbers}
-use Rattle.pprof_wire.specs.Fields.{FieldValue, varint, fixed64, fixed32, content, PlainField, IsFieldSpelling}
+use Rattle.pprof_wire.specs.Fields.{FieldValue, varint, content, PlainField, IsFieldSpelling}
 use Rattle.pprof_wire.specs.Fields.{IsFieldList}
 use Rattle.pprof_wire.proofs.VarintLaws.{varint_fault_once}
 use Rattle.pprof_wire.proofs.FieldLaws.{field_once, front_fault_once}
@@ -26,6 +26,41 @@ TableOnce {M = M} table = (old : M) (number : ℕ) (value : FieldValue) → Once
 abbrev pub RuleOnce : {A : Type 0} → Rule A → Type 0
 RuleOnce {A = A} rule = (old : A) (value : FieldValue) → Once (rule old value)
 
+-- so there is one result, or one fault, and not both
+pub ok_once : {A : Type 0} (Is : Result A ProfileFault → Type 0) → Once Is → (a b : A) → Is (Ok a) → Is (Ok b) → a ≡ b
+ok_once {A = A} Is once a b left right =
+    let one : Result A ProfileFault = Ok a in
+    let other : Result A ProfileFault = Ok b in
+    let both : one ≡ other = once one other left right in cc both
+
+pub ok_or_fault : {A : Type 0} (Is : Result A ProfileFault → Type 0) → Once Is → (a : A) (fault : ProfileFault)
+    → Is (Ok a) → Is (Err fault) → ⊥
+ok_or_fault Is once a fault left right =
+    let both : Ok a ≡ Err fault = once (Ok a) (Err fault) left right in absurd cc
+
+pub fault_once : {A : Type 0} (Is : Result A ProfileFault → Type 0) → Once Is → (f g : ProfileFault)
+    → Is (Err f) → Is (Err g) → f ≡ g
+fault_once {A = A} Is once f g left right =
+    let one : Result A ProfileFault = Err f in
+    let other : Result A ProfileFault = Err g in
+    let both : one ≡ other = once one other left right in cc both
+
+-- what stands for something that has at most one outcome has at most one
+pub once_through : {A B : Type 0} (Is : Result A ProfileFault → Type 0) (Stands : A → B → Type 0)
+    (Of : Result B ProfileFault → Type 0) → Once Is
+    → ((a : A) (b c : B) → Stands a b → Stands a c → b ≡ c) → ((b : B) → Of (Ok b) → (a : A) × Is (Ok a) × Stands a b)
+    → ((fault : ProfileFault) → Of (Err fault) → Is (Err fault)) → Once Of
+once_through {A = A} Is Stands Of once one stood failed (Ok x) (Ok y) left right =
+    let (a, is, stands) = stood x left in
+    let (b, too, stays) = stood y right in
+    ap Ok (one b x y (subst (λ (z : A). Stands z x) (ok_once Is once a b is too) stands) stays)
+once_through Is Stands Of once one stood failed (Ok x) (Err f) left right =
+    let (a, is, stands) = stood x left in absurd (ok_or_fault Is once a f is (failed f right))
+once_through Is Stands Of once one stood failed (Err f) (Ok y) left right =
+    let (b, is, stands) = stood y right in absurd (ok_or_fault Is once b f is (failed f left))
+once_through Is Stands Of once one stood failed (Err f) (Err g) left right =
+    ap Err (fault_once Is once f g (failed f left) (failed g right))
+
 -- ---- the fields of a message
 
 -- where reading ends: at the end of the bytes, or at a fault
@@ -33,41 +68,44 @@ abbrev Ending : {M : Type 0} → Table M → M → List ℕ → Result M Profile
 Ending table old rest (Ok new) = (rest ≡ []) × (new ≡ old)
 Ending table old rest (Err fault) = IsFieldFault table old rest fault ⊎ IsEndFault rest fault
 
-record Stop {M : Type 0} (table : Table M) (old : M) (bytes : List ℕ) (outcome : Result M ProfileFault) : Type 0 where
-  front : List ℕ
-  rest : List ℕ
-  mid : M
-  fields : List PlainField
-  parts : bytes ≡ front ++ rest
-  listed : IsFieldList front fields
-  gathered : Gathers table old fields mid
-  ending : Ending table mid rest outcome
+-- the fields are taken one after the other, and then reading ends
+abbrev Steps : {M : Type 0} → Table M → List PlainField → M → List ℕ → Result M ProfileFault → Type 0
+Steps table [] old bytes outcome = Ending table old bytes outcome
+Steps {M = M} table (field ∷ fields) old bytes outcome =
+    (next : M) × (spelling : List ℕ) × (after : List ℕ) × (bytes ≡ spelling ++ after)
+    × IsFieldSpelling spelling field × table old field.number field.value (Ok next)
+    × Steps table fields next after outcome
 
-stop_of : {M : Type 0} (table : Table M) (old : M) (bytes : List ℕ) (outcome : Result M ProfileFault)
-    → Reads table old bytes outcome → Stop table old bytes outcome
-stop_of table old bytes (Ok new) read =
-    record {
-      front = bytes;
-      rest = [];
-      mid = new;
-      fields = read.fields;
-      parts =
-          sym (append-nil bytes);
-      listed = read.listed;
-      gathered = read.gathered;
-      ending = (refl, refl);
-    }
-stop_of table old bytes (Err fault) read =
-    record {
-      front = read.read.front;
-      rest = read.rest;
-      mid = read.so_far;
-      fields = read.read.spelled.fields;
-      parts = read.read.parts;
-      listed = read.read.spelled.listed;
-      gathered = read.read.spelled.gathered;
-      ending = read.faulty;
-    }
+steps_to : {M : Type 0} (table : Table M) (fields : List PlainField) (old mid : M) (bytes front rest : List ℕ)
+    (outcome : Result M ProfileFault) → bytes ≡ front ++ rest → IsFieldList front fields → Gathers table old fields mid
+    → Ending table mid rest outcome → Steps table fields old bytes outcome
+steps_to {M = M} table [] old mid bytes front rest outcome parts listed gathered ending =
+    subst (λ (xs : List ℕ). Ending table old xs outcome) (sym (parts ∙ ap (λ (xs : List ℕ). xs ++ rest) listed))
+    (subst (λ (m : M). Ending table m rest outcome) gathered ending)
+steps_to table (x ∷ xs) old mid bytes front rest outcome parts
+    (first, after, split, spelled, others) (next, step, more) ending = (
+      next,
+      first,
+      after ++ rest,
+      parts ∙ ap (λ (ys : List ℕ). ys ++ rest) split ∙ append_assoc first after rest,
+      spelled,
+      step,
+      steps_to table xs next mid (after ++ rest) after rest outcome refl others more ending,
+    )
+
+steps_of : {M : Type 0} (table : Table M) (old : M) (bytes : List ℕ) (outcome : Result M ProfileFault)
+    → Reads table old bytes outcome → (fields : List PlainField) × Steps table fields old bytes outcome
+steps_of table old bytes (Ok new) read = (
+  read.fields,
+  steps_to table read.fields old new bytes bytes [] (Ok new) (sym (append-nil bytes)) read.listed read.gathered
+      (refl, refl),
+)
+steps_of table old bytes (Err fault) read =
+    let spelled = read.read.spelled in (
+      spelled.fields,
+      steps_to table spelled.fields old read.so_far bytes read.read.front read.rest
+          (Err fault) read.read.parts spelled.listed spelled.gathered read.faulty,
+    )
 
 -- where a field stands that is taken, reading does not end
 no_ending : {M : Type 0} (table : Table M) → TableOnce table
@@ -81,8 +119,7 @@ no_ending {M = M} table once old next bytes spelling after field (Err fault) (in
     (sym parts ∙ wrong.parts) in
     let bad : table old field.number field.value (Err fault) =
     subst (λ (f : PlainField). table old f.number f.value (Err fault)) (sym here.2) wrong.faulty in
-    let same : Ok next ≡ Err fault = once old field.number field.value (Ok next) (Err fault) step bad in
-    absurd cc
+    ok_or_fault (table old field.number field.value) (once old field.number field.value) next fault step bad
 no_ending table once old next bytes spelling after field (Err fault) (inr wrong) parts spelled step =
     fault_without_field wrong.wrong bytes wrong.faulty spelling after field parts spelled
 
@@ -113,61 +150,36 @@ ending_once table once old bytes (Err f) (Err g) (inr wrong) (inr bad) =
     front_fault_once wrong.wrong bad.wrong bytes wrong.faulty.front bad.faulty.front in
     ap Err (wrong.is ∙ ap Wire same ∙ sym bad.is)
 
-stops_once : {M : Type 0} (table : Table M) → TableOnce table
-    → (xs ys : List PlainField) (old mid end : M) (bytes front back rest left : List ℕ) (a b : Result M ProfileFault)
-    → bytes ≡ front ++ rest → IsFieldList front xs → Gathers table old xs mid → Ending table mid rest a
-    → bytes ≡ back ++ left → IsFieldList back ys → Gathers table old ys end → Ending table end left b → a ≡ b
-stops_once {M = M}
-    table once [] [] old mid end bytes front back rest left a b parts listed gathered ending pieces named taken stop =
-    let here : bytes ≡ rest = parts ∙ ap (λ (xs : List ℕ). xs ++ rest) listed in
-    let there : bytes ≡ left = pieces ∙ ap (λ (xs : List ℕ). xs ++ left) named in
-    ending_once table once old bytes a b
-    (subst
-    (λ (xs : List ℕ). Ending table old xs a) (sym here) (subst (λ (m : M). Ending table m rest a) gathered ending))
-    (subst (λ (xs : List ℕ). Ending table old xs b) (sym there) (subst (λ (m : M). Ending table m left b) taken stop))
-stops_once {M = M} table once [] (y ∷ ys) old mid end bytes front back rest left a b parts listed gathered ending pieces
-    (first, after, split, spelled, others) (next, step, more) stop =
-    let here : bytes ≡ rest = parts ∙ ap (λ (xs : List ℕ). xs ++ rest) listed in
-    absurd (no_ending table once old next bytes first (after ++ left) y a
-    (subst
-    (λ (xs : List ℕ). Ending table old xs a) (sym here) (subst (λ (m : M). Ending table m rest a) gathered ending))
-    (pieces ∙ ap (λ (xs : List ℕ). xs ++ left) split ∙ append_assoc first after left) spelled step)
-stops_once {M = M} table once (x ∷ xs) [] old mid end bytes front back rest left a b parts
-    (first, after, split, spelled, others) (next, step, more) ending pieces named taken stop =
-    let here : bytes ≡ left = pieces ∙ ap (λ (ys : List ℕ). ys ++ left) named in
-    absurd (no_ending table once old next bytes first (after ++ rest) x b
-    (subst (λ (ys : List ℕ). Ending table old ys b) (sym here) (subst (λ (m : M). Ending table m left b) taken stop))
-    (parts ∙ ap (λ (ys : List ℕ). ys ++ rest) split ∙ append_assoc first after rest) spelled step)
-stops_once {M = M} table once (x ∷ xs) (y ∷ ys) old mid end bytes front back rest left a b
-    parts (first, after, split, spelled, others) (next, step, more) ending
-    pieces (one, past, cut, written, rows) (then, move, yet) stop =
-    let whole : first ++ (after ++ rest) ≡ one ++ (past ++ left) =
-    sym (parts ∙ ap (λ (zs : List ℕ). zs ++ rest) split ∙ append_assoc first after rest)
-    ∙ (pieces ∙ ap (λ (zs : List ℕ). zs ++ left) cut ∙ append_assoc one past left) in
-    let here = field_once first one (after ++ rest) (past ++ left) x y spelled written whole in
+steps_once : {M : Type 0} (table : Table M) → TableOnce table
+    → (xs ys : List PlainField) (old : M) (bytes : List ℕ) (a b : Result M ProfileFault)
+    → Steps table xs old bytes a → Steps table ys old bytes b → a ≡ b
+steps_once table once [] [] old bytes a b left right = ending_once table once old bytes a b left right
+steps_once table once [] (y ∷ ys) old bytes a b left (next, spelling, after, parts, spelled, step, more) =
+    absurd (no_ending table once old next bytes spelling after y a left parts spelled step)
+steps_once table once (x ∷ xs) [] old bytes a b (next, spelling, after, parts, spelled, step, more) right =
+    absurd (no_ending table once old next bytes spelling after x b right parts spelled step)
+steps_once {M = M} table once (x ∷ xs) (y ∷ ys) old bytes a b (next, spelling, after, parts, spelled, step, more)
+    (then, cut, past, pieces, written, move, yet) =
+    let here = field_once spelling cut after past x y spelled written (sym parts ∙ pieces) in
     let moved : table old x.number x.value (Ok then) =
     subst (λ (z : PlainField). table old z.number z.value (Ok then)) (sym here.2) move in
-    let both : Ok next ≡ Ok then = once old x.number x.value (Ok next) (Ok then) step moved in
-    let same : next ≡ then = cc both in
-    stops_once table once xs ys next mid end (after ++ rest) after past rest left a b refl others more ending
-    here.1 rows (subst (λ (m : M). Gathers table m ys end) (sym same) yet) stop
+    let same = ok_once (table old x.number x.value) (once old x.number x.value) next then step moved in
+    steps_once table once xs ys next after a b more
+    (subst (λ (m : M). Steps table ys m after b) (sym same)
+    (subst (λ (rest : List ℕ). Steps table ys then rest b) (sym here.1) yet))
 
 pub reads_once : {M : Type 0} (table : Table M)
     → TableOnce table → (old : M) (bytes : List ℕ) → Once (Reads table old bytes)
 reads_once table once old bytes a b one other =
-    let left = stop_of table old bytes a one in
-    let right = stop_of table old bytes b other in
-    stops_once
-    table once left.fields right.fields old left.mid right.mid bytes left.front right.front left.rest right.rest a b
-    left.parts left.listed left.gathered left.ending right.parts right.listed right.gathered right.ending
+    let left = steps_of table old bytes a one in
+    let right = steps_of table old bytes b other in
+    steps_once table once left.0 right.0 old bytes a b left.1 right.1
 
 -- ---- the rules for the value of a field
 
 pub sets_once : {A : Type 0} (from : ℕ → A) → RuleOnce (SetsNumber from)
 sets_once from old (varint number) a b left right = left ∙ sym right
-sets_once from old (fixed64 number) a b left right = left ∙ sym right
-sets_once from old (fixed32 number) a b left right = left ∙ sym right
-sets_once from old (content bytes) a b left right = left ∙ sym right
+sets_once from old value a b left right = left ∙ sym right
 
 packed_apart : (bytes numbers : List ℕ)
     → IsNumberList bytes numbers → (fault : ProfileFault) → IsPackedFault bytes fault → ⊥
@@ -197,10 +209,8 @@ packed_once from old bytes (Err f) (Ok x) wrong right = absurd (packed_apart byt
 packed_once from old bytes (Err f) (Err g) left right = ap Err (packed_fault_once bytes f g left right)
 
 pub numbers_once : {A : Type 0} (from : ℕ → A) → RuleOnce (AddsNumbers from)
-numbers_once from old (varint number) a b left right = left ∙ sym right
-numbers_once from old (fixed64 number) a b left right = left ∙ sym right
-numbers_once from old (fixed32 number) a b left right = left ∙ sym right
 numbers_once from old (content bytes) a b left right = packed_once from old bytes a b left right
+numbers_once from old value a b left right = left ∙ sym right
 
 utf8_once : (old : List (List ℕ)) (bytes : List ℕ) → Once (AddsUtf8 old bytes)
 utf8_once old bytes (Ok x) (Ok y) left right = ap Ok (left.1 ∙ sym right.1)
@@ -209,41 +219,23 @@ utf8_once old bytes (Err f) (Ok x) left right = absurd (left.0 right.0)
 utf8_once old bytes (Err f) (Err g) left right = ap Err (left.1 ∙ sym right.1)
 
 pub text_once : RuleOnce AddsText
-text_once old (varint number) a b left right = left ∙ sym right
-text_once old (fixed64 number) a b left right = left ∙ sym right
-text_once old (fixed32 number) a b left right = left ∙ sym right
 text_once old (content bytes) a b left right = utf8_once old bytes a b left right
+text_once old value a b left right = left ∙ sym right
 
 item_once : {M : Type 0} (table : Table M)
     → TableOnce table → (empty : M) (old : List M) (bytes : List ℕ) → Once (AddsItem table empty old bytes)
-item_once {M = M} table once empty old bytes (Ok x) (Ok y) left right =
-    let both : Ok left.item ≡ Ok right.item =
-    reads_once table once empty bytes (Ok left.item) (Ok right.item) left.spelled right.spelled in
-    let same : left.item ≡ right.item = cc both in
-    ap Ok (left.appended ∙ ap (λ (m : M). old ++ m ∷ []) same ∙ sym right.appended)
-item_once table once empty old bytes (Ok x) (Err f) left right =
-    let both : Ok left.item ≡ Err f =
-    reads_once table once empty bytes (Ok left.item) (Err f) left.spelled right in absurd cc
-item_once table once empty old bytes (Err f) (Ok x) left right =
-    let both : Ok right.item ≡ Err f =
-    reads_once table once empty bytes (Ok right.item) (Err f) right.spelled left in absurd cc
-item_once {M = M} table once empty old bytes (Err f) (Err g) left right =
-    let one : Result M ProfileFault = Err f in
-    let other : Result M ProfileFault = Err g in
-    let both : one ≡ other = reads_once table once empty bytes one other left right in
-    let same : f ≡ g = cc both in ap Err same
+item_once {M = M} table once empty old bytes =
+    once_through (Reads table empty bytes) (λ (item : M) (new : List M). new ≡ old ++ item ∷ [])
+    (AddsItem table empty old bytes) (reads_once table once empty bytes) (λ item x y left right. left ∙ sym right)
+    (λ new added. (added.item, added.spelled, added.appended)) (λ fault wrong. wrong)
 
 pub message_once : {M : Type 0} (table : Table M) → TableOnce table → (empty : M) → RuleOnce (AddsMessage table empty)
-message_once table once empty old (varint number) a b left right = left ∙ sym right
-message_once table once empty old (fixed64 number) a b left right = left ∙ sym right
-message_once table once empty old (fixed32 number) a b left right = left ∙ sym right
 message_once table once empty old (content bytes) a b left right = item_once table once empty old bytes a b left right
+message_once table once empty old value a b left right = left ∙ sym right
 
 pub merge_once : {M : Type 0} (table : Table M) → TableOnce table → RuleOnce (MergesMessage table)
-merge_once table once old (varint number) a b left right = left ∙ sym right
-merge_once table once old (fixed64 number) a b left right = left ∙ sym right
-merge_once table once old (fixed32 number) a b left right = left ∙ sym right
 merge_once table once old (content bytes) a b left right = reads_once table once old bytes a b left right
+merge_once table once old value a b left right = left ∙ sym right
 
 -- ---- the rows of a table
 

@@ -1,6 +1,6 @@
 -- Bytes are one profile, or no profile for one reason.
 use Rattle.std.proofs.Common.{◌≡◌, ◌≢◌, ℕ, ◌⊎◌, inl, inr, List, refl, sym, ap, ◌∙◌, Result, Ok, Err, Some, None, IfOk}
-use Rattle.std.proofs.Common.{IfErr, MatchResult}
+use Rattle.std.proofs.Common.{IfErr}
 use Rattle.pprof_profile.specs.declared.faults.ProfileFault.{ProfileFault}
 use Rattle.pprof_profile.specs.declared.faults.ProfileFault.TheVariants.{NoMemory}
 use Rattle.pprof_profile.specs.declared.messages.Draft.{Draft}
@@ -8,8 +8,8 @@ use Rattle.pprof_profile.specs.Forms.{table_of}
 use Rattle.pprof_profile.specs.Reading.{Reads}
 use Rattle.pprof_profile.specs.Messages.{no_draft, draft_form}
 use Rattle.pprof_profile.specs.Valid.{validity_fault}
-use Rattle.pprof_profile.specs.Profiles.{SpellsDraft, IsProfile, IsReadingFault, IsProfileFault}
-use Rattle.pprof_profile.proofs.Once.{Once, reads_once}
+use Rattle.pprof_profile.specs.Profiles.{SpellsDraft, IsDecoded, IsProfile, IsReadingFault, IsProfileFault}
+use Rattle.pprof_profile.proofs.Once.{Once, fault_once, ok_once, ok_or_fault, reads_once}
 use Rattle.pprof_profile.proofs.Forms.{form_once}
 use Rattle.pprof_profile.proofs.LawfulForms.{draft_lawful}
 
@@ -17,23 +17,15 @@ draft_once : (bytes : List ℕ) → Once (Reads (table_of draft_form) no_draft b
 draft_once bytes = reads_once (table_of draft_form) (form_once draft_form draft_lawful) no_draft bytes
 
 pub draft_spelled_once : (bytes : List ℕ) (a b : Draft) → SpellsDraft bytes a → SpellsDraft bytes b → a ≡ b
-draft_spelled_once bytes a b left right =
-    let one : Result Draft ProfileFault = Ok a in
-    let other : Result Draft ProfileFault = Ok b in
-    let both : one ≡ other = draft_once bytes one other left right in cc both
+draft_spelled_once bytes = ok_once (Reads (table_of draft_form) no_draft bytes) (draft_once bytes)
 
 spelled_no_fault : (bytes : List ℕ) (a : Draft) (f : ProfileFault) → SpellsDraft bytes a → IsReadingFault bytes f → ⊥
 spelled_no_fault bytes a f left right =
-    let one : Result Draft ProfileFault = Ok a in
-    let other : Result Draft ProfileFault = Err f in
-    let both : one ≡ other = draft_once bytes one other left right.first in absurd cc
+    ok_or_fault (Reads (table_of draft_form) no_draft bytes) (draft_once bytes) a f left right.first
 
 reading_fault_once : (bytes : List ℕ) (f g : ProfileFault) → IsReadingFault bytes f → IsReadingFault bytes g → f ≡ g
 reading_fault_once bytes f g left right =
-    let one : Result Draft ProfileFault = Err f in
-    let other : Result Draft ProfileFault = Err g in
-    let both : one ≡ other =
-    draft_once bytes one other left.first right.first in cc both
+    fault_once (Reads (table_of draft_form) no_draft bytes) (draft_once bytes) f g left.first right.first
 
 pub profile_no_fault : (bytes : List ℕ) (a : Draft) (f : ProfileFault) → IsProfile bytes a → IsProfileFault bytes f → ⊥
 profile_no_fault bytes a f left (inl gzip) = left.plain gzip.0
@@ -61,23 +53,23 @@ memory_or_not : (fault : ProfileFault) → (fault ≡ NoMemory) ⊎ (fault ≢ N
 memory_or_not NoMemory = inl refl
 memory_or_not fault = inr (λ same. absurd cc)
 
-pub every_profile : (bytes : List ℕ) (result : Result Draft ProfileFault) → IfOk result (λ draft. IsProfile bytes draft)
-    → IfErr result (λ fault. fault ≢ NoMemory → IsProfileFault bytes fault) → (draft : Draft) → IsProfile bytes draft
-    → MatchResult result (λ read. read ≡ draft) (λ fault. fault ≡ NoMemory)
-every_profile bytes (Ok read) is wrong draft profile = draft_spelled_once bytes read draft is.spelled profile.spelled
-every_profile bytes (Err fault) is wrong draft profile =
-    elim (memory_or_not fault) [
-      | inl memory ↦ memory
-      | inr other ↦ absurd (profile_no_fault bytes draft fault profile (wrong other))
-    ]
-
-pub every_fault : (bytes : List ℕ) (result : Result Draft ProfileFault) → IfOk result (λ draft. IsProfile bytes draft)
-    → IfErr result (λ fault. fault ≢ NoMemory → IsProfileFault bytes fault)
-    → (first : ProfileFault) → IsProfileFault bytes first
-    → MatchResult result (λ read. ⊥) (λ fault. (fault ≡ NoMemory) ⊎ (fault ≡ first))
-every_fault bytes (Ok read) is wrong first faulty = profile_no_fault bytes read first is faulty
-every_fault bytes (Err fault) is wrong first faulty =
-    elim (memory_or_not fault) [
-      | inl memory ↦ inl memory
-      | inr other ↦ inr (profile_fault_once bytes fault first (wrong other) faulty)
-    ]
+pub decoded : (bytes : List ℕ) (result : Result Draft ProfileFault) → IfOk result (λ draft. IsProfile bytes draft)
+    → IfErr result (λ fault. fault ≢ NoMemory → IsProfileFault bytes fault) → IsDecoded bytes result
+decoded bytes (Ok read) is wrong = record {
+  read = is;
+  fault = wrong;
+  every_profile = λ draft profile. draft_spelled_once bytes read draft is.spelled profile.spelled;
+  every_fault = λ first faulty. profile_no_fault bytes read first is faulty;
+}
+decoded bytes (Err fault) is wrong = record {
+  read = is;
+  fault = wrong;
+  every_profile = λ draft profile. elim (memory_or_not fault) [
+    | inl memory ↦ memory
+    | inr other ↦ absurd (profile_no_fault bytes draft fault profile (wrong other))
+  ];
+  every_fault = λ first faulty. elim (memory_or_not fault) [
+    | inl memory ↦ inl memory
+    | inr other ↦ inr (profile_fault_once bytes fault first (wrong other) faulty)
+  ];
+}

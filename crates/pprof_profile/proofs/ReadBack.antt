@@ -10,13 +10,12 @@ use Rattle.pprof_wire.specs.Varints.{IsNumberList, varint_of}
 use Rattle.pprof_wire.specs.Fields.{varint, content, PlainField, IsFieldNumber, FitsValue, field_bytes_of}
 use Rattle.pprof_wire.proofs.ShortestVarints.{varint_of-spells}
 use Rattle.pprof_wire.proofs.ListLaws.{written_back}
-use Rattle.pprof_profile.specs.declared.faults.ProfileFault.{ProfileFault}
-use Rattle.pprof_profile.specs.Reading.{Table, Spells, IsUnpacked}
+use Rattle.pprof_profile.specs.Reading.{Table, Spells, AddsPacked, IsUnpacked}
 use Rattle.pprof_profile.specs.Forms.{flag_of}
 use Rattle.pprof_profile.specs.Writing.{bytes_of_fields, number_fields, content_fields, each_field, packed_bytes}
 use Rattle.pprof_profile.specs.Writing.{number_of_flag}
 use Rattle.pprof_profile.proofs.Gathering.{one_spelled, spells_joined}
-use Rattle.pprof_profile.proofs.Once.{numbers_once}
+use Rattle.pprof_profile.proofs.Once.{numbers_once, ok_once}
 
 -- the bytes of the fields make the new message of the old one
 abbrev pub Piece : {M : Type 0} → Table M → M → List PlainField → M → Type 0
@@ -124,9 +123,7 @@ unpacked_back from to Good below back items good =
 
 pub none_unpacked : {A : Type 0} (from : ℕ → A) (bytes : List ℕ) (items : List A)
     → IsUnpacked from [] bytes items → bytes ≡ [] → items ≡ []
-none_unpacked {A = A} from bytes items unpacked empty =
-    let one : Result (List A) ProfileFault = Ok items in
-    let other : Result (List A) ProfileFault = Ok [] in
-    let both : one ≡ other = numbers_once from []
-    (content []) one other (subst (λ (xs : List ℕ). IsUnpacked from [] xs items) empty unpacked)
-    (record { numbers = []; listed = refl; appended = refl }) in cc both
+none_unpacked from bytes items unpacked empty =
+    ok_once (AddsPacked from [] []) (numbers_once from [] (content [])) items []
+    (subst (λ (xs : List ℕ). IsUnpacked from [] xs items) empty unpacked)
+    (record { numbers = []; listed = refl; appended = refl })

@@ -7,16 +7,18 @@ use Rattle.basics.proofs.Growing.{items_grown, map_agreeing, within_grown}
 use Rattle.pprof_profile.specs.declared.samples.SampleSpans.{SampleSpans}
 use Rattle.pprof_profile.specs.SampleLists.{AreWithin, sample_at}
 
--- a sample's parts stand where they stood
-pub are_within_grown : (ids more_ids : List ℕ) (values more_values : List ℤ) (labels more_labels : List Label)
+-- the parts of samples stand where they stood
+pub all_within_grown : (ids more_ids : List ℕ) (values more_values : List ℤ) (labels more_labels : List Label)
     → Grows ids more_ids → Grows values more_values → Grows labels more_labels
-    → (spans : SampleSpans) → AreWithin ids values labels spans → AreWithin more_ids more_values more_labels spans
-are_within_grown ids more_ids values more_values labels more_labels i v l spans h =
-    record {
+    → (spans : List SampleSpans) → All (AreWithin ids values labels) spans
+    → All (AreWithin more_ids more_values more_labels) spans
+all_within_grown ids more_ids values more_values labels more_labels i v l =
+    All-weaker (AreWithin ids values labels) (AreWithin more_ids more_values more_labels)
+    (λ spans h. record {
       location_ids_are = within_grown ids more_ids spans.location_ids i h.location_ids_are;
       values_are = within_grown values more_values spans.values v h.values_are;
       labels_are = within_grown labels more_labels spans.labels l h.labels_are;
-    }
+    })
 
 pub samples_grown : (ids more_ids : List ℕ) (values more_values : List ℤ) (labels more_labels : List Label)
     → Grows ids more_ids → Grows values more_values → Grows labels more_labels

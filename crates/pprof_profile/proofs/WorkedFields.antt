@@ -2,7 +2,7 @@
 use Rattle.std.proofs.Common.{◌≡◌, ℕ, pos, List, [], ◌∷◌, refl, arith, rules}
 use Rattle.pprof_wire.specs.Varints.{IsNumberList, varint_of}
 use Rattle.pprof_wire.specs.Fields.{varint, content, PlainField, IsFieldList}
-use Rattle.pprof_wire.proofs.ListLaws.{written_back}
+use Rattle.pprof_wire.proofs.ListLaws.{one_field_listed, one_number_listed, written_back}
 use Rattle.pprof_wire.proofs.ShortestVarints.{varint_of-spells}
 use Rattle.pprof_profile.specs.declared.messages.ValueType.{ValueType}
 use Rattle.pprof_profile.specs.declared.messages.Sample.{Sample}
@@ -62,23 +62,15 @@ kind_and_unit = record { kind = pos 1; unit = pos 2 }
 
 kind_listed : IsFieldList (8 ∷ 1 ∷ []) kind_piece
 unfolding varint_of
-kind_listed = (
-  8 ∷ 1 ∷ [],
-  [],
-  refl,
-  written_back (number_field 1 1) (record { least = omega arith; most = omega arith }) (omega arith),
-  refl,
-)
+kind_listed =
+    one_field_listed (8 ∷ 1 ∷ []) (number_field 1 1)
+    (written_back (number_field 1 1) (record { least = omega arith; most = omega arith }) (omega arith))
 
 unit_listed : IsFieldList (16 ∷ 2 ∷ []) unit_piece
 unfolding varint_of
-unit_listed = (
-  16 ∷ 2 ∷ [],
-  [],
-  refl,
-  written_back (number_field 2 2) (record { least = omega arith; most = omega arith }) (omega arith),
-  refl,
-)
+unit_listed =
+    one_field_listed (16 ∷ 2 ∷ []) (number_field 2 2)
+    (written_back (number_field 2 2) (record { least = omega arith; most = omega arith }) (omega arith))
 
 kind_spelled : Spells (table_of value_type_form) no_value_type (8 ∷ 1 ∷ []) kind_alone
 kind_spelled = record { fields = kind_piece; listed = kind_listed; gathered = (kind_alone, (refl, refl), refl) }
@@ -127,28 +119,19 @@ three = record no_sample { values = pos 3 ∷ [] }
 
 packed_listed : IsFieldList (18 ∷ 1 ∷ 7 ∷ []) packed_value
 unfolding varint_of
-packed_listed = (
-  18 ∷ 1 ∷ 7 ∷ [],
-  [],
-  refl,
-  written_back
-      (content_field 2 (7 ∷ [])) (record { least = omega arith; most = omega arith }) (omega arith),
-  refl,
-)
+packed_listed =
+    one_field_listed (18 ∷ 1 ∷ 7 ∷ []) (content_field 2 (7 ∷ []))
+    (written_back (content_field 2 (7 ∷ [])) (record { least = omega arith; most = omega arith }) (omega arith))
 
 single_listed : IsFieldList (16 ∷ 3 ∷ []) single_value
 unfolding varint_of
-single_listed = (
-  16 ∷ 3 ∷ [],
-  [],
-  refl,
-  written_back (number_field 2 3) (record { least = omega arith; most = omega arith }) (omega arith),
-  refl,
-)
+single_listed =
+    one_field_listed (16 ∷ 3 ∷ []) (number_field 2 3)
+    (written_back (number_field 2 3) (record { least = omega arith; most = omega arith }) (omega arith))
 
 seven_listed : IsNumberList (7 ∷ []) (7 ∷ [])
 unfolding varint_of
-seven_listed = (7 ∷ [], [], refl, varint_of-spells 7 (omega arith), refl)
+seven_listed = one_number_listed (7 ∷ []) 7 (varint_of-spells 7 (omega arith))
 
 seven_spelled : Spells (table_of sample_form) no_sample (18 ∷ 1 ∷ 7 ∷ []) seven
 seven_spelled =

@@ -1,7 +1,7 @@
 -- The bytes of a profile.
-use Rattle.std.specs.Prelude.{◌≡◌, ℕ, ◌⊎◌, List, ◌∷◌, Some}
+use Rattle.std.specs.Prelude.{◌≡◌, ◌≢◌, ℕ, ◌⊎◌, List, ◌∷◌, Some, IfErr, IfOk, MatchResult, Result}
 use Rattle.pprof_profile.specs.declared.faults.ProfileFault.{ProfileFault}
-use Rattle.pprof_profile.specs.declared.faults.ProfileFault.TheVariants.{Gzip}
+use Rattle.pprof_profile.specs.declared.faults.ProfileFault.TheVariants.{Gzip, NoMemory}
 use Rattle.pprof_profile.specs.declared.messages.Draft.{Draft}
 use Rattle.pprof_profile.specs.Reading.{Spells, IsFirstFault}
 use Rattle.pprof_profile.specs.Forms.{table_of}
@@ -38,3 +38,12 @@ pub record SpellsInvalid (bytes : List ℕ) (fault : ProfileFault) : Type 0 wher
 abbrev pub IsProfileFault : List ℕ → ProfileFault → Type 0
 IsProfileFault bytes fault =
     (BeginsAsGzip bytes × (fault ≡ Gzip)) ⊎ (IsReadingFault bytes fault ⊎ SpellsInvalid bytes fault)
+
+-- What is answered for the bytes: the profile that they are or, unless memory runs out, why they are none.
+pub record IsDecoded (bytes : List ℕ) (result : Result Draft ProfileFault) : Type 0 where
+  pub read : IfOk result (λ profile. IsProfile bytes profile)
+  pub fault : IfErr result (λ fault. fault ≢ NoMemory → IsProfileFault bytes fault)
+  pub every_profile : (draft : Draft) → IsProfile bytes draft
+      → MatchResult result (λ profile. profile ≡ draft) (λ fault. fault ≡ NoMemory)
+  pub every_fault : (first : ProfileFault) → IsProfileFault bytes first
+      → MatchResult result (λ profile. ⊥) (λ fault. (fault ≡ NoMemory) ⊎ (fault ≡ first))

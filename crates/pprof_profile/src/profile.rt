@@ -1,12 +1,11 @@
 //! Profiles: drafts that are valid, read from bytes and written.
 
-ghost use Rattle.std.specs.Prelude.{◌≡◌, ◌≢◌, ◌⊎◌, Some, IfOk, IfErr, OnOk, MatchResult};
+ghost use Rattle.std.specs.Prelude.{◌≡◌, ◌≢◌, Some, IfOk, IfErr, OnOk};
 ghost use Rattle.std.specs.Bool.{OnTrue, OnFalse};
-ghost use Rattle.pprof_profile.specs.declared.messages.Draft.{Draft};
 ghost use Rattle.pprof_profile.specs.declared.faults.ProfileFault.{ProfileFault};
 ghost use Rattle.pprof_profile.specs.Valid.{IsValidDraft, KeepsFirstRules, validity_fault};
 ghost use Rattle.pprof_profile.specs.Canonical.{canonical_bytes_of, FitsDraft};
-ghost use Rattle.pprof_profile.specs.Profiles.{BeginsAsGzip, IsProfile, IsProfileFault};
+ghost use Rattle.pprof_profile.specs.Profiles.{BeginsAsGzip, IsDecoded, IsProfile, IsProfileFault};
 
 use crate::faults::{ProfileFault, Refused};
 use crate::messages::Draft;
@@ -80,12 +79,7 @@ pub fn check(alloc: Global, draft: Draft) -> Result<Profile, Refused<Draft>>
 /// message is read where it stands. Else what [`check`] answers. `NoMemory` may come in place of any of them, as
 /// where all samples together have 2^32 location ids, values or labels.
 pub fn decode(alloc: Global, bytes: &[u8]) -> Result<Profile, ProfileFault>
-    ensures read { IfOk result (λ profile. IsProfile bytes.now profile) }
-    ensures fault { IfErr result (λ fault. fault ≢ ProfileFault.NoMemory → IsProfileFault bytes.now fault) }
-    ensures every_profile { (draft : Draft) → IsProfile bytes.now draft
-        → MatchResult result (λ profile. profile ≡ draft) (λ fault. fault ≡ ProfileFault.NoMemory) }
-    ensures every_fault { (first : ProfileFault) → IsProfileFault bytes.now first
-        → MatchResult result (λ profile. ⊥) (λ fault. (fault ≡ ProfileFault.NoMemory) ⊎ (fault ≡ first)) }
+    ensures { IsDecoded bytes.now result }
 {
     read_profile(alloc, bytes)
 }

@@ -6,9 +6,10 @@ use Rattle.std.proofs.lemmas.Nat.{and_mask}
 use Rattle.std.proofs.Math.Seq.{take-add}
 use Rattle.pprof_wire.specs.declared.faults.WireFault.{WireFault}
 use Rattle.pprof_wire.specs.declared.faults.WireFault.TheVariants.{Truncated, LongVarint, FieldNumber, Group, WireType}
-use Rattle.pprof_wire.specs.Varints.{IsVarint, IsVarintFault, IsLongVarint}
+use Rattle.pprof_wire.specs.Varints.{IsVarint, IsVarintFault}
+use Rattle.pprof_wire.specs.SpelledLists.{BeginsWithNone}
 use Rattle.std.specs.Int.{w32, w64, from_le_bytes}
-use Rattle.pprof_wire.proofs.VarintLaws.{varint_once, varint_no_fault, varint_fault_once, cut_not_long}
+use Rattle.pprof_wire.proofs.VarintLaws.{varint_once, fault_without_number, varint_fault_once, cut_not_long}
 use Rattle.pprof_wire.specs.Fields.{FieldValue, varint, fixed64, fixed32, content, PlainField, IsDelimited}
 use Rattle.pprof_wire.specs.Fields.{IsCutDelimited, IsFieldNumber, wire_type_of, IsValueSpelling, IsFieldSpelling}
 use Rattle.pprof_wire.specs.Fields.{BeginsWithTag, IsCutValue, IsLongValue, IsTagFault, IsFrontFault}
@@ -117,20 +118,9 @@ value_once (fixed32 m) (fixed32 n) a b x y typed left right same =
     (once.0, once.1, ap fixed32 (left.1 ∙ ap (from_le_bytes w32) once.0 ∙ sym right.1))
 value_once (content c) (content d) a b x y typed left right same =
     let once = delimited_once a b x y c d left right same in (once.0, once.1, ap content once.2)
-value_once (varint m) (fixed64 n) a b x y typed left right same = absurd (omega arith)
-value_once (varint m) (fixed32 n) a b x y typed left right same = absurd (omega arith)
-value_once (varint m) (content d) a b x y typed left right same = absurd (omega arith)
-value_once (fixed64 m) (varint n) a b x y typed left right same = absurd (omega arith)
-value_once (fixed64 m) (fixed32 n) a b x y typed left right same = absurd (omega arith)
-value_once (fixed64 m) (content d) a b x y typed left right same = absurd (omega arith)
-value_once (fixed32 m) (varint n) a b x y typed left right same = absurd (omega arith)
-value_once (fixed32 m) (fixed64 n) a b x y typed left right same = absurd (omega arith)
-value_once (fixed32 m) (content d) a b x y typed left right same = absurd (omega arith)
-value_once (content c) (varint n) a b x y typed left right same = absurd (omega arith)
-value_once (content c) (fixed64 n) a b x y typed left right same = absurd (omega arith)
-value_once (content c) (fixed32 n) a b x y typed left right same = absurd (omega arith)
+value_once v w a b x y typed left right same = absurd (omega arith)
 
-low-type : (v : FieldValue) → wire_type_of v < 8
+pub low-type : (v : FieldValue) → wire_type_of v < 8
 low-type (varint n) = lit< tt
 low-type (fixed64 n) = lit< tt
 low-type (fixed32 n) = lit< tt
@@ -140,23 +130,39 @@ low-type (content c) = lit< tt
 tag_once : (m n s t : ℕ) → s < 8 → t < 8 → 8 * m + s ≡ 8 * n + t → (m ≡ n) × (s ≡ t)
 tag_once m n s t p q e = (omega arith, omega arith)
 
-regrouped : (bytes tag rest after : List ℕ) → bytes ≡ tag ++ rest → bytes ++ after ≡ tag ++ (rest ++ after)
-regrouped bytes tag rest after parts = ap (λ (front : List ℕ). front ++ after) parts ∙ append_assoc tag rest after
+-- a field begins with its tag
+tag_of_field : (bytes spelling after : List ℕ) (field : PlainField)
+    → (spelled : IsFieldSpelling spelling field) → bytes ≡ spelling ++ after
+    → BeginsWithTag bytes field.number (wire_type_of field.value) (spelled.rest ++ after)
+tag_of_field bytes spelling after field spelled same =
+    record {
+      tag = spelled.tag;
+      parts = same ∙ ap (λ (front : List ℕ). front ++ after) spelled.parts
+          ∙ append_assoc spelled.tag spelled.rest after;
+      tagged = spelled.tagged;
+      low = low-type field.value;
+    }
+
+tag_at_once : (bytes rest other : List ℕ) (m s n t : ℕ)
+    → (one : BeginsWithTag bytes m s rest) → (two : BeginsWithTag bytes n t other)
+    → (one.tag ≡ two.tag) × (rest ≡ other) × (m ≡ n) × (s ≡ t)
+tag_at_once bytes rest other m s n t one two =
+    let tags = varint_once one.tag two.tag rest other
+    (8 * m + s) (8 * n + t) one.tagged two.tagged (sym one.parts ∙ two.parts) in
+    let parts = tag_once m n s t one.low two.low tags.2 in
+    (tags.0, tags.1, parts.0, parts.1)
 
 pub field_once : (a b x y : List ℕ) (f g : PlainField)
     → IsFieldSpelling a f → IsFieldSpelling b g → a ++ x ≡ b ++ y → (a ≡ b) × (x ≡ y) × (f ≡ g)
+unfolding tag_of_field
 field_once a b x y f g left right same =
-    let whole : left.tag ++ (left.rest ++ x) ≡ right.tag ++ (right.rest ++ y) =
-    sym (regrouped a left.tag left.rest x left.parts) ∙ same ∙ regrouped b right.tag right.rest y right.parts in
-    let tags = varint_once left.tag right.tag (left.rest ++ x) (right.rest ++ y)
-    (8 * f.number + wire_type_of f.value) (8 * g.number + wire_type_of g.value) left.tagged right.tagged whole in
-    let parts = tag_once f.number g.number
-    (wire_type_of f.value) (wire_type_of g.value) (low-type f.value) (low-type g.value) tags.2 in
-    let values = value_once f.value g.value left.rest right.rest x y parts.1 left.valued right.valued tags.1 in (
+    let tags = tag_at_once (a ++ x) (left.rest ++ x) (right.rest ++ y) f.number (wire_type_of f.value)
+    g.number (wire_type_of g.value) (tag_of_field (a ++ x) a x f left refl) (tag_of_field (a ++ x) b y g right same) in
+    let values = value_once f.value g.value left.rest right.rest x y tags.3 left.valued right.valued tags.1 in (
       left.parts ∙ ap (λ (tag : List ℕ). tag ++ left.rest) tags.0
           ∙ ap (λ (rest : List ℕ). right.tag ++ rest) values.0 ∙ sym right.parts,
       values.1,
-      ap (λ (n : ℕ). record { number = n; value = f.value }) parts.0
+      ap (λ (n : ℕ). record { number = n; value = f.value }) tags.2
           ∙ ap (λ (v : FieldValue). record { number = g.number; value = v }) values.2,
     )
 
@@ -170,88 +176,81 @@ not-numbered number numbered range = elim range [
 
 not_cut_delimited : (a x c : List ℕ) → IsDelimited a c → IsCutDelimited (a ++ x) → ⊥
 not_cut_delimited a x c spelled cut =
-    let whole : spelled.prefix ++ (c ++ x) ≡ cut.prefix ++ cut.rest = sym (regrouped a spelled.prefix c x spelled.parts)
-    ∙ cut.parts in
-    let once = varint_once spelled.prefix cut.prefix
-    (c ++ x) cut.rest (length c) cut.count spelled.spelled cut.spelled whole in
+    let once = varint_once spelled.prefix cut.prefix (c ++ x) cut.rest (length c) cut.count spelled.spelled cut.spelled
+    (sym (append_assoc spelled.prefix c x) ∙ ap (λ (front : List ℕ). front ++ x) (sym spelled.parts) ∙ cut.parts) in
     absurd (omega (arith, length-append c x, ap length once.1, once.2, cut.short))
 
 not_varint_fault : (fault : WireFault) (a x c : List ℕ) → IsDelimited a c → IsVarintFault fault (a ++ x) → ⊥
 not_varint_fault fault a x c spelled faulty =
-    varint_no_fault fault spelled.prefix (c ++ x)
-    (length c) spelled.spelled (subst (IsVarintFault fault) (regrouped a spelled.prefix c x spelled.parts) faulty)
+    fault_without_number fault (a ++ x) faulty spelled.prefix (c ++ x) (length c)
+    (ap (λ (front : List ℕ). front ++ x) spelled.parts ∙ append_assoc spelled.prefix c x) spelled.spelled
+
+-- the wire types of values
+IsValueType : ℕ → Type 0
+IsValueType t = ((t ≡ 0) ⊎ (t ≡ 2)) ⊎ ((t ≡ 1) ⊎ (t ≡ 5))
+
+value-type : (v : FieldValue) → IsValueType (wire_type_of v)
+unfolding IsValueType
+value-type (varint n) = inl (inl refl)
+value-type (fixed64 n) = inr (inl refl)
+value-type (fixed32 n) = inr (inr refl)
+value-type (content c) = inl (inr refl)
+
+group-not-value : (t : ℕ) → (t ≡ 3) ⊎ (t ≡ 4) → IsValueType t → ⊥
+unfolding IsValueType
+group-not-value t p q = grind arith
+
+unused-not-value : (t : ℕ) → 6 ≤ t → IsValueType t → ⊥
+unfolding IsValueType
+unused-not-value t p q = grind arith
 
 value_not_cut : (v : FieldValue) (a x : List ℕ) → IsValueSpelling a v → IsCutValue (wire_type_of v) (a ++ x) → ⊥
-value_not_cut (varint n) a x spelled (inl (inl p)) = varint_no_fault Truncated a x n spelled p.1
-value_not_cut (varint n) a x spelled (inl (inr p)) = absurd (omega (arith, p.0))
-value_not_cut (varint n) a x spelled (inr (inl p)) = absurd (omega (arith, p.0))
-value_not_cut (varint n) a x spelled (inr (inr p)) = absurd (omega (arith, p.0))
-value_not_cut (fixed64 n) a x spelled (inl (inl p)) =
-    elim (p.0) [ inl e ↦ absurd (omega (arith, e)) | inr e ↦ absurd (omega (arith, e)) ]
-value_not_cut (fixed64 n) a x spelled (inl (inr p)) = absurd (omega (arith, p.0))
-value_not_cut (fixed64 n) a x spelled (inr (inl p)) = absurd (omega (arith, p.1, spelled.0, length-append a x))
-value_not_cut (fixed64 n) a x spelled (inr (inr p)) = absurd (omega (arith, p.0))
-value_not_cut (fixed32 n) a x spelled (inl (inl p)) =
-    elim (p.0) [ inl e ↦ absurd (omega (arith, e)) | inr e ↦ absurd (omega (arith, e)) ]
-value_not_cut (fixed32 n) a x spelled (inl (inr p)) = absurd (omega (arith, p.0))
-value_not_cut (fixed32 n) a x spelled (inr (inl p)) = absurd (omega (arith, p.0))
-value_not_cut (fixed32 n) a x spelled (inr (inr p)) = absurd (omega (arith, p.1, spelled.0, length-append a x))
+value_not_cut (varint n) a x spelled (inl (inl p)) = fault_without_number Truncated (a ++ x) p.1 a x n refl spelled
 value_not_cut (content c) a x spelled (inl (inl p)) = not_varint_fault Truncated a x c spelled p.1
+value_not_cut v a x spelled (inl (inl p)) =
+    elim (p.0) [ inl e ↦ absurd (omega (arith, e)) | inr e ↦ absurd (omega (arith, e)) ]
 value_not_cut (content c) a x spelled (inl (inr p)) = not_cut_delimited a x c spelled p.1
-value_not_cut (content c) a x spelled (inr (inl p)) = absurd (omega (arith, p.0))
-value_not_cut (content c) a x spelled (inr (inr p)) = absurd (omega (arith, p.0))
+value_not_cut v a x spelled (inl (inr p)) = absurd (omega (arith, p.0))
+value_not_cut (fixed64 n) a x spelled (inr (inl p)) = absurd (omega (arith, p.1, spelled.0, length-append a x))
+value_not_cut v a x spelled (inr (inl p)) = absurd (omega (arith, p.0))
+value_not_cut (fixed32 n) a x spelled (inr (inr p)) = absurd (omega (arith, p.1, spelled.0, length-append a x))
+value_not_cut v a x spelled (inr (inr p)) = absurd (omega (arith, p.0))
 
 value_not_long : (v : FieldValue) (a x : List ℕ) → IsValueSpelling a v → IsLongValue (wire_type_of v) (a ++ x) → ⊥
-value_not_long (varint n) a x spelled p = varint_no_fault LongVarint a x n spelled p.1
-value_not_long (fixed64 n) a x spelled p =
-    elim (p.0) [ inl e ↦ absurd (omega (arith, e)) | inr e ↦ absurd (omega (arith, e)) ]
-value_not_long (fixed32 n) a x spelled p =
-    elim (p.0) [ inl e ↦ absurd (omega (arith, e)) | inr e ↦ absurd (omega (arith, e)) ]
+value_not_long (varint n) a x spelled p = fault_without_number LongVarint (a ++ x) p.1 a x n refl spelled
 value_not_long (content c) a x spelled p = not_varint_fault LongVarint a x c spelled p.1
-
-value_not_group : (v : FieldValue) → (wire_type_of v ≡ 3) ⊎ (wire_type_of v ≡ 4) → ⊥
-value_not_group (varint n) p = elim p [ inl e ↦ absurd (omega (arith, e)) | inr e ↦ absurd (omega (arith, e)) ]
-value_not_group (fixed64 n) p = elim p [ inl e ↦ absurd (omega (arith, e)) | inr e ↦ absurd (omega (arith, e)) ]
-value_not_group (fixed32 n) p = elim p [ inl e ↦ absurd (omega (arith, e)) | inr e ↦ absurd (omega (arith, e)) ]
-value_not_group (content c) p = elim p [ inl e ↦ absurd (omega (arith, e)) | inr e ↦ absurd (omega (arith, e)) ]
-
-value_not_unused : (v : FieldValue) → 6 ≤ wire_type_of v → ⊥
-value_not_unused (varint n) p = absurd (omega (arith, p))
-value_not_unused (fixed64 n) p = absurd (omega (arith, p))
-value_not_unused (fixed32 n) p = absurd (omega (arith, p))
-value_not_unused (content c) p = absurd (omega (arith, p))
+value_not_long v a x spelled p = elim (p.0) [ inl e ↦ absurd (omega (arith, e)) | inr e ↦ absurd (omega (arith, e)) ]
 
 value_no_tag_fault : (fault : WireFault) (number : ℕ) (v : FieldValue) (a x : List ℕ)
     → IsFieldNumber number → IsValueSpelling a v
     → IsTagFault fault number (wire_type_of v) (a ++ x) → ⊥
 value_no_tag_fault FieldNumber number v a x numbered spelled faulty = not-numbered number numbered faulty
-value_no_tag_fault Group number v a x numbered spelled faulty = value_not_group v faulty.1
-value_no_tag_fault WireType number v a x numbered spelled faulty = value_not_unused v faulty.1
+value_no_tag_fault Group number v a x numbered spelled faulty = group-not-value (wire_type_of v) faulty.1 (value-type v)
+value_no_tag_fault WireType number v a x numbered spelled faulty =
+    unused-not-value (wire_type_of v) faulty.1 (value-type v)
 value_no_tag_fault Truncated number v a x numbered spelled faulty = value_not_cut v a x spelled faulty.1
 value_no_tag_fault LongVarint number v a x numbered spelled faulty = value_not_long v a x spelled faulty.1
 
-pub field_no_fault : (fault : WireFault) (a x : List ℕ) (f : PlainField)
-    → IsFieldSpelling a f → IsFrontFault fault (a ++ x) → ⊥
-field_no_fault fault a x f spelled (inl faulty) =
-    varint_no_fault fault spelled.tag (spelled.rest ++ x) (8 * f.number + wire_type_of f.value) spelled.tagged
-    (subst (IsVarintFault fault) (regrouped a spelled.tag spelled.rest x spelled.parts) faulty)
-field_no_fault fault a x f spelled (inr (number, wire_type, rest, begun, faulty)) =
-    let whole : begun.tag ++ rest ≡ spelled.tag ++ (spelled.rest ++ x) = sym begun.parts
-    ∙ regrouped a spelled.tag spelled.rest x spelled.parts in
-    let tags = varint_once begun.tag spelled.tag rest (spelled.rest ++ x)
-    (8 * number + wire_type) (8 * f.number + wire_type_of f.value) begun.tagged spelled.tagged whole in
-    let parts = tag_once number f.number wire_type (wire_type_of f.value) begun.low (low-type f.value) tags.2 in
-    let there : IsTagFault fault f.number (wire_type_of f.value) (spelled.rest ++ x) =
-    subst (λ (n : ℕ). IsTagFault fault n (wire_type_of f.value) (spelled.rest ++ x)) parts.0
-    (subst (λ (t : ℕ). IsTagFault fault number t (spelled.rest ++ x)) parts.1
-    (subst (IsTagFault fault number wire_type) tags.1 faulty)) in
-    value_no_tag_fault fault f.number f.value spelled.rest x spelled.numbered spelled.valued there
+-- what is wrong after a tag stays so
+tag_fault_moved : (fault : WireFault) (bytes rest other : List ℕ) (m s n t : ℕ) → BeginsWithTag bytes m s rest
+    → BeginsWithTag bytes n t other → IsTagFault fault m s rest → IsTagFault fault n t other
+tag_fault_moved fault bytes rest other m s n t one two faulty =
+    let same = tag_at_once bytes rest other m s n t one two in
+    subst (λ (k : ℕ). IsTagFault fault k t other) same.2
+    (subst (λ (k : ℕ). IsTagFault fault m k other) same.3 (subst (IsTagFault fault m s) same.1 faulty))
+
+pub fault_without_front : (fault : WireFault) (bytes : List ℕ) → IsFrontFault fault bytes
+    → BeginsWithNone IsFieldSpelling bytes
+fault_without_front fault bytes (inl faulty) a x f same spelled =
+    let begun = tag_of_field bytes a x f spelled same in
+    fault_without_number fault bytes faulty begun.tag (spelled.rest ++ x)
+    (8 * f.number + wire_type_of f.value) begun.parts begun.tagged
+fault_without_front fault bytes (inr (number, wire_type, rest, begun, faulty)) a x f same spelled =
+    value_no_tag_fault fault f.number f.value spelled.rest x spelled.numbered spelled.valued
+    (tag_fault_moved fault bytes rest (spelled.rest ++ x) number wire_type
+    f.number (wire_type_of f.value) begun (tag_of_field bytes a x f spelled same) faulty)
 
 -- ---- a rest has one fault
-
--- the wire types of values
-IsValueType : ℕ → Type 0
-IsValueType t = ((t ≡ 0) ⊎ (t ≡ 2)) ⊎ ((t ≡ 1) ⊎ (t ≡ 5))
 
 cut-type : (t : ℕ) (x : List ℕ) → IsCutValue t x → IsValueType t
 unfolding IsValueType
@@ -264,14 +263,6 @@ long-type : (t : ℕ) (x : List ℕ) → IsLongValue t x → IsValueType t
 unfolding IsValueType
 long-type t x p = inl p.0
 
-group-not-value : (t : ℕ) → (t ≡ 3) ⊎ (t ≡ 4) → IsValueType t → ⊥
-unfolding IsValueType
-group-not-value t p q = grind arith
-
-unused-not-value : (t : ℕ) → 6 ≤ t → IsValueType t → ⊥
-unfolding IsValueType
-unused-not-value t p q = grind arith
-
 group-not-unused : (t : ℕ) → (t ≡ 3) ⊎ (t ≡ 4) → 6 ≤ t → ⊥
 group-not-unused t p q = grind arith
 
@@ -281,69 +272,33 @@ two-types t p q = grind arith
 cut_not_long_value : (t : ℕ) (x : List ℕ) → IsCutValue t x → IsLongValue t x → ⊥
 cut_not_long_value t x (inl (inl p)) long = cut_not_long x p.1 long.1
 cut_not_long_value t x (inl (inr p)) long =
-    varint_no_fault LongVarint p.1.prefix p.1.rest p.1.count p.1.spelled (subst IsLongVarint p.1.parts long.1)
+    fault_without_number LongVarint x long.1 p.1.prefix p.1.rest p.1.count p.1.parts p.1.spelled
 cut_not_long_value t x (inr (inl p)) long = two-types t long.0 (inl p.0)
 cut_not_long_value t x (inr (inr p)) long = two-types t long.0 (inr p.0)
 
 tag_fault_once : (f g : WireFault) (n t : ℕ) (x : List ℕ) → IsTagFault f n t x → IsTagFault g n t x → f ≡ g
+tag_fault_once Truncated LongVarint n t x p q = absurd (cut_not_long_value t x p.1 q.1)
+tag_fault_once LongVarint Truncated n t x p q = absurd (cut_not_long_value t x q.1 p.1)
 tag_fault_once FieldNumber FieldNumber n t x p q = refl
-tag_fault_once FieldNumber Group n t x p q = absurd (not-numbered n q.0 p)
-tag_fault_once FieldNumber WireType n t x p q = absurd (not-numbered n q.0 p)
-tag_fault_once FieldNumber Truncated n t x p q = absurd (not-numbered n q.0 p)
-tag_fault_once FieldNumber LongVarint n t x p q = absurd (not-numbered n q.0 p)
-tag_fault_once Group FieldNumber n t x p q = absurd (not-numbered n p.0 q)
-tag_fault_once Group Group n t x p q = refl
+tag_fault_once FieldNumber g n t x p q = absurd (not-numbered n q.0 p)
+tag_fault_once f FieldNumber n t x p q = absurd (not-numbered n p.0 q)
 tag_fault_once Group WireType n t x p q = absurd (group-not-unused t p.1 q.1)
+tag_fault_once WireType Group n t x p q = absurd (group-not-unused t q.1 p.1)
 tag_fault_once Group Truncated n t x p q = absurd (group-not-value t p.1 (cut-type t x q.1))
 tag_fault_once Group LongVarint n t x p q = absurd (group-not-value t p.1 (long-type t x q.1))
-tag_fault_once WireType FieldNumber n t x p q = absurd (not-numbered n p.0 q)
-tag_fault_once WireType Group n t x p q = absurd (group-not-unused t q.1 p.1)
-tag_fault_once WireType WireType n t x p q = refl
 tag_fault_once WireType Truncated n t x p q = absurd (unused-not-value t p.1 (cut-type t x q.1))
 tag_fault_once WireType LongVarint n t x p q = absurd (unused-not-value t p.1 (long-type t x q.1))
-tag_fault_once Truncated FieldNumber n t x p q = absurd (not-numbered n p.0 q)
 tag_fault_once Truncated Group n t x p q = absurd (group-not-value t q.1 (cut-type t x p.1))
 tag_fault_once Truncated WireType n t x p q = absurd (unused-not-value t q.1 (cut-type t x p.1))
-tag_fault_once Truncated Truncated n t x p q = refl
-tag_fault_once Truncated LongVarint n t x p q = absurd (cut_not_long_value t x p.1 q.1)
-tag_fault_once LongVarint FieldNumber n t x p q = absurd (not-numbered n p.0 q)
 tag_fault_once LongVarint Group n t x p q = absurd (group-not-value t q.1 (long-type t x p.1))
 tag_fault_once LongVarint WireType n t x p q = absurd (unused-not-value t q.1 (long-type t x p.1))
-tag_fault_once LongVarint Truncated n t x p q = absurd (cut_not_long_value t x q.1 p.1)
-tag_fault_once LongVarint LongVarint n t x p q = refl
+tag_fault_once f g n t x p q = refl
 
 pub front_fault_once : (f g : WireFault) (bytes : List ℕ) → IsFrontFault f bytes → IsFrontFault g bytes → f ≡ g
 front_fault_once f g bytes (inl left) (inl right) = varint_fault_once f g bytes left right
 front_fault_once f g bytes (inl left) (inr (n, t, rest, begun, faulty)) =
-    absurd (varint_no_fault f begun.tag rest (8 * n + t) begun.tagged (subst (IsVarintFault f) begun.parts left))
+    absurd (fault_without_number f bytes left begun.tag rest (8 * n + t) begun.parts begun.tagged)
 front_fault_once f g bytes (inr (n, t, rest, begun, faulty)) (inl right) =
-    absurd (varint_no_fault g begun.tag rest (8 * n + t) begun.tagged (subst (IsVarintFault g) begun.parts right))
+    absurd (fault_without_number g bytes right begun.tag rest (8 * n + t) begun.parts begun.tagged)
 front_fault_once f g bytes (inr (m, s, rest, begun, faulty)) (inr (n, t, other, too, wrong)) =
-    let tags = varint_once begun.tag too.tag rest other
-    (8 * m + s) (8 * n + t) begun.tagged too.tagged (sym begun.parts ∙ too.parts) in
-    let parts = tag_once m n s t begun.low too.low tags.2 in
-    let there : IsTagFault f n t other =
-    subst (λ (k : ℕ). IsTagFault f k t other) parts.0
-    (subst (λ (k : ℕ). IsTagFault f m k other) parts.1 (subst (IsTagFault f m s) tags.1 faulty)) in
-    tag_fault_once f g n t other there wrong
-
--- ---- what was read is what stands there
-
-pub field_read_once : (bytes spelling rest after : List ℕ) (len : ℕ) (read field : PlainField)
-    → IsFieldSpelling (take len bytes) read → after ≡ drop len bytes
-    → bytes ≡ spelling ++ rest → IsFieldSpelling spelling field → (read ≡ field) × (after ≡ rest)
-field_read_once bytes spelling rest after len read field found after-is same spelled =
-    let once = field_once
-    (take len bytes) spelling (drop len bytes) rest read field found spelled (take-append-drop len bytes ∙ same) in
-    (once.2, after-is ∙ once.1)
-
-pub field_read_no_fault : (fault : WireFault) (bytes : List ℕ) (len : ℕ) (read : PlainField)
-    → IsFieldSpelling (take len bytes) read → IsFrontFault fault bytes → ⊥
-field_read_no_fault fault bytes len read found faulty =
-    field_no_fault fault (take len bytes)
-    (drop len bytes) read found (subst (IsFrontFault fault) (sym (take-append-drop len bytes)) faulty)
-
-pub field_fault_stands : (fault : WireFault) (bytes spelling rest : List ℕ) (field : PlainField)
-    → IsFrontFault fault bytes → bytes ≡ spelling ++ rest → IsFieldSpelling spelling field → ⊥
-field_fault_stands fault bytes spelling rest field faulty same spelled =
-    field_no_fault fault spelling rest field spelled (subst (IsFrontFault fault) same faulty)
+    tag_fault_once f g n t other (tag_fault_moved f bytes rest other m s n t begun too faulty) wrong

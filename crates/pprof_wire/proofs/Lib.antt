@@ -4,3 +4,4 @@ pub mod ShortestVarints
 pub mod SpelledLists
 pub mod ListLaws
 pub mod EachList
+pub mod Steps

@@ -1,6 +1,5 @@
 -- Laws of whole lists of fields and of numbers.
-use Rattle.std.proofs.Common.{◌≡◌, ℕ, ◌+◌, ◌*◌, ◌≤◌, List, [], ◌∷◌, ◌++◌, length, length-append, refl, sym, ap, arith}
-use Rattle.std.proofs.Common.{subst}
+use Rattle.std.proofs.Common.{◌≡◌, ℕ, ◌+◌, ◌*◌, List, [], ◌∷◌, ◌++◌, length, length-append, refl, sym, ap, arith}
 use Rattle.std.proofs.lemmas.Nat.{from_le_bytes-to_le_bytes_4, from_le_bytes-to_le_bytes_8}
 use Rattle.pprof_wire.specs.declared.faults.WireFault.{WireFault}
 use Rattle.pprof_wire.specs.Varints.{IsVarint, IsVarintFault, IsNumberList, SplitsIntoNumbers}
@@ -11,8 +10,8 @@ use Rattle.pprof_wire.specs.Fields.{SplitsIntoFields, IsRestFault, value_bytes_o
 use Rattle.pprof_wire.specs.SpelledLists.{BeginsWithNone}
 use Rattle.pprof_wire.proofs.SpelledLists.{one_spelled, spelled_joined, split_once, split_at_the_end, none_in_nil}
 use Rattle.pprof_wire.proofs.SpelledLists.{IsNeverEmpty}
-use Rattle.pprof_wire.proofs.VarintLaws.{varint_once, varint_no_fault}
-use Rattle.pprof_wire.proofs.FieldLaws.{field_once, field_fault_stands}
+use Rattle.pprof_wire.proofs.VarintLaws.{varint_once, fault_without_number}
+use Rattle.pprof_wire.proofs.FieldLaws.{field_once, fault_without_front, low-type}
 use Rattle.pprof_wire.proofs.ShortestVarints.{varint_of-spells}
 
 -- ---- fields
@@ -27,8 +26,7 @@ fields_joined a b xs ys left right = spelled_joined IsFieldSpelling a b xs ys le
 
 pub fault_without_field : (fault : WireFault) (rest : List ℕ) → IsRestFault fault rest
     → BeginsWithNone IsFieldSpelling rest
-fault_without_field fault rest faulty =
-    λ front after field same spelled. field_fault_stands fault rest front after field faulty.front same spelled
+fault_without_field fault rest faulty = fault_without_front fault rest faulty.front
 
 pub varint-some : IsNeverEmpty IsVarint
 varint-some [] number spelled = absurd spelled.groups
@@ -68,11 +66,6 @@ one_number_listed bytes number spelled = one_spelled IsVarint bytes number spell
 pub numbers_joined : (a b xs ys : List ℕ) → IsNumberList a xs → IsNumberList b ys → IsNumberList (a ++ b) (xs ++ ys)
 numbers_joined a b xs ys left right = spelled_joined IsVarint a b xs ys left right
 
-pub fault_without_number : (fault : WireFault) (rest : List ℕ) → IsVarintFault fault rest
-    → BeginsWithNone IsVarint rest
-fault_without_number fault rest faulty = λ front after number same spelled.
-    varint_no_fault fault front after number spelled (subst (IsVarintFault fault) same faulty)
-
 pub numbers_split_once : (bytes r s xs ys : List ℕ)
     → SplitsIntoNumbers bytes xs r → SplitsIntoNumbers bytes ys s → (xs ≡ ys) × (r ≡ s)
 numbers_split_once = split_once IsVarint varint_once
@@ -95,12 +88,6 @@ value_back (fixed32 number) fits = (refl, sym (from_le_bytes-to_le_bytes_4 numbe
 value_back (content bytes) fits =
     record { prefix = varint_of (length bytes); parts = refl; spelled = varint_of-spells (length bytes) fits }
 
-small-type : (value : FieldValue) → wire_type_of value ≤ 5
-small-type (varint number) = omega arith
-small-type (fixed64 number) = omega arith
-small-type (fixed32 number) = omega arith
-small-type (content bytes) = omega arith
-
 pub written_back : (field : PlainField)
     → IsFieldNumber field.number → FitsValue field.value → IsFieldSpelling (field_bytes_of field) field
 written_back field numbered fits =
@@ -110,6 +97,6 @@ written_back field numbered fits =
       parts = refl;
       numbered = numbered;
       tagged = varint_of-spells
-          (8 * field.number + wire_type_of field.value) (omega (arith, numbered.most, small-type field.value));
+          (8 * field.number + wire_type_of field.value) (omega (arith, numbered.most, low-type field.value));
       valued = value_back field.value fits;
     }

@@ -1,9 +1,8 @@
 -- Laws of lists of bytes that spell things one after the other.
-use Rattle.std.proofs.Common.{◌≡◌, ℕ, zero, suc, ◌<◌, ◌≤◌, ◌⊎◌, inl, inr, List, [], ◌∷◌, ◌++◌, length, length-append}
-use Rattle.std.proofs.Common.{refl}
-use Rattle.std.proofs.Common.{sym, ap, ◌∙◌, arith, subst, append_assoc}
-use Rattle.std.proofs.lemmas.List.{append-nil}
-use Rattle.pprof_wire.specs.SpelledLists.{AreSpelled, BeginsWithNone, SplitsInto}
+use Rattle.std.proofs.Common.{◌≡◌, ℕ, zero, suc, ◌<◌, ◌≤◌, ◌⊎◌, inl, inr, List, [], ◌∷◌, ◌++◌, length, length-append, length-drop}
+use Rattle.std.proofs.Common.{drop, take, refl, sym, ap, ◌∙◌, arith, subst, append_assoc}
+use Rattle.std.proofs.lemmas.List.{append-nil, length-take-le, take-append-drop}
+use Rattle.pprof_wire.specs.SpelledLists.{AreSpelled, BeginsWithNone, IsAtFront, SplitsInto}
 
 pub one_spelled : {A : Type 0} (Spells : List ℕ → A → Type 0) (bytes : List ℕ) (item : A)
     → Spells bytes item → AreSpelled Spells bytes (item ∷ [])
@@ -26,6 +25,20 @@ spelled_joined Spells a b (x ∷ xs) ys (front, after, parts, spelled, others) r
 abbrev pub IsSpelledOnce : {A : Type 0} → (List ℕ → A → Type 0) → Type 0
 IsSpelledOnce {A = A} Spells = (a b x y : List ℕ) (m n : A)
     → Spells a m → Spells b n → a ++ x ≡ b ++ y → (a ≡ b) × (x ≡ y) × (m ≡ n)
+
+-- what was read at the front is what is spelled there
+pub read_once : {A : Type 0} (Spells : List ℕ → A → Type 0) → IsSpelledOnce Spells
+    → (bytes spelling rest : List ℕ) (len : ℕ) (read item : A) → IsAtFront Spells bytes len read
+    → bytes ≡ spelling ++ rest → Spells spelling item → (read ≡ item) × (len ≡ length spelling) × (drop len bytes ≡ rest)
+read_once Spells once bytes spelling rest len read item found same spelled =
+    let all = once (take len bytes) spelling (drop len bytes) rest read item found.spelled spelled
+    (take-append-drop len bytes ∙ same) in
+    (all.2, sym (length-take-le len bytes found.within) ∙ ap length all.0, all.1)
+
+pub not_at_front : {A : Type 0} (Spells : List ℕ → A → Type 0) (bytes : List ℕ) (len : ℕ) (item : A)
+    → BeginsWithNone Spells bytes → IsAtFront Spells bytes len item → ⊥
+not_at_front Spells bytes len item none found =
+    none (take len bytes) (drop len bytes) item (sym (take-append-drop len bytes)) found.spelled
 
 listed_once : {A : Type 0} (Spells : List ℕ → A → Type 0) → IsSpelledOnce Spells → (a b r s : List ℕ) (xs ys : List A)
     → AreSpelled Spells a xs → AreSpelled Spells b ys → BeginsWithNone Spells r → BeginsWithNone Spells s
@@ -72,10 +85,8 @@ split_at_the_end Spells some bytes items listed =
 -- an item's spelling stands at the front
 pub record BeginsWith {A : Type 0} (Spells : List ℕ → A → Type 0) (bytes : List ℕ) : Type 0 where
   pub item : A
-  pub front : List ℕ
-  pub rest : List ℕ
-  pub parts : bytes ≡ front ++ rest
-  pub spelled : Spells front item
+  pub len : ℕ
+  pub at : IsAtFront Spells bytes len item
 
 -- what the bytes split into, where the rest is empty or has this fault
 pub record Split {A : Type 0} (Spells : List ℕ → A → Type 0) (Fault : List ℕ → Type 0)
@@ -86,15 +97,16 @@ pub record Split {A : Type 0} (Spells : List ℕ → A → Type 0) (Fault : List
   pub ends : (rest ≡ []) ⊎ Fault rest
 
 one_more : {A : Type 0} (Spells : List ℕ → A → Type 0) (Fault : List ℕ → Type 0) (bytes : List ℕ)
-    (first : BeginsWith Spells bytes) → Split Spells Fault first.rest → Split Spells Fault bytes
+    (first : BeginsWith Spells bytes) → Split Spells Fault (drop first.len bytes) → Split Spells Fault bytes
 one_more Spells Fault bytes first others = record {
   items = first.item ∷ others.items;
   rest = others.rest;
   split = record {
-    front = first.front ++ others.split.front;
-    parts = first.parts ∙ ap (λ (rest : List ℕ). first.front ++ rest) others.split.parts
-        ∙ sym (append_assoc first.front others.split.front others.rest);
-    listed = (first.front, others.split.front, refl, first.spelled, others.split.listed);
+    front = take first.len bytes ++ others.split.front;
+    parts = sym (take-append-drop first.len bytes)
+        ∙ ap (λ (rest : List ℕ). take first.len bytes ++ rest) others.split.parts
+        ∙ sym (append_assoc (take first.len bytes) others.split.front others.rest);
+    listed = (take first.len bytes, others.split.front, refl, first.at.spelled, others.split.listed);
     ends = others.split.ends;
   };
   ends = others.ends;
@@ -110,11 +122,11 @@ split_within Spells Fault some none front zero (byte ∷ bytes) short = absurd (
 split_within Spells Fault some none front (suc fuel) (byte ∷ bytes) short =
     elim (front (byte ∷ bytes) (omega arith)) [
       | inl first ↦ one_more Spells Fault (byte ∷ bytes) first
-          (split_within Spells Fault some none front fuel first.rest (omega (
+          (split_within Spells Fault some none front fuel (drop first.len (byte ∷ bytes)) (omega (
             arith,
-            ap length first.parts,
-            length-append first.front first.rest,
-            some first.front first.item first.spelled,
+            length-drop first.len (byte ∷ bytes),
+            length-take-le first.len (byte ∷ bytes) first.at.within,
+            some (take first.len (byte ∷ bytes)) first.item first.at.spelled,
           )))
       | inr wrong ↦ record {
         items = [];

@@ -1,14 +1,14 @@
 -- Laws of varints as lists of bytes.
 use Rattle.std.proofs.Common.{◌≡◌, ℕ, suc, ◌+◌, ◌*◌, ◌%◌, ◌^◌, ◌<◌, ◌≤◌, List, [], ◌∷◌, ◌++◌, length, take, drop}
-use Rattle.std.proofs.Common.{get_or, refl, sym, ap, ◌∙◌, arith, length-append, bit_and, lit<, subst, ◌⊎◌, inl, inr}
+use Rattle.std.proofs.Common.{get_or, refl, sym, ap, ◌∙◌, arith, length-append, bit_and, lit<, subst}
 use Rattle.std.proofs.Math.Nat.{pow-le-pow_right}
 use Rattle.std.proofs.lemmas.Nat.{pow-add, and_mask, shl_whole, mul-add-lt}
 use Rattle.std.proofs.lemmas.List.{length-take-le, take_more, drop_more, take-append-drop, drop_all}
-use Rattle.std.proofs.lemmas.Bool.{cases_lt}
 use Rattle.pprof_wire.specs.declared.faults.WireFault.{WireFault}
-use Rattle.pprof_wire.specs.declared.faults.WireFault.TheVariants.{Truncated, LongVarint, FieldNumber, Group, WireType}
+use Rattle.pprof_wire.specs.declared.faults.WireFault.TheVariants.{Truncated, LongVarint}
 use Rattle.pprof_wire.specs.Varints.{IsGroups, number_of, IsVarint, AllContinue, IsCutVarint, IsLongVarint}
 use Rattle.pprof_wire.specs.Varints.{IsVarintFault}
+use Rattle.pprof_wire.specs.SpelledLists.{BeginsWithNone, IsAtFront}
 
 -- ---- one more byte at the end
 
@@ -77,6 +77,13 @@ group-fits number byte count small below =
     rw (masked-shifted byte count small)
     (omega (arith, next-below number byte count below, nine-fit (count + 1) (omega arith)))
 
+-- the bytes so far each say that another follows, and the number is theirs
+pub record IsReadSoFar (bytes : List ℕ) (count number : ℕ) : Type 0 where
+  pub within : count ≤ length bytes
+  pub continued : AllContinue (take count bytes)
+  pub value : number ≡ number_of (take count bytes)
+  pub below : number < 2 ^ (7 * count)
+
 -- the number of one more byte
 more_value : (bytes : List ℕ) (count number : ℕ)
     → count < 9 → count < length bytes → number ≡ number_of (take count bytes)
@@ -92,52 +99,63 @@ more_value bytes count number small within value =
     ) refl
 
 -- the last byte of a spelling
-pub more_spelled : (bytes : List ℕ) (count number : ℕ)
-    → count < 9 → count < length bytes → AllContinue (take count bytes) → number ≡ number_of (take count bytes)
-    → get_or bytes count 0 < 128
-    → IsVarint (take (count + 1) bytes) (number + bit_and (get_or bytes count 0) 127 * 2 ^ (7 * count) % 2 ^ 64)
-more_spelled bytes count number small within continued value last =
-    let len : length (take (count + 1) bytes) ≡ count + 1 = length-take-le (count + 1) bytes (omega arith) in
-    let is = more_value bytes count number small within value in
-    record {
-      groups =
-          rw (take_more bytes count 0 within) (IsGroups-snoc (take count bytes) (get_or bytes count 0) continued last);
-      short = omega arith;
-      value = is;
-      fits = rw is (fits-nine (take (count + 1) bytes) (omega arith));
-    }
+pub last_byte : (bytes : List ℕ) (count : ℕ) → count ≤ 9 → count < length bytes → AllContinue (take count bytes)
+    → get_or bytes count 0 < 128 → number_of (take (count + 1) bytes) < 2 ^ 64
+    → IsAtFront IsVarint bytes (count + 1) (number_of (take (count + 1) bytes))
+last_byte bytes count most within continued last fits = record {
+  within = omega arith;
+  spelled = record {
+    groups = rw (take_more bytes count 0 within) (IsGroups-snoc (take count bytes) (get_or bytes count 0) continued last);
+    short = omega (arith, length-take-le (count + 1) bytes (omega arith));
+    value = refl;
+    fits = fits;
+  };
+}
+
+pub last_of_few : (bytes : List ℕ) (count : ℕ) → count < 9 → count < length bytes → AllContinue (take count bytes)
+    → get_or bytes count 0 < 128 → IsAtFront IsVarint bytes (count + 1) (number_of (take (count + 1) bytes))
+last_of_few bytes count small within continued last =
+    last_byte bytes count (omega arith) within continued last
+    (fits-nine (take (count + 1) bytes) (omega (arith, length-take-le (count + 1) bytes (omega arith))))
+
+pub more_spelled : (bytes : List ℕ) (count number : ℕ) → count < 9 → count < length bytes
+    → IsReadSoFar bytes count number → get_or bytes count 0 < 128
+    → IsAtFront IsVarint bytes (count + 1) (number + bit_and (get_or bytes count 0) 127 * 2 ^ (7 * count) % 2 ^ 64)
+more_spelled bytes count number small within read last =
+    rw (more_value bytes count number small within read.value) (last_of_few bytes count small within read.continued last)
 
 -- a byte of a spelling that isn't the last
-pub more_read : (bytes : List ℕ) (count number : ℕ)
-    → count < 9 → count < length bytes → AllContinue (take count bytes) → number ≡ number_of (take count bytes)
-    → 128 ≤ get_or bytes count 0
-    → AllContinue (take (count + 1) bytes)
-    × (number + bit_and (get_or bytes count 0) 127 * 2 ^ (7 * count) % 2 ^ 64 ≡ number_of (take (count + 1) bytes))
-    × (number + bit_and (get_or bytes count 0) 127 * 2 ^ (7 * count) % 2 ^ 64 < 2 ^ (7 * (count + 1)))
-more_read bytes count number small within continued value large =
+pub more_continue : (bytes : List ℕ) (count : ℕ) → count < length bytes → AllContinue (take count bytes)
+    → 128 ≤ get_or bytes count 0 → AllContinue (take (count + 1) bytes)
+more_continue bytes count within continued large =
+    rw (take_more bytes count 0 within) (AllContinue-snoc (take count bytes) (get_or bytes count 0) continued large)
+
+pub more_read : (bytes : List ℕ) (count number : ℕ) → count < 9 → count < length bytes
+    → IsReadSoFar bytes count number → 128 ≤ get_or bytes count 0
+    → IsReadSoFar bytes (count + 1) (number + bit_and (get_or bytes count 0) 127 * 2 ^ (7 * count) % 2 ^ 64)
+more_read bytes count number small within read large =
     let len : length (take (count + 1) bytes) ≡ count + 1 = length-take-le (count + 1) bytes (omega arith) in
-    let is = more_value bytes count number small within value in (
-      rw (take_more bytes count 0 within) (AllContinue-snoc (take count bytes) (get_or bytes count 0) continued large),
-      is,
-      rw is (subst
-          (λ (n : ℕ). number_of (take (count + 1) bytes) < 2 ^ (7 * n)) len (number_of-below (take (count + 1) bytes))),
-    )
+    let is = more_value bytes count number small within read.value in
+    record {
+      within = omega arith;
+      continued = more_continue bytes count within read.continued large;
+      value = is;
+      below = rw is (subst
+          (λ (n : ℕ). number_of (take (count + 1) bytes) < 2 ^ (7 * n)) len (number_of-below (take (count + 1) bytes)));
+    }
 
 -- nine bytes that say that another follows, before a tenth
-pub is_long : (bytes : List ℕ) (count : ℕ) → count ≤ 9
-    → 9 ≤ count → 9 < length bytes → AllContinue (take count bytes) → 1 < get_or bytes 9 0 → IsLongVarint bytes
-is_long bytes count most least within continued large =
-    let nine : count ≡ 9 = omega arith in
-    record {
-      front = take 9 bytes;
-      tenth = get_or bytes 9 0;
-      rest = drop 10 bytes;
-      parts = sym (take-append-drop 9 bytes)
-          ∙ ap (λ (rest : List ℕ). take 9 bytes ++ rest) (drop_more bytes 9 0 within);
-      nine = length-take-le 9 bytes (omega arith);
-      continued = subst (λ (n : ℕ). AllContinue (take n bytes)) nine continued;
-      large = large;
-    }
+pub is_long : (bytes : List ℕ) → 9 < length bytes → AllContinue (take 9 bytes) → 1 < get_or bytes 9 0
+    → IsLongVarint bytes
+is_long bytes within continued large = record {
+  front = take 9 bytes;
+  tenth = get_or bytes 9 0;
+  rest = drop 10 bytes;
+  parts = sym (take-append-drop 9 bytes) ∙ ap (λ (rest : List ℕ). take 9 bytes ++ rest) (drop_more bytes 9 0 within);
+  nine = length-take-le 9 bytes (omega arith);
+  continued = continued;
+  large = large;
+}
 
 -- ---- no spelling begins another
 
@@ -185,98 +203,50 @@ only-one-more : (front more : List ℕ) (byte : ℕ) → length front ≡ 9 → 
 only-one-more front [] byte nine short = refl
 only-one-more front (m ∷ more) byte nine short = absurd (omega (arith, length-append front (byte ∷ m ∷ more)))
 
-large-tenth : (front : List ℕ) (byte : ℕ)
-    → length front ≡ 9 → byte < 128 → 1 < byte → number_of (front ++ byte ∷ []) < 2 ^ 64 → ⊥
-large-tenth front byte nine small large fits =
-    let value : number_of (front ++ byte ∷ []) ≡ number_of front + byte % 128 * 2 ^ 63 = number_of-snoc front byte
-    ∙ ap (λ (n : ℕ). number_of front + byte % 128 * 2 ^ (7 * n)) nine in
-    let same : byte % 128 ≡ byte = omega arith in
-    omega (arith, value, same)
-
 last-small : (front : List ℕ) (byte : ℕ) → IsGroups (front ++ byte ∷ []) → byte < 128
 last-small [] byte groups = groups
 last-small (f ∷ []) byte groups = groups.1
 last-small (f ∷ g ∷ front) byte groups = last-small (g ∷ front) byte groups.1
 
-varint_not_long : (a rest : List ℕ) (number : ℕ) → IsVarint a number → IsLongVarint (a ++ rest) → ⊥
-varint_not_long a rest number spelled long =
-    let past = groups_past long.front a rest long.tenth long.rest long.continued spelled.groups long.parts in
+-- the tenth byte of a spelling is 0 or 1
+pub tenth-small : (front : List ℕ) (tenth number : ℕ)
+    → length front ≡ 9 → IsVarint (front ++ tenth ∷ []) number → tenth ≤ 1
+tenth-small front tenth number nine spelled =
+    let small = last-small front tenth spelled.groups in
+    let value : number_of (front ++ tenth ∷ []) ≡ number_of front + tenth % 128 * 2 ^ 63 = number_of-snoc front tenth
+    ∙ ap (λ (n : ℕ). number_of front + tenth % 128 * 2 ^ (7 * n)) nine in
+    omega (arith, value, small, spelled.value, spelled.fits)
+
+pub fault_without_number : (fault : WireFault) (bytes : List ℕ) → IsVarintFault fault bytes
+    → BeginsWithNone IsVarint bytes
+fault_without_number Truncated bytes cut a rest number same spelled =
+    groups_end a rest spelled.groups (subst AllContinue same cut.continued)
+fault_without_number LongVarint bytes long a rest number same spelled =
+    let past = groups_past
+    long.front a rest long.tenth long.rest long.continued spelled.groups (sym same ∙ long.parts) in
     let len : length (long.front ++ long.tenth ∷ past.0) ≤ 10 =
     subst (λ (bytes : List ℕ). length bytes ≤ 10) past.1 spelled.short in
     let whole : a ≡ long.front ++ long.tenth ∷ [] = past.1 ∙ ap (λ (more : List ℕ). long.front ++ long.tenth ∷ more)
     (only-one-more long.front past.0 long.tenth long.nine len) in
-    let groups : IsGroups (long.front ++ long.tenth ∷ []) = subst IsGroups whole spelled.groups in
-    let fits : number_of (long.front ++ long.tenth ∷ []) < 2 ^ 64 = subst (λ (bytes : List ℕ). number_of bytes < 2 ^ 64)
-    whole (subst (λ (n : ℕ). n < 2 ^ 64) spelled.value spelled.fits) in
-    large-tenth long.front long.tenth long.nine (last-small long.front long.tenth groups) long.large fits
-
-pub varint_no_fault : (fault : WireFault) (a rest : List ℕ) (number : ℕ)
-    → IsVarint a number → IsVarintFault fault (a ++ rest) → ⊥
-varint_no_fault Truncated a rest number spelled faulty = groups_end a rest spelled.groups faulty.continued
-varint_no_fault LongVarint a rest number spelled faulty = varint_not_long a rest number spelled faulty
-varint_no_fault FieldNumber a rest number spelled faulty = faulty
-varint_no_fault Group a rest number spelled faulty = faulty
-varint_no_fault WireType a rest number spelled faulty = faulty
+    absurd (omega (
+      arith,
+      tenth-small long.front long.tenth number long.nine (subst (λ bytes. IsVarint bytes number) whole spelled),
+      long.large,
+    ))
+fault_without_number fault bytes faulty a rest number same spelled = absurd faulty
 
 pub cut_not_long : (bytes : List ℕ) → IsCutVarint bytes → IsLongVarint bytes → ⊥
 cut_not_long bytes cut long =
     omega (arith, cut.short, ap length long.parts, length-append long.front (long.tenth ∷ long.rest), long.nine)
 
 pub varint_fault_once : (f g : WireFault) (bytes : List ℕ) → IsVarintFault f bytes → IsVarintFault g bytes → f ≡ g
-varint_fault_once Truncated Truncated bytes left right = refl
 varint_fault_once Truncated LongVarint bytes left right = absurd (cut_not_long bytes left right)
 varint_fault_once LongVarint Truncated bytes left right = absurd (cut_not_long bytes right left)
+varint_fault_once Truncated Truncated bytes left right = refl
 varint_fault_once LongVarint LongVarint bytes left right = refl
-varint_fault_once FieldNumber g bytes left right = absurd left
-varint_fault_once Group g bytes left right = absurd left
-varint_fault_once WireType g bytes left right = absurd left
-varint_fault_once Truncated FieldNumber bytes left right = absurd right
-varint_fault_once Truncated Group bytes left right = absurd right
-varint_fault_once Truncated WireType bytes left right = absurd right
-varint_fault_once LongVarint FieldNumber bytes left right = absurd right
-varint_fault_once LongVarint Group bytes left right = absurd right
-varint_fault_once LongVarint WireType bytes left right = absurd right
-
--- ---- what was read is what stands there
-
-pub varint_read_once : (bytes spelling rest : List ℕ) (read number len : ℕ)
-    → IsVarint (take len bytes) read → len ≤ length bytes
-    → bytes ≡ spelling ++ rest → IsVarint spelling number → (read ≡ number) × (len ≡ length spelling)
-varint_read_once bytes spelling rest read number len found within same spelled =
-    let once = varint_once
-    (take len bytes) spelling (drop len bytes) rest read number found spelled (take-append-drop len bytes ∙ same) in
-    (once.2, sym (length-take-le len bytes within) ∙ ap length once.0)
-
-pub varint_read_no_fault : (fault : WireFault) (bytes : List ℕ) (read len : ℕ)
-    → IsVarint (take len bytes) read → IsVarintFault fault bytes → ⊥
-varint_read_no_fault fault bytes read len found faulty =
-    varint_no_fault fault (take len bytes)
-    (drop len bytes) read found (subst (IsVarintFault fault) (sym (take-append-drop len bytes)) faulty)
-
-pub varint_fault_stands : (fault : WireFault) (bytes spelling rest : List ℕ) (number : ℕ)
-    → IsVarintFault fault bytes → bytes ≡ spelling ++ rest → IsVarint spelling number → ⊥
-varint_fault_stands fault bytes spelling rest number faulty same spelled =
-    varint_no_fault fault spelling rest number spelled (subst (IsVarintFault fault) same faulty)
+varint_fault_once Truncated g bytes left right = absurd right
+varint_fault_once LongVarint g bytes left right = absurd right
+varint_fault_once f g bytes left right = absurd left
 
 pub past_end : (at : ℕ) (bytes : List ℕ) → length bytes ≤ at → IsVarintFault Truncated (drop at bytes)
 past_end at bytes past = rw (drop_all at bytes past) (record { continued = tt; short = lit< tt })
-
-pub varint_rest_once : (bytes spelling rest after : List ℕ) (len read number : ℕ)
-    → IsVarint (take len bytes) read → after ≡ drop len bytes
-    → bytes ≡ spelling ++ rest → IsVarint spelling number → (read ≡ number) × (after ≡ rest)
-varint_rest_once bytes spelling rest after len read number found after-is same spelled =
-    let once = varint_once
-    (take len bytes) spelling (drop len bytes) rest read number found spelled (take-append-drop len bytes ∙ same) in
-    (once.2, after-is ∙ once.1)
-
-tenth-cases : (front : List ℕ) (tenth : ℕ)
-    → length front ≡ 9 → tenth < 128 → number_of (front ++ tenth ∷ []) < 2 ^ 64 → (1 < tenth) ⊎ (tenth ≤ 1) → tenth ≤ 1
-tenth-cases front tenth nine small fits (inl large) = absurd (large-tenth front tenth nine small large fits)
-tenth-cases front tenth nine small fits (inr done) = done
-
--- the tenth byte of a spelling is 0 or 1
-pub tenth-small : (front : List ℕ) (tenth number : ℕ)
-    → length front ≡ 9 → IsVarint (front ++ tenth ∷ []) number → tenth ≤ 1
-tenth-small front tenth number nine spelled =
-    tenth-cases front tenth nine (last-small front tenth spelled.groups)
-    (subst (λ (n : ℕ). n < 2 ^ 64) spelled.value spelled.fits) (cases_lt 1 tenth)

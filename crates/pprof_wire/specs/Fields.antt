@@ -1,8 +1,8 @@
 -- Fields, by the Protocol Buffers encoding page, "Message Structure".
-use Rattle.std.specs.Prelude.{◌≡◌, ℕ, ◌+◌, ◌*◌, ◌^◌, ◌<◌, ◌≤◌, ◌⊎◌, List, ◌++◌, length, Option, None, Some}
-use Rattle.std.specs.Prelude.{Result, Ok, Err}
+use Rattle.std.specs.Prelude.{◌≡◌, ℕ, ◌+◌, ◌*◌, ◌^◌, ◌<◌, ◌≤◌, ◌⊎◌, List, [], ◌++◌, length, take, Option, None, Some}
+use Rattle.std.specs.Prelude.{◌↔◌, Result, Ok, Err, IsNone, IfNone, IfSome, IfOk, IfErr, OnOk}
 use Rattle.std.specs.Int.{w32, w64, from_le_bytes, to_le_bytes}
-use Rattle.pprof_wire.specs.SpelledLists.{AreSpelled, SplitsInto}
+use Rattle.pprof_wire.specs.SpelledLists.{AreSpelled, IsAtFront, SplitsInto}
 use Rattle.pprof_wire.specs.Windows.{Window, IsAfter}
 use Rattle.pprof_wire.specs.declared.faults.WireFault.{WireFault}
 use Rattle.pprof_wire.specs.declared.faults.WireFault.TheVariants.{Truncated, LongVarint, FieldNumber, Group, WireType}
@@ -150,6 +150,35 @@ pub record IsNextField (old : Window) (field : Field) (new : Window) : Type 0 wh
   pub after : IsAfter old spelling new
   pub spelled : IsFieldSpelling spelling (field_of field)
   pub lent : EndsAt field.value new.pointer
+
+-- What a call for the next field gives: nothing at the end, else the field at the front, which is passed, or why none
+-- stands there.
+pub record IsFieldRead (old : Window) (next : Option (Result Field WireFault)) (new : Window) : Type 0 where
+  pub end : IsNone next ↔ (old.bytes ≡ [])
+  pub stays : IfNone next (new ≡ old)
+  pub field : IfSome next (λ read. IfOk read (λ field. IsNextField old field new))
+  pub fault : IfSome next (λ read. IfErr read (λ fault. (new ≡ old) × IsRestFault fault old.bytes))
+  pub shorter : IfSome next (λ read. OnOk read (length new.bytes < length old.bytes))
+
+-- A value of the wire type stands at the front of the window, in so many bytes, and what it lends ends there.
+pub record IsValueAtFront (window : Window) (wire_type : ℕ) (value : Value) (len : ℕ) : Type 0 where
+  pub within : len ≤ length window.bytes
+  pub typed : wire_type ≡ wire_type_of (value_of value)
+  pub spelled : IsValueSpelling (take len window.bytes) (value_of value)
+  pub lent : EndsAt value (window.pointer.0, window.pointer.1 + len)
+
+-- What is read after a tag: a value and how many bytes it takes, or why none of the wire type stands there.
+abbrev pub IsValueRead : Window → ℕ → Result (Value × ℕ) WireFault → Type 0
+IsValueRead window wire_type (Ok found) = IsValueAtFront window wire_type found.0 found.1
+IsValueRead window wire_type (Err fault) =
+    (number : ℕ) → IsFieldNumber number → IsTagFault fault number wire_type window.bytes
+
+-- What is read at the front of the window: a field and how many bytes it takes, or why none stands there.
+abbrev pub IsFieldAtFront : Window → Result (Field × ℕ) WireFault → Type 0
+IsFieldAtFront window (Ok found) =
+    IsAtFront IsFieldSpelling window.bytes found.1 (field_of found.0) × (0 < found.1)
+    × EndsAt found.0.value (window.pointer.0, window.pointer.1 + found.1)
+IsFieldAtFront window (Err fault) = IsFrontFault fault window.bytes
 
 -- ---- the shortest spelling
 

@@ -1,5 +1,10 @@
 -- Lists of bytes that spell things one after the other: numbers, or fields.
-use Rattle.std.specs.Prelude.{◌≡◌, ℕ, List, [], ◌∷◌, ◌++◌}
+use Rattle.std.specs.Prelude.{◌≡◌, ◌≤◌, ℕ, List, [], ◌∷◌, ◌++◌, take, length}
+
+-- The item is spelled at the front, in so many bytes.
+pub record IsAtFront {A : Type 0} (Spells : List ℕ → A → Type 0) (bytes : List ℕ) (len : ℕ) (item : A) : Type 0 where
+  pub within : len ≤ length bytes
+  pub spelled : Spells (take len bytes) item
 
 -- The bytes are the spellings of the items, one after the other.
 abbrev pub AreSpelled : {A : Type 0} → (List ℕ → A → Type 0) → List ℕ → List A → Type 0

@@ -1,8 +1,8 @@
 -- Varints, by the Protocol Buffers encoding page, "Base 128 Varints".
 use Rattle.std.specs.Prelude.{◌≡◌, ℕ, zero, suc, ◌+◌, ◌*◌, ◌/◌, ◌%◌, ◌^◌, nat_lt, if◌then◌else◌, ◌<◌, ◌≤◌, List, []}
-use Rattle.std.specs.Prelude.{◌∷◌, ◌++◌, length}
+use Rattle.std.specs.Prelude.{◌∷◌, ◌++◌, length, ◌↔◌, Option, Result, Ok, Err, IsNone, IfNone, IfSome, IfOk, IfErr, OnOk}
 use Rattle.std.specs.List.{AllByRecursion}
-use Rattle.pprof_wire.specs.SpelledLists.{AreSpelled, SplitsInto}
+use Rattle.pprof_wire.specs.SpelledLists.{AreSpelled, IsAtFront, SplitsInto}
 use Rattle.pprof_wire.specs.declared.faults.WireFault.{WireFault}
 use Rattle.pprof_wire.specs.declared.faults.WireFault.TheVariants.{Truncated, LongVarint, FieldNumber, Group, WireType}
 
@@ -52,7 +52,21 @@ IsVarintFault FieldNumber bytes = ⊥
 IsVarintFault Group bytes = ⊥
 IsVarintFault WireType bytes = ⊥
 
+-- What is read at the front: a number and how many bytes spell it, or why none stands there.
+abbrev pub IsVarintRead : List ℕ → Result (ℕ × ℕ) WireFault → Type 0
+IsVarintRead bytes (Ok found) = IsAtFront IsVarint bytes found.1 found.0
+IsVarintRead bytes (Err fault) = IsVarintFault fault bytes
+
 -- ---- the numbers of a packed field
+
+-- What a call for the next number gives: nothing at the end, else the number at the front, which is passed, or why
+-- none stands there.
+pub record IsNextNumber (old : List ℕ) (next : Option (Result ℕ WireFault)) (new : List ℕ) : Type 0 where
+  pub end : IsNone next ↔ (old ≡ [])
+  pub stays : IfNone next (new ≡ old)
+  pub number : IfSome next (λ read. IfOk read (λ number. (spelling : List ℕ) × (old ≡ spelling ++ new) × IsVarint spelling number))
+  pub fault : IfSome next (λ read. IfErr read (λ fault. (new ≡ old) × IsVarintFault fault old))
+  pub shorter : IfSome next (λ read. OnOk read (length new < length old))
 
 -- The bytes are the spellings of the numbers, one after the other.
 abbrev pub IsNumberList : List ℕ → List ℕ → Type 0

@@ -1,7 +1,7 @@
 //! The fields of a message, one after the other.
 
-ghost use Rattle.std.specs.Prelude.{◌≡◌, ℕ, List, [], ◌+◌, ◌/◌, ◌^◌, ◌<◌, ◌≤◌, ◌⊎◌, ◌↔◌, ◌++◌, take, length, IsNone, IfNone, IfSome, IfOk, IfErr, OnOk};
-ghost use Rattle.pprof_wire.specs.Fields.{PlainField, field_of, IsField, IsFieldNumber, IsFieldSpelling, IsFrontFault, IsRestFault, EndsAt, IsNextField};
+ghost use Rattle.std.specs.Prelude.{◌≡◌, ℕ, List, ◌/◌, ◌^◌, ◌≤◌, ◌⊎◌, ◌++◌, IfOk, IfErr};
+ghost use Rattle.pprof_wire.specs.Fields.{PlainField, IsField, IsFieldNumber, IsFieldSpelling, IsRestFault, IsFieldRead, IsFieldAtFront};
 
 use crate::faults::WireFault;
 use crate::parts::bytes_from;
@@ -29,8 +29,7 @@ impl<'a> Model for Fields<'a> {
 impl<'a> Fields<'a> {
     /// The fields of these bytes.
     pub fn new(bytes: &'a [u8]) -> Fields<'a>
-        ensures bytes { result.bytes ≡ bytes.now }
-        ensures pointer { result.pointer ≡ bytes.entry.ref_ptr }
+        ensures { result ≡ record { bytes = bytes.now; pointer = bytes.entry.ref_ptr } }
     {
         Fields { rest: bytes }
     }
@@ -43,12 +42,7 @@ impl<'a> Fields<'a> {
     /// is `Truncated`.
     #[inline(always)]
     pub fn next_field(&mut self) -> Option<Result<Field<'a>, WireFault>>
-        ensures end { IsNone result ↔ (self.old.bytes ≡ []) }
-        ensures stays { IfNone result (self.new ≡ self.old) }
-        ensures field { IfSome result (λ read. IfOk read (λ field. IsNextField self.old field self.new)) }
-        ensures fault { IfSome result (λ read. IfErr read (λ fault.
-            (self.new ≡ self.old) × IsRestFault fault self.old.bytes)) }
-        ensures shorter { IfSome result (λ read. OnOk read (length self.new.bytes < length self.old.bytes)) }
+        ensures read { IsFieldRead self.old result self.new }
         ensures every_field { (spelling rest : List ℕ) → (field : PlainField)
             → self.old.bytes ≡ spelling ++ rest → IsFieldSpelling spelling field
             → IsField result field × (self.new.bytes ≡ rest) }
@@ -83,11 +77,7 @@ fn field_number(tag: u64) -> Result<u32, WireFault>
 /// The field at the front, and how many bytes it takes.
 #[inline(always)]
 fn first_field(bytes: &[u8]) -> Result<(Field<'_>, usize), WireFault>
-    ensures spelled { IfOk result (λ found. IsFieldSpelling (take found.1 bytes.now) (field_of found.0)) }
-    ensures within { IfOk result (λ found. (0 < found.1) × (found.1 ≤ length bytes.now)) }
-    ensures pointer { IfOk result (λ found.
-        EndsAt found.0.value (bytes.entry.ref_ptr.0, bytes.entry.ref_ptr.1 + found.1)) }
-    ensures fault { IfErr result (λ fault. IsFrontFault fault bytes.now) }
+    ensures { IsFieldAtFront (record { bytes = bytes.now; pointer = bytes.entry.ref_ptr }) result }
 {
     let (tag, tag_len) = first_varint(bytes)?;
     let number = field_number(tag)?;

@@ -1,4 +1,5 @@
 //! Laws of the wire format. Each function does nothing: what it ensures is the law.
+#![tactic(auto, using(crate::proofs::Steps::laws))]
 
 ghost use Rattle.std.specs.Prelude.{◌≡◌, ℕ, List, [], ◌∷◌, ◌+◌, ◌^◌, ◌<◌, ◌≤◌, ◌⊎◌, ◌++◌, length};
 ghost use Rattle.pprof_wire.specs.declared.faults.WireFault.{WireFault};

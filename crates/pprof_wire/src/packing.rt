@@ -1,7 +1,7 @@
 //! Packed numbers, one after the other.
 
-ghost use Rattle.std.specs.Prelude.{◌≡◌, ℕ, List, [], ◌<◌, ◌↔◌, ◌++◌, length, IsNone, IfNone, IfSome, IfOk, IfErr, OnOk};
-ghost use Rattle.pprof_wire.specs.Varints.{IsVarint, IsVarintFault};
+ghost use Rattle.std.specs.Prelude.{◌≡◌, ℕ, List, ◌<◌, ◌++◌, length};
+ghost use Rattle.pprof_wire.specs.Varints.{IsVarint, IsVarintFault, IsNextNumber};
 
 use crate::faults::WireFault;
 use crate::parts::bytes_from;
@@ -36,13 +36,7 @@ impl<'a> Packed<'a> {
     /// `Truncated` or `LongVarint` as `read_varint` has it, and each further call answers the same.
     #[inline(always)]
     pub fn next_value(&mut self) -> Option<Result<u64, WireFault>>
-        ensures end { IsNone result ↔ (self.old ≡ []) }
-        ensures stays { IfNone result (self.new ≡ self.old) }
-        ensures number { IfSome result (λ read. IfOk read (λ number.
-            (spelling : List ℕ) × (self.old ≡ spelling ++ self.new) × IsVarint spelling number)) }
-        ensures fault { IfSome result (λ read. IfErr read (λ fault.
-            (self.new ≡ self.old) × IsVarintFault fault self.old)) }
-        ensures shorter { IfSome result (λ read. OnOk read (length self.new < length self.old)) }
+        ensures read { IsNextNumber self.old result self.new }
         ensures every_number { (spelling rest : List ℕ) → (number : ℕ)
             → self.old ≡ spelling ++ rest → IsVarint spelling number
             → (result ≡ Some (Ok number)) × (self.new ≡ rest) }

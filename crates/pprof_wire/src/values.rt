@@ -1,9 +1,8 @@
 //! A field and its value, by the wire type.
 
-ghost use Rattle.std.specs.Prelude.{◌≡◌, ℕ, ◌+◌, ◌<◌, ◌≤◌, ◌⊎◌, take, length, IfOk, IfErr};
+ghost use Rattle.std.specs.Prelude.{◌≡◌, ◌<◌, ◌≤◌, take, length, IfOk, IfErr};
 ghost use Rattle.std.specs.Int.{w32, w64, from_le_bytes};
-ghost use Rattle.pprof_wire.specs.Varints.{IsVarintFault};
-ghost use Rattle.pprof_wire.specs.Fields.{value_of, wire_type_of, IsFieldNumber, IsDelimited, IsCutDelimited, IsValueSpelling, IsTagFault, EndsAt};
+ghost use Rattle.pprof_wire.specs.Fields.{IsValueRead};
 
 use crate::faults::WireFault;
 use crate::parts::{bytes_from, first_bytes};
@@ -30,15 +29,9 @@ pub struct Field<'a> {
     pub value: Value<'a>,
 }
 
-/// The length and the bytes at the front, and how many bytes they take.
-fn first_delimited(bytes: &[u8]) -> Result<(&[u8], usize), WireFault>
-    ensures spelled { IfOk result (λ found. IsDelimited (take found.1 bytes.now) found.0.now) }
-    ensures within { IfOk result (λ found. found.1 ≤ length bytes.now) }
-    ensures pointer { IfOk result (λ found.
-        (found.0.ref_ptr.0 ≡ bytes.entry.ref_ptr.0)
-        × (found.0.ref_ptr.1 + length found.0.now ≡ bytes.entry.ref_ptr.1 + found.1)) }
-    ensures fault { IfErr result (λ fault.
-        IsVarintFault fault bytes.now ⊎ ((fault ≡ WireFault.Truncated) × IsCutDelimited bytes.now)) }
+/// The bytes at the front, after their length, and how many bytes both take.
+fn first_delimited(bytes: &[u8]) -> Result<(Value<'_>, usize), WireFault>
+    ensures { IsValueRead (record { bytes = bytes.now; pointer = bytes.entry.ref_ptr }) 2 result }
 {
     let (count, prefix) = first_varint(bytes)?;
     let rest = bytes_from(bytes, prefix);
@@ -46,7 +39,7 @@ fn first_delimited(bytes: &[u8]) -> Result<(&[u8], usize), WireFault>
         return Err(WireFault::Truncated);
     }
     let content = first_bytes(rest, count as usize);
-    Ok((content, prefix + content.len()))
+    Ok((Value::Bytes(content), prefix + content.len()))
 }
 
 /// The eight bytes at the front, the least significant first.
@@ -76,13 +69,7 @@ fn first_fixed32(bytes: &[u8]) -> Result<u32, WireFault>
 /// The value of the wire type at the front, and how many bytes it takes.
 #[inline(always)]
 pub(crate) fn first_value(wire_type: u64, bytes: &[u8]) -> Result<(Value<'_>, usize), WireFault>
-    ensures typed { IfOk result (λ found. wire_type ≡ wire_type_of (value_of found.0)) }
-    ensures spelled { IfOk result (λ found. IsValueSpelling (take found.1 bytes.now) (value_of found.0)) }
-    ensures within { IfOk result (λ found. found.1 ≤ length bytes.now) }
-    ensures pointer { IfOk result (λ found.
-        EndsAt found.0 (bytes.entry.ref_ptr.0, bytes.entry.ref_ptr.1 + found.1)) }
-    ensures fault { IfErr result (λ fault. (number : ℕ)
-        → IsFieldNumber number → IsTagFault fault number wire_type bytes.now) }
+    ensures { IsValueRead (record { bytes = bytes.now; pointer = bytes.entry.ref_ptr }) wire_type result }
 {
     match wire_type {
         0 => {
@@ -90,10 +77,7 @@ pub(crate) fn first_value(wire_type: u64, bytes: &[u8]) -> Result<(Value<'_>, us
             Ok((Value::Varint(number), len))
         }
         1 => Ok((Value::Fixed64(first_fixed64(bytes)?), 8)),
-        2 => {
-            let (content, len) = first_delimited(bytes)?;
-            Ok((Value::Bytes(content), len))
-        }
+        2 => first_delimited(bytes),
         3 | 4 => Err(WireFault::Group),
         5 => Ok((Value::Fixed32(first_fixed32(bytes)?), 4)),
         _ => Err(WireFault::WireType),

@@ -1,7 +1,7 @@
 //! Varints that are read.
 
-ghost use Rattle.std.specs.Prelude.{◌≡◌, ℕ, List, ◌+◌, ◌<◌, ◌≤◌, ◌++◌, take, drop, length, slice_range, IfOk, IfErr};
-ghost use Rattle.pprof_wire.specs.Varints.{IsVarint, IsVarintFault};
+ghost use Rattle.std.specs.Prelude.{◌≡◌, ℕ, List, ◌+◌, ◌≤◌, ◌++◌, drop, length, slice_range, MatchResult};
+ghost use Rattle.pprof_wire.specs.Varints.{IsVarint, IsVarintFault, IsVarintRead};
 
 use crate::faults::WireFault;
 use crate::parts::bytes_from;
@@ -13,9 +13,9 @@ use crate::parts::bytes_from;
 /// `LongVarint` where ten bytes are there, the first nine say that another follows, and the tenth is
 /// neither 0 nor 1.
 pub fn read_varint(bytes: &[u8], at: usize) -> Result<(u64, usize), WireFault>
-    ensures spelled { IfOk result (λ found. IsVarint (slice_range bytes.now at found.1) found.0) }
-    ensures within { IfOk result (λ found. found.1 ≤ length bytes.now) }
-    ensures fault { IfErr result (λ fault. IsVarintFault fault (drop at bytes.now)) }
+    ensures read { MatchResult result
+        (λ found. IsVarint (slice_range bytes.now at found.1) found.0 × (found.1 ≤ length bytes.now))
+        (λ fault. IsVarintFault fault (drop at bytes.now)) }
     ensures every_spelling { (spelling rest : List ℕ) → (number : ℕ)
         → drop at bytes.now ≡ spelling ++ rest → IsVarint spelling number
         → result ≡ Ok (number, at + length spelling) }
@@ -31,9 +31,7 @@ pub fn read_varint(bytes: &[u8], at: usize) -> Result<(u64, usize), WireFault>
 /// The number that is spelled at the front, and the length of its spelling. Most are of three bytes at most.
 #[inline(always)]
 pub(crate) fn first_varint(bytes: &[u8]) -> Result<(u64, usize), WireFault>
-    ensures spelled { IfOk result (λ found. IsVarint (take found.1 bytes.now) found.0) }
-    ensures within { IfOk result (λ found. found.1 ≤ length bytes.now) }
-    ensures fault { IfErr result (λ fault. IsVarintFault fault bytes.now) }
+    ensures { IsVarintRead bytes.now result }
 {
     match bytes {
         [] => Err(WireFault::Truncated),
@@ -54,9 +52,7 @@ pub(crate) fn first_varint(bytes: &[u8]) -> Result<(u64, usize), WireFault>
 
 /// The same, byte by byte: nine bytes of seven bits, and a tenth for the last bit.
 fn long_varint(bytes: &[u8]) -> Result<(u64, usize), WireFault>
-    ensures spelled { IfOk result (λ found. IsVarint (take found.1 bytes.now) found.0) }
-    ensures within { IfOk result (λ found. found.1 ≤ length bytes.now) }
-    ensures fault { IfErr result (λ fault. IsVarintFault fault bytes.now) }
+    ensures { IsVarintRead bytes.now result }
 {
     let mut number = 0u64;
     for count in 0..9usize {

@@ -12,8 +12,8 @@ use basics::NoMemory;
 #[inline(always)]
 pub fn write_varint(out: &mut Vec<u8>, number: u64) -> Result<(), NoMemory>
     ensures ok { OnOk result (out.new.items ≡ out.old.items ++ varint_of number) }
-    ensures err { OnErr result (out.new.items ≡ out.old.items) }
-    ensures full { OnErr result (vec_capacity out.old < vec_len out.old + length (varint_of number)) }
+    ensures err { OnErr result ((out.new.items ≡ out.old.items)
+        × (vec_capacity out.old < vec_len out.old + length (varint_of number))) }
 {
     out.reserve(varint_len(number))?;
     push_varint(out, number);
@@ -56,9 +56,8 @@ fn push_varint(out: &mut Vec<u8>, number: u64)
 pub fn write_field(out: &mut Vec<u8>, number: u32, value: Value) -> Result<(), NoMemory>
     requires { IsFieldNumber number }
     ensures ok { OnOk result (out.new.items ≡ out.old.items ++ field_bytes_of (plain_field number value.entry)) }
-    ensures err { OnErr result (out.new.items ≡ out.old.items) }
-    ensures full { OnErr result (
-        vec_capacity out.old < vec_len out.old + length (field_bytes_of (plain_field number value.entry))) }
+    ensures err { OnErr result ((out.new.items ≡ out.old.items)
+        × (vec_capacity out.old < vec_len out.old + length (field_bytes_of (plain_field number value.entry)))) }
 {
     let tag = u64::from(number) << 3 | wire_type(value);
     let tag_len = varint_len(tag);

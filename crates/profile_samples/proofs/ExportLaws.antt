@@ -2,7 +2,7 @@
 use Rattle.std.proofs.lemmas.Grind.{common_steps}
 use Rattle.std.proofs.Common.{◌≡◌, ℕ, zero, suc, ◌<◌, ◌≤◌, Bool, true, false, ◌||◌, eqb, List, [], ◌∷◌}
 use Rattle.std.proofs.Common.{◌++◌, length, map, refl, sym, ap, ◌∙◌, subst, arith}
-use Rattle.std.specs.Prelude.{⊤, pos, Some, ◌==◌, reverse, slice_get, slice_index_or}
+use Rattle.std.specs.Prelude.{pos, Some, ◌==◌, reverse, slice_get, slice_index_or}
 use Rattle.std.specs.List.{All, AllByRecursion, IsDistinct, list_all, list_any, flat_map}
 use Rattle.std.specs.Str.{bytes_eq}
 use mathlib.Core.List.{map-map}
@@ -26,7 +26,7 @@ use Rattle.profile_rows.proofs.Cleaning.{cleaned-name}
 use Rattle.name_counts.proofs.NumberedRows.{none_single, single_with}
 use Rattle.profile_rows.proofs.SameNames.{same_from_is_same_name, is_same_name-self}
 use Rattle.profile_rows.proofs.Members.{list_any-map}
-use Rattle.name_counts.proofs.TextNumbers.{any_push, number_in-lt, text_of_number}
+use Rattle.name_counts.proofs.TextNumbers.{any_push, number_in-kept, number_in-lt, text_of_number}
 use Rattle.pprof_profile.specs.declared.messages.Function.{Function}
 use Rattle.pprof_profile.specs.declared.messages.Location.{Location}
 
@@ -36,8 +36,7 @@ stands_in texts text = list_any (bytes_eq text) texts
 
 -- each of some texts does
 abbrev pub AllStand : List (List ℕ) → List (List ℕ) → Type 0
-AllStand texts [] = ⊤
-AllStand texts (text ∷ more) = (stands_in texts text ≡ true) × AllStand texts more
+AllStand texts more = AllByRecursion (λ text. stands_in texts text ≡ true) more
 
 -- ---- texts that are added stand there, each once
 
@@ -66,15 +65,28 @@ with_texts-own texts (text ∷ more) q e =
       | false ↦ λ other r. with_texts-own (with_text texts text) more q r
     ] refl e
 
-pub stand_where : (sub full : List (List ℕ))
-    → ((q : List ℕ) → stands_in sub q ≡ true → stands_in full q ≡ true) → AllStand full sub
-stand_where [] full h = tt
-stand_where (text ∷ sub) full h = (
-  h text (or_left (bytes_eq text text) (stands_in sub text) (is_same_name-self text)),
-  stand_where sub full (λ q e. h q (or_right (bytes_eq q text) (stands_in sub q) e)),
+-- what is true of each text that stands among texts is true of each
+pub each_where : (P : List ℕ → Type 0) (texts : List (List ℕ))
+    → ((q : List ℕ) → stands_in texts q ≡ true → P q) → AllByRecursion P texts
+each_where P [] h = tt
+each_where P (text ∷ texts) h = (
+  h text (or_left (bytes_eq text text) (stands_in texts text) (is_same_name-self text)),
+  each_where P texts (λ q e. h q (or_right (bytes_eq q text) (stands_in texts q) e)),
 )
 
+pub stand_where : (sub full : List (List ℕ))
+    → ((q : List ℕ) → stands_in sub q ≡ true → stands_in full q ≡ true) → AllStand full sub
+stand_where sub full = each_where (λ q. stands_in full q ≡ true) sub
+
 -- ---- numbers of texts
+
+-- a text that is there keeps its number as more come
+pub number_in-withs : (front back : List (List ℕ)) (text : List ℕ)
+    → stands_in front text ≡ true → number_in (with_texts front back) text ≡ number_in front text
+number_in-withs front [] text there = refl
+number_in-withs front (next ∷ back) text there =
+    number_in-withs (with_text front next) back text (with_text-stands front next text there)
+    ∙ number_in-kept front next text there
 
 -- texts of one number are one text
 number_in-one : (texts : List (List ℕ)) (a b : List ℕ)

@@ -14,41 +14,29 @@ use Rattle.profile_rows.specs.Values.{Row, rows_at, single, singles}
 use Rattle.folded_text.specs.declared.folded.FoldedFault.{FoldedFault}
 use Rattle.folded_text.specs.declared.folded.FoldedFault.TheVariants.{NoMemory}
 use Rattle.folded_text.specs.FoldedText.{IsFoldedText, IsWorkFault}
-use Rattle.name_counts.specs.TextTables.{with_text, with_texts}
+use Rattle.name_counts.specs.TextTables.{with_texts}
 use Rattle.profile_samples.specs.Export.{AreSamplesOf, IsExportOfText, single_profile_of, exported_sample, id_in}
 use Rattle.profile_samples.specs.Export.{names_of}
-use Rattle.profile_samples.proofs.ExportLaws.{AllStand, frames_in, stand_parts, stand_where, with_text-stands}
+use Rattle.profile_samples.proofs.ExportLaws.{AllStand, frames_in, number_in-withs, stand_parts, stand_where}
 use Rattle.profile_samples.proofs.ExportLaws.{with_texts-own}
 use Rattle.folded_text.proofs.Reading.{IsFirstFault-folded, IsFoldedText-same}
-use Rattle.name_counts.proofs.TextNumbers.{number_in-kept, with_texts-append}
+use Rattle.name_counts.proofs.TextNumbers.{with_texts-append}
 
-ids_kept : (texts : List (List ℕ)) (text : List ℕ) (stack : List (List ℕ))
-    → AllStand texts stack → map (id_in (with_text texts text)) stack ≡ map (id_in texts) stack
-ids_kept texts text [] all = refl
-ids_kept texts text (name ∷ stack) all = grind (arith, common_steps, number_in-kept, ids_kept texts text stack all.1)
+ids_kept : (texts more stack : List (List ℕ))
+    → AllStand texts stack → map (id_in (with_texts texts more)) stack ≡ map (id_in texts) stack
+ids_kept texts more [] all = refl
+ids_kept texts more (name ∷ stack) all =
+    rw (number_in-withs texts more name all.0, ids_kept texts more stack all.1) refl
 
 -- ---- the samples of rows
-
-stack_stays : (texts : List (List ℕ)) (text : List ℕ) (stack : List (List ℕ))
-    → AllStand texts stack → AllStand (with_text texts text) stack
-stack_stays texts text [] all = tt
-stack_stays texts text (name ∷ stack) all = (with_text-stands texts text name all.0, stack_stays texts text stack all.1)
-
-samples_kept-text : (texts : List (List ℕ)) (text : List ℕ) (rows : List Row)
-    → AllStand texts (frames_in rows)
-    → map (exported_sample (with_text texts text)) rows ≡ map (exported_sample texts) rows
-samples_kept-text texts text [] all = refl
-samples_kept-text texts text (row ∷ rows) all =
-    let (here, later) = stand_parts texts row.stack (frames_in rows) all in
-    rw (ids_kept texts text row.stack here, samples_kept-text texts text rows later) refl
 
 samples_kept : (texts more : List (List ℕ)) (rows : List Row)
     → AllStand texts (frames_in rows)
     → map (exported_sample (with_texts texts more)) rows ≡ map (exported_sample texts) rows
-samples_kept texts [] rows all = refl
-samples_kept texts (text ∷ more) rows all =
-    samples_kept (with_text texts text) more rows (stack_stays texts text (frames_in rows) all)
-    ∙ samples_kept-text texts text rows all
+samples_kept texts more [] all = refl
+samples_kept texts more (row ∷ rows) all =
+    let (here, later) = stand_parts texts row.stack (frames_in rows) all in
+    rw (ids_kept texts more row.stack here, samples_kept texts more rows later) refl
 
 names_push : (rows : List Row) (row : Row) → names_of (rows ++ row ∷ []) ≡ with_texts (names_of rows) row.stack
 names_push rows row = grind (arith, common_steps, append-nil, flat_map-cons, flat_map-append, with_texts-append)

@@ -5,15 +5,18 @@ use Rattle.std.proofs.Common.{subst, arith}
 use Rattle.std.specs.Prelude.{Result, Ok, Err, MatchResult, slice_get}
 use Rattle.pprof_profile.specs.declared.messages.Draft.{Draft}
 use Rattle.pprof_profile.specs.declared.messages.Sample.{Sample}
-use Rattle.profile_rows.specs.Values.{AreTotals, BatchState}
+use Rattle.profile_rows.specs.declared.weighted_stacks.WeightedStack.{WeightedStack}
+use Rattle.profile_rows.specs.Values.{AreTotals, BatchState, single_batch}
 use Rattle.folded_text.proofs.Cuts.{cuts}
 use Rattle.profile_samples.specs.declared.sampling.BatchFault.{BatchFault}
-use Rattle.profile_samples.specs.declared.sampling.BatchFault.TheVariants.{NoValue, Width, Negative, Depth, Heavy}
+use Rattle.profile_samples.specs.declared.sampling.BatchFault.TheVariants.{Negative, Depth, Heavy}
 use Rattle.profile_samples.specs.declared.sampling.BatchFault.TheVariants.{NoMemory}
 use Rattle.profile_samples.specs.declared.sampling.ValueChoice.{ValueChoice}
-use Rattle.profile_samples.specs.Batches.{IsBatchOf, IsFirstFault, StandsAtSample}
+use Rattle.profile_samples.specs.Batches.{AreStacksOf, Gives, GivesBatch, GivesOfStacks, IsBatchOf, IsFirstFault}
+use Rattle.profile_samples.specs.Batches.{StandsAtSample}
 use Rattle.profile_samples.specs.Samples.{HasWeights, IsSampleFault, sample_stack_of}
-use Rattle.profile_samples.proofs.SampleBatches.{IsFirstFault-batch, IsTooWide, as_named, faultless_among}
+use Rattle.profile_samples.proofs.SampleBatches.{AreStacksOf-same, IsBatchOf-same, IsFirstFault-batch, IsTooWide}
+use Rattle.profile_samples.proofs.SampleBatches.{as_named, faultless_among}
 use Rattle.profile_samples.proofs.SampleBatches.{memory_or_named, none_some, rows_of_choice}
 use Rattle.profile_samples.proofs.SampleRows.{AreRowsOfSamples-same, not_below, same_count, same_first}
 
@@ -31,8 +34,6 @@ as_kind : (draft : Draft) (first : ℕ) (totals : List ℕ) (number : ℕ) (samp
     × (65535 < length (sample_stack_of draft sample.location_ids)))
     ⊎ ((fault ≡ Heavy number) × (weights : List ℕ) × AreWeights first totals sample weights
     × (length (sample_stack_of draft sample.location_ids) ≤ 65535)))
-as_kind draft first totals number sample NoValue named h = absurd h
-as_kind draft first totals number sample (Width count) named h = absurd h
 as_kind draft first totals number sample (Negative at) named (value, lt, (is, below, e)) =
     inl (ap Negative is, λ weights are. not_below (slice_get sample.values (first + value)) _ below (are value lt) e)
 as_kind draft first totals number sample (Depth at) named (is, weights, are, deep) =
@@ -40,6 +41,7 @@ as_kind draft first totals number sample (Depth at) named (is, weights, are, dee
 as_kind draft first totals number sample (Heavy at) named (is, row, own, value, lt, heavy) =
     inr (inr (ap Heavy is, row.weights, own.values, subst (λ s. length s ≤ 65535) own.stack own.depth))
 as_kind draft first totals number sample NoMemory named h = absurd (named refl)
+as_kind draft first totals number sample fault named h = absurd h
 
 one_sample_fault : (draft : Draft) (first : ℕ) (totals : List ℕ) (number : ℕ) (sample : Sample)
     (fault other : BatchFault) → fault ≢ NoMemory → other ≢ NoMemory
@@ -111,15 +113,47 @@ IsFirstFault-same most draft choice fault other named known ha hb =
 
 -- ---- what is answered where there is a first fault
 
--- what is answered is of a batch of so many values at most
-pub only_first_fault : {T : Type 0} (P : T → Type 0) (most : ℕ) (draft : Draft) (choice : ValueChoice)
-    (outcome : Result T BatchFault)
-    → ((made : T) → P made → (batch : BatchState) × (batch.width ≤ most) × IsBatchOf draft choice batch)
-    → MatchResult outcome P (λ fault. IsFirstFault most draft choice fault)
-    → (first : BatchFault) → first ≢ NoMemory → IsFirstFault most draft choice first
-    → MatchResult outcome (λ made. ⊥) (λ fault. (fault ≡ NoMemory) ⊎ (fault ≡ first))
-only_first_fault P most draft choice (Ok made) batch_of read first some there =
-    let (batch, few, is) = batch_of made read in
-    some (IsFirstFault-batch most draft choice batch first few is there)
-only_first_fault P most draft choice (Err fault) batch_of read first some there =
+other_fault : (most : ℕ) (draft : Draft) (choice : ValueChoice) (fault first : BatchFault)
+    → IsFirstFault most draft choice fault → first ≢ NoMemory → IsFirstFault most draft choice first
+    → (fault ≡ NoMemory) ⊎ (fault ≡ first)
+other_fault most draft choice fault first read some there =
     grind (arith, common_steps, IsFirstFault-same, memory_or_named)
+
+-- what is read decides what else is answered
+gives : {T B : Type 0} (most : ℕ) (draft : Draft) (choice : ValueChoice) (Is : T → Type 0) (Given : B → Type 0)
+    (Fits : B → T → Type 0)
+    → ((given : B) → Given given → (batch : BatchState) × (batch.width ≤ most) × IsBatchOf draft choice batch)
+    → ((made : T) → Is made → (given : B) × Given given × Fits given made)
+    → ((one other : B) → Given one → Given other → one ≡ other)
+    → (result : Result T BatchFault) → MatchResult result Is (λ fault. IsFirstFault most draft choice fault)
+    → Gives most draft choice Is Given Fits result
+gives {B = B} most draft choice Is Given Fits batch_of own same (Ok made) read =
+    let (given, this, fits) = own made read in
+    let (batch, few, is) = batch_of given this in
+    record {
+      read = read;
+      accepted = λ other there. subst (λ (b : B). Fits b made) (same given other this there) fits;
+      every_fault = λ first some there. some (IsFirstFault-batch most draft choice batch first few is there);
+    }
+gives most draft choice Is Given Fits batch_of own same (Err fault) read = record {
+  read = read;
+  accepted = λ given there. let (batch, few, is) = batch_of given there in
+      IsFirstFault-batch most draft choice batch fault few is read;
+  every_fault = λ first some there. other_fault most draft choice fault first read some there;
+}
+
+pub gives_batch : (draft : Draft) (choice : ValueChoice) (result : Result BatchState BatchFault)
+    → MatchResult result (IsBatchOf draft choice) (λ fault. IsFirstFault 4 draft choice fault)
+    → GivesBatch draft choice result
+gives_batch draft choice =
+    gives 4 draft choice (IsBatchOf draft choice) (IsBatchOf draft choice) (λ batch made. made ≡ batch)
+    (λ batch this. (batch, this.is_batch.few, this)) (λ batch this. (batch, this, refl)) (IsBatchOf-same draft choice)
+
+pub gives_of_stacks : {T : Type 0} (draft : Draft) (choice : ValueChoice) (Is : T → Type 0)
+    (Fits : List WeightedStack → T → Type 0)
+    → ((made : T) → Is made → (rows : List WeightedStack) × AreStacksOf draft choice rows × Fits rows made)
+    → (result : Result T BatchFault) → MatchResult result Is (λ fault. IsFirstFault 1 draft choice fault)
+    → GivesOfStacks draft choice Is Fits result
+gives_of_stacks draft choice Is Fits own =
+    gives 1 draft choice Is (AreStacksOf draft choice) Fits (λ rows this. (single_batch rows, omega arith, this)) own
+    (AreStacksOf-same draft choice)

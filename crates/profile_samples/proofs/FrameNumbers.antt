@@ -16,6 +16,8 @@ use Rattle.std.proofs.lemmas.Option.{slice_get-map}
 use Rattle.std.proofs.lemmas.List.Elements.{All-cons, All-from_recursion, All-head, All-nil, All-push, All-set, All-tail}
 use Rattle.std.proofs.lemmas.List.Elements.{All-weaker, recursion_from_All}
 use Rattle.std.proofs.lemmas.List.Folds.{length-flat_map-take, list_any_at}
+use Rattle.std.proofs.Math.Bool.{or-false, or_assoc}
+use Rattle.std.proofs.Math.ListN as lists
 use Rattle.std.proofs.Math.Nat.{mul-suc}
 use Rattle.pprof_profile.specs.declared.messages.Draft.{Draft}
 use Rattle.pprof_profile.specs.declared.messages.Function.{Function}
@@ -36,30 +38,14 @@ use Rattle.profile_samples.specs.NameNumbers.{frame_names, is_name_of, lacks_nam
 use Rattle.profile_samples.specs.NameNumbers.{string_names_from, given, number_at, number_by, number_of}
 use Rattle.profile_samples.specs.NameNumbers.{numbers_of, numbers_of_id, once_of, string_names, string_numbers}
 use Rattle.profile_samples.specs.NameNumbers.{with_number, with_numbers}
-use Rattle.profile_samples.proofs.ExportLaws.{AllStand, stands_in}
-use Rattle.profile_samples.proofs.ExportLaws.{with_text-own, with_text-stands, with_texts-own, with_texts-stands}
+use Rattle.profile_samples.proofs.ExportLaws.{AllStand, number_in-withs, stands_in, with_text-own, with_texts-own}
+use Rattle.profile_samples.proofs.ExportLaws.{with_texts-stands}
 use Rattle.name_counts.proofs.NumberedRows.{none_single, single_with}
 use Rattle.profile_rows.proofs.Members.{list_any-map}
-use Rattle.name_counts.proofs.TextNumbers.{number_in-kept, number_in-with, with_texts-append, number_in-lt, text_of_number}
+use Rattle.name_counts.proofs.TextNumbers.{number_in-with, with_texts-append, number_in-lt, text_of_number}
 use Rattle.profile_samples.proofs.ItemsById.{IsName-address, item_with-all, item_with-found}
 
 -- ---- numbers of strings and functions
-
-pub or_assoc : (a b c : Bool) → ((a || b) || c) ≡ (a || (b || c))
-or_assoc true b c = refl
-or_assoc false b c = refl
-
-or_false_right : (a : Bool) → (a || false) ≡ a
-or_false_right true = refl
-or_false_right false = refl
-
--- a text that is there keeps its number as more come
-number_in-withs : (front back : List (List ℕ)) (text : List ℕ)
-    → stands_in front text ≡ true → number_in (with_texts front back) text ≡ number_in front text
-number_in-withs front [] text there = refl
-number_in-withs front (next ∷ back) text there =
-    number_in-withs (with_text front next) back text (with_text-stands front next text there)
-    ∙ number_in-kept front next text there
 
 place_of : (texts : List (List ℕ)) (text : List ℕ) → position_or_len (is_same_name text) texts ≡ number_in texts text
 place_of [] text = refl
@@ -159,19 +145,12 @@ name_at : (draft : Draft) (index : ℕ) → names_function draft.functions index
 name_at draft index named = name_from draft.functions 0 draft.strings index
     (subst (λ n. names_function draft.functions n ≡ true) (omega arith) named)
 
-number_of_option : (f : List ℕ → ℕ) (names : List (Option (List ℕ))) (index : ℕ)
-    → slice_index_or (map (option_map f) names) index None ≡ option_map f (slice_index_or names index None)
-number_of_option f [] zero = refl
-number_of_option f [] (suc index) = refl
-number_of_option f (name ∷ names) zero = refl
-number_of_option f (name ∷ names) (suc index) = number_of_option f names index
-
 string_number : (draft : Draft) (index : ℤ)
     → ((at : ℕ) → index ≡ pos at → names_function draft.functions at ≡ true)
     → number_at (string_numbers draft) index
     ≡ option_map (number_of draft) (cleaned_name_of (string_at draft.strings index))
 string_number draft (pos index) named =
-    number_of_option (number_of draft) (string_names draft) index
+    lists.get_or-map (option_map (number_of draft)) (string_names draft) index None
     ∙ ap (option_map (number_of draft)) (name_at draft index (named index refl))
 string_number draft (negsuc index) named = refl
 
@@ -314,11 +293,11 @@ any_there test (first ∷ numbers) number e t =
 
 any_with : (test : ℕ → Bool) (numbers : List ℕ) (number : ℕ)
     → list_any test (with_number numbers number) ≡ (list_any test numbers || test number)
-any_with test numbers number = grind (arith, common_steps, any_there, or_false_right)
+any_with test numbers number = grind (arith, common_steps, any_there, or-false)
 
 any_withs : (test : ℕ → Bool) (start numbers : List ℕ)
     → list_any test (with_numbers start numbers) ≡ (list_any test start || list_any test numbers)
-any_withs test start [] = sym (or_false_right (list_any test start))
+any_withs test start [] = sym (or-false (list_any test start))
 any_withs test start (number ∷ numbers) =
     grind (arith, common_steps, or_assoc, any_with, any_withs test (with_number start number) numbers)
 
@@ -499,7 +478,7 @@ seen-push : (marks once : List ℕ) (number mark n : ℕ)
     → eqb (get_or (set marks number mark) n 0) mark ≡ has_number n (once ++ number ∷ [])
 seen-push marks once number mark n so_far lt = elim (cases_eq n number) [
   | inl same ↦ grind (arith, common_steps, eq-eqb, has_number-push, or_right)
-  | inr apart ↦ grind (arith, common_steps, ne_eqb, has_number-push, or_false_right)
+  | inr apart ↦ grind (arith, common_steps, ne_eqb, has_number-push, or-false)
 ]
 
 pub once-push : (before next : List ℕ) (count mark number : ℕ) (marks once : List ℕ)

@@ -1,7 +1,7 @@
 -- What is answered for a profile's samples decides what its rows add up to.
 use Rattle.std.proofs.lemmas.Grind.{common_steps}
 use Rattle.std.proofs.Common.{◌≡◌, ℕ, [], List, ap, sym, ◌∙◌, get_or, length, map, arith}
-use Rattle.std.specs.Prelude.{Result, Ok, Err, MatchResult, Some, position}
+use Rattle.std.specs.Prelude.{Result, MatchResult, Some, position}
 use Rattle.std.specs.Str.{bytes_eq}
 use Rattle.std.proofs.lemmas.List.{get_or-map, length-map}
 use Rattle.std.proofs.Math.Seq.{map-set_same}
@@ -11,41 +11,29 @@ use Rattle.profile_rows.specs.declared.weighted_stacks.WeightedStack.{WeightedSt
 use Rattle.profile_rows.specs.declared.frame_totals.FrameTotals.{FrameTotals}
 use Rattle.profile_rows.specs.Aggregate.{aggregate_of}
 use Rattle.profile_rows.specs.TopList.{AreTotalsOf}
-use Rattle.profile_rows.specs.Values.{single_batch}
 use Rattle.profile_samples.specs.declared.sampling.BatchFault.{BatchFault}
-use Rattle.profile_samples.specs.declared.sampling.BatchFault.TheVariants as batch
 use Rattle.profile_samples.specs.declared.sampling.ValueChoice.{ValueChoice}
-use Rattle.profile_samples.specs.Batches.{AreStacksOf, IsFirstStacksFault}
+use Rattle.profile_samples.specs.Batches.{GivesOfStacks, IsFirstStacksFault}
 use Rattle.profile_samples.specs.CountedSamples.{AreTotalsOfSamples}
 use Rattle.profile_samples.specs.MergedSamples.{AreRowsAt, IsMergedBatch}
 use Rattle.profile_samples.specs.Samples.{sample_stack_of}
 use Rattle.profile_rows.specs.Merging.{IsStackAt, with_added_at}
 use Rattle.name_counts.proofs.TextNumbers.{no_text, position_found, shown_at, text_of_number}
-use Rattle.profile_samples.proofs.SampleBatches.{AreStacksOf-same, IsFirstFault-batch}
+use Rattle.profile_samples.proofs.FirstFaults.{gives_of_stacks}
 
--- a profile that gives rows of one value has no first fault but `NoMemory`
-no_fault : (draft : Draft) (choice : ValueChoice) (rows : List WeightedStack) (fault : BatchFault)
-    → AreStacksOf draft choice rows → IsFirstStacksFault draft choice fault → fault ≡ batch.NoMemory
-no_fault draft choice rows fault this first =
-    IsFirstFault-batch 1 draft choice (single_batch rows) fault (omega arith) this first
+pub gives_merged : (draft : Draft) (choice : ValueChoice) (result : Result (List WeightedStack) BatchFault)
+    → MatchResult result (IsMergedBatch draft choice) (λ fault. IsFirstStacksFault draft choice fault)
+    → GivesOfStacks draft choice (IsMergedBatch draft choice) (λ rows sums. aggregate_of sums ≡ aggregate_of rows) result
+gives_merged draft choice =
+    gives_of_stacks draft choice (IsMergedBatch draft choice) (λ rows sums. aggregate_of sums ≡ aggregate_of rows)
+    (λ sums is. (is.rows, is.sampled, is.same))
 
--- what the samples answer
-pub only_batch_sums : (draft : Draft) (choice : ValueChoice) (outcome : Result (List WeightedStack) BatchFault)
-    → MatchResult outcome (λ sums. IsMergedBatch draft choice sums) (λ fault. IsFirstStacksFault draft choice fault)
-    → (rows : List WeightedStack) → AreStacksOf draft choice rows
-    → MatchResult outcome (λ sums. aggregate_of sums ≡ aggregate_of rows) (λ fault. fault ≡ batch.NoMemory)
-only_batch_sums draft choice (Ok sums) read rows this = read.same
-    ∙ ap aggregate_of (AreStacksOf-same draft choice read.rows rows read.sampled this)
-only_batch_sums draft choice (Err fault) read rows this = no_fault draft choice rows fault this read
-
--- what counting the samples answers
-pub only_sample_totals : (draft : Draft) (choice : ValueChoice) (outcome : Result FrameTotals BatchFault)
-    → MatchResult outcome (AreTotalsOfSamples draft choice) (λ fault. IsFirstStacksFault draft choice fault)
-    → (rows : List WeightedStack)
-    → AreStacksOf draft choice rows → MatchResult outcome (AreTotalsOf rows) (λ fault. fault ≡ batch.NoMemory)
-only_sample_totals draft choice (Ok totals) read rows this =
-    rw (AreStacksOf-same draft choice read.rows rows read.sampled this) at read.totals_rows
-only_sample_totals draft choice (Err fault) read rows this = no_fault draft choice rows fault this read
+pub gives_totals : (draft : Draft) (choice : ValueChoice) (result : Result FrameTotals BatchFault)
+    → MatchResult result (AreTotalsOfSamples draft choice) (λ fault. IsFirstStacksFault draft choice fault)
+    → GivesOfStacks draft choice (AreTotalsOfSamples draft choice) AreTotalsOf result
+gives_totals draft choice =
+    gives_of_stacks draft choice (AreTotalsOfSamples draft choice) AreTotalsOf
+    (λ totals are. (are.rows, are.sampled, are.totals_rows))
 
 -- ---- rows by the lists of their locations
 

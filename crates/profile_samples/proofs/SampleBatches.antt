@@ -1,7 +1,7 @@
 -- What batch the samples of a profile give.
 use Rattle.std.proofs.Common.{◌≡◌, ℕ, zero, suc, ◌+◌, ◌^◌, ◌<◌, ◌≤◌, List, [], ◌∷◌, ◌++◌, length, take, drop, get_or}
 use Rattle.std.proofs.Common.{◌≢◌, ◌⊎◌, refl, sym, ap, ◌∙◌, inl, inr, subst, arith}
-use Rattle.std.specs.Prelude.{ℤ, pos, Option, Some, None, Result, Ok, Err, MatchResult, slice_get, is_some}
+use Rattle.std.specs.Prelude.{ℤ, pos, Option, Some, None, Result, Err, MatchResult, slice_get, is_some}
 use Rattle.std.specs.List.{All}
 use Rattle.std.proofs.Math.Seq.{drop-cons}
 use Rattle.std.proofs.lemmas.Bool.{false≢true}
@@ -87,19 +87,13 @@ pub as_named : (most : ℕ) (draft : Draft) (choice : ValueChoice) (fault : Batc
     → fault ≢ faults.NoMemory → IsFirstFault most draft choice fault → IsNamed most draft choice fault
 as_named most draft choice faults.NoValue named h = inl (refl, h)
 as_named most draft choice (faults.Width count) named (first, is, many) = inr (inl (count, first, refl, is, many))
-as_named most draft choice (faults.Negative at) named h = inr (inr h)
-as_named most draft choice (faults.Depth at) named h = inr (inr h)
-as_named most draft choice (faults.Heavy at) named h = inr (inr h)
 as_named most draft choice faults.NoMemory named h = absurd (named refl)
+as_named most draft choice fault named h = inr (inr h)
 
 -- a fault is `NoMemory` or another
 pub memory_or_named : (fault : BatchFault) → (fault ≡ faults.NoMemory) ⊎ (fault ≢ faults.NoMemory)
-memory_or_named faults.NoValue = inr (λ e. cc)
-memory_or_named (faults.Width count) = inr (λ e. cc)
-memory_or_named (faults.Negative at) = inr (λ e. cc)
-memory_or_named (faults.Depth at) = inr (λ e. cc)
-memory_or_named (faults.Heavy at) = inr (λ e. cc)
 memory_or_named faults.NoMemory = inl refl
+memory_or_named fault = inr (λ e. cc)
 
 pub IsFirstFault-batch : (most : ℕ) (draft : Draft) (choice : ValueChoice) (batch : BatchState) (fault : BatchFault)
     → batch.width ≤ most → IsBatchOf draft choice batch → IsFirstFault most draft choice fault
@@ -122,29 +116,19 @@ pub IsBatchOf-same : (draft : Draft) (choice : ValueChoice) (batch other : Batch
 IsBatchOf-same draft choice batch other one two =
     grind (arith, common_steps, same_count, AreRowsOfSamples-same, rows_of_choice)
 
--- what is answered decides what batch a profile gives
-pub only_batch : (draft : Draft) (choice : ValueChoice) (outcome : Result BatchState BatchFault)
-    → MatchResult outcome (λ batch. IsBatchOf draft choice batch) (λ fault. IsFirstFault 4 draft choice fault)
-    → (batch : BatchState)
-    → IsBatchOf draft choice batch → MatchResult outcome (λ made. made ≡ batch) (λ fault. fault ≡ faults.NoMemory)
-only_batch draft choice (Ok made) read batch this = IsBatchOf-same draft choice made batch read this
-only_batch draft choice (Err fault) read batch this =
-    IsFirstFault-batch 4 draft choice batch fault this.is_batch.few this read
-
 -- what stands at a sample is a profile's first fault
 stands_first : (most : ℕ) (draft : Draft) (choice : ValueChoice) (fault : BatchFault)
     → StandsAtSample most draft choice fault → IsFirstFault most draft choice fault
 stands_first most draft choice faults.NoValue this = absurd this.there
 stands_first most draft choice (faults.Width count) this = absurd this.there
-stands_first most draft choice (faults.Negative at) this = this
-stands_first most draft choice (faults.Depth at) this = this
-stands_first most draft choice (faults.Heavy at) this = this
 stands_first most draft choice faults.NoMemory this = (this.first, this.batch.width, this.is_chosen, this.few)
+stands_first most draft choice fault this = this
 
--- memory runs out only where there is a value
-pub memory_first : (draft : Draft) (choice : ValueChoice) (first : ℕ)
-    → chosen_types_of draft choice ≡ Some (first, 1) → IsFirstFault 1 draft choice faults.NoMemory
-memory_first draft choice first is = (first, 1, is, omega arith)
+-- memory runs out only where there are few values
+pub memory_first : {T : Type 0} (Is : T → Type 0) (most : ℕ) (draft : Draft) (choice : ValueChoice) (first width : ℕ)
+    (outcome : Result T BatchFault) → chosen_types_of draft choice ≡ Some (first, width) → width ≤ most
+    → outcome ≡ Err faults.NoMemory → MatchResult outcome Is (λ fault. IsFirstFault most draft choice fault)
+memory_first Is most draft choice first width outcome is few late = rw late (first, width, is, few)
 
 pub first_of_standing : {T : Type 0} (P : T → Type 0) (most : ℕ) (draft : Draft) (choice : ValueChoice)
     (outcome : Result T BatchFault) → MatchResult outcome P (λ fault. StandsAtSample most draft choice fault)
@@ -157,7 +141,7 @@ work_first : (draft : Draft) (choice : ValueChoice) (fault : BatchFault)
     → IsStacksWorkFault draft choice fault → IsFirstFault 1 draft choice fault
 work_first draft choice fault (inl there) = stands_first 1 draft choice fault there
 work_first draft choice fault (inr (late, rows, sampled)) =
-    subst (IsFirstFault 1 draft choice) (sym late) (memory_first draft choice sampled.first sampled.is_chosen)
+    subst (IsFirstFault 1 draft choice) (sym late) (sampled.first, 1, sampled.is_chosen, omega arith)
 
 pub first_of_work : {T : Type 0} (P : T → Type 0) (draft : Draft) (choice : ValueChoice) (outcome : Result T BatchFault)
     → MatchResult outcome P (λ fault. IsStacksWorkFault draft choice fault)

@@ -1,8 +1,8 @@
 -- The numbers of the names in a sample's row.
 use Rattle.std.proofs.lemmas.Grind.{common_steps}
-use Rattle.std.proofs.Common.{arith, ◌≡◌, ℕ, ◌+◌, ◌<◌, Bool, true, false, ◌||◌, List, [], ◌∷◌, ◌++◌, length, get_or}
-use Rattle.std.proofs.Common.{take, Option, refl, sym, ap, ◌∙◌, All}
-use Rattle.std.specs.Prelude.{MatchOption, reverse, slice_index_or}
+use Rattle.std.proofs.Common.{arith, ◌≡◌, ℕ, ◌+◌, ◌<◌, List, [], ◌∷◌, ◌++◌, length, get_or}
+use Rattle.std.proofs.Common.{take, Option, ap, ◌∙◌, All}
+use Rattle.std.specs.Prelude.{MatchOption, slice_index_or}
 use Rattle.std.specs.List.{AllByRecursion}
 use Rattle.std.proofs.lemmas.List.Elements.{All-append, All-map, All-weaker, All-from_recursion, recursion_from_All}
 use Rattle.pprof_profile.specs.declared.messages.Draft.{Draft}
@@ -15,8 +15,8 @@ use Rattle.profile_samples.specs.Samples.{frames_of_id, frames_of_ids, sample_st
 use Rattle.profile_samples.specs.NameNumbers.{frame_names, once_of}
 use Rattle.profile_samples.specs.CountedSamples.{AreNumbersOfIds}
 use Rattle.profile_samples.proofs.FrameNumbers.{AreNumbersOf, frames-more}
-use Rattle.std.proofs.lemmas.Bool.{or_left, or_right}
-use Rattle.profile_rows.proofs.SameNames.{is_same_name-self}
+use Rattle.std.proofs.lemmas.List.Sorted.{IsPermutation-reverse, list_any-IsPermutation}
+use Rattle.profile_samples.proofs.ExportLaws.{each_where}
 
 -- ---- locations, one after the other
 
@@ -45,15 +45,6 @@ numbers_missing draft ids i before after lt none so_far same = rw same (record {
 
 -- ---- the names of stacks are names
 
--- frames are names where each text among them is one
-named_where : (frames : List (List ℕ))
-    → ((q : List ℕ) → has_name q frames ≡ true → IsName q) → AllByRecursion IsName frames
-named_where [] h = tt
-named_where (frame ∷ frames) h = (
-  h frame (or_left (is_same_name frame frame) (has_name frame frames) (is_same_name-self frame)),
-  named_where frames (λ q e. h q (or_right (is_same_name q frame) (has_name q frames) e)),
-)
-
 -- the names of numbers are names
 names_named : (names : List (List ℕ)) (numbers : List ℕ) → All IsName names
     → All (λ number. number < length names) numbers → AllByRecursion IsName (names_at names numbers)
@@ -63,16 +54,6 @@ names_named names numbers all inside = recursion_from_All IsName (names_at names
 
 -- ---- a sample's row
 
-has_name-reverse : (q : List ℕ) (frames : List (List ℕ)) → has_name q (reverse frames) ≡ has_name q frames
-has_name-reverse q [] = refl
-has_name-reverse q (frame ∷ frames) = grind (arith, common_steps, swapped, has_name-reverse q frames)
-  where
-    swapped : (a b : Bool) → (a || (b || false)) ≡ (b || a)
-    swapped true true = refl
-    swapped true false = refl
-    swapped false true = refl
-    swapped false false = refl
-
 pub sample_numbered : (profile frames : Draft) (own ids numbers lent : List ℕ) (leaf : Option ℕ) → frames ≡ profile
     → ids ≡ own → lent ≡ numbers → All IsName (frame_names profile) → AreNumbersOfIds frames ids numbers
     → MatchOption leaf
@@ -81,7 +62,7 @@ pub sample_numbered : (profile frames : Draft) (own ids numbers lent : List ℕ)
     → IsNumberedStack (frame_names profile) (sample_stack_of profile own) lent leaf
 sample_numbered profile frames own ids numbers lent leaf framed ids_are lent_is names are last =
     rw (← framed, ← ids_are, lent_is) (record {
-      named = All-from_recursion IsName (sample_stack_of frames ids) (named_where (sample_stack_of frames ids)
+      named = All-from_recursion IsName (sample_stack_of frames ids) (each_where IsName (sample_stack_of frames ids)
           (λ q e. named_in q (names_at (frame_names frames) numbers)
           (names_named (frame_names frames) numbers (rw (← framed) at names) are.inside) (same q ∙ e)));
       inside = are.inside;
@@ -91,4 +72,5 @@ sample_numbered profile frames own ids numbers lent leaf framed ids_are lent_is 
   where
     same : (q : List ℕ)
         → has_name q (names_at (frame_names frames) numbers) ≡ has_name q (sample_stack_of frames ids)
-    same q = are.same q ∙ sym (has_name-reverse q (frames_of_ids frames ids))
+    same q = are.same q ∙ list_any-IsPermutation (is_same_name q) (frames_of_ids frames ids)
+        (sample_stack_of frames ids) (IsPermutation-reverse (frames_of_ids frames ids))

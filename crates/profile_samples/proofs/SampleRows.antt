@@ -15,7 +15,7 @@ use Rattle.pprof_profile.specs.declared.messages.ValueType.{ValueType}
 use Rattle.pprof_profile.specs.Valid.{IsValidDraft, each_has_values}
 use Rattle.profile_rows.specs.Values.{Row, value_of}
 use Rattle.profile_samples.specs.declared.sampling.BatchFault.{BatchFault}
-use Rattle.profile_samples.specs.declared.sampling.BatchFault.TheVariants.{NoValue, Width, Negative, Depth, Heavy}
+use Rattle.profile_samples.specs.declared.sampling.BatchFault.TheVariants.{Negative, Depth, Heavy}
 use Rattle.profile_samples.specs.declared.sampling.BatchFault.TheVariants.{NoMemory}
 use Rattle.profile_samples.specs.declared.sampling.ValueChoice.{ValueChoice}
 use Rattle.profile_samples.specs.declared.sampling.ValueChoice.TheVariants.{Default, Named, All}
@@ -172,8 +172,6 @@ pub faultless : (draft : Draft) (first : ℕ) (totals : List ℕ) (number : ℕ)
     (fault : BatchFault) → IsRowOfSample draft first (length totals) sample row
     → ((value : ℕ) → value_of value totals + value_of value row.weights < 2 ^ 63)
     → IsSampleFault draft first totals number sample fault → fault ≡ NoMemory
-faultless draft first totals number sample row NoValue this room h = absurd h
-faultless draft first totals number sample row (Width count) this room h = absurd h
 faultless draft first totals number sample row (Negative at) this room (value, lt, (is, below, e)) =
     grind (arith, common_steps, not_below)
 faultless draft first totals number sample row (Depth at) this room (is, weights, values, deep) =
@@ -181,6 +179,7 @@ faultless draft first totals number sample row (Depth at) this room (is, weights
 faultless draft first totals number sample row (Heavy at) this room (is, other, own, value, lt, heavy) =
     grind (arith, common_steps, IsRowOfSample-same)
 faultless draft first totals number sample row NoMemory this room h = refl
+faultless draft first totals number sample row fault this room h = absurd h
 
 pub IsSampleFault-heavy : (draft : Draft) (first : ℕ) (totals : List ℕ) (number : ℕ) (sample : Sample)
     (weights : List ℕ) (fault : BatchFault) → length weights ≡ length totals

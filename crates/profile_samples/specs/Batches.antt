@@ -1,6 +1,7 @@
 -- What the samples of a profile are as a batch: a row for each, with the values that a choice takes, and why there is
 -- none. Rows of one value are the batch of that width.
-use Rattle.std.specs.Prelude.{ℕ, ◌≡◌, ◌⊎◌, ◌<◌, ◌≤◌, Some, None, List, [], ◌∷◌, ◌++◌, length}
+use Rattle.std.specs.Prelude.{ℕ, ◌≡◌, ◌≢◌, ◌⊎◌, ◌<◌, ◌≤◌, Some, None, List, [], ◌∷◌, ◌++◌, length, Result}
+use Rattle.std.specs.Prelude.{MatchResult}
 use Rattle.pprof_profile.specs.declared.messages.Draft.{Draft}
 use Rattle.pprof_profile.specs.declared.messages.Sample.{Sample}
 use Rattle.profile_rows.specs.declared.weighted_stacks.WeightedStack.{WeightedStack}
@@ -74,3 +75,24 @@ IsFirstStacksFault draft choice fault = IsFirstFault 1 draft choice fault
 abbrev pub IsStacksWorkFault : Draft → ValueChoice → BatchFault → Type 0
 IsStacksWorkFault draft choice fault = StandsAtSample 1 draft choice fault
     ⊎ ((fault ≡ NoMemory) × (rows : List WeightedStack) × AreStacksOf draft choice rows)
+
+-- ---- what a call gives
+
+-- What a call gives that makes something of a profile's samples: what it is to make, or the first fault. Where they
+-- give this, what it makes fits that, unless memory runs out; and where they have a fault, it is that one.
+pub record Gives {T B : Type 0} (most : ℕ) (draft : Draft) (choice : ValueChoice) (Is : T → Type 0)
+    (Given : B → Type 0) (Fits : B → T → Type 0) (result : Result T BatchFault) : Type 0 where
+  pub read : MatchResult result Is (λ fault. IsFirstFault most draft choice fault)
+  pub accepted : (given : B) → Given given → MatchResult result (Fits given) (λ fault. fault ≡ NoMemory)
+  pub every_fault : (first : BatchFault) → first ≢ NoMemory → IsFirstFault most draft choice first
+      → MatchResult result (λ made. ⊥) (λ fault. (fault ≡ NoMemory) ⊎ (fault ≡ first))
+
+-- the batch of a profile's samples
+abbrev pub GivesBatch : Draft → ValueChoice → Result BatchState BatchFault → Type 0
+GivesBatch draft choice result =
+    Gives 4 draft choice (IsBatchOf draft choice) (IsBatchOf draft choice) (λ batch made. made ≡ batch) result
+
+-- what is to fit a profile's rows of one value
+abbrev pub GivesOfStacks : {T : Type 0} → Draft → ValueChoice → (T → Type 0) → (List WeightedStack → T → Type 0)
+    → Result T BatchFault → Type 0
+GivesOfStacks draft choice Is Fits result = Gives 1 draft choice Is (AreStacksOf draft choice) Fits result

@@ -1,11 +1,10 @@
 //! A profile's samples as a batch: the values that are chosen, a row for each sample, and why there is none.
 
-ghost use Rattle.std.specs.Prelude.{ℕ, ◌≡◌, ◌≢◌, ◌+◌, ◌<◌, ◌≤◌, ◌∷◌, ◌++◌, ◌⊎◌, [], IfErr, IfOk, List, MatchResult, OnOk, Some, length};
-ghost use Rattle.profile_rows.specs.Values.{AreTotals, BatchState, HasRoom, Row};
-ghost use Rattle.profile_samples.specs.declared.sampling.BatchFault.{BatchFault};
+ghost use Rattle.std.specs.Prelude.{ℕ, ◌≡◌, ◌+◌, ◌<◌, ◌≤◌, ◌∷◌, ◌++◌, [], IfErr, IfOk, List, MatchResult, OnOk, Some, length};
+ghost use Rattle.profile_rows.specs.Values.{AreTotals, HasRoom, Row};
 ghost use Rattle.profile_samples.specs.declared.sampling.ValueChoice.{ValueChoice};
 ghost use Rattle.profile_samples.specs.Samples.{HasWeights, IsRowOfSample, IsSampleFault, IsValueFault, chosen_types_of};
-ghost use Rattle.profile_samples.specs.Batches.{IsBatchOf, IsFirstBatchFault, StandsAtSample};
+ghost use Rattle.profile_samples.specs.Batches.{GivesBatch, IsBatchOf, StandsAtSample};
 
 use crate::name_numbers::NumberedFrames;
 use crate::sampling::{BatchFault, ChosenValues, ValueChoice, chosen_values, weight_of};
@@ -93,13 +92,7 @@ fn batch_by(
 /// `NoValue` where there is no such sample type; `Width` where all are asked for and there are more than four. Else the
 /// fault of the first sample that has one, in the order of [`BatchFault`]'s variants; `NoMemory`.
 pub fn batch_of(alloc: Global, profile: &Profile, choice: ValueChoice) -> Result<Batch, BatchFault>
-    ensures read { MatchResult result (λ batch. IsBatchOf profile.now choice.entry batch)
-        (λ fault. IsFirstBatchFault profile.now choice.entry fault) }
-    ensures accepted { (batch : BatchState) → IsBatchOf profile.now choice.entry batch
-        → MatchResult result (λ made. made ≡ batch) (λ fault. fault ≡ BatchFault.NoMemory) }
-    ensures every_fault { (first : BatchFault) → first ≢ BatchFault.NoMemory
-        → IsFirstBatchFault profile.now choice.entry first
-        → MatchResult result (λ batch. ⊥) (λ fault. (fault ≡ BatchFault.NoMemory) ⊎ (fault ≡ first)) }
+    ensures { GivesBatch profile.now choice.entry result }
 {
     batch_of_with(alloc, Hashing::fixed(), profile, choice)
 }
@@ -115,13 +108,7 @@ pub fn batch_of_with(
     profile: &Profile,
     choice: ValueChoice,
 ) -> Result<Batch, BatchFault>
-    ensures read { MatchResult result (λ batch. IsBatchOf profile.now choice.entry batch)
-        (λ fault. IsFirstBatchFault profile.now choice.entry fault) }
-    ensures accepted { (batch : BatchState) → IsBatchOf profile.now choice.entry batch
-        → MatchResult result (λ made. made ≡ batch) (λ fault. fault ≡ BatchFault.NoMemory) }
-    ensures every_fault { (first : BatchFault) → first ≢ BatchFault.NoMemory
-        → IsFirstBatchFault profile.now choice.entry first
-        → MatchResult result (λ batch. ⊥) (λ fault. (fault ≡ BatchFault.NoMemory) ⊎ (fault ≡ first)) }
+    ensures { GivesBatch profile.now choice.entry result }
 {
     let chosen = chosen_values(alloc, profile.draft(), choice, MAX_WIDTH)?;
     let frames = NumberedFrames::new(alloc, hashing, profile)?;

@@ -1,14 +1,12 @@
 //! What the names of frames weigh in a profile's samples, counted sample by sample without rows.
 
-ghost use Rattle.std.specs.Prelude.{◌≡◌, ◌≢◌, ◌⊎◌, ◌<◌, [], All, List, IfOk, MatchResult, OnOk, Some, length, map};
-ghost use Rattle.profile_rows.specs.declared.weighted_stacks.WeightedStack.{WeightedStack};
+ghost use Rattle.std.specs.Prelude.{◌≡◌, ◌<◌, [], All, IfOk, MatchResult, OnOk, Some, length, map};
 ghost use Rattle.profile_rows.specs.Names.{IsName};
 ghost use Rattle.name_counts.specs.Tallies.{AreTalliesOf};
 ghost use Rattle.profile_rows.specs.TopList.{AreTotalsOf};
-ghost use Rattle.profile_samples.specs.declared.sampling.BatchFault.{BatchFault};
 ghost use Rattle.profile_samples.specs.declared.sampling.ValueChoice.{ValueChoice};
 ghost use Rattle.profile_samples.specs.Samples.{chosen_types_of};
-ghost use Rattle.profile_samples.specs.Batches.{AreStacksOf, IsFirstStacksFault, IsStacksWorkFault};
+ghost use Rattle.profile_samples.specs.Batches.{GivesOfStacks, IsStacksWorkFault};
 ghost use Rattle.profile_samples.specs.NameNumbers.{frame_names};
 ghost use Rattle.profile_samples.specs.CountedSamples.{AreNumbersOfIds, AreTotalsOfSamples};
 
@@ -92,13 +90,7 @@ pub fn sample_totals(
     profile: &Profile,
     choice: ValueChoice,
 ) -> Result<FrameTotals, BatchFault>
-    ensures read { MatchResult result (AreTotalsOfSamples profile.now choice.entry)
-        (λ fault. IsFirstStacksFault profile.now choice.entry fault) }
-    ensures accepted { (rows : List WeightedStack) → AreStacksOf profile.now choice.entry rows
-        → MatchResult result (AreTotalsOf rows) (λ fault. fault ≡ BatchFault.NoMemory) }
-    ensures every_fault { (first : BatchFault) → first ≢ BatchFault.NoMemory
-        → IsFirstStacksFault profile.now choice.entry first
-        → MatchResult result (λ totals. ⊥) (λ fault. (fault ≡ BatchFault.NoMemory) ⊎ (fault ≡ first)) }
+    ensures { GivesOfStacks profile.now choice.entry (AreTotalsOfSamples profile.now choice.entry) AreTotalsOf result }
 {
     let chosen = chosen_value(alloc, profile.draft(), choice)?;
     let frames = NumberedFrames::new(alloc, hashing, profile)?;

@@ -1,14 +1,13 @@
 //! The rows of a profile's samples, those of the same locations merged into one.
 
-ghost use Rattle.std.specs.Prelude.{[], ◌∷◌, ◌≡◌, ◌≢◌, ◌⊎◌, ◌<◌, IfErr, List, MatchResult, OnOk, length, Some};
+ghost use Rattle.std.specs.Prelude.{[], ◌∷◌, ◌≡◌, ◌<◌, IfErr, MatchResult, OnOk, length, Some};
 ghost use Rattle.profile_rows.specs.declared.weighted_stacks.WeightedStack.{WeightedStack};
-ghost use Rattle.profile_samples.specs.declared.sampling.BatchFault.{BatchFault};
 ghost use Rattle.profile_samples.specs.declared.sampling.ValueChoice.{ValueChoice};
 ghost use Rattle.profile_rows.specs.Aggregate.{aggregate_of};
 ghost use Rattle.profile_rows.specs.Rows.{total_of};
 ghost use Rattle.profile_rows.specs.Values.{single};
 ghost use Rattle.profile_samples.specs.Samples.{IsRowOfSample, IsSampleFault, chosen_types_of};
-ghost use Rattle.profile_samples.specs.Batches.{AreStacksOf, IsFirstStacksFault, StandsAtSample};
+ghost use Rattle.profile_samples.specs.Batches.{GivesOfStacks, StandsAtSample};
 ghost use Rattle.profile_rows.specs.Merging.{AddsRow};
 ghost use Rattle.profile_samples.specs.MergedSamples.{AreRowsAt, IsMergedBatch};
 
@@ -98,14 +97,8 @@ pub fn merge_samples(
     profile: &Profile,
     choice: ValueChoice,
 ) -> Result<WeightedStacks, BatchFault>
-    ensures read { MatchResult result (λ merged. IsMergedBatch profile.now choice.entry merged)
-        (λ fault. IsFirstStacksFault profile.now choice.entry fault) }
-    ensures accepted { (rows : List WeightedStack) → AreStacksOf profile.now choice.entry rows
-        → MatchResult result (λ merged. aggregate_of merged ≡ aggregate_of rows)
-        (λ fault. fault ≡ BatchFault.NoMemory) }
-    ensures every_fault { (first : BatchFault) → first ≢ BatchFault.NoMemory
-        → IsFirstStacksFault profile.now choice.entry first
-        → MatchResult result (λ merged. ⊥) (λ fault. (fault ≡ BatchFault.NoMemory) ⊎ (fault ≡ first)) }
+    ensures { GivesOfStacks profile.now choice.entry (IsMergedBatch profile.now choice.entry)
+        (λ rows merged. aggregate_of merged ≡ aggregate_of rows) result }
 {
     let chosen = chosen_value(alloc, profile.draft(), choice)?;
     let frames = NumberedFrames::new(alloc, hashing, profile)?;

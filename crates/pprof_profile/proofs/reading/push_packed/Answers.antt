@@ -4,7 +4,7 @@ use Rattle.pprof_profile.proofs.reading.push_packed.Goals as goal
 
 pub loop-read-preserved : goal.loop-read-preserved
 loop-read-preserved g c =
-    let (spelling, parts, spelled) = rw c.in-Ok.is at c.in-Some.ensures.number in
+    let (spelling, parts, spelled) = rw c.in-Ok.is at c.in-Some.ensures.read.number in
     let so-far = c.loop-read.invariant in
     record {
       front = so-far.front ++ spelling;

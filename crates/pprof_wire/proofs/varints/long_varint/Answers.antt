@@ -1,4 +1,5 @@
-use Rattle.std.proofs.Common.{ℕ, ap, ◌*◌, ◌%◌, ◌^◌, arith, slice_index_or}
+use Rattle.std.proofs.Common.{ℕ, ap, subst, take, ◌≡◌, ◌*◌, ◌%◌, ◌^◌, arith, slice_index_or}
+use Rattle.pprof_wire.specs.Varints.{AllContinue}
 use Rattle.pprof_wire.proofs.VarintLaws.{more_spelled, more_read, group-fits, is_long}
 use Rattle.pprof_wire.proofs.varints.long_varint.Goals as goal
 
@@ -11,19 +12,20 @@ overflow_add-number c =
           c.loop-count.count c.loop-count-test.true c.loop-count.invariant.below,
     )
 
-pub returns-then-byte-lt128-clause-spelled : goal.returns-then-byte-lt128-clause-spelled
-returns-then-byte-lt128-clause-spelled c =
+pub returns-then-byte-lt128 : goal.returns-then-byte-lt128
+returns-then-byte-lt128 c =
     rw c.from.ensures (more_spelled c.args.bytes.now _ _ c.loop-count-test.true
-    c.if-count-bytes.false c.loop-count.invariant.continued c.loop-count.invariant.value c.if-byte-lt128.true)
+    c.if-count-bytes.false c.loop-count.invariant c.if-byte-lt128.true)
 
 pub loop-count-preserved : goal.loop-count-preserved
 loop-count-preserved c =
-    let read = more_read c.args.bytes.now _ _ c.loop-count-test.true
-    c.if-count-bytes.false c.loop-count.invariant.continued c.loop-count.invariant.value c.if-byte-lt128.false in
-    rw c.from.ensures (record { within = omega arith; continued = read.0; value = read.1; below = read.2 })
+    rw c.from.ensures (more_read c.args.bytes.now _ _ c.loop-count-test.true
+    c.if-count-bytes.false c.loop-count.invariant c.if-byte-lt128.false)
 
-pub returns-in-Some-2-clause-fault : goal.returns-in-Some-2-clause-fault
-returns-in-Some-2-clause-fault c =
+pub returns-in-Some-2 : goal.returns-in-Some-2
+returns-in-Some-2 c =
     let found = c.in-Some.ensures.lookup.3 in
-    is_long c.args.bytes.now c.loop-count.count
-    (omega arith) (omega arith) found.0 c.loop-count.invariant.continued (omega (arith, found.1 0))
+    let nine : c.loop-count.count ≡ 9 = omega arith in
+    is_long c.args.bytes.now found.0
+    (subst (λ (n : ℕ). AllContinue (take n c.args.bytes.now)) nine c.loop-count.invariant.continued)
+    (omega (arith, found.1 0))

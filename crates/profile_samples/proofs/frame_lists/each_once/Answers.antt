@@ -1,5 +1,5 @@
 -- The next number is marked, where it isn't yet.
-use Rattle.std.proofs.Common.{◌≡◌, ◌+◌, ◌<◌, ◌++◌, ◌∷◌, [], ℕ, ap, sym, ◌∙◌, get_or, length, subst, take}
+use Rattle.std.proofs.Common.{◌≡◌, ◌+◌, ◌<◌, ℕ, ap, sym, ◌∙◌, get_or, length, subst, take}
 use Rattle.std.proofs.lemmas.List.{get_or_default, take_more}
 use Rattle.std.specs.declared.vec.Vec.{Vec}
 use Rattle.profile_samples.proofs.FrameNumbers.{IsOnceSoFar, once-push, once-same}
@@ -11,19 +11,11 @@ loop-number-preserved c =
     let numbers = c.args.numbers.now in
     let at = c.loop-number.number-index in
     let number = get_or numbers at 0 in
-    let before = take at numbers in
     let marks = c.loop-number.marks.items in
-    let so_far : IsOnceSoFar before (length c.args.marks.now.items) c.args.mark marks c.loop-number.once.items =
-    record {
-      once_is = c.loop-number.invariant.once;
-      count_is =
-          c.loop-number.invariant.count;
-      marked = c.loop-number.invariant.marked;
-      seen = c.loop-number.invariant.seen;
-    } in
-    let next : take (at + 1) numbers ≡ before ++ number ∷ [] = take_more numbers at 0 c.loop-number-test.true in
+    let so_far = c.loop-number.invariant in
+    let next = take_more numbers at 0 c.loop-number-test.true in
     let lt : number < length marks =
-    subst (λ n. number < n) (sym c.loop-number.invariant.count) (c.requires.inside at 0 c.loop-number-test.true) in
+    subst (λ n. number < n) (sym so_far.count_is) (c.requires.inside at 0 c.loop-number-test.true) in
     let read : c.index.result.now ≡ get_or marks number 0 = c.index.ensures
     ∙ get_or_default marks number c.index.result.now 0 lt in
     let all : IsOnceSoFar (take (at + 1) numbers) (length c.args.marks.now.items) c.args.mark
@@ -33,11 +25,11 @@ loop-number-preserved c =
             ap (λ (m : Vec ℕ _). m.items) w.marks-is,
             ap (λ (m : Vec ℕ _). m.items) w.once-is ∙ w.in_ok-push.ensures.items,
           )
-          (once-push before (take (at + 1) numbers) (length c.args.marks.now.items) c.args.mark
+          (once-push (take at numbers) (take (at + 1) numbers) (length c.args.marks.now.items) c.args.mark
           number marks c.loop-number.once.items so_far next lt (λ same. w.if-index-mark.true (read ∙ same)))
       | else-index-mark w ↦
           rw (ap (λ (m : Vec ℕ _). m.items) w.marks-is, ap (λ (m : Vec ℕ _). m.items) w.once-is)
-          (once-same before (take (at + 1) numbers) (length c.args.marks.now.items)
+          (once-same (take at numbers) (take (at + 1) numbers) (length c.args.marks.now.items)
           c.args.mark number marks c.loop-number.once.items so_far next (sym read ∙ w.if-index-mark.false))
     ] in
-    record { once = all.once_is; count = all.count_is; marked = all.marked; seen = all.seen }
+    all

@@ -1,5 +1,0 @@
-use Rattle.pprof_wire.proofs.EachList.{each_list_splits_into_numbers}
-use Rattle.pprof_wire.proofs.laws.each_list_splits_into_numbers.Goals as goal
-
-pub returns : goal.returns
-returns c = each_list_splits_into_numbers

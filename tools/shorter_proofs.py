@@ -1,11 +1,12 @@
 #!/usr/bin/env python3
 """shorter_proofs.py CRATE [JOBS]: tries proofs of a crate that take three lines or more as one call of a tactic each.
 
-An equation of an answer or of a lemma becomes a call of `grind` or `search` over the lemmas that its term cites and its
-own calls of the lemma, where that is shorter. The crate is checked, and what the prover refuses is put back, until
-nothing is refused, and then the next form is tried; imports that nothing uses any more are removed at last. It changes
-the files of crates/CRATE/proofs, and says how many lines are gone, once the crate is proved. Nothing else may work in
-the crate meanwhile.
+An equation of an answer or of a lemma, also of one in a module, becomes a call of `grind` or `search` over the lemmas
+that its term cites and its own calls of the lemma, where that is shorter; what stands after its `where` goes too. The
+crate is checked over the libraries that `./build` keeps of those below it, and what the prover refuses is put back,
+until nothing is refused, and then the next form is tried; imports that nothing uses any more are removed at last. It
+changes the files of crates/CRATE/proofs, and says how many lines are gone, once the crate is proved. Nothing else may
+work in the crate meanwhile.
 """
 import pathlib
 import re
@@ -13,22 +14,24 @@ import subprocess
 import sys
 from dataclasses import dataclass
 
-ROOT = pathlib.Path(__file__).resolve().parent.parent
+sys.dont_write_bytecode = True
+from libraries import ROOT, find_kit, over_libraries, read_crates
+
 WIDTH = 120
 LEAST = 3
 # The forms of a call, each a tactic and what its list begins with, and where these names are from.
-FORMS = [("grind", ("arith",)), ("grind", ("arith", "common_steps")), ("search", ("rules",))]
+FORMS = [("grind", ("arith", "common_steps")), ("grind", ("arith",)), ("search", ("rules",))]
 HOMES = {
     "arith": "Rattle.std.proofs.Common",
     "rules": "Rattle.std.proofs.Common",
     "common_steps": "Rattle.std.proofs.lemmas.Grind",
 }
 IMPORT = re.compile(r"^use ([\w.\-]+)\.\{([^}]*)\}", re.M)
-SIGNATURE = re.compile(r"^(?:pub )?([^\s:]+) : ", re.M)
-EQUATION = re.compile(r"^([^\s:=]+)((?: [^=]*)?) =(?: |$)")
+SIGNATURE = re.compile(r"^ *(?:pub )?([^\s:]+) : ", re.M)
+EQUATION = re.compile(r"^( *[^\s:=]+)((?: [^=:→]*)?) =(?: |$)")
 REFUSED = re.compile(r"(?:^|: )\./(proofs/\S+?\.antt):(\d+):\d+: error: ", re.M)
 ARGUMENT = re.compile(r"[A-Za-z_][\w\-'.]*|\d+|\[\]")
-BINDER = re.compile(r"λ ([^.]*)\.|let ([^=:]*)[=:]|\| ([^↦]*)↦")
+BINDER = re.compile(r"λ ([^.]*)\.|let ([^=:]*)[=:]|(?<!\|)\| ([^↦|]*)↦")
 WORD = re.compile(r"[A-Za-z_][\w\-']*")
 KEYWORDS = {"in", "then", "where", "let", "rw", "at"}
 
@@ -99,9 +102,10 @@ def laid_out(head, tactic, facts):
     line = f"{head} = {tactic} ({', '.join(facts)})"
     if len(line) <= WIDTH:
         return [line]
-    if len(line) - len(head) + 2 <= WIDTH:
-        return [f"{head} =", f"    {tactic} ({', '.join(facts)})"]
-    return [f"{head} =", f"    {tactic} (", *(f"      {fact}," for fact in facts), "    )"]
+    indent = " " * (len(head) - len(head.lstrip()) + 4)
+    if len(line) - len(head) + len(indent) - 2 <= WIDTH:
+        return [f"{head} =", f"{indent}{tactic} ({', '.join(facts)})"]
+    return [f"{head} =", f"{indent}{tactic} (", *(f"{indent}  {fact}," for fact in facts), f"{indent})"]
 
 
 def shorter(name, head, term, imports, earlier, form):
@@ -128,11 +132,19 @@ def with_imports(text, names):
 
 
 def end_of_equation(lines, start):
-    """The line after the equation that begins at a line: its others are indented, or close what it opened."""
-    end = start + 1
-    while end < len(lines) and lines[end][:1] in (" ", ")", "]", "}") and lines[end]:
+    """The line after the equation that begins at a line: its others are further in, or close what it opened. Among those
+    after its `where` may be empty lines."""
+    indent, end = depth_of(lines[start]), start + 1
+    while end < len(lines) and (depth_of(lines[end]) > indent or lines[end].strip()[:1] in (")", "]", "}")):
         end += 1
+        if end + 1 < len(lines) and not lines[end] and any(line.strip() == "where" for line in lines[start:end]):
+            end += depth_of(lines[end + 1]) > indent
     return end
+
+
+def depth_of(line):
+    """How far in a line begins; an empty one ends every equation."""
+    return len(line) - len(line.lstrip()) if line else -1
 
 
 def try_file(file, form):
@@ -143,13 +155,15 @@ def try_file(file, form):
     while at < len(lines):
         end, found = end_of_equation(lines, at), EQUATION.match(lines[at])
         old = lines[at:end]
-        if found and found[1] in names and len(old) >= LEAST and not any("where" in line for line in old):
-            name, head = found[1], found[1] + found[2]
+        if found and found[1].strip() in names and len(old) >= LEAST:
+            name, head = found[1].strip(), found[1] + found[2]
             term = re.sub(r"\s+", " ", "\n".join(old)[len(head) + 2 :])
             new = shorter(name, head, term, imports, names[: names.index(name)], form)
             if len(new) < len(old):
                 tries.append(Try(file, old, new))
                 old = new
+        if not found:
+            end, old = at + 1, lines[at : at + 1]
         kept += old
         at = end
     if tries:
@@ -157,13 +171,20 @@ def try_file(file, form):
     return tries
 
 
+def check(crate, *words):
+    """Checks the crate, from what an earlier check of this kind left."""
+    kept = crate.folder() / "out" / "shorter"
+    kept.mkdir(parents=True, exist_ok=True)
+    words = [*over_libraries(find_kit(), crate, "check"), "--incremental", kept, *words]
+    return subprocess.run(words, cwd=crate.folder(), stdout=subprocess.PIPE, stderr=subprocess.STDOUT, text=True)
+
+
 def refused_lines(crate, jobs):
     """Checks the crate, and returns the lines that the prover refuses, by file."""
-    words = ["rt", "check", "--jobs", jobs, "--allow-holes"]
-    said = subprocess.run(words, cwd=crate, capture_output=True, text=True).stdout
+    said = check(crate, "--jobs", jobs, "--allow-holes").stdout
     refused = {}
     for file, line in REFUSED.findall(said):
-        refused.setdefault(crate / file, set()).add(int(line))
+        refused.setdefault(crate.folder() / file, set()).add(int(line))
     return refused
 
 
@@ -185,21 +206,21 @@ def put_back(tries, refused):
 
 
 def lines_of(crate):
-    return sum(file.read_text(encoding="utf-8").count("\n") for file in (crate / "proofs").rglob("*.antt"))
+    return sum(file.read_text(encoding="utf-8").count("\n") for file in crate.sources("proofs"))
 
 
 def main():
-    crate = ROOT / "crates" / sys.argv[1]
+    crate = read_crates([sys.argv[1]])[-1]
     jobs = sys.argv[2] if len(sys.argv) > 2 else "1"
     before = lines_of(crate)
     for form in FORMS:
-        files = sorted((crate / "proofs").rglob("*.antt"))
+        files = crate.sources("proofs")
         tries = [one for file in files for one in try_file(file, form)]
         count, back = len(tries), tries
         while back:
             tries, back = put_back(tries, refused_lines(crate, jobs))
         print(f"{form[0]} {form[1]}: {len(tries)} of {count} equations are one call", flush=True)
-    if subprocess.run(["rt", "check", "--jobs", jobs, "--fix-imports"], cwd=crate, capture_output=True).returncode:
+    if check(crate, "--jobs", jobs, "--fix-imports").returncode:
         sys.exit(f"shorter_proofs: {crate.name} isn't proved: put its proofs back")
     print(f"{before - lines_of(crate)} of {before} lines are gone")
 

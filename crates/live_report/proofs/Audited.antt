@@ -1,4 +1,5 @@
 -- What was audited is what was dealt.
+use Rattle.std.proofs.lemmas.Grind.{common_steps}
 use Rattle.std.proofs.Common.{ℕ, zero, suc, ◌≡◌, ◌≤◌, ◌+◌, ◌*◌, inl, inr, Bool, true, false, cond, Option, Some, None}
 use Rattle.std.proofs.Common.{List, [], ◌∷◌, ◌++◌, All, get_or, length, filter, map, ap, sym, subst, ◌∙◌, refl, arith}
 use Rattle.std.specs.Prelude.{IsPermutation, IsSomeAnd, MatchOption, slice_get, sum_by}
@@ -6,16 +7,18 @@ use Rattle.std.specs.List.{flat_map}
 use Rattle.std.proofs.lemmas.List.{length-map}
 use Rattle.std.proofs.lemmas.List.Elements.{All-cons, All-nil}
 use Rattle.std.proofs.lemmas.List.Sums.{sum_by-append, sum_by-cons}
-use Rattle.profile_rows.specs.Rows.{is_same_stack, weight_if, weight_of}
-use Rattle.profile_rows.specs.Values.{BatchState, Row, rows_at, weighing}
+use Rattle.profile_rows.specs.Rows.{weight_of}
+use Rattle.profile_rows.specs.Values.{BatchState, Row, rows_at}
 use Rattle.op_book.specs.Books.{JournalState}
 use Rattle.op_book.specs.Receipts.{Precedes}
 use Rattle.log_audit.specs.Matching.{IsInOrder, IsKnown, IsOfJournal, LoggedReceipt, LogsMatch, PlainStep}
 use Rattle.op_book.specs.Receipts.{key_of}
 use Rattle.log_audit.specs.Matching.{logged, logged_after, logged_from, steps_in}
 use Rattle.op_book.specs.Operations.{PlainEntry, PlainOp, PlainReceipt, add, reset, ask, addition_of, batches_after}
-use Rattle.op_book.specs.Operations.{is_change, is_reset, operations_of, placed, profile_after}
+use Rattle.op_book.specs.Operations.{is_change, is_reset, operations_of, profile_after}
 use Rattle.op_book.specs.declared.entry.SessionLog.{SessionLog}
+use Rattle.log_audit.proofs.Following.{nobody}
+use Rattle.log_audit.proofs.Numbering.{key_by}
 use Rattle.log_audit.proofs.Weighing as weighing
 use Rattle.log_audit.proofs.Weighing.{added, counted, of_changes, sum_by-map, weigh_log, weigh_logs}
 use Rattle.live_store.specs.Workers.{ops_told}
@@ -27,7 +30,7 @@ use Rattle.flame_words.specs.LiveOptions.{PlainOptions}
 
 sum_by-one : {X : Type 0} (xs : List X) → sum_by (λ _. 1) xs ≡ length xs
 sum_by-one [] = refl
-sum_by-one (x ∷ xs) = let here = sum_by-cons (λ _. 1) x xs in let rest = sum_by-one xs in omega (arith, here, rest)
+sum_by-one (x ∷ xs) = grind (arith, common_steps, sum_by-cons, sum_by-one xs)
 
 -- ---- what logs tell
 
@@ -35,12 +38,13 @@ logs_weigh : (weight : PlainOp → ℕ) (logs : List SessionLog)
     → weigh_logs (λ op reply. weight op) logs ≡ weigh weight (map (λ (log : SessionLog). ops_told log.receipts) logs)
 logs_weigh weight [] = refl
 logs_weigh weight (log ∷ logs) =
-    let here = sum_by-cons (λ (log : SessionLog). weigh_log (λ op reply. weight op) log.receipts) log logs in
-    let there =
-    sum_by-cons (sum_by weight) (ops_told log.receipts) (map (λ (log : SessionLog). ops_told log.receipts) logs) in
-    let one = sum_by-map weight (λ (receipt : PlainReceipt). receipt.op) log.receipts in
-    let rest = logs_weigh weight logs in
-    omega (arith, here, there, one, rest)
+    grind (
+      arith,
+      common_steps,
+      sum_by-cons,
+      sum_by-map weight (λ (receipt : PlainReceipt). receipt.op) log.receipts,
+      logs_weigh weight logs,
+    )
 
 -- the run's operations weigh what was told, and that is a warm start and what was dealt
 pub run_weighs : (batch : BatchState) (sessions : ℕ)
@@ -58,7 +62,7 @@ run_weighs batch sessions warm lists logs run dealt told once weight =
 
 length-totals_from : (value more : ℕ) → length (totals_from value more) ≡ more
 length-totals_from value zero = refl
-length-totals_from value (suc more) = let rest = length-totals_from (value + 1) more in omega (arith, rest)
+length-totals_from value (suc more) = grind (arith, common_steps, length-totals_from (value + 1) more)
 
 counts_warm : (is : Bool) (batch : BatchState) → weigh (λ _. 1) (warm_lists (cond is (Some batch) None)) ≡ cond is 3 0
 counts_warm true batch = refl
@@ -88,14 +92,11 @@ no_totals : (weight : PlainOp → ℕ)
     → ((value : ℕ) → weight (total_at value) ≡ 0) → (value more : ℕ) → sum_by weight (totals_from value more) ≡ 0
 no_totals weight none value zero = refl
 no_totals weight none value (suc more) =
-    let here = sum_by-cons weight (total_at value) (totals_from (value + 1) more) in
-    let rest = no_totals weight none (value + 1) more in
-    let one = none value in
-    omega (arith, here, rest, one)
+    grind (arith, common_steps, sum_by-cons, none value, no_totals weight none (value + 1) more)
 
 zero_times : (k : ℕ) → k * 0 ≡ 0
 zero_times zero = refl
-zero_times (suc k) = let rest = zero_times k in omega (arith, rest)
+zero_times (suc k) = grind (arith, common_steps, zero_times k)
 
 -- the entries weigh what the warm start and the additions do
 entries_weigh : (batch : BatchState) (sessions : ℕ) (warm lists : List (List PlainOp))
@@ -136,27 +137,19 @@ none_reset (op ∷ operations) sum =
     (one op (omega (arith, here, sum))) (none_reset operations (omega (arith, here, sum)))
   where
     one : (op : PlainOp) → resets op ≡ 0 → is_reset op ≡ false
-    one (add batch) none = refl
-    one reset none = absurd (omega (arith, none))
-    one (ask query) none = refl
+    one op none = grind (arith, common_steps)
 
 -- rows that are added one by one reset nothing, and add what they are
 additions_reset_nothing : (width : ℕ) (rows : List Row) → sum_by resets (map (addition width) rows) ≡ 0
 additions_reset_nothing width [] = refl
 additions_reset_nothing width (row ∷ rows) =
-    let here = sum_by-cons resets (addition width row) (map (addition width) rows) in
-    let rest = additions_reset_nothing width rows in
-    omega (arith, here, rest)
+    grind (arith, common_steps, sum_by-cons, additions_reset_nothing width rows)
 
 additions_add : (value : ℕ) (stack : List (List ℕ)) (width : ℕ) (rows : List Row)
     → sum_by (added value stack) (map (addition width) rows) ≡ weight_of (rows_at value rows) stack
 additions_add value stack width [] = refl
 additions_add value stack width (row ∷ rows) =
-    let here = sum_by-cons (added value stack) (addition width row) (map (addition width) rows) in
-    let rest = additions_add value stack width rows in
-    let there = sum_by-cons (weight_if (is_same_stack stack)) (weighing value row) (rows_at value rows) in
-    let alone = sum_by-cons (weight_if (is_same_stack stack)) (weighing value row) [] in
-    omega (arith, here, rest, there, alone)
+    grind (arith, common_steps, sum_by-cons, additions_add value stack width rows)
 
 -- ---- the entries after a warm start
 
@@ -253,16 +246,6 @@ warm_log batch (a ∷ b ∷ c ∷ []) told = record {
 }
 warm_log batch (a ∷ b ∷ c ∷ d ∷ rest) told = absurd (let sizes = ap length told in omega (arith, sizes))
 
-key_change : (receipt : PlainReceipt) (op : PlainOp)
-    → receipt.op ≡ op → is_change op ≡ true → key_of receipt ≡ 2 * receipt.at + 1
-key_change receipt op is change = ap (λ (o : PlainOp). cond (is_change o) (2 * receipt.at + 1) (2 * receipt.at)) is
-    ∙ ap (λ b. cond b (2 * receipt.at + 1) (2 * receipt.at)) change
-
-key_report : (receipt : PlainReceipt) (op : PlainOp)
-    → receipt.op ≡ op → is_change op ≡ false → key_of receipt ≡ 2 * receipt.at
-key_report receipt op is report = ap (λ (o : PlainOp). cond (is_change o) (2 * receipt.at + 1) (2 * receipt.at)) is
-    ∙ ap (λ b. cond b (2 * receipt.at + 1) (2 * receipt.at)) report
-
 precedes_le : (earlier later : PlainReceipt) → Precedes earlier later → key_of earlier ≤ key_of later
 precedes_le earlier later (inl less) = omega (arith, less)
 precedes_le earlier later (inr (same, report)) = omega (arith, same)
@@ -312,9 +295,9 @@ warmed_by journal batch (log ∷ logs) lists is told at =
     let order = subst (λ (l : List LoggedReceipt). All IsInOrder l) here is.in_order in
     let one = precedes_le warm.first warm.second (order 1 nobody (omega arith)) in
     let two = precedes_le warm.second warm.third (order 2 nobody (omega arith)) in
-    let a = key_change warm.first (add batch) warm.adds refl in
-    let b = key_report warm.second (total_at 0) warm.asks refl in
-    let c = key_change warm.third reset warm.resets refl in
+    let a = key_by warm.first true (ap is_change warm.adds) in
+    let b = key_by warm.second false (ap is_change warm.asks) in
+    let c = key_by warm.third true (ap is_change warm.resets) in
     let start : warm.first.at ≡ 0 = omega (arith, one, two, a, b, c, place) in
     let first = subst (λ k. IsSomeAnd (slice_get journal.entries k) (λ entry. entry.op ≡ add batch)) start
     (entry_of journal log.session warm.first (add batch) warm.adds refl (known 0 nobody (omega arith)).1) in
@@ -322,16 +305,6 @@ warmed_by journal batch (log ∷ logs) lists is told at =
     (entry_of journal log.session warm.third reset warm.resets refl (known 2 nobody (omega arith)).1) in
     let (later, split) = two_first journal.entries (add batch) reset first second in
     record { later = later; split = split }
-  where
-    nobody : LoggedReceipt
-    nobody = record {
-      number =
-          0;
-      session = 0;
-      index = 0;
-      earlier = None;
-      receipt = record { op = reset; reply = placed 0; at = 0 };
-    }
 
 pub warmed_if : (journal : JournalState) (batch : BatchState) (is : Bool)
     (warm : Option BatchState) (logs : List SessionLog) (lists : List (List PlainOp)) → LogsMatch journal logs

@@ -1,4 +1,5 @@
 -- What operations of lists weigh, as the lists grow.
+use Rattle.std.proofs.lemmas.Grind.{common_steps}
 use Rattle.std.proofs.Common.{ℕ, suc, ◌≡◌, ◌<◌, ◌+◌, ◌*◌, List, [], ◌∷◌, ◌++◌, length, get_or, set, map, Option, None}
 use Rattle.std.proofs.Common.{ap, sym, subst, ◌∙◌, refl, arith}
 use Rattle.std.specs.Prelude.{MatchOption, sum_by}
@@ -17,21 +18,14 @@ pub weigh-push : (weight : PlainOp → ℕ) (lists : List (List PlainOp)) (k : �
     → k < length lists → get_or lists k [] ≡ old
     → weigh weight (set lists k (old ++ op ∷ [])) ≡ weigh weight lists + weight op
 weigh-push weight lists k old op lt is =
-    let changed = sum_by-set (sum_by weight) lists k (old ++ op ∷ []) [] lt in
-    let more = sum_by_push weight old op in
-    let had = ap (sum_by weight) is in
-    omega (arith, changed, more, had)
+    grind (arith, common_steps, sum_by_push, sum_by-set (sum_by weight) lists k (old ++ op ∷ []) [] lt)
 
 -- the same operations at the end of each list
 pub weigh-ends : (weight : PlainOp → ℕ) (ends : List PlainOp) (lists : List (List PlainOp))
     → weigh weight (map (λ list. list ++ ends) lists) ≡ weigh weight lists + length lists * sum_by weight ends
 weigh-ends weight ends [] = omega arith
 weigh-ends weight ends (list ∷ lists) =
-    let rest = weigh-ends weight ends lists in
-    let here = sum_by-cons (sum_by weight) (list ++ ends) (map (λ list. list ++ ends) lists) in
-    let first = sum_by-cons (sum_by weight) list lists in
-    let both = sum_by-append weight list ends in
-    omega (arith, rest, here, first, both)
+    grind (arith, common_steps, sum_by-cons, sum_by-append, weigh-ends weight ends lists)
 
 -- one total more, of the next value
 pub totals-more : (value more : ℕ) (front : List PlainOp)

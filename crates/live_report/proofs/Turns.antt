@@ -1,5 +1,6 @@
 -- Rows are dealt in turn.
 use Prim.Native.Nat.{suc}
+use Rattle.std.proofs.lemmas.Grind.{common_steps}
 use Rattle.std.proofs.Common.{ℕ, ◌≡◌, ◌≢◌, ◌<◌, ◌+◌, ◌-◌, ◌%◌, ◌⊎◌, inl, inr, List, [], ◌∷◌, ◌++◌, length, get_or, set, map}
 use Rattle.std.proofs.Common.{ap, sym, ◌∙◌, arith}
 use Rattle.std.proofs.Math.Nat.{mod-eq_of_lt, mod_self}
@@ -32,42 +33,12 @@ next_turn workers next lt = elim (cases_lt (next + 1) workers) [
 -- the worker who was dealt a row waits for all others
 dealt_last : (workers next before worker : ℕ) → next < workers → worker ≡ next
     → IsTurn workers ((next + 1) % workers) before worker → before ≡ workers - 1
-dealt_last workers next before worker lt same turn = elim (next_turn workers next lt) [
-  | inl more ↦ elim turn.2 [
-    | inl here ↦ omega (arith, lt, same, turn.0, more.1, here)
-    | inr there ↦ omega (arith, lt, same, turn.0, more.1, there)
-  ]
-  | inr last ↦ elim turn.2 [
-    | inl here ↦ omega (arith, lt, same, turn.0, last.0, last.1, here)
-    | inr there ↦ omega (arith, lt, same, turn.0, last.0, last.1, there)
-  ]
-]
+dealt_last workers next before worker lt same turn = grind (arith, common_steps, next_turn)
 
 -- any other worker waited for one row more
 waited_more : (workers next before worker : ℕ) → next < workers → worker ≢ next
     → IsTurn workers ((next + 1) % workers) before worker → IsTurn workers next (suc before) worker
-waited_more workers next before worker lt other turn = elim (next_turn workers next lt) [
-  | inl more ↦ elim turn.2 [
-    | inl here ↦ (
-      omega (arith, lt, other, turn.0, turn.1, more.1, here),
-      turn.1,
-      inl (omega (arith, more.1, here)),
-    )
-    | inr there ↦ (
-      omega (arith, lt, other, turn.0, turn.1, more.1, there),
-      turn.1,
-      inr (omega (arith, more.1, there)),
-    )
-  ]
-  | inr last ↦ elim turn.2 [
-    | inl here ↦ (
-      omega (arith, lt, other, turn.0, turn.1, last.0, last.1, here),
-      turn.1,
-      inr (omega (arith, last.0, last.1, here)),
-    )
-    | inr there ↦ absurd (omega (arith, turn.0, last.1, there))
-  ]
-]
+waited_more workers next before worker lt other turn = grind (arith, common_steps, next_turn)
 
 -- a row more is dealt
 pub turns-more : (width workers next : ℕ) (lists : List (List PlainOp)) (old : List PlainOp) (row : Row)

@@ -41,7 +41,8 @@ use Rattle.profile_samples.specs.NameNumbers.{with_number, with_numbers}
 use Rattle.profile_samples.proofs.ExportLaws.{AllStand, number_in-withs, stands_in, with_text-own, with_texts-own}
 use Rattle.profile_samples.proofs.ExportLaws.{with_texts-stands}
 use Rattle.profile_rows.proofs.NumberedRows.{none_single, single_with}
-use Rattle.profile_rows.proofs.TextNumbers.{number_in-with, with_texts-append, list_any-map, number_in-lt, text_of_number}
+use Rattle.profile_rows.proofs.TextNumbers.{number_in-with, with_texts-append, list_any-map, number_in-lt}
+use Rattle.profile_rows.proofs.TextNumbers.{text_of_number}
 use Rattle.profile_samples.proofs.ItemsById.{IsName-address, item_with-all, item_with-found}
 
 -- ---- numbers of strings and functions

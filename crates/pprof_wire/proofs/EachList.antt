@@ -10,7 +10,8 @@ use Rattle.pprof_wire.specs.Varints.{number_of, IsVarint, AllContinue, IsVarintF
 use Rattle.pprof_wire.specs.Fields.{FieldValue, varint, fixed64, fixed32, content, PlainField, IsFieldNumber}
 use Rattle.pprof_wire.specs.Fields.{wire_type_of, IsValueSpelling, IsFieldSpelling, SplitsIntoFields, IsTagFault}
 use Rattle.pprof_wire.specs.Fields.{IsRestFault}
-use Rattle.pprof_wire.proofs.VarintLaws.{number_of-snoc, number_of-below, last_byte, last_of_few, more_continue, is_long}
+use Rattle.pprof_wire.proofs.VarintLaws.{number_of-snoc, number_of-below, last_byte, last_of_few, more_continue}
+use Rattle.pprof_wire.proofs.VarintLaws.{is_long}
 use Rattle.pprof_wire.proofs.VarintLaws.{fault_without_number}
 use Rattle.pprof_wire.proofs.FieldLaws.{delimited_read, field_read, number_fault, value_fault}
 use Rattle.pprof_wire.proofs.SpelledLists.{BeginsWith, each_list_splits}
@@ -121,7 +122,8 @@ delimited_value bytes found =
         len = found.len + length (take found.item rest);
         within = omega (arith, found.at.within, length-drop found.len bytes, length-take-le found.item rest enough);
         typed = refl;
-        spelled = delimited_read bytes found.item found.len rest (take found.item rest) found.at.spelled refl refl enough;
+        spelled =
+            delimited_read bytes found.item found.len rest (take found.item rest) found.at.spelled refl refl enough;
       })
     ]
 

@@ -1,6 +1,6 @@
 -- Laws of lists of bytes that spell things one after the other.
-use Rattle.std.proofs.Common.{◌≡◌, ℕ, zero, suc, ◌<◌, ◌≤◌, ◌⊎◌, inl, inr, List, [], ◌∷◌, ◌++◌, length, length-append, length-drop}
-use Rattle.std.proofs.Common.{drop, take, refl, sym, ap, ◌∙◌, arith, subst, append_assoc}
+use Rattle.std.proofs.Common.{◌≡◌, ℕ, zero, suc, ◌<◌, ◌≤◌, ◌⊎◌, inl, inr, List, [], ◌∷◌, ◌++◌, length, length-append}
+use Rattle.std.proofs.Common.{length-drop, drop, take, refl, sym, ap, ◌∙◌, arith, subst, append_assoc}
 use Rattle.std.proofs.lemmas.List.{append-nil, length-take-le, take-append-drop}
 use Rattle.pprof_wire.specs.SpelledLists.{AreSpelled, BeginsWithNone, IsAtFront, SplitsInto}
 
@@ -29,7 +29,8 @@ IsSpelledOnce {A = A} Spells = (a b x y : List ℕ) (m n : A)
 -- what was read at the front is what is spelled there
 pub read_once : {A : Type 0} (Spells : List ℕ → A → Type 0) → IsSpelledOnce Spells
     → (bytes spelling rest : List ℕ) (len : ℕ) (read item : A) → IsAtFront Spells bytes len read
-    → bytes ≡ spelling ++ rest → Spells spelling item → (read ≡ item) × (len ≡ length spelling) × (drop len bytes ≡ rest)
+    → bytes ≡ spelling ++ rest → Spells spelling item
+    → (read ≡ item) × (len ≡ length spelling) × (drop len bytes ≡ rest)
 read_once Spells once bytes spelling rest len read item found same spelled =
     let all = once (take len bytes) spelling (drop len bytes) rest read item found.spelled spelled
     (take-append-drop len bytes ∙ same) in

@@ -105,7 +105,8 @@ pub last_byte : (bytes : List ℕ) (count : ℕ) → count ≤ 9 → count < len
 last_byte bytes count most within continued last fits = record {
   within = omega arith;
   spelled = record {
-    groups = rw (take_more bytes count 0 within) (IsGroups-snoc (take count bytes) (get_or bytes count 0) continued last);
+    groups =
+        rw (take_more bytes count 0 within) (IsGroups-snoc (take count bytes) (get_or bytes count 0) continued last);
     short = omega (arith, length-take-le (count + 1) bytes (omega arith));
     value = refl;
     fits = fits;
@@ -122,7 +123,8 @@ pub more_spelled : (bytes : List ℕ) (count number : ℕ) → count < 9 → cou
     → IsReadSoFar bytes count number → get_or bytes count 0 < 128
     → IsAtFront IsVarint bytes (count + 1) (number + bit_and (get_or bytes count 0) 127 * 2 ^ (7 * count) % 2 ^ 64)
 more_spelled bytes count number small within read last =
-    rw (more_value bytes count number small within read.value) (last_of_few bytes count small within read.continued last)
+    rw (more_value bytes count number small within read.value)
+    (last_of_few bytes count small within read.continued last)
 
 -- a byte of a spelling that isn't the last
 pub more_continue : (bytes : List ℕ) (count : ℕ) → count < length bytes → AllContinue (take count bytes)

@@ -1,6 +1,7 @@
 -- Varints, by the Protocol Buffers encoding page, "Base 128 Varints".
 use Rattle.std.specs.Prelude.{◌≡◌, ℕ, zero, suc, ◌+◌, ◌*◌, ◌/◌, ◌%◌, ◌^◌, nat_lt, if◌then◌else◌, ◌<◌, ◌≤◌, List, []}
-use Rattle.std.specs.Prelude.{◌∷◌, ◌++◌, length, ◌↔◌, Option, Result, Ok, Err, IsNone, IfNone, IfSome, IfOk, IfErr, OnOk}
+use Rattle.std.specs.Prelude.{◌∷◌, ◌++◌, length, ◌↔◌, Option, Result, Ok, Err, IsNone, IfNone, IfSome}
+use Rattle.std.specs.Prelude.{IfOk, IfErr, OnOk}
 use Rattle.std.specs.List.{AllByRecursion}
 use Rattle.pprof_wire.specs.SpelledLists.{AreSpelled, IsAtFront, SplitsInto}
 use Rattle.pprof_wire.specs.declared.faults.WireFault.{WireFault}
@@ -64,7 +65,8 @@ IsVarintRead bytes (Err fault) = IsVarintFault fault bytes
 pub record IsNextNumber (old : List ℕ) (next : Option (Result ℕ WireFault)) (new : List ℕ) : Type 0 where
   pub end : IsNone next ↔ (old ≡ [])
   pub stays : IfNone next (new ≡ old)
-  pub number : IfSome next (λ read. IfOk read (λ number. (spelling : List ℕ) × (old ≡ spelling ++ new) × IsVarint spelling number))
+  pub number : IfSome next (λ read. IfOk read (λ number.
+      (spelling : List ℕ) × (old ≡ spelling ++ new) × IsVarint spelling number))
   pub fault : IfSome next (λ read. IfErr read (λ fault. (new ≡ old) × IsVarintFault fault old))
   pub shorter : IfSome next (λ read. OnOk read (length new < length old))
 

@@ -42,7 +42,8 @@ use Rattle.profile_samples.proofs.ExportLaws.{AllStand, number_in-withs, stands_
 use Rattle.profile_samples.proofs.ExportLaws.{with_texts-stands}
 use Rattle.name_counts.proofs.NumberedRows.{none_single, single_with}
 use Rattle.profile_rows.proofs.Members.{list_any-map}
-use Rattle.name_counts.proofs.TextNumbers.{number_in-with, with_texts-append, number_in-lt, text_of_number}
+use Rattle.name_counts.proofs.TextNumbers.{number_in-with, with_texts-append, number_in-lt}
+use Rattle.name_counts.proofs.TextNumbers.{text_of_number}
 use Rattle.profile_samples.proofs.ItemsById.{IsName-address, item_with-all, item_with-found}
 
 -- ---- numbers of strings and functions

@@ -23,7 +23,8 @@ use Rattle.profile_samples.proofs.FirstFaults.{gives_of_stacks}
 
 pub gives_merged : (draft : Draft) (choice : ValueChoice) (result : Result (List WeightedStack) BatchFault)
     → MatchResult result (IsMergedBatch draft choice) (λ fault. IsFirstStacksFault draft choice fault)
-    → GivesOfStacks draft choice (IsMergedBatch draft choice) (λ rows sums. aggregate_of sums ≡ aggregate_of rows) result
+    → GivesOfStacks draft choice (IsMergedBatch draft choice)
+    (λ rows sums. aggregate_of sums ≡ aggregate_of rows) result
 gives_merged draft choice =
     gives_of_stacks draft choice (IsMergedBatch draft choice) (λ rows sums. aggregate_of sums ≡ aggregate_of rows)
     (λ sums is. (is.rows, is.sampled, is.same))

@@ -12,7 +12,8 @@ use Rattle.profile_samples.proofs.counted_samples.sample_totals.Goals as goal
 
 pub returns-in_err-chosen : goal.returns-in_err-chosen
 returns-in_err-chosen c =
-    gives_totals c.args.profile.now c.args.choice c.from_residual.result (grind (arith, common_steps, err_from_is_err_and))
+    gives_totals c.args.profile.now c.args.choice c.from_residual.result
+    (grind (arith, common_steps, err_from_is_err_and))
 
 pub returns-in_err-frames : goal.returns-in_err-frames
 returns-in_err-frames c =
@@ -43,4 +44,5 @@ totals_by-requires-clause-uncounted c =
     c.in_ok-tallies.ensures (frame_names profile) (frame_names-single profile) many
 
 pub returns : goal.returns
-returns c = gives_totals c.args.profile.now c.args.choice c.totals_by.result (grind (arith, common_steps, first_of_work))
+returns c =
+    gives_totals c.args.profile.now c.args.choice c.totals_by.result (grind (arith, common_steps, first_of_work))

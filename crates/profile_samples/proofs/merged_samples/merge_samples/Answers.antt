@@ -10,7 +10,8 @@ use Rattle.profile_samples.proofs.merged_samples.merge_samples.Goals as goal
 
 pub returns-in_err-chosen : goal.returns-in_err-chosen
 returns-in_err-chosen c =
-    gives_merged c.args.profile.now c.args.choice c.from_residual.result (grind (arith, common_steps, err_from_is_err_and))
+    gives_merged c.args.profile.now c.args.choice c.from_residual.result
+    (grind (arith, common_steps, err_from_is_err_and))
 
 pub returns-in_err-frames : goal.returns-in_err-frames
 returns-in_err-frames c =
@@ -33,6 +34,8 @@ merged_by-requires-clause-typed c =
     omega (arith, within)
 
 pub returns : goal.returns
-returns c = gives_merged c.args.profile.now c.args.choice c.merged_by.result (first_of_standing (IsMergedBatch c.args.profile.now c.args.choice) 1
+returns c =
+    gives_merged c.args.profile.now c.args.choice c.merged_by.result
+    (first_of_standing (IsMergedBatch c.args.profile.now c.args.choice) 1
     c.args.profile.now c.args.choice c.merged_by.result
     (c.merged_by.ensures c.args.choice (rw c.draft.ensures.draft at c.in_ok-chosen.ensures)))

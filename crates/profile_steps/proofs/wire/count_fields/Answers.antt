@@ -6,8 +6,8 @@ use Rattle.profile_steps.proofs.wire.count_fields.Goals as goal
 pub loop-read-preserved : goal.loop-read-preserved
 loop-read-preserved c =
     let so-far = c.loop-read.invariant in
-    let next = rw c.in-Ok.is at c.in-Some.ensures.field in
-    let shorter = rw c.in-Ok.is at c.in-Some.ensures.shorter in
+    let next = rw c.in-Ok.is at c.in-Some.ensures.read.field in
+    let shorter = rw c.in-Ok.is at c.in-Some.ensures.read.shorter in
     record {
       front = so-far.front ++ next.spelling;
       fields = so-far.fields ++ field_of c.in-Ok.field-0 ∷ [];
@@ -29,7 +29,7 @@ loop-read-preserved c =
 pub returns-in-Err : goal.returns-in-Err
 returns-in-Err c =
     let so-far = c.loop-read.invariant in
-    let wrong = rw c.in-Err.is at c.in-Some.ensures.fault in (
+    let wrong = rw c.in-Err.is at c.in-Some.ensures.read.fault in (
       so-far.fields,
       c.loop-read.fields.bytes,
       record {

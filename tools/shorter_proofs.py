@@ -132,8 +132,8 @@ def with_imports(text, names):
 
 
 def end_of_equation(lines, start):
-    """The line after the equation that begins at a line: its others are further in, or close what it opened. Among those
-    after its `where` may be empty lines."""
+    """The line after the equation that begins at a line: its others are further in, or close what it opened. Among
+    those after its `where` may be empty lines."""
     indent, end = depth_of(lines[start]), start + 1
     while end < len(lines) and (depth_of(lines[end]) > indent or lines[end].strip()[:1] in (")", "]", "}")):
         end += 1

@@ -231,7 +231,8 @@ fn join_one<N: StoreName, R: Threads + Wait>(
     begun: StartedWorker<N>,
 ) -> FinishedWorker
     requires { begun.session < N.sessions }
-    ensures finished { IsFinished N.limit N.width N.sessions (map plain_op begun.list.value.items) begun.session result }
+    ensures finished { IsFinished N.limit N.width N.sessions
+        (map plain_op begun.list.value.items) begun.session result }
     ensures start { MatchOption begun.thread (IsSomeAnd result.stopped (λ stop. stop.cause ≡ Cause.Start))
         (λ _. IsStarted result) }
 {

@@ -15,8 +15,8 @@
 //!
 //! The layers below these aren't in it: `basics`, the wire format (`pprof_wire`), the pages of trees (`shared_pages`),
 //! and the history of a store with its versions (`shown_versions`). Of them it has only what its calls take or give:
-//! [`Items`], [`NoMemory`], [`WireFault`] and [`StoreName`]. Of `name_counts` it has [`KnownNames`] and [`kept_totals`].
-//! Nor is the program in it: `flame_words`, `flame_answers`, `live_report` and `flame_program`.
+//! [`Items`], [`NoMemory`], [`WireFault`] and [`StoreName`]. Of `name_counts` it has [`KnownNames`] and
+//! [`kept_totals`]. Nor is the program in it: `flame_words`, `flame_answers`, `live_report` and `flame_program`.
 #![tactic(auto)]
 
 pub mod laws;

@@ -1,5 +1,5 @@
-//! Scripts of worked rows: their blocks and steps, the bytes that steps name, and what a step made beside what it has to
-//! make. `docs/WORKED_ROWS.md` is the page of the language. What each command does stands in the crates above.
+//! Scripts of worked rows: their blocks and steps, the bytes that steps name, and what a step made beside what it has
+//! to make. `docs/WORKED_ROWS.md` is the page of the language. What each command does stands in the crates above.
 #![tactic(auto)]
 
 mod bytes;

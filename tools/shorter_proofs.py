@@ -155,7 +155,7 @@ def try_file(file, form):
     while at < len(lines):
         end, found = end_of_equation(lines, at), EQUATION.match(lines[at])
         old = lines[at:end]
-        if found and found[1].strip() in names and len(old) >= LEAST:
+        if found and found[1].strip() in names and len(old) >= LEAST and "{" not in found[2]:
             name, head = found[1].strip(), found[1] + found[2]
             term = re.sub(r"\s+", " ", "\n".join(old)[len(head) + 2 :])
             new = shorter(name, head, term, imports, names[: names.index(name)], form)
@@ -196,8 +196,10 @@ def lines_at(one):
 
 
 def put_back(tries, refused):
-    """Puts the old lines of refused tries in their places, and returns the tries that are left and those put back."""
+    """Puts the old lines of refused tries in their places, and returns the tries that are left and those put back. Where
+    a file is refused at no try, all of its tries go."""
     back = [one for one in tries if not refused.get(one.file, set()).isdisjoint(lines_at(one))]
+    back = back or [one for one in tries if one.file in refused]
     for one in back:
         text = one.file.read_text(encoding="utf-8")
         changed = text.replace("\n".join(["", *one.new, ""]), "\n".join(["", *one.old, ""]), 1)

@@ -1,6 +1,6 @@
 -- Names that are numbered as rows are counted.
 use Rattle.std.proofs.lemmas.Grind.{common_steps}
-use Rattle.std.proofs.Common.{◌≡◌, ℕ, zero, suc, ◌+◌, ◌-◌, ◌^◌, ◌<◌, ◌≤◌, Bool, true, false, cond, ◌||◌, List, [], ◌∷◌, ◌++◌}
+use Rattle.std.proofs.Common.{◌≡◌, ℕ, zero, suc, ◌+◌, ◌-◌, ◌^◌, ◌<◌, ◌≤◌, true, false, cond, List, [], ◌∷◌, ◌++◌}
 use Rattle.std.proofs.Common.{length, map, take, drop, get_or, refl, sym, ap, ◌∙◌, subst, arith, All, Option, Some, replicate}
 use Rattle.std.proofs.Common.{None}
 use Rattle.std.specs.Prelude.{MatchOption, slice_get, slice_index_or}
@@ -100,24 +100,7 @@ none_single = tt
 
 pub none_counted : (texts : List (List ℕ)) (tallies : Tallies) → texts ≡ [] → tallies.names.items ≡ []
     → tallies.total ≡ 0 → AreTalliesOf [] texts tallies
-none_counted texts tallies none nothing total = record {
-  single = subst AreSingle (sym none) none_single;
-  many = ap length nothing ∙ sym (ap length none);
-  each = λ q.
-      let zero_is : tally_of texts tallies.names.items q ≡ zero_tally =
-      ap (λ ts. tally_of texts ts q) nothing ∙ past (number_in texts q) in
-      record {
-        flat = ap (λ (t : Tally). t.flat) zero_is;
-        cumulative = ap (λ (t : Tally). t.cumulative) zero_is;
-        numbered = let row = ap (λ (t : Tally). t.row) zero_is in omega (arith, row);
-        named = λ some. let weight = ap (λ (t : Tally). t.cumulative) zero_is in absurd (omega (arith, some, weight));
-      };
-  total = total;
-}
-  where
-    past : (number : ℕ) → tally_at [] number ≡ zero_tally
-    past zero = refl
-    past (suc number) = refl
+none_counted texts tallies none nothing total = grind (arith, common_steps, zero_tally, none_single)
 
 names_at-more : (names more : List (List ℕ)) (numbers : List ℕ) → AllByRecursion
     (λ number. number < length names) numbers → names_at (names ++ more) numbers ≡ names_at names numbers
@@ -136,17 +119,7 @@ length-with names name = grind (arith, common_steps, length-append)
 -- the number of a name that was added is below the end
 number_is-within : (names : List (List ℕ)) (name : List ℕ)
     → number_in (with_text names name) name < length (with_text names name)
-number_is-within names name = elim (list_any (bytes_eq name) names) as (λ b. list_any (bytes_eq name) names ≡ b
-    → number_in (cond b names (names ++ name ∷ [])) name < length (cond b names (names ++ name ∷ []))) [
-      | true ↦ λ e. number_in-lt names name e
-      | false ↦ λ e. number_in-lt (names ++ name ∷ []) name (any_push names name name ∙ ap
-          (λ b. list_any (bytes_eq name) names || b) (is_same_name-self name)
-          ∙ or_true (list_any (bytes_eq name) names))
-    ] refl
-  where
-    or_true : (b : Bool) → (b || true) ≡ true
-    or_true true = refl
-    or_true false = refl
+number_is-within names name = grind (arith, common_steps, any_push, number_in-lt, is_same_name-self)
 
 -- the number of a name that was added is inside
 number_inside : (old new : List (List ℕ)) (name : List ℕ) (number : ℕ)

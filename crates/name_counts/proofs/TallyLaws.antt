@@ -1,6 +1,6 @@
 -- A row counts each of its names once, and its leaf.
 use Rattle.std.proofs.lemmas.Grind.{common_steps}
-use Rattle.std.proofs.Common.{◌≡◌, ◌≢◌, ℕ, zero, suc, ◌+◌, ◌<◌, ◌≤◌, Bool, true, false, cond, eqb, ◌||◌, List, []}
+use Rattle.std.proofs.Common.{rules, ◌≡◌, ◌≢◌, ℕ, zero, suc, ◌+◌, ◌<◌, ◌≤◌, Bool, true, false, cond, eqb, ◌||◌, List, []}
 use Rattle.std.proofs.Common.{◌∷◌, ◌++◌, length, set, Some, None, refl, sym, ap, ◌∙◌, subst, arith, All}
 use Rattle.std.specs.Prelude.{if◌then◌else◌, slice_index_or}
 use Rattle.std.specs.List.{AllByRecursion, IsDistinct}
@@ -187,36 +187,15 @@ row_counted-none row names numbers number q t single this =
 pub named_in : (name : List ℕ) (stack : List (List ℕ))
     → AllByRecursion IsName stack → has_name name stack ≡ true → IsName name
 named_in name [] all has = absurd (false≢true has)
-named_in name (frame ∷ stack) all has = elim (is_same_name name frame) as (λ b. is_same_name name frame ≡ b
-    → (b || has_name name stack) ≡ true → IsName name) [
-      | true ↦ λ is e. subst IsName (sym (same_from_is_same_name name frame is)) all.0
-      | false ↦ λ is e. named_in name stack all.1 e
-    ] refl has
+named_in name (frame ∷ stack) all has = search (rules, same_from_is_same_name, named_in name stack all.1)
 
 IsTallyOf-counted : (rows : List WeightedStack) (row : WeightedStack) (earlier : ℕ) (name : List ℕ)
     (tally after : Tally)
     → All IsName row.stack → IsTallyOf rows earlier name tally
     → after ≡ row_counted row (earlier + row.weight) name tally
     → IsTallyOf (rows ++ row ∷ []) (earlier + row.weight) name after
-IsTallyOf-counted rows row earlier name tally after names is counted = record {
-  flat = ap (λ (t : Tally). t.flat) counted ∙ ap (λ n. n + weight_if (ends_with_name name) row) is.flat
-      ∙ sym (weight_where-push (ends_with_name name) rows row);
-  cumulative = ap (λ (t : Tally). t.cumulative) counted
-      ∙ ap (λ n. n + weight_if (has_name name) row) is.cumulative ∙ sym (weight_where-push (has_name name) rows row);
-  numbered =
-      subst (λ n. n ≤ earlier + row.weight) (sym (ap (λ (t : Tally). t.row) counted))
-      (within (has_name name row.stack));
-  named =
-      λ some. known (has_name name row.stack) refl (subst (λ n. 0 < n) (ap (λ (t : Tally). t.cumulative) counted) some);
-}
-  where
-    within : (b : Bool) → cond b (earlier + row.weight) tally.row ≤ earlier + row.weight
-    within true = omega arith
-    within false = let low = is.numbered in omega arith
-
-    known : (b : Bool) → has_name name row.stack ≡ b → 0 < tally.cumulative + cond b row.weight 0 → IsName name
-    known true has some = named_in name row.stack (recursion_from_All IsName row.stack names) has
-    known false has some = is.named (omega (arith, some))
+IsTallyOf-counted rows row earlier name tally after names is counted =
+    grind (arith, common_steps, recursion_from_All, weight_where-push, named_in)
 
 AreTalliesOf-counted : (rows : List WeightedStack) (row : WeightedStack) (names : List (List ℕ)) (old new : Tallies)
     → All IsName row.stack → AreTalliesOf rows names old

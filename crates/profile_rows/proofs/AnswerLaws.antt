@@ -1,6 +1,6 @@
 -- Every answer depends on the aggregate of the rows alone.
 use Rattle.std.proofs.lemmas.Grind.{common_steps}
-use Rattle.std.proofs.Common.{◌≡◌, ℕ, ◌+◌, ◌<◌, Bool, true, false, cond, ◌||◌, List, [], ◌∷◌, ◌++◌, length, map}
+use Rattle.std.proofs.Common.{rules, ◌≡◌, ℕ, ◌+◌, true, false, List, [], ◌∷◌, ◌++◌, length, map}
 use Rattle.std.proofs.Common.{filter, Option, refl, sym, ap, ◌∙◌, arith, zero-add}
 use Rattle.std.specs.Prelude.{nat_lt}
 use Rattle.std.specs.List.{list_any, flat_map}
@@ -14,7 +14,7 @@ use Rattle.std.proofs.lemmas.Cmp.{nat_list_cmp_total}
 use borrow.Author.Tests.{lt-ltb, ltb-true}
 use Rattle.profile_rows.specs.declared.weighted_stacks.WeightedStack.{WeightedStack}
 use Rattle.profile_rows.specs.Names.{name_cmp}
-use Rattle.profile_rows.specs.Rows.{stack_cmp, is_same_stack, kept_rows, total_of, weight_if}
+use Rattle.profile_rows.specs.Rows.{stack_cmp, is_same_stack, kept_rows, total_of}
 use Rattle.profile_rows.specs.Aggregate.{aggregate_of, rows_of}
 use Rattle.profile_rows.specs.Paths.{begins_with, lies_left_of, prefixes, path_weight, path_start, paths_of}
 use Rattle.profile_rows.specs.Layout.{Rectangle, rectangle_at, rectangles_of, column_at, last_name, is_shown}
@@ -34,14 +34,7 @@ aggregate_of-rows_of rows =
 -- aggregates of parts, put together, add up to that of all
 pub aggregate_of-parts : (rows more : List WeightedStack)
     → aggregate_of (rows_of (aggregate_of rows) ++ rows_of (aggregate_of more)) ≡ aggregate_of (rows ++ more)
-aggregate_of-parts rows more =
-    aggregate_of-same (rows_of (aggregate_of rows) ++ rows_of (aggregate_of more)) (rows ++ more) (λ stack.
-    let weighs = weight_if (is_same_stack stack) in
-    let parts = sum_by-append weighs (rows_of (aggregate_of rows)) (rows_of (aggregate_of more)) in
-    let all = sum_by-append weighs rows more in
-    let first = weight_where-rows_of (is_same_stack stack) rows in
-    let second = weight_where-rows_of (is_same_stack stack) more in
-    omega arith)
+aggregate_of-parts rows more = search (rules, sum_by-append, aggregate_of-same, weight_where-rows_of)
 
 -- ---- kept rows
 
@@ -94,30 +87,19 @@ list_any-paths : (path : List (List ℕ)) (rows : List WeightedStack)
     ≡ nat_lt 0 (path_weight rows path)
 list_any-paths path [] = refl
 list_any-paths path (row ∷ rows) =
-    let rest = list_any-paths path rows in
-    let cons : path_weight (row ∷ rows) path ≡ weight_if (begins_with name_cmp path) row + path_weight rows path =
-    sum_by-cons (weight_if (begins_with name_cmp path)) row rows in
-    elim (nat_lt 0 row.weight) as (λ b. nat_lt 0 row.weight ≡ b → list_any (is_same_stack path)
-    (fronts (cond b (row ∷ filter (λ row. nat_lt 0 row.weight) rows) (filter (λ row. nat_lt 0 row.weight) rows)))
-    ≡ nat_lt 0 (path_weight (row ∷ rows) path)) [
-      | true ↦ λ e.
-          list_any-append (is_same_stack path) (prefixes row.stack) (fronts (filter (λ row. nat_lt 0 row.weight) rows))
-          ∙ ap (λ b. b || list_any (is_same_stack path) (fronts (filter (λ row. nat_lt 0 row.weight) rows)))
-          (list_any-prefixes path row.stack)
-          ∙ ap (λ b. begins_with name_cmp path row.stack || b) rest
-          ∙ with_first (begins_with name_cmp path row.stack) row.weight (path_weight rows path) (ltb-true 0 _ e)
-          ∙ ap (nat_lt 0) (sym cons)
-      | false ↦ λ e.
-          let none : row.weight ≡ 0 = let most = ltb-false 0 _ e in omega arith in
-          let here : weight_if (begins_with name_cmp path) row ≡ 0 = ap (λ w. cond
-          (begins_with name_cmp path row.stack) w 0) none ∙ nothing (begins_with name_cmp path row.stack) in
-          let all : path_weight rows path ≡ path_weight (row ∷ rows) path = omega (arith, cons, here) in
-          rest ∙ ap (nat_lt 0) all
-    ] refl
-  where
-    with_first : (b : Bool) (w n : ℕ) → 0 < w → (b || nat_lt 0 n) ≡ nat_lt 0 (cond b w 0 + n)
-    with_first true w n some = sym (lt-ltb 0 (w + n) (omega arith))
-    with_first false w n some = ap (nat_lt 0) (sym (zero-add n))
+    grind (
+      arith,
+      common_steps,
+      zero-add,
+      list_any-append,
+      sum_by-cons,
+      ltb-false,
+      lt-ltb,
+      ltb-true,
+      nothing,
+      list_any-prefixes,
+      list_any-paths path rows,
+    )
 
 pub paths_of-same : (rows others : List WeightedStack)
     → aggregate_of rows ≡ aggregate_of others → paths_of rows ≡ paths_of others

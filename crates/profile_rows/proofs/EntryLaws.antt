@@ -1,6 +1,6 @@
 -- A sum over rows is the sum over the entries of the map that they add up to.
 use Rattle.std.proofs.lemmas.Grind.{common_steps}
-use Rattle.std.proofs.Common.{◌≡◌, ℕ, zero, suc, ◌+◌, ◌<◌, ◌≤◌, get_or, length, Bool, true, false, cond, ◌&&◌, ltb, List, [], ◌∷◌, Some, None, refl, sym, ap}
+use Rattle.std.proofs.Common.{rules, ◌≡◌, ℕ, zero, suc, ◌+◌, ◌<◌, ◌≤◌, get_or, length, Bool, true, false, cond, ◌&&◌, ltb, List, [], ◌∷◌, Some, None, refl, sym, ap}
 use Rattle.std.proofs.Common.{◌∙◌, arith, subst, sum_by, map}
 use Rattle.std.specs.Option.{unwrap_or}
 use Rattle.std.specs.declared.cmp.Ordering.{Ordering}
@@ -115,19 +115,12 @@ pub entries_where-with_rows : (test : List (List ℕ) → Bool) (m : Weighted) (
     → entries_where test (with_rows m rows) ≡ entries_where test m + weight_where test rows
 entries_where-with_rows test m [] = omega arith
 entries_where-with_rows test m (row ∷ rows) =
-    let rest = entries_where-with_rows test (with_row m row) rows in
-    let here = entries_where-with_row test m row in
-    let cons = sum_by-cons (weight_if test) row rows in
-    omega (arith, rest, here, cons)
+    search (rules, sum_by-cons, entries_where-with_row, entries_where-with_rows test (with_row m row) rows)
 
 -- the law: a sum over rows is one over the map
 pub entries_where-aggregate_of : (test : List (List ℕ) → Bool) (rows : List WeightedStack)
     → entries_where test (aggregate_of rows) ≡ weight_where test rows
-entries_where-aggregate_of test rows =
-    let all = entries_where-with_rows test finite.empty rows in let none = nothing_in test in omega (arith, all, none)
-  where
-    nothing_in : (test : List (List ℕ) → Bool) → entries_where test finite.empty ≡ 0
-    nothing_in test = ap (sum_by (entry_if test)) no_entries
+entries_where-aggregate_of test rows = grind (arith, common_steps, no_entries, entries_where-with_rows)
 
 pub weight_where-same : (test : List (List ℕ) → Bool) (rows others : List WeightedStack)
     → aggregate_of rows ≡ aggregate_of others → weight_where test rows ≡ weight_where test others
@@ -237,7 +230,4 @@ sorted_rows rows up =
 -- what a stack weighs in rows in order stands at one of them
 pub weight_found : (stack : List (List ℕ)) (rows : List WeightedStack) → IsAscending rows
     → weight_of rows stack ≡ unwrap_or (find stack_cmp stack (map entry rows)) 0
-weight_found stack rows up =
-    sym (sym (weight_where-entries (is_same_stack stack) (map entry rows))
-    ∙ ap (λ rows. weight_of rows stack) (entries_back rows))
-    ∙ sum_found stack (map entry rows) (sorted_rows rows up)
+weight_found stack rows up = grind (arith, common_steps, weight_where-entries, entries_back, sum_found, sorted_rows)

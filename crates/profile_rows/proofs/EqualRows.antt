@@ -3,7 +3,7 @@ use Rattle.std.proofs.lemmas.Grind.{common_steps}
 use Rattle.std.proofs.Common.{◌≡◌, ℕ, Bool, true, false, ◌&&◌, ◌*◌, List, [], ◌∷◌, ◌++◌, length, refl, sym, ap}
 use Rattle.std.proofs.Common.{◌∙◌, arith, take, drop, length-drop}
 use Rattle.std.specs.Prelude.{◌==◌}
-use Rattle.std.specs.Bool.{Decides, one_answer}
+use Rattle.std.specs.Bool.{Decides}
 use Rattle.std.specs.Cmp.{IsEquivalence, unsigned_Decides}
 use lib.Pointwise.{pointwise, pointwise_decides}
 use Rattle.profile_rows.specs.Names.{is_same_name}
@@ -94,12 +94,7 @@ module _ (totals : List ℕ)
     (parts : AreParts totals rows values) (other_parts : AreParts sums others more)
     (a_is : batch_with totals rows values ≡ a) (b_is : batch_with sums others more ≡ b) where
   pub parts_decide : Decides (parts_eq totals rows values sums others more) (a ≡ b)
-  parts_decide =
-      let decided = parts_eq-decides totals rows values sums others more parts other_parts in
-      (λ e. sym a_is ∙ decided.0 e ∙ b_is, λ same. decided.1 (a_is ∙ same ∙ sym b_is))
+  parts_decide = grind (arith, common_steps, parts_eq-decides)
 
   pub parts_compare : parts_eq totals rows values sums others more ≡ batch_eq a b
-  parts_compare =
-      let decided = batch_eq-decides a b in
-      one_answer (parts_eq totals rows values sums others more)
-      (batch_eq a b) parts_decide (λ e. decided.0 e, λ same. decided.1 same)
+  parts_compare = grind (arith, common_steps, batch_eq-decides, parts_decide)

@@ -79,29 +79,13 @@ module _ (w : ℕ) (xs ys : List ℕ) (x : IsPadded w xs) (y : IsPadded w ys) wh
   value_of-added (suc zero) = refl
   value_of-added (suc (suc zero)) = refl
   value_of-added (suc (suc (suc zero))) = refl
-  value_of-added (suc (suc (suc (suc v)))) =
-      let of_x = four_weights w xs x in
-      let of_y = four_weights w ys y in
-      let no_x = value_of-past (suc (suc (suc (suc v)))) xs (omega arith) in
-      let no_y = value_of-past (suc (suc (suc (suc v)))) ys (omega arith) in
-      omega arith
+  value_of-added (suc (suc (suc (suc v)))) = grind (arith, common_steps, value_of-past, four_weights)
 
   past-width : (v : ℕ) (weights : List ℕ) → IsPadded w weights → w ≤ v → value_of v weights ≡ 0
-  past-width v weights is past =
-      let taken = is.taken in
-      sym (value_of-padded v w weights is) ∙ value_of-past v (take w weights) (omega arith)
+  past-width v weights is past = grind (arith, common_steps, value_of-past, value_of-padded)
 
   pub IsPadded-added : IsPadded w added
-  IsPadded-added = IsPadded-weights w _ _ _ _ x.some x.few (λ v past.
-      let no_x = past-width v xs x past in
-      let no_y = past-width v ys y past in
-      let both = value_of-added v in
-      omega arith)
+  IsPadded-added = grind (arith, IsPadded-weights, value_of-added, past-width)
 
   pub value_of-sums : (v : ℕ) → value_of v (take w added) ≡ value_of v (take w xs) + value_of v (take w ys)
-  value_of-sums v =
-      let sums = value_of-padded v w added IsPadded-added in
-      let of_x = value_of-padded v w xs x in
-      let of_y = value_of-padded v w ys y in
-      let both = value_of-added v in
-      omega arith
+  value_of-sums v = grind (arith, common_steps, value_of-padded, value_of-added, IsPadded-added)

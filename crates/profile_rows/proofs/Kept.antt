@@ -1,7 +1,7 @@
 -- What is kept of rows, row by row.
 use Rattle.std.proofs.lemmas.Grind.{common_steps}
 use Rattle.std.proofs.Common.{◌≡◌, ℕ, ◌+◌, ◌<◌, ◌≤◌, Bool, ◌&&◌, true, false, cond, List, [], ◌∷◌, ◌++◌, length, get_or, take}
-use Rattle.std.proofs.Common.{Option, None, refl, sym, subst, ap, ◌∙◌, arith}
+use Rattle.std.proofs.Common.{Option, None, refl, ap, ◌∙◌, arith}
 use Rattle.std.proofs.lemmas.List.{append-nil, take_more}
 use Rattle.std.proofs.lemmas.List.Elements.{filter-append}
 use Rattle.std.proofs.lemmas.List.Sums.{sum_by-cons}
@@ -25,9 +25,7 @@ weight_where-kept focus ignored test (row ∷ rows) =
 -- and no more than all
 pub weight_where-kept-le : (focus ignored : Option (List ℕ)) (test : List (List ℕ) → Bool) (rows : List WeightedStack)
     → weight_where test (kept_rows focus ignored rows) ≤ total_of rows
-weight_where-kept-le focus ignored test rows =
-    subst (λ n. n ≤ total_of rows) (sym (weight_where-kept focus ignored test rows))
-    (weight_where-le-total (λ stack. is_kept focus ignored stack && test stack) rows)
+weight_where-kept-le focus ignored test rows = grind (arith, common_steps, weight_where-le-total, weight_where-kept)
 
 -- ---- the rows so far, in a loop over them
 

@@ -186,8 +186,4 @@ HasSums-AreRowsOf width rows entries held =
     grind (arith, common_steps, weight_where-entries, aggregate_of-same, rows_at-lent, weighty_rows, ascending_rows)
 
 pub no_weight : (weights : List ℕ) → (HasWeight weights → ⊥) → (value : ℕ) → value_of value weights ≡ 0
-no_weight weights none value = at_most (value_of value weights) (λ above. none (value, above))
-  where
-    at_most : (n : ℕ) → (0 < n → ⊥) → n ≡ 0
-    at_most zero none = refl
-    at_most (suc n) none = absurd (none (omega arith))
+no_weight weights none value = grind (arith, common_steps)

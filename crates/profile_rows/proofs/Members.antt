@@ -1,9 +1,10 @@
 -- A list put in order rises, and two rising lists with the same members are one.
-use Rattle.std.proofs.Common.{◌≡◌, Bool, true, false, ◌||◌, List, [], ◌∷◌, map, refl, sym, ap, ◌∙◌}
+use Rattle.std.proofs.lemmas.Grind.{common_steps}
+use Rattle.std.proofs.Common.{arith, ◌≡◌, Bool, true, false, ◌||◌, List, [], ◌∷◌, map, refl, sym, ap, ◌∙◌}
 use Rattle.std.specs.List.{AllByRecursion, list_any}
 use Rattle.std.specs.declared.cmp.Ordering.{Ordering}
-use Rattle.std.specs.declared.cmp.Ordering.TheVariants.{Less, Equal, Greater}
-use Rattle.std.specs.Ordering.{is_eq, eq_by_cmp, match_ordering, ordering_reverse}
+use Rattle.std.specs.declared.cmp.Ordering.TheVariants.{Less}
+use Rattle.std.specs.Ordering.{is_eq, eq_by_cmp, ordering_reverse}
 use Rattle.std.specs.Cmp.{IsTotalOrder}
 use Rattle.std.specs.FinMap.{IsAntisymmetric}
 use Rattle.std.proofs.lemmas.Cmp.{tied_itself}
@@ -36,23 +37,12 @@ module _ {K : Type 0} (cmp : K → K → Ordering) (total : IsTotalOrder cmp) (a
   all-with_member : (P : K → Type 0) (x : K) (xs : List K)
       → P x → AllByRecursion P xs → AllByRecursion P (with_member cmp x xs)
   all-with_member P x [] here all = (here, tt)
-  all-with_member P x (y ∷ ys) here all =
-      let rest = all-with_member P x ys here all.1 in
-      elim (cmp x y) as (λ o. AllByRecursion P (match_ordering o (x ∷ y ∷ ys) (y ∷ ys) (y ∷ with_member cmp x ys))) [
-        | Less ↦ (here, all)
-        | Equal ↦ all
-        | Greater ↦ (all.0, rest)
-      ]
+  all-with_member P x (y ∷ ys) here all = grind (arith, common_steps, all-with_member P x ys here all.1)
 
   with_member-Rises : (x : K) (xs : List K) → Rises xs → Rises (with_member cmp x xs)
   with_member-Rises x [] up = (tt, tt)
   with_member-Rises x (y ∷ ys) up =
-      let rest = with_member-Rises x ys up.1 in
-      elim (cmp x y) as (λ o. cmp x y ≡ o → Rises (match_ordering o (x ∷ y ∷ ys) (y ∷ ys) (y ∷ with_member cmp x ys))) [
-        | Less ↦ λ e. ((e, below_all x y ys e up.0), up)
-        | Equal ↦ λ e. up
-        | Greater ↦ λ e. (all-with_member (λ z. cmp y z ≡ Less) x ys (turn x y Greater e) up.0, rest)
-      ] refl
+      grind (arith, common_steps, turn, below_all, all-with_member, with_member-Rises x ys up.1)
 
   pub in_order-Rises : (xs : List K) → Rises (in_order cmp xs)
   in_order-Rises [] = tt
@@ -71,16 +61,7 @@ module _ {K : Type 0} (cmp : K → K → Ordering) (total : IsTotalOrder cmp) (a
   member-with_member : (q x : K) (xs : List K)
       → is_member q (with_member cmp x xs) ≡ (eq_by_cmp cmp q x || is_member q xs)
   member-with_member q x [] = refl
-  member-with_member q x (y ∷ ys) =
-      let rest = member-with_member q x ys in
-      elim (cmp x y) as (λ o. cmp x y ≡ o → is_member q (match_ordering o
-      (x ∷ y ∷ ys) (y ∷ ys) (y ∷ with_member cmp x ys)) ≡ (eq_by_cmp cmp q x || is_member q (y ∷ ys))) [
-        | Less ↦ λ e. refl
-        | Equal ↦ λ e. twice (eq_by_cmp cmp q y) (is_member q ys)
-            ∙ ap (λ z. eq_by_cmp cmp q z || is_member q (y ∷ ys)) (sym (apart x y e))
-        | Greater ↦ λ e. ap (λ b. eq_by_cmp cmp q y || b) rest
-            ∙ either_way (eq_by_cmp cmp q y) (eq_by_cmp cmp q x) (is_member q ys)
-      ] refl
+  member-with_member q x (y ∷ ys) = grind (arith, common_steps, either_way, twice, member-with_member q x ys)
 
   pub member-in_order : (q : K) (xs : List K) → is_member q (in_order cmp xs) ≡ is_member q xs
   member-in_order q [] = refl
@@ -100,16 +81,7 @@ module _ {K : Type 0} (cmp : K → K → Ordering) (total : IsTotalOrder cmp) (a
 
   same_first : (x : K) (xs : List K) (y : K) (ys : List K)
       → Rises (x ∷ xs) → Rises (y ∷ ys) → ((q : K) → is_member q (x ∷ xs) ≡ is_member q (y ∷ ys)) → x ≡ y
-  same_first x xs y ys up_x up_y same =
-      elim (cmp x y) as (λ o. cmp x y ≡ o → x ≡ y) [
-        | Less ↦ λ e. absurd (clash (sym (present x xs) ∙ same x ∙ absent x (y ∷ ys) (e, below_all x y ys e up_y.0)))
-        | Equal ↦ λ e. apart x y e
-        | Greater ↦ λ e. let less : cmp y x ≡ Less = turn x y Greater e in
-            absurd (clash (sym (present y ys) ∙ sym (same y) ∙ absent y (x ∷ xs) (less, below_all y x xs less up_x.0)))
-      ] refl
-    where
-      clash : true ≡ false → ⊥
-      clash e = cc
+  same_first x xs y ys up_x up_y same = grind (arith, common_steps, turn, below_all, absent, present)
 
   -- two rising lists with the same members are one
   pub same_members : (xs ys : List K) → Rises xs → Rises ys → ((q : K) → is_member q xs ≡ is_member q ys) → xs ≡ ys
@@ -117,21 +89,8 @@ module _ {K : Type 0} (cmp : K → K → Ordering) (total : IsTotalOrder cmp) (a
   same_members [] (y ∷ ys) up_x up_y same = let clash : false ≡ true = same y ∙ present y ys in cc
   same_members (x ∷ xs) [] up_x up_y same = let clash : true ≡ false = sym (present x xs) ∙ same x in cc
   same_members (x ∷ xs) (y ∷ ys) up_x up_y same =
-      let first : x ≡ y = same_first x xs y ys up_x up_y same in
-      let rest : (q : K) → is_member q xs ≡ is_member q ys = λ q.
-      elim (eq_by_cmp cmp q x) as (λ b. eq_by_cmp cmp q x ≡ b → is_member q xs ≡ is_member q ys) [
-        | true ↦ λ e.
-            let is_x : q ≡ x = apart q x (is_equal (cmp q x) e) in
-            ap (λ z. is_member z xs) is_x
-            ∙ absent x xs up_x.0 ∙ sym (absent y ys up_y.0) ∙ ap (λ z. is_member z ys) (sym (is_x ∙ first))
-        | false ↦ λ e.
-            sym (ap (λ b. b || is_member q xs) e)
-            ∙ same q ∙ ap (λ z. eq_by_cmp cmp q z || is_member q ys) (sym first) ∙ ap (λ b. b || is_member q ys) e
-      ] refl in
-      ap (λ z. z ∷ xs) first ∙ ap (λ zs. y ∷ zs) (same_members xs ys up_x.1 up_y.1 rest)
+      grind (arith, common_steps, is_equal, absent, same_first, same_members xs ys up_x.1 up_y.1)
 
   -- lists with the same members are one in order
   pub in_order-same : (xs ys : List K) → ((q : K) → is_member q xs ≡ is_member q ys) → in_order cmp xs ≡ in_order cmp ys
-  in_order-same xs ys same =
-      same_members (in_order cmp xs) (in_order cmp ys) (in_order-Rises xs) (in_order-Rises ys)
-      (λ q. member-in_order q xs ∙ same q ∙ sym (member-in_order q ys))
+  in_order-same xs ys same = grind (arith, common_steps, in_order-Rises, member-in_order, same_members)

@@ -1,4 +1,5 @@
 -- Rows in the order of their stacks, put together one after the other.
+use Rattle.std.proofs.lemmas.Grind.{common_steps}
 use Rattle.std.proofs.Common.{rules, ◌≡◌, ℕ, suc, ◌+◌, ◌<◌, Bool, true, false, cond, List, [], ◌∷◌, ◌++◌, length, get_or}
 use Rattle.std.proofs.Common.{refl, sym, ap, ◌∙◌, subst, arith}
 use Rattle.std.specs.Prelude.{All, IsSorted}
@@ -63,12 +64,7 @@ AreWeighty-push rows all row is weighty some =
     subst AreWeighty (sym is) (All-push (λ (row : WeightedStack). 0 < row.weight) rows row weighty some)
 
 itself : (stack : List (List ℕ)) → is_lt (stack_cmp stack stack) ≡ false
-itself stack = turned (stack_cmp stack stack) (stack_cmp_total.antisymm stack stack)
-  where
-    turned : (o : Ordering) → o ≡ ordering_reverse o → is_lt o ≡ false
-    turned Less e = cc
-    turned Equal e = refl
-    turned Greater e = refl
+itself stack = grind (arith, common_steps, stack_cmp_total)
 
 pub AreUpTo-push : (rows all : List WeightedStack) (row : WeightedStack)
     → all ≡ rows ++ row ∷ [] → AreUpTo row.stack rows → AreUpTo row.stack all

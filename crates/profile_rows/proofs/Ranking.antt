@@ -6,7 +6,7 @@ use Rattle.std.specs.Prelude.{IsSorted, nat_lt}
 use Rattle.std.specs.List.{AllByRecursion, list_any, flat_map}
 use Rattle.std.specs.declared.cmp.Ordering.{Ordering}
 use Rattle.std.specs.declared.cmp.Ordering.TheVariants.{Less, Equal, Greater}
-use Rattle.std.specs.Ordering.{eq_by_cmp, is_eq, is_lt, match_ordering, nat_cmp, ordering_then, ordering_reverse}
+use Rattle.std.specs.Ordering.{eq_by_cmp, is_eq, is_lt, nat_cmp, ordering_then, ordering_reverse}
 use Rattle.std.specs.Cmp.{IsTotalOrder}
 use Rattle.std.specs.FinMap.{IsAntisymmetric, slice_cmp-IsAntisymmetric, nat_cmp-IsAntisymmetric}
 use Rattle.std.specs.Cmp.Lexicographic.{texts_ties}
@@ -92,27 +92,12 @@ module _ (rows : List WeightedStack) (ranking : Ranking) where
   sums_of-names : (names : List (List ℕ))
       → filter (λ sums. nat_lt 0 sums.cum) (map (sums_at rows) names) ≡ map (sums_at rows) (heavy_names names)
   sums_of-names [] = refl
-  sums_of-names (name ∷ names) =
-      elim (weighs name) as (λ b. cond b (sums_at rows name ∷ filter (λ sums. nat_lt 0 sums.cum)
-      (map (sums_at rows) names)) (filter (λ sums. nat_lt 0 sums.cum) (map (sums_at rows) names))
-      ≡ map (sums_at rows) (cond b (name ∷ heavy_names names) (heavy_names names))) [
-        | true ↦ ap (λ rest. sums_at rows name ∷ rest) (sums_of-names names)
-        | false ↦ sums_of-names names
-      ]
+  sums_of-names (name ∷ names) = grind (arith, common_steps, sums_of-names names)
 
   with_member-names : (name : List ℕ) (names : List (List ℕ)) → map (sums_at rows) (with_member by_sums name names)
       ≡ with_member (top_cmp ranking) (sums_at rows name) (map (sums_at rows) names)
   with_member-names name [] = refl
-  with_member-names name (other ∷ names) =
-      elim (by_sums name other) as (λ o. map (sums_at rows)
-      (match_ordering o (name ∷ other ∷ names) (other ∷ names) (other ∷ with_member by_sums name names))
-      ≡ match_ordering o (sums_at rows name ∷ sums_at rows other ∷ map (sums_at rows) names)
-      (sums_at rows other ∷ map (sums_at rows) names)
-      (sums_at rows other ∷ with_member (top_cmp ranking) (sums_at rows name) (map (sums_at rows) names))) [
-        | Less ↦ refl
-        | Equal ↦ refl
-        | Greater ↦ ap (λ rest. sums_at rows other ∷ rest) (with_member-names name names)
-      ]
+  with_member-names name (other ∷ names) = grind (arith, common_steps, with_member-names name names)
 
   in_order-names : (names : List (List ℕ))
       → map (sums_at rows) (in_order by_sums names) ≡ in_order (top_cmp ranking) (map (sums_at rows) names)
@@ -141,9 +126,7 @@ module _ (rows : List WeightedStack) (ranking : Ranking) where
   member-named : (name : List ℕ) (names : List (List ℕ))
       → list_any (eq_by_cmp by_sums name) names ≡ list_any (is_same_name name) names
   member-named name [] = refl
-  member-named name (other ∷ names) =
-      ap (λ b. b || list_any (eq_by_cmp by_sums name) names) (same_name name other)
-      ∙ ap (λ b. is_same_name name other || b) (member-named name names)
+  member-named name (other ∷ names) = grind (arith, common_steps, same_name, member-named name names)
 
   heavy-named : (name : List ℕ) (names : List (List ℕ))
       → list_any (is_same_name name) (heavy_names names) ≡ (weighs name && list_any (is_same_name name) names)
@@ -207,16 +190,7 @@ module _ (rows : List WeightedStack) (ranking : Ranking) where
   occurs : (name : List ℕ) (xs : List FrameTotal)
       → list_any (is_same_name name) (names_of xs) ≡ ltb 0 (occurrences name xs)
   occurs name [] = refl
-  occurs name (x ∷ xs) =
-      let cons = occurrences-cons name x xs in
-      elim (is_same_name name x.name) as (λ b. is_same_name name x.name ≡ b
-      → (b || list_any (is_same_name name) (names_of xs)) ≡ ltb 0 (occurrences name (x ∷ xs))) [
-        | true ↦ λ e. let own = mark-yes name x e in sym (lt-ltb 0 _ (omega arith))
-        | false ↦ λ e.
-            let none = mark-no name x e in
-            let same : occurrences name xs ≡ occurrences name (x ∷ xs) = omega arith in
-            occurs name xs ∙ ap (ltb 0) same
-      ] refl
+  occurs name (x ∷ xs) = grind (arith, common_steps, lt-ltb, occurrences-cons, mark-yes, mark-no, occurs name xs)
 
 -- ---- the rows' names
 
@@ -242,13 +216,7 @@ names_of-some (row ∷ rows) name some =
 heavy-all : (rows : List WeightedStack) (ranking : Ranking) (name : List ℕ)
     → list_any (is_same_name name) (heavy_names rows ranking (flat_map (λ row. row.stack) rows))
     ≡ nat_lt 0 (cumulative_weight_of rows name)
-heavy-all rows ranking name =
-    heavy-named rows ranking name (flat_map (λ row. row.stack) rows)
-    ∙ elim (nat_lt 0 (cumulative_weight_of rows name)) as (λ b. nat_lt 0 (cumulative_weight_of rows name) ≡ b
-    → (b && list_any (is_same_name name) (flat_map (λ row. row.stack) rows)) ≡ b) [
-      | true ↦ λ e. names_of-some rows name (ltb-true 0 _ e)
-      | false ↦ λ e. refl
-    ] refl
+heavy-all rows ranking name = grind (arith, common_steps, ltb-true, heavy-named, names_of-some)
 
 once_decides : (b : Bool) → ltb 0 (cond b 1 0) ≡ b
 once_decides true = refl

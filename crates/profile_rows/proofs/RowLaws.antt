@@ -115,9 +115,4 @@ with_rows-append m (row ∷ rows) more = with_rows-append (with_row m row) rows 
 
 pub weight_where-le-total : (test : List (List ℕ) → Bool) (rows : List WeightedStack)
     → weight_where test rows ≤ total_of rows
-weight_where-le-total test rows = sum_by-le-sum_by
-    (weight_if test) (λ (row : WeightedStack). row.weight) rows (λ row. at_most (test row.stack) row.weight)
-  where
-    at_most : (b : Bool) (n : ℕ) → cond b n 0 ≤ n
-    at_most true n = omega arith
-    at_most false n = omega arith
+weight_where-le-total test rows = grind (arith, common_steps, sum_by-le-sum_by)

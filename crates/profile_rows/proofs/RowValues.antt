@@ -1,6 +1,6 @@
 -- Rows of several values that are kept as stacks with their first values, and the other values in one list.
 use Rattle.std.proofs.lemmas.Grind.{common_steps}
-use Rattle.std.proofs.Common.{◌≡◌, ℕ, zero, suc, ◌+◌, ◌-◌, ◌*◌, ◌^◌, ◌<◌, ◌≤◌, List, [], ◌∷◌, ◌++◌, length, get_or}
+use Rattle.std.proofs.Common.{rules, ◌≡◌, ℕ, zero, suc, ◌+◌, ◌-◌, ◌*◌, ◌^◌, ◌<◌, ◌≤◌, List, [], ◌∷◌, ◌++◌, length, get_or}
 use Rattle.std.proofs.Common.{refl, sym, ap, ◌∙◌, subst, arith, take, drop, length-append, length-drop}
 use Rattle.std.proofs.lemmas.List.{drop-append-le, take-append-le, length-take-le, map-append}
 use Rattle.std.specs.List.{All, AllByRecursion}
@@ -81,20 +81,12 @@ with_values-single (row ∷ rows) = ap (λ rest. single row ∷ rest) (with_valu
 singles_at : (rows : List Row) → AllByRecursion (λ (row : Row). length row.weights ≡ 1) rows
     → singles (rows_at 0 rows) ≡ rows
 singles_at [] all = refl
-singles_at (row ∷ rows) all = rw (alone row.weights all.0, singles_at rows all.1) refl
-  where
-    alone : (weights : List ℕ) → length weights ≡ 1 → value_of 0 weights ∷ [] ≡ weights
-    alone [] one = absurd (omega (arith, one))
-    alone (weight ∷ []) one = refl
-    alone (weight ∷ next ∷ weights) one = absurd (omega (arith, one))
+singles_at (row ∷ rows) all = grind (arith, common_steps, singles_at rows all.1)
 
 -- a batch of one value is that of its rows by this value
 pub single_batch-rows_at : (batch : BatchState) → IsBatch batch → batch.width ≡ 1
     → single_batch (rows_at 0 batch.rows) ≡ batch
-single_batch-rows_at batch is one =
-    let all : All (λ (row : Row). length row.weights ≡ 1) batch.rows = rw (← one) is.widths in
-    let same = singles_at batch.rows (recursion_from_All (λ (row : Row). length row.weights ≡ 1) batch.rows all) in
-    λ i. record { width = sym one i; rows = same i }
+single_batch-rows_at batch is one = grind (arith, common_steps, recursion_from_All, singles_at)
 
 pub total_of-past : (value : ℕ) (rows : List Row) (width : ℕ)
     → All (λ row. length row.weights ≡ width) rows → width ≤ value → total_of (rows_at value rows) ≡ 0
@@ -153,67 +145,21 @@ module _ (totals : List ℕ)
 
   pub batch_with-push : batch_with sums
       (rows ++ (record { stack = stack; weight = value_of 0 weights }) ∷ []) (values ++ drop 1 weights) ≡ pushed
-  batch_with-push =
-      let some = batch.some in
-      let more : length (drop 1 weights) ≡ length totals - 1 = let d = length-drop 1 weights in omega arith in
-      let rest = with_values-push (length totals - 1) rows values
-      (record { stack = stack; weight = value_of 0 weights }) (drop 1 weights) sizes more in
-      let whole = whole_weights weights (omega arith) in
-      (λ i. record {
-        width = size i;
-        rows = with_values (size i - 1)
-            (rows ++ (record { stack = stack; weight = value_of 0 weights }) ∷ []) (values ++ drop 1 weights);
-      })
-      ∙ (λ i. record { width = length totals; rows = rest i })
-      ∙ (λ i. record {
-        width =
-            length totals;
-        rows = with_values (length totals - 1) rows values ++ row_with stack (whole i) ∷ [];
-      })
+  batch_with-push = grind (arith, common_steps, length-drop, with_values-push, totals, batch, whole_weights)
 
   pub pushed-sizes : length (values ++ drop 1 weights)
       ≡ length (rows ++ (record { stack = stack; weight = value_of 0 weights }) ∷ []) * (length sums - 1)
-  pushed-sizes =
-      let some = batch.some in
-      let d = length-drop 1 weights in
-      let left = length-append values (drop 1 weights) in
-      let longer = length-append rows ((record { stack = stack; weight = value_of 0 weights }) ∷ []) in
-      let times = suc_times (length rows) (length totals - 1) in
-      let here : length (values ++ drop 1 weights) ≡ suc (length rows) * (length totals - 1) = omega arith in
-      here ∙ (λ i. longer_is longer i * (sym size i - 1))
-    where
-      longer_is : {n : ℕ} → n ≡ length rows + 1 → suc (length rows) ≡ n
-      longer_is e = omega arith
+  pushed-sizes = search (rules, length-append, length-drop, suc_times, totals, batch)
 
   pub pushed-IsBatch : IsBatch pushed
-  pushed-IsBatch = record {
-    some = batch.some;
-    few = batch.few;
-    widths = All-push (λ row. length row.weights ≡ length totals)
-        (with_values (length totals - 1) rows values) (row_with stack weights) batch.widths width;
-    fits = λ value.
-        let more = total_of-push value (with_values (length totals - 1) rows values) (row_with stack weights) in
-        let has_room = room value in
-        omega arith;
-  }
+  pushed-IsBatch = grind (arith, common_steps, All-push, total_of-push, totals, batch)
 
   pub pushed-AreTotals : AreTotals pushed sums
-  pushed-AreTotals = record {
-    width = size;
-    each = λ value.
-        let more = total_of-push value (with_values (length totals - 1) rows values) (row_with stack weights) in
-        let before = are.each value in
-        let sum = added value in
-        omega arith;
-  }
+  pushed-AreTotals = grind (arith, common_steps, total_of-push, totals, are)
 
   pub pushed-AreParts : AreParts sums
       (rows ++ (record { stack = stack; weight = value_of 0 weights }) ∷ []) (values ++ drop 1 weights)
-  pushed-AreParts = (
-    pushed-sizes,
-    subst IsBatch (sym batch_with-push) pushed-IsBatch,
-    subst (λ b. AreTotals b sums) (sym batch_with-push) pushed-AreTotals,
-  )
+  pushed-AreParts = grind (arith, common_steps, batch_with-push, pushed-sizes, pushed-IsBatch, pushed-AreTotals)
 
 -- ---- reading
 

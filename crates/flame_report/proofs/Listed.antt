@@ -1,7 +1,7 @@
 -- The paths of rows are those of some weight, in order; the rectangles of a layout are those of the paths that are
 -- wide enough.
 use Rattle.std.proofs.lemmas.Grind.{common_steps}
-use Rattle.std.proofs.Common.{◌≡◌, ℕ, ◌<◌, Bool, true, List, [], ◌∷◌, ◌++◌, map, filter, refl, sym, ap, ◌∙◌, arith}
+use Rattle.std.proofs.Common.{rules, ◌≡◌, ℕ, ◌<◌, Bool, true, List, [], ◌∷◌, ◌++◌, map, filter, refl, sym, ap, ◌∙◌, arith}
 use Rattle.std.specs.Prelude.{nat_lt}
 use Rattle.std.specs.List.{AllPairs, Contains, list_any, flat_map}
 use Rattle.std.specs.declared.cmp.Ordering.TheVariants.{Less}
@@ -54,10 +54,7 @@ in_pairs [] up = λ i j d lt short. absurd (omega arith)
 in_pairs (path ∷ paths) up = grind (arith, common_steps, All-from_recursion, AllPairs-cons, in_pairs paths up.1)
 
 pub paths_ascend : (rows : List WeightedStack) → AllPairs (λ a b. stack_cmp a b ≡ Less) (paths_of rows)
-paths_ascend rows =
-    in_pairs (paths_of rows)
-    (in_order-Rises stack_cmp stack_cmp_total stack_cmp_apart
-    (flat_map (λ row. prefixes row.stack) (filter (λ row. nat_lt 0 row.weight) rows)))
+paths_ascend rows = search (rules, in_order-Rises, stack_cmp_total, stack_cmp_apart, in_pairs)
 
 filter-map : {X Y : Type 0} (test : X → Bool) (f : Y → X) (ys : List Y)
     → filter test (map f ys) ≡ map f (filter (λ y. test (f y)) ys)

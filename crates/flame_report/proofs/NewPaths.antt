@@ -98,10 +98,7 @@ rises_from_pairs (p ∷ ps) up =
 begins_earlier : (rows : List WeightedStack) (n : ℕ) (q : Path) → n ≤ length rows
     → is_among q (paths_until rows n) ≡ true → (j : ℕ) × (j < n) × (begins q (stack_at rows j) ≡ true)
 begins_earlier rows n q h found =
-    let (j, d, low, is, begun) =
-    Any-from_list_any (begins_row q) (take n rows) (sym (among-until rows n q h) ∙ found) in
-    let below : j < n = omega (arith, length-take-le n rows h, low) in
-    (j, below, grind (arith, stack_at-get rows j d, get_or-take n rows j d below))
+    grind (arith, common_steps, get_or-take, length-take-le, Any-from_list_any, stack_at-get, among-until)
 
 until-rises : (rows : List WeightedStack) (n : ℕ)
     → IsAscending rows → n ≤ length rows → AllPairs IsBefore (paths_until rows n)

@@ -1,6 +1,7 @@
 -- Sums of weights over rows in order.
+use Rattle.std.proofs.lemmas.Grind.{common_steps}
 use Rattle.std.proofs.Common.{ℕ, ◌≡◌, ◌<◌, ◌≤◌, ◌+◌, ◌-◌, List, [], ◌∷◌, length, take, get_or, Bool, true, false, ◌||◌}
-use Rattle.std.proofs.Common.{not, cond, refl, sym, ◌∙◌, arith, zero, suc, inl, inr, ap}
+use Rattle.std.proofs.Common.{not, cond, refl, sym, ◌∙◌, arith, zero, suc}
 use Rattle.std.specs.declared.cmp.Ordering.TheVariants.{Less}
 use Rattle.std.proofs.lemmas.List.Sums.{sum_by-cons, sum_by_more, sum_by-take-le}
 use Rattle.std.proofs.lemmas.Bool.{cases_eq, false_from_ne_true}
@@ -34,17 +35,13 @@ pub weight_where-either : (test other : Path → Bool) (rows : List WeightedStac
     → weight_where (λ s. test s || other s) rows ≡ weight_where test rows + weight_where other rows
 weight_where-either test other [] apart = refl
 weight_where-either test other (row ∷ rows) apart =
-    let here = apart row.stack in
-    let both = weight_where-cons (λ s. test s || other s) row rows in
-    grind (arith, weight_where-cons, weight_where-either test other rows apart)
+    grind (arith, common_steps, weight_where-cons, weight_where-either test other rows apart)
 
 pub weight_where-not : (test : Path → Bool) (rows : List WeightedStack)
     → weight_where (λ s. not (test s)) rows + weight_where test rows ≡ total_of rows
 weight_where-not test [] = refl
 weight_where-not test (row ∷ rows) =
-    let cons = weight_where-cons (λ s. not (test s)) row rows in
-    let all = sum_by-cons (λ (r : WeightedStack). r.weight) row rows in
-    grind (arith, weight_where-cons, weight_where-not test rows)
+    grind (arith, common_steps, sum_by-cons, weight_where-cons, weight_where-not test rows)
 
 -- what lies left of the end of a path
 pub span_end : (rows : List WeightedStack) (path : Path)
@@ -112,10 +109,7 @@ in_order rows i j up h inside =
 -- a row is not above one that comes after it
 pub not_after : (rows : List WeightedStack) (i j : ℕ)
     → IsAscending rows → i ≤ j → j < length rows → is_gt (stack_cmp (stack_at rows i) (stack_at rows j)) ≡ false
-not_after rows i j up le inside = elim (cases_eq i j) [
-  | inl same ↦ rw same (ap is_gt (tied_itself stack_cmp_total (stack_at rows j)))
-  | inr apart ↦ ap is_gt (in_order rows i j up (omega arith) inside)
-]
+not_after rows i j up le inside = grind (arith, common_steps, cases_eq, tied_itself, stack_cmp_total, in_order)
 
 -- the rows between two of a path are of it too
 between : (rows : List WeightedStack) (path : Path) (i j k : ℕ)

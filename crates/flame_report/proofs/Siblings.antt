@@ -1,7 +1,8 @@
 -- The children of a path stand side by side from its left edge, in the order of their names, and its own weight lies
 -- right of them.
+use Rattle.std.proofs.lemmas.Grind.{common_steps}
 use Rattle.std.proofs.Common.{◌≡◌, ℕ, ◌+◌, ◌≤◌, Bool, true, false, ◌&&◌, ◌||◌, List, [], ◌∷◌, ◌++◌, length, drop, refl}
-use Rattle.std.proofs.Common.{sym, ◌∙◌, arith, inl, inr}
+use Rattle.std.proofs.Common.{sym, ◌∙◌, arith}
 use Rattle.std.specs.declared.cmp.Ordering.TheVariants.{Less}
 use Rattle.std.proofs.lemmas.Bool.{cases_eq}
 use Rattle.profile_rows.specs.declared.weighted_stacks.WeightedStack.{WeightedStack}
@@ -24,19 +25,15 @@ weight_where-agree : (Meant : List ℕ → Type 0) (path : Path) (test other : P
     → weight_where test rows ≡ weight_where other rows
 weight_where-agree Meant path test other [] none agree = refl
 weight_where-agree Meant path test other (row ∷ rows) none agree =
-    let rest = weight_where-agree Meant path test other rows (λ n meant.
-    omega (arith, none n meant, weight_where-cons (begins (path ++ n ∷ [])) row rows)) agree in
-    elim (cases_eq row.weight 0) [
-      | inl light ↦ grind (arith, weight_where-cons)
-      | inr heavy ↦
-          let here = agree row.stack (λ n meant. grind (
-            arith,
-            none n meant,
-            weight_where-cons (begins (path ++ n ∷ [])) row rows,
-            prefix-append path (n ∷ []) row.stack,
-          )) in
-          grind (arith, weight_where-cons)
-    ]
+    grind (
+      arith,
+      common_steps,
+      cases_eq,
+      begins,
+      prefix-append,
+      weight_where-cons,
+      weight_where-agree Meant path test other rows,
+    )
 
 -- ---- two children
 

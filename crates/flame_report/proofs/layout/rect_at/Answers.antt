@@ -1,6 +1,6 @@
 -- A path is called by its last name, and each frame can be a name.
 use Rattle.std.proofs.lemmas.Grind.{common_steps}
-use Rattle.std.proofs.Common.{arith, [], ℕ, ◌≡◌, ◌≤◌, ◌<◌, ◌-◌, List, get_or, length, map, take, refl, subst, suc}
+use Rattle.std.proofs.Common.{arith, [], ℕ, ◌≡◌, ◌≤◌, ◌<◌, ◌-◌, List, get_or, length, map, take, subst, suc}
 use Rattle.std.proofs.Common.{◌∙◌}
 use Rattle.std.proofs.lemmas.List.{get_or-map, length-map}
 use denote.Ref.{Bor}
@@ -23,12 +23,4 @@ pub name_of-requires : goal.name_of-requires
 name_of-requires c = grind (arith, common_steps, c.requires.names (c.args.depth - 1) [])
 
 pub returns : goal.returns
-returns c =
-    let name : c.if-depth-eq0.name ≡ last_name (take c.args.depth (map text_of c.args.frames.now)) =
-    elim c.if-depth-eq0.branch [
-      | then-depth-eq0 w ↦ grind (arith, common_steps)
-      | else-depth-eq0+in_ok-name_of w ↦
-          let last = last_frame c.args.frames.now c.args.depth (omega (arith, w.if-depth-eq0.false)) c.requires.within in
-          cc (w.name-is, w.of-name.ensures, w.in_ok-name_of.ensures, last)
-    ] in
-    (refl, name, refl, refl, refl, refl)
+returns c = grind (arith, common_steps, text_of, then-depth-eq0, else-depth-eq0+in_ok-name_of, last_frame)

@@ -1,4 +1,5 @@
 -- The next frame is the same, or none of those that follow is shared.
+use Rattle.std.proofs.lemmas.Grind.{common_steps}
 use Rattle.std.proofs.Common.{◌≡◌, sym, arith, ◌∙◌, ℕ, Bool, List, get_or}
 use Rattle.std.specs.Str.{bytes_eq}
 use denote.Ref.{Bor}
@@ -34,8 +35,4 @@ returns-then-at-frames c =
     ]
 
 pub loop-at-preserved : goal.loop-at-preserved
-loop-at-preserved c =
-    let step = common_prefix_len-drop_yes alike c.args.before.now c.args.frames.now c.loop-at.at no_text no_text
-    c.loop-at-test.true c.if-at-frames.false
-    (sym (tied c.args.before.now c.args.frames.now c.loop-at.at) ∙ not-false _ (sym c.if-ne.ensures)) in
-    record { inside = omega arith; so_far = omega (arith, step, c.loop-at.invariant.so_far) }
+loop-at-preserved c = grind (arith, common_steps, no_text, common_prefix_len-drop_yes, not-false, tied)

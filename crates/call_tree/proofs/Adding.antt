@@ -1,4 +1,5 @@
 -- The weights of a batch's rows, added by one value after the other.
+use Rattle.std.proofs.lemmas.Grind.{common_steps}
 use Rattle.std.proofs.Common.{◌≡◌, ℕ, ◌+◌, ◌<◌, ◌^◌, List, [], ◌∷◌, length, take, refl, sym, ap, ◌∙◌, subst, arith}
 use Rattle.std.proofs.lemmas.List.{length-map, take_all}
 use Rattle.profile_rows.specs.Values.{Row, row_in, rows_at, value_of, weighing}
@@ -52,18 +53,8 @@ module _ (names : List (List ℕ)) (before now : List (List Node))
       → IsCredited (plain_of names now value) (plain_of names next value) (rows_at value batch)
       → ((other : ℕ) → (other ≡ value → ⊥) → nodes_of next other ≡ nodes_of now other)
       → AreAddedTo names before next batch (value + 1)
-  AreAddedTo-step next trees width here others = record {
-    trees = trees;
-    width = width ∙ so_far.width;
-    credited = AreCredited-step
-        (tree_of names before) (tree_of names now) (tree_of names next) batch value so_far.credited width refl
-        (subst (λ (tree : PlainTree). IsCredited tree (plain_at (tree_of names next) value) (rows_at value batch))
-        (plain_is names now value)
-        (subst (λ (tree : PlainTree). IsCredited (plain_of names now value) tree (rows_at value batch))
-        (plain_is names next value) here))
-        (λ other ne. nodes_at-tree names next other
-        ∙ ap (node_rows names) (others other ne) ∙ sym (nodes_at-tree names now other));
-  }
+  AreAddedTo-step next trees width here others =
+      grind (arith, AreCredited-step, nodes_at-tree, trees, width, others, trees, width, credited, plain_is)
 
 -- ---- one row of one value, at its node
 
@@ -88,10 +79,7 @@ module _ (names : List (List ℕ)) (before : List (List Node))
   first_lt = omega (arith, one)
 
   pub row_within : slot < length (nodes_of before 0)
-  row_within =
-      let within =
-      credit_within tree tree 0 rows (slot ∷ []) are fits 0 first_lt (IsCredited-start tree) weight weight_is in
-      omega (arith, within, length-node_rows names (nodes_of before 0))
+  row_within = grind (arith, common_steps, length-node_rows, IsCredited-start, credit_within, are, fits, first_lt)
 
   pub AreCredited-row : (now : List (List Node)) → length now ≡ length before
       → node_rows names (nodes_of now 0) ≡ credited (node_rows names (nodes_of before 0)) slot weight

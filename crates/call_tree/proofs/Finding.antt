@@ -1,4 +1,5 @@
 -- The walk over all nodes that follows one stack from the root.
+use Rattle.std.proofs.lemmas.Grind.{common_steps}
 use Rattle.std.proofs.Common.{◌≡◌, ℕ, zero, suc, ◌+◌, ◌<◌, ◌≤◌, true, false, cond, List, [], ◌∷◌, ◌++◌, length, take}
 use Rattle.std.proofs.Common.{get_or, refl, sym, ap, ◌∙◌, arith, ⊎_elim}
 use Rattle.std.proofs.lemmas.List.{take_more, same_from_push}
@@ -61,8 +62,7 @@ front_length (suc n) zero [] hn hm e = absurd (omega arith)
 front_length (suc n) zero (x ∷ xs) hn hm e = cc
 front_length (suc n) (suc m) [] hn hm e = absurd (omega arith)
 front_length (suc n) (suc m) (x ∷ xs) hn hm e =
-    let tails : take n xs ≡ take m xs = cc in
-    let rest = front_length n m xs (omega arith) (omega arith) tails in omega (arith, rest)
+    grind (arith, common_steps, front_length n m xs (omega arith) (omega arith))
 
 pub IsFound-start : (names : List (List ℕ)) (nodes : List Node) (stack : List (List ℕ))
     → IsTree names nodes → IsFound names nodes stack 1 0 0

@@ -1,6 +1,7 @@
 -- The names of a tree with their weights: each name of weight is one of the tree's names, and stands there once.
-use Rattle.std.proofs.Common.{◌≡◌, ℕ, zero, suc, ◌+◌, ◌<◌, Bool, true, false, cond, ◌||◌, List, [], ◌∷◌, ◌++◌, length}
-use Rattle.std.proofs.Common.{map, filter, take, refl, sym, ap, ◌∙◌, subst, arith, IsPermutation, All, ◌⊎◌, inl, inr}
+use Rattle.std.proofs.lemmas.Grind.{common_steps}
+use Rattle.std.proofs.Common.{rules, ◌≡◌, ℕ, zero, suc, ◌+◌, ◌<◌, Bool, true, false, cond, List, [], ◌∷◌, ◌++◌, length}
+use Rattle.std.proofs.Common.{map, filter, take, refl, sym, ap, ◌∙◌, arith, IsPermutation, ◌⊎◌, inl, inr}
 use Rattle.std.proofs.Common.{⊎_elim}
 use Rattle.std.specs.Prelude.{nat_lt}
 use Rattle.std.specs.List.{AllByRecursion}
@@ -10,7 +11,7 @@ use Rattle.std.proofs.lemmas.List.Sorted.{All-permutation, sum_by-IsPermutation}
 use Rattle.std.proofs.lemmas.List.Sums.{sum_by-cons}
 use Rattle.profile_rows.specs.declared.weighted_stacks.WeightedStack.{WeightedStack}
 use Rattle.profile_rows.specs.Names.{is_same_name}
-use Rattle.profile_rows.specs.Rows.{has_name, ends_with_name, weight_if, flat_weight_of, cumulative_weight_of}
+use Rattle.profile_rows.specs.Rows.{has_name, weight_if, flat_weight_of, cumulative_weight_of}
 use Rattle.profile_rows.specs.Aggregate.{aggregate_of, rows_of}
 use Rattle.profile_rows.specs.TopList.{AreSumsOf, occurrences, sums_at}
 use Rattle.profile_rows.proofs.EntryLaws.{weight_where-rows_of}
@@ -19,7 +20,7 @@ use borrow.Author.Tests.{lt-ltb}
 use Rattle.call_tree.specs.declared.node.Node.{Node}
 use Rattle.profile_rows.specs.declared.frame_totals.FrameTotal.{FrameTotal}
 use Rattle.call_tree.specs.State.{name_at, stack_at}
-use Rattle.call_tree.specs.Shape.{node_rows, at, IsTree}
+use Rattle.call_tree.specs.Shape.{node_rows, IsTree}
 use Rattle.call_tree.proofs.Paths.{has_name-next}
 use Rattle.call_tree.proofs.Shapes.{length-node_rows, stack_at-child, stack_at-root}
 
@@ -37,21 +38,12 @@ names_of_weight rows names = filter weighs (map (sums_at rows) names)
 
 filter_append : (xs ys : List FrameTotal) → filter weighs (xs ++ ys) ≡ filter weighs xs ++ filter weighs ys
 filter_append [] ys = refl
-filter_append (x ∷ xs) ys =
-    let rest = filter_append xs ys in
-    elim (weighs x) as (λ b. cond b (x ∷ filter weighs (xs ++ ys)) (filter weighs (xs ++ ys))
-    ≡ cond b (x ∷ filter weighs xs) (filter weighs xs) ++ filter weighs ys) [
-      | true ↦ ap (λ zs. x ∷ zs) rest
-      | false ↦ rest
-    ]
+filter_append (x ∷ xs) ys = grind (arith, common_steps, filter_append xs ys)
 
 pub names_of_weight-more : (rows : List WeightedStack) (names : List (List ℕ)) (k : ℕ) → k < length names
     → names_of_weight rows (take (k + 1) names)
     ≡ names_of_weight rows (take k names) ++ filter weighs (sums_at rows (name_at names k) ∷ [])
-names_of_weight-more rows names k lt =
-    ap (names_of_weight rows) (take_more names k [] lt)
-    ∙ ap (filter weighs) (map_push (sums_at rows) (take k names) (name_at names k))
-    ∙ filter_append (map (sums_at rows) (take k names)) (sums_at rows (name_at names k) ∷ [])
+names_of_weight-more rows names k lt = grind (arith, common_steps, take_more, map_push, filter_append)
 
 -- the loop's step, as the code reads and writes
 module _ (rows : List WeightedStack) (names : List (List ℕ)) (k flat cum : ℕ) (name : List ℕ) (lt : k < length names)
@@ -60,23 +52,10 @@ module _ (rows : List WeightedStack) (names : List (List ℕ)) (k flat cum : ℕ
     (totals next : List FrameTotal) (before : totals ≡ names_of_weight rows (take k names)) where
   pub named : 0 < cum → name ≡ name_at names k → next ≡ totals ++ (record { name = name; flat = flat; cum = cum }) ∷ []
       → next ≡ names_of_weight rows (take (k + 1) names)
-  named some name_is next_is =
-      let total : FrameTotal = record { name = name; flat = flat; cum = cum } in
-      let here : total ≡ sums_at rows (name_at names k) =
-      λ i. record { name = name_is i; flat = flat_is i; cum = cum_is i } in
-      let kept : nat_lt 0 (cumulative_weight_of rows (name_at names k)) ≡ true = ap (nat_lt 0) (sym cum_is)
-      ∙ lt-ltb 0 cum some in
-      next_is ∙ ap (λ xs. xs ++ total ∷ []) before
-      ∙ ap (λ x. names_of_weight rows (take k names) ++ x ∷ []) here
-      ∙ ap (λ b. names_of_weight rows (take k names) ++ cond b (sums_at rows (name_at names k) ∷ []) []) (sym kept)
-      ∙ sym (names_of_weight-more rows names k lt)
+  named some name_is next_is = grind (arith, common_steps, lt-ltb, names_of_weight-more)
 
   pub unnamed : cum ≡ 0 → next ≡ totals → next ≡ names_of_weight rows (take (k + 1) names)
-  unnamed none next_is =
-      let left : nat_lt 0 (cumulative_weight_of rows (name_at names k)) ≡ false = ap (nat_lt 0) (sym cum_is ∙ none) in
-      next_is ∙ before ∙ sym (append-nil (names_of_weight rows (take k names)))
-      ∙ ap (λ b. names_of_weight rows (take k names) ++ cond b (sums_at rows (name_at names k) ∷ []) []) (sym left)
-      ∙ sym (names_of_weight-more rows names k lt)
+  unnamed none next_is = grind (arith, common_steps, append-nil, names_of_weight-more)
 
 -- ---- how often a name stands there
 
@@ -87,12 +66,7 @@ module _ (rows : List WeightedStack) where
   weighs_cons : (name first : List ℕ) (names : List (List ℕ))
       → occurrences name (of (first ∷ names)) ≡ cond
       (nat_lt 0 (cumulative_weight_of rows first)) (mark name (sums_at rows first)) 0 + occurrences name (of names)
-  weighs_cons name first names = elim (nat_lt 0
-      (cumulative_weight_of rows first)) as (λ b. occurrences name (cond b (sums_at rows first ∷ of names) (of names))
-      ≡ cond b (mark name (sums_at rows first)) 0 + occurrences name (of names)) [
-        | true ↦ sum_by-cons (mark name) (sums_at rows first) (of names)
-        | false ↦ omega arith
-      ]
+  weighs_cons name first names = grind (arith, common_steps, sum_by-cons)
 
   zero_if : (b : Bool) → let none : ℕ = 0 in cond b none none ≡ none
   zero_if true = refl
@@ -100,14 +74,7 @@ module _ (rows : List WeightedStack) where
 
   none_first : (name first : List ℕ)
       → (name ≡ first → ⊥) → cond (nat_lt 0 (cumulative_weight_of rows first)) (mark name (sums_at rows first)) 0 ≡ 0
-  none_first name first apart =
-      let no : mark name (sums_at rows first) ≡ 0 = elim (is_same_name name first) as (λ b. is_same_name name first ≡ b
-      → cond b 1 0 ≡ (let none : ℕ = 0 in none)) [
-        | true ↦ λ e. absurd (apart (same_from_is_same_name name first e))
-        | false ↦ λ e. refl
-      ] refl in
-      ap (λ m. cond (nat_lt 0 (cumulative_weight_of rows first)) m 0) no
-      ∙ zero_if (nat_lt 0 (cumulative_weight_of rows first))
+  none_first name first apart = grind (arith, common_steps, same_from_is_same_name, zero_if)
 
   absent : (name : List ℕ) (names : List (List ℕ))
       → ((k : ℕ) → k < length names → name_at names k ≡ name → ⊥) → occurrences name (of names) ≡ 0
@@ -141,13 +108,7 @@ module _ (rows : List WeightedStack) where
 
   weights : (names : List (List ℕ)) → AllByRecursion (λ sums. sums ≡ sums_at rows sums.name) (of names)
   weights [] = tt
-  weights (first ∷ names) =
-      let rest = weights names in
-      elim (nat_lt 0 (cumulative_weight_of rows first)) as (λ b. AllByRecursion
-      (λ sums. sums ≡ sums_at rows sums.name) (cond b (sums_at rows first ∷ of names) (of names))) [
-        | true ↦ (refl, rest)
-        | false ↦ rest
-      ]
+  weights (first ∷ names) = grind (arith, common_steps, weights names)
 
 -- whether a name has a number
 search_name : (name : List ℕ) (names : List (List ℕ)) → ((k : ℕ) × (k < length names) × (name_at names k ≡ name))
@@ -178,19 +139,7 @@ module _ (names : List (List ℕ)) (nodes : List Node) (tree : IsTree names node
   unnamed_to name none zero k below lt = absurd (omega arith)
   unnamed_to name none (suc count) zero below lt = ap (has_name name) (stack_at-root names nodes)
   unnamed_to name none (suc count) (suc k) below lt =
-      let links = tree.links (suc k) (omega arith) lt in
-      let parent = unnamed_to name none count
-      (at nodes (suc k)).parent (omega (arith, links.0, below)) (omega (arith, links.0, lt)) in
-      ap (has_name name) (stack_at-child names nodes (suc k) (omega arith) lt links.0)
-      ∙ has_name-next name
-      (stack_at (node_rows names nodes) (at nodes (suc k)).parent) (name_at names (at nodes (suc k)).name)
-      ∙ (λ i. parent i || is_same_name name (name_at names (at nodes (suc k)).name))
-      ∙ other (is_same_name name (name_at names (at nodes (suc k)).name)) refl links.1
-    where
-      other : (b : Bool) → is_same_name name (name_at names (at nodes (suc k)).name) ≡ b
-          → (at nodes (suc k)).name < length names → b ≡ false
-      other true e name_lt = absurd (none (at nodes (suc k)).name name_lt (sym (same_from_is_same_name name _ e)))
-      other false e name_lt = refl
+      search (rules, same_from_is_same_name, has_name-next, stack_at-child, unnamed_to name none count)
 
   nameless : (name : List ℕ) → ((k : ℕ) → k < length names → name_at names k ≡ name → ⊥)
       → cumulative_weight_of (node_rows names nodes) name ≡ 0
@@ -208,11 +157,7 @@ module _ (names : List (List ℕ)) (nodes : List Node) (tree : IsTree names node
 
   once : (name : List ℕ) → occurrences name (names_of_weight (node_rows names nodes) names)
       ≡ cond (nat_lt 0 (cumulative_weight_of (node_rows names nodes) name)) 1 0
-  once name = ⊎_elim
-      (λ found. present (node_rows names nodes) name names found.0 found.1 found.2 tree.unlike)
-      (λ none. absent (node_rows names nodes) name names none
-      ∙ sym (ap (λ n. cond (nat_lt 0 n) 1 0) (nameless name none)))
-      (search_name name names)
+  once name = grind (arith, absent, present, search_name, nameless)
 
   pub AreSumsOf-tree : AreSumsOf (node_rows names nodes) (names_of_weight (node_rows names nodes) names)
   AreSumsOf-tree = record { weights = All-from_recursion _ _ (weights (node_rows names nodes) names); once = once }
@@ -228,15 +173,4 @@ AreSumsOf-permutation rows xs ys moved are = record {
 
 pub AreSumsOf-aggregate : (rows : List WeightedStack) (xs : List FrameTotal)
     → AreSumsOf rows xs → AreSumsOf (rows_of (aggregate_of rows)) xs
-AreSumsOf-aggregate rows xs are =
-    let flat : (name : List ℕ) → flat_weight_of (rows_of (aggregate_of rows)) name ≡ flat_weight_of rows name =
-    λ name. weight_where-rows_of (ends_with_name name) rows in
-    let cumulative : (name : List ℕ) → cumulative_weight_of (rows_of (aggregate_of rows)) name
-    ≡ cumulative_weight_of rows name = λ name. weight_where-rows_of (has_name name) rows in
-    let same : (name : List ℕ) → sums_at rows name ≡ sums_at (rows_of (aggregate_of rows)) name =
-    λ name i. record { name = name; flat = sym (flat name) i; cum = sym (cumulative name) i } in
-    record {
-      weights =
-          subst (λ (f : List ℕ → FrameTotal). All (λ sums. sums ≡ f sums.name) xs) (λ i name. same name i) are.weights;
-      once = λ name. are.once name ∙ ap (λ n. cond (nat_lt 0 n) 1 0) (sym (cumulative name));
-    }
+AreSumsOf-aggregate rows xs are = grind (arith, common_steps, weight_where-rows_of, weights, once)

@@ -1,4 +1,5 @@
 -- The index from a parent and a name to a child, when a name or a node is added.
+use Rattle.std.proofs.lemmas.Grind.{common_steps}
 use Rattle.std.proofs.Common.{◌≡◌, ℕ, zero, suc, ◌<◌, Bool, true, false, cond, ◌&&◌, ◌||◌, nat_eq, List, [], ◌∷◌, ◌++◌}
 use Rattle.std.proofs.Common.{length, Option, Some, None, refl, sym, ap, ◌∙◌, arith, inl, inr, ⊎_elim, ◌⊎◌}
 use Rattle.std.proofs.lemmas.List.{get_or_append_left, get_or_push, length_push, same_from_push}
@@ -9,7 +10,6 @@ use Rattle.std.specs.List.{list_any}
 use Rattle.std.proofs.lemmas.List.Quantifiers.{position-Some}
 use Rattle.profile_rows.specs.declared.weighted_stacks.WeightedStack.{WeightedStack}
 use Rattle.profile_rows.specs.Names.{is_same_name}
-use Rattle.profile_rows.specs.Rows.{is_same_stack}
 use Rattle.profile_rows.proofs.RowLaws.{weight_where-push, aggregate_of-same}
 use Rattle.profile_rows.proofs.SameNames.{same_from_is_same_name, is_same_name-self}
 use Rattle.call_tree.specs.State.{PlainTree, IsState, IsChild, IsIndex, IsGrown, same_key, name_at, no_row, node_at}
@@ -33,21 +33,10 @@ some_is_no_none k e = let different : 1 ≡ 0 = ap how_many e in omega (arith, d
 -- an empty index, of a tree without names
 pub IsIndex-none : (look : ℕ × ℕ → Option ℕ) (tree : PlainTree)
     → ((key : ℕ × ℕ) → look key ≡ None) → tree.names ≡ [] → IsIndex look tree
-IsIndex-none look tree none no_names = record {
-  right = λ p n k e. absurd (some_is_no_none k (sym e ∙ none (p, n)));
-  complete = λ p n k child. absurd (omega (arith, child.name_lt, ap length no_names));
-}
+IsIndex-none look tree none no_names = grind (arith, common_steps, some_is_no_none)
 
 pub IsGrown-refl : (tree : PlainTree) → IsGrown tree tree
-IsGrown-refl tree = record {
-  longer = omega arith;
-  kept =
-      λ k lt. refl;
-  weights = refl;
-  total = refl;
-  more_names = omega arith;
-  kept_names = λ k lt. refl;
-}
+IsGrown-refl tree = grind (arith, common_steps)
 
 -- ---- a name more
 
@@ -87,11 +76,7 @@ module _ (tree : PlainTree) (added : List ℕ) where
 -- ---- a node more
 
 same_key_true : (p n q m : ℕ) → same_key (p, n) (q, m) ≡ true → (p ≡ q) × (n ≡ m)
-same_key_true p n q m e =
-    elim (nat_eq p q) as (λ b. nat_eq p q ≡ b → (b && nat_eq n m) ≡ true → (p ≡ q) × (n ≡ m)) [
-      | true ↦ λ f g. (eqb-true p q f, eqb-true n m g)
-      | false ↦ λ f g. cc
-    ] refl e
+same_key_true p n q m e = grind (arith, common_steps, eqb-true)
 
 same_key_self : (p n : ℕ) → same_key (p, n) (p, n) ≡ true
 same_key_self p n = ap (λ b. b && nat_eq n n) (eq-eqb p p refl) ∙ eq-eqb n n refl
@@ -126,16 +111,8 @@ module _ (tree : PlainTree) (parent name : ℕ)
   no_weight false = refl
 
   pub IsGrown-added : IsGrown tree (record tree { nodes = tree.nodes ++ new_row ∷ [] })
-  IsGrown-added = record {
-    longer = omega (arith, length_push tree.nodes new_row);
-    kept = kept_node;
-    weights = aggregate_of-same grown.nodes tree.nodes (λ s.
-        let push = weight_where-push (is_same_stack s) tree.nodes new_row in let none =
-        no_weight (is_same_stack s new_stack) in omega (arith, push, none));
-    total = let push = sum_by_push (λ (row : WeightedStack). row.weight) tree.nodes new_row in omega (arith, push);
-    more_names = omega arith;
-    kept_names = λ k lt. refl;
-  }
+  IsGrown-added =
+      grind (arith, common_steps, length_push, sum_by_push, weight_where-push, aggregate_of-same, kept_node, no_weight)
 
   cases_of : (k : ℕ) → k < length grown.nodes → (k < length tree.nodes) ⊎ (k ≡ length tree.nodes)
   cases_of k lt =
@@ -243,10 +220,7 @@ named_at names name k e = let found = position-Some
 pub unnamed : (names : List (List ℕ)) (name : List ℕ)
     → list_any (is_same_name name) names ≡ false → (k : ℕ) → k < length names → name_at names k ≡ name → ⊥
 unnamed [] name e k lt f = omega arith
-unnamed (x ∷ names) name e zero lt f = let yes : is_same_name name x ≡ true = ap (is_same_name name) f
-    ∙ is_same_name-self name in
-    let no : (true || list_any (is_same_name name) names) ≡ false =
-    ap (λ b. b || list_any (is_same_name name) names) (sym yes) ∙ e in cc
+unnamed (x ∷ names) name e zero lt f = grind (arith, common_steps, is_same_name-self)
 unnamed (x ∷ names) name e (suc k) lt f = unnamed names name (rest (is_same_name name x) e) k (omega arith) f
   where
     rest : (b : Bool) → (b || list_any (is_same_name name) names) ≡ false → list_any (is_same_name name) names ≡ false

@@ -1,5 +1,6 @@
 -- Names joined, one more at a time.
-use Rattle.std.proofs.Common.{◌≡◌, ℕ, ◌+◌, ◌<◌, List, [], ◌∷◌, ◌++◌, length, get_or, take, sym, ap, ◌∙◌, arith}
+use Rattle.std.proofs.lemmas.Grind.{common_steps}
+use Rattle.std.proofs.Common.{◌≡◌, ℕ, ◌+◌, ◌<◌, List, [], ◌∷◌, ◌++◌, length, get_or, take, sym, arith}
 use Rattle.std.proofs.Common.{append_assoc, ◌⊎◌, inl, inr}
 use Rattle.std.specs.List.{join_with_byte}
 use Rattle.std.proofs.lemmas.List.{length-take-le, take_more}
@@ -9,9 +10,7 @@ join-push : (c : ℕ) (names : List (List ℕ)) (name : List ℕ)
 join-push c [] name some = absurd (omega arith)
 join-push c (first ∷ []) name some = sym (append_assoc first (c ∷ []) name)
 join-push c (first ∷ next ∷ names) name some =
-    ap (λ rest. first ++ (c ∷ rest)) (join-push c (next ∷ names) name (omega arith))
-    ∙ sym (ap (λ l. l ++ name) (append_assoc first (c ∷ join_with_byte c (next ∷ names)) (c ∷ []))
-    ∙ append_assoc first ((c ∷ join_with_byte c (next ∷ names)) ++ c ∷ []) name)
+    grind (arith, common_steps, join-push c (next ∷ names) name (omega arith))
 
 -- one name more: a semicolon before it, but before the first
 pub join_more : (names : List (List ℕ)) (k : ℕ) (d before after : List ℕ)
@@ -19,12 +18,5 @@ pub join_more : (names : List (List ℕ)) (k : ℕ) (d before after : List ℕ)
     → ((0 < k) × (after ≡ before ++ 59 ∷ [])) ⊎ ((k ≡ 0) × (after ≡ before))
     → after ++ get_or names k d ≡ join_with_byte 59 (take (k + 1) names)
 join_more names k d before after lt so_far (inl (some, semicolon)) =
-    let front = length-take-le k names (omega arith) in
-    ap (λ l. l ++ get_or names k d) (semicolon ∙ ap (λ l. l ++ 59 ∷ []) so_far)
-    ∙ sym (join-push 59 (take k names) (get_or names k d) (omega arith))
-    ∙ ap (join_with_byte 59) (sym (take_more names k d lt))
-join_more names k d before after lt so_far (inr (none, same)) =
-    let empty : take k names ≡ [] = ap (λ n. take n names) none in
-    ap (λ l. l ++ get_or names k d) (same ∙ so_far ∙ ap (join_with_byte 59) empty)
-    ∙ ap (λ l. join_with_byte 59 (l ++ get_or names k d ∷ [])) (sym empty)
-    ∙ ap (join_with_byte 59) (sym (take_more names k d lt))
+    grind (arith, common_steps, length-take-le, take_more, join-push)
+join_more names k d before after lt so_far (inr (none, same)) = grind (arith, common_steps, take_more)

@@ -1,6 +1,7 @@
 -- The walk that makes room for one stack, and the loop that makes room for all rows.
-use Rattle.std.proofs.Common.{◌≡◌, ℕ, suc, ◌+◌, ◌<◌, Bool, true, false, ◌||◌, nat_eq, List, [], ◌∷◌, ◌++◌, length, take}
-use Rattle.std.proofs.Common.{get_or, refl, sym, ap, ◌∙◌, subst, arith, ⊎_elim}
+use Rattle.std.proofs.lemmas.Grind.{common_steps}
+use Rattle.std.proofs.Common.{rules, ◌≡◌, ℕ, suc, ◌+◌, ◌<◌, Bool, true, false, ◌||◌, nat_eq, List, [], ◌∷◌, ◌++◌, length, take}
+use Rattle.std.proofs.Common.{get_or, refl, sym, ap, ◌∙◌, arith}
 use Rattle.std.specs.Prelude.{if◌then◌else◌}
 use Rattle.std.specs.List.{list_any}
 use Rattle.std.proofs.lemmas.List.{take_more, get_or_append_left, get_or_push, length_push}
@@ -82,40 +83,19 @@ module _ (tree named : PlainTree) (seen : List ℕ) (frames : List (List ℕ)) (
 
   after_seen : (there : Bool) → there ≡ list_any (nat_eq number) seen → (name : List ℕ)
       → has_number named.names name (if there then seen else seen ++ number ∷ []) ≡ has_name name (take (i + 1) frames)
-  after_seen true e name =
-      seen_now name
-      ∙ absorbed (has_name name (take i frames)) (is_same_name name (get_or frames i []))
-      (λ s. let name_is : name ≡ name_at named.names number = same_from_is_same_name name _ s ∙ sym number_is in
-      ap (λ n. has_name n (take i frames)) name_is
-      ∙ ap (has_name (name_at named.names number)) (sym stack_now) ∙ sym there_is ∙ sym e)
-      ∙ sym (last_frame name)
-  after_seen false e name =
-      list_any-append (λ m. is_same_name name (name_at named.names m)) seen (number ∷ [])
-      ∙ (λ j. seen_now name j
-      || (or-false (is_same_name name (name_at named.names number)) ∙ ap (is_same_name name) number_is) j)
-      ∙ sym (last_frame name)
+  after_seen true e name = search (rules, same_from_is_same_name, stack_now, seen_now, there_is, last_frame, absorbed)
+  after_seen false e name = grind (arith, common_steps, list_any-append, or-false, seen_now, last_frame)
 
   after_below : (there : Bool) (j : ℕ) → j < length (if there then seen else seen ++ number ∷ [])
       → get_or (if there then seen else seen ++ number ∷ []) j 0 < length named.names
   after_below true j h = below_named j h
-  after_below false j h = ⊎_elim
-      (λ e. let last = get_or_push seen number 0 j (sym e) in omega (arith, last, number_lt))
-      (λ ne. let less : j < length seen = omega (arith, length_push seen number) in let old =
-      get_or_append_left seen (number ∷ []) 0 j less in let b = below_named j less in omega (arith, old, b))
-      (cases_eq j (length seen))
+  after_below false j h =
+      grind (arith, common_steps, get_or_append_left, get_or_push, length_push, cases_eq, below_named)
 
   pub IsOnPath-step : (after : PlainTree) (there : Bool) (next : List ℕ) (child : ℕ)
       → there ≡ list_any (nat_eq number) seen → next ≡ (if there then seen else seen ++ number ∷ [])
       → after.names ≡ named.names → child < length after.nodes
       → stack_at after.nodes child ≡ stack_at named.nodes slot ++ name_at named.names number ∷ []
       → IsOnPath after next frames (i + 1) child
-  IsOnPath-step after there next child there_e next_e names child_lt child_stack = record {
-    slot_lt = child_lt;
-    here = child_stack ∙ ap (λ s. s ++ name_at named.names number ∷ []) stack_now
-        ∙ ap (λ n. take i frames ++ n ∷ []) number_is ∙ sym (take_more frames i [] lt);
-    below = subst (λ (s : List ℕ). (j : ℕ) → j < length s → get_or s j 0 < length after.names) (sym next_e)
-        (subst (λ (ns : List (List ℕ)). (j : ℕ) → j < length (if there then seen else seen ++ number ∷ [])
-        → get_or (if there then seen else seen ++ number ∷ []) j 0 < length ns) (sym names) (after_below there));
-    seen_is = λ name. ap (λ ns. has_number ns name next) names
-        ∙ ap (has_number named.names name) next_e ∙ after_seen there there_e name;
-  }
+  IsOnPath-step after there next child there_e next_e names child_lt child_stack =
+      grind (arith, common_steps, take_more, stack_now, after_seen, after_below)

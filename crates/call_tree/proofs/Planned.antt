@@ -1,4 +1,5 @@
 -- The rows of a plan credited one after the other.
+use Rattle.std.proofs.lemmas.Grind.{common_steps}
 use Rattle.std.proofs.Common.{◌≡◌, ℕ, ◌+◌, ◌<◌, ◌^◌, List, [], ◌∷◌, ◌++◌, length, take, Option, refl, sym, ap, ◌∙◌}
 use Rattle.std.proofs.Common.{arith}
 use Rattle.std.proofs.lemmas.List.{get_or-map, length-map, take_more}
@@ -42,11 +43,7 @@ module _ (before now : PlainTree) (value : ℕ) (rows : List Row) (slots : List 
   credit_within = omega (arith, (are.each i lt).within, done.size)
 
   pub credit_fits : total_of now.nodes + weight < 2 ^ 63
-  credit_fits =
-      let part = sum_by_more_le (λ (row : WeightedStack). row.weight) (rows_at value rows) i no_row in_rows in
-      let weight_of_row : (node_at (rows_at value rows) i).weight ≡ weight = ap (λ row. row.weight) here
-      ∙ sym weight_is in
-      omega (arith, part, weight_of_row, done.total, fits)
+  credit_fits = grind (arith, common_steps, sum_by_more_le, in_rows, here)
 
   pub IsCredited-step : (next : PlainTree)
       → next.names ≡ now.names → next.nodes ≡ credited now.nodes (slot_at slots i) weight

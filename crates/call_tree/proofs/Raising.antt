@@ -1,15 +1,15 @@
 -- One weight more at one node.
-use Rattle.std.proofs.Common.{◌≡◌, ℕ, ◌+◌, ◌<◌, ◌^◌, not, List, length, refl, sym, ap, ◌∙◌, subst, arith}
-use Rattle.std.proofs.Common.{⊎_elim}
+use Rattle.std.proofs.lemmas.Grind.{common_steps}
+use Rattle.std.proofs.Common.{◌≡◌, ℕ, ◌+◌, ◌<◌, ◌^◌, List, length, sym, ap, ◌∙◌, subst, arith}
 use Rattle.std.proofs.Math.ListN.{set}
 use Rattle.std.proofs.lemmas.List.{get_or-set_same, get_or-set_other, length-set}
 use Rattle.std.proofs.lemmas.List.Sums.{get_or-le-sum_by}
 use Rattle.std.proofs.lemmas.Bool.{cases_eq}
 use Rattle.profile_rows.specs.declared.weighted_stacks.WeightedStack.{WeightedStack}
-use Rattle.profile_rows.specs.Rows.{has_name, total_of}
+use Rattle.profile_rows.specs.Rows.{total_of}
 use Rattle.call_tree.specs.declared.node.Node.{Node}
-use Rattle.call_tree.specs.State.{name_at, no_row, node_at, stack_at, credited}
-use Rattle.call_tree.specs.Shape.{no_node, node_rows, at, IsTree}
+use Rattle.call_tree.specs.State.{no_row, node_at, stack_at, credited}
+use Rattle.call_tree.specs.Shape.{node_rows, at, IsTree}
 use Rattle.call_tree.specs.Nodes.{with_weight, without_weight}
 use Rattle.call_tree.proofs.Crediting.{stack_at-credited, total_of-credited}
 use Rattle.call_tree.proofs.Shapes.{node_rows-set, node_at-node_rows, length-node_rows}
@@ -29,19 +29,10 @@ module _ (names : List (List ℕ)) (old : List Node) (start w : ℕ) (tree : IsT
   rows_lt = omega (arith, length-node_rows names old, lt)
 
   rows_done : node_rows names done ≡ credited (node_rows names old) start w
-  rows_done =
-      node_rows-set names old start (heavier (at old start) w) refl
-      ∙ (λ i. set (node_rows names old) start (record {
-        stack = sym (ap (λ row. row.stack) (node_at-node_rows names old start)) i;
-        weight = sym (ap (λ row. row.weight) (node_at-node_rows names old start)) i + w;
-      }))
+  rows_done = grind (arith, common_steps, set, node_rows-set, node_at-node_rows)
 
   framed : (k : ℕ) → without_weight (at done k) ≡ without_weight (at old k)
-  framed k = ⊎_elim
-      (λ e. subst (λ j. without_weight (at done j) ≡ without_weight (at old j)) (sym e)
-      (ap without_weight (get_or-set_same old start (heavier (at old start) w) no_node lt)))
-      (λ ne. ap without_weight (get_or-set_other old start k (heavier (at old start) w) no_node ne))
-      (cases_eq k start)
+  framed k = grind (arith, common_steps, get_or-set_same, get_or-set_other, cases_eq)
 
   whole_done : total_of (node_rows names done) ≡ total_of (node_rows names old) + w
   whole_done = ap total_of rows_done ∙ total_of-credited (node_rows names old) start w rows_lt
@@ -50,22 +41,7 @@ module _ (names : List (List ℕ)) (old : List Node) (start w : ℕ) (tree : IsT
   stack_done k = ap (λ rows. stack_at rows k) rows_done ∙ stack_at-credited (node_rows names old) start w k rows_lt
 
   IsTree-done : IsTree names done
-  IsTree-done = record {
-    rooted = omega (arith, length-done, tree.rooted);
-    root = ap (λ node. node.counts) (framed 0) ∙ tree.root;
-    links = λ k pos h. let old_links = tree.links k pos (omega (arith, length-done)) in
-        let p = ap (λ node. node.parent) (framed k) in let n = ap (λ node. node.name) (framed k) in
-        (omega (arith, p, old_links.0), omega (arith, n, old_links.1));
-    counts = λ k pos h. ap (λ node. node.counts) (framed k) ∙ tree.counts k pos (omega (arith, length-done))
-        ∙ ap (λ (node : Node). not (has_name (name_at names node.name) (stack_at (node_rows names old) node.parent)))
-        (sym (framed k))
-        ∙ ap (λ stack. not (has_name (name_at names (at done k).name) stack)) (sym (stack_done (at done k).parent));
-    deep = λ k h. let e = ap length (stack_done k) in omega (arith, e, tree.deep k (omega (arith, length-done)));
-    apart = λ i j hi hj e. tree.apart i j
-        (omega (arith, length-done)) (omega (arith, length-done)) (sym (stack_done i) ∙ e ∙ stack_done j);
-    unlike = tree.unlike;
-    fits = let d = whole_done in omega (arith, d, fits);
-  }
+  IsTree-done = grind (arith, common_steps, length-done, framed, whole_done, stack_done)
 
 -- ---- the same, as the code reads and writes
 

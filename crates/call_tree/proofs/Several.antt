@@ -1,11 +1,12 @@
 -- The rows of a tree by all values: those of each value are added, and weigh nothing by another.
+use Rattle.std.proofs.lemmas.Grind.{common_steps}
 use Rattle.std.proofs.Common.{◌≡◌, ℕ, ◌+◌, ◌<◌, ◌≤◌, true, false, ltb, List, [], ◌∷◌, ◌++◌, refl, sym, ap, ◌∙◌, subst}
 use Rattle.std.proofs.Common.{arith, ⊎_elim}
 use Rattle.std.specs.FinMap as finite
 use Rattle.std.proofs.lemmas.List.{map-append}
 use Rattle.std.proofs.lemmas.Bool.{cases_eq, ltb-true, ltb-false}
 use Rattle.profile_rows.specs.declared.weighted_stacks.WeightedStack.{WeightedStack}
-use Rattle.profile_rows.specs.Values.{BatchState, Row, rows_at, value_of, weighing}
+use Rattle.profile_rows.specs.Values.{BatchState, Row, value_of, weighing}
 use Rattle.profile_rows.specs.Aggregate.{AreRowsOf, aggregate_of, aggregates_of, rows_of, with_row, with_rows}
 use Rattle.profile_rows.proofs.AnswerLaws.{aggregate_of-rows_of}
 use Rattle.profile_rows.proofs.RowLaws.{with_rows-append}
@@ -14,9 +15,7 @@ use Rattle.call_tree.proofs.Trees.{nodes_at-past}
 
 aggregates-push : (rows : List Row) (row : Row) (value : ℕ)
     → aggregates_of (rows ++ row ∷ []) value ≡ with_row (aggregates_of rows value) (weighing value row)
-aggregates-push rows row value =
-    ap aggregate_of (map-append (weighing value) rows (row ∷ []))
-    ∙ with_rows-append finite.empty (rows_at value rows) (weighing value row ∷ [])
+aggregates-push rows row value = grind (arith, common_steps, map-append, with_rows-append)
 
 -- a batch to which some rows of a value were added, and others are left
 pub record IsPushing (before now : BatchState) (value : ℕ) (all left : List WeightedStack) : Type 0 where

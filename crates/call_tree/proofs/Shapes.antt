@@ -1,12 +1,13 @@
 -- The stacks and rows of the nodes, when a node is added or written.
-use Rattle.std.proofs.Common.{◌≡◌, ℕ, zero, suc, ◌+◌, ◌<◌, List, [], ◌∷◌, ◌++◌, length, map, get_or, refl, sym, ap, ◌∙◌}
+use Rattle.std.proofs.lemmas.Grind.{common_steps}
+use Rattle.std.proofs.Common.{◌≡◌, ℕ, zero, suc, ◌+◌, ◌<◌, List, [], ◌∷◌, ◌++◌, length, map, get_or, refl, ap, ◌∙◌}
 use Rattle.std.proofs.Common.{subst, arith, length-append}
 use Rattle.std.proofs.Math.ListN.{set}
 use Rattle.std.proofs.Math.Seq.{map-set_same}
 use Rattle.std.proofs.lemmas.List.{get_or_append_left, get_or_push, map_push, same_from_push}
 use Rattle.profile_rows.specs.declared.weighted_stacks.WeightedStack.{WeightedStack}
 use Rattle.call_tree.specs.declared.node.Node.{Node}
-use Rattle.call_tree.specs.State.{name_at, node_at, stack_at, IsState, HasParent}
+use Rattle.call_tree.specs.State.{name_at, node_at, stack_at, IsState}
 use Rattle.call_tree.specs.Shape.{Link, link_of, no_node, next_stack, stacks_from, stacks_of, rows_with, node_rows, at}
 use Rattle.call_tree.specs.Shape.{IsTree}
 
@@ -14,19 +15,14 @@ pub length-stacks_from : (names : List (List ℕ)) (before : List (List (List �
     → length (stacks_from names before links) ≡ length before + length links
 length-stacks_from names before [] = omega arith
 length-stacks_from names before (link ∷ links) =
-    let rest = length-stacks_from names (before ++ next_stack names before link ∷ []) links in
-    let push = length-append before (next_stack names before link ∷ []) in
-    omega (arith, rest, push)
+    grind (arith, length-append, length-stacks_from names (before ++ next_stack names before link ∷ []) links)
 
 pub length-map_link : (nodes : List Node) → length (map link_of nodes) ≡ length nodes
 length-map_link [] = refl
 length-map_link (node ∷ nodes) = let rest = length-map_link nodes in omega (arith, rest)
 
 pub length-stacks_of : (names : List (List ℕ)) (nodes : List Node) → length (stacks_of names nodes) ≡ length nodes
-length-stacks_of names nodes =
-    let all = length-stacks_from names [] (map link_of nodes) in
-    let links = length-map_link nodes in
-    omega (arith, all, links)
+length-stacks_of names nodes = grind (arith, common_steps, length-stacks_from, length-map_link)
 
 pub stacks_from-kept : (names : List (List ℕ))
     (before : List (List (List ℕ))) (links : List Link) (k : ℕ) (d : List (List ℕ))
@@ -95,10 +91,7 @@ rows_with-push (s ∷ stacks) (n ∷ nodes) stack node e =
 pub node_rows-push : (names : List (List ℕ)) (nodes : List Node) (node : Node)
     → node_rows names (nodes ++ node ∷ [])
     ≡ node_rows names nodes ++ row_with (next_stack names (stacks_of names nodes) (link_of node)) node ∷ []
-node_rows-push names nodes node =
-    ap (λ stacks. rows_with stacks (nodes ++ node ∷ [])) (stacks_of-push names nodes node)
-    ∙ rows_with-push (stacks_of names nodes) nodes
-    (next_stack names (stacks_of names nodes) (link_of node)) node (length-stacks_of names nodes)
+node_rows-push names nodes node = grind (arith, common_steps, length-stacks_of, stacks_of-push, rows_with-push)
 
 pub rows_with-set : (stacks : List (List (List ℕ))) (nodes : List Node) (k : ℕ) (node : Node)
     → length stacks ≡ length nodes
@@ -114,9 +107,7 @@ pub node_rows-set : (names : List (List ℕ)) (nodes : List Node) (k : ℕ) (nod
     → link_of node ≡ link_of (at nodes k)
     → node_rows names (set nodes k node)
     ≡ set (node_rows names nodes) k (row_with (get_or (stacks_of names nodes) k []) node)
-node_rows-set names nodes k node e =
-    ap (λ stacks. rows_with stacks (set nodes k node)) (stacks_of-set names nodes k node e)
-    ∙ rows_with-set (stacks_of names nodes) nodes k node (length-stacks_of names nodes)
+node_rows-set names nodes k node e = grind (arith, common_steps, set, length-stacks_of, stacks_of-set, rows_with-set)
 
 -- ---- a node's stack is its parent's with its name
 
@@ -126,22 +117,10 @@ stack_step : (names : List (List ℕ)) (before : List (List (List ℕ))) (links 
     (stacks_from names before links) (get_or links j d).parent [] ++ name_at names (get_or links j d).name ∷ []
 stack_step names before [] k j d e pos lt low = absurd (omega arith)
 stack_step names before (link ∷ links) k (suc j) d e pos lt low =
-    let push = length-append before (next_stack names before link ∷ []) in
-    stack_step names
-    (before ++ next_stack names before link ∷ []) links k j d (omega (arith, push)) pos (omega arith) low
+    grind (arith, length-append, stack_step names (before ++ next_stack names before link ∷ []) links k j d)
 stack_step names [] (link ∷ links) k zero d e pos lt low = absurd (omega arith)
 stack_step names (s ∷ ss) (link ∷ links) k zero d e pos lt low =
-    let before = s ∷ ss in
-    let next : List (List ℕ) = get_or (s ∷ ss) link.parent [] ++ name_at names link.name ∷ [] in
-    let push = length-append (s ∷ ss) (next ∷ []) in
-    let here : get_or (stacks_from names ((s ∷ ss) ++ next ∷ []) links) k [] ≡ next =
-    stacks_from-kept names ((s ∷ ss) ++ next ∷ []) links k [] (omega (arith, push))
-    ∙ get_or_push (s ∷ ss) next [] k (omega arith) in
-    let there : get_or (stacks_from names ((s ∷ ss) ++ next ∷ []) links) link.parent []
-    ≡ get_or (s ∷ ss) link.parent [] =
-    stacks_from-kept names ((s ∷ ss) ++ next ∷ []) links link.parent [] (omega (arith, push))
-    ∙ get_or_append_left (s ∷ ss) (next ∷ []) [] link.parent (omega arith) in
-    here ∙ ap (λ p. p ++ name_at names link.name ∷ []) (sym there)
+    grind (arith, common_steps, length-append, get_or_append_left, get_or_push, stacks_from-kept)
 
 pub get_or-links : (nodes : List Node) (k : ℕ) → get_or (map link_of nodes) k (link_of no_node) ≡ link_of (at nodes k)
 get_or-links [] k = refl
@@ -164,10 +143,7 @@ pub stack_at-child : (names : List (List ℕ)) (nodes : List Node) (k : ℕ)
     → 0 < k → k < length nodes → (at nodes k).parent < k
     → stack_at (node_rows names nodes) k
     ≡ stack_at (node_rows names nodes) (at nodes k).parent ++ name_at names (at nodes k).name ∷ []
-stack_at-child names nodes k pos lt low =
-    ap (λ row. row.stack) (node_at-node_rows names nodes k) ∙ stack_of_child names nodes k pos lt low
-    ∙ ap (λ p. p ++ name_at names (at nodes k).name ∷ [])
-    (sym (ap (λ row. row.stack) (node_at-node_rows names nodes (at nodes k).parent)))
+stack_at-child names nodes k pos lt low = grind (arith, common_steps, node_at-node_rows, stack_of_child)
 
 root_stack : (names : List (List ℕ)) (links : List Link) → get_or (stacks_from names [] links) 0 [] ≡ []
 root_stack names [] = refl
@@ -186,33 +162,4 @@ push_apart (x ∷ xs) name e = cc
 pub IsState-tree : (names : List (List ℕ)) (nodes : List Node)
     → IsTree names nodes → IsState (record { names = names; nodes = node_rows names nodes })
 IsState-tree names nodes tree =
-    let size = length-node_rows names nodes in
-    record {
-      rooted = omega (arith, size, tree.rooted);
-      root = stack_at-root names nodes;
-      apart = λ i j hi hj e. tree.apart i j (omega (arith, size)) (omega (arith, size)) e;
-      unlike = tree.unlike;
-      closed = closed;
-      deep = λ k lt. tree.deep k (omega (arith, size, lt));
-      fits = tree.fits;
-    }
-  where
-    closed : (k : ℕ) (stack : List (List ℕ)) (name : List ℕ)
-        → k < length (node_rows names nodes) → stack_at (node_rows names nodes) k ≡ stack ++ name ∷ []
-        → HasParent (record { names = names; nodes = node_rows names nodes }) stack name
-    closed zero stack name lt e = absurd (push_apart stack name (sym (stack_at-root names nodes) ∙ e))
-    closed (suc k) stack name lt e =
-        let size = length-node_rows names nodes in
-        let k_lt : suc k < length nodes = omega (arith, size) in
-        let low = tree.links (suc k) (omega arith) k_lt in
-        let both = same_from_push (stack_at (node_rows names nodes) (at nodes (suc k)).parent) stack
-        (name_at names (at nodes (suc k)).name) name
-        (sym (stack_at-child names nodes (suc k) (omega arith) k_lt low.0) ∙ e) in
-        record {
-          parent = (at nodes (suc k)).parent;
-          number = (at nodes (suc k)).name;
-          parent_lt = omega (arith, size, low.0);
-          number_lt = low.1;
-          parent_stack = both.0;
-          name_is = both.1;
-        }
+    grind (arith, common_steps, same_from_push, length-node_rows, stack_at-child, stack_at-root, push_apart)

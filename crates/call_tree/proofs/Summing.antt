@@ -1,5 +1,6 @@
 -- The pass over the nodes, from the last to the first, that adds up the sums of all names.
-use Rattle.std.proofs.Common.{◌≡◌, ℕ, zero, suc, ◌+◌, ◌<◌, ◌≤◌, ◌^◌, Bool, true, false, cond, not, ◌&&◌, ◌||◌, nat_eq}
+use Rattle.std.proofs.lemmas.Grind.{common_steps}
+use Rattle.std.proofs.Common.{rules, ◌≡◌, ℕ, zero, suc, ◌+◌, ◌<◌, ◌≤◌, ◌^◌, Bool, true, false, cond, not, ◌&&◌, ◌||◌, nat_eq}
 use Rattle.std.proofs.Common.{List, [], ◌∷◌, ◌++◌, length, take, get_or, refl, sym, ap, ◌∙◌, arith, sum_by}
 use Rattle.std.proofs.Common.{⊎_elim}
 use Rattle.std.proofs.Math.ListN.{set, replicate}
@@ -52,10 +53,8 @@ pub record AreSumsFrom
 same_number : (names : List (List ℕ)) (n m : ℕ) → n < length names → m < length names
     → ((i j : ℕ) → i < length names → j < length names → name_at names i ≡ name_at names j → i ≡ j)
     → is_same_name (name_at names n) (name_at names m) ≡ nat_eq n m
-same_number names n m hn hm unlike = same_bool _ _
-    (λ e. eq-eqb n m (unlike n m hn hm (same_from_is_same_name _ _ e)))
-    (λ e. ap (is_same_name (name_at names n)) (ap (name_at names) (sym (eqb-true n m e)))
-    ∙ is_same_name-self (name_at names n))
+same_number names n m hn hm unlike =
+    grind (arith, common_steps, eqb-true, eq-eqb, same_from_is_same_name, is_same_name-self, same_bool)
 
 sum_both : (f : WeightedStack → ℕ) (g : Node → ℕ) (rows : List WeightedStack) (nodes : List Node)
     → length rows ≡ length nodes
@@ -105,19 +104,14 @@ rows_below-set : (rows : List WeightedStack) (below : List ℕ) (k more : ℕ)
     → rows_below rows (set below k (get_or below k 0 + more)) ≡ credited (rows_below rows below) k more
 rows_below-set [] below k more size lt = absurd (omega arith)
 rows_below-set (row ∷ rows) [] k more size lt = absurd (omega arith)
-rows_below-set (row ∷ rows) (first ∷ below) zero more size lt =
-    let sum : row.weight + (first + more) ≡ row.weight + first + more = omega arith in
-    λ i. (record { stack = row.stack; weight = sum i }) ∷ rows_below rows below
+rows_below-set (row ∷ rows) (first ∷ below) zero more size lt = grind (arith, common_steps)
 rows_below-set (row ∷ rows) (first ∷ below) (suc k) more size lt =
-    λ i. (record { stack = row.stack; weight = row.weight + first }) ∷ rows_below-set rows below k more
-    (omega arith) (omega arith) i
+    grind (arith, common_steps, rows_below-set rows below k more (omega arith) (omega arith))
 
 rows_below-none : (rows : List WeightedStack) (count : ℕ) → rows_below rows (replicate count 0) ≡ rows
 rows_below-none [] count = refl
 rows_below-none (row ∷ rows) zero = refl
-rows_below-none (row ∷ rows) (suc count) =
-    let sum : row.weight + 0 ≡ row.weight = omega arith in
-    λ i. (record { stack = row.stack; weight = sum i }) ∷ rows_below-none rows count i
+rows_below-none (row ∷ rows) (suc count) = grind (arith, common_steps, rows_below-none rows count)
 
 -- whether the parent's stack has a name (q), or the node is called so (e): then it counts for the name (c) where the
 -- parent's has it not
@@ -215,9 +209,7 @@ module _ (names : List (List ℕ)) (nodes : List Node) (tree : IsTree names node
 
     row_is : (j : ℕ) → j ≤ k → node_at rows j
         ≡ record { stack = stack_at (node_rows names nodes) j; weight = (at nodes j).own + get_or below j 0 }
-    row_is j le =
-        at-rows_below (node_rows names nodes) below j wide (omega (arith, le, lt, length-node_rows names nodes))
-        ∙ (λ i. record { stack = stack_at (node_rows names nodes) j; weight = own_is j i + get_or below j 0 })
+    row_is j le = grind (arith, common_steps, length-node_rows, wide, at-rows_below, own_is, lt, wide)
 
     -- what a test counts up to this node, and before it
     with_last : (test : List (List ℕ) → Bool) → weight_where test (take (k + 1) rows)
@@ -240,11 +232,7 @@ module _ (names : List (List ℕ)) (nodes : List Node) (tree : IsTree names node
     length-before = length-take-le k rows (omega (arith, rows_lt))
 
     parent_fits : get_or below node.parent 0 + weight < 2 ^ 63
-    parent_fits =
-        let part = get_or-le-sum_by (λ (row : WeightedStack). row.weight)
-        (take k rows) node.parent no_row (omega (arith, links.0, length-before)) in
-        let is = ap (λ (row : WeightedStack). row.weight) parent_row in
-        omega (arith, part, is, whole_is, tree.fits)
+    parent_fits = grind (arith, common_steps, get_or-le-sum_by, links, whole_is, parent_row, length-before)
 
     flat_fits : (sums_at sums node.name).flat + node.own < 2 ^ 63
     flat_fits =
@@ -263,11 +251,7 @@ module _ (names : List (List ℕ)) (nodes : List Node) (tree : IsTree names node
     counted : (name : List ℕ) → cond (has_name name (stack_at (node_rows names nodes) k)) weight 0
         ≡ cond (node.counts && is_same_name name (name_at names node.name)) weight 0 + cond
         (has_name name (stack_at (node_rows names nodes) node.parent)) weight 0
-    counted name = ap (λ b. cond b weight 0) (has_is name)
-        ∙ split_of_bools (has_name name (stack_at (node_rows names nodes) node.parent))
-        (is_same_name name (name_at names node.name)) node.counts weight
-        (λ e. tree.counts k pos lt ∙ ap (λ n. not (has_name n (stack_at (node_rows names nodes) node.parent)))
-        (sym (same_from_is_same_name name (name_at names node.name) e)))
+    counted name = search (rules, same_from_is_same_name, split_of_bools, lt, has_is)
 
     cum_fits : node.counts ≡ true → (sums_at sums node.name).cum + weight < 2 ^ 63
     cum_fits counts =
@@ -284,22 +268,11 @@ module _ (names : List (List ℕ)) (nodes : List Node) (tree : IsTree names node
 
     next_rows : take k (with_below names nodes (set below node.parent (get_or below node.parent 0 + weight)))
         ≡ credited (take k rows) node.parent weight
-    next_rows =
-        ap (take k) (rows_below-set (node_rows names nodes) below node.parent weight wide
-        (omega (arith, links.0, lt, length-node_rows names nodes)))
-        ∙ take-set-lt k rows node.parent
-        (record { stack = stack_at rows node.parent; weight = (node_at rows node.parent).weight + weight }) links.0
-        ∙ ap (λ (row : WeightedStack). set (take k rows) node.parent (record {
-          stack =
-              row.stack;
-          weight = row.weight + weight;
-        })) (sym (get_or-take k rows node.parent no_row links.0))
+    next_rows = grind (arith, set, take-set-lt, get_or-take, length-node_rows, wide, rows_below-set, lt, links, wide)
 
     next_where : (test : List (List ℕ) → Bool) → weight_where test (credited (take k rows) node.parent weight)
         ≡ weight_where test (take k rows) + cond (test (stack_at (node_rows names nodes) node.parent)) weight 0
-    next_where test =
-        weight_where-credited test (take k rows) node.parent weight (omega (arith, links.0, length-before))
-        ∙ ap (λ (row : WeightedStack). weight_where test (take k rows) + cond (test row.stack) weight 0) parent_row
+    next_where test = grind (arith, common_steps, weight_where-credited, links, parent_row, length-before)
 
     -- so the node can be added
     pub addable : IsAddable sums below node k

@@ -1,4 +1,5 @@
 -- The nodes of weight above 0 as texts.
+use Rattle.std.proofs.lemmas.Grind.{common_steps}
 use Rattle.std.proofs.Common.{◌≡◌, ℕ, ◌+◌, ◌<◌, ◌≤◌, true, List, [], ◌∷◌, ◌++◌, All, AllPairs, length, filter, get_or, map, take}
 use Rattle.std.proofs.Common.{string_bytes, refl, sym, ap, ◌∙◌, subst, arith}
 use Rattle.std.specs.Prelude.{◌≢◌}
@@ -49,20 +50,12 @@ module _ (nodes : List WeightedStack) (before next : List StackText)
       (λ i. record { text = text_is i; weight = same i }) named next_is)
 
   pub text_less : weight ≡ 0 → next ≡ before → AreSpelled (filter has_weight (take (k + 1) nodes)) next
-  text_less none next_is =
-      let rows = filter has_weight (take k nodes) in
-      subst (λ rows. AreSpelled rows next) (weightless nodes rows rows k weight lt weight_is refl none refl)
-      (subst (AreSpelled rows) (sym next_is) so_far)
+  text_less none next_is = grind (arith, common_steps, weightless)
 
 -- ---- the whole
 
 apart_nodes : (tree : PlainTree) → IsState tree → AllPairs (λ (a b : WeightedStack). a.stack ≢ b.stack) tree.nodes
-apart_nodes tree is i j d before lt same =
-    let nodes = tree.nodes in
-    let at : (k : ℕ) → k < length nodes → (get_or nodes k d).stack ≡ stack_at nodes k =
-    λ k within. ap (λ row. row.stack) (get_or_default nodes k d no_row within) in
-    let one : i ≡ j = is.apart i j (omega arith) lt (sym (at i (omega arith)) ∙ same ∙ at j lt) in
-    omega arith
+apart_nodes tree is i j d before lt same = grind (arith, get_or_default)
 
 weighty_rows : (rows : List WeightedStack) → AreWeighty (filter has_weight rows)
 weighty_rows rows k d lt =

@@ -1,8 +1,9 @@
 -- The weights of a tree's maps are those of the nodes that they stand for.
-use Rattle.std.proofs.Common.{◌≡◌, ℕ, ◌+◌, ◌<◌, ◌≤◌, ◌^◌, true, false, ltb, List, [], ◌∷◌, length, refl, sym, ap, ◌∙◌}
+use Rattle.std.proofs.lemmas.Grind.{common_steps}
+use Rattle.std.proofs.Common.{rules, ◌≡◌, ℕ, ◌+◌, ◌<◌, ◌≤◌, ◌^◌, true, false, ltb, List, [], ◌∷◌, length, refl, sym, ap, ◌∙◌}
 use Rattle.std.proofs.Common.{arith}
 use Rattle.std.proofs.lemmas.Bool.{ltb-true, ltb-false}
-use Rattle.profile_rows.specs.Rows.{total_of, weight_of}
+use Rattle.profile_rows.specs.Rows.{total_of}
 use Rattle.profile_rows.specs.Aggregate.{weight_in}
 use Rattle.profile_rows.specs.Values as values
 use Rattle.profile_rows.specs.Values.{BatchState, value_of}
@@ -28,18 +29,11 @@ module _ (tree : TreeState) (states : AreStates tree) where
   total_in-past value le = total_in-weights_of tree value ∙ ap total_of (nodes_at-past tree value (past value le))
 
   pub total_in-fits : (value : ℕ) → total_in (weights_of tree value) < 2 ^ 63
-  total_in-fits value =
-      elim (ltb value tree.width) as (λ b. ltb value tree.width ≡ b → total_in (weights_of tree value) < 2 ^ 63) [
-        | true ↦ λ e. let state = states.each value (ltb-true value tree.width e) in
-            let fits = state.fits in let same = total_in-weights_of tree value in omega (arith, fits, same)
-        | false ↦ λ e. let none = total_in-past value (ltb-false value tree.width e) in omega (arith, none)
-      ] refl
+  total_in-fits value = grind (arith, common_steps, ltb-true, ltb-false, total_in-weights_of, total_in-past)
 
   pub weight_in-past : (stack : List (List ℕ)) (value : ℕ)
       → tree.width ≤ value → weight_in (weights_of tree value) stack ≡ 0
-  weight_in-past stack value le =
-      weight_in-aggregate_of (nodes_at tree value) stack
-      ∙ ap (λ rows. weight_of rows stack) (nodes_at-past tree value (past value le))
+  weight_in-past stack value le = search (rules, weight_in-aggregate_of, nodes_at-past, past)
 
   pub weight_in-found : (stack : List (List ℕ)) (value slot : ℕ)
       → value < tree.width → slot < length (nodes_at tree 0)
@@ -71,53 +65,20 @@ module _ (tree : TreeState) (states : AreStates tree) where
 
 pub total-grown : (before after : TreeState)
     → AreGrown before after → (value : ℕ) → total_of (nodes_at after value) ≡ total_of (nodes_at before value)
-total-grown before after grown value =
-    elim (ltb value (length before.values)) as (λ b. ltb value (length before.values) ≡ b
-    → total_of (nodes_at after value) ≡ total_of (nodes_at before value)) [
-      | true ↦ λ e. (grown.each value (ltb-true value (length before.values) e)).total
-      | false ↦ λ e.
-          let past = ltb-false value (length before.values) e in
-          let count = grown.count in
-          ap total_of (nodes_at-past after value (omega (arith, past, count)) ∙ sym (nodes_at-past before value past))
-    ] refl
+total-grown before after grown value = grind (arith, common_steps, ltb-true, ltb-false, nodes_at-past, past)
 
 pub HasTotal-same : (before after : TreeState) (total : List ℕ) → HasTotal before total → after.width ≡ before.width
     → ((value : ℕ) → total_of (nodes_at after value) ≡ total_of (nodes_at before value)) → HasTotal after total
-HasTotal-same before after total held width same = record {
-  width = held.width ∙ sym width;
-  each = λ value. held.each value ∙ sym (same value);
-}
+HasTotal-same before after total held width same = grind (arith, common_steps)
 
 pub HasTotal-root : (tree : TreeState) (total : List ℕ) → length total ≡ tree.width → length tree.values ≡ tree.width
     → ((value : ℕ) → value_of value total ≡ 0)
     → ((value : ℕ) → value < tree.width → nodes_at tree value ≡ no_row ∷ []) → HasTotal tree total
-HasTotal-root tree total width count zero root = record {
-  width = width;
-  each = λ value. zero value ∙ sym (nothing value);
-}
-  where
-    nothing : (value : ℕ) → total_of (nodes_at tree value) ≡ 0
-    nothing value =
-        elim (ltb value tree.width) as (λ b. ltb value tree.width ≡ b → total_of (nodes_at tree value) ≡ 0) [
-          | true ↦ λ e. ap total_of (root value (ltb-true value tree.width e))
-          | false ↦ λ e. ap total_of (nodes_at-past tree value (omega (arith, count, ltb-false value tree.width e)))
-        ] refl
+HasTotal-root tree total width count zero root = grind (arith, common_steps, ltb-true, ltb-false, nodes_at-past)
 
 pub HasTotal-credited : (before next : TreeState) (batch : BatchState) (total more sum : List ℕ)
     → HasTotal before total → values.AreTotals batch more
     → batch.width ≡ before.width → AreCredited before next batch.rows before.width → length sum ≡ length total
     → ((value : ℕ) → value_of value sum ≡ value_of value total + value_of value more) → HasTotal next sum
-HasTotal-credited before next batch total more sum held added width credited size sums = record {
-  width = size ∙ held.width ∙ sym credited.width;
-  each = λ value. elim (ltb value before.width) as (λ b. ltb value before.width ≡ b
-      → value_of value sum ≡ total_of (nodes_at next value)) [
-        | true ↦ λ e.
-            let done = (credited.done value (ltb-true value before.width e)).total in
-            omega (arith, done, sums value, held.each value, added.each value)
-        | false ↦ λ e.
-            let past = ltb-false value before.width e in
-            let none = value_of-past value more (omega (arith, past, added.width, width)) in
-            let same = ap total_of (credited.left value past) in
-            omega (arith, none, same, sums value, held.each value)
-      ] refl;
-}
+HasTotal-credited before next batch total more sum held added width credited size sums =
+    grind (arith, common_steps, ltb-true, ltb-false, value_of-past, past)

@@ -1,15 +1,16 @@
 -- A tree by each of its values.
+use Rattle.std.proofs.lemmas.Grind.{common_steps}
 use Rattle.std.proofs.Common.{◌≡◌, ℕ, zero, suc, ◌<◌, ◌≤◌, Bool, not, List, [], ◌∷◌, ◌++◌, length, map, get_or, refl}
-use Rattle.std.proofs.Common.{sym, ap, ◌∙◌, subst, arith, ⊎_elim}
+use Rattle.std.proofs.Common.{sym, ap, ◌∙◌, subst, arith}
 use Rattle.std.proofs.Math.ListN as list
 use Rattle.std.proofs.lemmas.List.{length-map}
 use Rattle.std.proofs.lemmas.Bool.{cases_eq}
 use Rattle.profile_rows.specs.declared.weighted_stacks.WeightedStack.{WeightedStack}
 use Rattle.profile_rows.specs.Rows.{has_name}
 use Rattle.call_tree.specs.declared.node.Node.{Node}
-use Rattle.call_tree.specs.State.{TreeState, PlainTree, AreStates, IsState, IsAppended, IsFresh, name_at, nodes_at}
+use Rattle.call_tree.specs.State.{TreeState, PlainTree, AreStates, IsAppended, IsFresh, name_at, nodes_at}
 use Rattle.call_tree.specs.State.{plain_at, stack_at}
-use Rattle.call_tree.specs.Shape.{IsTree, link_of, node_rows, stacks_from}
+use Rattle.call_tree.specs.Shape.{IsTree, link_of, node_rows}
 use Rattle.call_tree.specs.Nodes.{AreAlike, AreTrees, nodes_of, tree_of, without_weight}
 use Rattle.call_tree.proofs.Shapes.{IsState-tree, length-node_rows, node_at-node_rows}
 use Rattle.call_tree.proofs.Appending.{IsTree-added, node_rows-added, node_rows-named}
@@ -59,11 +60,7 @@ links-without (n ∷ nodes) = ap (λ rest. link_of n ∷ rest) (links-without no
 pub stack_at-alike : (names : List (List ℕ)) (nodes others : List Node) (k : ℕ)
     → map without_weight nodes ≡ map without_weight others
     → stack_at (node_rows names nodes) k ≡ stack_at (node_rows names others) k
-stack_at-alike names nodes others k e =
-    let links : map link_of nodes ≡ map link_of others = sym (links-without nodes)
-    ∙ ap (map link_of) e ∙ links-without others in
-    ap (λ row. row.stack) (node_at-node_rows names nodes k) ∙ ap (λ ls. get_or (stacks_from names [] ls) k []) links
-    ∙ sym (ap (λ row. row.stack) (node_at-node_rows names others k))
+stack_at-alike names nodes others k e = grind (arith, common_steps, node_at-node_rows, links-without)
 
 pub length-alike : (nodes others : List Node)
     → map without_weight nodes ≡ map without_weight others → length nodes ≡ length others
@@ -71,17 +68,8 @@ length-alike nodes others e = sym (length-map nodes without_weight) ∙ ap lengt
 
 pub AreStates-trees : (names : List (List ℕ)) (all : List (List Node))
     → AreAlike all → AreTrees names all → AreStates (tree_of names all)
-AreStates-trees names all alike trees = record {
-  some = alike.some;
-  width = length-map all (node_rows names);
-  each = λ value lt. subst (λ (rows : List WeightedStack). IsState (record { names = names; nodes = rows }))
-      (sym (nodes_at-tree names all value)) (IsState-tree names (nodes_of all value) (trees value lt));
-  sizes = λ value lt. length-nodes_at names all value
-      ∙ length-alike (nodes_of all value) (nodes_of all 0) (alike.each value lt) ∙ sym (length-nodes_at names all 0);
-  stacks = λ value k lt. ap (λ rows. stack_at rows k) (nodes_at-tree names all value)
-      ∙ stack_at-alike names (nodes_of all value) (nodes_of all 0) k (alike.each value lt)
-      ∙ ap (λ rows. stack_at rows k) (sym (nodes_at-tree names all 0));
-}
+AreStates-trees names all alike trees =
+    grind (arith, length-map, IsState-tree, nodes_at-tree, length-nodes_at, stack_at-alike, length-alike)
 
 -- ---- a name more
 
@@ -94,9 +82,7 @@ map_same f g (nodes ∷ all) same =
 pub values_named : (names : List (List ℕ)) (all : List (List Node)) (added : List ℕ)
     → AreTrees names all → ((i : ℕ) → i < length names → name_at names i ≡ added → ⊥)
     → map (node_rows (names ++ added ∷ [])) all ≡ map (node_rows names) all
-values_named names all added trees absent =
-    map_same (node_rows (names ++ added ∷ []))
-    (node_rows names) all (λ value lt. node_rows-named names (nodes_of all value) added (trees value lt) absent)
+values_named names all added trees absent = grind (arith, common_steps, node_rows-named, map_same)
 
 -- ---- a node more
 
@@ -140,18 +126,7 @@ module _ (names : List (List ℕ))
       (trees value lt) (parent_lt value lt) fresh.name_lt (counted value lt) (deep value lt) (none value lt))
 
   pub IsAppended-trees : IsAppended (tree_of names all) parent name (tree_of names next)
-  IsAppended-trees = record {
-    width = count;
-    count = length-map next (node_rows names) ∙ count ∙ sym (length-map all (node_rows names));
-    names = refl;
-    each = λ value values_lt.
-        let lt : value < length all = omega (arith, values_lt, length-map all (node_rows names)) in
-        nodes_at-tree names next value ∙ ap (node_rows names) (pushed value lt)
-        ∙ node_rows-added names (nodes_of all value) parent name counts
-        (trees value lt) (parent_lt value lt) fresh.name_lt (counted value lt) (deep value lt) (none value lt)
-        ∙ (λ i. sym (nodes_at-tree names all value) i
-        ++ (record { stack = stack_is value parent lt i ++ name_at names name ∷ []; weight = 0 }) ∷ []);
-  }
+  IsAppended-trees = grind (arith, length-map, node_rows-added, nodes_at-tree, stack_is, parent_lt, counted, deep, none)
 
 -- ---- one weight more by one value
 
@@ -159,7 +134,4 @@ pub AreTrees-raised : (names : List (List ℕ)) (all now : List (List Node)) (va
     → AreTrees names all → length now ≡ length all
     → IsTree names (nodes_of now value)
     → ((other : ℕ) → (other ≡ value → ⊥) → nodes_of now other ≡ nodes_of all other) → AreTrees names now
-AreTrees-raised names all now value trees count here others other lt = ⊎_elim
-    (λ e. subst (λ v. IsTree names (nodes_of now v)) (sym e) here)
-    (λ ne. subst (IsTree names) (sym (others other ne)) (trees other (omega (arith, lt, count))))
-    (cases_eq other value)
+AreTrees-raised names all now value trees count here others other lt = grind (arith, cases_eq)

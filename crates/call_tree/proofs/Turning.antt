@@ -1,5 +1,6 @@
 -- The names on the way from a node to the root, turned round, are its stack.
-use Rattle.std.proofs.Common.{◌≡◌, ℕ, ◌<◌, List, [], ◌∷◌, ◌++◌, length, map, reverse, refl, sym, ap, ◌∙◌}
+use Rattle.std.proofs.lemmas.Grind.{common_steps}
+use Rattle.std.proofs.Common.{arith, ◌≡◌, ℕ, ◌<◌, List, [], ◌∷◌, ◌++◌, length, map, reverse, refl, ap, ◌∙◌}
 use Rattle.std.proofs.lemmas.List.{append_assoc, map-append, reverse-append}
 use denote.Ref.{Bor}
 use Rattle.call_tree.specs.declared.node.Node.{Node}
@@ -15,30 +16,20 @@ pub turned_step : (names : List (List ℕ))
     → (parent < length nodes)
     × (stack_at (node_rows names nodes) start ≡ stack_at (node_rows names nodes) parent ++ reverse next)
 turned_step names nodes start slot parent before next name lt whole child next_is =
-    let stack = stack_at (node_rows names nodes) parent in (
-      lt,
-      whole ∙ ap (λ s. s ++ reverse before) child ∙ append_assoc stack (name ∷ []) (reverse before)
-          ∙ ap (λ r. stack ++ r) (sym (reverse-append before (name ∷ [])))
-          ∙ ap (λ ns. stack ++ reverse ns) (sym next_is),
-    )
+    grind (arith, common_steps, append_assoc, reverse-append)
 
 -- at the root nothing is left
 pub turned : (names : List (List ℕ)) (nodes : List Node) (start slot : ℕ) (before : List (List ℕ)) → slot ≡ 0
     → stack_at (node_rows names nodes) start ≡ stack_at (node_rows names nodes) slot ++ reverse before
     → stack_at (node_rows names nodes) start ≡ reverse before
-turned names nodes start slot before end whole =
-    whole ∙ ap (λ p. stack_at (node_rows names nodes) p ++ reverse before) end
-    ∙ ap (λ s. s ++ reverse before) (stack_at-root names nodes)
+turned names nodes start slot before end whole = grind (arith, common_steps, stack_at-root)
 
 -- ---- names that are lent
 
 -- what the contract says of a reversed list of lent names
 pub map-reverse : {X Y : Type 0} (f : X → Y) (xs : List X) → map f (reverse xs) ≡ reverse (map f xs)
 map-reverse f [] = refl
-map-reverse f (x ∷ xs) =
-    ap (map f) (reverse-append (x ∷ []) xs)
-    ∙ map-append f (reverse xs) (x ∷ []) ∙ ap (λ ys. ys ++ f x ∷ []) (map-reverse f xs)
-    ∙ sym (reverse-append (f x ∷ []) (map f xs))
+map-reverse f (x ∷ xs) = grind (arith, common_steps, map-append, reverse-append, map-reverse f xs)
 
 -- one name more
 pub turned_names : (before next : List (Bor (List ℕ))) (name : Bor (List ℕ)) → next ≡ before ++ name ∷ []

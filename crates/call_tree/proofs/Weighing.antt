@@ -1,4 +1,5 @@
 -- Nodes with the weights of a table.
+use Rattle.std.proofs.lemmas.Grind.{common_steps}
 use Rattle.std.proofs.Common.{◌≡◌, ℕ, zero, suc, ◌+◌, ◌<◌, List, [], ◌∷◌, ◌++◌, length, map, get_or, refl, sym, ap, ◌∙◌}
 use Rattle.std.proofs.Common.{false, subst, arith, ⊎_elim}
 use Rattle.std.proofs.Math.ListN.{set}
@@ -67,36 +68,14 @@ length-nodes_of links tables value lt =
     ap length (nodes_of-all links tables value lt) ∙ length-weighed links (table_of tables value)
 
 pub AreAlike-all : (links : List Link) (tables : List (List ℕ)) → 0 < length tables → AreAlike (all_of links tables)
-AreAlike-all links tables some = record {
-  some = omega (arith, some, length-map tables (weighed links));
-  each = λ value lt. plain value (omega (arith, lt, length-map tables (weighed links))) ∙ sym (plain 0 some);
-}
-  where
-    plain : (value : ℕ) → value < length tables
-        → map without_weight (nodes_of (all_of links tables) value) ≡ weighed links []
-    plain value lt = ap (map without_weight) (nodes_of-all links tables value lt)
-        ∙ without-weighed links (table_of tables value)
+AreAlike-all links tables some = grind (arith, common_steps, length-map, without-weighed, nodes_of-all)
 
 AreTables-set : (size : ℕ) (tables : List (List ℕ)) (k slot : ℕ) (weights : ℕ) (next : List ℕ)
     → AreTables size tables
     → k < length tables
     → slot < size → next ≡ set (table_of tables k) slot weights → AreTables size (set tables k next)
-AreTables-set size tables k slot weights next are lt within next_is = record {
-  long = λ j j_lt. ⊎_elim
-      (λ e. let here =
-      ap length (ap (λ i. table_of (set tables k next) i) e ∙ get_or-set_same tables k next [] lt ∙ next_is) in
-      omega (arith, here, length-set (table_of tables k) slot weights, are.long k lt))
-      (λ ne. let other = ap length (get_or-set_other tables k j next [] ne) in
-      omega (arith, other, are.long j (omega (arith, j_lt, length-set tables k next))))
-      (cases_eq j k);
-  empty = λ j node past. ⊎_elim
-      (λ e. let apart : node ≡ slot → ⊥ = λ f. omega (arith, f, past, within) in
-      ap (λ i. get_or (table_of (set tables k next) i) node 0) e
-      ∙ ap (λ table. get_or table node 0) (get_or-set_same tables k next [] lt ∙ next_is)
-      ∙ get_or-set_other (table_of tables k) slot node weights 0 apart ∙ are.empty k node past)
-      (λ ne. ap (λ table. get_or table node 0) (get_or-set_other tables k j next [] ne) ∙ are.empty j node past)
-      (cases_eq j k);
-}
+AreTables-set size tables k slot weights next are lt within next_is =
+    grind (arith, common_steps, set, get_or-set_same, get_or-set_other, length-set, cases_eq)
 
 pub in_tables : (links : List Link) (tables : List (List ℕ)) (all : List (List Node)) → all_of links tables ≡ all
     → (value : ℕ) → value < length all → value < length tables
@@ -105,9 +84,7 @@ in_tables links tables all seen value lt = omega (arith, lt, ap length seen, len
 -- a table in place of another shows in its value alone
 pub others_put : (links : List Link) (tables : List (List ℕ)) (value other : ℕ) (next : List ℕ) → (other ≡ value → ⊥)
     → nodes_of (all_of links (set tables value next)) other ≡ nodes_of (all_of links tables) other
-others_put links tables value other next ne =
-    ap (λ all. nodes_of all other) (map-set (weighed links) tables value next)
-    ∙ get_or-set_other (all_of links tables) value other (weighed links next) [] ne
+others_put links tables value other next ne = grind (arith, common_steps, map-set, get_or-set_other)
 
 -- a place among the nodes of a value
 module _ (links : List Link) (tables : List (List ℕ)) (all : List (List Node)) (seen : all_of links tables ≡ all)
@@ -121,9 +98,7 @@ module _ (links : List Link) (tables : List (List ℕ)) (all : List (List Node))
 
   pub node_is : (link : Link) → link ≡ get_or links slot link
       → at (nodes_of all value) slot ≡ linked link (get_or (table_of tables value) slot 0)
-  node_is link link_is = ap (λ nodes. at nodes slot) nodes_are
-      ∙ at-weighed links (table_of tables value) slot link in_links
-      ∙ ap (λ l. linked l (get_or (table_of tables value) slot 0)) (sym link_is)
+  node_is link link_is = grind (arith, common_steps, at-weighed, in_links, nodes_are)
 
   table_is : (table : List ℕ) → table ≡ get_or tables value table → table ≡ table_of tables value
   table_is table read = get_or_read tables value table value_lt read []
@@ -167,11 +142,7 @@ pub pushed-all : (links next : List Link) (tables after : List (List ℕ)) (link
     → (value : ℕ) → value < length (all_of links tables)
     → nodes_of (all_of next after) value ≡ nodes_of (all_of links tables) value ++ linked link 0 ∷ []
 pushed-all links next tables after link are count same next_is value lt =
-    let in_after : value < length after = omega (arith, lt, length-map tables (weighed links), count) in
-    nodes_of-all next after value in_after
-    ∙ ap (λ ls. weighed ls (table_of after value)) next_is
-    ∙ weighed-push links (table_of after value) link (are.empty value (length links) (omega arith))
-    ∙ (λ i. (sym (nodes_of-all links after value in_after) ∙ ap (λ a. nodes_of a value) same) i ++ linked link 0 ∷ [])
+    grind (arith, common_steps, length-map, weighed-push, nodes_of-all)
 
 -- room for one node more in one table
 pub record HaveRoom (size : ℕ) (before now : List (List ℕ)) (index : ℕ) : Type 0 where

@@ -1,19 +1,12 @@
+use Rattle.std.proofs.lemmas.Grind.{common_steps}
 use Rattle.std.proofs.Common.{◌<◌, length, arith, refl, ◌∙◌}
-use Rattle.call_tree.specs.Nodes.{nodes_of, plain_of}
+use Rattle.call_tree.specs.Nodes.{plain_of}
 use Rattle.call_tree.proofs.Shapes.{length-node_rows}
 use Rattle.call_tree.proofs.Planned.{IsCredited-step, credit_fits, credit_within}
 use Rattle.call_tree.proofs.tree.add_rows.Goals as goal
 
 pub add_weight-requires-clause-within : goal.add_weight-requires-clause-within
-add_weight-requires-clause-within c =
-    let names = c.args.names.now in
-    let value = c.args.value in
-    let rows = c.args.batch.now.rows in
-    let lt : c.loop-index.index < length rows = omega (arith, c.loop-index-test.true, c.requires.slots.size) in
-    let within = credit_within (plain_of names c.args.nodes.now value)
-    (plain_of names c.loop-index.nodes value) value rows c.args.slots.now c.requires.slots c.requires.fits
-    c.loop-index.index lt c.loop-index.invariant.done c.weight-weight.result c.weight-weight.ensures in
-    omega (arith, within, length-node_rows names (nodes_of c.loop-index.nodes value))
+add_weight-requires-clause-within c = grind (arith, common_steps, length-node_rows, credit_within)
 
 pub add_weight-requires-clause-fits : goal.add_weight-requires-clause-fits
 add_weight-requires-clause-fits c =

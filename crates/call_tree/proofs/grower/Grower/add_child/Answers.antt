@@ -1,3 +1,4 @@
+use Rattle.std.proofs.lemmas.Grind.{common_steps}
 use Rattle.std.proofs.Common.{◌≡◌, ◌<◌, length, Some, cond, arith, sym, ap, ◌∙◌, subst, ⊎_elim}
 use Rattle.std.specs.Result.{is_ok}
 use Rattle.std.specs.Arc.{arc_value}
@@ -9,12 +10,7 @@ use Rattle.call_tree.proofs.Growing.{AreGrown-appended}
 use Rattle.call_tree.proofs.grower.Grower.add_child.Goals as goal
 
 pub invariant_of-self : goal.invariant_of-self
-invariant_of-self c = (
-  c.self.invariant.0,
-  IsIndex-look (hash.get same_key c.self.inside.index) (hash.get
-      same_key c.reserve.new.self)
-      (plain_at (arc_value c.self.inside.tree) 0) c.in_err-reserve.ensures.entries.2 c.self.invariant.1,
-)
+invariant_of-self c = grind (arith, common_steps, IsIndex-look)
 
 pub invariant_of-self-in_err-make_mut : goal.invariant_of-self-in_err-make_mut
 invariant_of-self-in_err-make_mut c =

@@ -1,9 +1,10 @@
+use Rattle.std.proofs.lemmas.Grind.{common_steps}
 use Rattle.std.proofs.Common.{◌≡◌, ◌<◌, ℕ, [], ◌∷◌, ◌++◌, length, get_or, arith, sym, ap, ◌∙◌, subst}
 use Rattle.std.proofs.Common.{⊎_elim}
 use Rattle.std.specs.Result.{is_ok}
 use Rattle.std.specs.Arc.{arc_value}
 use Rattle.std.specs.HashMap as hash
-use Rattle.call_tree.specs.State.{TreeState, AreGrown, AreStates, IsIndex, plain_at, same_key, name_at}
+use Rattle.call_tree.specs.State.{TreeState, AreStates, IsIndex, plain_at, same_key, name_at}
 use Rattle.std.specs.Prelude.{if◌then◌else◌}
 use Rattle.indexmap.specs.IndexSet.{insert_key}
 use Rattle.profile_rows.specs.Names.{is_same_name}
@@ -45,12 +46,4 @@ invariant_of-self-2 c =
     )
 
 pub returns-clause-grown : goal.returns-clause-grown
-returns-clause-grown c =
-    let made = ⊎_elim (λ e. e) (λ e. e) c.in_ok-make_mut.ensures.value ∙ c.self.view_is in
-    let ok = c.in_ok-append_name.ensures.ok in
-    subst (AreGrown c.args.self.now)
-    (sym (c.make_mut.follows.holds c.append_name.new.self (ap is_ok c.in_ok-make_mut.was)))
-    (AreGrown-named c.args.self.now c.append_name.new.self c.in_ok-listed.listed
-    (ok.0 ∙ ap (λ (t : TreeState). t.width) made)
-    (ok.1 ∙ ap (λ (t : TreeState). t.names ++ c.in_ok-listed.listed ∷ []) made)
-    (ok.2 ∙ ap (λ (t : TreeState). t.values) made))
+returns-clause-grown c = grind (arith, common_steps, AreGrown-named)

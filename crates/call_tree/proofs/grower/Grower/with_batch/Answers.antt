@@ -1,11 +1,10 @@
 -- The tree of a grower with the rows of a batch, in place.
-use Rattle.std.proofs.Common.{◌≡◌, ◌<◌, ℕ, List, length, arith, sym, ap, ◌∙◌, subst}
+use Rattle.std.proofs.Common.{◌≡◌, ℕ, List, length, arith, sym, ap, ◌∙◌, subst}
 use Rattle.std.specs.Arc.{arc_value}
-use Rattle.std.specs.HashMap as hash
 use Rattle.profile_rows.specs.Values.{rows_at}
 use Rattle.profile_rows.specs.Aggregate.{with_rows}
 use Rattle.profile_rows.specs.declared.weighted_stacks.WeightedStack.{WeightedStack}
-use Rattle.call_tree.specs.State.{TreeState, plain_at, same_key, total_in, weights_of}
+use Rattle.call_tree.specs.State.{TreeState, plain_at, total_in, weights_of}
 use Rattle.call_tree.specs.Plans.{AreFirstSlots, AreSlots}
 use Rattle.call_tree.proofs.Growing.{AreSlots-first, weights-credited, weights-grown}
 use Rattle.call_tree.proofs.Planned.{IsIndex-credited}
@@ -34,16 +33,7 @@ with_rows_at-requires-clause-fits c = λ value.
     omega (arith, c.requires.fits value, total_in-weights_of tree value, ap total_in same)
 
 pub invariant_of-result : goal.invariant_of-result
-invariant_of-result c =
-    let tree = arc_value c.grower-2.inside.tree in
-    let next = arc_value c.in_ok-tree.tree in
-    let credited = c.in_ok-tree.ensures in
-    let some = subst (λ (t : TreeState). 0 < t.width) c.deref.ensures c.facts.ensures.some in
-    let first = credited.done 0 some in
-    let index = IsIndex-credited (hash.get same_key c.grower-2.inside.index)
-    (plain_at tree 0) (plain_at next 0) c.grower-2.invariant.1
-    (record { names = first.names; size = first.size; stacks = first.stacks }) in
-    (c.grower-2.invariant.0 ∙ sym credited.names, index)
+invariant_of-result c = grind (arith, IsIndex-credited)
 
 pub returns-clause-weights : goal.returns-clause-weights
 returns-clause-weights c = λ value.

@@ -1,22 +1,14 @@
-use Rattle.std.proofs.Common.{sym, ap, ◌∙◌}
+use Rattle.std.proofs.lemmas.Grind.{common_steps}
+use Rattle.std.proofs.Common.{arith, sym, ap, ◌∙◌}
 use Rattle.call_tree.specs.Nodes.{linked}
 use Rattle.call_tree.proofs.Weighing.{in_tables, in_links, in_table, node_is, weight_read}
 use Rattle.call_tree.proofs.nodes.Nodes.read.Goals as goal
 
 pub read-link-requires : goal.read-link-requires
-read-link-requires c =
-    let links = c.self.inside.links in
-    let tables = c.self.inside.weights.items in
-    let lt = in_tables links tables c.args.self.now c.self.view_is c.args.value c.requires.value in
-    in_links links tables c.args.self.now c.self.view_is c.args.value c.args.slot lt c.requires.within
+read-link-requires c = grind (arith, common_steps, in_tables, in_links)
 
 pub read-requires : goal.read-requires
-read-requires c =
-    let links = c.self.inside.links in
-    let tables = c.self.inside.weights.items in
-    let lt = in_tables links tables c.args.self.now c.self.view_is c.args.value c.requires.value in
-    in_table links tables c.args.self.now c.self.view_is c.args.value c.args.slot lt c.requires.within
-    c.self.invariant.2 c.index.result.now c.index.ensures
+read-requires c = grind (arith, common_steps, in_tables, in_table)
 
 pub returns : goal.returns
 returns c =

@@ -1,4 +1,4 @@
-use Rattle.std.proofs.Common.{◌≡◌, ◌<◌, ℕ, List, ◌++◌, ◌∷◌, [], length, map, get_or, refl, sym, ap, ◌∙◌, subst}
+use Rattle.std.proofs.Common.{arith, ◌≡◌, ◌<◌, ℕ, List, [], length, map, get_or, refl, sym, ap, ◌∙◌, subst}
 use Rattle.profile_rows.specs.Rows.{total_of}
 use Rattle.call_tree.specs.State.{name_at}
 use Rattle.call_tree.specs.Shape.{IsTree, node_rows}
@@ -23,12 +23,4 @@ invariant_of-self-2 c =
     )
 
 pub returns-clause-ok : goal.returns-clause-ok
-returns-clause-ok c =
-    let names = ap (λ t. t.names) c.self.view_is in
-    let absent = subst
-    (λ (ns : List (List ℕ)). (k : ℕ) → k < length ns → name_at ns k ≡ c.args.name → ⊥) (sym names) c.requires in (
-      ap (λ t. t.width) c.self.view_is,
-      c.in_ok-append.ensures.ok ∙ ap (λ ns. ns ++ c.args.name ∷ []) names,
-      ap (λ ns. map (node_rows ns) c.self.inside.nodes) c.in_ok-append.ensures.ok ∙ values_named c.self.inside.names
-          c.self.inside.nodes c.args.name c.self.invariant.0 absent ∙ ap (λ t. t.values) c.self.view_is,
-    )
+returns-clause-ok c = grind (arith, values_named)

@@ -1,3 +1,4 @@
+use Rattle.std.proofs.lemmas.Grind.{common_steps}
 use Rattle.std.proofs.Common.{arith, ap, ◌∙◌}
 use Rattle.profile_rows.specs.Aggregate.{AreRowsOf, aggregates_of}
 use Rattle.profile_rows.specs.Values.{BatchState}
@@ -7,10 +8,7 @@ use Rattle.call_tree.proofs.Several.{ArePushed-all, ArePushed-step}
 use Rattle.call_tree.proofs.tree.CallTree.rows.Goals as goal
 
 pub loop-value-preserved : goal.loop-value-preserved
-loop-value-preserved c =
-    let added = c.in_ok-push_value.ensures in
-    ArePushed-step c.args.self.now c.loop-value.batch c.push_value.new.batch c.loop-value.value c.in_ok-rows.rows
-    c.loop-value.invariant c.in_ok-rows.ensures added.width added.here added.others
+loop-value-preserved c = grind (arith, common_steps, ArePushed-step)
 
 pub returns-clause-rows : goal.returns-clause-rows
 returns-clause-rows c =

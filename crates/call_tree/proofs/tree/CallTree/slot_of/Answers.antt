@@ -1,3 +1,4 @@
+use Rattle.std.proofs.lemmas.Grind.{common_steps}
 use Rattle.std.proofs.Common.{◌≡◌, ◌<◌, ◌+◌, ℕ, true, false, [], length, take, get_or, arith, sym, ap, ◌∙◌, subst}
 use Rattle.profile_rows.specs.Names.{is_same_name}
 use Rattle.profile_rows.proofs.SameNames.{same_from_is_same_name, is_same_name-self}
@@ -64,16 +65,7 @@ loop-index-preserved c =
     ]
 
 pub returns-then-depth-frames-2 : goal.returns-then-depth-frames-2
-returns-then-depth-frames-2 c =
-    let names = c.self.inside.names in
-    let all = c.self.inside.nodes in
-    let frames = c.names-frames.result.now in
-    let slot = c.loop-index.slot in (
-      omega (arith, c.loop-index.invariant.within, length-seen names all c.args.self.now 0 c.self.view_is),
-      ap (λ rows. stack_at rows slot) (sym (seen names all c.args.self.now 0 c.self.view_is))
-          ∙ c.loop-index.invariant.here
-          ∙ ap (λ n. take n frames) c.if-depth-frames-2.true ∙ take-length frames ∙ c.names-frames.ensures.names,
-    )
+returns-then-depth-frames-2 c = grind (arith, common_steps, take-length, length-seen, seen)
 
 pub returns-else-depth-frames-2 : goal.returns-else-depth-frames-2
 returns-else-depth-frames-2 c =

@@ -1,4 +1,5 @@
 -- One name more.
+use Rattle.std.proofs.lemmas.Grind.{common_steps}
 use Rattle.std.proofs.Common.{rules, ◌≡◌, ℕ, List, ◌∷◌, ◌++◌, [], ◌<◌, ◌⊎◌, ap, sym, ◌∙◌, inl, inr, arith, map, get_or}
 use Rattle.std.proofs.Common.{All, length, string_bytes, subst, take}
 use Rattle.std.proofs.lemmas.List.{get_or-map, get_or_read, length-map, take_all, take_more}
@@ -37,8 +38,4 @@ loop-index-preserved c =
     }
 
 pub returns-clause-named : goal.returns-clause-named
-returns-clause-named c =
-    let names = map (λ (name : Bor (List ℕ)). name.now) c.args.names.now in
-    let long = length-map c.args.names.now (λ (name : Bor (List ℕ)). name.now) in
-    subst (All IsName) (take_all c.loop-index.index names (omega (arith, c.loop-index-test.false, long)))
-    c.loop-index.invariant.named
+returns-clause-named c = grind (arith, common_steps, length-map, take_all)

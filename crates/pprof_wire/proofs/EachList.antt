@@ -1,6 +1,7 @@
 -- Each list of bytes has a number or a fault at its front, a field or a fault, and so splits into fields.
-use Rattle.std.proofs.Common.{◌≡◌, ℕ, zero, suc, ◌+◌, ◌*◌, ◌/◌, ◌%◌, ◌^◌, ◌<◌, ◌≤◌, ◌⊎◌, inl, inr, List, [], bit_and}
-use Rattle.std.proofs.Common.{get_or, length, take, drop, refl, sym, ap, ◌∙◌, arith, length-drop, subst}
+use Rattle.std.proofs.lemmas.Grind.{common_steps}
+use Rattle.std.proofs.Common.{◌≡◌, ℕ, zero, suc, ◌+◌, ◌/◌, ◌^◌, ◌<◌, ◌≤◌, ◌⊎◌, inl, inr, List, [], bit_and}
+use Rattle.std.proofs.Common.{get_or, length, take, drop, refl, sym, arith, length-drop, subst}
 use Rattle.std.proofs.lemmas.Bool.{cases_lt}
 use Rattle.std.proofs.lemmas.List.{take-append-drop, take_all, take_more, length-take-le}
 use Rattle.std.specs.Int.{w32, w64, from_le_bytes}
@@ -26,14 +27,7 @@ abbrev HasVarintFault : List ℕ → Type 0
 HasVarintFault bytes = (fault : WireFault) × IsVarintFault fault bytes
 
 tenth-fits : (bytes : List ℕ) → 9 < length bytes → get_or bytes 9 0 ≤ 1 → number_of (take 10 bytes) < 2 ^ 64
-tenth-fits bytes within small =
-    let nine : length (take 9 bytes) ≡ 9 = length-take-le 9 bytes (omega arith) in
-    let value : number_of (take 10 bytes) ≡ number_of (take 9 bytes) + get_or bytes 9 0 % 128 * 2 ^ 63 =
-    ap number_of (take_more bytes 9 0 within) ∙ number_of-snoc (take 9 bytes) (get_or bytes 9 0)
-    ∙ ap (λ (n : ℕ). number_of (take 9 bytes) + get_or bytes 9 0 % 128 * 2 ^ (7 * n)) nine in
-    let low : number_of (take 9 bytes) < 2 ^ 63 =
-    subst (λ (n : ℕ). number_of (take 9 bytes) < 2 ^ (7 * n)) nine (number_of-below (take 9 bytes)) in
-    omega (arith, value, low)
+tenth-fits bytes within small = grind (arith, common_steps, take_more, length-take-le, number_of-snoc, number_of-below)
 
 tenth_byte : (bytes : List ℕ) → 9 < length bytes → AllContinue (take 9 bytes)
     → HasVarint bytes ⊎ HasVarintFault bytes
@@ -54,23 +48,17 @@ cut_at bytes count few end all =
 
 varint_after : (more count : ℕ) (bytes : List ℕ) → count + more ≡ 9 → AllContinue (take count bytes)
     → HasVarint bytes ⊎ HasVarintFault bytes
-varint_after zero count bytes whole all = elim (cases_lt count (length bytes)) [
-  | inr end ↦ inr (cut_at bytes count (omega arith) end all)
-  | inl within ↦
-      let nine : count ≡ 9 = omega arith in
-      tenth_byte bytes (omega arith) (subst (λ (n : ℕ). AllContinue (take n bytes)) nine all)
-]
-varint_after (suc more) count bytes whole all = elim (cases_lt count (length bytes)) [
-  | inr end ↦ inr (cut_at bytes count (omega arith) end all)
-  | inl within ↦ elim (cases_lt (get_or bytes count 0) 128) [
-    | inl small ↦ inl (record {
-      item = number_of (take (count + 1) bytes);
-      len = count + 1;
-      at = last_of_few bytes count (omega arith) within all small;
-    })
-    | inr large ↦ varint_after more (count + 1) bytes (omega arith) (more_continue bytes count within all large)
-  ]
-]
+varint_after zero count bytes whole all = grind (arith, common_steps, cases_lt, tenth_byte, cut_at)
+varint_after (suc more) count bytes whole all =
+    grind (
+      arith,
+      common_steps,
+      cases_lt,
+      last_of_few,
+      more_continue,
+      cut_at,
+      varint_after more (count + 1) bytes (omega arith),
+    )
 
 pub varint_or_fault : (bytes : List ℕ) → HasVarint bytes ⊎ HasVarintFault bytes
 varint_or_fault bytes = varint_after 9 0 bytes (omega arith) tt
@@ -148,10 +136,7 @@ value_or_fault (suc zero) bytes = elim (cases_lt (length bytes) 8) [
     spelled = (length-take-le 8 bytes enough, refl);
   })
 ]
-value_or_fault (suc (suc zero)) bytes = elim (varint_or_fault bytes) [
-  | inl found ↦ delimited_value bytes found
-  | inr wrong ↦ inr (varint_fault_of wrong.0 2 bytes (inr refl) wrong.1)
-]
+value_or_fault (suc (suc zero)) bytes = grind (arith, common_steps, varint_or_fault, varint_fault_of, delimited_value)
 value_or_fault (suc (suc (suc zero))) bytes =
     inr (record { fault = Group; cause = λ number numbered. (numbered, inl refl) })
 value_or_fault (suc (suc (suc (suc zero)))) bytes =
@@ -178,14 +163,7 @@ abbrev HasRestFault : List ℕ → Type 0
 HasRestFault bytes = (fault : WireFault) × IsRestFault fault bytes
 
 number_cases : (number : ℕ) → IsFieldNumber number ⊎ ((number ≡ 0) ⊎ (2 ^ 29 ≤ number))
-number_cases number =
-    elim (cases_lt number (2 ^ 29)) [
-      | inl below ↦ elim (cases_lt number 1) [
-        | inl none ↦ inr (inl (omega arith))
-        | inr some ↦ inl (record { least = some; most = below })
-      ]
-      | inr above ↦ inr (inr above)
-    ]
+number_cases number = grind (arith, common_steps, cases_lt)
 
 tagged_field : (bytes : List ℕ) (found : HasVarint bytes) → 0 < length bytes → IsFieldNumber (found.item / 8)
     → HasField bytes ⊎ HasRestFault bytes

@@ -1,4 +1,5 @@
 -- Laws of fields as lists of bytes.
+use Rattle.std.proofs.lemmas.Grind.{common_steps}
 use Rattle.std.proofs.Common.{◌≡◌, ℕ, ◌+◌, ◌*◌, ◌/◌, ◌^◌, ◌<◌, ◌≤◌, ◌⊎◌, List, [], ◌∷◌, ◌++◌, length, take, drop, refl}
 use Rattle.std.proofs.Common.{sym, ap, ◌∙◌, arith, length-append, subst, inl, inr, append_assoc, bit_and, lit<}
 use Rattle.std.proofs.lemmas.List.{length-take-le, take-append-drop}
@@ -8,7 +9,6 @@ use Rattle.pprof_wire.specs.declared.faults.WireFault.{WireFault}
 use Rattle.pprof_wire.specs.declared.faults.WireFault.TheVariants.{Truncated, LongVarint, FieldNumber, Group, WireType}
 use Rattle.pprof_wire.specs.Varints.{IsVarint, IsVarintFault}
 use Rattle.pprof_wire.specs.SpelledLists.{BeginsWithNone}
-use Rattle.std.specs.Int.{w32, w64, from_le_bytes}
 use Rattle.pprof_wire.proofs.VarintLaws.{varint_once, fault_without_number, varint_fault_once, cut_not_long}
 use Rattle.pprof_wire.specs.Fields.{FieldValue, varint, fixed64, fixed32, content, PlainField, IsDelimited}
 use Rattle.pprof_wire.specs.Fields.{IsCutDelimited, IsFieldNumber, wire_type_of, IsValueSpelling, IsFieldSpelling}
@@ -20,12 +20,7 @@ pub delimited_read : (bytes : List ℕ) (count prefix : ℕ) (rest inner : List 
     → IsVarint (take prefix bytes) count → rest ≡ drop prefix bytes
     → inner ≡ take count rest → count ≤ length rest → IsDelimited (take (prefix + length inner) bytes) inner
 delimited_read bytes count prefix rest inner spelled rest-is inner-is enough =
-    let len : length inner ≡ count = ap length inner-is ∙ length-take-le count rest enough in
-    record {
-      prefix = take prefix bytes;
-      parts = rw (len, inner-is, rest-is, take-add prefix count bytes) refl;
-      spelled = rw len spelled;
-    }
+    grind (arith, common_steps, length-take-le, take-add)
 
 tag-parts : (tag number : ℕ) → number ≡ tag / 8 → tag ≡ 8 * number + bit_and tag 7
 tag-parts tag number e = rw (and_mask tag 3) (omega arith)
@@ -35,13 +30,7 @@ tag-low tag = rw (and_mask tag 3) (omega arith)
 
 begins : (bytes : List ℕ) (len tag number : ℕ)
     → IsVarint (take len bytes) tag → number ≡ tag / 8 → BeginsWithTag bytes number (bit_and tag 7) (drop len bytes)
-begins bytes len tag number spelled e =
-    record {
-      tag = take len bytes;
-      parts = sym (take-append-drop len bytes);
-      tagged = subst (IsVarint (take len bytes)) (tag-parts tag number e) spelled;
-      low = tag-low tag;
-    }
+begins bytes len tag number spelled e = grind (arith, common_steps, take-append-drop, tag-parts, tag-low)
 
 pub number_fault : (fault : WireFault) (bytes : List ℕ) (len tag : ℕ)
     → IsVarint (take len bytes) tag → fault ≡ FieldNumber
@@ -68,15 +57,7 @@ pub field_read : (bytes : List ℕ) (len tag number : ℕ) (rest : List ℕ) (mo
     → rest ≡ drop len bytes → bit_and tag 7 ≡ wire_type_of value → IsValueSpelling (take more rest) value
     → IsFieldSpelling (take (len + more) bytes) (record { number = number; value = value })
 field_read bytes len tag number rest more value spelled numbered e rest-is typed valued =
-    record {
-      tag = take len bytes;
-      rest = take more (drop len bytes);
-      parts = take-add len more bytes;
-      numbered = numbered;
-      tagged = subst (λ (n : ℕ). IsVarint (take len bytes) (8 * number + n)) typed
-          (subst (IsVarint (take len bytes)) (tag-parts tag number e) spelled);
-      valued = subst (λ (bs : List ℕ). IsValueSpelling (take more bs) value) rest-is valued;
-    }
+    grind (arith, common_steps, take-add, tag-parts)
 
 -- ---- no field's spelling begins another
 
@@ -84,38 +65,19 @@ same_front : (a b x y : List ℕ) → length a ≡ length b → a ++ x ≡ b ++ 
 same_front [] [] x y len same = (refl, same)
 same_front [] (q ∷ b) x y len same = absurd cc
 same_front (p ∷ a) [] x y len same = absurd cc
-same_front (p ∷ a) (q ∷ b) x y len same =
-    let shorter : length a ≡ length b = cc in
-    let tail : a ++ x ≡ b ++ y = cc in
-    let rest = same_front a b x y shorter tail in
-    (let head : p ≡ q = cc in cc (rest.0), rest.1)
+same_front (p ∷ a) (q ∷ b) x y len same = grind (arith, common_steps, same_front a b x y)
 
 delimited_once : (a b x y c d : List ℕ)
     → IsDelimited a c → IsDelimited b d → a ++ x ≡ b ++ y → (a ≡ b) × (x ≡ y) × (c ≡ d)
-delimited_once a b x y c d left right same =
-    let whole : left.prefix ++ (c ++ x) ≡ right.prefix ++ (d ++ y) =
-    sym (append_assoc left.prefix c x) ∙ ap (λ (front : List ℕ). front ++ x) (sym left.parts)
-    ∙ same ∙ ap (λ (front : List ℕ). front ++ y) right.parts ∙ append_assoc right.prefix d y in
-    let prefixes =
-    varint_once left.prefix right.prefix (c ++ x) (d ++ y) (length c) (length d) left.spelled right.spelled whole in
-    let contents = same_front c d x y prefixes.2 prefixes.1 in (
-      left.parts ∙ ap (λ (front : List ℕ). front ++ c) prefixes.0
-          ∙ ap (λ (inner : List ℕ). right.prefix ++ inner) contents.0 ∙ sym right.parts,
-      contents.1,
-      contents.0,
-    )
+delimited_once a b x y c d left right same = grind (arith, common_steps, varint_once, same_front)
 
 value_once : (v w : FieldValue) (a b x y : List ℕ)
     → wire_type_of v ≡ wire_type_of w → IsValueSpelling a v → IsValueSpelling b w → a ++ x ≡ b ++ y
     → (a ≡ b) × (x ≡ y) × (v ≡ w)
 value_once (varint m) (varint n) a b x y typed left right same =
     let once = varint_once a b x y m n left right same in (once.0, once.1, ap varint once.2)
-value_once (fixed64 m) (fixed64 n) a b x y typed left right same =
-    let once = same_front a b x y (left.0 ∙ sym right.0) same in
-    (once.0, once.1, ap fixed64 (left.1 ∙ ap (from_le_bytes w64) once.0 ∙ sym right.1))
-value_once (fixed32 m) (fixed32 n) a b x y typed left right same =
-    let once = same_front a b x y (left.0 ∙ sym right.0) same in
-    (once.0, once.1, ap fixed32 (left.1 ∙ ap (from_le_bytes w32) once.0 ∙ sym right.1))
+value_once (fixed64 m) (fixed64 n) a b x y typed left right same = grind (arith, common_steps, same_front)
+value_once (fixed32 m) (fixed32 n) a b x y typed left right same = grind (arith, common_steps, same_front)
 value_once (content c) (content d) a b x y typed left right same =
     let once = delimited_once a b x y c d left right same in (once.0, once.1, ap content once.2)
 value_once v w a b x y typed left right same = absurd (omega arith)
@@ -134,23 +96,12 @@ tag_once m n s t p q e = (omega arith, omega arith)
 tag_of_field : (bytes spelling after : List ℕ) (field : PlainField)
     → (spelled : IsFieldSpelling spelling field) → bytes ≡ spelling ++ after
     → BeginsWithTag bytes field.number (wire_type_of field.value) (spelled.rest ++ after)
-tag_of_field bytes spelling after field spelled same =
-    record {
-      tag = spelled.tag;
-      parts = same ∙ ap (λ (front : List ℕ). front ++ after) spelled.parts
-          ∙ append_assoc spelled.tag spelled.rest after;
-      tagged = spelled.tagged;
-      low = low-type field.value;
-    }
+tag_of_field bytes spelling after field spelled same = grind (arith, common_steps, low-type)
 
 tag_at_once : (bytes rest other : List ℕ) (m s n t : ℕ)
     → (one : BeginsWithTag bytes m s rest) → (two : BeginsWithTag bytes n t other)
     → (one.tag ≡ two.tag) × (rest ≡ other) × (m ≡ n) × (s ≡ t)
-tag_at_once bytes rest other m s n t one two =
-    let tags = varint_once one.tag two.tag rest other
-    (8 * m + s) (8 * n + t) one.tagged two.tagged (sym one.parts ∙ two.parts) in
-    let parts = tag_once m n s t one.low two.low tags.2 in
-    (tags.0, tags.1, parts.0, parts.1)
+tag_at_once bytes rest other m s n t one two = grind (arith, common_steps, varint_once, tag_once)
 
 pub field_once : (a b x y : List ℕ) (f g : PlainField)
     → IsFieldSpelling a f → IsFieldSpelling b g → a ++ x ≡ b ++ y → (a ≡ b) × (x ≡ y) × (f ≡ g)
@@ -169,10 +120,7 @@ field_once a b x y f g left right same =
 -- ---- a field at the front and a fault exclude one another
 
 not-numbered : (number : ℕ) → IsFieldNumber number → (number ≡ 0) ⊎ (2 ^ 29 ≤ number) → ⊥
-not-numbered number numbered range = elim range [
-  | inl zero-is ↦ absurd (omega (arith, numbered.least))
-  | inr large ↦ absurd (omega (arith, numbered.most))
-]
+not-numbered number numbered range = grind (arith, common_steps)
 
 not_cut_delimited : (a x c : List ℕ) → IsDelimited a c → IsCutDelimited (a ++ x) → ⊥
 not_cut_delimited a x c spelled cut =
@@ -181,9 +129,7 @@ not_cut_delimited a x c spelled cut =
     absurd (omega (arith, length-append c x, ap length once.1, once.2, cut.short))
 
 not_varint_fault : (fault : WireFault) (a x c : List ℕ) → IsDelimited a c → IsVarintFault fault (a ++ x) → ⊥
-not_varint_fault fault a x c spelled faulty =
-    fault_without_number fault (a ++ x) faulty spelled.prefix (c ++ x) (length c)
-    (ap (λ (front : List ℕ). front ++ x) spelled.parts ∙ append_assoc spelled.prefix c x) spelled.spelled
+not_varint_fault fault a x c spelled faulty = grind (arith, common_steps, fault_without_number)
 
 -- the wire types of values
 IsValueType : ℕ → Type 0

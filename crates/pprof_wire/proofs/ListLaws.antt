@@ -1,11 +1,12 @@
 -- Laws of whole lists of fields and of numbers.
-use Rattle.std.proofs.Common.{◌≡◌, ℕ, ◌+◌, ◌*◌, List, [], ◌∷◌, ◌++◌, length, length-append, refl, sym, ap, arith}
+use Rattle.std.proofs.lemmas.Grind.{common_steps}
+use Rattle.std.proofs.Common.{◌≡◌, ℕ, List, [], ◌∷◌, ◌++◌, length, length-append, refl, sym, arith}
 use Rattle.std.proofs.lemmas.Nat.{from_le_bytes-to_le_bytes_4, from_le_bytes-to_le_bytes_8}
 use Rattle.pprof_wire.specs.declared.faults.WireFault.{WireFault}
 use Rattle.pprof_wire.specs.Varints.{IsVarint, IsVarintFault, IsNumberList, SplitsIntoNumbers}
 use Rattle.pprof_wire.specs.Varints.{varint_of}
 use Rattle.pprof_wire.specs.Fields.{FieldValue, varint, fixed64, fixed32, content, PlainField, IsFieldNumber}
-use Rattle.pprof_wire.specs.Fields.{wire_type_of, IsValueSpelling, IsFieldSpelling, IsFieldList}
+use Rattle.pprof_wire.specs.Fields.{IsValueSpelling, IsFieldSpelling, IsFieldList}
 use Rattle.pprof_wire.specs.Fields.{SplitsIntoFields, IsRestFault, value_bytes_of, field_bytes_of, FitsValue}
 use Rattle.pprof_wire.specs.SpelledLists.{BeginsWithNone}
 use Rattle.pprof_wire.proofs.SpelledLists.{one_spelled, spelled_joined, split_once, split_at_the_end, none_in_nil}
@@ -34,12 +35,7 @@ varint-some (byte ∷ bytes) number spelled = omega arith
 
 -- a field takes a byte at least
 pub field-some : IsNeverEmpty IsFieldSpelling
-field-some bytes field spelled = omega (
-  arith,
-  ap length spelled.parts,
-  length-append spelled.tag spelled.rest,
-  varint-some spelled.tag (8 * field.number + wire_type_of field.value) spelled.tagged,
-)
+field-some bytes field spelled = grind (arith, common_steps, length-append, varint-some)
 
 pub nil_without_field : BeginsWithNone IsFieldSpelling []
 nil_without_field = none_in_nil IsFieldSpelling field-some
@@ -90,13 +86,4 @@ value_back (content bytes) fits =
 
 pub written_back : (field : PlainField)
     → IsFieldNumber field.number → FitsValue field.value → IsFieldSpelling (field_bytes_of field) field
-written_back field numbered fits =
-    record {
-      tag = varint_of (8 * field.number + wire_type_of field.value);
-      rest = value_bytes_of field.value;
-      parts = refl;
-      numbered = numbered;
-      tagged = varint_of-spells
-          (8 * field.number + wire_type_of field.value) (omega (arith, numbered.most, low-type field.value));
-      valued = value_back field.value fits;
-    }
+written_back field numbered fits = grind (arith, common_steps, low-type, varint_of-spells, value_back)

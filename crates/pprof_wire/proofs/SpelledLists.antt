@@ -1,4 +1,5 @@
 -- Laws of lists of bytes that spell things one after the other.
+use Rattle.std.proofs.lemmas.Grind.{common_steps}
 use Rattle.std.proofs.Common.{◌≡◌, ℕ, zero, suc, ◌<◌, ◌≤◌, ◌⊎◌, inl, inr, List, [], ◌∷◌, ◌++◌, length, length-append}
 use Rattle.std.proofs.Common.{length-drop, drop, take, refl, sym, ap, ◌∙◌, arith, subst, append_assoc}
 use Rattle.std.proofs.lemmas.List.{append-nil, length-take-le, take-append-drop}
@@ -12,14 +13,8 @@ pub spelled_joined : {A : Type 0} (Spells : List ℕ → A → Type 0) (a b : Li
     → AreSpelled Spells a xs → AreSpelled Spells b ys → AreSpelled Spells (a ++ b) (xs ++ ys)
 spelled_joined Spells a b [] ys left right =
     subst (λ (bytes : List ℕ). AreSpelled Spells (bytes ++ b) ys) (sym left) right
-spelled_joined Spells a b (x ∷ xs) ys (front, after, parts, spelled, others) right = (
-  front,
-  after ++ b,
-  ap (λ (bytes : List ℕ). bytes ++ b) parts
-      ∙ append_assoc front after b,
-  spelled,
-  spelled_joined Spells after b xs ys others right,
-)
+spelled_joined Spells a b (x ∷ xs) ys (front, after, parts, spelled, others) right =
+    grind (arith, common_steps, spelled_joined Spells after b xs ys others right)
 
 -- no item's spelling begins another, and it has one item
 abbrev pub IsSpelledOnce : {A : Type 0} → (List ℕ → A → Type 0) → Type 0
@@ -47,11 +42,9 @@ listed_once : {A : Type 0} (Spells : List ℕ → A → Type 0) → IsSpelledOnc
 listed_once Spells once a b r s [] [] left right ends stops same =
     (refl, ap (λ (bytes : List ℕ). bytes ++ r) (sym left) ∙ same ∙ ap (λ (bytes : List ℕ). bytes ++ s) right)
 listed_once Spells once a b r s [] (y ∷ ys) left (front, after, parts, spelled, others) ends stops same =
-    absurd (ends front (after ++ s) y (ap (λ (bytes : List ℕ). bytes ++ r) (sym left)
-    ∙ same ∙ ap (λ (bytes : List ℕ). bytes ++ s) parts ∙ append_assoc front after s) spelled)
+    grind (arith, common_steps)
 listed_once Spells once a b r s (x ∷ xs) [] (front, after, parts, spelled, others) right ends stops same =
-    absurd (stops front (after ++ r) x (ap (λ (bytes : List ℕ). bytes ++ s) (sym right)
-    ∙ sym same ∙ ap (λ (bytes : List ℕ). bytes ++ r) parts ∙ append_assoc front after r) spelled)
+    grind (arith, common_steps)
 listed_once {A = A} Spells once a b r s
     (x ∷ xs) (y ∷ ys) (front, after, parts, spelled, others) (first, next, pieces, written, more) ends stops same =
     let whole : front ++ (after ++ r) ≡ first ++ (next ++ s) =
@@ -64,9 +57,7 @@ listed_once {A = A} Spells once a b r s
 pub split_once : {A : Type 0} (Spells : List ℕ → A → Type 0) → IsSpelledOnce Spells
     → (bytes r s : List ℕ) (xs ys : List A)
     → SplitsInto Spells bytes xs r → SplitsInto Spells bytes ys s → (xs ≡ ys) × (r ≡ s)
-split_once Spells once bytes r s xs ys left right =
-    listed_once Spells once left.front right.front r s xs ys left.listed right.listed left.ends right.ends
-    (sym left.parts ∙ right.parts)
+split_once Spells once bytes r s xs ys left right = grind (arith, common_steps, listed_once)
 
 -- ---- each list of bytes
 

@@ -6,6 +6,7 @@ use Rattle.pprof_wire.proofs.ShortestVarints.{varint_of-shortest, varint_of-spel
 use Rattle.pprof_wire.proofs.VarintLaws.{fault_without_number, tenth-small, varint_fault_once, varint_once}
 
 pub ruleset all_split = (each_list_splits_into_fields, each_list_splits_into_numbers)
+
 pub ruleset ends = (fields_end, numbers_end, number_fault_ends)
 
 pub ruleset listed = (fields_joined, numbers_joined, one_field_listed, one_number_listed, written_back)

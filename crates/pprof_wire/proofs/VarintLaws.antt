@@ -1,5 +1,6 @@
 -- Laws of varints as lists of bytes.
-use Rattle.std.proofs.Common.{◌≡◌, ℕ, suc, ◌+◌, ◌*◌, ◌%◌, ◌^◌, ◌<◌, ◌≤◌, List, [], ◌∷◌, ◌++◌, length, take, drop}
+use Rattle.std.proofs.lemmas.Grind.{common_steps}
+use Rattle.std.proofs.Common.{rules, ◌≡◌, ℕ, suc, ◌+◌, ◌*◌, ◌%◌, ◌^◌, ◌<◌, ◌≤◌, List, [], ◌∷◌, ◌++◌, length, take, drop}
 use Rattle.std.proofs.Common.{get_or, refl, sym, ap, ◌∙◌, arith, length-append, bit_and, lit<, subst}
 use Rattle.std.proofs.Math.Nat.{pow-le-pow_right}
 use Rattle.std.proofs.lemmas.Nat.{pow-add, and_mask, shl_whole, mul-add-lt}
@@ -34,18 +35,14 @@ number_of-step first byte low scale = omega arith
 pub number_of-snoc : (front : List ℕ) (byte : ℕ)
     → number_of (front ++ byte ∷ []) ≡ number_of front + byte % 128 * 2 ^ (7 * length front)
 number_of-snoc [] byte = omega arith
-number_of-snoc (first ∷ rest) byte =
-    rw (number_of-snoc rest byte, scale-suc (length rest))
-    (number_of-step (first % 128) (byte % 128) (number_of rest) (2 ^ (7 * length rest)))
+number_of-snoc (first ∷ rest) byte = search (rules, scale-suc, number_of-step, number_of-snoc rest byte)
 
 below-step : (first low scale : ℕ) → first < 128 → low < scale → first + 128 * low < 128 * scale
 below-step first low scale p q = omega arith
 
 pub number_of-below : (bytes : List ℕ) → number_of bytes < 2 ^ (7 * length bytes)
 number_of-below [] = lit< tt
-number_of-below (byte ∷ rest) =
-    rw (scale-suc (length rest))
-    (below-step (byte % 128) (number_of rest) (2 ^ (7 * length rest)) (omega arith) (number_of-below rest))
+number_of-below (byte ∷ rest) = grind (arith, common_steps, scale-suc, below-step, number_of-below rest)
 
 -- ---- the reader's arithmetic
 
@@ -89,14 +86,7 @@ more_value : (bytes : List ℕ) (count number : ℕ)
     → count < 9 → count < length bytes → number ≡ number_of (take count bytes)
     → number + bit_and (get_or bytes count 0) 127 * 2 ^ (7 * count) % 2 ^ 64 ≡ number_of (take (count + 1) bytes)
 more_value bytes count number small within value =
-    let len : length (take count bytes) ≡ count = length-take-le count bytes (omega arith) in
-    rw (
-      masked-shifted (get_or bytes count 0) count small,
-      take_more bytes count 0 within,
-      number_of-snoc (take count bytes) (get_or bytes count 0),
-      len,
-      ← value,
-    ) refl
+    grind (arith, common_steps, length-take-le, take_more, number_of-snoc, masked-shifted, within, value)
 
 -- the last byte of a spelling
 pub last_byte : (bytes : List ℕ) (count : ℕ) → count ≤ 9 → count < length bytes → AllContinue (take count bytes)
@@ -116,8 +106,7 @@ last_byte bytes count most within continued last fits = record {
 pub last_of_few : (bytes : List ℕ) (count : ℕ) → count < 9 → count < length bytes → AllContinue (take count bytes)
     → get_or bytes count 0 < 128 → IsAtFront IsVarint bytes (count + 1) (number_of (take (count + 1) bytes))
 last_of_few bytes count small within continued last =
-    last_byte bytes count (omega arith) within continued last
-    (fits-nine (take (count + 1) bytes) (omega (arith, length-take-le (count + 1) bytes (omega arith))))
+    grind (arith, common_steps, length-take-le, fits-nine, within, continued, last_byte)
 
 pub more_spelled : (bytes : List ℕ) (count number : ℕ) → count < 9 → count < length bytes
     → IsReadSoFar bytes count number → get_or bytes count 0 < 128
@@ -170,9 +159,7 @@ groups_once (p ∷ []) (q ∷ s ∷ bs) x y left right same =
 groups_once (p ∷ r ∷ as') (q ∷ []) x y left right same =
     let head : p ≡ q = cc in absurd (omega (arith, left.0))
 groups_once (p ∷ r ∷ as') (q ∷ s ∷ bs) x y left right same =
-    let tail : (r ∷ as') ++ x ≡ (s ∷ bs) ++ y = cc in
-    let rest = groups_once (r ∷ as') (s ∷ bs) x y left.1 right.1 tail in
-    (cc (rest.0), rest.1)
+    grind (arith, common_steps, groups_once (r ∷ as') (s ∷ bs) x y left.1 right.1)
 
 -- a spelling has a last byte
 pub groups_end : (a x : List ℕ) → IsGroups a → AllContinue (a ++ x) → ⊥
@@ -189,9 +176,7 @@ groups_past [] (p ∷ as') x byte rest all groups same = (as', let head : p ≡ 
 groups_past (f ∷ front) (p ∷ []) x byte rest all groups same =
     let head : p ≡ f = cc in absurd (omega (arith, all.0))
 groups_past (f ∷ front) (p ∷ r ∷ as') x byte rest all groups same =
-    let tail : (r ∷ as') ++ x ≡ front ++ byte ∷ rest = cc in
-    let more = groups_past front (r ∷ as') x byte rest all.1 groups.1 tail in
-    (more.0, let head : p ≡ f = cc in cc (more.1))
+    grind (arith, common_steps, groups_past front (r ∷ as') x byte rest all.1 groups.1)
 
 pub varint_once : (a b x y : List ℕ) (m n : ℕ)
     → IsVarint a m → IsVarint b n → a ++ x ≡ b ++ y → (a ≡ b) × (x ≡ y) × (m ≡ n)

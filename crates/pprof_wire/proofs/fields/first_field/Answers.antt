@@ -1,15 +1,11 @@
 use Rattle.std.proofs.Common.{arith}
 use Rattle.std.proofs.lemmas.Grind.{common_steps}
 use Rattle.std.proofs.lemmas.Result.{err_from_is_err_and}
-use Rattle.pprof_wire.specs.Fields.{value_of}
 use Rattle.pprof_wire.proofs.FieldLaws.{number_fault, value_fault, field_read}
 use Rattle.pprof_wire.proofs.fields.first_field.Goals as goal
 
 pub returns-in_err-number : goal.returns-in_err-number
-returns-in_err-number c =
-    let p = err_from_is_err_and c.from_residual-in_err-number.result c.from_residual-in_err-number.ensures.1 in
-    rw (p.1, p.2) (number_fault _ c.args.bytes.now c.in_ok-tag.tag_len
-    c.in_ok-tag.tag c.in_ok-tag.ensures.spelled c.in_err-number.ensures.fault.0 c.in_err-number.ensures.fault.1)
+returns-in_err-number c = grind (arith, common_steps, err_from_is_err_and, number_fault)
 
 pub returns-in_err-value : goal.returns-in_err-value
 returns-in_err-value c =
@@ -19,14 +15,4 @@ returns-in_err-value c =
     c.in_ok-number.ensures.number.1 c.bytes_from.ensures.value c.in_err-value.ensures)
 
 pub returns : goal.returns
-returns c = (
-  record {
-    within = grind (arith, common_steps);
-    spelled = field_read c.args.bytes.now c.in_ok-tag.tag_len c.in_ok-tag.tag
-        c.in_ok-number.number c.bytes_from.result.now c.in_ok-value.value_len (value_of c.in_ok-value.value)
-        c.in_ok-tag.ensures.spelled c.in_ok-number.ensures.number.0 c.in_ok-number.ensures.number.1
-        c.bytes_from.ensures.value c.in_ok-value.ensures.typed c.in_ok-value.ensures.spelled;
-  },
-  grind (arith, common_steps),
-  grind (arith, common_steps),
-)
+returns c = grind (arith, common_steps, field_read)

@@ -1,5 +1,5 @@
-use Rattle.std.proofs.Common.{ℕ, ap, subst, take, ◌≡◌, ◌*◌, ◌%◌, ◌^◌, arith, slice_index_or}
-use Rattle.pprof_wire.specs.Varints.{AllContinue}
+use Rattle.std.proofs.lemmas.Grind.{common_steps}
+use Rattle.std.proofs.Common.{ℕ, ap, ◌*◌, ◌%◌, ◌^◌, arith, slice_index_or}
 use Rattle.pprof_wire.proofs.VarintLaws.{more_spelled, more_read, group-fits, is_long}
 use Rattle.pprof_wire.proofs.varints.long_varint.Goals as goal
 
@@ -23,9 +23,4 @@ loop-count-preserved c =
     c.if-count-bytes.false c.loop-count.invariant c.if-byte-lt128.false)
 
 pub returns-in-Some-2 : goal.returns-in-Some-2
-returns-in-Some-2 c =
-    let found = c.in-Some.ensures.lookup.3 in
-    let nine : c.loop-count.count ≡ 9 = omega arith in
-    is_long c.args.bytes.now found.0
-    (subst (λ (n : ℕ). AllContinue (take n c.args.bytes.now)) nine c.loop-count.invariant.continued)
-    (omega (arith, found.1 0))
+returns-in-Some-2 c = grind (arith, common_steps, is_long)

@@ -1,25 +1,18 @@
+use Rattle.std.proofs.lemmas.Grind.{common_steps}
 use Rattle.std.proofs.Common.{drop, arith}
-use Rattle.pprof_wire.specs.declared.faults.WireFault.TheVariants.{Truncated}
 use Rattle.pprof_wire.specs.Varints.{IsVarint}
 use Rattle.pprof_wire.proofs.VarintLaws.{varint_once, fault_without_number, varint_fault_once, past_end}
 use Rattle.pprof_wire.proofs.SpelledLists.{read_once, not_at_front}
 use Rattle.pprof_wire.proofs.varints.read_varint.Goals as goal
 
 pub returns-then-at-bytes-clause-every_spelling : goal.returns-then-at-bytes-clause-every_spelling
-returns-then-at-bytes-clause-every_spelling c = λ spelling rest number same spelled.
-    absurd (fault_without_number Truncated (drop c.args.at c.args.bytes.now)
-    (past_end c.args.at c.args.bytes.now (omega arith)) spelling rest number same spelled)
+returns-then-at-bytes-clause-every_spelling c = grind (arith, common_steps, fault_without_number, past_end)
 
 pub returns-then-at-bytes-clause-every_fault : goal.returns-then-at-bytes-clause-every_fault
-returns-then-at-bytes-clause-every_fault c = λ fault faulty.
-    let once = varint_fault_once Truncated fault
-    (drop c.args.at c.args.bytes.now) (past_end c.args.at c.args.bytes.now (omega arith)) faulty in
-    cc
+returns-then-at-bytes-clause-every_fault c = grind (arith, common_steps, varint_fault_once, past_end)
 
 pub returns-in_err-number-clause-every_spelling : goal.returns-in_err-number-clause-every_spelling
-returns-in_err-number-clause-every_spelling c = λ spelling rest number same spelled.
-    absurd (fault_without_number _ (drop c.args.at c.args.bytes.now)
-    (rw c.bytes_from.ensures.value at c.in_err-number.ensures) spelling rest number same spelled)
+returns-in_err-number-clause-every_spelling c = grind (arith, common_steps, fault_without_number)
 
 pub returns-clause-every_spelling : goal.returns-clause-every_spelling
 returns-clause-every_spelling c = λ spelling rest number same spelled.

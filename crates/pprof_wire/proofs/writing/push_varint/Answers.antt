@@ -1,19 +1,10 @@
-use Rattle.std.proofs.Common.{◌+◌, ◌%◌, ◌++◌, ◌∙◌, List, length, arith, ap, refl, ℕ}
-use Rattle.pprof_wire.specs.Varints.{varint_of}
+use Rattle.std.proofs.lemmas.Grind.{common_steps}
+use Rattle.std.proofs.Common.{◌+◌, ◌%◌, ◌++◌, ◌∙◌, List, length, arith, ap, ℕ}
 use Rattle.pprof_wire.proofs.ShortestVarints.{all-left, next-left, pushed_next}
 use Rattle.pprof_wire.proofs.writing.push_varint.Goals as goal
 
 pub loop-rest-init : goal.loop-rest-init
-loop-rest-init c = (
-  record {
-    groups = varint_of c.args.number;
-    left =
-        all-left c.args.number c.ranges.number.fits;
-    joined = refl;
-    room = c.requires;
-  },
-  omega arith,
-)
+loop-rest-init c = grind (arith, common_steps, all-left)
 
 pub loop-rest-preserved : goal.loop-rest-preserved
 loop-rest-preserved c =

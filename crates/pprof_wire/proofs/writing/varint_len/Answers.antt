@@ -1,3 +1,4 @@
+use Rattle.std.proofs.lemmas.Grind.{common_steps}
 use Rattle.std.proofs.Common.{length, arith, ap, refl}
 use Rattle.pprof_wire.specs.Varints.{varint_of}
 use Rattle.pprof_wire.proofs.ShortestVarints.{all-left, next-left, last-left, length-varint_of}
@@ -22,11 +23,4 @@ loop-rest-preserved c =
     }
 
 pub returns-clause-most : goal.returns-clause-most
-returns-clause-most c =
-    omega (
-      arith,
-      c.loop-rest.invariant.counted,
-      length-varint_of c.args.number c.ranges.number.fits,
-      ap length
-          (last-left c.loop-rest.invariant.groups c.loop-rest.rest c.loop-rest.invariant.left c.loop-rest-test.false),
-    )
+returns-clause-most c = grind (arith, common_steps, last-left, length-varint_of)

@@ -1,4 +1,5 @@
-use Rattle.std.proofs.Common.{◌∙◌, sym, subst}
+use Rattle.std.proofs.lemmas.Grind.{common_steps}
+use Rattle.std.proofs.Common.{arith, ◌∙◌, sym, subst}
 use Rattle.pprof_wire.specs.Varints.{IsVarint, IsVarintFault}
 use Rattle.pprof_wire.proofs.VarintLaws.{varint_once, fault_without_number}
 use Rattle.pprof_wire.proofs.SpelledLists.{read_once, not_at_front}
@@ -17,6 +18,4 @@ returns-in-Ok-clause-every_fault c = λ fault some faulty.
     c.in-Ok.ensures)
 
 pub returns-in-Err-clause-every_number : goal.returns-in-Err-clause-every_number
-returns-in-Err-clause-every_number c = λ spelling rest number same spelled.
-    absurd (fault_without_number c.in-Err.fault c.self.inside.rest.now c.in-Err.ensures spelling rest number
-    (c.self.view_is ∙ same) spelled)
+returns-in-Err-clause-every_number c = grind (arith, common_steps, fault_without_number)

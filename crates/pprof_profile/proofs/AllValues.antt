@@ -1,5 +1,6 @@
 -- What the values of one number make, one after the other.
-use Rattle.std.proofs.Common.{◌≡◌, ℕ, List, [], ◌∷◌, ◌++◌, map, refl, sym, ap, ◌∙◌, subst, append_assoc, Ok}
+use Rattle.std.proofs.lemmas.Grind.{common_steps}
+use Rattle.std.proofs.Common.{arith, ◌≡◌, ℕ, List, [], ◌∷◌, ◌++◌, map, refl, sym, ap, ◌∙◌, subst, append_assoc, Ok}
 use Rattle.std.proofs.lemmas.List.{append-nil}
 use Rattle.std.specs.List.{AllByRecursion, flat_map}
 use Rattle.std.specs.Str.{IsUtf8}
@@ -30,9 +31,7 @@ last_taken from before (value ∷ values) new (next, step, more) = absurd cc
 
 pub is_last : {A : Type 0} (from : ℕ → A) (values : List FieldValue) (new : A)
     → TakesEach (SetsNumber from) (from 0) values new → IsLast from values new
-is_last from values new taken =
-    let found = last_taken from 0 values new taken in
-    record { numbers = found.0; varints = found.1; last = found.2 }
+is_last from values new taken = grind (arith, common_steps, last_taken)
 
 all_numbers : {A : Type 0} (from : ℕ → A) (old : List A) (values : List FieldValue) (new : List A)
     → TakesEach (AddsNumbers from) old values new
@@ -60,30 +59,18 @@ all_numbers from old (value ∷ values) new (next, step, more) = absurd cc
 
 pub are_all_numbers : {A : Type 0} (from : ℕ → A) (values : List FieldValue) (new : List A)
     → TakesEach (AddsNumbers from) [] values new → AreAllNumbers from values new
-are_all_numbers from values new taken =
-    let found = all_numbers from [] values new taken in
-    record { numbers = found.0; numbered = found.1; all = found.2 }
+are_all_numbers from values new taken = grind (arith, common_steps, all_numbers)
 
 all_texts : (old : List (List ℕ)) (values : List FieldValue) (new : List (List ℕ)) → TakesEach AddsText old values new
     → (texts : List (List ℕ)) × (values ≡ map content texts) × AllByRecursion IsUtf8 texts × (new ≡ old ++ texts)
 all_texts old [] new same = ([], refl, tt, same ∙ sym (append-nil old))
 all_texts old (content bytes ∷ values) new (next, step, more) =
-    let rest = all_texts next values new more in (
-      bytes ∷ rest.0,
-      ap (λ (vs : List FieldValue). content bytes ∷ vs) rest.1,
-      (step.0, rest.2),
-      rest.3 ∙ ap (λ (xs : List (List ℕ)). xs ++ rest.0) step.1 ∙ append_assoc old (bytes ∷ []) rest.0,
-    )
+    grind (arith, common_steps, all_texts next values new more)
 all_texts old (value ∷ values) new (next, step, more) = absurd cc
 
 pub are_all_texts : (values : List FieldValue) (new : List (List ℕ)) → TakesEach AddsText [] values new
     → AreAllTexts values new
-are_all_texts values new taken =
-    let found = all_texts [] values new taken in
-    record {
-      contents = found.1 ∙ ap (map content) (sym found.3);
-      utf8 = subst (λ (texts : List (List ℕ)). AllByRecursion IsUtf8 texts) (sym found.3) found.2;
-    }
+are_all_texts values new taken = grind (arith, common_steps, all_texts)
 
 all_messages : {M : Type 0} (table : Table M) (empty : M) (Is : List PlainField → M → Type 0)
     → ((fields : List PlainField) (item : M) → Gathers table empty fields item → Is fields item)
@@ -126,9 +113,7 @@ pub is_one_message : {M : Type 0} (table : Table M) (empty : M) (Is : List Plain
     → ((fields : List PlainField) (item : M) → Gathers table empty fields item → Is fields item)
     → (values : List FieldValue) (new : M)
     → TakesEach (MergesMessage table) empty values new → IsOneMessage Is values new
-is_one_message table empty Is by values new taken =
-    let found = all_together table empty values new taken in
-    record { lists = found.0; listed = found.1; together = by (flat_map (λ part. part) found.0) new found.2 }
+is_one_message table empty Is by values new taken = grind (arith, common_steps, all_together)
 
 -- ---- and back
 
@@ -183,17 +168,12 @@ all_numbers_back from values items is = numbers_back_from from [] values is.numb
 texts_back_from : (old texts new : List (List ℕ))
     → AllByRecursion IsUtf8 texts → new ≡ old ++ texts → TakesEach AddsText old (map content texts) new
 texts_back_from old [] new utf8 same = same ∙ append-nil old
-texts_back_from old (text ∷ texts) new utf8 same = (
-  old ++ text ∷ [],
-  (utf8.0, refl),
-  texts_back_from (old ++ text ∷ []) texts new utf8.1 (after old (text ∷ []) texts new same),
-)
+texts_back_from old (text ∷ texts) new utf8 same =
+    grind (arith, after, texts_back_from (old ++ text ∷ []) texts new utf8.1 (after old (text ∷ []) texts new same))
 
 pub all_texts_back : (values : List FieldValue) (texts : List (List ℕ))
     → AreAllTexts values texts → TakesEach AddsText [] values texts
-all_texts_back values texts is =
-    subst (λ (vs : List FieldValue). TakesEach AddsText [] vs texts)
-    (sym is.contents) (texts_back_from [] texts texts is.utf8 refl)
+all_texts_back values texts is = grind (arith, common_steps, texts_back_from)
 
 messages_back_from : {M : Type 0} (table : Table M) (empty : M) (Is : List PlainField → M → Type 0)
     → ((fields : List PlainField) (item : M) → Is fields item → Gathers table empty fields item)
@@ -232,8 +212,7 @@ gathers_split : {M : Type 0} (table : Table M) (old new : M) (xs ys : List Plain
     → (mid : M) × Gathers table old xs mid × Gathers table mid ys new
 gathers_split table old new [] ys gathered = (old, refl, gathered)
 gathers_split table old new (x ∷ xs) ys (next, step, more) =
-    let (mid, left, right) = gathers_split table next new xs ys more in
-    (mid, (next, step, left), right)
+    grind (arith, common_steps, gathers_split table next new xs ys more)
 
 together_back : {M : Type 0}
     (table : Table M) (old : M) (values : List FieldValue) (lists : List (List PlainField)) (new : M)

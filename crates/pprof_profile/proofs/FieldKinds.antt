@@ -1,5 +1,6 @@
 -- What is asked of the kinds of fields.
-use Rattle.std.proofs.Common.{◌≡◌, ℕ, ◌<◌, ◌^◌, List, [], ◌∷◌, ◌++◌, length, map, refl, ap, ◌∙◌, subst, Result, Ok, w64}
+use Rattle.std.proofs.lemmas.Grind.{common_steps}
+use Rattle.std.proofs.Common.{arith, ◌≡◌, ℕ, ◌<◌, ◌^◌, List, [], ◌∷◌, ◌++◌, length, map, refl, ap, subst, w64}
 use Rattle.std.proofs.Common.{FitsSigned}
 use Rattle.std.specs.Str.{IsUtf8}
 use Rattle.pprof_wire.specs.Fields.{content}
@@ -9,7 +10,6 @@ use Rattle.pprof_profile.specs.Forms.{unsigned_of}
 use Rattle.pprof_profile.specs.Forms.{signed_of, flag_of}
 use Rattle.pprof_profile.specs.Reading.{Reads, Spells}
 use Rattle.pprof_profile.specs.Writing.{number_of_unsigned, number_of_signed, number_of_flag, FitsUnsigned}
-use Rattle.pprof_profile.specs.Writing.{packed_bytes}
 use Rattle.pprof_profile.specs.Writing.{each_field}
 use Rattle.pprof_profile.proofs.AllValues.{is_last, last_back, are_all_numbers, all_numbers_back, are_all_texts}
 use Rattle.pprof_profile.proofs.AllValues.{all_texts_back, are_all_messages, all_messages_back, is_one_message}
@@ -24,15 +24,7 @@ use Rattle.pprof_profile.proofs.ReadBack.{flag_below, unpacked_back, none_unpack
 number_lawful : {A : Type 0} (from : ℕ → A) (to : A → ℕ) (Good : A → Type 0)
     → ((item : A) → Good item → to item < 2 ^ 64) → ((item : A) → Good item → item ≡ from (to item))
     → LawfulKind (number_kind from to Good)
-number_lawful from to Good below back =
-    record {
-      once = sets_once from;
-      made = λ values item. (is_last from values item, last_back from values item);
-      piece = λ table with number numbered step item fits.
-          number_piece table (with (from 0)) (with item) number (to item) numbered (below item fits)
-          (step (from 0) item _ (ap Ok (back item fits)))
-          (λ none. ap with (back item fits ∙ ap from none));
-    }
+number_lawful from to Good below back = grind (arith, common_steps, is_last, last_back, sets_once, number_piece)
 
 pub unsigned_lawful : LawfulKind unsigned
 unsigned_lawful = number_lawful unsigned_of number_of_unsigned FitsUnsigned (λ item fits. fits) (λ item fits. refl)
@@ -47,15 +39,7 @@ numbers_lawful : {A : Type 0} (from : ℕ → A) (to : A → ℕ) (Good : A → 
     → ((item : A) → Good item → to item < 2 ^ 64) → ((item : A) → Good item → item ≡ from (to item))
     → LawfulKind (numbers_kind from to Good)
 numbers_lawful from to Good below back =
-    record {
-      once = numbers_once from;
-      made = λ values items. (are_all_numbers from values items, all_numbers_back from values items);
-      piece = λ table with number numbered step items fits.
-          let unpacked = unpacked_back from to Good below back items fits.0 in
-          content_piece table (with []) (with items) number (packed_bytes (map to items)) numbered fits.1
-          (step [] items _ unpacked)
-          (λ none. ap with (none_unpacked from (packed_bytes (map to items)) items unpacked none));
-    }
+    grind (arith, are_all_numbers, all_numbers_back, numbers_once, content_piece, unpacked_back, none_unpacked)
 
 pub unsigneds_lawful : LawfulKind unsigneds
 unsigneds_lawful = numbers_lawful unsigned_of number_of_unsigned FitsUnsigned (λ item fits. fits) (λ item fits. refl)

@@ -1,4 +1,5 @@
 -- What follows of every message from its rows.
+use Rattle.std.proofs.lemmas.Grind.{common_steps}
 use Rattle.std.proofs.Common.{◌≡◌, ◌↔◌, ℕ, ◌<◌, ◌≤◌, ◌^◌, Bool, true, false, cond, ltb, ◌&&◌, ◌==◌, List, [], ◌∷◌, ◌++◌}
 use Rattle.std.proofs.Common.{refl}
 use Rattle.std.proofs.Common.{sym, ap, ◌∙◌, subst, arith, Result, Ok}
@@ -48,14 +49,7 @@ record Numbered {M : Type 0} (before number : ℕ) (rows : Rows M) : Type 0 wher
 
 numbered : {M : Type 0} (before number : ℕ) (rows : Rows M)
     → (ltb before number && (ltb number (2 ^ 29) && rises number rows)) ≡ true → Numbered before number rows
-numbered before number rows all =
-    let first = and_parts (ltb before number) (ltb number (2 ^ 29) && rises number rows) all in
-    let second = and_parts (ltb number (2 ^ 29)) (rises number rows) first.1 in
-    record {
-      above = ltb-true before number first.0;
-      small = ltb-true number (2 ^ 29) second.0;
-      others = second.1;
-    }
+numbered before number rows all = grind (arith, common_steps, and_parts, ltb-true)
 
 -- ---- a field has one outcome
 
@@ -95,9 +89,7 @@ takes_where : {M A : Type 0} (kind : Kind A) (part : M → A) (rows : Rows M) (a
     (old next : Parts (row at kind part rows)) (here : Bool) → (number == at) ≡ here
     → Where here (AtFirst kind.rule old value) (InOthers (Takes rows number value) old) (Ok next)
     → Takes (row at kind part rows) number value old (Ok next)
-takes_where kind part rows at number value old next here same =
-    subst (λ (h : Bool). Where h (AtFirst kind.rule old value) (InOthers (Takes rows number value) old) (Ok next))
-    (sym same)
+takes_where kind part rows at number value old next here same = grind (arith, common_steps)
 
 by_number : (here : Bool) (P : Bool → Type 0) → (here ≡ true → P true) → (here ≡ false → P false) → P here
 by_number true P of_true of_false = of_true refl

@@ -1,5 +1,6 @@
 -- One more field, and one more number, after those that were read.
-use Rattle.std.proofs.Common.{◌≡◌, ℕ, List, [], ◌∷◌, ◌++◌, refl, sym, ap, ◌∙◌, subst, append_assoc, map, Ok}
+use Rattle.std.proofs.lemmas.Grind.{common_steps}
+use Rattle.std.proofs.Common.{arith, ◌≡◌, ℕ, List, [], ◌∷◌, ◌++◌, refl, sym, ap, ◌∙◌, subst, append_assoc, map, Ok}
 use Rattle.pprof_wire.specs.Varints.{IsVarint}
 use Rattle.pprof_wire.specs.Fields.{PlainField, IsFieldSpelling}
 use Rattle.pprof_wire.proofs.ListLaws.{one_field_listed, fields_joined, one_number_listed, numbers_joined}
@@ -15,12 +16,7 @@ gathers_joined table old mid new (x ∷ xs) ys (next, first, others) right =
 pub spells_joined : {M : Type 0} (table : Table M) (old mid new : M) (a b : List ℕ)
     → Spells table old a mid → Spells table mid b new
     → Spells table old (a ++ b) new
-spells_joined table old mid new a b left right =
-    record {
-      fields = left.fields ++ right.fields;
-      listed = fields_joined a b left.fields right.fields left.listed right.listed;
-      gathered = gathers_joined table old mid new left.fields right.fields left.gathered right.gathered;
-    }
+spells_joined table old mid new a b left right = grind (arith, common_steps, fields_joined, gathers_joined)
 
 pub one_spelled : {M : Type 0} (table : Table M) (old new : M) (bytes : List ℕ) (field : PlainField)
     → IsFieldSpelling bytes field

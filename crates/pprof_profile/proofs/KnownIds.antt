@@ -1,6 +1,7 @@
 -- Ids that are known, and ids that stand twice.
+use Rattle.std.proofs.lemmas.Grind.{common_steps}
 use Rattle.std.proofs.Common.{◌≡◌, ℕ, ◌+◌, ◌<◌, Bool, true, false, ◌||◌, List, [], ◌∷◌, ◌++◌, length, map, take, drop}
-use Rattle.std.proofs.Common.{get_or, refl, sym, ap, ◌∙◌, arith, nat_eq, subst, append_assoc, take-append-drop}
+use Rattle.std.proofs.Common.{get_or, refl, sym, ap, ◌∙◌, arith, nat_eq, append_assoc, take-append-drop}
 use Rattle.std.proofs.lemmas.List.{map-append, take_more}
 use Rattle.std.proofs.lemmas.List.Folds.{list_any-append}
 use Rattle.std.proofs.lemmas.Bool.{or_parts}
@@ -17,10 +18,7 @@ known_more ids id other h apart = grind (arith, list_any-append (nat_eq other) i
 pub single_more : (ids : List ℕ) (id : ℕ)
     → has_double ids ≡ false → is_known ids id ≡ false → has_double (ids ++ id ∷ []) ≡ false
 single_more [] id single new = refl
-single_more (x ∷ ids) id single new =
-    let (x-new, ids-single) = or_parts (is_known ids x) (has_double ids) single in
-    let (apart, id-new) = or_parts (nat_eq id x) (is_known ids id) new in
-    rw (known_more ids id x x-new (eq_turned id x apart)) (single_more ids id ids-single id-new)
+single_more (x ∷ ids) id single new = grind (arith, common_steps, or_parts, eq_turned, known_more, single_more ids id)
 
 known_inside : (front back : List ℕ) (id : ℕ) → is_known (front ++ id ∷ back) id ≡ true
 known_inside [] back id = grind arith
@@ -29,10 +27,7 @@ known_inside (x ∷ front) back id = rw (known_inside front back id) (or-true (n
 double_first : (same : Bool) (x : ℕ) (front back : List ℕ) (id : ℕ) → nat_eq id x ≡ same
     → (is_known front id ≡ true → has_double (front ++ id ∷ back) ≡ true)
     → (same || is_known front id) ≡ true → (is_known (front ++ id ∷ back) x || has_double (front ++ id ∷ back)) ≡ true
-double_first true x front back id here later known =
-    let e : id ≡ x = grind (arith, here) in
-    ap (λ (b : Bool). b || has_double (front ++ id ∷ back))
-    (subst (λ (y : ℕ). is_known (front ++ id ∷ back) y ≡ true) e (known_inside front back id))
+double_first true x front back id here later known = grind (arith, common_steps, known_inside)
 double_first false x front back id here later known = rw (later known) (or-true (is_known (front ++ id ∷ back) x))
 
 pub double_inside : (front back : List ℕ) (id : ℕ) → is_known front id ≡ true → has_double (front ++ id ∷ back) ≡ true
@@ -43,9 +38,7 @@ double_inside (x ∷ front) back id known =
 pub ids_more : {X : Type 0} (id_of : X → ℕ) (items : List X) (i : ℕ) (item : X) (id : ℕ)
     → i < length items → item ≡ get_or items i item → id ≡ id_of item
     → map id_of (take (i + 1) items) ≡ map id_of (take i items) ++ id ∷ []
-ids_more id_of items i item id within is named =
-    ap (map id_of) (take_more items i item within) ∙ map-append id_of (take i items) (get_or items i item ∷ [])
-    ∙ ap (λ (x : ℕ). map id_of (take i items) ++ x ∷ []) (ap id_of (sym is) ∙ sym named)
+ids_more id_of items i item id within is named = grind (arith, common_steps, map-append, take_more)
 
 pub ids_inside : {X : Type 0} (id_of : X → ℕ) (items : List X) (i : ℕ) (item : X) (id : ℕ)
     → i < length items → item ≡ get_or items i item → id ≡ id_of item

@@ -1,8 +1,9 @@
 -- Reading has one outcome.
-use Rattle.std.proofs.Common.{◌≡◌, ℕ, ◌⊎◌, inl, inr, Bool, true, false, List, [], ◌∷◌, ◌++◌, length, map, refl, sym, ap}
+use Rattle.std.proofs.lemmas.Grind.{common_steps}
+use Rattle.std.proofs.Common.{rules, ◌≡◌, ℕ, ◌⊎◌, inl, inr, Bool, true, false, List, [], ◌∷◌, ◌++◌, length, map, refl, sym, ap}
 use Rattle.std.proofs.Common.{◌∙◌, subst, append_assoc, arith, Result, Ok, Err}
 use Rattle.std.proofs.lemmas.List.{append-nil}
-use Rattle.pprof_wire.specs.Varints.{IsVarintFault, IsNumberList, SplitsIntoNumbers}
+use Rattle.pprof_wire.specs.Varints.{IsNumberList}
 use Rattle.pprof_wire.specs.Fields.{FieldValue, varint, content, PlainField, IsFieldSpelling}
 use Rattle.pprof_wire.specs.Fields.{IsFieldList}
 use Rattle.pprof_wire.proofs.VarintLaws.{varint_fault_once}
@@ -100,12 +101,7 @@ steps_of table old bytes (Ok new) read = (
   steps_to table read.fields old new bytes bytes [] (Ok new) (sym (append-nil bytes)) read.listed read.gathered
       (refl, refl),
 )
-steps_of table old bytes (Err fault) read =
-    let spelled = read.read.spelled in (
-      spelled.fields,
-      steps_to table spelled.fields old read.so_far bytes read.read.front read.rest
-          (Err fault) read.read.parts spelled.listed spelled.gathered read.faulty,
-    )
+steps_of table old bytes (Err fault) read = grind (arith, common_steps, steps_to)
 
 -- where a field stands that is taken, reading does not end
 no_ending : {M : Type 0} (table : Table M) → TableOnce table
@@ -139,12 +135,8 @@ ending_once table once old bytes (Err f) (Err g) (inl wrong) (inl bad) =
     wrong.rest bad.rest wrong.field bad.field wrong.spelled bad.spelled (sym wrong.parts ∙ bad.parts) in
     once old bad.field.number bad.field.value
     (Err f) (Err g) (subst (λ (x : PlainField). table old x.number x.value (Err f)) here.2 wrong.faulty) bad.faulty
-ending_once table once old bytes (Err f) (Err g) (inl wrong) (inr bad) =
-    absurd (fault_without_field
-    bad.wrong bytes bad.faulty wrong.spelling wrong.rest wrong.field wrong.parts wrong.spelled)
-ending_once table once old bytes (Err f) (Err g) (inr bad) (inl wrong) =
-    absurd (fault_without_field
-    bad.wrong bytes bad.faulty wrong.spelling wrong.rest wrong.field wrong.parts wrong.spelled)
+ending_once table once old bytes (Err f) (Err g) (inl wrong) (inr bad) = search (rules, fault_without_field)
+ending_once table once old bytes (Err f) (Err g) (inr bad) (inl wrong) = search (rules, fault_without_field)
 ending_once table once old bytes (Err f) (Err g) (inr wrong) (inr bad) =
     let same : wrong.wrong ≡ bad.wrong =
     front_fault_once wrong.wrong bad.wrong bytes wrong.faulty.front bad.faulty.front in
@@ -170,10 +162,7 @@ steps_once {M = M} table once (x ∷ xs) (y ∷ ys) old bytes a b (next, spellin
 
 pub reads_once : {M : Type 0} (table : Table M)
     → TableOnce table → (old : M) (bytes : List ℕ) → Once (Reads table old bytes)
-reads_once table once old bytes a b one other =
-    let left = steps_of table old bytes a one in
-    let right = steps_of table old bytes b other in
-    steps_once table once left.0 right.0 old bytes a b left.1 right.1
+reads_once table once old bytes a b one other = grind (arith, common_steps, steps_of, steps_once)
 
 -- ---- the rules for the value of a field
 
@@ -184,20 +173,11 @@ sets_once from old value a b left right = left ∙ sym right
 packed_apart : (bytes numbers : List ℕ)
     → IsNumberList bytes numbers → (fault : ProfileFault) → IsPackedFault bytes fault → ⊥
 packed_apart bytes numbers listed fault wrong =
-    let ends = subst (λ (xs : List ℕ). SplitsIntoNumbers xs wrong.numbers wrong.rest) (sym wrong.parts)
-    (number_fault_ends wrong.front wrong.rest wrong.numbers wrong.wrong wrong.listed wrong.faulty) in
-    let same = numbers_split_once bytes [] wrong.rest numbers wrong.numbers (numbers_end bytes numbers listed) ends in
-    omega (arith, ap length same.1, wrong.some)
+    grind (arith, common_steps, numbers_split_once, numbers_end, number_fault_ends)
 
 packed_fault_once : (bytes : List ℕ) (f g : ProfileFault) → IsPackedFault bytes f → IsPackedFault bytes g → f ≡ g
 packed_fault_once bytes f g left right =
-    let ends = subst (λ (xs : List ℕ). SplitsIntoNumbers xs left.numbers left.rest) (sym left.parts)
-    (number_fault_ends left.front left.rest left.numbers left.wrong left.listed left.faulty) in
-    let stops = subst (λ (xs : List ℕ). SplitsIntoNumbers xs right.numbers right.rest) (sym right.parts)
-    (number_fault_ends right.front right.rest right.numbers right.wrong right.listed right.faulty) in
-    let same = numbers_split_once bytes left.rest right.rest left.numbers right.numbers ends stops in
-    left.is ∙ ap Wire (varint_fault_once left.wrong right.wrong right.rest
-    (subst (IsVarintFault left.wrong) same.1 left.faulty) right.faulty) ∙ sym right.is
+    grind (arith, common_steps, varint_fault_once, numbers_split_once, number_fault_ends)
 
 packed_once : {A : Type 0} (from : ℕ → A) (old : List A) (bytes : List ℕ) → Once (AddsPacked from old bytes)
 packed_once {A = A} from old bytes (Ok x) (Ok y) left right =

@@ -1,5 +1,6 @@
 -- Bytes that spell a message do not begin as those of gzip: 31 would be a tag of wire type 7.
-use Rattle.std.proofs.Common.{◌≡◌, ℕ, ◌+◌, ◌*◌, ◌≤◌, List, [], ◌∷◌, ◌++◌, sym, ap, ◌∙◌, append_assoc, arith}
+use Rattle.std.proofs.lemmas.Grind.{common_steps}
+use Rattle.std.proofs.Common.{rules, ◌≡◌, ℕ, ◌+◌, ◌*◌, ◌≤◌, List, [], ◌∷◌, ◌++◌, sym, ap, ◌∙◌, append_assoc, arith}
 use Rattle.pprof_wire.specs.Varints.{IsVarint}
 use Rattle.pprof_wire.specs.Fields.{FieldValue, varint, fixed64, fixed32, content, PlainField, wire_type_of}
 use Rattle.pprof_wire.specs.Fields.{IsFieldList}
@@ -20,12 +21,8 @@ small_type (content bytes) = omega arith
 tag_not_31 : (tag rest left : List ℕ) (number type : ℕ)
     → type ≤ 5 → IsVarint tag (8 * number + type) → 31 ∷ left ≡ tag ++ rest → ⊥
 tag_not_31 [] rest left number type small spelled same = spelled.groups
-tag_not_31 (byte ∷ []) rest left number type small spelled same =
-    let here : 31 ≡ byte = cc same in
-    omega (arith, spelled.value, here)
-tag_not_31 (byte ∷ next ∷ tag) rest left number type small spelled same =
-    let here : 31 ≡ byte = cc same in
-    omega (arith, spelled.groups.0, here)
+tag_not_31 (byte ∷ []) rest left number type small spelled same = grind (arith, common_steps)
+tag_not_31 (byte ∷ next ∷ tag) rest left number type small spelled same = grind (arith, common_steps)
 
 list_not_gzip : (bytes rest : List ℕ) (fields : List PlainField)
     → IsFieldList bytes fields → bytes ≡ 31 ∷ 139 ∷ rest → ⊥
@@ -44,6 +41,4 @@ draft_back draft fits = form_back draft_form draft_lawful draft fits
 
 pub canonical_profile : (draft : Draft)
     → FitsDraft draft → IsValidDraft draft → IsProfile (canonical_bytes_of draft) draft
-canonical_profile draft fits valid =
-    let spelled = draft_back draft fits in
-    record { plain = spelled_plain (canonical_bytes_of draft) draft spelled; spelled = spelled; valid = valid }
+canonical_profile draft fits valid = search (rules, spelled_plain, draft_back)

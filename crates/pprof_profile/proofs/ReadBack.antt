@@ -1,13 +1,14 @@
 -- What is written is read back.
+use Rattle.std.proofs.lemmas.Grind.{common_steps}
 use Rattle.std.proofs.Common.{◌≡◌, ℕ, zero, suc, ℤ, ◌<◌, ◌^◌, Bool, true, false, List, [], ◌∷◌, ◌++◌, length, map}
-use Rattle.std.proofs.Common.{refl, sym, ap, ◌∙◌, subst, append_assoc, arith, Result, Ok, w64, FitsSigned}
+use Rattle.std.proofs.Common.{refl, sym, ap, ◌∙◌, subst, append_assoc, arith, Ok, w64, FitsSigned}
 use Rattle.std.proofs.lemmas.List.{append-nil}
 use Rattle.std.proofs.lemmas.List.Concat.{flat_map-append}
 use Rattle.std.proofs.lemmas.Int.{ints, to_z-of_z}
 use Rattle.std.specs.List.{AllByRecursion}
 use Rattle.std.specs.Int.{cast_signed, cast_unsigned}
-use Rattle.pprof_wire.specs.Varints.{IsNumberList, varint_of}
-use Rattle.pprof_wire.specs.Fields.{varint, content, PlainField, IsFieldNumber, FitsValue, field_bytes_of}
+use Rattle.pprof_wire.specs.Varints.{IsNumberList}
+use Rattle.pprof_wire.specs.Fields.{varint, content, PlainField, IsFieldNumber, FitsValue}
 use Rattle.pprof_wire.proofs.ShortestVarints.{varint_of-spells}
 use Rattle.pprof_wire.proofs.ListLaws.{written_back}
 use Rattle.pprof_profile.specs.Reading.{Table, Spells, AddsPacked, IsUnpacked}
@@ -23,9 +24,7 @@ Piece table old fields new = Spells table old (bytes_of_fields fields) new
 
 pub pieces_joined : {M : Type 0} (table : Table M) (old mid new : M) (fs gs : List PlainField)
     → Piece table old fs mid → Piece table mid gs new → Piece table old (fs ++ gs) new
-pieces_joined table old mid new fs gs left right =
-    subst (λ (bytes : List ℕ). Spells table old bytes new) (sym (flat_map-append field_bytes_of fs gs))
-    (spells_joined table old mid new (bytes_of_fields fs) (bytes_of_fields gs) left right)
+pieces_joined table old mid new fs gs left right = grind (arith, common_steps, flat_map-append, spells_joined)
 
 pub no_piece : {M : Type 0} (table : Table M) (old new : M) → new ≡ old → Piece table old [] new
 no_piece table old new same = record { fields = []; listed = refl; gathered = same }
@@ -33,9 +32,7 @@ no_piece table old new same = record { fields = []; listed = refl; gathered = sa
 one_piece : {M : Type 0} (table : Table M) (old new : M) (field : PlainField)
     → IsFieldNumber field.number → FitsValue field.value
     → table old field.number field.value (Ok new) → Piece table old (field ∷ []) new
-one_piece table old new field numbered fits step =
-    subst (λ (bytes : List ℕ). Spells table old bytes new) (sym (append-nil (field_bytes_of field)))
-    (one_spelled table old new (field_bytes_of field) field (written_back field numbered fits) step)
+one_piece table old new field numbered fits step = grind (arith, common_steps, append-nil, written_back, one_spelled)
 
 pub number_piece : {M : Type 0} (table : Table M) (old new : M) (number value : ℕ)
     → IsFieldNumber number → value < 2 ^ 64
@@ -93,13 +90,8 @@ numbers_listed : {A : Type 0} (to : A → ℕ) (Good : A → Type 0)
     → ((item : A) → Good item → to item < 2 ^ 64) → (items : List A) → AllByRecursion Good items
     → IsNumberList (packed_bytes (map to items)) (map to items)
 numbers_listed to Good below [] good = refl
-numbers_listed to Good below (item ∷ items) good = (
-  varint_of (to item),
-  packed_bytes (map to items),
-  refl,
-  varint_of-spells (to item) (below item good.0),
-  numbers_listed to Good below items good.1,
-)
+numbers_listed to Good below (item ∷ items) good =
+    grind (arith, common_steps, varint_of-spells, numbers_listed to Good below items good.1)
 
 mapped_back : {A : Type 0} (from : ℕ → A) (to : A → ℕ) (Good : A → Type 0)
     → ((item : A) → Good item → item ≡ from (to item)) → (items : List A)

@@ -1,4 +1,5 @@
 -- Worked examples of fields that stand several times, computed by the definitions. Each is checked by evaluating it.
+use Rattle.std.proofs.lemmas.Grind.{common_steps}
 use Rattle.std.proofs.Common.{◌≡◌, ℕ, pos, List, [], ◌∷◌, refl, arith, rules}
 use Rattle.pprof_wire.specs.Varints.{IsNumberList, varint_of}
 use Rattle.pprof_wire.specs.Fields.{varint, content, PlainField, IsFieldList}
@@ -62,15 +63,11 @@ kind_and_unit = record { kind = pos 1; unit = pos 2 }
 
 kind_listed : IsFieldList (8 ∷ 1 ∷ []) kind_piece
 unfolding varint_of
-kind_listed =
-    one_field_listed (8 ∷ 1 ∷ []) (number_field 1 1)
-    (written_back (number_field 1 1) (record { least = omega arith; most = omega arith }) (omega arith))
+kind_listed = grind (arith, common_steps, one_field_listed, written_back)
 
 unit_listed : IsFieldList (16 ∷ 2 ∷ []) unit_piece
 unfolding varint_of
-unit_listed =
-    one_field_listed (16 ∷ 2 ∷ []) (number_field 2 2)
-    (written_back (number_field 2 2) (record { least = omega arith; most = omega arith }) (omega arith))
+unit_listed = grind (arith, common_steps, one_field_listed, written_back)
 
 kind_spelled : Spells (table_of value_type_form) no_value_type (8 ∷ 1 ∷ []) kind_alone
 kind_spelled = record { fields = kind_piece; listed = kind_listed; gathered = (kind_alone, (refl, refl), refl) }
@@ -119,15 +116,11 @@ three = record no_sample { values = pos 3 ∷ [] }
 
 packed_listed : IsFieldList (18 ∷ 1 ∷ 7 ∷ []) packed_value
 unfolding varint_of
-packed_listed =
-    one_field_listed (18 ∷ 1 ∷ 7 ∷ []) (content_field 2 (7 ∷ []))
-    (written_back (content_field 2 (7 ∷ [])) (record { least = omega arith; most = omega arith }) (omega arith))
+packed_listed = grind (arith, common_steps, one_field_listed, written_back)
 
 single_listed : IsFieldList (16 ∷ 3 ∷ []) single_value
 unfolding varint_of
-single_listed =
-    one_field_listed (16 ∷ 3 ∷ []) (number_field 2 3)
-    (written_back (number_field 2 3) (record { least = omega arith; most = omega arith }) (omega arith))
+single_listed = grind (arith, common_steps, one_field_listed, written_back)
 
 seven_listed : IsNumberList (7 ∷ []) (7 ∷ [])
 unfolding varint_of

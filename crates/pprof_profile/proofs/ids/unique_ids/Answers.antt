@@ -1,28 +1,11 @@
-use Rattle.std.proofs.Common.{◌≡◌, ℕ, ◌+◌, List, [], ◌∷◌, ◌++◌, map, take, drop, refl, arith, nat_eq}
+use Rattle.std.proofs.Common.{◌≡◌, ℕ, ◌+◌, List, ◌∷◌, ◌++◌, map, take, drop, refl, arith}
 use Rattle.std.proofs.lemmas.Grind.{common_steps}
 use Rattle.std.proofs.lemmas.List.Folds.{list_any-append}
 use Rattle.pprof_profile.proofs.KnownIds.{single_more, double_inside, ids_more, ids_inside}
 use Rattle.pprof_profile.proofs.ids.unique_ids.Goals as goal
 
 pub loop-item-preserved : goal.loop-item-preserved
-loop-item-preserved g c =
-    let so-far : List ℕ = map g.T.HasId.id_of (take c.loop-item.item-index c.args.items.now) in
-    let more : map g.T.HasId.id_of (take (c.loop-item.item-index + 1) c.args.items.now)
-    ≡ so-far ++ c.id-id.result ∷ [] =
-    ids_more g.T.HasId.id_of c.args.items.now
-    c.loop-item.item-index c.item-item.result c.id-id.result c.loop-item-test.true c.item-item.is c.id-id.ensures in
-    rw more
-    record {
-      known = λ q. grind (
-        arith,
-        common_steps,
-        c.in_ok-add.ensures q,
-        c.loop-item.invariant.known q,
-        list_any-append (nat_eq q) so-far (c.id-id.result ∷ []),
-      );
-      single = single_more so-far c.id-id.result c.loop-item.invariant.single
-          (grind (arith, c.loop-item.invariant.known c.id-id.result, c.contains.ensures, c.if-contains.false));
-    }
+loop-item-preserved g c = grind (arith, common_steps, list_any-append, single_more, ids_more)
 
 pub returns-then-contains-clause-double : goal.returns-then-contains-clause-double
 returns-then-contains-clause-double g c =

@@ -1,12 +1,7 @@
+use Rattle.std.proofs.lemmas.Grind.{common_steps}
+use Rattle.std.proofs.Common.{arith}
 use Rattle.pprof_profile.proofs.Appending.{joined, on_ok_joined}
 use Rattle.pprof_profile.proofs.encoding.LocationWritten.write.Goals as goal
 
 pub returns-clause-written : goal.returns-clause-written
-returns-clause-written c =
-    on_ok_joined _ _ _ _ _ _
-    (joined _ _ _ _ _ (joined _ _ _ _ _ (joined _ _ _ _ _
-    c.in_ok-write_number.ensures.written
-    c.in_ok-write_number-2.ensures.written)
-    c.in_ok-write_number-3.ensures.written)
-    c.in_ok-write_messages.ensures.written)
-    c.write_number-4.ensures.written
+returns-clause-written c = grind (arith, common_steps, joined, on_ok_joined)

@@ -1,6 +1,6 @@
 //! Batches: rows that are lent, written, exported and put together, each in every public way.
 
-use crate::{reports, rows, trees};
+use crate::{reports, trees};
 use pprof_profile::{Profile, decode, encode};
 use profile_rows::aggregate_stacks;
 use row_scripts::{Made, Words, Wrong};
@@ -45,7 +45,11 @@ pub(crate) fn run<R: RandomSource>(rt: &R, words: Words, input: &[u8], made: &mu
 
 fn run_rows(asked: Asked, made: &mut Made) {
     if !asked.has_folded_text() {
-        let batch = rows::batch_of(rows::width_of(asked.words, made), asked.input, made);
+        let batch = spelled_rows::batch_of(
+            spelled_rows::width_of(asked.words, made),
+            asked.input,
+            made,
+        );
         return run_batch(asked, &batch, made);
     }
     match read_folded(made.alloc(), asked.input) {
@@ -90,7 +94,7 @@ fn agree_on_lines_before(asked: Asked, fault: FoldedFault, made: &mut Made) {
 /// `rows`, `rows width 2`: why rows are refused, and those that aren't, as folded text by each value, with the totals.
 /// The samples of their profile are the same.
 fn write(asked: Asked, batch: &Batch, made: &mut Made) {
-    rows::add_folded(batch, made);
+    spelled_rows::add_folded(batch, made);
     agree_on_lent_rows(batch, made);
     agree_on_given_rows(batch, made);
     agree_on_stacks(batch.first(), made);
@@ -211,7 +215,7 @@ fn put_together(asked: Asked, batch: &Batch, made: &mut Made) {
 }
 
 fn add_sums(asked: Asked, batch: &Batch, sums: &Batch, made: &mut Made) {
-    rows::add_folded(sums, made);
+    spelled_rows::add_folded(sums, made);
     if asked.words.has("alone") {
         return;
     }

@@ -1,13 +1,13 @@
 //! Reports: one query over one list of rows, answered in each public way.
 
 use crate::batches::Asked;
-use crate::queries::{kind_name, query_of};
 use crate::trees;
 use flame_report::{
     Answer, Flame, Kind, Query, Rank, Rect, flame_json, report_in_order, report_of,
     report_of_stacks, top_list, top_text,
 };
 use row_scripts::{Made, Wrong};
+use spelled_rows::{kind_name, query_of};
 use stack_text::{
     Batch, FrameTotals, Hashing, LineSums, WeightedStacks, folded_totals, kept_totals, merge_lines,
     read_ordered,

@@ -1,10 +1,10 @@
 //! Samples of profiles as rows, and rows as profiles.
 
 use crate::profiles::{read_profile, say_profile};
-use crate::rows::add_values;
 use flame_report::{Rank, top_list, top_text};
 use pprof_profile::Profile;
 use row_scripts::{Made, Words, Wrong};
+use spelled_rows::add_values;
 use stack_text::{
     Batch, FrameTotals, Hashing, Name, ValueChoice, ValueUnit, batch_of, batch_of_with,
     export_folded, merge_samples, profile_of, read_folded, sample_totals, unfold, write_stacks,

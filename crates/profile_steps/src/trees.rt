@@ -3,14 +3,11 @@
 ghost use Rattle.std.specs.Prelude.{◌≡◌, ◌<◌, IfSome};
 
 use crate::reports::Given;
-use crate::rows;
 use call_tree::{CallTree, Grower, Plan};
 use flame_report::report;
-use profile_rows::aggregate_stacks;
 use row_scripts::{Checker, Made, Scene, Script, Step, Words, Wrong, run_steps};
-use stack_text::{
-    Batch, Hashing, NoMemory, OrderedRows, WeightedStacks, first_heavy, read_folded, write_stacks,
-};
+use spelled_rows::{add_stacks, stack_of, width_of};
+use stack_text::{Batch, Hashing, NoMemory, first_heavy, read_folded};
 use std::alloc::Global;
 use std::mem;
 
@@ -131,7 +128,7 @@ impl Scene for Growing {
 impl Growing {
     fn open(words: Words, made: &mut Made) -> Option<Growing> {
         let hashing = Hashing::of_key(7);
-        let grower = Grower::with_hashing(made.alloc(), hashing, rows::width_of(words, made));
+        let grower = Grower::with_hashing(made.alloc(), hashing, width_of(words, made));
         let grower = made.done(grower)?;
         let shared = made.done(grower.tree().share())?;
         add_total(&shared, made);
@@ -158,7 +155,7 @@ impl Growing {
     fn grow(&mut self, words: Words, input: &[u8], made: &mut Made) {
         let width = self.shared.width();
         if width.get() > 1 {
-            let rows = rows::batch_of(width, input, made);
+            let rows = spelled_rows::batch_of(width, input, made);
             return grow(&mut self.grower, words, &rows, made);
         }
         match read_folded(made.alloc(), input) {
@@ -221,13 +218,13 @@ fn credit(grower: &mut Grower, plan: Plan, words: Words, made: &mut Made)
 }
 
 fn add_total(tree: &CallTree, made: &mut Made) {
-    rows::add_total(&tree.total(), made);
+    spelled_rows::add_total(&tree.total(), made);
 }
 
 /// `weigh`, `weigh of share`: what each stack weighs alone.
 fn weigh(tree: &CallTree, stacks: &[u8], made: &mut Made) {
     for frames in made.text_of(stacks).lines() {
-        if let Some(stack) = rows::stack_of(frames, made) {
+        if let Some(stack) = stack_of(frames, made) {
             made.show(&tree.self_weight(&stack).values());
         }
     }
@@ -252,53 +249,4 @@ fn add_names(tree: &CallTree, value: u32, made: &mut Made) {
         let (name, flat, cum) = (total.name.text(), total.flat, total.cum);
         made.say(&format_args!("{name} {flat}/{cum}"));
     }
-}
-
-/// Adds the stacks of a value, which are the same by their texts and by the rows of the tree.
-pub fn add_stacks(tree: &CallTree, value: u32, made: &mut Made) {
-    if value >= tree.width().get() {
-        return made.fail(Wrong::Missing);
-    }
-    let by_texts = folded_by_texts(made.alloc(), tree, value);
-    match tree.weighted_stacks(made.alloc(), value) {
-        Ok(stacks) => {
-            agree_on_stacks(tree, value, &stacks, made);
-            add_written(&stacks, by_texts, made);
-        }
-        Err(_) => made.fail(Wrong::NoMemory),
-    }
-}
-
-fn add_written(stacks: &WeightedStacks, by_texts: Result<Vec<u8>, NoMemory>, made: &mut Made) {
-    let Ok(text) = write_stacks(made.alloc(), stacks) else {
-        return made.fail(Wrong::NoMemory);
-    };
-    made.add(text.as_slice());
-    made.compare("CallTree::stack_texts", by_texts, &text);
-}
-
-fn agree_on_stacks(tree: &CallTree, value: u32, stacks: &WeightedStacks, made: &mut Made) {
-    match tree.rows(made.alloc()) {
-        Ok(rows) => agree_on_sums(&rows, value, stacks, made),
-        Err(_) => made.fail(Wrong::NoMemory),
-    }
-}
-
-fn agree_on_sums(rows: &Batch, value: u32, stacks: &WeightedStacks, made: &mut Made) {
-    let alloc = made.alloc();
-    if value >= rows.width().get() {
-        return made.fail(Wrong::Missing);
-    }
-    match rows.weighted_stacks(alloc, value) {
-        Ok(rows) => made.compare("CallTree::rows", aggregate_stacks(alloc, rows), stacks),
-        Err(_) => made.fail(Wrong::NoMemory),
-    }
-}
-
-fn folded_by_texts(alloc: Global, tree: &CallTree, value: u32) -> Result<Vec<u8>, NoMemory>
-    requires { value < tree.now.width }
-{
-    let texts = tree.stack_texts(alloc, value)?;
-    let rows = OrderedRows::of_texts(alloc, texts.as_slice())?;
-    rows.write(alloc)
 }

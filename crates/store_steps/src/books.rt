@@ -4,9 +4,9 @@ ghost use Rattle.std.specs.Prelude.{◌≡◌};
 
 use crate::journals::run_closed;
 use crate::operations::{op_of, place_of};
-use profile_steps::width_of;
 use profile_store::{Book, CallTree, Change, Op, Ready, Receipt};
 use row_scripts::{Checker, Made, Scene, Script, Step, Words, Wrong, run_steps};
+use spelled_rows::width_of;
 
 /// Opens a book, and runs the steps that drive it.
 pub fn run_scene(checker: &mut Checker, script: &mut Script, step: &Step) {

@@ -1,10 +1,10 @@
 //! What is asked of a book, a store or a worker, as a script spells it: `add main;a 3`, `reset`, `ask total`.
 
-use profile_steps::{kind_name, numbers_of, push_row};
 use profile_store::{
     Answer, Batch, Op, Query, Receipt, Reply, Weights, flame_json, read_folded, top_text,
 };
 use row_scripts::{Made, Words, Wrong};
+use spelled_rows::{kind_name, numbers_of, push_row};
 use std::sync::Arc;
 
 /// `add main;a 3`, `add a 1 0` of two values, `add` of the folded text in the input, `reset`, `ask total`.
@@ -38,7 +38,7 @@ fn row_of(words: Words, made: &mut Made) -> Option<Batch> {
 
 /// `ask total`, `ask top by cum count 3`, `ask flame columns 5`, `ask folded focus main ignore b value 1`.
 pub fn query_of(words: Words, made: &mut Made) -> Option<Arc<Query>> {
-    let query = profile_steps::query_of(words, kind_name(words), made);
+    let query = spelled_rows::query_of(words, kind_name(words), made);
     let alloc = made.alloc();
     made.done(Arc::new(alloc, query))
 }

@@ -4,12 +4,12 @@ ghost use Rattle.std.specs.Prelude.{◌≡◌};
 
 use crate::journals::run_closed;
 use crate::operations::{batch_of, op_of, query_of, tell_answer};
-use profile_steps::{add_stacks, width_of};
 use profile_store::{
     Batch, Blank, Hashing, MakeFault, Op, Placed, Query, Reply, Session, SessionLog, Store,
     StoreName, Told, Window,
 };
 use row_scripts::{Checker, Made, Script, Step, Words, Wrong, next_step};
+use spelled_rows::{add_stacks, width_of};
 use std::alloc::Global;
 use std::marker::Brand;
 use std::sync::{Arc, Wait};

@@ -131,6 +131,9 @@ fn run_call<R: Threads + Wait + RandomSource + Clock + Sync>(
         "faults" => faults::tell(words, made),
         "live" => live::run_live(rt, words, input, made),
         "sources" => sources::fill(rt, input, made),
-        _ => store_steps::run_command(rt, words, input, made),
+        "workers" | "held" | "windows" | "threads" | "same" => {
+            store_steps::run_command(rt, words, input, made)
+        }
+        _ => profile_steps::run_command(rt, words, input, made),
     }
 }

@@ -16,7 +16,7 @@ pub fn width_of(words: Words, made: &mut Made) -> Width {
 }
 
 /// The names of a stack. Empty ones count nothing.
-pub(crate) fn names_of(frames: &str, made: &mut Made) -> Vec<Name> {
+pub fn names_of(frames: &str, made: &mut Made) -> Vec<Name> {
     let mut names = Vec::new(made.alloc());
     for frame in frames.split(';') {
         if !frame.is_empty() {
@@ -33,7 +33,8 @@ fn add_name(frame: &str, names: &mut Vec<Name>, made: &mut Made) {
     }
 }
 
-pub(crate) fn stack_of(frames: &str, made: &mut Made) -> Option<Stack> {
+/// The stack of frames that are joined by semicolons.
+pub fn stack_of(frames: &str, made: &mut Made) -> Option<Stack> {
     let stack = Stack::make(names_of(frames, made));
     made.done(stack)
 }
@@ -43,7 +44,7 @@ fn ends_number(ch: char) -> bool {
 }
 
 /// The values of a row.
-pub(crate) fn values_of(line: &str, made: &mut Made) -> Vec<u64> {
+pub fn values_of(line: &str, made: &mut Made) -> Vec<u64> {
     let (_, list) = line.rsplit_once('[').unwrap_or(("", ""));
     numbers_of(list, made)
 }
@@ -80,7 +81,7 @@ fn push_line(batch: &mut Batch, line: &str, made: &mut Made) {
 }
 
 /// The batch of rows with values in brackets. It tells of those that the batch refuses.
-pub(crate) fn batch_of(width: Width, input: &[u8], made: &mut Made) -> Batch {
+pub fn batch_of(width: Width, input: &[u8], made: &mut Made) -> Batch {
     let mut batch = Batch::new(made.alloc(), width);
     for line in made.text_of(input).lines() {
         push_line(&mut batch, line, made);
@@ -94,7 +95,7 @@ pub fn add_total(total: &Weights, made: &mut Made) {
 }
 
 /// Adds a batch as folded text by each of its values, one after the other.
-pub(crate) fn add_values(batch: &Batch, made: &mut Made) {
+pub fn add_values(batch: &Batch, made: &mut Made) {
     let alloc = made.alloc();
     for value in 0..batch.width().get() {
         made.add_made(write_folded(alloc, batch, value));
@@ -102,7 +103,7 @@ pub(crate) fn add_values(batch: &Batch, made: &mut Made) {
 }
 
 /// The same, and its total.
-pub(crate) fn add_folded(batch: &Batch, made: &mut Made) {
+pub fn add_folded(batch: &Batch, made: &mut Made) {
     add_values(batch, made);
     add_total(&batch.total(), made);
 }

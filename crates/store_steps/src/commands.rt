@@ -1,6 +1,6 @@
 //! The commands by their first words.
 
-use crate::{held, journals, threads, windows, workers};
+use crate::{held, threads, windows, workers};
 use row_scripts::{Made, Words, Wrong};
 use std::sync::Wait;
 use std::thread::Threads;
@@ -12,7 +12,6 @@ pub fn run_command<R: Threads + Wait + Sync>(rt: &R, words: Words, input: &[u8],
         "held" => held::run_held(rt, words, input, made),
         "windows" => windows::run_windows(rt, words, input, made),
         "threads" => threads::run_threads(rt, words, input, made),
-        "same" => journals::compare_receipts(input, made),
         _ => made.fail(Wrong::Command),
     }
 }

@@ -3,10 +3,10 @@
 ghost use Rattle.std.specs.Prelude.{◌≡◌};
 
 use crate::gates::Held;
-use crate::journals::tell_verdict;
 use crate::stores::{Room, blank_of};
 use crate::workers::lists_of;
 use crate::{stores, workers};
+use book_steps::tell_verdict;
 use profile_store::{
     Blank, FinishedWorker, Op, SessionLog, Store, StoreName, WorkersFault, audit, run_workers,
 };

@@ -2,8 +2,7 @@
 
 ghost use Rattle.std.specs.Prelude.{◌≡◌};
 
-use crate::journals::run_closed;
-use crate::operations::{batch_of, op_of, query_of, tell_answer};
+use book_steps::{batch_of, op_of, query_of, run_closed, tell_answer};
 use profile_store::{
     Batch, Blank, Hashing, MakeFault, Op, Placed, Query, Reply, Session, SessionLog, Store,
     StoreName, Told, Window,

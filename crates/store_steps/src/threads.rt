@@ -3,10 +3,9 @@
 
 ghost use Rattle.std.specs.Prelude.{◌≡◌};
 
-use crate::journals::tell_verdict;
-use crate::operations::{batch_of, query_of};
 use crate::stores::{blank_of, open_sessions};
 use crate::walks::{Bench, Walked, Work};
+use book_steps::{batch_of, query_of, tell_verdict};
 use profile_store::{Batch, Blank, Journal, Query, Session, SessionLog, Store, StoreName, audit};
 use row_scripts::{Made, Words};
 use std::marker::Brand;

@@ -3,8 +3,8 @@
 ghost use Rattle.std.specs.Prelude.{◌≡◌};
 
 use crate::gates::come;
-use crate::operations::batch_of;
 use crate::stores::{add_often, blank_of};
+use book_steps::batch_of;
 use profile_store::{Batch, Blank, Journal, Session, Store, StoreName};
 use row_scripts::{Made, Words};
 use std::alloc::Global;

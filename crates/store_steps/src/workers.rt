@@ -3,9 +3,8 @@
 ghost use Rattle.std.specs.Prelude.{◌≡◌};
 
 use crate::gates::{Counting, Holding, Meeting};
-use crate::journals::tell_verdict;
-use crate::operations::op_of;
 use crate::stores::blank_of;
+use book_steps::{op_of, tell_verdict};
 use profile_store::{
     Blank, FinishedWorker, Gate, Journal, Op, SessionLog, Store, StoreName, Ungated, WorkersFault,
     audit, run_workers,

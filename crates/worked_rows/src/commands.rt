@@ -1,15 +1,14 @@
 //! The commands by their first words.
 
-use crate::program::Run;
-use crate::streams::Streams;
-use crate::{faults, hashes, live, sources};
+use book_steps::{compare_receipts, run_book};
 use profile_steps::run_tree;
+use program_steps::{Streams, run_program};
 use row_scripts::{Checker, Made, Script, Step, Words};
 use std::random::RandomSource;
 use std::sync::Wait;
 use std::thread::Threads;
 use std::time::Clock;
-use store_steps::{run_book, run_store};
+use store_steps::run_store;
 
 /// Runs the steps of a script.
 pub(crate) fn run_script<R: Threads + Wait + RandomSource + Clock + Sync>(
@@ -95,29 +94,6 @@ fn run_command<R: Threads + Wait + RandomSource + Clock + Sync>(
     }
 }
 
-/// Runs a command that runs the program.
-fn run_program<R: Threads + Wait + RandomSource + Sync>(
-    rt: &R,
-    checker: &mut Checker,
-    streams: Streams,
-    words: Words,
-) {
-    let run = Run {
-        rt,
-        alloc: checker.alloc,
-        streams,
-        input: checker.input.bytes(),
-    };
-    let made = &mut checker.made;
-    match words.word(0) {
-        "flame" => run.once(words.text, made),
-        "as" => run.once(words.rest(1).text, made),
-        "process" => run.process(words, made),
-        "read" => run.read(made),
-        _ => run.often(words, &checker.names, made),
-    }
-}
-
 /// Runs a command that is a call of the library.
 fn run_call<R: Threads + Wait + RandomSource + Clock + Sync>(
     rt: &R,
@@ -126,14 +102,13 @@ fn run_call<R: Threads + Wait + RandomSource + Clock + Sync>(
     made: &mut Made,
 ) {
     match words.word(0) {
-        "hashes" => hashes::compare(rt, input, made),
-        "memory" => faults::tell_memory(made),
-        "faults" => faults::tell(words, made),
-        "live" => live::run_live(rt, words, input, made),
-        "sources" => sources::fill(rt, input, made),
-        "workers" | "held" | "windows" | "threads" | "same" => {
+        "hashes" | "memory" | "faults" | "live" | "sources" => {
+            program_steps::run_command(rt, words, input, made)
+        }
+        "workers" | "held" | "windows" | "threads" => {
             store_steps::run_command(rt, words, input, made)
         }
+        "same" => compare_receipts(input, made),
         _ => profile_steps::run_command(rt, words, input, made),
     }
 }

@@ -39,7 +39,7 @@ impl Fault {
 
 /// How the streams of a run behave.
 #[derive(Clone, Copy)]
-pub(crate) struct Streams {
+pub struct Streams {
     /// How many bytes a read gives at most.
     by: usize,
     read_fault: Option<Fault>,
@@ -54,7 +54,7 @@ pub(crate) struct Streams {
 
 impl Streams {
     /// Streams that never fail.
-    pub(crate) fn new() -> Streams {
+    pub fn new() -> Streams {
         Streams {
             by: usize::MAX,
             read_fault: None,
@@ -68,7 +68,7 @@ impl Streams {
 
     /// Changes what the words name: `reader by 1`, `reader fails at 3`, `writer takes 5`, `writer fails from 2`,
     /// `flush fails`, `limit 10`, `random fails`.
-    pub(crate) fn set(&mut self, words: Words, made: &mut Made) {
+    pub fn set(&mut self, words: Words, made: &mut Made) {
         match (words.word(0), words.word(1)) {
             ("reader", "by") => self.by = made.number(words.word(2)),
             ("reader", "fails") => self.read_fault = Fault::read(words, made),

@@ -1,12 +1,12 @@
 //! What `live` writes: `live sessions 2 all warm`.
 
+use book_steps::batch_of;
 use live_report::{LiveOptions, Progress, live_text};
 use profile_store::{Batch, Hashing};
 use row_scripts::{Made, Words, Wrong};
 use std::sync::atomic::{AtomicU64, Ordering};
 use std::sync::{Arc, Wait};
 use std::thread::Threads;
-use store_steps::batch_of;
 
 /// How many rows were heard of.
 #[derive(Drop)]

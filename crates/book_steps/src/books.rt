@@ -4,7 +4,8 @@ ghost use Rattle.std.specs.Prelude.{◌≡◌};
 
 use crate::journals::run_closed;
 use crate::operations::{op_of, place_of};
-use profile_store::{Book, CallTree, Change, Op, Ready, Receipt};
+use call_tree::CallTree;
+use op_book::{Book, Change, Op, Ready, Receipt};
 use row_scripts::{Checker, Made, Scene, Script, Step, Words, Wrong, run_steps};
 use spelled_rows::width_of;
 

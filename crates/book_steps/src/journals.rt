@@ -1,11 +1,11 @@
 //! What a closed book or store leaves: its journal, the tree of what counts, and audits of logs against it.
 
 use crate::operations::{place_of, receipt_of};
-use profile_store::{
-    AuditFault, Entry, Hashing, Items, Journal, Op, Receipt, Run, SessionLog, audit, audit_with,
-    write_stacks,
-};
+use flame_report::Items;
+use log_audit::{AuditFault, Run, audit, audit_with};
+use op_book::{Entry, Journal, Op, Receipt, SessionLog};
 use row_scripts::{Checker, Made, Scene, Script, Words, Wrong, run_steps};
+use stack_text::{Hashing, write_stacks};
 
 /// A journal, and what the sessions were told that had the store.
 #[derive(Drop)]
@@ -15,7 +15,7 @@ struct Closed<'a> {
 }
 
 /// Runs the steps after `close`.
-pub(crate) fn run_closed(
+pub fn run_closed(
     checker: &mut Checker,
     script: &mut Script,
     journal: &Journal,
@@ -138,7 +138,7 @@ fn audit_logs(words: Words, journal: &Journal, logs: &[SessionLog], made: &mut M
 }
 
 /// Adds the steps of a run in a line, or, `listed`, each in its own; where they are `counted` only their number.
-pub(crate) fn tell_verdict(words: Words, verdict: Result<Run, AuditFault>, made: &mut Made) {
+pub fn tell_verdict(words: Words, verdict: Result<Run, AuditFault>, made: &mut Made) {
     match verdict {
         Ok(run) if words.has("counted") => made.say(&format_args!("{} steps", run.steps().len())),
         Ok(run) if words.has("listed") => tell_steps(&run, '\n', made),
@@ -157,7 +157,7 @@ fn tell_steps(run: &Run, between: char, made: &mut Made) {
 }
 
 /// `same`: whether two receipts tell of the same operation, and of the same reply.
-pub(crate) fn compare_receipts(input: &[u8], made: &mut Made) {
+pub fn compare_receipts(input: &[u8], made: &mut Made) {
     let receipts = receipts_of(made.text_of(input), made);
     let [first, second] = receipts.as_slice() else {
         return made.fail(Wrong::Line);

@@ -1,5 +1,6 @@
 //! A window that sources fill, each in a thread of its own, while a watcher asks.
 
+use book_steps::{batch_of, query_of};
 use profile_store::{Answer, Batch, BookFault, Hashing, Query};
 use row_scripts::{Made, Words};
 use spelled_rows::{add_total, width_of};
@@ -7,7 +8,6 @@ use std::sync::atomic::{AtomicU64, Ordering};
 use std::sync::{Arc, Mutex, MutexGuard, Wait};
 use std::thread::Threads;
 use std::time::Clock;
-use store_steps::{batch_of, query_of};
 use store_window::{ClosedWindow, Slot, Source, Watcher, fill_window};
 
 /// Gives these batches, the last one first, and keeps why one was refused.

@@ -1,14 +1,14 @@
 //! What is asked of a book, a store or a worker, as a script spells it: `add main;a 3`, `reset`, `ask total`.
 
-use profile_store::{
-    Answer, Batch, Op, Query, Receipt, Reply, Weights, flame_json, read_folded, top_text,
-};
+use flame_report::{Answer, Query, flame_json, top_text};
+use op_book::{Op, Receipt, Reply};
 use row_scripts::{Made, Words, Wrong};
 use spelled_rows::{kind_name, numbers_of, push_row};
+use stack_text::{Batch, Weights, read_folded};
 use std::sync::Arc;
 
 /// `add main;a 3`, `add a 1 0` of two values, `add` of the folded text in the input, `reset`, `ask total`.
-pub(crate) fn op_of(words: Words, input: &[u8], made: &mut Made) -> Option<Op> {
+pub fn op_of(words: Words, input: &[u8], made: &mut Made) -> Option<Op> {
     match words.word(0) {
         "add" => Some(Op::Add(batch_of(words.rest(1), input, made)?)),
         "reset" => Some(Op::Reset),
@@ -74,7 +74,7 @@ pub(crate) fn place_of(reply: &Reply, made: &mut Made) -> u64 {
 }
 
 /// Adds the lines of an answer, or a total and a space.
-pub(crate) fn tell_answer(answer: &Answer, made: &mut Made) {
+pub fn tell_answer(answer: &Answer, made: &mut Made) {
     let alloc = made.alloc();
     match answer {
         Answer::Total(total) => made.print(&format_args!("{total} ")),

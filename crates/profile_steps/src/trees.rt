@@ -1,6 +1,6 @@
 //! Call trees that grow: the scene `tree width 1`.
 
-ghost use Rattle.std.specs.Prelude.{◌≡◌, ◌<◌, IfSome};
+ghost use Rattle.std.specs.Prelude.{◌≡◌, IfSome};
 
 use crate::reports::Given;
 use call_tree::{CallTree, Grower, Plan};

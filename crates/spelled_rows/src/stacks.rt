@@ -1,5 +1,7 @@
 //! The stacks of a tree, as folded text.
 
+ghost use Rattle.std.specs.Prelude.{◌<◌};
+
 use call_tree::CallTree;
 use profile_rows::aggregate_stacks;
 use row_scripts::{Made, Wrong};

@@ -7,7 +7,7 @@ use Rattle.call_tree.specs.declared.node.Node.{Node}
 use Rattle.profile_rows.specs.Rows.{total_of}
 use Rattle.call_tree.specs.State.{PlainTree, TreeState, credited, nodes_at, plain_at}
 use Rattle.call_tree.specs.Shape.{node_rows}
-use Rattle.call_tree.specs.Nodes.{AreTrees, nodes_of, plain_of, tree_of}
+use Rattle.call_tree.specs.Nodes.{AreTrees, AreTreesBut, nodes_of, plain_of, tree_of}
 use Rattle.call_tree.specs.Plans.{AreCredited, AreSlots, IsCredited}
 use Rattle.call_tree.proofs.Growing.{AreCredited-start, AreCredited-step}
 use Rattle.call_tree.proofs.Trees.{nodes_at-tree, seen_plain}
@@ -16,10 +16,8 @@ use Rattle.call_tree.proofs.Planned.{IsCredited-start, IsCredited-step, credit_w
 
 pub record AreAdded
     (names : List (List ℕ)) (before now : List (List Node)) (value : ℕ) (rows : List Row) (count : ℕ) : Type 0 where
-  pub trees : AreTrees names now
-  pub width : length now ≡ length before
+  pub trees : AreTreesBut names value before now
   pub done : IsCredited (plain_of names before value) (plain_of names now value) (take count (rows_at value rows))
-  pub others : (other : ℕ) → (other ≡ value → ⊥) → nodes_of now other ≡ nodes_of before other
 
 -- ---- the values so far
 

@@ -12,7 +12,7 @@ use Rattle.profile_rows.specs.Aggregate.{Weighted, with_rows}
 use Rattle.profile_rows.proofs.FourValues.{value_of-past}
 use Rattle.call_tree.specs.State.{TreeState, PlainTree, AreGrown, AreStates, IsAppended, IsFresh, IsGrown, nodes_at}
 use Rattle.call_tree.specs.State.{plain_at, name_at, weights_of, no_row}
-use Rattle.call_tree.specs.Plans.{AreCredited, AreFirstSlots, AreSlots, IsCredited}
+use Rattle.call_tree.specs.Plans.{AreCredited, AreFirstSlots, AreSlots, HasAdded, HasSameWeights, IsCredited}
 use Rattle.call_tree.proofs.Indexing.{IsGrown-added}
 use Rattle.call_tree.proofs.Trees.{nodes_at-past}
 
@@ -72,6 +72,19 @@ pub weights-credited : (before now : TreeState) (rows : BatchState) (count : ℕ
     → (value : ℕ) → weights_of now value ≡ with_rows (weights_of before value) (rows_at value rows.rows)
 weights-credited before now rows count batch width credited value =
     grind (arith, recursion_from_All, ltb-true, ltb-false, with_rows-weightless)
+
+-- ---- a tree that grew, and was credited then
+
+pub HasAdded-credited : (before grown now : TreeState) (rows : BatchState) (count : ℕ) → AreGrown before grown
+    → IsBatch rows → rows.width ≡ count → AreCredited grown now rows.rows count → HasAdded before now rows
+HasAdded-credited before grown now rows count more batch width credited = record {
+  weights = λ value. weights-credited grown now rows count batch width credited value
+      ∙ ap (λ m. with_rows m (rows_at value rows.rows)) (weights-grown before grown more value);
+  width = credited.width ∙ more.width;
+}
+
+pub HasSameWeights-grown : (before grown : TreeState) → AreGrown before grown → HasSameWeights before grown
+HasSameWeights-grown before grown more = record { weights = weights-grown before grown more; width = more.width }
 
 -- ---- the slots of a batch's rows
 

@@ -11,7 +11,7 @@ use Rattle.call_tree.specs.declared.node.Node.{Node}
 use Rattle.call_tree.specs.State.{TreeState, PlainTree, AreStates, IsAppended, IsFresh, name_at, nodes_at}
 use Rattle.call_tree.specs.State.{plain_at, stack_at}
 use Rattle.call_tree.specs.Shape.{IsTree, link_of, node_rows}
-use Rattle.call_tree.specs.Nodes.{AreAlike, AreTrees, nodes_of, tree_of, without_weight}
+use Rattle.call_tree.specs.Nodes.{AreAlike, AreTrees, AreTreesBut, nodes_of, tree_of, without_weight}
 use Rattle.call_tree.proofs.Shapes.{IsState-tree, length-node_rows, node_at-node_rows}
 use Rattle.call_tree.proofs.Appending.{IsTree-added, node_rows-added, node_rows-named}
 
@@ -130,8 +130,9 @@ module _ (names : List (List ℕ))
 
 -- ---- one weight more by one value
 
-pub AreTrees-raised : (names : List (List ℕ)) (all now : List (List Node)) (value : ℕ)
+pub AreTreesBut-raised : (names : List (List ℕ)) (all now : List (List Node)) (value : ℕ)
     → AreTrees names all → length now ≡ length all
     → IsTree names (nodes_of now value)
-    → ((other : ℕ) → (other ≡ value → ⊥) → nodes_of now other ≡ nodes_of all other) → AreTrees names now
-AreTrees-raised names all now value trees count here others other lt = grind (arith, cases_eq)
+    → ((other : ℕ) → (other ≡ value → ⊥) → nodes_of now other ≡ nodes_of all other) → AreTreesBut names value all now
+AreTreesBut-raised names all now value trees count here others =
+    record { trees = λ other lt. grind (arith, cases_eq); width = count; others = others }

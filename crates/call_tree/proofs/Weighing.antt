@@ -4,12 +4,14 @@ use Rattle.std.proofs.Common.{◌≡◌, ℕ, zero, suc, ◌+◌, ◌<◌, List,
 use Rattle.std.proofs.Common.{false, subst, arith, ⊎_elim}
 use Rattle.std.proofs.Math.ListN.{set}
 use Rattle.std.proofs.Math.Seq.{map-set_same}
-use Rattle.std.proofs.lemmas.List.{get_or-map, get_or_read, length-map, map-set, get_or-set_same, get_or-set_other, length-set, length_push}
+use Rattle.std.proofs.lemmas.List.{get_or-map, get_or_read, length-map, map-set, get_or-set_same, get_or-set_other}
+use Rattle.std.proofs.lemmas.List.{length-set, length_push}
 use Rattle.std.proofs.lemmas.Bool.{cases_eq}
 use Rattle.call_tree.specs.declared.node.Link.{Link}
 use Rattle.call_tree.specs.declared.node.Node.{Node}
 use Rattle.call_tree.specs.Shape.{at}
-use Rattle.call_tree.specs.Nodes.{linked, with_weight, without_weight, weighed, nodes_of, AreTables, AreAlike}
+use Rattle.call_tree.specs.Nodes.{linked, with_weight, without_weight, weighed, nodes_of, AreTables, AreSameTables}
+use Rattle.call_tree.specs.Nodes.{AreAlike}
 
 pub length-weighed : (links : List Link) (table : List ℕ) → length (weighed links table) ≡ length links
 length-weighed [] table = refl
@@ -146,18 +148,14 @@ pushed-all links next tables after link are count same next_is value lt =
 
 -- room for one node more in one table
 pub record HaveRoom (size : ℕ) (before now : List (List ℕ)) (index : ℕ) : Type 0 where
-  pub count : length now ≡ length before
-  pub same : (links : List Link) → map (weighed links) now ≡ map (weighed links) before
-  pub kept : AreTables size now
+  pub same : AreSameTables size before now
   pub longer : (k : ℕ) → k < index → size < length (table_of now k)
 
 module _ (size : ℕ)
     (before now : List (List ℕ)) (index : ℕ) (room : HaveRoom size before now index) (lt : index < length now) where
   pub HaveRoom-had : size < length (table_of now index) → HaveRoom size before now (index + 1)
   HaveRoom-had has = record {
-    count = room.count;
     same = room.same;
-    kept = room.kept;
     longer = λ k h. ⊎_elim (λ e. subst (λ j. size < length (table_of now j)) (sym e) has)
         (λ ne. room.longer k (omega arith)) (cases_eq k index);
   }
@@ -167,20 +165,23 @@ module _ (size : ℕ)
       → next ≡ set now index table → HaveRoom size before next (index + 1)
   HaveRoom-made next table short table_is next_is =
       subst (λ tables. HaveRoom size before tables (index + 1)) (sym next_is) (record {
-        count = length-set now index table ∙ room.count;
-        same = λ links. map-set_same (weighed links) now index table []
-            (ap (weighed links) table_is ∙ weighed-longer links (table_of now index)) ∙ room.same links;
-        kept = record {
-          long = λ j j_lt. ⊎_elim
-              (λ e. let is = ap length (ap (table_of (set now index table)) e ∙ here) in omega (arith, is, size_here))
-              (λ ne. let is = ap length (get_or-set_other now index j table [] ne) in omega
-              (arith, is, room.kept.long j (omega (arith, j_lt, length-set now index table))))
-              (cases_eq j index);
-          empty = λ j node past. ⊎_elim
-              (λ e. ap (λ i. get_or (table_of (set now index table) i) node 0) e ∙ ap (λ t. get_or t node 0)
-              (here ∙ table_is) ∙ nothing (table_of now index) node (room.kept.empty index node past))
-              (λ ne. ap (λ t. get_or t node 0) (get_or-set_other now index j table [] ne) ∙ room.kept.empty j node past)
-              (cases_eq j index);
+        same = record {
+          count = length-set now index table ∙ room.same.count;
+          same = λ links. map-set_same (weighed links) now index table []
+              (ap (weighed links) table_is ∙ weighed-longer links (table_of now index)) ∙ room.same.same links;
+          kept = record {
+            long = λ j j_lt. ⊎_elim
+                (λ e. let is = ap length (ap (table_of (set now index table)) e ∙ here) in omega (arith, is, size_here))
+                (λ ne. let is = ap length (get_or-set_other now index j table [] ne) in omega
+                (arith, is, room.same.kept.long j (omega (arith, j_lt, length-set now index table))))
+                (cases_eq j index);
+            empty = λ j node past. ⊎_elim
+                (λ e. ap (λ i. get_or (table_of (set now index table) i) node 0) e ∙ ap (λ t. get_or t node 0)
+                (here ∙ table_is) ∙ nothing (table_of now index) node (room.same.kept.empty index node past))
+                (λ ne. ap (λ t. get_or t node 0) (get_or-set_other now index j table [] ne)
+                ∙ room.same.kept.empty j node past)
+                (cases_eq j index);
+          };
         };
         longer = λ k h. ⊎_elim
             (λ e. let is = ap length (ap (table_of (set now index table)) e ∙ here) in omega (arith, is, size_here))

@@ -1,11 +1,11 @@
 -- The nodes with their weights of each value.
-use Rattle.std.specs.Prelude.{ℕ, ◌≡◌, ◌<◌, ◌≤◌, List, [], ◌∷◌, length, map, slice_index_or}
+use Rattle.std.specs.Prelude.{ℕ, ◌≡◌, ◌<◌, ◌≤◌, List, [], ◌∷◌, ◌++◌, length, map, slice_index_or, slice_set}
 use Rattle.profile_rows.specs.Rows.{total_of}
 use Rattle.profile_rows.specs.Values.{value_of}
 use Rattle.call_tree.specs.declared.node.Link.{Link}
 use Rattle.call_tree.specs.declared.node.Node.{Node}
 use Rattle.call_tree.specs.State.{PlainTree, TreeState, nodes_at}
-use Rattle.call_tree.specs.Shape.{IsTree, node_rows}
+use Rattle.call_tree.specs.Shape.{IsTree, at, node_rows}
 
 -- a node with another weight
 abbrev pub with_weight : Node → ℕ → Node
@@ -35,6 +35,12 @@ pub record AreTables (size : ℕ) (tables : List (List ℕ)) : Type 0 where
   pub empty : (k node : ℕ) → size ≤ node
       → slice_index_or (slice_index_or tables k []) node 0 ≡ 0
 
+-- tables of weights for so many nodes still, which give the nodes the weights that they had
+pub record AreSameTables (size : ℕ) (before now : List (List ℕ)) : Type 0 where
+  pub count : length now ≡ length before
+  pub same : (links : List Link) → map (weighed links) now ≡ map (weighed links) before
+  pub kept : AreTables size now
+
 -- by each value the nodes are the same but for their weights
 pub record AreAlike (all : List (List Node)) : Type 0 where
   pub some : 0 < length all
@@ -52,6 +58,24 @@ plain_of names all value = record { names = names; nodes = node_rows names (node
 -- by each value the nodes are a tree
 abbrev pub AreTrees : List (List ℕ) → List (List Node) → Type 0
 AreTrees names all = (value : ℕ) → value < length all → IsTree names (nodes_of all value)
+
+-- by one value a node weighs so much, and nothing else changed
+pub record IsReweighed (before : List (List Node)) (value slot weight : ℕ) (now : List (List Node)) : Type 0 where
+  pub width : length now ≡ length before
+  pub here : nodes_of now value
+      ≡ slice_set (nodes_of before value) slot (with_weight (at (nodes_of before value) slot) weight)
+  pub others : (other : ℕ) → (other ≡ value → ⊥) → nodes_of now other ≡ nodes_of before other
+
+-- one node more by each value, of weight 0
+pub record HasNodeMore (before : List (List Node)) (link : Link) (now : List (List Node)) : Type 0 where
+  pub width : length now ≡ length before
+  pub each : (value : ℕ) → value < length before → nodes_of now value ≡ nodes_of before value ++ linked link 0 ∷ []
+
+-- the nodes are trees, and by all values but one they are as they were
+pub record AreTreesBut (names : List (List ℕ)) (value : ℕ) (before now : List (List Node)) : Type 0 where
+  pub trees : AreTrees names now
+  pub width : length now ≡ length before
+  pub others : (other : ℕ) → (other ≡ value → ⊥) → nodes_of now other ≡ nodes_of before other
 
 -- the weight of all nodes together by each value
 pub record HasTotal (tree : TreeState) (total : List ℕ) : Type 0 where

@@ -102,6 +102,16 @@ pub record AreGrown (before after : TreeState) : Type 0 where
   pub count : length after.values ≡ length before.values
   pub each : (value : ℕ) → value < length before.values → IsGrown (plain_at before value) (plain_at after value)
 
+-- the tree after some more names
+pub record HasMoreNames (before after : TreeState) : Type 0 where
+  pub grown : AreGrown before after
+  pub values : after.values ≡ before.values
+
+-- the tree after some more nodes
+pub record HasMoreNodes (before after : TreeState) : Type 0 where
+  pub grown : AreGrown before after
+  pub names : after.names ≡ before.names
+
 -- a node's number is known by its parent's and its name's
 abbrev pub same_key : ℕ × ℕ → ℕ × ℕ → Bool
 same_key a b = nat_eq a.0 b.0 && nat_eq a.1 b.1

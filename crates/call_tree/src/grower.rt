@@ -2,12 +2,10 @@
 
 ghost use Rattle.std.specs.Prelude.{◌≡◌, ◌<◌, ◌+◌, ◌^◌, ℕ, length, IfOk, OnOk, OnErr};
 ghost use Rattle.std.specs.Arc.{arc_value};
-ghost use Rattle.std.specs.FinMap as map;
 ghost use Rattle.profile_rows.specs.Rows.{total_of};
-ghost use Rattle.profile_rows.specs.Aggregate.{with_rows};
 ghost use Rattle.profile_rows.specs.Values.{rows_at};
-ghost use Rattle.call_tree.specs.Plans.{AreCredited, AreSlots};
-ghost use Rattle.call_tree.specs.State.{TreeState, PlanState, AreGrown, weights_of, total_in, nodes_at, plain_at};
+ghost use Rattle.call_tree.specs.Plans.{AreCredited, AreSlots, HasAdded, HasRoomFor, HasSameWeights, IsEmptyTree};
+ghost use Rattle.call_tree.specs.State.{TreeState, PlanState, AreGrown, nodes_at, plain_at};
 
 use crate::tree::CallTree;
 use crate::walk::Walk;
@@ -123,8 +121,7 @@ impl Grower {
     ///
     /// `NoMemory`.
     pub fn new(alloc: Global, width: Width) -> Result<Grower, NoMemory>
-        ensures width { IfOk result (λ grower. grower.width ≡ width) }
-        ensures weights { IfOk result (λ grower. (value : ℕ) → weights_of grower value ≡ map.empty) }
+        ensures { IfOk result (IsEmptyTree width) }
     {
         Grower::with_hashing(alloc, Hashing::fixed(), width)
     }
@@ -135,8 +132,7 @@ impl Grower {
     ///
     /// `NoMemory`.
     pub fn with_hashing(alloc: Global, hashing: Hashing, width: Width) -> Result<Grower, NoMemory>
-        ensures width { IfOk result (λ grower. grower.width ≡ width) }
-        ensures weights { IfOk result (λ grower. (value : ℕ) → weights_of grower value ≡ map.empty) }
+        ensures { IfOk result (IsEmptyTree width) }
     {
         let tree = CallTree::new(alloc, width)?;
         tree.facts();
@@ -156,13 +152,9 @@ impl Grower {
     ///
     /// `NoMemory`: each stack keeps its weights then.
     pub fn add(&mut self, alloc: Global, batch: &Batch) -> Result<(), NoMemory>
-        requires width { batch.now.width ≡ self.old.width }
-        requires fits { (value : ℕ)
-            → total_in (weights_of self.old value) + total_of (rows_at value batch.now.rows) < 2 ^ 63 }
-        ensures weights { OnOk result ((value : ℕ)
-            → weights_of self.new value ≡ with_rows (weights_of self.old value) (rows_at value batch.now.rows)) }
-        ensures same { OnErr result ((value : ℕ) → weights_of self.new value ≡ weights_of self.old value) }
-        ensures width { self.new.width ≡ self.old.width }
+        requires { HasRoomFor self.old batch.now }
+        ensures added { OnOk result (HasAdded self.old self.new batch.now) }
+        ensures same { OnErr result (HasSameWeights self.old self.new) }
     {
         if batch.len() == 1 && self.tree.width().get() == 1 {
             return self.add_row(alloc, batch);
@@ -179,15 +171,9 @@ impl Grower {
     ///
     /// `NoMemory`.
     pub fn plan(&mut self, alloc: Global, batch: &Batch) -> Result<Plan, NoMemory>
-        requires width { batch.now.width ≡ self.old.width }
-        requires fits { (value : ℕ)
-            → total_in (weights_of self.old value) + total_of (rows_at value batch.now.rows) < 2 ^ 63 }
-        ensures before { IfOk result (λ plan. plan.before ≡ self.new) }
-        ensures next { IfOk result (λ plan. (value : ℕ)
-            → weights_of plan.next value ≡ with_rows (weights_of self.old value) (rows_at value batch.now.rows)) }
-        ensures next_width { IfOk result (λ plan. plan.next.width ≡ self.old.width) }
-        ensures weights { (value : ℕ) → weights_of self.new value ≡ weights_of self.old value }
-        ensures width { self.new.width ≡ self.old.width }
+        requires { HasRoomFor self.old batch.now }
+        ensures planned { IfOk result (λ plan. (plan.before ≡ self.new) × HasAdded self.old plan.next batch.now) }
+        ensures same { HasSameWeights self.old self.new }
     {
         let mut walk = mem::replace(&mut self.walk, Walk::new(alloc));
         let planned = self.plan_rows(alloc, batch, &mut walk);
@@ -203,12 +189,8 @@ impl Grower {
     ///
     /// `NoMemory`: then the grower is gone.
     pub fn with_batch(self, alloc: Global, batch: &Batch) -> Result<Grower, NoMemory>
-        requires width { batch.now.width ≡ self.width }
-        requires fits { (value : ℕ)
-            → total_in (weights_of self value) + total_of (rows_at value batch.now.rows) < 2 ^ 63 }
-        ensures weights { IfOk result (λ grower. (value : ℕ)
-            → weights_of grower value ≡ with_rows (weights_of self value) (rows_at value batch.now.rows)) }
-        ensures width { IfOk result (λ grower. grower.width ≡ self.width) }
+        requires { HasRoomFor self batch.now }
+        ensures { IfOk result (λ grower. HasAdded self grower batch.now) }
     {
         let mut grower = self;
         let mut walk = mem::replace(&mut grower.walk, Walk::new(alloc));
@@ -232,14 +214,10 @@ impl Grower {
     /// Adds a batch of one row of one value: its node, where there was none, and then its weight in place.
     fn add_row(&mut self, alloc: Global, batch: &Batch) -> Result<(), NoMemory>
         requires single { self.old.width ≡ 1 }
-        requires width { batch.now.width ≡ 1 }
         requires one { length batch.now.rows ≡ 1 }
-        requires fits { (value : ℕ)
-            → total_in (weights_of self.old value) + total_of (rows_at value batch.now.rows) < 2 ^ 63 }
-        ensures weights { OnOk result ((value : ℕ)
-            → weights_of self.new value ≡ with_rows (weights_of self.old value) (rows_at value batch.now.rows)) }
-        ensures same { OnErr result ((value : ℕ) → weights_of self.new value ≡ weights_of self.old value) }
-        ensures width { self.new.width ≡ self.old.width }
+        requires room { HasRoomFor self.old batch.now }
+        ensures added { OnOk result (HasAdded self.old self.new batch.now) }
+        ensures same { OnErr result (HasSameWeights self.old self.new) }
     {
         let mut walk = mem::replace(&mut self.walk, Walk::new(alloc));
         let node = self.grow(&batch.first().rows()[0].stack, &mut walk);
@@ -256,9 +234,7 @@ impl Grower {
     ///
     /// `NoMemory`.
     pub fn plan_reset(&mut self, alloc: Global) -> Result<Plan, NoMemory>
-        ensures before { IfOk result (λ plan. plan.before ≡ self.new) }
-        ensures next { IfOk result (λ plan. (value : ℕ) → weights_of plan.next value ≡ map.empty) }
-        ensures next_width { IfOk result (λ plan. plan.next.width ≡ self.old.width) }
+        ensures planned { IfOk result (λ plan. (plan.before ≡ self.new) × IsEmptyTree self.old.width plan.next) }
         ensures same { self.new ≡ self.old }
     {
         let next = Arc::new(alloc, CallTree::new(alloc, self.tree.width())?)?;
@@ -274,10 +250,7 @@ impl Grower {
         requires width { batch.now.width ≡ self.old.width }
         requires fits { (value : ℕ)
             → total_of (nodes_at self.old value) + total_of (rows_at value batch.now.rows) < 2 ^ 63 }
-        ensures before { IfOk result (λ plan. plan.before ≡ self.new) }
-        ensures next { IfOk result (λ plan. (value : ℕ)
-            → weights_of plan.next value ≡ with_rows (weights_of self.old value) (rows_at value batch.now.rows)) }
-        ensures next_width { IfOk result (λ plan. plan.next.width ≡ self.old.width) }
+        ensures planned { IfOk result (λ plan. (plan.before ≡ self.new) × HasAdded self.old plan.next batch.now) }
         ensures grown { AreGrown self.old self.new }
     {
         let slots = self.slots_of(alloc, batch.first(), walk)?;

@@ -1,9 +1,8 @@
 //! The home of the nodes with their weights of all values.
 
-ghost use Rattle.std.specs.Prelude.{◌≡◌, ◌<◌, ◌++◌, ◌∷◌, ℕ, List, [], length, map, IfOk, OnOk, OnErr, slice_set, slice_index_or};
-ghost use Rattle.call_tree.specs.declared.node.Link.{Link};
-ghost use Rattle.call_tree.specs.declared.node.Node.{Node};
-ghost use Rattle.call_tree.specs.Nodes.{AreAlike, AreTables, linked, nodes_of, with_weight, without_weight, weighed};
+ghost use Rattle.std.specs.Prelude.{◌≡◌, ◌<◌, ℕ, [], length, IfOk, OnOk, OnErr, slice_index_or};
+ghost use Rattle.call_tree.specs.Nodes.{AreAlike, AreSameTables, AreTables, HasNodeMore, IsReweighed, linked, nodes_of};
+ghost use Rattle.call_tree.specs.Nodes.{without_weight};
 ghost use Rattle.call_tree.specs.Shape.{at};
 
 use crate::node::{Link, Node};
@@ -110,11 +109,7 @@ impl Nodes {
     pub fn put_weight(&mut self, value: u32, slot: usize, weight: u64) -> Result<(), AllocError>
         requires value { value < length self.old }
         requires within { slot < length (nodes_of self.old value) }
-        ensures width { length self.new ≡ length self.old }
-        ensures here { OnOk result (nodes_of self.new value
-            ≡ slice_set (nodes_of self.old value) slot (with_weight (at (nodes_of self.old value) slot) weight)) }
-        ensures others { OnOk result
-            ((other : ℕ) → (other ≡ value → ⊥) → nodes_of self.new other ≡ nodes_of self.old other) }
+        ensures ok { OnOk result (IsReweighed self.old value slot weight self.new) }
         ensures err { OnErr result (self.new ≡ self.old) }
     {
         let table = &mut self.weights[value as usize];
@@ -135,9 +130,7 @@ impl Nodes {
 
     /// One more node of weight 0, at the end.
     pub fn append(&mut self, link: Link) -> Result<(), AllocError>
-        ensures width { length self.new ≡ length self.old }
-        ensures ok { OnOk result ((value : ℕ) → value < length self.old
-            → nodes_of self.new value ≡ nodes_of self.old value ++ linked link 0 ∷ []) }
+        ensures ok { OnOk result (HasNodeMore self.old link self.new) }
         ensures err { OnErr result (self.new ≡ self.old) }
     {
         take_room(&mut self.weights, self.links.len())?;
@@ -148,10 +141,7 @@ impl Nodes {
 /// Room for one more node in each table.
 fn take_room(tables: &mut Vec<Pages<u64>>, size: usize) -> Result<(), AllocError>
     requires { AreTables size tables.old.items }
-    ensures count { length tables.new.items ≡ length tables.old.items }
-    ensures same { (links : List Link)
-        → map (weighed links) tables.new.items ≡ map (weighed links) tables.old.items }
-    ensures kept { AreTables size tables.new.items }
+    ensures same { AreSameTables size tables.old.items tables.new.items }
     ensures longer { OnOk result
         ((k : ℕ) → k < length tables.new.items → size < length (slice_index_or tables.new.items k [])) }
 {

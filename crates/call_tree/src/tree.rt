@@ -3,8 +3,9 @@
 ghost use Rattle.std.specs.Prelude.{◌≡◌, ◌<◌, ◌+◌, ◌++◌, ◌∷◌, ◌^◌, ℕ, [], length, IfOk, IfSome, OnOk, OnErr};
 ghost use Rattle.profile_rows.specs.Rows.{total_of};
 ghost use Rattle.profile_rows.specs.Values.{value_of, rows_at};
-ghost use Rattle.call_tree.specs.State.{TreeState, weights_of, total_in, nodes_at, plain_at, name_at, credited, IsAppended, IsChild, IsFresh, AreStates};
-ghost use Rattle.call_tree.specs.Nodes.{AreTrees, nodes_of, plain_of};
+ghost use Rattle.call_tree.specs.State.{TreeState, weights_of, total_in, nodes_at, plain_at, name_at, credited};
+ghost use Rattle.call_tree.specs.State.{IsAppended, IsChild, IsFresh, AreStates};
+ghost use Rattle.call_tree.specs.Nodes.{AreTrees, AreTreesBut, nodes_of, plain_of};
 ghost use Rattle.call_tree.specs.Shape.{node_rows};
 ghost use Rattle.call_tree.specs.Plans.{AreSlots, AreCredited, IsCredited};
 
@@ -231,12 +232,9 @@ fn add_rows(
     requires slots { AreSlots (plain_of names.now nodes.old value) batch.now.rows slots.now }
     requires fits { total_of (node_rows names.now (nodes_of nodes.old value))
         + total_of (rows_at value batch.now.rows) < 2 ^ 63 }
-    ensures trees { OnOk result (AreTrees names.now nodes.new) }
-    ensures width { OnOk result (length nodes.new ≡ length nodes.old) }
+    ensures trees { OnOk result (AreTreesBut names.now value nodes.old nodes.new) }
     ensures credited { OnOk result (IsCredited (plain_of names.now nodes.old value)
         (plain_of names.now nodes.new value) (rows_at value batch.now.rows)) }
-    ensures others { OnOk result
-        ((other : ℕ) → (other ≡ value → ⊥) → nodes_of nodes.new other ≡ nodes_of nodes.old other) }
 {
     for index in 0..slots.len() {
         let weight = batch.weight(index, value);
@@ -257,12 +255,9 @@ fn add_weight(
     requires value { value < length nodes.old }
     requires within { at < length (nodes_of nodes.old value) }
     requires fits { total_of (node_rows names.now (nodes_of nodes.old value)) + weight < 2 ^ 63 }
-    ensures trees { OnOk result (AreTrees names.now nodes.new) }
-    ensures width { OnOk result (length nodes.new ≡ length nodes.old) }
+    ensures trees { OnOk result (AreTreesBut names.now value nodes.old nodes.new) }
     ensures nodes { OnOk result (node_rows names.now (nodes_of nodes.new value)
         ≡ credited (node_rows names.now (nodes_of nodes.old value)) at weight) }
-    ensures others { OnOk result
-        ((other : ℕ) → (other ≡ value → ⊥) → nodes_of nodes.new other ≡ nodes_of nodes.old other) }
     ensures err { OnErr result (nodes.new ≡ nodes.old) }
 {
     let _names = names;

@@ -2,8 +2,9 @@
 
 ghost use Rattle.std.specs.Prelude.{◌≡◌, ◌<◌, ◌+◌, ◌≤◌, ◌++◌, ◌∷◌, ℕ, [], length, not, IfOk};
 ghost use Rattle.profile_rows.specs.Rows.{has_name};
-ghost use Rattle.call_tree.specs.State.{IsFresh, AreGrown, nodes_at, plain_at, name_at, stack_at};
-ghost use Rattle.call_tree.specs.Plans.{AreFirstSlots};
+ghost use Rattle.call_tree.specs.State.{IsFresh, AreGrown, HasMoreNames, HasMoreNodes, nodes_at, plain_at, name_at};
+ghost use Rattle.call_tree.specs.State.{stack_at};
+ghost use Rattle.call_tree.specs.Plans.{AreFirstSlots, IsSlot};
 ghost use Rattle.call_tree.specs.Walks.{IsOnPath};
 
 use super::Grower;
@@ -35,8 +36,7 @@ impl Grower {
 
     /// The node of a stack, with new nodes of weight 0 where there are none.
     pub(super) fn grow(&mut self, stack: &Stack, walk: &mut Walk) -> Result<u32, NoMemory>
-        ensures node { IfOk result
-            (λ node. (node < length (nodes_at self.new 0)) × (stack_at (nodes_at self.new 0) node ≡ stack.now)) }
+        ensures node { IfOk result (IsSlot (plain_at self.new 0) stack.now) }
         ensures grown { AreGrown self.old self.new }
     {
         walk.start();
@@ -99,8 +99,7 @@ impl Grower {
     fn intern(&mut self, name: &Name) -> Result<u32, NoMemory>
         ensures number { IfOk result
             (λ number. (number < length self.new.names) × (name_at self.new.names number ≡ name.now)) }
-        ensures grown { AreGrown self.old self.new }
-        ensures values { self.new.values ≡ self.old.values }
+        ensures names { HasMoreNames self.old self.new }
     {
         match self.numbers.get_index_of(name) {
             Some(number) => number_of(number),
@@ -113,8 +112,7 @@ impl Grower {
         requires { (k : ℕ) → k < length self.old.names → name_at self.old.names k ≡ name.now → ⊥ }
         ensures number { IfOk result
             (λ number. (number < length self.new.names) × (name_at self.new.names number ≡ name.now)) }
-        ensures grown { AreGrown self.old self.new }
-        ensures values { self.new.values ≡ self.old.values }
+        ensures names { HasMoreNames self.old self.new }
     {
         let number = number_of(self.numbers.len())?;
         let listed = name.clone()?;
@@ -133,11 +131,9 @@ impl Grower {
         requires counts { counts
             ≡ not (has_name (name_at self.old.names name) (stack_at (nodes_at self.old 0) parent)) }
         requires deep { length (stack_at (nodes_at self.old 0) parent) < 65535 }
-        ensures child { IfOk result (λ k. (k < length (nodes_at self.new 0))
-            × (stack_at (nodes_at self.new 0) k
-            ≡ stack_at (nodes_at self.old 0) parent ++ name_at self.old.names name ∷ [])) }
-        ensures grown { AreGrown self.old self.new }
-        ensures names { self.new.names ≡ self.old.names }
+        ensures child { IfOk result (IsSlot (plain_at self.new 0)
+            (stack_at (nodes_at self.old 0) parent ++ name_at self.old.names name ∷ [])) }
+        ensures nodes { HasMoreNodes self.old self.new }
     {
         match self.index.get(&(parent, name)) {
             Some(child) => Ok(*child),
@@ -148,11 +144,9 @@ impl Grower {
     /// A child that isn't there yet. Nothing is changed where memory runs out.
     fn add_child(&mut self, parent: u32, name: u32, counts: bool) -> Result<u32, NoMemory>
         requires { IsFresh (plain_at self.old 0) parent name counts }
-        ensures child { IfOk result (λ k. (k < length (nodes_at self.new 0))
-            × (stack_at (nodes_at self.new 0) k
-            ≡ stack_at (nodes_at self.old 0) parent ++ name_at self.old.names name ∷ [])) }
-        ensures grown { AreGrown self.old self.new }
-        ensures names { self.new.names ≡ self.old.names }
+        ensures child { IfOk result (IsSlot (plain_at self.new 0)
+            (stack_at (nodes_at self.old 0) parent ++ name_at self.old.names name ∷ [])) }
+        ensures nodes { HasMoreNodes self.old self.new }
     {
         let number = number_of(self.tree.len())?;
         self.index.reserve(1)?;

@@ -10,7 +10,7 @@ loop-index-preserved c =
     let tables = c.loop-index.tables.items in
     let index = c.loop-index.index in
     let room = c.loop-index.invariant in
-    let lt : index < length tables = omega (arith, c.loop-index-test.true, c.len-index-end.ensures, room.count) in
+    let lt : index < length tables = omega (arith, c.loop-index-test.true, c.len-index-end.ensures, room.same.count) in
     let table_is : c.index_mut-table.result.now ≡ table_of tables index =
     get_or_read tables index c.index_mut-table.result.now lt c.index_mut-table.ensures.value [] in
     elim c.if-len-size.branch [
@@ -20,7 +20,7 @@ loop-index-preserved c =
           (ap length (sym table_is) ∙ sym c.len.ensures ∙ w.if-len-size.true)
           (w.in_ok-append.ensures.ok ∙ ap (λ t. t ++ 0 ∷ []) table_is) (ap (λ v. v.items) w.tables-is)
       | else-len-size w ↦
-          let long = room.kept.long index lt in
+          let long = room.same.kept.long index lt in
           let same = ap length table_is in
           let other : length c.index_mut-table.result.now ≡ c.args.size
           → ⊥ = λ e. w.if-len-size.false (c.len.ensures ∙ e) in

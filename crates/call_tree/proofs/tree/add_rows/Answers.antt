@@ -27,11 +27,13 @@ loop-index-preserved c =
     let lt : c.loop-index.index < length rows = omega (arith, c.loop-index-test.true, c.requires.slots.size) in
     let added = c.in_ok-add_weight.ensures in
     record {
-      trees = added.trees;
-      width = added.width ∙ so_far.width;
+      trees = record {
+        trees = added.trees.trees;
+        width = added.trees.width ∙ so_far.trees.width;
+        others = λ other ne. added.trees.others other ne ∙ so_far.trees.others other ne;
+      };
       done = IsCredited-step (plain_of names c.args.nodes.now value)
           (plain_of names c.loop-index.nodes value) value rows c.args.slots.now c.requires.slots c.requires.fits
           c.loop-index.index lt so_far.done c.weight-weight.result c.weight-weight.ensures
           (plain_of names c.add_weight.new.nodes value) refl added.nodes;
-      others = λ other ne. added.others other ne ∙ so_far.others other ne;
     }

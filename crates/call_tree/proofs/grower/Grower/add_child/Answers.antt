@@ -3,7 +3,8 @@ use Rattle.std.proofs.Common.{◌≡◌, ◌<◌, length, Some, cond, arith, sym
 use Rattle.std.specs.Result.{is_ok}
 use Rattle.std.specs.Arc.{arc_value}
 use Rattle.std.specs.HashMap as hash
-use Rattle.call_tree.specs.State.{TreeState, AreGrown, AreStates, IsAppended, IsFresh, IsIndex, nodes_at, plain_at, same_key}
+use Rattle.call_tree.specs.State.{TreeState, AreGrown, AreStates, IsAppended, IsFresh, IsIndex, nodes_at, plain_at}
+use Rattle.call_tree.specs.State.{same_key}
 use Rattle.shared_pages.proofs.Cloning.{from_err}
 use Rattle.call_tree.proofs.Indexing.{IsIndex-look, IsIndex-added, from_ok}
 use Rattle.call_tree.proofs.Growing.{AreGrown-appended}
@@ -63,13 +64,16 @@ invariant_of-self-2 c =
       subst (λ (t : TreeState). IsIndex (hash.get same_key c.insert.new.self) (plain_at t 0)) (sym next_is) after,
     )
 
-pub returns-clause-grown : goal.returns-clause-grown
-returns-clause-grown c =
+pub returns-clause-nodes : goal.returns-clause-nodes
+returns-clause-nodes c =
     let made = ⊎_elim (λ e. e) (λ e. e) c.in_ok-make_mut.ensures.value ∙ c.self.view_is in
     let states = subst AreStates (c.deref-2.ensures ∙ c.self.view_is) c.facts.ensures in
     let ok = subst (λ (t : TreeState). IsAppended t c.args.parent c.args.name c.append_node.new.self)
     made c.in_ok-append_node.ensures.ok in
-    subst (AreGrown c.args.self.now)
-    (sym (c.make_mut.follows.holds c.append_node.new.self (ap is_ok c.in_ok-make_mut.was)))
-    (AreGrown-appended c.args.self.now c.append_node.new.self
-    c.args.parent c.args.name c.args.counts states c.requires ok)
+    let next_is = c.make_mut.follows.holds c.append_node.new.self (ap is_ok c.in_ok-make_mut.was) in
+    record {
+      grown = subst (AreGrown c.args.self.now) (sym next_is)
+          (AreGrown-appended c.args.self.now c.append_node.new.self
+          c.args.parent c.args.name c.args.counts states c.requires ok);
+      names = ap (λ (t : TreeState). t.names) next_is ∙ ok.names;
+    }

@@ -45,5 +45,5 @@ invariant_of-self-2 c =
           (tree_is ∙ sym (ap (λ (t : TreeState). plain_at t 0) next_is)) next,
     )
 
-pub returns-clause-grown : goal.returns-clause-grown
-returns-clause-grown c = grind (arith, common_steps, AreGrown-named)
+pub returns-clause-names : goal.returns-clause-names
+returns-clause-names c = grind (arith, common_steps, AreGrown-named)

@@ -2,7 +2,7 @@
 use Rattle.std.proofs.lemmas.Grind.{common_steps}
 use Rattle.std.proofs.Common.{rules, arith}
 use Rattle.shared_pages.proofs.Cloning.{on_err}
-use Rattle.call_tree.proofs.Growing.{weights-credited, weights-grown}
+use Rattle.call_tree.proofs.Growing.{HasSameWeights-grown, weights-credited, weights-grown}
 use Rattle.call_tree.proofs.Planned.{IsIndex-credited}
 use Rattle.call_tree.proofs.Totals.{total_in-weights_of}
 use Rattle.call_tree.proofs.grower.Grower.add_row.Goals as goal
@@ -11,10 +11,11 @@ pub add_row-requires-clause-fits : goal.add_row-requires-clause-fits
 add_row-requires-clause-fits c = grind (arith, common_steps, weights-grown, total_in-weights_of)
 
 pub returns-in_err-add_row-clause-same : goal.returns-in_err-add_row-clause-same
-returns-in_err-add_row-clause-same c = grind (arith, common_steps, on_err, weights-grown)
+returns-in_err-add_row-clause-same c = grind (arith, common_steps, on_err, HasSameWeights-grown)
 
 pub invariant_of-self-2 : goal.invariant_of-self-2
 invariant_of-self-2 c = grind (arith, IsIndex-credited)
 
-pub returns-clause-weights : goal.returns-clause-weights
-returns-clause-weights c = search (rules, weights-credited, weights-grown)
+pub returns-clause-added : goal.returns-clause-added
+returns-clause-added c =
+    record { weights = search (rules, weights-credited, weights-grown); width = grind (arith, common_steps) }

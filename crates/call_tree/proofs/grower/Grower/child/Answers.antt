@@ -7,4 +7,4 @@ returns-in-Some-clause-child c =
     let found = c.self.invariant.1.right c.args.parent c.args.name c.in-Some.child.now (sym c.in-Some.ensures.value) in
     let now = subst (λ (t : TreeState). IsChild (plain_at t 0) c.args.parent c.args.name c.in-Some.child.now)
     c.self.view_is found in
-    (now.child_lt, now.stack)
+    record { within = now.child_lt; stack = now.stack }

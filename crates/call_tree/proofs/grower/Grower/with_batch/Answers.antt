@@ -1,12 +1,10 @@
 -- The tree of a grower with the rows of a batch, in place.
 use Rattle.std.proofs.Common.{◌≡◌, ℕ, List, length, arith, sym, ap, ◌∙◌, subst}
 use Rattle.std.specs.Arc.{arc_value}
-use Rattle.profile_rows.specs.Values.{rows_at}
-use Rattle.profile_rows.specs.Aggregate.{with_rows}
 use Rattle.profile_rows.specs.declared.weighted_stacks.WeightedStack.{WeightedStack}
-use Rattle.call_tree.specs.State.{TreeState, plain_at, total_in, weights_of}
+use Rattle.call_tree.specs.State.{TreeState, AreGrown, plain_at, total_in, weights_of}
 use Rattle.call_tree.specs.Plans.{AreFirstSlots, AreSlots}
-use Rattle.call_tree.proofs.Growing.{AreSlots-first, weights-credited, weights-grown}
+use Rattle.call_tree.proofs.Growing.{AreSlots-first, HasAdded-credited, weights-grown}
 use Rattle.call_tree.proofs.Planned.{IsIndex-credited}
 use Rattle.call_tree.proofs.Totals.{total_in-weights_of}
 use Rattle.call_tree.proofs.grower.Grower.with_batch.Goals as goal
@@ -35,16 +33,10 @@ with_rows_at-requires-clause-fits c = λ value.
 pub invariant_of-result : goal.invariant_of-result
 invariant_of-result c = grind (arith, IsIndex-credited)
 
-pub returns-clause-weights : goal.returns-clause-weights
-returns-clause-weights c = λ value.
-    let batch = c.args.batch.now in
+pub returns : goal.returns
+returns c =
     let tree = arc_value c.grower-2.inside.tree in
-    let grown = c.in_ok-slots.ensures.grown in
-    let seen = c.grower-2.view_is in
-    let width = c.requires.width ∙ sym (ap (λ (t : TreeState). t.width) c.grower.view_is)
-    ∙ sym grown.width ∙ sym (ap (λ (t : TreeState). t.width) seen) in
-    weights-credited
-    tree (arc_value c.in_ok-tree.tree) batch tree.width c.first.ensures.batch width c.in_ok-tree.ensures value
-    ∙ ap (λ m. with_rows m (rows_at value batch.rows)) (ap (λ (t : TreeState). weights_of t value) seen
-    ∙ weights-grown (arc_value c.grower.inside.tree) c.slots_of.new.self grown value
-    ∙ ap (λ (t : TreeState). weights_of t value) c.grower.view_is)
+    let more = subst (λ (t : TreeState). AreGrown t c.slots_of.new.self) c.grower.view_is c.in_ok-slots.ensures.grown in
+    let grown = subst (AreGrown c.args.self) (sym c.grower-2.view_is) more in
+    HasAdded-credited c.args.self tree (arc_value c.in_ok-tree.tree) c.args.batch.now tree.width grown
+    c.first.ensures.batch (c.requires.width ∙ sym grown.width) c.in_ok-tree.ensures

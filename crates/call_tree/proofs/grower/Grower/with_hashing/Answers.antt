@@ -2,5 +2,5 @@ use Rattle.std.proofs.Common.{arith}
 use Rattle.call_tree.proofs.Growing.{weights-root}
 use Rattle.call_tree.proofs.grower.Grower.with_hashing.Goals as goal
 
-pub returns-clause-weights : goal.returns-clause-weights
-returns-clause-weights c = grind (arith, weights-root)
+pub returns : goal.returns
+returns c = grind (arith, weights-root)

@@ -53,10 +53,10 @@ loop-value-preserved c =
     let added = c.in_ok-add_rows.ensures in
     AreAddedTo-step
     tree.names c.self.inside.nodes c.loop-value.nodes rows value c.loop-value.invariant c.add_rows.new.nodes
-    (subst (λ ns. AreTrees ns c.add_rows.new.nodes) names_are added.trees) added.width
+    (subst (λ ns. AreTrees ns c.add_rows.new.nodes) names_are added.trees.trees) added.trees.width
     (subst (λ ns. IsCredited (plain_of ns c.loop-value.nodes value)
     (plain_of ns c.add_rows.new.nodes value) (rows_at value rows)) names_are added.credited)
-    added.others
+    added.trees.others
 
 pub invariant_of-result : goal.invariant_of-result
 invariant_of-result c =

@@ -14,10 +14,10 @@ invariant_of-self-2 c =
     let all = c.self.inside.nodes in
     let appended = IsAppended-trees
     names all c.append.new.self c.args.parent c.args.name c.args.counts c.self.invariant.0 c.facts.ensures now
-    c.in_ok-append.ensures.width c.in_ok-append.ensures.ok in (
+    c.in_ok-append.ensures.ok.width c.in_ok-append.ensures.ok.each in (
       AreTrees-appended
           names all c.append.new.self c.args.parent c.args.name c.args.counts c.self.invariant.0 c.facts.ensures now
-          c.in_ok-append.ensures.width c.in_ok-append.ensures.ok,
+          c.in_ok-append.ensures.ok.width c.in_ok-append.ensures.ok.each,
       HasTotal-same
           (tree_of names all) (tree_of names c.append.new.self) c.self.inside.total c.self.invariant.1 appended.width
           (total-grown (tree_of names all) (tree_of names c.append.new.self)
@@ -33,4 +33,4 @@ returns-clause-ok c =
     c.self.view_is
     (IsAppended-trees c.self.inside.names c.self.inside.nodes
     c.append.new.self c.args.parent c.args.name c.args.counts c.self.invariant.0 c.facts.ensures now
-    c.in_ok-append.ensures.width c.in_ok-append.ensures.ok)
+    c.in_ok-append.ensures.ok.width c.in_ok-append.ensures.ok.each)

@@ -1,6 +1,6 @@
 -- What is added of texts.
-use Rattle.std.specs.Prelude.{ℕ, ◌≡◌, ◌⊎◌, ◌+◌, ◌-◌, ◌≤◌, slice_index, List, MatchOption, None, Option, Some, drop}
-use Rattle.std.specs.Prelude.{length, take, ⊤}
+use Rattle.std.specs.Prelude.{ℕ, ◌≡◌, ◌+◌, List, MatchOption, None, Option, Some, drop, length, ⊤}
+use Rattle.collect_sources.specs.Lines.{AreFirstLines}
 use Rattle.profile_store.specs.Aggregate.{aggregate_of}
 use Rattle.profile_store.specs.LineSums.{AreAddedLines}
 use Rattle.profile_store.specs.StackTexts.{TextState}
@@ -10,15 +10,6 @@ use Rattle.profile_store.specs.declared.FoldedFault.{FoldedFault}
 use Rattle.profile_store.specs.declared.FoldedFault.TheVariants.{NotUtf8, NoCount, Count, Depth, Heavy, NoMemory}
 use Rattle.profile_store.specs.declared.WeightedStack.{WeightedStack}
 use Rattle.collecting.specs.declared.held_text.Text.{Text}
-
--- a text can be cut here without parting a line: at its start, at its end, or after a line feed
-pub record IsBetweenLines (text : List ℕ) (at : ℕ) : Type 0 where
-  pub within : at ≤ length text
-  pub parts : (at ≡ 0) ⊎ ((at ≡ length text) ⊎ (slice_index text (at - 1) ≡ 10))
-
--- the part of a text that a limit of rows leaves is whole lines of it, from its start
-abbrev pub AreFirstLines : List ℕ → List ℕ → Type 0
-AreFirstLines text lines = (count : ℕ) × IsBetweenLines text count × (lines ≡ take count text)
 
 -- the batch's rows add up to those that were gathered
 abbrev pub IsBatchOf : List TextState → BatchState → Type 0

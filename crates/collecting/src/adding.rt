@@ -5,11 +5,9 @@ ghost use Rattle.std.specs.Arc.{arc_value};
 ghost use Rattle.collecting.specs.Added.{GoesOn, HasAdded, IsBatchOf};
 
 use crate::held_text::Text;
-use crate::messages::Messages;
-use crate::origin::Origin;
 use crate::profile::{Unread, read_profile};
-use crate::reading::{Content, Lines, Piece};
 use crate::window::{EarlyEnd, Window};
+use collect_sources::{Content, Lines, Messages, Origin, Piece};
 use crossbeam_channel::Receiver;
 use profile_store::{AddedLines, Batch, BookFault, FoldedFault, Hashing, LineSums, NoMemory};
 use std::alloc::Global;

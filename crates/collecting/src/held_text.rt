@@ -2,9 +2,7 @@
 
 ghost use Rattle.std.specs.Prelude.{◌≡◌, ◌+◌, ◌≤◌, drop, length};
 
-use crate::origin::Origin;
-use crate::reading::Lines;
-use crate::text::count_lines;
+use collect_sources::{Lines, Origin, count_lines};
 use std::sync::{Arc, Wait};
 
 /// Lines of one origin. Those before `from` are added.

@@ -7,19 +7,12 @@
 #![tactic(auto)]
 
 mod adding;
-mod begun;
-mod folders;
 mod held_text;
-mod messages;
 mod options;
-mod origin;
 mod output;
 mod profile;
 mod program;
-mod reading;
 mod reporting;
-mod sources;
-mod text;
 mod watching;
 mod window;
 mod windows;

@@ -1,13 +1,11 @@
 //! The windows that are closed, as they are written.
 
 use crate::adding::Told;
-use crate::folders::Inbox;
-use crate::messages::Messages;
-use crate::origin::Origin;
 use crate::reporting::report_of;
 use crate::windows::Closed;
 use crate::written::Folder;
 use anyhow::Result;
+use collect_sources::{Inbox, Messages, Origin};
 use crossbeam_channel::Receiver;
 use std::alloc::Global;
 use std::fmt::Display;

@@ -1,15 +1,12 @@
 //! The program `collect`.
 
 use crate::adding::Adder;
-use crate::folders::Inbox;
-use crate::messages::Messages;
 use crate::options::{Options, read_options};
 use crate::output::Output;
-use crate::reading::{Opened, Piece, Reader};
-use crate::sources::open;
 use crate::windows::{Closed, Windows};
 use anyhow::{Result, bail};
 use clap::error::ErrorKind;
+use collect_sources::{Inbox, Messages, Opened, Piece, Reader, open};
 use crossbeam_channel::{Sender, bounded};
 use profile_store::{Hashing, Kind, Query};
 use std::alloc::Global;

@@ -1,7 +1,7 @@
 //! The top list of a window while it fills.
 
-use crate::messages::Messages;
 use crate::window::Window;
+use collect_sources::Messages;
 use profile_store::{Answer, BookFault, Query, top_text};
 use std::alloc::Global;
 use std::sync::{Arc, Wait};

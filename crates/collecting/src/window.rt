@@ -2,7 +2,7 @@
 
 ghost use Rattle.collecting.specs.Added.{AreFirstLines};
 
-use crate::text::{count_lines, first_lines};
+use collect_sources::{count_lines, first_lines};
 use profile_store::BookFault;
 use std::sync::atomic::{AtomicBool, AtomicU64, Ordering};
 use std::sync::{Mutex, MutexGuard, Wait};

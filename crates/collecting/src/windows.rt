@@ -1,10 +1,10 @@
 //! Windows of time, one after the other.
 
 use crate::adding::{Adder, Told};
-use crate::messages::Messages;
 use crate::watching::Watch;
 use crate::window::{EarlyEnd, Window};
 use anyhow::Result;
+use collect_sources::Messages;
 use crossbeam_channel::Sender;
 use profile_store::{Hashing, Query};
 use std::alloc::Global;

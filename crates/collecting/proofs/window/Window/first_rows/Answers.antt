@@ -1,5 +1,5 @@
 -- Without a limit these are all lines.
-use Rattle.collecting.proofs.Cuts.{all_lines, fewer_lines}
+use Rattle.collect_sources.proofs.Cuts.{all_lines, fewer_lines}
 use Rattle.collecting.proofs.window.Window.first_rows.Goals as goal
 
 pub returns-then-not-self : goal.returns-then-not-self

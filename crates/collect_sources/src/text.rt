@@ -1,11 +1,11 @@
 //! Lines of text, counted.
 
-ghost use Rattle.collecting.specs.Added.{AreFirstLines, IsBetweenLines};
+ghost use Rattle.collect_sources.specs.Lines.{AreFirstLines, IsBetweenLines};
 
 use memchr::memchr;
 
 /// How many lines a text has. The last may lack its end.
-pub(crate) fn count_lines(text: &[u8]) -> u64 {
+pub fn count_lines(text: &[u8]) -> u64 {
     let is_begun = text.last().is_some_and(|byte| *byte != b'\n');
     let mut lines = u64::from(is_begun);
     for few in text.chunks(128) {
@@ -24,14 +24,14 @@ fn count_ends(few: &[u8]) -> u8 {
 }
 
 /// The first lines of a text, at most so many.
-pub(crate) fn first_lines(text: &[u8], most: u64) -> &[u8]
+pub fn first_lines(text: &[u8], most: u64) -> &[u8]
     ensures { AreFirstLines text.entry.now result.now }
 {
     &text[..line_start(text, most)]
 }
 
 /// Where a text's line of this number, from 0, begins; the text's end where it has no such line.
-pub(crate) fn line_start(text: &[u8], number: u64) -> usize
+fn line_start(text: &[u8], number: u64) -> usize
     ensures { IsBetweenLines text.now result }
 {
     let mut start = 0;

@@ -11,7 +11,7 @@ use std::{fs, io};
 
 /// A folder as a source, and where its files go once they are open.
 #[derive(Drop)]
-pub(crate) struct Inbox<'a> {
+pub struct Inbox<'a> {
     messages: &'a Messages,
     path: &'a str,
     /// The names in it that were taken, in order.
@@ -22,7 +22,8 @@ pub(crate) struct Inbox<'a> {
 }
 
 impl<'a> Inbox<'a> {
-    pub(crate) fn new(
+    /// No file of the folder was taken yet. Takes no memory.
+    pub fn new(
         alloc: Global,
         messages: &'a Messages,
         path: &'a str,
@@ -38,7 +39,7 @@ impl<'a> Inbox<'a> {
     }
 
     /// Takes the files that have come, in the order of their names.
-    pub(crate) fn poll<R: Wait>(&mut self, threads: &R, rt: HostRuntime) {
+    pub fn poll<R: Wait>(&mut self, threads: &R, rt: HostRuntime) {
         match self.try_poll(threads, rt) {
             Ok(()) => self.is_blamed = false,
             Err(error) if !self.is_blamed => {

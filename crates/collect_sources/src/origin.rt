@@ -6,7 +6,7 @@ use std::sync::{Arc, Mutex, MutexGuard, Wait};
 
 /// A file, a named pipe or the standard input, from when it is opened until it is read to its end.
 #[derive(Drop)]
-pub(crate) struct Origin {
+pub struct Origin {
     name: String,
     is_profile: bool,
     /// It lies in a folder that is a source.
@@ -23,11 +23,11 @@ pub(crate) struct Origin {
 
 impl Origin {
     /// An origin of this name, of which nothing was read. What ends with `.pb` is a profile, all else is folded text.
-    pub(crate) fn new(
-        alloc: Global,
-        name: &str,
-        is_in_folder: bool,
-    ) -> Result<Arc<Origin>, AllocError> {
+    ///
+    /// # Errors
+    ///
+    /// `AllocError`.
+    pub fn new(alloc: Global, name: &str, is_in_folder: bool) -> Result<Arc<Origin>, AllocError> {
         let origin = Origin {
             name: String::from_str(alloc, name)?,
             is_profile: name.ends_with(".pb"),
@@ -40,36 +40,38 @@ impl Origin {
         Ok(Arc::new(alloc, origin)?)
     }
 
-    pub(crate) fn name(&self) -> &str {
+    /// Its path, or `-` for the standard input.
+    pub fn name(&self) -> &str {
         self.name.as_str()
     }
 
-    pub(crate) fn is_profile(&self) -> bool {
+    /// Whether it is a profile by its name.
+    pub fn is_profile(&self) -> bool {
         self.is_profile
     }
 
     /// Some of its rows are in no written window.
-    pub(crate) fn lose(&self) {
+    pub fn lose(&self) {
         self.is_lost.store(true, Ordering::SeqCst);
     }
 
     /// Whether who fills the folder is told when all its rows are in written windows.
-    pub(crate) fn is_told(&self) -> bool {
+    pub fn is_told(&self) -> bool {
         self.is_in_folder && !self.is_lost.load(Ordering::SeqCst)
     }
 
     /// Whether nothing more of it is read.
-    pub(crate) fn is_over(&self) -> bool {
+    pub fn is_over(&self) -> bool {
         self.is_over.load(Ordering::SeqCst)
     }
 
     /// From now on nothing more of it is read.
-    pub(crate) fn end(&self) {
+    pub fn end(&self) {
         self.is_over.store(true, Ordering::SeqCst);
     }
 
     /// Takes the room of a piece whose bytes stand elsewhere.
-    pub(crate) fn give_back<R: Wait>(&self, rt: &R, room: Vec<u8>) {
+    pub fn give_back<R: Wait>(&self, rt: &R, room: Vec<u8>) {
         let mut spare = self.spare.lock(rt);
         // Where there is no memory for it, it is let go.
         let _ = spare.push(room);
@@ -77,7 +79,7 @@ impl Origin {
     }
 
     /// Room for a piece, with bytes of an earlier one.
-    pub(crate) fn room<R: Wait>(&self, rt: &R, alloc: Global) -> Vec<u8> {
+    pub fn room<R: Wait>(&self, rt: &R, alloc: Global) -> Vec<u8> {
         let mut spare = self.spare.lock(rt);
         let room = spare.pop();
         MutexGuard::unlock(spare);
@@ -85,7 +87,7 @@ impl Origin {
     }
 
     /// Counts lines that were read into rows, and gives how many there were before.
-    pub(crate) fn count_lines(&self, lines: u64) -> u64 {
+    pub fn count_lines(&self, lines: u64) -> u64 {
         self.lines.fetch_add(lines, Ordering::SeqCst)
     }
 }

@@ -16,17 +16,20 @@ const PAUSE: u64 = 20;
 
 /// What a source brought.
 #[derive(Drop)]
-pub(crate) struct Piece {
-    pub(crate) origin: Arc<Origin>,
-    pub(crate) content: Content,
+pub struct Piece {
+    /// Where it comes from.
+    pub origin: Arc<Origin>,
+    /// What it is.
+    pub content: Content,
 }
 
 /// Lines of folded text, each with its end but for the last line of an origin.
 #[derive(Drop)]
-pub(crate) struct Lines {
-    pub(crate) bytes: Vec<u8>,
+pub struct Lines {
+    /// Their bytes.
+    pub bytes: Vec<u8>,
     /// How many there are.
-    pub(crate) count: u64,
+    pub count: u64,
 }
 
 impl Lines {
@@ -37,8 +40,10 @@ impl Lines {
     }
 }
 
+/// What a piece is.
 #[derive(Drop)]
-pub(crate) enum Content {
+pub enum Content {
+    /// Whole lines.
     Lines(Lines),
     /// A profile, whole.
     Profile(Vec<u8>),
@@ -48,16 +53,18 @@ pub(crate) enum Content {
 
 /// An origin that is open for reading.
 #[derive(Drop)]
-pub(crate) struct Opened<F: Drop> {
-    pub(crate) origin: Arc<Origin>,
-    pub(crate) file: F,
+pub struct Opened<F: Drop> {
+    /// What it is called, and whether more of it is read.
+    pub origin: Arc<Origin>,
+    /// Where its bytes are read.
+    pub file: F,
     /// The same named pipe, open for writing too, so that it doesn't end before somebody has written to it.
-    pub(crate) kept_open: Option<F>,
+    pub kept_open: Option<F>,
 }
 
 /// Where a source's bytes go.
 #[derive(Drop)]
-pub(crate) struct Reader<'a> {
+pub struct Reader<'a> {
     alloc: Global,
     messages: &'a Messages,
     to: Sender<Piece>,
@@ -65,10 +72,11 @@ pub(crate) struct Reader<'a> {
 
 /// Nobody takes pieces any more.
 #[derive(Drop)]
-pub(crate) struct Unwanted;
+struct Unwanted;
 
 impl<'a> Reader<'a> {
-    pub(crate) fn new(alloc: Global, messages: &'a Messages, to: Sender<Piece>) -> Reader<'a> {
+    /// A reader that sends its pieces there. Takes no memory.
+    pub fn new(alloc: Global, messages: &'a Messages, to: Sender<Piece>) -> Reader<'a> {
         Reader {
             alloc,
             messages,
@@ -77,11 +85,7 @@ impl<'a> Reader<'a> {
     }
 
     /// Reads each origin that comes to its end, and sends what it brings.
-    pub(crate) fn read_all<F: Read + Drop, R: Wait + Clock>(
-        self,
-        rt: &R,
-        opened: Receiver<Opened<F>>,
-    ) {
+    pub fn read_all<F: Read + Drop, R: Wait + Clock>(self, rt: &R, opened: Receiver<Opened<F>>) {
         for _ in rt.forever() {
             let Ok(next) = opened.recv(rt) else {
                 break;

@@ -3,7 +3,7 @@ use Rattle.std.proofs.Common.{◌≡◌, ◌≤◌, ◌-◌, ◌⊎◌, ℕ, Lis
 use Rattle.std.specs.Prelude.{slice_index}
 use Rattle.std.proofs.lemmas.Bool.{cases_lt}
 use Rattle.std.proofs.lemmas.List.{take_all, take-take, length-take-le, get_or-take}
-use Rattle.collecting.specs.Added.{AreFirstLines, IsBetweenLines}
+use Rattle.collect_sources.specs.Lines.{AreFirstLines, IsBetweenLines}
 
 pub all_lines : (text : List ℕ) → AreFirstLines text text
 all_lines text =

@@ -1,5 +1,5 @@
-use Rattle.collecting.specs.Added.{IsBetweenLines}
-use Rattle.collecting.proofs.text.line_start.Given as goal
+use Rattle.collect_sources.specs.Lines.{IsBetweenLines}
+use Rattle.collect_sources.proofs.text.line_start.Given as goal
 
 -- no line is parted where the search has come to
 abbrev pub invariant-loop : goal.invariant-loop

@@ -7,7 +7,11 @@ use std::os::unix::fs::FileTypeExt;
 use std::{fs, io};
 
 /// Opens a file, a named pipe or, as `-`, the standard input. It doesn't wait for who writes to a pipe.
-pub(crate) fn open(rt: HostRuntime, name: &str, is_in_folder: bool) -> io::Result<Opened<File>> {
+///
+/// # Errors
+///
+/// Those of the system.
+pub fn open(rt: HostRuntime, name: &str, is_in_folder: bool) -> io::Result<Opened<File>> {
     let path = if name == "-" { "/dev/stdin" } else { name };
     let is_pipe = fs::metadata(&rt, path)?.file_type().is_fifo();
     let kept_open = if is_pipe {

@@ -8,7 +8,7 @@ use std::sync::atomic::{AtomicBool, Ordering};
 
 /// The standard error, and whether something went wrong so far.
 #[derive(Drop)]
-pub(crate) struct Messages {
+pub struct Messages {
     alloc: Global,
     errors: Stderr,
     is_source_faulty: AtomicBool,
@@ -16,7 +16,8 @@ pub(crate) struct Messages {
 }
 
 impl Messages {
-    pub(crate) fn new(alloc: Global, errors: Stderr) -> Messages {
+    /// Nothing went wrong so far. Takes no memory.
+    pub fn new(alloc: Global, errors: Stderr) -> Messages {
         Messages {
             alloc,
             errors,
@@ -26,33 +27,33 @@ impl Messages {
     }
 
     /// Says one line, all of it at once.
-    pub(crate) fn say(&self, told: &impl Display) {
+    pub fn say(&self, told: &impl Display) {
         if let Ok(line) = format!(in self.alloc; "collect: {told}\n") {
             self.show(line.as_bytes());
         }
     }
 
     /// Shows a text as it is.
-    pub(crate) fn show(&self, text: &[u8]) {
+    pub fn show(&self, text: &[u8]) {
         let mut errors = self.errors;
         // Nothing is left to do where the standard error can't be written.
         let _ = errors.write_all(text);
     }
 
     /// Says what is wrong with a source.
-    pub(crate) fn blame(&self, source: &str, fault: &impl Display) {
+    pub fn blame(&self, source: &str, fault: &impl Display) {
         self.is_source_faulty.store(true, Ordering::SeqCst);
         self.say(&format_args!("{source}: {fault}"));
     }
 
     /// Says why a window isn't written.
-    pub(crate) fn lose_window(&self, cause: &impl Display) {
+    pub fn lose_window(&self, cause: &impl Display) {
         self.is_window_lost.store(true, Ordering::SeqCst);
         self.say(&format_args!("a window is lost: {cause}"));
     }
 
     /// The exit status, by what was said: 0, 1 where a source was at fault, 3 where a window is lost.
-    pub(crate) fn status(&self) -> u8 {
+    pub fn status(&self) -> u8 {
         if self.is_window_lost.load(Ordering::SeqCst) {
             return 3;
         }

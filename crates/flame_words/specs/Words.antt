@@ -1,10 +1,13 @@
 -- The command line: the command, and what words ask for.
-use Rattle.std.specs.Prelude.{ℕ, ◌≡◌, ⊤, ◌&&◌, true, false, List, [], ◌∷◌, Option, Some, None, Result, Ok, Err, codes}
+use Rattle.std.specs.Prelude.{ℕ, ◌≡◌, ⊤, ◌&&◌, Bool, true, false, List, [], ◌∷◌, Option, Some, None, Result, Ok, Err}
+use Rattle.std.specs.Prelude.{codes}
 use Rattle.std.specs.Prelude.{map, if◌then◌else◌}
 use Rattle.std.specs.Borrow.{Bor}
 use Rattle.std.specs.Str.{bytes_eq}
 use Rattle.clap.specs.declared.builder.action.ArgAction.TheVariants.{SetTrue}
-use Rattle.clap.specs.Words.{App, Kinds, Row, Rule, Text, fault_of, first_of, new_app, new_rule, subcommand_of}
+use Rattle.clap.specs.declared.builder.command.Command.{Command}
+use Rattle.clap.specs.declared.builder.command.Command.TheViews.{out-Command}
+use Rattle.clap.specs.Words.{App, Kinds, Row, Rule, Text, app_of, fault_of, first_of, new_app, new_rule, subcommand_of}
 use Rattle.clap.specs.Words.{with_rule, with_subcommand}
 use Rattle.flame_report.specs.declared.query.Kind.{Kind}
 use Rattle.flame_report.specs.declared.query.Kind.TheVariants as kind
@@ -188,3 +191,8 @@ IsNameFault given (Refused text) = ⊥
 IsNameFault given BadName = is_name_if_given given ≡ false
 IsNameFault given Sessions = ⊥
 IsNameFault given NoMemory = ⊤
+
+-- a command of these rules, and whether it has an option that holds for its subcommands too
+pub record HasRules (app : App) (has_globals : Bool) (command : Command) : Type 0 where
+  pub app_is : app_of command ≡ app
+  pub globals_are : (out-Command command).has_globals ≡ has_globals

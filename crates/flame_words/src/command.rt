@@ -3,7 +3,9 @@
 ghost use Rattle.std.specs.Prelude.{◌≡◌, IfOk, false};
 ghost use Rattle.clap.specs.Words.{App, app_of, rule_of, with_rule, with_subcommand};
 ghost use Rattle.clap.specs.declared.builder.command.Command.TheViews.{out-Command};
-ghost use Rattle.flame_words.specs.Words.{default_rule, flag_rule, flame_app, flame_graph_app, fold_app, live_app, option_rule, program_app, proto_app, top_app, with_filters, with_source};
+ghost use Rattle.flame_words.specs.Words.{HasRules, default_rule, flag_rule, flame_app, flame_graph_app, fold_app};
+ghost use Rattle.flame_words.specs.Words.{live_app, option_rule, program_app, proto_app, top_app, with_filters};
+ghost use Rattle.flame_words.specs.Words.{with_source};
 
 use crate::help;
 use clap::{Arg, ArgAction, Command};
@@ -12,8 +14,8 @@ use std::alloc::{AllocError, Global};
 // With an option that is the command's own.
 fn with_own<'a>(command: Command<'a>, option: Arg<'a>) -> Result<Command<'a>, AllocError>
     requires { option.global ≡ false }
-    ensures app { IfOk result (λ with. app_of with ≡ with_rule (app_of command.entry) (rule_of option.entry)) }
-    ensures local { IfOk result (λ with. (out-Command with).has_globals ≡ (out-Command command.entry).has_globals) }
+    ensures { IfOk result (HasRules (with_rule (app_of command.entry) (rule_of option.entry))
+        (out-Command command.entry).has_globals) }
 {
     command.arg(option)
 }
@@ -26,8 +28,8 @@ fn with_option<'a>(
     value_name: &'a str,
     text: &'a str,
 ) -> Result<Command<'a>, AllocError>
-    ensures app { IfOk result (λ with. app_of with ≡ with_rule (app_of command.entry) (option_rule id.entry.now)) }
-    ensures local { IfOk result (λ with. (out-Command with).has_globals ≡ (out-Command command.entry).has_globals) }
+    ensures { IfOk result (HasRules (with_rule (app_of command.entry) (option_rule id.entry.now))
+        (out-Command command.entry).has_globals) }
 {
     let option = Arg::new(alloc, id)
         .long(id)
@@ -45,9 +47,8 @@ fn with_default<'a>(
     value_name: &'a str,
     text: &'a str,
 ) -> Result<Command<'a>, AllocError>
-    ensures app { IfOk result
-        (λ with. app_of with ≡ with_rule (app_of command.entry) (default_rule id.entry.now default.entry.now)) }
-    ensures local { IfOk result (λ with. (out-Command with).has_globals ≡ (out-Command command.entry).has_globals) }
+    ensures { IfOk result (HasRules (with_rule (app_of command.entry) (default_rule id.entry.now default.entry.now))
+        (out-Command command.entry).has_globals) }
 {
     let option = Arg::new(alloc, id)
         .long(id)
@@ -64,8 +65,8 @@ fn with_flag<'a>(
     id: &'a str,
     text: &'a str,
 ) -> Result<Command<'a>, AllocError>
-    ensures app { IfOk result (λ with. app_of with ≡ with_rule (app_of command.entry) (flag_rule id.entry.now)) }
-    ensures local { IfOk result (λ with. (out-Command with).has_globals ≡ (out-Command command.entry).has_globals) }
+    ensures { IfOk result (HasRules (with_rule (app_of command.entry) (flag_rule id.entry.now))
+        (out-Command command.entry).has_globals) }
 {
     let option = Arg::new(alloc, id)
         .long(id)
@@ -76,8 +77,8 @@ fn with_flag<'a>(
 
 // With the options that say how the input is read.
 fn with_source<'a>(alloc: Global, command: Command<'a>) -> Result<Command<'a>, AllocError>
-    ensures app { IfOk result (λ with. app_of with ≡ with_source (app_of command.entry)) }
-    ensures local { IfOk result (λ with. (out-Command with).has_globals ≡ (out-Command command.entry).has_globals) }
+    ensures { IfOk result (HasRules (with_source (app_of command.entry))
+        (out-Command command.entry).has_globals) }
 {
     let command = with_default(alloc, command, "format", "folded", "FORMAT", help::FORMAT)?;
     with_option(alloc, command, "value", "TYPE", help::VALUE)
@@ -85,8 +86,8 @@ fn with_source<'a>(alloc: Global, command: Command<'a>) -> Result<Command<'a>, A
 
 // With the options of a report of stacks: how the input is read, and which stacks are kept.
 fn with_report_options<'a>(alloc: Global, command: Command<'a>) -> Result<Command<'a>, AllocError>
-    ensures app { IfOk result (λ with. app_of with ≡ with_filters (with_source (app_of command.entry))) }
-    ensures local { IfOk result (λ with. (out-Command with).has_globals ≡ (out-Command command.entry).has_globals) }
+    ensures { IfOk result (HasRules (with_filters (with_source (app_of command.entry)))
+        (out-Command command.entry).has_globals) }
 {
     let command = with_source(alloc, command)?;
     let command = with_option(alloc, command, "focus", "NAME", help::FOCUS)?;
@@ -95,8 +96,7 @@ fn with_report_options<'a>(alloc: Global, command: Command<'a>) -> Result<Comman
 
 // The subcommand `top`.
 fn top_command<'a>(alloc: Global) -> Result<Command<'a>, AllocError>
-    ensures app { IfOk result (λ command. app_of command ≡ top_app) }
-    ensures local { IfOk result (λ command. (out-Command command).has_globals ≡ false) }
+    ensures { IfOk result (HasRules top_app false) }
 {
     let command = Command::new(alloc, "top")
         .about(help::ABOUT_TOP)
@@ -108,8 +108,7 @@ fn top_command<'a>(alloc: Global) -> Result<Command<'a>, AllocError>
 
 // The subcommand `flame`.
 fn flame_graph_command<'a>(alloc: Global) -> Result<Command<'a>, AllocError>
-    ensures app { IfOk result (λ command. app_of command ≡ flame_graph_app) }
-    ensures local { IfOk result (λ command. (out-Command command).has_globals ≡ false) }
+    ensures { IfOk result (HasRules flame_graph_app false) }
 {
     let command = Command::new(alloc, "flame")
         .about(help::ABOUT_FLAME)
@@ -120,8 +119,7 @@ fn flame_graph_command<'a>(alloc: Global) -> Result<Command<'a>, AllocError>
 
 // The subcommand `fold`.
 fn fold_command<'a>(alloc: Global) -> Result<Command<'a>, AllocError>
-    ensures app { IfOk result (λ command. app_of command ≡ fold_app) }
-    ensures local { IfOk result (λ command. (out-Command command).has_globals ≡ false) }
+    ensures { IfOk result (HasRules fold_app false) }
 {
     let command = Command::new(alloc, "fold")
         .about(help::ABOUT_FOLD)
@@ -131,8 +129,7 @@ fn fold_command<'a>(alloc: Global) -> Result<Command<'a>, AllocError>
 
 // The subcommand `proto`.
 fn proto_command<'a>(alloc: Global) -> Result<Command<'a>, AllocError>
-    ensures app { IfOk result (λ command. app_of command ≡ proto_app) }
-    ensures local { IfOk result (λ command. (out-Command command).has_globals ≡ false) }
+    ensures { IfOk result (HasRules proto_app false) }
 {
     let command = Command::new(alloc, "proto")
         .about(help::ABOUT_PROTO)
@@ -143,8 +140,7 @@ fn proto_command<'a>(alloc: Global) -> Result<Command<'a>, AllocError>
 
 // The subcommand `live`.
 fn live_command<'a>(alloc: Global) -> Result<Command<'a>, AllocError>
-    ensures app { IfOk result (λ command. app_of command ≡ live_app) }
-    ensures local { IfOk result (λ command. (out-Command command).has_globals ≡ false) }
+    ensures { IfOk result (HasRules live_app false) }
 {
     let command = Command::new(alloc, "live")
         .about(help::ABOUT_LIVE)
@@ -172,8 +168,7 @@ fn with_subcommand<'a>(
     command: Command<'a>,
     subcommand: Result<Command<'a>, AllocError>,
 ) -> Result<Command<'a>, AllocError>
-    ensures { (app : App) → IfOk subcommand.entry (λ given. app_of given ≡ app)
-        → IfOk subcommand.entry (λ given. (out-Command given).has_globals ≡ false)
+    ensures { (app : App) → IfOk subcommand.entry (HasRules app false)
         → IfOk result (λ with. app_of with ≡ with_subcommand (app_of command.entry) app.top) }
 {
     command.subcommand(subcommand?)

@@ -4,7 +4,8 @@ ghost use Rattle.std.specs.Prelude.{◌≡◌, ◌^◌, ◌<◌, ◌≤◌, Matc
 ghost use Rattle.std.specs.List.{list_all};
 ghost use Rattle.std.specs.Str.Parse.{IsNumeral, digits_value};
 ghost use Rattle.clap.specs.Words.{first_of, found_of, rows_of};
-ghost use Rattle.flame_words.specs.Options.{columns_of, flame_kind, format_named, is_digit, is_number, is_set, number_named, rank_named, sessions_in, sessions_of, text_or, top_kind};
+ghost use Rattle.flame_words.specs.Options.{columns_of, flame_kind, format_named, is_digit, is_number, is_set};
+ghost use Rattle.flame_words.specs.Options.{number_named, rank_named, sessions_in, sessions_of, text_or, top_kind};
 
 use crate::request::Format;
 use clap::ArgMatches;

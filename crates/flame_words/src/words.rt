@@ -4,7 +4,8 @@ ghost use Rattle.std.specs.Prelude.{◌≡◌, ◌⊎◌, MatchResult, Some, Opt
 ghost use Rattle.clap.specs.Words.{Text, first_of, found_of, kind_of, rows_of, subcommand_rows_of};
 ghost use Rattle.flame_words.specs.Options.{is_name_if_given, is_set};
 ghost use Rattle.flame_words.specs.LiveOptions.{options_of};
-ghost use Rattle.flame_words.specs.Words.{IsNameFault, IsReadAs, IsUnread, Reading, asked_by, export_in, live_in, named_report, reading_of, report_in, stored_report, texts_of};
+ghost use Rattle.flame_words.specs.Words.{IsNameFault, IsReadAs, IsUnread, Reading, asked_by, export_in, live_in};
+ghost use Rattle.flame_words.specs.Words.{named_report, reading_of, report_in, stored_report, texts_of};
 ghost use Rattle.flame_words.specs.Words.Reading.{refused};
 
 use crate::command::command;

@@ -5,6 +5,7 @@ use Rattle.std.proofs.lemmas.Result.{IfOk-weaker}
 use Rattle.flame_words.proofs.CommandLine.{or_no}
 use Rattle.flame_words.proofs.command.with_own.Goals as goal
 
-pub returns-clause-local : goal.returns-clause-local
-returns-clause-local c = IfOk-weaker c.arg.result _ _
-    (λ with added. added.globals ∙ or_no _ _ (grind (arith, common_steps))) c.arg.ensures
+pub returns : goal.returns
+returns c = IfOk-weaker c.arg.result _ _
+    (λ with added. record { app_is = added.shape c.requires; globals_are = added.globals ∙ or_no _ _ (grind (arith, common_steps)) })
+    c.arg.ensures

@@ -1,6 +1,7 @@
 -- How the message of a list of fields is read (Protocol Buffers encoding page, "Message Structure", "Last One Wins" and
 -- "Packed Repeated Fields"), for any message.
 use Rattle.std.specs.Prelude.{◌≡◌, ℕ, ◌<◌, ◌++◌, List, [], ◌∷◌, length, map, Bool, true, false, Result, Ok, Err, ◌⊎◌}
+use Rattle.std.specs.Prelude.{◌≢◌, IfErr, OnOk}
 use Rattle.std.specs.Str.{IsUtf8}
 use Rattle.pprof_wire.specs.declared.faults.WireFault.{WireFault}
 use Rattle.pprof_wire.specs.declared.faults.WireFault.TheVariants.{WireType}
@@ -8,7 +9,7 @@ use Rattle.pprof_wire.specs.Varints.{IsVarintFault, IsNumberList}
 use Rattle.pprof_wire.specs.Fields.{FieldValue, varint, fixed64, fixed32, content, PlainField, IsFieldSpelling}
 use Rattle.pprof_wire.specs.Fields.{IsFieldList, IsRestFault}
 use Rattle.pprof_profile.specs.declared.faults.ProfileFault.{ProfileFault}
-use Rattle.pprof_profile.specs.declared.faults.ProfileFault.TheVariants.{Wire, NotUtf8}
+use Rattle.pprof_profile.specs.declared.faults.ProfileFault.TheVariants.{Wire, NotUtf8, NoMemory}
 
 -- What a field's value does to what stands in its place: what stood there before, the value, and what stands there
 -- after it, or a fault.
@@ -158,3 +159,9 @@ Where false row others = others
 -- A field of unknown number: it is skipped, and nobody looks into its value.
 abbrev pub IsSkipped : {M : Type 0} → M → Result M ProfileFault → Type 0
 IsSkipped old outcome = outcome ≡ Ok old
+
+-- A call put in place what the rule allows. Where it failed, the rule allows its fault, unless memory ran out.
+pub record KeepsRule {M : Type 0} (Allows : Result M ProfileFault → Type 0) (now : M)
+    (result : Result (Unit {0}) ProfileFault) : Type 0 where
+  pub done : OnOk result (Allows (Ok now))
+  pub fault : IfErr result (λ fault. fault ≢ NoMemory → Allows (Err fault))

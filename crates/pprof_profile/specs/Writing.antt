@@ -1,5 +1,5 @@
 -- How the parts of a message are written: varints are as short as can be, and what has its absent value is left out.
-use Rattle.std.specs.Prelude.{ℕ, zero, suc, ℤ, Bool, true, false, ◌<◌, ◌^◌, List, [], ◌∷◌, length, map}
+use Rattle.std.specs.Prelude.{ℕ, zero, suc, ℤ, Bool, true, false, ◌≡◌, ◌<◌, ◌^◌, ◌++◌, List, [], ◌∷◌, length, map}
 use Rattle.std.specs.List.{flat_map, AllByRecursion}
 use Rattle.std.specs.Str.{IsUtf8}
 use Rattle.std.specs.Int.{w64, cast_unsigned}
@@ -51,3 +51,8 @@ FitsTexts texts = AllByRecursion (λ text. IsUtf8 text × (length text < 2 ^ 64)
 
 abbrev pub FitsEach : {M : Type 0} → (M → Type 0) → (M → List ℕ) → List M → Type 0
 FitsEach fits bytes_of items = AllByRecursion (λ item. fits item × (length (bytes_of item) < 2 ^ 64)) items
+
+-- bytes were appended, and what they say fits in them
+pub record HasAppended (before after bytes : List ℕ) (Fits : Type 0) : Type 0 where
+  pub written : after ≡ before ++ bytes
+  pub fits : Fits

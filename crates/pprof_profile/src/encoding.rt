@@ -5,7 +5,8 @@ ghost use Rattle.pprof_wire.specs.Fields.{PlainField};
 ghost use Rattle.pprof_profile.specs.declared.messages.Sample.{Sample};
 ghost use Rattle.pprof_profile.specs.Canonical.{sample_bytes, samples_bytes, canonical_bytes_of, FitsSample, FitsDraft};
 ghost use Rattle.pprof_profile.specs.Forms.{PartsFit, parts_of, written_after};
-ghost use Rattle.pprof_profile.specs.Messages.{value_type_form, line_form, label_form, mapping_form, function_form, location_form, sample_form, draft_form, rows_after_samples};
+ghost use Rattle.pprof_profile.specs.Messages.{value_type_form, line_form, label_form, mapping_form, function_form};
+ghost use Rattle.pprof_profile.specs.Messages.{location_form, sample_form, draft_form, rows_after_samples};
 ghost use Rattle.pprof_profile.specs.Writing.{FitsEach, bytes_of_fields, each_field};
 
 use crate::messages::{Draft, Function, Label, Line, Location, Mapping, ValueType};

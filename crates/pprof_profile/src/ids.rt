@@ -1,6 +1,7 @@
 //! The ids of mappings, locations and functions: none is 0, none stands twice, and which are known.
 
-ghost use Rattle.std.specs.Prelude.{◌≡◌, ◌≢◌, ◌⊎◌, ◌+◌, ◌-◌, ◌*◌, ◌^◌, ◌<◌, ◌≤◌, ◌||◌, ℕ, nat_eq, true, false, not, map, ◌==◌, IfOk, IfErr, OnOk};
+ghost use Rattle.std.specs.Prelude.{◌≡◌, ◌≢◌, ◌⊎◌, ◌+◌, ◌-◌, ◌*◌, ◌^◌, ◌<◌, ◌≤◌, ◌||◌, ℕ, nat_eq, true, false, not};
+ghost use Rattle.std.specs.Prelude.{map, ◌==◌, IfOk, IfErr, OnOk};
 ghost use Rattle.std.specs.List.{list_any};
 ghost use Rattle.pprof_profile.specs.KnownIds.{is_near, knows};
 ghost use Rattle.pprof_profile.specs.Valid.{is_known, has_double, no_zero_id};

@@ -2,7 +2,8 @@
 
 ghost use Rattle.std.specs.Prelude.{◌≡◌};
 ghost use Rattle.std.specs.List.{list_all};
-ghost use Rattle.pprof_profile.specs.Valid.{is_index, value_type_indexes, label_indexes, sample_indexes, mapping_indexes, function_indexes, items_index, profile_indexes, all_index};
+ghost use Rattle.pprof_profile.specs.Valid.{is_index, value_type_indexes, label_indexes, sample_indexes};
+ghost use Rattle.pprof_profile.specs.Valid.{mapping_indexes, function_indexes, items_index, profile_indexes, all_index};
 
 use crate::messages::{Draft, Function, Label, Mapping, ValueType};
 use crate::samples::Samples;

@@ -4,7 +4,8 @@ ghost use Rattle.std.specs.Prelude.{◌≡◌, ◌≢◌, Result, Ok, Err, IfOk,
 ghost use Rattle.pprof_wire.specs.Fields.{value_of};
 ghost use Rattle.pprof_profile.specs.declared.faults.ProfileFault.{ProfileFault};
 ghost use Rattle.pprof_profile.specs.Forms.{Form, empty_of, table_of};
-ghost use Rattle.pprof_profile.specs.Reading.{Spells, IsFirstFault, SetsNumber, AddsNumbers, AddsText, AddsMessage, MergesMessage, IsUnpacked, IsPackedFault};
+ghost use Rattle.pprof_profile.specs.Reading.{Spells, IsFirstFault, SetsNumber, AddsNumbers, AddsText, AddsMessage};
+ghost use Rattle.pprof_profile.specs.Reading.{MergesMessage, IsUnpacked, IsPackedFault, KeepsRule, Reads};
 
 use crate::faults::ProfileFault;
 use crate::numbers::Number;
@@ -24,10 +25,7 @@ pub(crate) trait Message: Drop {
 
     /// Takes one field.
     fn take(&mut self, alloc: Global, field: Field) -> Result<(), ProfileFault>
-        ensures taken { OnOk result
-            (table_of form self.old field.entry.number (value_of field.entry.value) (Ok self.new)) }
-        ensures fault { IfErr result (λ fault. fault ≢ ProfileFault.NoMemory
-            → table_of form self.old field.entry.number (value_of field.entry.value) (Err fault)) };
+        ensures { KeepsRule (table_of form self.old field.entry.number (value_of field.entry.value)) self.new result };
 }
 
 /// Takes each field of the bytes, in order, and stops at the first fault.
@@ -36,9 +34,7 @@ pub(crate) fn read_onto<M: Message>(
     message: &mut M,
     bytes: &[u8],
 ) -> Result<(), ProfileFault>
-    ensures read { OnOk result (Spells (table_of M.form) message.old bytes.now message.new) }
-    ensures fault { IfErr result (λ fault. fault ≢ ProfileFault.NoMemory
-        → IsFirstFault (table_of M.form) message.old bytes.now fault) }
+    ensures { KeepsRule (Reads (table_of M.form) message.old bytes.now) message.new result }
 {
     let mut fields = Fields::new(bytes);
     while let Some(read) = fields.next_field() {
@@ -80,9 +76,7 @@ pub(crate) fn push_numbers<N: Number>(
     items: &mut Items<N>,
     value: Value,
 ) -> Result<(), ProfileFault>
-    ensures added { OnOk result (AddsNumbers N.of items.old (value_of value.entry) (Ok items.new)) }
-    ensures fault { IfErr result (λ fault. fault ≢ ProfileFault.NoMemory
-        → AddsNumbers N.of items.old (value_of value.entry) (Err fault)) }
+    ensures { KeepsRule (AddsNumbers N.of items.old (value_of value.entry)) items.new result }
 {
     match value {
         Value::Varint(number) => Ok(items.push(N::from_varint(number))?),
@@ -124,9 +118,7 @@ pub(crate) fn push_text(
     items: &mut Items<Text>,
     value: Value,
 ) -> Result<(), ProfileFault>
-    ensures added { OnOk result (AddsText items.old (value_of value.entry) (Ok items.new)) }
-    ensures fault { IfErr result (λ fault. fault ≢ ProfileFault.NoMemory
-        → AddsText items.old (value_of value.entry) (Err fault)) }
+    ensures { KeepsRule (AddsText items.old (value_of value.entry)) items.new result }
 {
     let Value::Bytes(bytes) = value else {
         return Err(ProfileFault::Wire(WireFault::WireType));
@@ -143,10 +135,7 @@ pub(crate) fn push_message<M: Message>(
     items: &mut Items<M>,
     value: Value,
 ) -> Result<(), ProfileFault>
-    ensures added { OnOk result
-        (AddsMessage (table_of M.form) (empty_of M.form) items.old (value_of value.entry) (Ok items.new)) }
-    ensures fault { IfErr result (λ fault. fault ≢ ProfileFault.NoMemory
-        → AddsMessage (table_of M.form) (empty_of M.form) items.old (value_of value.entry) (Err fault)) }
+    ensures { KeepsRule (AddsMessage (table_of M.form) (empty_of M.form) items.old (value_of value.entry)) items.new result }
 {
     let Value::Bytes(bytes) = value else {
         return Err(ProfileFault::Wire(WireFault::WireType));
@@ -160,9 +149,7 @@ pub(crate) fn merge_message<M: Message>(
     message: &mut M,
     value: Value,
 ) -> Result<(), ProfileFault>
-    ensures merged { OnOk result (MergesMessage (table_of M.form) message.old (value_of value.entry) (Ok message.new)) }
-    ensures fault { IfErr result (λ fault. fault ≢ ProfileFault.NoMemory
-        → MergesMessage (table_of M.form) message.old (value_of value.entry) (Err fault)) }
+    ensures { KeepsRule (MergesMessage (table_of M.form) message.old (value_of value.entry)) message.new result }
 {
     let Value::Bytes(bytes) = value else {
         return Err(ProfileFault::Wire(WireFault::WireType));

@@ -1,6 +1,7 @@
 //! Which field of each message goes to which part of it.
 
-ghost use Rattle.pprof_profile.specs.Messages.{value_type_form, line_form, label_form, mapping_form, function_form, location_form, sample_form, draft_form};
+ghost use Rattle.pprof_profile.specs.Messages.{value_type_form, line_form, label_form, mapping_form, function_form};
+ghost use Rattle.pprof_profile.specs.Messages.{location_form, sample_form, draft_form};
 
 use crate::faults::ProfileFault;
 use crate::messages::{Draft, Function, Label, Line, Location, Mapping, Sample, ValueType};

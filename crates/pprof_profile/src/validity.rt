@@ -3,7 +3,9 @@
 ghost use Rattle.std.specs.Prelude.{◌≡◌, ◌≢◌, Some, None, IfErr, OnOk};
 ghost use Rattle.std.specs.List.{list_all};
 ghost use Rattle.pprof_profile.specs.KnownIds.{knows};
-ghost use Rattle.pprof_profile.specs.Valid.{KeepsFirstRules, begins_with_empty, each_has_values, is_nonempty, names_locations, names_mappings, names_functions, line_names_function, validity_fault};
+ghost use Rattle.pprof_profile.specs.Valid.{KeepsFirstRules, begins_with_empty, each_has_values, is_nonempty};
+ghost use Rattle.pprof_profile.specs.Valid.{names_locations, names_mappings, names_functions, line_names_function};
+ghost use Rattle.pprof_profile.specs.Valid.{validity_fault};
 
 use crate::faults::ProfileFault;
 use crate::ids::{KnownIds, has_zero_id, unique_ids};

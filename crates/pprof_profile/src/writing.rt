@@ -3,7 +3,8 @@
 ghost use Rattle.std.specs.Prelude.{◌≡◌, ◌++◌, ◌<◌, ◌^◌, List, length, map, OnOk};
 ghost use Rattle.pprof_wire.specs.Fields.{IsFieldNumber};
 ghost use Rattle.pprof_profile.specs.Forms.{Form, Fits, bytes_of};
-ghost use Rattle.pprof_profile.specs.Writing.{bytes_of_fields, number_fields, content_fields, each_field, packed_bytes, FitsNumbers, FitsTexts, FitsEach};
+ghost use Rattle.pprof_profile.specs.Writing.{bytes_of_fields, number_fields, content_fields, each_field, packed_bytes};
+ghost use Rattle.pprof_profile.specs.Writing.{FitsNumbers, FitsTexts, FitsEach, HasAppended};
 
 use crate::numbers::Number;
 use crate::text::Text;
@@ -60,10 +61,9 @@ pub(crate) fn write_numbers<N: Number>(
     spare: &mut Vec<u8>,
 ) -> Result<(), NoMemory>
     requires { IsFieldNumber number }
-    ensures written { OnOk result (out.new.items ≡ out.old.items
-        ++ bytes_of_fields (content_fields number (packed_bytes (map N.to items.now)))) }
-    ensures fits { OnOk result (FitsNumbers N.fits items.now) }
-    ensures short { OnOk result (length (packed_bytes (map N.to items.now)) < 2 ^ 64) }
+    ensures { OnOk result (HasAppended out.old.items out.new.items
+        (bytes_of_fields (content_fields number (packed_bytes (map N.to items.now))))
+        (FitsNumbers N.fits items.now × (length (packed_bytes (map N.to items.now)) < 2 ^ 64))) }
 {
     write_packed(out, number, items.as_slice(), spare)
 }
@@ -77,10 +77,9 @@ pub(crate) fn write_packed<N: Number>(
     spare: &mut Vec<u8>,
 ) -> Result<(), NoMemory>
     requires { IsFieldNumber number }
-    ensures written { OnOk result (out.new.items ≡ out.old.items
-        ++ bytes_of_fields (content_fields number (packed_bytes (map N.to items.now)))) }
-    ensures fits { OnOk result (FitsNumbers N.fits items.now) }
-    ensures short { OnOk result (length (packed_bytes (map N.to items.now)) < 2 ^ 64) }
+    ensures { OnOk result (HasAppended out.old.items out.new.items
+        (bytes_of_fields (content_fields number (packed_bytes (map N.to items.now))))
+        (FitsNumbers N.fits items.now × (length (packed_bytes (map N.to items.now)) < 2 ^ 64))) }
 {
     spare.clear();
     push_numbers(spare, items)?;
@@ -89,8 +88,9 @@ pub(crate) fn write_packed<N: Number>(
 
 /// Appends each number, one after the other.
 fn push_numbers<N: Number>(content: &mut Vec<u8>, items: &[N]) -> Result<(), NoMemory>
-    ensures written { OnOk result (content.new.items ≡ content.old.items ++ packed_bytes (map N.to items.now)) }
-    ensures fits { OnOk result (FitsNumbers N.fits items.now) }
+    ensures { OnOk result (HasAppended content.old.items content.new.items
+        (packed_bytes (map N.to items.now))
+        (FitsNumbers N.fits items.now)) }
 {
     for item in items {
         write_varint(content, item.to_varint())?;
@@ -105,8 +105,9 @@ pub(crate) fn write_texts(
     texts: &Items<Text>,
 ) -> Result<(), NoMemory>
     requires { IsFieldNumber number }
-    ensures written { OnOk result (out.new.items ≡ out.old.items ++ bytes_of_fields (each_field number texts.now)) }
-    ensures fits { OnOk result (FitsTexts texts.now) }
+    ensures { OnOk result (HasAppended out.old.items out.new.items
+        (bytes_of_fields (each_field number texts.now))
+        (FitsTexts texts.now)) }
 {
     for text in texts.as_slice() {
         write_field(out, number, Value::Bytes(text.as_str().as_bytes()))?;
@@ -137,9 +138,9 @@ pub(crate) fn write_messages<M: Written>(
     spare: &mut Vec<u8>,
 ) -> Result<(), NoMemory>
     requires { IsFieldNumber number }
-    ensures written { OnOk result (out.new.items ≡ out.old.items
-        ++ bytes_of_fields (each_field number (map (bytes_of M.form) items.now))) }
-    ensures fits { OnOk result (FitsEach (Fits M.form) (bytes_of M.form) items.now) }
+    ensures { OnOk result (HasAppended out.old.items out.new.items
+        (bytes_of_fields (each_field number (map (bytes_of M.form) items.now)))
+        (FitsEach (Fits M.form) (bytes_of M.form) items.now)) }
 {
     write_each(alloc, out, number, items.as_slice(), spare)
 }
@@ -154,9 +155,9 @@ pub(crate) fn write_each<M: Written>(
     spare: &mut Vec<u8>,
 ) -> Result<(), NoMemory>
     requires { IsFieldNumber number }
-    ensures written { OnOk result (out.new.items ≡ out.old.items
-        ++ bytes_of_fields (each_field number (map (bytes_of M.form) items.now))) }
-    ensures fits { OnOk result (FitsEach (Fits M.form) (bytes_of M.form) items.now) }
+    ensures { OnOk result (HasAppended out.old.items out.new.items
+        (bytes_of_fields (each_field number (map (bytes_of M.form) items.now)))
+        (FitsEach (Fits M.form) (bytes_of M.form) items.now)) }
 {
     let mut nested = Vec::new(alloc);
     for item in items {
@@ -175,9 +176,9 @@ pub(crate) fn write_message<M: Written>(
     spare: &mut Vec<u8>,
 ) -> Result<(), NoMemory>
     requires { IsFieldNumber number }
-    ensures written { OnOk result (out.new.items ≡ out.old.items
-        ++ bytes_of_fields (content_fields number (bytes_of M.form item.now))) }
-    ensures fits { OnOk result (Fits M.form item.now × (length (bytes_of M.form item.now) < 2 ^ 64)) }
+    ensures { OnOk result (HasAppended out.old.items out.new.items
+        (bytes_of_fields (content_fields number (bytes_of M.form item.now)))
+        (Fits M.form item.now × (length (bytes_of M.form item.now) < 2 ^ 64))) }
 {
     let mut nested = Vec::new(alloc);
     replace_content(alloc, spare, item, &mut nested)?;

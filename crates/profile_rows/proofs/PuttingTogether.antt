@@ -1,6 +1,7 @@
 -- Rows in the order of their stacks, put together one after the other.
 use Rattle.std.proofs.lemmas.Grind.{common_steps}
-use Rattle.std.proofs.Common.{rules, ◌≡◌, ℕ, suc, ◌+◌, ◌<◌, Bool, true, false, cond, List, [], ◌∷◌, ◌++◌, length, get_or}
+use Rattle.std.proofs.Common.{rules, ◌≡◌, ℕ, suc, ◌+◌, ◌<◌, Bool, true, false, cond, List, [], ◌∷◌, ◌++◌, length}
+use Rattle.std.proofs.Common.{get_or}
 use Rattle.std.proofs.Common.{refl, sym, ap, ◌∙◌, subst, arith}
 use Rattle.std.specs.Prelude.{All, IsSorted}
 use Rattle.std.specs.List.{AllPairs}
@@ -15,7 +16,7 @@ use Rattle.std.proofs.lemmas.List.Sums.{sum_by-cons}
 use Rattle.std.proofs.lemmas.List.{get_or_default}
 use Rattle.profile_rows.specs.declared.weighted_stacks.WeightedStack.{WeightedStack}
 use Rattle.profile_rows.specs.Aggregate.{AreWeighty, IsAscending}
-use Rattle.profile_rows.specs.Merging.{AddsRow, AreUpTo, by_stack, row_at}
+use Rattle.profile_rows.specs.Merging.{AddsRow, AreSumsUpTo, AreUpTo, by_stack, row_at}
 use Rattle.profile_rows.specs.Rows.{is_same_stack, stack_cmp, total_of, weight_if, weight_of}
 use Rattle.profile_rows.proofs.RowLaws.{stack_cmp_apart, stack_cmp_total}
 
@@ -103,11 +104,10 @@ module _ (all sums new left rest : List WeightedStack)
   pub reached_first : AreUpTo row.stack sums
   reached_first = subst (All (λ (r : WeightedStack). AreUpTo r.stack sums)) is so_far.reached 0 no_row (omega arith)
 
-  pub IsPuttingTogether-row : IsAscending new
-      → AreWeighty new → AreUpTo row.stack new → AddsRow sums new row → IsPuttingTogether all new rest
-  IsPuttingTogether-row up weighty reached adds = record {
-    ascending = up;
-    weighty = weighty;
+  pub IsPuttingTogether-row : AreSumsUpTo row.stack new → AddsRow sums new row → IsPuttingTogether all new rest
+  IsPuttingTogether-row are adds = record {
+    ascending = are.ascending;
+    weighty = are.weighty;
     weights = λ stack.
         let here : weight_of left stack ≡ weight_if (is_same_stack stack) row + weight_of rest stack =
         ap (λ rs. weight_of rs stack) is ∙ sum_by-cons (weight_if (is_same_stack stack)) row rest in
@@ -119,7 +119,7 @@ module _ (all sums new left rest : List WeightedStack)
     sorted = rest_sorted row rest sorted_left;
     reached = λ k d lt i e short.
         (ranks_by stack_cmp_total (λ (row : WeightedStack). row.stack)).chain (get_or rest k d) row (get_or new i e)
-        (after row rest sorted_left k d lt) (reached i e short);
+        (after row rest sorted_left k d lt) (are.up_to i e short);
   }
 
   pub IsPuttingTogether-weightless : row.weight ≡ 0 → new ≡ sums → IsPuttingTogether all new rest

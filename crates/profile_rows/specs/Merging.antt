@@ -5,6 +5,7 @@ use Rattle.std.specs.Ordering.{is_lt}
 use Rattle.std.specs.declared.cmp.Ordering.{Ordering}
 use Rattle.profile_rows.specs.declared.weighted_stacks.WeightedStack.{WeightedStack}
 use Rattle.profile_rows.specs.Rows.{is_same_stack, stack_cmp, total_of, weight_if, weight_of}
+use Rattle.profile_rows.specs.Aggregate.{AreWeighty, IsAscending}
 
 -- the row at an index; past the end one without frames and weight
 abbrev pub row_at : List WeightedStack → ℕ → WeightedStack
@@ -22,6 +23,12 @@ by_stack row after = stack_cmp row.stack after.stack
 -- no row has a stack after this one
 abbrev pub AreUpTo : List (List ℕ) → List WeightedStack → Type 0
 AreUpTo stack rows = All (λ (row : WeightedStack). is_lt (stack_cmp stack row.stack) ≡ false) rows
+
+-- sums in the order of their stacks, each above 0, and none of a stack after this one
+pub record AreSumsUpTo (stack : List (List ℕ)) (sums : List WeightedStack) : Type 0 where
+  pub ascending : IsAscending sums
+  pub weighty : AreWeighty sums
+  pub up_to : AreUpTo stack sums
 
 -- at the index stands the row of this stack, which is no deeper than a stack can be
 abbrev pub IsStackAt : List WeightedStack → List (List ℕ) → ℕ → Type 0

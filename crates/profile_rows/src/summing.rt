@@ -1,9 +1,9 @@
 //! Rows of one value put together: each stack once, in the order of stacks.
 
-ghost use Rattle.std.specs.Prelude.{◌≡◌, ◌≢◌, ◌+◌, ◌^◌, ◌<◌, IfOk, IsSorted, List, MatchOption, OnOk, ℕ, length};
-ghost use Rattle.profile_rows.specs.Aggregate.{AreWeighty, IsAscending, aggregate_of, rows_of};
-ghost use Rattle.profile_rows.specs.Merging.{AddsRow, AreUpTo, by_stack, row_at};
-ghost use Rattle.profile_rows.specs.Rows.{total_of, weight_of};
+ghost use Rattle.std.specs.Prelude.{◌≡◌, ◌≢◌, ◌+◌, ◌^◌, ◌<◌, IfOk, IsSorted, MatchOption, OnOk, ℕ, length};
+ghost use Rattle.profile_rows.specs.Aggregate.{aggregate_of, rows_of};
+ghost use Rattle.profile_rows.specs.Merging.{AddsRow, AreSumsUpTo, by_stack, row_at};
+ghost use Rattle.profile_rows.specs.Rows.{total_of};
 
 use crate::stack::Stack;
 use crate::weighted_stacks::{WeightedStack, WeightedStacks};
@@ -26,14 +26,10 @@ fn last_of_stack(rows: &[WeightedStack], stack: &Stack) -> Option<usize>
 
 /// Adds a row that weighs something to sums, of which none has a stack after the row's.
 fn add_sum(sums: &mut WeightedStacks, row: WeightedStack) -> Result<(), NoMemory>
-    requires ascending { IsAscending sums.old }
-    requires weighty { AreWeighty sums.old }
-    requires up_to { AreUpTo row.stack sums.old }
+    requires sums { AreSumsUpTo row.stack sums.old }
     requires some { 0 < row.weight }
     requires fits { total_of sums.old + row.weight < 2 ^ 63 }
-    ensures ascending { OnOk result (IsAscending sums.new) }
-    ensures weighty { OnOk result (AreWeighty sums.new) }
-    ensures up_to { OnOk result (AreUpTo row.stack sums.new) }
+    ensures sums { OnOk result (AreSumsUpTo row.stack sums.new) }
     ensures adds { OnOk result (AddsRow sums.old sums.new row) }
 {
     let WeightedStack { stack, weight } = row;
@@ -48,10 +44,7 @@ fn add_sum(sums: &mut WeightedStacks, row: WeightedStack) -> Result<(), NoMemory
 fn put_together(alloc: Global, sorted: Vec<WeightedStack>) -> Result<WeightedStacks, NoMemory>
     requires sorted { IsSorted by_stack sorted.items }
     requires fits { total_of sorted.items < 2 ^ 63 }
-    ensures ascending { IfOk result IsAscending }
-    ensures weighty { IfOk result AreWeighty }
-    ensures weights { IfOk result
-        (λ sums. (stack : List (List ℕ)) → weight_of sums stack ≡ weight_of sorted.items stack) }
+    ensures { IfOk result (λ sums. sums ≡ rows_of (aggregate_of sorted.items)) }
 {
     let mut sums = WeightedStacks::new(alloc);
     for row in sorted {

@@ -8,4 +8,4 @@ loop-read-preserved g c =
     let next = rw c.in-Ok.is at c.in-Some.ensures.read.field in
     read_more (table_of g.M.Message.form) c.args.message.now c.loop-read.message
     c.take.new.self c.args.bytes.now c.loop-read.fields.bytes next.spelling c.next_field.new.self.bytes
-    (field_of c.in-Ok.field) c.loop-read.invariant next.after.parts next.spelled (c.in_ok-take-in-Ok.ensures.taken)
+    (field_of c.in-Ok.field) c.loop-read.invariant next.after.parts next.spelled c.in_ok-take-in-Ok.ensures.done

@@ -45,5 +45,6 @@ returns-in-13 c = rw c.in-13.is (search rules)
 pub returns-in-14 : goal.returns-in-14
 returns-in-14 c = rw c.in-14.is (search rules)
 
-pub returns-in_default-clause-taken : goal.returns-in_default-clause-taken
-returns-in_default-clause-taken c = none_takes draft_form.rows c.args.field.number _ _ (search rules)
+pub returns-in_default : goal.returns-in_default
+returns-in_default c =
+    record { done = none_takes draft_form.rows c.args.field.number _ _ (search rules); fault = tt }

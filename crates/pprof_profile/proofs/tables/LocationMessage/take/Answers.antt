@@ -18,5 +18,6 @@ returns-in-4 c = rw c.in-4.is (search rules)
 pub returns-in-5 : goal.returns-in-5
 returns-in-5 c = rw c.in-5.is (search rules)
 
-pub returns-in_default-clause-taken : goal.returns-in_default-clause-taken
-returns-in_default-clause-taken c = none_takes location_form.rows c.args.field.number _ _ (search rules)
+pub returns-in_default : goal.returns-in_default
+returns-in_default c =
+    record { done = none_takes location_form.rows c.args.field.number _ _ (search rules); fault = tt }

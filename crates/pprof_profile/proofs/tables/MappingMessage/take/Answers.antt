@@ -33,5 +33,6 @@ returns-in-9 c = rw c.in-9.is (search rules)
 pub returns-in-10 : goal.returns-in-10
 returns-in-10 c = rw c.in-10.is (search rules)
 
-pub returns-in_default-clause-taken : goal.returns-in_default-clause-taken
-returns-in_default-clause-taken c = none_takes mapping_form.rows c.args.field.number _ _ (search rules)
+pub returns-in_default : goal.returns-in_default
+returns-in_default c =
+    record { done = none_takes mapping_form.rows c.args.field.number _ _ (search rules); fault = tt }

@@ -9,5 +9,6 @@ returns-in-1 c = rw c.in-1.is (search rules)
 pub returns-in-2 : goal.returns-in-2
 returns-in-2 c = rw c.in-2.is (search rules)
 
-pub returns-in_default-clause-taken : goal.returns-in_default-clause-taken
-returns-in_default-clause-taken c = none_takes value_type_form.rows c.args.field.number _ _ (search rules)
+pub returns-in_default : goal.returns-in_default
+returns-in_default c =
+    record { done = none_takes value_type_form.rows c.args.field.number _ _ (search rules); fault = tt }
